@@ -2,7 +2,7 @@
 """Refuses each allocation, and fails each open, read and write, of the built program in turn, and looks at what it answers.
 
 tools/each_failure.py [PROGRAM]             the program, by default crates/cilk/out/cilk
-tools/each_failure.py --choices [TESTS]     the built tests of schedules, by default crates/cilk_schedule_tests/out/cilk_schedule_tests_tests
+tools/each_failure.py --choices [TESTS]     the built tests of schedules, by default crates/cilk_base_tests/out/cilk_base_tests_tests
 tools/each_failure.py --plan [TESTS]        the built tests of workers, by default crates/cilk_worker_tests/out/cilk_worker_tests_tests
 
 The commands are `certify` and `check` of a chain of spawns (fib(10), accepted) and of a view-read race (refused), and `play` of three programs
@@ -15,7 +15,7 @@ with that one's status, where a beginning of the answer may have gone out. The c
 
 tools/hostile.py, which runs beside the gate, takes its library from here, and looks more closely at which call failed.
 
-With `--choices` the test `refused::rows_by_two_workers` of `cilk_schedule_tests` is run instead, with each allocation refused in turn: the
+With `--choices` the test `refused::rows_by_two_workers` of `cilk_base_tests` is run instead, with each allocation refused in turn: the
 list by a parallel loop and the local reducers, by rounds of 2 workers. It passes where each run ends with its result, or stops for want of
 memory, three more choices give the same stop, and each frame that is shown then has the first events that it has in the serial run.
 It says so where memory was refused ahead of the choices or behind them; any other end is wrong. `rt test` builds these tests.
@@ -33,7 +33,7 @@ import tempfile
 
 TOP = os.path.dirname(os.path.dirname(os.path.realpath(__file__)))
 PROGRAM = f"{TOP}/crates/cilk/out/cilk"
-TESTS = f"{TOP}/crates/cilk_schedule_tests/out/cilk_schedule_tests_tests"
+TESTS = f"{TOP}/crates/cilk_base_tests/out/cilk_base_tests_tests"
 WORKERS_TESTS = f"{TOP}/crates/cilk_worker_tests/out/cilk_worker_tests_tests"
 
 LIBRARY = r"""

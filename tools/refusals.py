@@ -1,7 +1,7 @@
 #!/usr/bin/env python3
 """docs/REFUSALS.md and `cilk explain` say the same of each number, in a row of a table or in an item of a list.
 
-refusals.py            compares these of docs/REFUSALS.md with crates/cilk_explain; where the program is built (./cilk, or CILK),
+refusals.py            compares these of docs/REFUSALS.md with crates/cilk_messages; where the program is built (./cilk, or CILK),
                        each example that is a whole program is run, and has to be answered by its line; and the forms of docs/EDITORS.md
                        have to match what `--explain` writes
 refusals.py --write    writes the rows and items anew from the crate
@@ -37,7 +37,7 @@ def reasons():
     """Each number with the line, the kind and text of its example, and how the place is read."""
     found = {}
     for name in ("faults", "refusals"):
-        with open(f"{TOP}/crates/cilk_explain/src/{name}.rt", encoding="utf-8") as file:
+        with open(f"{TOP}/crates/cilk_messages/src/{name}.rt", encoding="utf-8") as file:
             for each in REASON.finditer(file.read()):
                 number, _title, _meaning, line, kind, example, place, _cure = each.groups()
                 found[int(number)] = (unescaped(line), kind, unescaped(example), unescaped(place))

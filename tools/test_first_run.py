@@ -17,9 +17,9 @@ import unproved
 # What a build took that was watched: processor seconds of its dearest crates, with others by a law of its own (1.1 times
 # the table), on four processors, with other work beside it; 46 minutes by the clock.
 WATCHED = {
-    "cilk_findings": 742, "cilk_explain": 500, "cilk_tool": 398, "cilk_crew": 309, "cilk_names": 373,
-    "cilk_schedule": 280, "cilk_report": 253, "cilk_measured": 132, "cilk_planning": 163, "cilk_checker": 218,
-    "cilk_parallel": 210, "cilk_places": 239, "cilk_play": 88,
+    "cilk_findings": 742, "cilk_messages": 500, "cilk_commands": 398, "cilk_threads": 309, "cilk_names": 373,
+    "cilk_schedule": 280, "cilk_report": 253, "cilk_report": 132, "cilk_plan": 163, "cilk_checker": 218,
+    "cilk_tool": 210, "cilk_findings": 239, "cilk_schedule": 88,
 }  # fmt: skip
 WATCHED_CLOCK = 46.1
 
@@ -75,7 +75,7 @@ class Plan(unittest.TestCase):
     def test_lines_of_rt(self):
         self.assertEqual(build_plan.read_line("rt: cilk_types proved\n"), ("cilk_types", False))
         self.assertEqual(build_plan.read_line("rt: cilk_types is kept: an earlier run\n"), ("cilk_types", True))
-        for line in ("rt: cilk_types NOT PROVED\n", "fn cilk_token::of: proved\n", "rt: cilk_a: its tests are proved\n", ""):
+        for line in ("rt: cilk_types NOT PROVED\n", "fn cilk_syntax::of: proved\n", "rt: cilk_a: its tests are proved\n", ""):
             self.assertIsNone(build_plan.read_line(line))
 
 

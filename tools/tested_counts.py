@@ -18,7 +18,7 @@ COUNTS = [
     ("cases", "cases.py", "crates/cilk_rows/data/*/"),
     ("edits", "must-fail", "crates/*/must-fail/*.edit"),
     ("edits", "tools/edits", "crates/*/edits/*.edit"),
-    ("programs", "cilk_schedule_tests", "examples/*.c examples/gallery/*.c"),
+    ("programs", "cilk_base_tests", "examples/*.c examples/gallery/*.c"),
 ]
 
 

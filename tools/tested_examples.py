@@ -4,7 +4,7 @@
 tools/tested_examples.py     lists each program of examples/ and examples/gallery, and the text of a test that is it
 
 A program's text in a test has no comments, no `#` lines, and one space for each run of blanks; it has to be used by
-`settled.rt` of crates/cilk_schedule_tests, the tests that play it. A program of the gallery has to be used by
+`settled.rt` of crates/cilk_base_tests, the tests that play it. A program of the gallery has to be used by
 the cases `gallery-NAME-run`, `-check` and `-measure` of crates/cilk_rows too, word by word, which want the text of its
 `.out` file, and of `check` and `measure` what its row in examples/gallery/README.md has. The texts of examples/opencilk are in another language. Run by hand when an example
 changes or comes.
@@ -38,7 +38,7 @@ def literal(text):
 def texts_of_tests():
     """The names of the programs' texts, by these texts."""
     texts = {}
-    for path in glob.glob(f"{CRATES}/cilk_schedule_tests/src/*.rt") + [f"{CRATES}/cilk_gallery/src/lib.rt"]:
+    for path in glob.glob(f"{CRATES}/cilk_base_tests/src/*.rt") + [f"{CRATES}/cilk_base_tests/src/gallery.rt"]:
         for name, text in re.findall(r'const (\w+): &str =\s*"([^"]*)"', read(path)):
             texts[literal(text)] = name
     return texts
@@ -67,7 +67,7 @@ def stands_in_gallery(name):
 
 def main():
     texts = texts_of_tests()
-    used = set(re.findall(r"\w+", read(f"{CRATES}/cilk_schedule_tests/src/settled.rt").split("fn is_settled")[1]))
+    used = set(re.findall(r"\w+", read(f"{CRATES}/cilk_base_tests/src/settled.rt").split("fn is_settled")[1]))
     missing = 0
     for path in sorted(glob.glob(f"{TOP}/examples/*.c") + glob.glob(f"{GALLERY}/*.c")):
         name = texts.get(words(read(path)))

@@ -1,5 +1,29 @@
-//! The program: its arguments, the files of the system and the standard streams are given to the tool, whose status
-//! is the program's. Only here are threads and waiting given away: `threads` needs both, and `check` with `--helpers` threads alone.
+//! The program `cilk`: runs Cilk programs, and certifies that a run's result doesn't depend on the
+//! schedule.
+//!
+//! The program hands its arguments, the system's files and the standard streams to
+//! [`cilk_tool::serve_parallel`], and exits with the status of that call. It contains nothing else,
+//! so every command line can be tested without a process.
+//!
+//! The runtime handle is passed on only here. `threads` needs threads and waiting, and `check` with
+//! `--helpers` needs threads. All other commands are served by functions that can't use either.
+//!
+//! | Command | Purpose |
+//! |---|---|
+//! | `run` | runs a program serially |
+//! | `certify`, `check` | writes a certificate of a run; checks it, and that the run has no race |
+//! | `threads` | runs an accepted program by work stealing |
+//! | `play`, `schedule` | plays a script of a schedule; writes one that shows a race |
+//! | `measure` | prints work, span and parallelism |
+//! | `explain`, `help` | explains a number; describes a command |
+//!
+//! Arguments that aren't valid text are refused with a line on standard error.
+//!
+//! ```text
+//! cilk run fib.c
+//! cilk certify fib.c > fib.cert
+//! cilk threads fib.c fib.cert --workers 4
+//! ```
 #![tactic(auto)]
 
 use cilk_commands::disk::Disk;
@@ -11,7 +35,7 @@ use std::io::ErrorKind;
 use std::process::ExitCode;
 use std::{env, io};
 
-/// The arguments after the program's own name. They fail as a whole where one of them isn't text.
+/// The arguments after the program's name. Fails if one of them isn't text.
 fn arguments(rt: &HostRuntime) -> io::Result<Vec<String>> {
     let mut words = Vec::new(rt.alloc());
     for word in env::args(rt)?.skip(1) {
@@ -24,7 +48,7 @@ fn as_texts<'a>(alloc: Global, words: &'a [String]) -> Result<Vec<&'a str>, Allo
     words.iter().map(|word| word.as_str()).collect(alloc)
 }
 
-/// Where the arguments can't be had, the answer is the one to wrong arguments, or to a want of memory.
+/// Reports that the arguments couldn't be read: out of memory, or an argument isn't text.
 fn refused(rt: &HostRuntime, error: io::Error) -> ExitCode {
     if error.kind() == ErrorKind::OutOfMemory {
         let _ = eprint!(rt; "{NO_MEMORY_LINE}");

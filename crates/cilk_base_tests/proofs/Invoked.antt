@@ -1,7 +1,7 @@
--- What the root's frame invokes can be begun.
---   there_is_fit: what a body may begin is given what it takes
---   asked_is_there: what the root of a well-named program asks for is there
---   begun_stands: the cursor of an invocation that is there stands at its frame's beginning
+-- The frame that the root invokes can be begun.
+--   there_is_fit: a body that may begin is given what it takes
+--   asked_is_there: the request of a well-named program's root exists
+--   begun_stands: the cursor of an invocation that exists is at its frame's beginning
 use Rattle.std.proofs.Common.{◌≡◌, ℕ, ℤ, List, [], Option, Some, None, IfSome, IsTrue, subst}
 use Rattle.cilk_program.specs.declared.ask.Ask.{Ask}
 use Rattle.cilk_program.specs.declared.ask.Ask.TheVariants as asks
@@ -30,7 +30,7 @@ asked_is_there p well inputs answers left None left' e = tt
 asked_is_there p well inputs answers left (Some k) left' e =
     subst (λ (q : OpenAsk). AskIsThere p callees.Root q.ask) e (asks_there p well callees.Root tt inputs answers left)
 
--- what a new cursor says of the frame that an ask begins
+-- the frame of a new cursor is the one that a request begins
 abbrev pub StandsFirst : CodeView → CursorView → Callee → Type 0
 StandsFirst code c callee = (p : Source) (inputs : List ℤ) → Behaves p code → CalleeIsFit p callee → Stands code inputs p callee c [] 0
 

@@ -1,4 +1,4 @@
-//! Places and static links, in a run of three frames.
+//! Places and static links in a run of three frames.
 
 ghost use Rattle.std.specs.Prelude.{IfOk};
 ghost use Rattle.cilk_frames.specs.Sight.{HasScope};
@@ -14,8 +14,8 @@ use cilk_types::event::Instance;
 use std::alloc::{AllocError, Global};
 use std::test::Fail;
 
-// The root's frame, with 3 global cells, 2 global reducers and 2 cells of its own, called a function with 4 cells, which is
-// given the second reducer, and which runs a turn of a loop.
+// The root's frame with 3 global cells, 2 global reducers and 2 cells of its own. It has called a
+// function with 4 cells and the second reducer as its argument, which runs a turn of a loop.
 fn three_frames(alloc: Global) -> Result<CallStack<u8>, AllocError>
     ensures { IfOk result (λ stack. HasScope stack.below.items stack.top turn_scope) }
 {

@@ -1,4 +1,4 @@
-//! Texts of certificates, whole, in pieces, cut and changed.
+//! Certificate texts: whole, in pieces, cut and changed.
 
 ghost use Rattle.std.specs.Prelude.{◌<◌};
 
@@ -65,7 +65,7 @@ fn both_ways(rt: HostRuntime) -> Result<(), Fail> {
     Ok(())
 }
 
-/// How many lines a reader gives, where the text comes in pieces of this size.
+/// Returns the number of lines that a reader finds in a text read in pieces of this size.
 fn count(text: &[u8], size: usize) -> Result<usize, CertFault>
     requires { 0 < size }
 {
@@ -105,7 +105,8 @@ fn pieces(rt: HostRuntime) {
     );
 }
 
-/// How many lines of a text are passed over where each is known.
+/// Returns the number of a text's lines that a second reader passes over, each given to it as
+/// known.
 fn passed(text: &[u8]) -> Result<usize, CertFault> {
     let mut reader = LineReader::new();
     let mut passing = LineReader::new();
@@ -128,7 +129,7 @@ fn passed(text: &[u8]) -> Result<usize, CertFault> {
     Ok(lines)
 }
 
-// Each line but the first two.
+// All lines but the first two are passed over.
 #[test]
 fn known_lines(rt: HostRuntime) {
     for (text, lines) in [
@@ -166,7 +167,7 @@ fn cuts(rt: HostRuntime) {
     cut(&rt, rt.alloc(), SPAWN);
 }
 
-/// The small text with these lines.
+/// Returns the fault of the text with these lines.
 fn fault_of(alloc: std::alloc::Global, lines: &[&[u8]]) -> Result<Option<CertFault>, Fail> {
     let mut text = Vec::new(alloc);
     for line in lines {

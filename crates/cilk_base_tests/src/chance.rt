@@ -1,4 +1,4 @@
-//! Schedules of chance: what a program leaves by each of 200 of them, with 1 to 8 workers.
+//! Pseudo-random schedules: the outcomes of a program by 200 of them, with 1 to 8 workers.
 
 ghost use Rattle.cilk_schedule.specs.Sound.{IsCode};
 
@@ -14,14 +14,14 @@ use cilk_types::outcome::{Final, Outcome};
 use std::alloc::Global;
 use std::process::Abort;
 
-// Numbers of a fixed sequence.
+// A generator of pseudo-random numbers, by a linear congruence.
 #[derive(Drop)]
 struct Chance {
     state: u32,
 }
 
 impl Chance {
-    // The next number below `below`, which is not 0.
+    // The next number below `below`, which isn't 0.
     fn next(&mut self, below: u32) -> u32 {
         self.state = self
             .state
@@ -31,7 +31,8 @@ impl Chance {
     }
 }
 
-// A choice of some worker: it goes on with its frame, or it takes one of the continuations that are offered.
+// A choice of some worker: it continues with its frame, or tries to steal one of the first four
+// continuations.
 fn choice(machine: &Machine<'_>, workers: u32, chance: &mut Chance) -> Choice {
     let worker = chance.next(workers).saturating_add(1);
     if machine.holds(worker) {
@@ -40,7 +41,8 @@ fn choice(machine: &Machine<'_>, workers: u32, chance: &mut Chance) -> Choice {
     Choice::Steal(worker, chance.next(4) as usize)
 }
 
-// What the program leaves by the schedule of a seed, which says how many workers there are, or how it stops.
+// The outcome by the schedule of a seed, or how it stops. The seed also gives the number of
+// workers.
 fn by_chance(
     rt: &impl Abort,
     alloc: Global,
@@ -95,7 +97,7 @@ fn is_same(one: &Outcome, other: &Outcome) -> bool {
         && are_same_finals(one.reducers.as_slice(), other.reducers.as_slice())
 }
 
-// What the serial run of a text leaves.
+// The outcome of the serial run.
 fn serially(rt: &impl Abort, alloc: Global, text: &str, input: &Input) -> Outcome {
     let Ok(program) = program(alloc, text.as_bytes()) else {
         panic!(rt; "no program: {text}");
@@ -106,7 +108,8 @@ fn serially(rt: &impl Abort, alloc: Global, text: &str, input: &Input) -> Outcom
     }
 }
 
-/// How many of 200 schedules of a text, on the input of a text, leave what the serial run leaves. None of them may stop.
+/// Returns how many of 200 schedules of a program have the outcome of the serial run. The input is
+/// a text of numbers. A schedule that stops fails the test.
 pub fn as_serially(rt: &impl Abort, alloc: Global, text: &str, numbers: &str) -> u32 {
     let Ok(input) = parse_input(alloc, numbers.as_bytes()) else {
         panic!(rt; "no input: {numbers}");

@@ -1,4 +1,4 @@
-//! Examples of programs, as texts.
+//! The programs of `examples/` as texts.
 
 pub const REDUCERS: &str =
     "int cilk_reducer(add) total; int cilk_reducer(append) seen; void visit(int cilk_reducer(max) greatest, int n) \
@@ -47,5 +47,5 @@ pub const EARLY_VALUE: &str =
     "int cilk_reducer(add) sum; void one() { update(sum, 1); } int main() { cilk_spawn one(); int x = value(sum); \
     cilk_sync; return x; }";
 
-// What the program with an input is given.
+// The input of the program with an input.
 pub const INPUTS_INPUT: &str = "1 2 3";

@@ -1,4 +1,4 @@
-//! Frames of lowered programs by themselves, whose answers are given.
+//! The requests of single frames of lowered programs, with given answers.
 
 ghost use Rattle.std.specs.Prelude.{◌≡◌, map, ℕ, List, [], IsTrue, IfOk, IfSome};
 ghost use Rattle.cilk_program.specs.Syntax.{Source};
@@ -27,16 +27,16 @@ use std::alloc::{AllocError, Global};
 use std::process::Abort;
 use std::test::Fail;
 
-// An ask as a row has it.
+// A request as a case has it.
 #[derive(Clone, Copy, PartialEq, Eq, Debug)]
 enum Told {
     Begin,
     Read(Place),
     Write(Place, i64),
     Print(i64),
-    // How a function is invoked, its number, its one word, and the variable that takes the result.
+    // How a function is invoked, its number, its one argument, and the variable for its result.
     Function(Invocation, u32, i64, Option<Place>),
-    // How the turns of a loop are invoked, its number, and the two bounds.
+    // How the turns of a loop are invoked, the loop's number, and the two bounds.
     Turns(Invocation, u32, i64, i64),
     Resume,
     Sync,
@@ -68,7 +68,7 @@ fn shown(ask: &Ask) -> Told {
     }
 }
 
-// Whether this may be an answer to the ask.
+// Whether the request may have this answer.
 fn takes(ask: &Ask, answer: Answer) -> bool
     ensures answered { IsTrue result → HasAnswer ask.now }
     ensures fits { IsTrue result → Fits (owed_for ask.now) answer }
@@ -82,7 +82,7 @@ fn takes(ask: &Ask, answer: Answer) -> bool
     }
 }
 
-// What a frame asks for after these answers. None where an answer isn't to what was asked.
+// The request of a frame after these answers. None if one of them doesn't fit its request.
 fn answered(
     code: &Code,
     input: &Input,
@@ -104,7 +104,7 @@ fn answered(
     Some(ask)
 }
 
-// What the root's frame asks for after these answers.
+// The request of the root's frame after these answers.
 fn root_asks(
     alloc: Global,
     program: &Program,
@@ -120,7 +120,7 @@ fn root_asks(
     Ok(answered(code, &input, &mut cursor, answers, left))
 }
 
-// What the frame that the root invokes asks for after these answers.
+// The request of the frame that the root invokes, after these answers.
 fn child_asks(
     alloc: Global,
     program: &Program,
@@ -142,17 +142,17 @@ fn child_asks(
     }
 }
 
-// A frame's answers, what it asks for before the first of them and after each, and the ticks that it takes for all.
+// A frame's answers, its requests before the first of them and after each, and the ticks of all.
 type Case<'a> = (&'a [Answer], &'a [Told], u32);
 
 const DONE: Answer = Answer::Done;
 
-// The answers of a case up to the one with this number.
+// The first answers of a case.
 fn given<'a>((answers, _, _): Case<'a>, count: usize) -> &'a [Answer] {
     &answers[..count.min(answers.len())]
 }
 
-// The root's frame asks for what the case says. Its last ask is given back.
+// The root's frame makes the requests of the case.
 fn root_has(
     rt: &impl Abort,
     alloc: Global,
@@ -175,7 +175,7 @@ fn root_has(
     Ok(())
 }
 
-// The frame that the root asks for after these answers asks for what the case says.
+// The frame that the root invokes after these answers makes the requests of the case.
 fn child_has(
     rt: &impl Abort,
     alloc: Global,

@@ -1,4 +1,4 @@
-//! Hypermaps: each call at each kind, and what merges leave.
+//! Hypermaps: each call with each monoid, and merges.
 
 use cilk_hypermap::hypermap::Hypermap;
 use cilk_monoid::kind::MonoidKind;
@@ -16,7 +16,7 @@ const KINDS: [MonoidKind; 5] = [
     MonoidKind::Affine,
 ];
 
-// The helpers below have no contract, so that the proof of a test follows few calls at a time.
+// The helpers below have no contract, so the proof of a test follows few calls at a time.
 fn create(alloc: Global, map: &mut Hypermap) -> Result<(), AllocError> {
     for kind in KINDS {
         map.create(alloc, OF_MAIN, kind)?;
@@ -42,7 +42,7 @@ fn print(alloc: Global, map: &mut Hypermap, x: i64) -> Result<(), AllocError> {
     map.print(alloc, x)
 }
 
-// The numbers of the reducer of `main`, by kind.
+// The values of the reducer of `main`, by monoid.
 fn numbers(alloc: Global, map: &mut Hypermap) -> Result<Vec<i64>, AllocError> {
     let mut numbers = Vec::new(alloc);
     for kind in KINDS {
@@ -75,7 +75,7 @@ fn merge3(
     }
 }
 
-// The output and the reducer of `main`, after a print and two updates of each kind.
+// A hypermap after a print and two updates for each monoid.
 fn updated(alloc: Global, x: i64, y: i64) -> Result<Hypermap, AllocError> {
     let mut map = Hypermap::new(alloc);
     print(alloc, &mut map, x)?;

@@ -7,7 +7,7 @@ use cilk_types::event::Instance;
 use cilk_types::outcome::Final;
 use std::alloc::{AllocError, Global};
 
-// The piece of one printed number.
+// A piece with one printed number.
 fn printed(alloc: Global, number: i64) -> Result<Hypermap, AllocError> {
     let mut views = Hypermap::new(alloc);
     views.print(alloc, number)?;
@@ -22,7 +22,8 @@ fn steal(join: &mut Join, key: u32) -> Result<(), AllocError> {
     }
 }
 
-// A stolen child's piece arrives, which prints its key. How many pieces are kept, where it waits.
+// A stolen child's piece arrives, which prints its key. Returns the number of pieces kept, if the
+// block still waits.
 fn child(alloc: Global, join: &mut Join, key: u32) -> Result<Option<usize>, AllocError> {
     let views = printed(alloc, key as i64)?;
     if !join.awaits(key) {
@@ -35,7 +36,8 @@ fn child(alloc: Global, join: &mut Join, key: u32) -> Result<Option<usize>, Allo
     }
 }
 
-// The sync's own piece arrives, which prints its key. What the whole block printed, where it passes.
+// The sync's own piece arrives, which prints its key. Returns the output of the whole block, if it
+// passes.
 fn last(alloc: Global, join: &mut Join, key: u32) -> Result<Option<Final>, AllocError> {
     let views = printed(alloc, key as i64)?;
     if !join.fresh(key) {

@@ -1,4 +1,4 @@
-//! Worked programs by choices.
+//! Worked programs by given choices.
 
 use crate::playing::{
     DIVIDE, FIB, GIVEN, LIST, LOCAL, Line, PRINTS, RACE, SUM, all, code_of, no_input, outcome_of,
@@ -13,7 +13,7 @@ use cilk_types::outcome::{Final, Outcome};
 use std::alloc::Global;
 use std::process::Abort;
 
-// The race's run by one worker, and where a thief reads ahead of the child's write.
+// The race's run by one worker, and one where a thief reads before the child's result is written.
 const SERIAL: [Line; 1] = [Line::Run(1, 15)];
 
 const STOLEN: [Line; 4] = [
@@ -54,7 +54,7 @@ const PRINTS_REVERSED: [Line; 10] = [
     Line::Run(1, 9),
 ];
 
-// A program's result by rounds of 1 worker and of each number up to the greatest.
+// Checks a program's result in round-robin runs of 1 worker up to `greatest`.
 fn all_give(rt: &impl Abort, alloc: Global, text: &str, greatest: u32, wanted: i64) {
     let code = code_of(rt, alloc, text);
     for number in 0..greatest {
@@ -81,7 +81,7 @@ fn fib_by_all(rt: HostRuntime) {
     }
 }
 
-// A program's result behind the choices of these lines, by two workers.
+// Checks a program's result after these choices of two workers.
 fn gives(rt: &impl Abort, alloc: Global, text: &str, lines: &[Line], wanted: i64) {
     let code = code_of(rt, alloc, text);
     let shown = played(rt, alloc, &code, 2, lines);
@@ -103,7 +103,7 @@ fn sum_by_all(rt: HostRuntime) {
     }
 }
 
-// The sum of 1 to 100, as the result and as the reducer's value.
+// Whether the result and the reducer's value are the sum of 1 to 100.
 fn is_sum(shown: &Outcome) -> bool {
     match shown.reducers.as_slice() {
         [Final::Number(number)] => *number == 5050 && shown.result == 5050,
@@ -111,7 +111,7 @@ fn is_sum(shown: &Outcome) -> bool {
     }
 }
 
-// The list of 0 to 4, and its length as the result.
+// Whether the reducer has the list of 0 to 4, and the result is its length.
 fn is_counting(shown: &Outcome) -> bool {
     match shown.reducers.as_slice() {
         [Final::List(list)] => {
@@ -147,7 +147,7 @@ fn is_division_by_zero(stop: Stop) -> bool {
     )
 }
 
-// How the choices of these lines stop a run, by two workers, and the name of the strand.
+// How these choices of two workers stop a run, and the name of the strand.
 fn stopped(rt: &impl Abort, alloc: Global, text: &str, lines: &[Line]) -> (Stop, Vec<u32>) {
     let code = code_of(rt, alloc, text);
     let choices = script(rt, alloc, lines);
@@ -174,7 +174,7 @@ fn prints_in_reverse(rt: HostRuntime) {
     assert!(rt; shown.is_joined([3].as_slice()) && prints_two(&shown));
 }
 
-// Whether the second child read 2 and printed it.
+// Whether the second child printed 2.
 fn prints_two(shown: &Shown) -> bool {
     matches!(
         shown.events([2].as_slice()),

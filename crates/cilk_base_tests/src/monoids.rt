@@ -8,7 +8,7 @@ use cilk_monoid::number::{Add, Greatest, Least};
 use cilk_monoid::view::ListView;
 use std::alloc::{AllocError, Global};
 
-// The view of the updates in order.
+// The view after these updates.
 fn updated<M: Monoid>(alloc: Global, numbers: &[i64]) -> Result<M::View, AllocError> {
     let mut view = M::unit(alloc);
     for x in numbers {
@@ -17,7 +17,8 @@ fn updated<M: Monoid>(alloc: Global, numbers: &[i64]) -> Result<M::View, AllocEr
     Ok(view)
 }
 
-// The numbers of the unit, of one update with 7, of 4 and then 9, of the product of both, and the product's size.
+// The numbers of five views: the unit, one update with 7, updates with 4 and then 9, and the
+// product of the last two; then the product's size.
 fn numbers<M: Monoid>(alloc: Global) -> Result<[i64; 5], AllocError> {
     let unit = M::number(&M::unit(alloc));
     let mut single = M::single(alloc, 7)?;

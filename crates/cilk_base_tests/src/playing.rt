@@ -31,14 +31,15 @@ pub fn no_input(alloc: Global) -> Input {
     Input::new(WordList::new(alloc))
 }
 
-/// Lines of a script: a worker makes so many choices of going on with its frame, or takes the continuation at a place.
+/// A line of a script: a worker continues with its frame n times, or steals the continuation at an
+/// index.
 #[derive(Clone, Copy)]
 pub enum Line {
     Run(u32, u32),
     Steal(u32, usize),
 }
 
-/// The choices of these lines, one after another.
+/// Returns the choices of these lines, one after another.
 pub fn script(rt: &impl Abort, alloc: Global, lines: &[Line]) -> Vec<Choice> {
     let mut choices = Vec::new(alloc);
     for line in lines {
@@ -60,7 +61,7 @@ fn choice_of(line: Line) -> (Choice, u32) {
     }
 }
 
-/// What is shown behind the choices of these lines.
+/// Returns the run after the choices of these lines.
 pub fn played(rt: &impl Abort, alloc: Global, code: &Code, workers: u32, lines: &[Line]) -> Shown
     requires { IsCode code.now }
 {
@@ -71,7 +72,8 @@ pub fn played(rt: &impl Abort, alloc: Global, code: &Code, workers: u32, lines: 
     }
 }
 
-/// Rounds of so many workers until the run has ended.
+/// Plays round-robin choices of n workers until the run has ended: each continues with its frame,
+/// or tries to steal the first continuation.
 pub fn rounds(alloc: Global, machine: &mut Machine<'_>, workers: u32) -> Result<(), Stop>
     requires { machine.old.board.stopped ≡ None → Runs machine.old.code.now machine.old.input.now machine.old.board }
     ensures { machine.new.board.stopped ≡ None → Runs machine.new.code.now machine.new.input.now machine.new.board }
@@ -86,7 +88,7 @@ pub fn rounds(alloc: Global, machine: &mut Machine<'_>, workers: u32) -> Result<
     Ok(())
 }
 
-// A worker goes on with its frame, or takes the first continuation that is offered.
+// A worker's choice: it continues with its frame, or steals the first continuation.
 fn turn(machine: &Machine<'_>, worker: u32) -> Choice {
     if machine.holds(worker) {
         Choice::Run(worker)
@@ -95,7 +97,7 @@ fn turn(machine: &Machine<'_>, worker: u32) -> Choice {
     }
 }
 
-/// What is shown behind rounds of so many workers, which end the run.
+/// Returns the whole run by round-robin choices of n workers.
 pub fn all(rt: &impl Abort, alloc: Global, code: &Code, workers: u32) -> Shown
     requires { IsCode code.now }
 {

@@ -1,4 +1,4 @@
-//! Small programs, built by hand.
+//! Small programs, built without the parser.
 
 ghost use Rattle.std.specs.Prelude.{◌≡◌, [], ◌∷◌, pos, IsTrue};
 ghost use Rattle.cilk_program.specs.Programs.{function, source_of, statements};
@@ -11,7 +11,7 @@ use cilk_types::sequence::Sequence;
 use cilk_types::word_list::WordList;
 use std::alloc::{AllocError, Global};
 
-// A function without reducers, whose cells are those of its words.
+// A function without reducers, whose only cells are its arguments.
 fn function_of(alloc: Global, words: u32, body: Vec<Stmt>) -> Function
     ensures { function result ≡ record { words = words; given = []; cells = words; reducers = []; body = statements body.items } }
 {
@@ -24,7 +24,7 @@ fn function_of(alloc: Global, words: u32, body: Vec<Stmt>) -> Function
     }
 }
 
-// A program of one global variable, which begins with 0.
+// A program with one global variable, which begins with 0.
 fn program_of(
     alloc: Global,
     functions: Vec<Function>,

@@ -1,5 +1,6 @@
-//! Rounds of two workers where memory may be refused: the run ends with its result, or it stops for good, and what it shows then begins
-//! the serial run. The gate's tests have memory; `tools/each_failure.py` runs these with each allocation refused in turn.
+//! Round-robin runs of two workers that may be out of memory. The run ends with its result, or
+//! stops for good and shows a beginning of the serial run. The gate's tests have enough memory;
+//! `tools/each_failure.py` runs these with each allocation refused in turn.
 
 ghost use Rattle.std.specs.Prelude.{◌≡◌, None, IfOk};
 ghost use Rattle.cilk_schedule.specs.Sound.{IsCode, Runs};
@@ -16,7 +17,7 @@ use cilk_scheduler::choice::{Choice, Stop};
 use std::alloc::{AllocError, Global};
 use std::process::Abort;
 
-// Two results, the first with its output, by rounds of two workers.
+// Two programs, one with an `append` reducer and one with local reducers, and their results.
 const ROWS: [(&str, i64); 2] = [(LIST, 5), (LOCAL, 16)];
 
 #[test]
@@ -28,8 +29,9 @@ fn rows_by_two_workers(rt: HostRuntime) {
     }
 }
 
-// A program's run by rounds of two workers ends with this result; or it stops for want of memory, and so does each of three more choices,
-// and what is shown is the run before the stop. Memory may be refused ahead of the run and behind it.
+// Checks that a run of two workers ends with this result, or stops out of memory. After a stop
+// three more choices stop too, and the run before the stop is shown. Returns an error if out of
+// memory before the run or after it.
 fn ends_or_stops(
     rt: &impl Abort,
     alloc: Global,
@@ -44,7 +46,7 @@ fn ends_or_stops(
     Ok(())
 }
 
-// What is shown of a run by one worker.
+// The run of one worker.
 fn serial(alloc: Global, code: &Code) -> Result<Shown, AllocError>
     requires { IsCode code.now }
 {
@@ -56,7 +58,7 @@ fn serial(alloc: Global, code: &Code) -> Result<Shown, AllocError>
     }
 }
 
-// What is shown of a run by two workers, and whether it was stopped.
+// The run of two workers, and whether it was stopped.
 fn by_two(rt: &impl Abort, alloc: Global, code: &Code) -> Result<(Shown, bool), AllocError>
     requires { IsCode code.now }
 {
@@ -67,7 +69,7 @@ fn by_two(rt: &impl Abort, alloc: Global, code: &Code) -> Result<(Shown, bool), 
     Ok((shown, is_stopped))
 }
 
-// Whether rounds of two workers stop for want of memory; then each of three more choices does.
+// Whether a run of two workers stops out of memory; then three more choices must stop too.
 fn stops(rt: &impl Abort, alloc: Global, machine: &mut Machine<'_>) -> bool
     requires { machine.old.board.stopped ≡ None → Runs machine.old.code.now machine.old.input.now machine.old.board }
     ensures { machine.new.board.stopped ≡ None → Runs machine.new.code.now machine.new.input.now machine.new.board }
@@ -90,7 +92,7 @@ fn gives(shown: &Shown, wanted: i64) -> bool {
     }
 }
 
-// The code of a text, where there is memory for it.
+// The code of a program.
 fn code_in(rt: &impl Abort, alloc: Global, text: &str) -> Result<Code, AllocError>
     ensures { IfOk result IsCode }
 {
@@ -101,7 +103,7 @@ fn code_in(rt: &impl Abort, alloc: Global, text: &str) -> Result<Code, AllocErro
     }
 }
 
-// Three more choices give the same stop.
+// Three more choices have the same stop.
 fn stays_stopped(rt: &impl Abort, alloc: Global, machine: &mut Machine<'_>)
     requires { machine.old.board.stopped ≡ None → Runs machine.old.code.now machine.old.input.now machine.old.board }
     ensures { machine.new.board.stopped ≡ None → Runs machine.new.code.now machine.new.input.now machine.new.board }
@@ -111,7 +113,7 @@ fn stays_stopped(rt: &impl Abort, alloc: Global, machine: &mut Machine<'_>)
     }
 }
 
-// Whether each frame that is shown did what begins that frame's events in the other run.
+// Whether the events of each frame shown are the first events of that frame in the other run.
 fn is_beginning(alloc: Global, shown: &Shown, whole: &Shown) -> Result<bool, AllocError> {
     let mut place: u32 = 0;
     for _ in 0..shown.frames() {
@@ -130,7 +132,7 @@ fn is_beginning(alloc: Global, shown: &Shown, whole: &Shown) -> Result<bool, All
     Ok(true)
 }
 
-// The ordinals from the first frame down to the one at a place.
+// The path of the frame at an index: the ordinals from the first frame down to it.
 fn path_of(alloc: Global, shown: &Shown, place: u32) -> Result<Vec<u32>, AllocError> {
     let mut path = Vec::new(alloc);
     let mut at = place;
@@ -148,7 +150,7 @@ fn path_of(alloc: Global, shown: &Shown, place: u32) -> Result<Vec<u32>, AllocEr
     Ok(path)
 }
 
-// Whether these events of one run are the first ones of those of another.
+// Whether these events of one run are the first of those of another.
 fn are_first(shown: &Shown, begun: &[ShownEvent], whole: &Shown, all: &[ShownEvent]) -> bool {
     begun.len() <= all.len()
         && begun
@@ -157,12 +159,13 @@ fn are_first(shown: &Shown, begun: &[ShownEvent], whole: &Shown, all: &[ShownEve
             .all(|(one, other)| is_same_event(shown, *one, whole, *other))
 }
 
-// Whether an event of one run is an event of another: its frames go by their places, which depend on the schedule.
+// Whether two events of two runs are the same. Indices of frames depend on the schedule, so frames
+// are compared by their paths.
 fn is_same_event(shown: &Shown, one: ShownEvent, whole: &Shown, other: ShownEvent) -> bool {
     moved(one) == moved(other) && is_same_frame(shown, owner(one), whole, owner(other))
 }
 
-// The place of the frame whose cell or reducer an event is of; 0 for an event of neither.
+// The index of the frame that owns the event's cell or reducer; 0 if it has neither.
 fn owner(event: ShownEvent) -> u32 {
     let frame = match event {
         ShownEvent::Read { cell, .. } | ShownEvent::Write { cell, .. } => cell_owner(cell),
@@ -189,7 +192,7 @@ fn reducer_owner(reducer: ReducerName) -> usize {
     }
 }
 
-// The event as if the first frame owned what it is of.
+// The event with the first frame as the owner of its cell or reducer.
 fn moved(event: ShownEvent) -> ShownEvent {
     match event {
         ShownEvent::Read { cell, value } => {
@@ -234,7 +237,7 @@ fn moved_reducer(reducer: ReducerName) -> ReducerName {
     }
 }
 
-// Whether the frame at a place of one run is that at a place of another: from both the same ordinals lead up to the first frame.
+// Whether two frames of two runs have the same path: the same ordinals up to the first frame.
 fn is_same_frame(shown: &Shown, place: u32, whole: &Shown, other: u32) -> bool {
     let mut place = place;
     let mut other = other;

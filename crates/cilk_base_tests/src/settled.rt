@@ -1,5 +1,6 @@
-//! The examples by schedules of chance: of a program that `check` accepts, each leaves what the serial run leaves, and of one with a race
-//! some leave something else. All programs of `examples/` are here, each whole and on its own input (`tools/tested_examples.py` looks).
+//! The examples by pseudo-random schedules. A program that `check` accepts has the serial outcome
+//! by each schedule, and one with a race has another outcome by some. All programs of `examples/`
+//! are here, each whole and with its own input (`tools/tested_examples.py` checks this).
 
 use crate::chance::as_serially;
 use crate::examples::{
@@ -19,7 +20,7 @@ const NESTED: &str =
     node(n - 1); cilk_spawn leaf(n); update(l, 10 * n); cilk_sync; update(l, 100 * n); cilk_spawn node(n - 1); } \
     update(l, 1000 * n); } int main() { cilk_spawn node(3); leaf(7); cilk_sync; return value(l); }";
 
-// Each schedule of each text, which reads no input, leaves what the serial run leaves.
+// Checks programs without input: each schedule has the outcome of the serial run.
 fn are_settled(rt: &impl Abort, alloc: Global, texts: &[&str]) {
     for text in texts {
         is_settled(rt, alloc, text, "");

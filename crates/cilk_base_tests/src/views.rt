@@ -1,4 +1,4 @@
-//! The views of one monoid, where room for them may be refused.
+//! The views of one monoid, where memory for them may be refused.
 
 ghost use Rattle.cilk_monoid.specs.Kinds.{structure_of, IsMember};
 ghost use Rattle.cilk_monoid.specs.Lawful.{lawful};
@@ -12,17 +12,17 @@ use cilk_monoid::view::ListView;
 use cilk_types::event::Instance;
 use std::alloc::{AllocError, Global};
 
-// A list whose room may grow only so often.
+// A list that may grow a limited number of times.
 #[derive(Drop, Debug)]
 struct Guarded {
     list: ListView,
     growths: u32,
 }
 
-// After this number a view may not grow any more.
+// After an update with this number a view may not grow any more.
 const LAST: i64 = -1;
 
-// `append`, where a view may make room once, and none after the number [`LAST`].
+// `append`, where a view may make room once, and not after an update with [`LAST`].
 #[derive(Clone, Copy, PartialEq, Eq, Debug)]
 struct Refusing;
 
@@ -109,7 +109,8 @@ fn instance(place: u32) -> Instance {
     Instance { frame: 1, place }
 }
 
-// Views at three places: `times` times the place's number, from `first` on. The one at `refused` may not grow.
+// Views at three places p: `times` updates of each with `first + p`. The one at `refused` may not
+// grow.
 fn three(
     alloc: Global,
     first: i64,
@@ -128,7 +129,7 @@ fn three(
     Ok(views)
 }
 
-// Each number as often as it says.
+// Each number, repeated as often as it says.
 fn repeated(alloc: Global, numbers: &[(i64, u32)]) -> Result<Vec<i64>, AllocError> {
     let mut all = Vec::new(alloc);
     for (x, times) in numbers {
@@ -139,7 +140,7 @@ fn repeated(alloc: Global, numbers: &[(i64, u32)]) -> Result<Vec<i64>, AllocErro
     Ok(all)
 }
 
-// The elements at the three places, one list after the other. The views leave.
+// The elements of the views at the three places, which are removed.
 fn elements(alloc: Global, views: &mut Views<Refusing>) -> Result<Vec<i64>, AllocError> {
     let mut all = Vec::new(alloc);
     for place in 1..4 {

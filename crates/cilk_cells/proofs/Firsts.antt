@@ -31,12 +31,13 @@ kept_present m i here f e j = by (same_instance i j) refl
         q ∙ (ap (λ (o : Option Read). Some (unwrap_or o here)) (sym e) ∙ sym (cond-true (same_instance i j) (Some (first_of_all m i here)) (read_at m j) p))
     by false p = sym (cond-false (same_instance i j) (Some (first_of_all m i here)) (read_at m j) p)
 
--- the one at hand is the first where the instance has none
+-- the current one is the first if the instance has none
 pub kept_absent : (m : FirstReads) (f : Instance → Option Read) (i : Instance) (here : Read) → read_at m i ≡ None → ((j : Instance) → f j ≡ cond (same_instance i j) (Some here) (read_at m j))
     → (j : Instance) → f j ≡ cond (same_instance i j) (Some (first_of_all m i here)) (read_at m j)
 kept_absent m f i here e k j = k j ∙ ap (λ (o : Option Read). cond (same_instance i j) (Some (unwrap_or o here)) (read_at m j)) (sym e)
 
--- Of the indices below n that have P the first one, whose number by C all of them have. Positions are indices and one.
+-- The first index below n that has P, and all of these have its number by C. A position is an index
+-- plus one.
 abbrev pub IsFirst : (ℕ → Type 0) → (ℕ → ℕ) → ℕ → Option Read → Type 0
 IsFirst P C n None = (k : ℕ) → k < n → P k → ⊥
 IsFirst P C n (Some r) =
@@ -77,7 +78,7 @@ joined P C n (Some r) here (x, y, z, w, g) e f p same = (
   ],
 )
 
--- what an answer is
+-- the meaning of an answer
 record IsApart (P : ℕ → Type 0) (C : ℕ → ℕ) (n p : ℕ) : Type 0 where
   first : 1 ≤ p
   earlier : p ≤ n
@@ -103,7 +104,8 @@ number t es k = class t (strand_at es (k + 1))
 abbrev pub ReadsAt : List Event → Instance → ℕ → Type 0
 ReadsAt es i k = ReadsReducer (slice_get es k) i
 
--- Where the pass stands: n events are behind it, and each instance's reducer-reads among them are of one class.
+-- The state of the pass after n events: the reducer-reads of each instance among them are of one
+-- class.
 abbrev pub Passed : Tree → List Event → ℕ → FirstReads → Type 0
 Passed t es n m = (i : Instance) → IsFirst (ReadsAt es i) (number t es) n (read_at m i)
 
@@ -119,7 +121,7 @@ peers_of s es sp p q l m =
     one_class s (class_numbers (tree s) 0 1) (strand_at es p) (strand_at es q) _ _ refl a.0 (let k = a.1 in omega (arith, k, n)) b.0 (let k = b.1 in omega (arith, k, n))
     (ap (λ (k : ℕ). class (tree s) (strand_at es k)) x) (ap (λ (k : ℕ). class (tree s) (strand_at es k)) y)
 
--- no two of the events behind the pass race
+-- no two of the first n events race
 behind : (s : Shape) (es : List Event) → Spells s es → (n : ℕ) (m : FirstReads) → Passed (tree s) es n m → (p q : ℕ) → q ≤ n → IsViewRace (tree s) es p q → ⊥
 behind s es sp n m g p q l r = one (read_at m r.instance) (g r.instance)
   where
@@ -215,7 +217,7 @@ standing_first es classes strand m z e = record {
   passed = λ s sp c. passed_first (tree s) es m e;
 }
 
--- the event at hand, whose strand is u and whose class and position a reducer-read would have
+-- the current event, with its strand u, and the class and position of a reducer-read there
 pub record Here (es : List Event) (classes : List ℕ) (n u : ℕ) (e : Event) (here : Read) : Type 0 where
   pub event : slice_get es n ≡ Some e
   pub strand : u ≡ strand_at es (n + 1)
@@ -258,7 +260,7 @@ standing_found es classes n strand strand' e i r f m s h some g ne t sp c =
     let w = passed_found t es sp n e i r m h.event (s.passed t sp c) (sym some) (class_here t es classes n strand' e r c h) (λ q. ne (ap (λ (x : Read). x.class) g ∙ q)) in
     subst (λ (k : ℕ). IsFirstViewRace (tree t) es f.at k) (sym h.at) (subst (λ (x : Read). IsFirstViewRace (tree t) es x.at (n + 1)) (sym g) w)
 
--- past the last event no pair races
+-- after the last event no pair races
 pub standing_last : (es : List Event) (classes : List ℕ) (n strand : ℕ) (m : FirstReads) → Standing es classes n strand m → length es ≤ n
     → (t : Shape) → Spells t es → classes ≡ class_numbers (tree t) 0 1 → HasNoViewRace (tree t) es
 standing_last es classes n strand m s l t sp c p q r =

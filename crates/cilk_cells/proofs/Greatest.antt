@@ -1,10 +1,11 @@
--- What the pass keeps is the greatest, so the first pair that it finds is the first race.
+-- The kept access is the greatest, so the first pair that the pass finds is the first race.
 use Rattle.std.proofs.Common.{◌≡◌, ℕ, ◌+◌, ◌-◌, ◌<◌, ◌≤◌, Bool, cond, nat_lt, Option, Some, None, refl, sym, ◌∙◌, ap, subst, arith, ◌⊎◌, inl, inr}
 use Rattle.std.proofs.lemmas.Bool.{cases_lt, lt-ltb, le-ltb, lt-leb, le-leb}
 use Rattle.cilk_cells.specs.declared.histories.Access.{Access}
 use Rattle.cilk_cells.specs.Keeping.{greater_of, racing_with}
 
--- Of the indices below i that have P, the one whose number by H is greatest, the earliest at equal numbers. Positions are indices and one.
+-- The index below i that has P and the greatest number by H; at equal numbers the earliest. A
+-- position is an index plus one.
 abbrev pub IsGreatest : (ℕ → Type 0) → (ℕ → ℕ) → ℕ → Option Access → Type 0
 IsGreatest P H i None = (k : ℕ) → k < i → P k → ⊥
 IsGreatest P H i (Some a) =
@@ -65,7 +66,7 @@ answered P H i (Some a) h (x, y, z, w, g) e k l p q =
       | inr m ↦ elim (g k l p) [ inl u ↦ omega (arith, u, m, q) | inr u ↦ (let v = u.0 in omega (arith, v, m, q)) ]
     ]
 
--- what an answer is
+-- the meaning of an answer
 pub record IsRacing (P : ℕ → Type 0) (H : ℕ → ℕ) (i h p : ℕ) : Type 0 where
   pub first : 1 ≤ p
   pub earlier : p ≤ i

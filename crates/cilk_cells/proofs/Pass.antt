@@ -57,7 +57,7 @@ keeps_new P H i xs d a g fits e f p n c l =
           subst (λ (o : Option Access). IsGreatest (P c) H (i + 1) o) (sym (get_or-set_other xs d c (greater_of (get_or xs d None) a) None ne)) (skipped (P c) H i (get_or xs c None) (g c m) (n c ne)))
     ]
 
--- what may race with this event
+-- the accesses that may race with this event
 abbrev Rival : List Event → Event → ℕ → Type 0
 Rival es (events.Read d v) k = WritesAt es d k
 Rival es (events.Write d v) k = AccessesAt es d k
@@ -101,7 +101,7 @@ clashes es (events.Read d v) k r = record { cell = d; clash = inl (r, refl) }
 clashes es (events.Write d v) k r = record { cell = d; clash = inr (r, refl) }
 clashes es _ k r = absurd r
 
--- Where the pass stands: i events are behind it, and none of them ends a race.
+-- The state of the pass after i events, none of which ends a race.
 pub record Passed (t : Tree) (es : List Event) (i : ℕ) (ws as' : List (Option Access)) : Type 0 where
   pub writes : Keeps (WritesAt es) (number t es) i ws
   pub accesses : Keeps (AccessesAt es) (number t es) i as'
@@ -257,7 +257,7 @@ length-accesses_after _ a ws = refl
 number_here : (s : Shape) (es : List Event) (labels : List ℕ) (i n h : ℕ) → labels ≡ hebrews (tree s) 1 → n ≡ strand_at es (i + 1) → h ≡ get_or labels (n - 1) 0 → h ≡ number (tree s) es i
 number_here s es labels i n h lb z g = g ∙ (ap (λ (x : List ℕ). get_or x (n - 1) 0) lb ∙ ap (λ (x : ℕ). hebrew (tree s) x) z)
 
--- the event at hand, whose strand is n' and whose access would be a
+-- the current event, with its strand n' and its access a
 pub record Here (es : List Event) (labels : List ℕ) (i n' : ℕ) (e : Event) (a : Access) : Type 0 where
   pub event : slice_get es i ≡ Some e
   pub strand : n' ≡ strand_at es (i + 1)
@@ -287,7 +287,7 @@ no_access : {P Q : Type 0} → (P × ⊥) ⊎ (Q × ⊥) → ⊥
 no_access (inl x) = x.1
 no_access (inr x) = x.1
 
--- past the last event no pair races
+-- after the last event no pair races
 pub standing_last : (es : List Event) (labels : List ℕ) (i n : ℕ) (ws as' : List (Option Access)) → Standing es labels i n ws as' → length es ≤ i
     → (t : Shape) → Spells t es → labels ≡ hebrews (tree t) 1 → HasNoRace (tree t) es
 standing_last es labels i n ws as' s l t sp lb p q r =

@@ -1,15 +1,15 @@
--- What a pass over a run's events keeps of each cell.
+-- The accesses of each cell that a pass over a run's events keeps.
 use Rattle.std.specs.Prelude.{ℕ, ◌<◌, cond, nat_lt, nat_le, List, Option, Some, None, slice_index_or, slice_set}
 use Rattle.cilk_types.specs.declared.event.Event.{Event}
 use Rattle.cilk_types.specs.declared.event.Event.TheVariants.{Read, Write}
 use Rattle.cilk_cells.specs.declared.histories.Access.{Access}
 
--- the access that was kept, or this one where its Hebrew number is greater
+-- the kept access, or this one if its Hebrew number is greater
 abbrev pub greater_of : Option Access → Access → Option Access
 greater_of None a = Some a
 greater_of (Some b) a = cond (nat_le a.hebrew b.hebrew) (Some b) (Some a)
 
--- the position of a kept access of a greater Hebrew number
+-- the position of the kept access if its Hebrew number is greater
 abbrev pub racing_with : Option Access → ℕ → Option ℕ
 racing_with None h = None
 racing_with (Some b) h = cond (nat_lt h b.hebrew) (Some b.at) None
@@ -17,7 +17,7 @@ racing_with (Some b) h = cond (nat_lt h b.hebrew) (Some b.at) None
 abbrev pub kept_after : ℕ → Access → List (Option Access) → List (Option Access)
 kept_after c a kept = slice_set kept c (greater_of (slice_index_or kept c None) a)
 
--- the cells that an event names are below n
+-- the event's cell, if any, is below n
 abbrev pub Fits : ℕ → Event → Type 0
 Fits n (Read c v) = c < n
 Fits n (Write c v) = c < n

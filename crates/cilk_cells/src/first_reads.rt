@@ -1,4 +1,4 @@
-//! What a pass over a run's events keeps of each reducer.
+//! The first reducer-read of each reducer, as a pass over a run's events keeps it.
 
 ghost use Rattle.std.specs.Prelude.{◌≡◌, None, IfOk, OnOk};
 ghost use Rattle.cilk_types.specs.declared.event.Instance.{Instance};
@@ -8,14 +8,14 @@ use cilk_types::event::{Event, Instance, Pos};
 use std::alloc::{AllocError, Global};
 use std::collections::HashMap;
 
-/// A reducer-read: its strand's peer class, and its position.
+/// A reducer-read: its strand's peer class and its position.
 #[derive(Clone, Copy, PartialEq, Eq, Debug)]
 pub struct Read {
     pub class: u32,
     pub at: Pos,
 }
 
-/// For each reducer its first reducer-read.
+/// The first reducer-read of each reducer met so far.
 pub struct FirstReads {
     reads: HashMap<Instance, Read>,
 }
@@ -28,7 +28,7 @@ impl Drop for FirstReads {
 }
 
 impl FirstReads {
-    /// Nothing yet of any reducer.
+    /// Makes an empty map.
     pub fn new(alloc: Global) -> FirstReads
         ensures { (i : Instance) → read_at result i ≡ None }
     {
@@ -37,7 +37,8 @@ impl FirstReads {
         }
     }
 
-    /// The first reducer-read of the instance, where the one at hand is kept if it is the first.
+    /// Returns the first reducer-read of the instance, and stores `here` as the first if there was
+    /// none.
     pub fn meet(&mut self, instance: Instance, here: Read) -> Result<Read, AllocError>
         ensures first { IfOk result (λ r. r ≡ first_of_all self.old instance here) }
         ensures kept { OnOk result (KeepsAt self.old self.new instance (first_of_all self.old instance here)) }
@@ -50,7 +51,8 @@ impl FirstReads {
     }
 }
 
-/// The instance that a reducer-read reads: its creation, a set or a value. Other events read none.
+/// Returns the instance that an event reads: a creation, a set and a value are reducer-reads. Other
+/// events give `None`.
 pub fn instance_of(event: &Event) -> Option<Instance>
     ensures { result ≡ instance_read event.now }
 {

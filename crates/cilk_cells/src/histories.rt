@@ -1,4 +1,4 @@
-//! What a pass over a run's events keeps of each cell.
+//! The accesses of each cell that a pass over a run's events keeps.
 
 ghost use Rattle.std.specs.Prelude.{◌≡◌, ◌≤◌, ◌+◌, ◌<◌, ℕ, length, slice_get, slice_index_or, slice_set, replicate, IfOk, IfSome, None};
 ghost use Rattle.cilk_types.specs.declared.event.Event.{Event};
@@ -7,14 +7,14 @@ ghost use Rattle.cilk_cells.specs.Keeping.{greater_of, racing_with, accesses_aft
 use cilk_types::event::{Cell, Event, Pos};
 use std::alloc::{AllocError, Global};
 
-/// An access of a cell: its strand's Hebrew number, and its position.
+/// An access of a cell: its strand's Hebrew number and its position.
 #[derive(Clone, Copy, PartialEq, Eq)]
 pub struct Access {
     pub hebrew: u32,
     pub at: Pos,
 }
 
-/// For each cell the write and the access of greatest Hebrew number, the earliest of their strand.
+/// For each cell the write and the access of greatest Hebrew number; at equal numbers the earliest.
 #[derive(Drop)]
 pub struct Histories {
     pub writes: Vec<Option<Access>>,
@@ -22,7 +22,7 @@ pub struct Histories {
 }
 
 impl Histories {
-    /// Nothing yet of so many cells.
+    /// Makes the histories of `cells` cells, with no access yet.
     pub fn new(alloc: Global, cells: usize) -> Result<Histories, AllocError>
         ensures writes { IfOk result (λ h. h.writes.items ≡ replicate cells None) }
         ensures accesses { IfOk result (λ h. h.accesses.items ≡ replicate cells None) }
@@ -35,7 +35,8 @@ impl Histories {
         Ok(Histories { writes, accesses })
     }
 
-    /// Keeps an event, and gives the position of the kept access that races with it, if there is one.
+    /// Records an event, and returns the position of the kept access that races with it, if there
+    /// is one.
     pub fn meet(&mut self, event: &Event, here: Access) -> Option<Pos>
         requires writes { Fits (length self.old.writes.items) event.now }
         requires accesses { Fits (length self.old.accesses.items) event.now }
@@ -60,7 +61,7 @@ impl Histories {
     }
 }
 
-// The position of the cell's kept access, if its Hebrew number is greater.
+// Returns the position of the cell's kept access if its Hebrew number is greater than `hebrew`.
 fn racing(kept: &[Option<Access>], cell: Cell, hebrew: u32) -> Option<Pos>
     requires { cell < length kept.now }
     ensures { result ≡ racing_with (slice_index_or kept.now cell None) hebrew }
@@ -72,7 +73,7 @@ fn racing(kept: &[Option<Access>], cell: Cell, hebrew: u32) -> Option<Pos>
     }
 }
 
-// Keeps an access, if its Hebrew number is greater.
+// Keeps an access if its Hebrew number is greater than that of the kept one.
 fn keep(kept: &mut [Option<Access>], cell: Cell, here: Access)
     requires { cell < length kept.old }
     ensures { kept.new ≡ slice_set kept.old cell (greater_of (slice_index_or kept.old cell None) here) }
@@ -90,7 +91,7 @@ fn greater(kept: Option<Access>, here: Access) -> Option<Access>
     }
 }
 
-/// How many cells there are, up to the last that an event names, and no more.
+/// Returns the number of cells that the events name: the least number above all cells they access.
 pub fn cells_of(events: &[Event]) -> usize
     ensures room { (k : ℕ) (e : Event) → k < length events.now → Fits result (slice_index_or events.now k e) }
     ensures least { (n : ℕ) → ((k : ℕ) (e : Event) → k < length events.now → Fits n (slice_index_or events.now k e)) → result ≤ n }

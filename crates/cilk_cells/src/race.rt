@@ -13,8 +13,9 @@ use cilk_types::event::{Pos, StrandNo};
 use cilk_types::trace::Trace;
 use std::alloc::{AllocError, Global};
 
-/// The first race, or none where no two accesses race: the least position that an earlier access races with, and of those
-/// earlier ones the one of greatest Hebrew number, at equal numbers the earliest. Cost: linear in the events and cells.
+/// Returns the first determinacy race, or `None` if no two accesses race. The later position is the
+/// least that an earlier access races with. The earlier one has the greatest Hebrew number of those
+/// accesses; at equal numbers it is the earliest. Cost: linear in the events and cells.
 pub fn first_race(
     alloc: Global,
     trace: &Trace,

@@ -13,10 +13,10 @@ use cilk_types::event::{Pos, StrandNo};
 use cilk_types::trace::Trace;
 use std::alloc::{AllocError, Global};
 
-/// The first view-read race, or none where no two reducer-reads of one instance have strands with different peers: the least
-/// position of a reducer-read whose strand's peers differ from those of an earlier reducer-read of its instance, and
-/// before it the position of the instance's first reducer-read. In a serial run that is the instance's creation, where the
-/// program is well named (`first_view_race_is_of_a_creation` in `cilk_determinacy`).
+/// Returns the first view-read race, or `None` if there is none. The later position is the least
+/// reducer-read whose strand has other peers than an earlier reducer-read of its instance. The
+/// earlier position is the instance's first reducer-read. In a serial run of a well-named program
+/// that is the instance's creation (`first_view_race_is_of_a_creation` in `cilk_determinacy`).
 /// Cost: linear in the events; memory: linear in the instances.
 pub fn first_view_read(
     alloc: Global,

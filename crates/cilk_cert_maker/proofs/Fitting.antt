@@ -24,7 +24,7 @@ fits_more n m (events.Set i v) l h = tt
 fits_more n m (events.Value i v) l h = tt
 fits_more n m (events.Print v) l h = tt
 
--- the first so many events fit
+-- the first n events fit
 abbrev pub FitSoFar : List Event → ℕ → ℕ → Type 0
 FitSoFar es i n = (k : ℕ) (e : Event) → k < i → slice_get es k ≡ Some e → Fits n e
 

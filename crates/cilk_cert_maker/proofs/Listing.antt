@@ -1,6 +1,6 @@
--- Where the pass that makes the entries stands.
+-- The state of the pass that makes the entries.
 --
--- - `Lists`: so many events are listed;
+-- - `Lists`: the first n events are listed;
 -- - `lists_first`, `lists_next`: the pass begins, and one event more.
 use Rattle.std.proofs.Common.{◌≡◌, ℕ, suc, ◌+◌, ◌<◌, ◌≤◌, List, [], ◌∷◌, ◌++◌, length, get_or, take, Some, slice_get, refl, sym, subst, arith, length-append}
 use Rattle.std.proofs.lemmas.Option.{slice_get-get_or}
@@ -15,7 +15,7 @@ use Rattle.cilk_cert_maker.specs.Listed.{creations, event_in, source_in, source_
 use Rattle.cilk_cert_maker.specs.Right.{EachAt}
 use Rattle.cilk_cert_maker.proofs.Placed.{each_none, each_more, all_both}
 
--- the entries of the first so many events, and the last writes among them
+-- the entries of the first n events, and the last writes among them
 pub record Lists (es : List Event) (n : ℕ) (xs : List Entry) (positions : List ℕ) : Type 0 where
   pub within : n ≤ length es
   pub many : length xs ≡ n
@@ -37,7 +37,7 @@ lists_first es xs last cells e none long fit =
       fit = subst (λ (n : ℕ). AllFit n es) (sym long) fit;
     })
 
--- the write of the event at hand has a place
+-- the current event's write has a place
 pub fits_here : (es : List Event) (i : ℕ) (d : Event) (xs : List Entry) (last : List ℕ) → Lists es i xs last → i < length es → Fits (length last) (get_or es i d)
 fits_here es i d xs last h lt = h.fit i (get_or es i d) (slice_get-get_or es i d lt)
 

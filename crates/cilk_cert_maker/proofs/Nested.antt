@@ -1,7 +1,8 @@
 -- The list of a run's events has the frames of the run's shape, and the frames of its strands.
 --
 -- - `Along`, `along_both`, `along_at`: what holds at each mark of a list, of the marks up to it;
--- - `open_behind`, `begun_behind`, `strands_behind`, `made_behind`: what is open behind a whole frame, and what was counted;
+-- - `open_behind`, `begun_behind`, `strands_behind`, `made_behind`: the open frame and the counts
+--   after a whole frame;
 -- - `frames_along`, `owners_along`: from some point of a frame on;
 -- - `frames_invoked`: the law.
 use Rattle.std.proofs.Common.{◌≡◌, ℕ, zero, suc, ◌+◌, ◌-◌, ◌<◌, ◌≤◌, Bool, true, false, List, [], ◌∷◌, ◌++◌, length, map, take, Option, Some, None, slice_get, refl, sym, ap, ◌∙◌, subst, arith, append_assoc, append-nil, length-append}
@@ -81,9 +82,9 @@ made_other : (k : Invocation) (past : List Mark) (f : ℕ) → f < open_frame pa
 made_other k past f l =
     made_one k past f ∙ ap (λ (b : Bool). if b then suc (made_in f past) else made_in f past) (nat_eq_less (open_frame past 0) f l)
 
--- ---- behind a whole frame
+-- ---- after a whole frame
 
--- the marks of a child and of what follows it, turned
+-- the marks of a child and of the rest after it, reversed
 abbrev inside : Invocation → List Mark → List Mark
 inside k past = Begin ∷ start_of k ∷ past
 
@@ -93,7 +94,7 @@ resumed k u past = Resume ∷ turned (marks u) (inside k past)
 turned_child : (k : Invocation) (u r : Shape) (past : List Mark) → turned (marks (child k u r)) past ≡ turned (marks r) (resumed k u past)
 turned_child k u r past = turned_both (marks u) (Resume ∷ marks r) (inside k past)
 
--- behind a frame's end the frame is closed
+-- after a frame's end the frame is closed
 open_behind : (s : Shape) (past : List Mark) (inner : ℕ) → open_frame (turned (marks s) past) inner ≡ open_frame past (suc inner)
 open_behind finish past inner = refl
 open_behind (act r) past inner = open_behind r (Plain ∷ past) inner
@@ -145,7 +146,7 @@ strands_behind (child k u r) past me begun =
     let d = length-append (owners_from u (begun + 1) (begun + 1)) (me ∷ rest) in
     ap strands (turned_child k u r past) ∙ omega (arith, a, b, c, d)
 
--- what is open behind a child and its `resume`
+-- the open frame after a child and its `resume`
 open_resumed : (k : Invocation) (u : Shape) (past : List Mark) → open_frame (resumed k u past) 0 ≡ open_frame past 0
 open_resumed k u past = open_behind u (inside k past) 0 ∙ open_started k past 0
 
@@ -209,7 +210,7 @@ get_here : {A : Type 0} (front : List A) (x : A) (later : List A) → slice_get 
 get_here [] x later = refl
 get_here (y ∷ front) x later = get_here front x later
 
--- a frame's line, where its `begin` is the last
+-- a frame's line, right after its `begin`
 abbrev Framed : List Frame → List Mark → Type 0
 Framed fs (Begin ∷ past) = slice_get fs (frames_begun past) ≡ Some (invoked past)
 Framed fs _ = Unit {0}
@@ -272,7 +273,7 @@ frames_along fs (child k u r) past me made begun front later o m b l n e =
 abbrev Owned : List ℕ → List Mark → Type 0
 Owned ws past = slice_get ws (strands past - 1) ≡ Some (frame_of_last past)
 
--- where these strands have begun, of which the last is of this frame
+-- these strands have begun, and the last one is in this frame
 owned : (ws : List ℕ) (past : List Mark) (me : ℕ) (front later : List ℕ)
     → strands past ≡ suc (length front) → frame_of_last past ≡ me → ws ≡ front ++ (me ∷ later) → Owned ws past
 owned ws past me front later n o e =

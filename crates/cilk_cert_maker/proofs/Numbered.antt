@@ -1,8 +1,8 @@
 -- Strands with their frames and labels, and the certificate that they make.
 --
--- - `Numbers`, `numbers_first`, `numbers_next`: where the pass over the strands stands;
+-- - `Numbers`, `numbers_first`, `numbers_next`: the state of the pass over the strands;
 -- - `labels_fit`, `classes_fit`, `events_few`, `owners_few`: how many there are;
--- - `is_right`, `is_certificate`: what the columns make.
+-- - `is_right`, `is_certificate`: the columns make a right certificate.
 use Rattle.std.proofs.Common.{◌≡◌, ℕ, ℤ, ◌+◌, ◌-◌, ◌<◌, ◌≤◌, List, [], ◌∷◌, ◌++◌, length, get_or, Some, slice_get, refl, sym, ap, subst, ◌∙◌, arith, length-append}
 use Rattle.std.proofs.lemmas.Option.{slice_get-get_or}
 use Rattle.std.specs.List.{AllByRecursion}
@@ -25,7 +25,7 @@ use Rattle.cilk_cert_maker.specs.Right.{EachAt, IsAt, IsRight}
 use Rattle.cilk_cert_maker.proofs.Lengths.{columns_counted, frames_small}
 use Rattle.cilk_cert_maker.proofs.Placed.{each_none, each_more, all_both, nowhere_wrong}
 
--- the first so many strands
+-- the first n strands
 pub record Numbers (ws hs cs : List ℕ) (n : ℕ) (xs : List Strand) : Type 0 where
   pub many : length xs ≡ n
   pub owners : EachAt (λ (k : ℕ) (x : Strand). IsAt ws k x.frame) xs

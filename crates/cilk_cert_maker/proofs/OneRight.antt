@@ -1,9 +1,10 @@
 -- Two right certificates of a run are one.
 --
--- - `not_wrong`, `as_many`: of a column that is nowhere wrong no item fails to be right, and none is missing or too many;
--- - `same_lists`: lists are equal, but for a double negation, where their items are so at each place;
+-- - `not_wrong`, `as_many`: if no place of a column is wrong, each item is right up to a double
+--   negation, and none is missing or extra;
+-- - `same_lists`: two lists are equal, up to a double negation, if their items are at each place;
 -- - `same_entry`: two entries of one version that list one event with one source;
--- - `one_right`: the law. Texts are compared byte by byte, so there the double negation goes.
+-- - `one_right`: the law. Texts are compared byte by byte, which removes the double negation.
 use Rattle.std.proofs.Common.{◌≡◌, ℕ, zero, suc, ◌+◌, ◌-◌, ◌<◌, ◌≤◌, ℤ, Bool, true, false, List, [], ◌∷◌, length, take, Option, Some, None, slice_get, option_map, refl, sym, ap, subst, ◌∙◌, arith, inl, inr}
 use Rattle.std.specs.List.{AllByRecursion}
 use Rattle.std.specs.Str.{bytes_eq}
@@ -111,7 +112,7 @@ entry_of (events.Set i v) s n = called (λ r. entries.Set r v) n
 entry_of (events.Value i v) s n = called (λ r. entries.Value r v) n
 entry_of (events.Print v) s n = entries.Print v
 
--- where a name's event is an entry's, what holds of each event with that reducer holds of it
+-- a property of every reducer's event holds for the event of a name
 through : (o : Option Instance) (f : Instance → Event) (e : Event) (P : Option Instance → Event → Type 0) → ((i : Instance) → P (Some i) (f i)) → option_map f o ≡ Some e → P o e
 through None f e P h q = absurd (let t : ◌≡◌ {A = Option Event} None (Some e) = q in cc)
 through (Some i) f e P h q = subst (P (Some i)) (same_Some (f i) e q) (h i)

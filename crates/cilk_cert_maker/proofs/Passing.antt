@@ -1,7 +1,8 @@
--- Where the pass over a list of events stands.
+-- The state of the pass over a list of events.
 --
--- - `IsWithin`, `within_next`: a frame has made at most as many invocations as events came, and no more frames began;
--- - `Stands`, `stands_first`, `stands_next`, `stands_last`: what is ahead of the pass.
+-- - `IsWithin`, `within_next`: the frames, and the calls and spawns of each, are at most the events
+--   so far;
+-- - `Stands`, `stands_first`, `stands_next`, `stands_last`: the events still to come.
 use Rattle.std.proofs.Common.{◌≡◌, ℕ, suc, ◌+◌, ◌≤◌, ◌<◌, ◌^◌, List, [], ◌∷◌, length, get_or, drop, map, refl, sym, ap, ◌∙◌, subst, arith, length-append}
 use Rattle.std.proofs.lemmas.List.{drop_all}
 use Rattle.std.proofs.Math.Seq.{drop-cons}
@@ -72,7 +73,7 @@ within_next n Spawn w h = entered_within n w h
 within_next n Call w h = entered_within n w h
 within_next n Plain w h = plain_within n w h
 
--- so many events are behind the pass
+-- the pass has processed the first n events
 pub record Stands (es : List Event) (i : ℕ) (w : Walked) : Type 0 where
   pub ahead : walked (map mark_of (drop i es)) w ≡ walked (map mark_of es) opening
   pub within : IsWithin i w

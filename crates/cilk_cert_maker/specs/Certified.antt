@@ -9,7 +9,7 @@ use Rattle.cilk_tree.specs.Shape.{Shape, Spells}
 use Rattle.cilk_cert_text.specs.Certificates.{Contents, IsCertificate}
 use Rattle.cilk_cert_maker.specs.Right.{IsRight}
 
--- the serial run ends without a fault, and the certificate lists it
+-- The serial run ends without a fault, and this is its right certificate.
 pub record IsCertificateOf (p : Source) (inputs : List ℤ) (c : Contents) : Type 0 where
   pub shape : Shape
   pub events : List Event
@@ -18,7 +18,7 @@ pub record IsCertificateOf (p : Source) (inputs : List ℤ) (c : Contents) : Typ
   pub spells : Spells shape events
   pub right : IsRight shape events outcome.result c
 
--- two right certificates of a well-named program's run, of one version, are equal
+-- Two right certificates of one version of a well-named program's run are equal.
 abbrev pub RunsHaveOneCertificate : Source → List ℤ → Type 0
 RunsHaveOneCertificate p inputs =
     (c d : Contents) → IsTrue (is_well_named p) → IsCertificate c → IsCertificate d → c.version ≡ d.version → IsCertificateOf p inputs c → IsCertificateOf p inputs d → c ≡ d

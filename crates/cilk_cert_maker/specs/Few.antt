@@ -1,4 +1,4 @@
--- A run that ends has few frames and strands.
+-- The frames and strands of a run that ends are within the limits.
 use Rattle.std.specs.Prelude.{◌≡◌, ◌≤◌, ℤ, IsTrue, List, length}
 use Rattle.cilk_types.specs.declared.event.Event.{Event}
 use Rattle.cilk_types.specs.declared.limits.TheConstants.{MAX_EVENTS, MAX_FRAMES}
@@ -11,7 +11,7 @@ use Rattle.cilk_tree.specs.Shape.{Shape, Spells}
 use Rattle.cilk_determinacy.specs.Events.{frames_begun}
 use Rattle.cilk_cert_maker.specs.Frames.{frames_of, owners_of}
 
--- as many frames as `begin`s, within the limit of frames; and strands within the limit of events
+-- one frame for each `begin`, within the limit of frames; strands within the limit of events
 pub record HasFewColumns (s : Shape) (es : List Event) : Type 0 where
   pub begun : length (frames_of s) ≡ length (frames_begun es)
   pub frames : length (frames_of s) ≤ MAX_FRAMES

@@ -1,4 +1,4 @@
--- Which event of a run a certificate's entry lists.
+-- The event of a run that an entry of a certificate lists.
 use Rattle.std.specs.Prelude.{◌≡◌, ℕ, zero, suc, List, [], ◌∷◌, take, Option, Some, None, slice_get, option_map, flat_map}
 use Rattle.cilk_types.specs.declared.event.Event.{Event}
 use Rattle.cilk_types.specs.declared.event.Event.TheVariants as events
@@ -13,7 +13,7 @@ abbrev pub created_by : Event → List Instance
 created_by (events.Create i) = i ∷ []
 created_by _ = []
 
--- the reducers that events create, in order
+-- the reducers that these events create, in order
 abbrev pub creations : List Event → List Instance
 creations es = flat_map created_by es
 
@@ -22,12 +22,14 @@ abbrev pub numbered : List Instance → ℕ → Option Instance
 numbered made zero = None
 numbered made (suc n) = slice_get made n
 
--- the reducer that a name means once these have been created: version 1 counts creations, version 2 gives frame and place
+-- The reducer that a name means once these reducers are created. Version 1 counts creations;
+-- version 2 gives frame and place.
 abbrev pub named : List Instance → Reducer → Option Instance
 named made (Number n) = numbered made n
 named made (Place i) = Some i
 
--- the event that an entry lists, but for a read's source; none where its reducer hasn't been created
+-- the event that an entry lists, apart from a read's source; none if its reducer hasn't been
+-- created
 abbrev pub event_in : List Instance → Entry → Option Event
 event_in made (entries.Begin f) = Some (events.Begin f)
 event_in made (entries.Spawn f) = Some (events.Spawn f)
@@ -43,20 +45,20 @@ event_in made (entries.Set r v) = option_map (λ i. events.Set i v) (named made 
 event_in made (entries.Value r v) = option_map (λ i. events.Value i v) (named made r)
 event_in made (entries.Print v) = Some (events.Print v)
 
--- what an entry gives as the source of its read, where it is one
+-- the source that an entry gives, if it lists a read
 abbrev pub source_in : Entry → Option ℕ
 source_in (entries.Read c v s) = Some s
 source_in _ = None
 
--- the source of the event behind n others, where it is a read: the last earlier position that writes its cell
+-- the source of the event after the first n, if it is a read: the last earlier write of its cell
 abbrev pub source_at : List Event → ℕ → Event → Option ℕ
 source_at es n (events.Read c v) = Some (last_write es c n)
 source_at es n _ = None
 
--- the entry lists the event behind n others; a creation's own name counts it
+-- The entry lists the event after the first n. The name of a reducer may be that of this creation.
 abbrev pub ListsEvent : List Event → ℕ → Entry → Type 0
 ListsEvent es n x = (e : Event) × (slice_get es n ≡ Some e) × (event_in (creations (take (suc n) es)) x ≡ Some e)
 
--- and so its source is right
+-- the entry has the source of the event after the first n
 abbrev pub HasSource : List Event → ℕ → Entry → Type 0
 HasSource es n x = (e : Event) × (slice_get es n ≡ Some e) × (source_in x ≡ source_at es n e)

@@ -9,14 +9,15 @@ use Rattle.cilk_cert_text.specs.Certificates.{Contents}
 use Rattle.cilk_cert_maker.specs.Frames.{frames_of, owners_of}
 use Rattle.cilk_cert_maker.specs.Listed.{ListsEvent, HasSource}
 
--- ---- places at which a list isn't right
+-- ---- the wrong places of a list
 
--- an item that isn't right at its place, or is missing there; behind the last right one each item is one too many
+-- The item at index n is wrong, or it is missing: n is below `count`, the length of the right list.
+-- `IsRightAt` holds of no index from `count` on, so each extra item is wrong.
 abbrev pub is_wrong : {A : Type 0} → (ℕ → A → Type 0) → Option A → ℕ → ℕ → Type 0
 is_wrong IsRightAt (Some x) n count = ¬ (IsRightAt n x)
 is_wrong IsRightAt None n count = n < count
 
--- places count from 1
+-- the place k of a list is wrong; places count from 1
 abbrev pub IsWrongAt : {A : Type 0} → (ℕ → A → Type 0) → List A → ℕ → ℕ → Type 0
 IsWrongAt IsRightAt given count k = (1 ≤ k) × is_wrong IsRightAt (slice_get given (k - 1)) (k - 1) count
 
@@ -27,13 +28,13 @@ pub record IsLeast (P : ℕ → Type 0) (k : ℕ) : Type 0 where
   pub holds : P k
   pub least : (j : ℕ) → P j → k ≤ j
 
--- each item is right at its place, counted from 0
+-- each item is right at its index
 abbrev pub EachAt : {A : Type 0} → (ℕ → A → Type 0) → List A → Type 0
 EachAt {A = A} IsRightAt given = (k : ℕ) (x : A) → slice_get given k ≡ Some x → IsRightAt k x
 
 -- ---- the columns of a certificate
 
--- the item of a column at a place
+-- the column has this item at index k
 abbrev pub IsAt : {A : Type 0} → List A → ℕ → A → Type 0
 IsAt column k x = slice_get column k ≡ Some x
 
@@ -56,7 +57,8 @@ module _ (s : Shape) (c : Contents) where
   abbrev pub ClassIsWrong : ℕ → Type 0
   ClassIsWrong = IsWrongAt (λ k x. IsAt (class_numbers (tree s) 0 1) k x.class) c.strands (length (class_numbers (tree s) 0 1))
 
--- the certificate lists this run: its events, frames and strands, the source of each read, and the result
+-- The certificate is right for this run: no place of its columns is wrong, and the result is the
+-- run's.
 pub record IsRight (s : Shape) (es : List Event) (value : ℤ) (c : Contents) : Type 0 where
   pub events : IsNowhere (EventIsWrong es c)
   pub frames : IsNowhere (FrameIsWrong s c)

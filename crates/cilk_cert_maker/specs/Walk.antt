@@ -1,11 +1,11 @@
--- One pass over a run's marks, with a stack of the frames that wait.
+-- One pass over a run's marks, with a stack of the suspended frames.
 use Rattle.std.specs.Prelude.{ℕ, ◌+◌, List, [], ◌∷◌, ◌++◌, length}
 use Rattle.cilk_tree.specs.declared.mark.Mark.{Mark}
 use Rattle.cilk_tree.specs.declared.mark.Mark.TheVariants.{Begin, End, Sync, Resume, Spawn, Call, Plain}
 use Rattle.cilk_cert_text.specs.declared.line.Frame.{Frame}
 use Rattle.cilk_cert_maker.specs.declared.walk.Open.{Open}
 
--- the frame at hand and those that wait, the innermost first; the frames and the strands' frames so far
+-- the current frame; the suspended frames, innermost first; and the two columns so far
 pub record Walked : Type 0 where
   pub top : Open
   pub below : List Open
@@ -33,7 +33,7 @@ entered w = record {
 abbrev pub begun : Walked → Walked
 begun w = record { top = w.top; below = w.below; frames = w.frames; owners = w.owners ++ w.top.number ∷ [] }
 
--- the frame at hand ends
+-- the current frame ends
 abbrev pub left : Walked → Walked
 left w = record { top = upper w.top w.below; below = lower w.below; frames = w.frames; owners = w.owners }
 
@@ -50,6 +50,6 @@ abbrev pub walked : List Mark → Walked → Walked
 walked [] w = w
 walked (m ∷ ms) w = walked ms (step m w)
 
--- below the root stands a frame that is none
+-- before the first event; below the root is a placeholder with number 0
 abbrev pub opening : Walked
 opening = record { top = record { number = 1; made = 0 }; below = record { number = 0; made = 0 } ∷ []; frames = record { parent = 0; ordinal = 0 } ∷ []; owners = [] }

@@ -1,4 +1,4 @@
-//! The pass that finds the frames of a run and the frames of its strands.
+//! The pass that finds the frames of a run and the frame of each strand.
 
 ghost use Rattle.std.specs.Prelude.{◌≡◌, IfOk};
 ghost use Rattle.cilk_tree.specs.Shape.{Shape, Spells};
@@ -10,8 +10,8 @@ use cilk_tree::mark::Mark;
 use cilk_types::trace::Trace;
 use std::alloc::{AllocError, Global};
 
-/// The columns of a trace. Cost: linear in the events; memory: linear in the frames and strands. A list of events that no run makes
-/// has some columns or other.
+/// Returns the columns of a trace. Cost: linear in the events; memory: linear in the frames and
+/// strands. The result is meaningful only if a run makes these events.
 pub fn columns(alloc: Global, trace: &Trace) -> Result<Columns, AllocError>
     ensures frames { IfOk result (λ r. (s : Shape) → Spells s trace.now → r.frames.items ≡ frames_of s) }
     ensures owners { IfOk result (λ r. (s : Shape) → Spells s trace.now → r.owners.items ≡ owners_of s) }

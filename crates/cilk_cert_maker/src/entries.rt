@@ -1,4 +1,4 @@
-// The entries of a run's events.
+// Lists the events of a run as entries of a certificate.
 
 ghost use Rattle.std.specs.Prelude.{◌≡◌, ◌≤◌, length, IfOk};
 ghost use Rattle.std.specs.List.{AllByRecursion};
@@ -15,7 +15,7 @@ use cilk_types::event::Pos;
 use cilk_types::trace::Trace;
 use std::alloc::{AllocError, Global};
 
-/// The entries of version 2 that list a trace.
+/// Returns the entries of version 2 that list a trace, each read with its source.
 pub(crate) fn entries(alloc: Global, trace: &Trace) -> Result<Vec<Entry>, AllocError>
     ensures many { IfOk result (λ v. length v.items ≡ length trace.now) }
     ensures events { IfOk result (λ v. EachAt (ListsEvent trace.now) v.items) }

@@ -1,26 +1,35 @@
-//! The maker of certificates: it runs a program serially, and lists what a certificate lists of that run.
+//! Makes the certificate of a program's serial run.
 //!
-//! [`make::make`] answers the right certificate of version 2 of a run that ends, and the fault of a run that doesn't.
-//! What is right is defined in `cilk_cert_maker/specs/Right.antt`, and `cilk_cert_text` writes it as a text.
+//! A certificate records one run so that a checker can compare it with its own run of the program.
+//! It has a line for each frame (its parent, and its ordinal among the parent's calls and spawns),
+//! one for each strand (its frame, its Hebrew number and its peer class), and one for each event.
+//! The line of a read also names its source: the position of the last earlier write of its cell.
+//! Which certificate is right for a run is defined in `specs/Right.antt`, without reference to a
+//! checker. `cilk_cert_text` writes a certificate as text.
+//!
+//! The maker runs the program serially and then makes a few passes over the list of events. Each is
+//! linear in the events, and none recurses on the depth of the run.
+//!
+//! | Call | Result |
+//! |---|---|
+//! | [`make::make`] | the certificate of a run, or the fault that stops the run |
+//! | [`make::certificate`] | the certificate of a run whose events are given |
+//! | [`columns::columns`] | the frames, and the frame of each strand |
+//! | [`sources::LastWrites`] | the source of each read, found in one pass over the events |
+//! | [`listed_entries::entry`] | an event as an entry of the certificate |
+//! | [`listed_entries::Creations`] | an entry as an event, in both versions of the format |
+//! | [`laws`], [`listing_laws`] | a run has at most one right certificate of each version |
 //!
 //! ```text
 //! let certificate = make(alloc, &program, &input)?;
-//! let text = write(alloc, &certificate)?;          // of `int main(){return 0;}`: ten lines, 94 bytes
+//! let text = write(alloc, &certificate)?;   // of `int main(){return 0;}`: ten lines, 94 bytes
+//!
+//! let Columns { frames, owners } = columns(alloc, &trace)?;
+//! // a root that spawns one child: frames (0, 0) and (1, 1); owners 1, 2, 2, 1, 1, 1
 //! ```
 //!
-//! What a certificate lists of a serial run.
-//!
-//! A certificate has a line for each frame (its parent, and its ordinal among the parent's invocations), one for each strand
-//! (its frame and its labels) and one for each event, where a read has its source: the position of the last earlier write of its
-//! cell. What is right of a run is defined in `specs/Right.antt`; nothing there knows of a checker.
-//!
-//! [`columns::columns`] finds frames and the frames of strands in one pass, [`sources::LastWrites`] the sources, and
-//! [`entries`] has entries of both versions of the format as events and back. All of it is linear in the events, without recursion
-//! on the depth of a run.
-//!
-//! ```text
-//! let Columns { frames, owners } = columns(alloc, &trace)?;   // of one spawn: frames (0, 0), (1, 1); strands of 1, 2, 2, 1, 1, 1
-//! ```
+//! The labels are those of Bender, Fineman, Gilbert and Leiserson 2004 (`cilk_labels`) and of Lee
+//! and Schardl 2015 (`cilk_peers`).
 #![tactic(auto)]
 
 pub mod column;

@@ -1,4 +1,4 @@
-//! The events of a run as a certificate's entries, and back.
+//! Events of a run as entries of a certificate, and back.
 
 ghost use Rattle.std.specs.Prelude.{◌≡◌, ◌<◌, ◌^◌, ◌++◌, ℕ, List, Some, OnErr, OnOk, take};
 ghost use Rattle.cilk_types.specs.declared.event.Event.{Event};
@@ -14,14 +14,14 @@ use cilk_cert_text::line::{Entry, Reducer};
 use cilk_types::event::{Event, Instance, Pos};
 use std::alloc::{AllocError, Global};
 
-/// The reducers that were created so far, in order.
+/// The reducers created so far, in order of creation.
 #[derive(Drop, Debug)]
 pub struct Creations {
     made: Vec<Instance>,
 }
 
 impl Creations {
-    /// None so far.
+    /// Returns an empty list.
     pub fn new(alloc: Global) -> Creations
         ensures { (es : List Event) → result.made.items ≡ creations (take 0 es) }
     {
@@ -30,7 +30,8 @@ impl Creations {
         }
     }
 
-    /// The next event has come. Where there is no memory for it, it hasn't.
+    /// Records the reducer that the next event creates, if it creates one. Nothing changes if
+    /// memory runs out.
     pub fn meet(&mut self, event: &Event) -> Result<(), AllocError>
         ensures made { OnOk result (self.new.made.items ≡ self.old.made.items ++ created_by event.now) }
         ensures kept { OnErr result (self.new.made.items ≡ self.old.made.items) }
@@ -41,7 +42,7 @@ impl Creations {
         Ok(())
     }
 
-    /// The reducer of a name, if it was created.
+    // The reducer that a name means. A number means one only once that many were created.
     fn named(&self, name: Reducer) -> Option<Instance>
         ensures { result ≡ named self.now.made.items name }
     {
@@ -52,7 +53,8 @@ impl Creations {
         }
     }
 
-    /// The event that an entry lists, where its reducer was created.
+    /// Returns the event that an entry lists, or `None` if the entry's number is not that of a
+    /// created reducer.
     pub fn event(&self, entry: Entry) -> Option<Event>
         ensures { result ≡ event_in self.now.made.items entry }
     {
@@ -86,7 +88,7 @@ impl Creations {
     }
 }
 
-/// What an entry gives as the source of its read.
+/// Returns the source that an entry gives, if it lists a read.
 pub fn source_of(entry: Entry) -> Option<Pos>
     ensures { result ≡ source_in entry }
 {
@@ -96,7 +98,7 @@ pub fn source_of(entry: Entry) -> Option<Pos>
     }
 }
 
-/// The source of an event that is a read, where these are the last writes ahead of it.
+/// Returns the right source of an event, if it is a read. `writes` are the last writes before it.
 pub fn source_due(writes: &LastWrites, event: &Event) -> Option<Pos>
     ensures { (es : List Event) (n : ℕ) → AreLast es n writes.now.positions.items → result ≡ source_at es n event.now }
 {
@@ -106,7 +108,7 @@ pub fn source_due(writes: &LastWrites, event: &Event) -> Option<Pos>
     }
 }
 
-/// The entry of version 2 that lists an event, where these are the last writes ahead of it.
+/// Returns the entry of version 2 that lists an event. `writes` are the last writes before it.
 pub fn entry(event: &Event, writes: &LastWrites) -> Entry
     ensures event { (made : List Instance) → event_in made result ≡ Some event.now }
     ensures source { (es : List Event) (n : ℕ) → AreLast es n writes.now.positions.items → source_in result ≡ source_at es n event.now }
@@ -155,7 +157,7 @@ pub fn entry(event: &Event, writes: &LastWrites) -> Entry
     }
 }
 
-// The name of a reducer in version 2.
+// The name of a reducer in version 2: its frame and its place there.
 fn placed(instance: Instance) -> Reducer
     ensures name { result ≡ Place instance }
     ensures small { NamesReducer Two result }
@@ -166,7 +168,7 @@ fn placed(instance: Instance) -> Reducer
     })
 }
 
-// The same number, of which its range is known.
+// The number itself; the contract states its range.
 fn number(n: u32) -> u32
     ensures same { result ≡ n }
     ensures small { result < 2 ^ 32 }

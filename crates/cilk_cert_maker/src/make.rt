@@ -31,9 +31,10 @@ use cilk_types::outcome::Outcome;
 use cilk_types::trace::Trace;
 use std::alloc::{AllocError, Global};
 
-/// The right certificate of version 2 of the program's serial run on this input: it lists the run's events with the
-/// source of each read, its frames, its strands with their labels, and its result. A fault is the serial run's, with its
-/// place. Cost: linear in the ticks; memory: linear in the events.
+/// Runs a program serially and returns the right certificate of version 2 of the run.
+///
+/// An error is the fault that stops the serial run, with its position, or out of memory. Cost:
+/// linear in the ticks; memory: linear in the events.
 pub fn make(alloc: Global, program: &Program, input: &Input) -> Result<Certificate, RunFault>
     ensures right { IfOk result (λ c. IsCertificateOf (source program.now) input.now c) }
     ensures version { IfOk result (λ c. c.version ≡ Two) }
@@ -44,8 +45,9 @@ pub fn make(alloc: Global, program: &Program, input: &Input) -> Result<Certifica
     Ok(certificate(alloc, &trace, &outcome)?)
 }
 
-/// The certificate of version 2 that lists the run whose trace this is, with the result of this outcome. The trace spells
-/// a shape, and its frames are within the limit of the format. Its only error is want of memory.
+/// Returns the certificate of version 2 of a run that is given by its events and its outcome.
+///
+/// The trace must be one that a run makes, with at most as many frames as the format allows.
 pub fn certificate(
     alloc: Global,
     trace: &Trace,
@@ -75,7 +77,6 @@ fn labels(alloc: Global, trace: &Trace) -> Result<(Labels, Classes), AllocError>
     Ok((labels, classes))
 }
 
-// The result's value.
 fn result_of(outcome: &Outcome) -> i64
     ensures { result ≡ outcome.now.result }
 {

@@ -1,4 +1,4 @@
-//! The write that each read reads.
+//! Finds the source of each read: the last earlier write of its cell.
 
 ghost use Rattle.std.specs.Prelude.{◌≡◌, ◌+◌, ◌≤◌, ℕ, List, Some, IfOk, length, slice_get, slice_index};
 ghost use Rattle.cilk_types.specs.declared.event.Event.{Event};
@@ -7,14 +7,15 @@ ghost use Rattle.cilk_cert_maker.specs.Sources.{AllFit, AreLast, Fits};
 use cilk_types::event::{Cell, Event, Pos};
 use std::alloc::{AllocError, Global};
 
-/// For each cell the position of its last write so far, 0 where there is none.
+/// The position of the last write of each cell so far, 0 if there is none.
 #[derive(Drop, Debug)]
 pub struct LastWrites {
     pub positions: Vec<Pos>,
 }
 
 impl LastWrites {
-    /// Before the first event, where no cell that is written has a number from `cells` on.
+    /// Returns the state before the first event. Only cells below `cells` may be written later; see
+    /// [`cells_written`].
     pub fn new(alloc: Global, cells: usize) -> Result<LastWrites, AllocError>
         ensures none { (es : List Event) → IfOk result (λ w. AreLast es 0 w.positions.items) }
         ensures cells { IfOk result (λ w. length w.positions.items ≡ cells) }
@@ -24,7 +25,7 @@ impl LastWrites {
         Ok(LastWrites { positions })
     }
 
-    /// The position of the cell's last write, 0 where there is none.
+    /// Returns the position of the cell's last write, 0 if there is none.
     pub fn of(&self, cell: Cell) -> Pos
         ensures { result ≡ slice_index self.now.positions.items cell }
     {
@@ -34,7 +35,7 @@ impl LastWrites {
         }
     }
 
-    /// The event at a position has come.
+    /// Records the event at a position. Positions count from 1.
     pub fn meet(&mut self, event: &Event, at: Pos)
         requires { Fits (length self.old.positions.items) event.now }
         ensures last { (es : List Event) (n : ℕ) → AreLast es n self.old.positions.items → slice_get es n ≡ Some event.now → at ≡ n + 1 → AreLast es (n + 1) self.new.positions.items }
@@ -46,7 +47,7 @@ impl LastWrites {
     }
 }
 
-/// How many cells there are, up to the last that an event writes.
+/// Returns the number of cells up to the last one that an event writes.
 pub fn cells_written(events: &[Event]) -> usize
     ensures fit { AllFit result events.now }
     ensures least { (n : ℕ) → AllFit n events.now → result ≤ n }

@@ -1,4 +1,4 @@
-// The strands of a run.
+// The lines of a run's strands.
 
 ghost use Rattle.std.specs.Prelude.{◌≡◌, ◌≤◌, length, IfOk};
 ghost use Rattle.std.specs.List.{AllByRecursion};
@@ -12,7 +12,7 @@ use cilk_peers::class::Classes;
 use cilk_types::event::{FrameNo, StrandNo};
 use std::alloc::{AllocError, Global};
 
-/// The strands with these frames and these labels.
+/// Returns the strands with these frames and labels, in order of their numbers.
 pub(crate) fn strands(
     alloc: Global,
     owners: &[FrameNo],
@@ -36,7 +36,6 @@ pub(crate) fn strands(
     Ok(strands)
 }
 
-// The strand with this frame and these labels.
 fn strand(frame: FrameNo, hebrew: u32, class: StrandNo) -> Strand
     ensures fields { result ≡ record { frame = frame; hebrew = hebrew; class = class } }
     ensures small { IsStrand result }

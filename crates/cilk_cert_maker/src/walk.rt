@@ -1,4 +1,4 @@
-// One pass over a run's events, with a stack of the frames that wait.
+// One pass over a run's events, with a stack of the suspended frames.
 
 ghost use Rattle.std.specs.Prelude.{◌≡◌, ◌+◌, ◌<◌, ◌^◌, length, IfOk};
 ghost use Rattle.cilk_cert_maker.specs.Walk.{opening, begun, entered, left, step};
@@ -10,14 +10,14 @@ use cilk_types::stack::Stack;
 use std::alloc::{AllocError, Global};
 use std::marker::Model;
 
-/// A frame that has begun and hasn't ended: its number, and how many invocations it has made.
+/// A frame that has begun and hasn't ended: its number, and how many calls and spawns it has made.
 #[derive(Clone, Copy, Debug)]
 pub struct Open {
     pub number: FrameNo,
     pub made: u32,
 }
 
-/// The frame at hand, the frames that wait, and the frames and the strands' frames so far.
+/// The current frame on top of the suspended ones, and the two columns so far.
 #[derive(Drop)]
 pub struct Walk {
     top: Open,
@@ -35,7 +35,7 @@ impl Model for Walk {
 }
 
 impl Walk {
-    /// Before the first event.
+    /// Returns the state before the first event: the root is current.
     pub fn new(alloc: Global) -> Result<Walk, AllocError>
         ensures { IfOk result (λ w. w ≡ opening) }
     {
@@ -54,7 +54,7 @@ impl Walk {
         })
     }
 
-    /// The next event.
+    /// Processes the next event.
     pub fn step(&mut self, mark: Mark) -> Result<(), AllocError>
         requires made { self.old.top.made + 1 < 2 ^ 32 }
         requires frames { length self.old.frames + 1 < 2 ^ 32 }
@@ -69,7 +69,7 @@ impl Walk {
         Ok(())
     }
 
-    // A strand of the frame at hand begins.
+    // A strand of the current frame begins.
     fn begin(&mut self) -> Result<(), AllocError>
         ensures { IfOk result (λ _. self.new ≡ begun self.old) }
     {
@@ -77,7 +77,7 @@ impl Walk {
         Ok(())
     }
 
-    // A child of the frame at hand begins.
+    // A child of the current frame begins.
     fn enter(&mut self) -> Result<(), AllocError>
         requires made { self.old.top.made + 1 < 2 ^ 32 }
         requires frames { length self.old.frames + 1 < 2 ^ 32 }
@@ -98,7 +98,7 @@ impl Walk {
         Ok(())
     }
 
-    // The frame at hand ends.
+    // The current frame ends, and its parent continues.
     fn leave(&mut self)
         ensures { self.new ≡ left self.old }
     {
@@ -107,7 +107,7 @@ impl Walk {
         }
     }
 
-    /// The frames, and the frame of each strand.
+    /// Returns the frames, and the frame of each strand.
     pub fn into_columns(self) -> (Vec<Frame>, Vec<FrameNo>)
         ensures frames { result.0.items ≡ self.frames }
         ensures owners { result.1.items ≡ self.owners }

@@ -81,7 +81,7 @@ size_bound v n bytes =
     let lines_of_size : size_of_lines (reading_lines (n + 1) (forms_of v s) rest) ≤ 109473514 = omega (arith, lines_bound (n + 1) (forms_of v s) rest, count v s few) in
     one_more (lines.Size s) (reading_lines (n + 1) (forms_of v s) rest) 109473514 (shown_size s few) lines_of_size)
 
--- all lines that are read, and 97 bytes more, stand within the first 134,217,728 bytes
+-- all lines that are read and 97 more bytes are within 134,217,728 bytes
 pub within_limit : (text : List ℕ) → length (text_of_lines (reading_of text).lines) + 97 ≤ 134217728
 unfolding reading
 within_limit text =

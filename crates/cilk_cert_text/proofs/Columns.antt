@@ -1,8 +1,9 @@
--- The line behind so many others, and what is left then.
+-- The line at an index, and the lines after it.
 --
--- `get_front`, `get_back`: an element of the first, or of the second, of two lists. `frame_at`, `strand_at`: a line of a column.
--- `frames_counted`, `strands_counted`: how many they are. `column_frame`, `column_strand`, `column_late`: the lines behind the first
--- two. `left_some`, `left_none`: the list behind an element, and behind all.
+-- `get_front`, `get_back`: an element of the first or the second of two lists. `frame_at`,
+-- `strand_at`: a line of a column. `frames_counted`, `strands_counted`: the lengths of the columns.
+-- `column_frame`, `column_strand`, `column_late`: the lines after the first two. `left_some`,
+-- `left_none`: the list after an element, and after all.
 use Rattle.std.proofs.Common.{◌≡◌, ℕ, zero, suc, ◌+◌, ◌-◌, ◌<◌, ◌≤◌, List, [], ◌∷◌, ◌++◌, length, drop, get_or, Option, Some, None, option_map, refl, ap, subst, sym, ◌∙◌, arith}
 use Rattle.std.specs.Prelude.{slice_get}
 use Rattle.std.proofs.lemmas.Option.{get_or_from_slice_get, slice_get_read, slice_get_within}
@@ -13,7 +14,7 @@ use Rattle.cilk_cert_text.specs.declared.line.Line.TheVariants as lines
 use Rattle.cilk_cert_text.specs.Certificates.{Contents, column_lines, frame_lines, late_lines, strand_lines}
 
 module _ {X : Type 0} where
-  -- what a look-up of these elements finds
+  -- the result of looking one of these elements up
   found : (xs ys : List X) (i : ℕ) (x : X) → xs ≡ ys → i < length xs → x ≡ get_or xs i x → slice_get ys i ≡ Some x
   found xs ys i x e h k = subst (λ (zs : List X). slice_get zs i ≡ Some x) e (slice_get_read xs (length xs) i x refl h k)
 

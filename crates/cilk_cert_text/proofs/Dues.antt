@@ -1,4 +1,4 @@
--- The lines that are due, as they are counted down.
+-- The lines that are due, counted down.
 use Rattle.std.proofs.Common.{◌≡◌, ℕ, suc, ◌+◌, ◌-◌, ◌<◌, ◌≤◌, List, [], ◌∷◌, ◌++◌, refl, arith}
 use Rattle.cilk_cert_text.specs.declared.line.Version.{Version}
 use Rattle.cilk_cert_text.specs.declared.line.Form.{Form}

@@ -1,4 +1,4 @@
--- An event that was written is read again, and a line is short and has no blank beside those between its words.
+-- An event that was written is read again. A line is short, with blanks only between its words.
 use Rattle.std.proofs.Common.{◌≡◌, ℕ, Bool, true, false, cond, List, [], ◌∷◌, ◌++◌, Option, Some, ℤ, refl, sym, ap, subst, ◌∙◌, append_assoc, append-nil, eqb, eq-eqb}
 use Rattle.std.specs.Fmt.{decimal, signed_decimal}
 use Rattle.std.specs.Str.{bytes_eq}
@@ -20,7 +20,7 @@ use Rattle.cilk_cert_text.specs.Lines.{spelling, reducer_words, entry_words, lin
 use Rattle.cilk_cert_text.specs.Certificates.{IsValue, NamesReducer, IsEntry, IsAt}
 use Rattle.cilk_cert_text.proofs.Spellings.{joined_words, bind_some, number_step, value_step, ended_step, prepend, some_is, Spells, frame_sound, strand_sound, end_sound, result_sound, number_again, value_again}
 
--- ---- what is read as an event
+-- ---- events that are read
 
 keyword_first : (ks : List Keyword) (w : List ℕ) (k : Keyword) → first_spelled ks w ≡ Some k → w ≡ spelling k
 keyword_first [] w k e = absurd cc
@@ -33,7 +33,7 @@ keyword_sound : (w : List ℕ) (k : Keyword) → keyword_of w ≡ Some k → w �
 unfolding keyword_of
 keyword_sound w k e = keyword_first all_keywords w k e
 
--- a reducer's name in front of the words
+-- a reducer's name before the words
 record Names (v : Version) (ws : List (List ℕ)) (p : Reducer × List (List ℕ)) : Type 0 where
   names : NamesReducer v p.0
   words : ws ≡ reducer_words p.0 ++ p.1
@@ -51,7 +51,7 @@ reducer_sound Two ws p e =
     let n' = number_step f.0.1 n.0 n.1 in
     subst (λ (q : Reducer × List (List ℕ)). Names Two ws q) (some_is (Place (record { frame = f.0.0; place = n.0.0 }), n.0.1) p n.2) (record { names = (f'.0, n'.0); words = f'.1 ∙ prepend _ _ _ n'.1 })
 
--- a reducer's name and a value in front of the words
+-- a reducer's name and a value before the words
 record NamesValue (v : Version) (ws : List (List ℕ)) (p : (Reducer × ℤ) × List (List ℕ)) : Type 0 where
   names : NamesReducer v p.0.0 × IsValue p.0.1
   words : ws ≡ (reducer_words p.0.0 ++ signed_decimal p.0.1 ∷ []) ++ p.1
@@ -68,7 +68,7 @@ reducer_value_sound v ws p e =
     let made : (Reducer × ℤ) × List (List ℕ) = ((r.0.0, z.0.0), z.0.1) in
     subst (λ (q : (Reducer × ℤ) × List (List ℕ)). NamesValue v ws q) (some_is made p z.2) (record { names = (r'.names, z'.0); words = whole })
 
--- an event in front of the words
+-- an event before the words
 record IsRead (v : Version) (k : Keyword) (ws : List (List ℕ)) (p : Entry × List (List ℕ)) : Type 0 where
   entry : IsEntry v p.0
   words : spelling k ∷ ws ≡ entry_words p.0 ++ p.1
@@ -152,12 +152,12 @@ words_sound (forms.Event v) ws x e = event_sound v ws x e
 words_sound forms.Result ws x e = result_sound ws x e
 words_sound forms.End ws x e = end_sound ws x e
 
--- what a line is read as may stand there, and the line is its spelling
+-- a line that is read may be there, and the bytes are its spelling
 pub line_sound : (form : Form) (l : List ℕ) (x : Line) → line_of form l ≡ Some x → IsAt form x × (l ≡ spelled x)
 unfolding line_of spelled
 line_sound form l x e = let s = words_sound form (words l) x e in (s.at, sym (joined_words l) ∙ ap joined s.words)
 
--- ---- what was written as an event is read again
+-- ---- written events are read again
 
 reducer_again : (v : Version) (r : Reducer) (rest : List (List ℕ)) → NamesReducer v r → reducer_at v (reducer_words r ++ rest) ≡ Some (r, rest)
 unfolding reducer_at

@@ -13,7 +13,7 @@ use Rattle.std.proofs.lemmas.Int.{ints}
 use lib.Signed.{mag}
 use Rattle.cilk_cert_text.specs.Words.{number_of, signed_value, value_of}
 
--- the value of digits behind those of n
+-- the value of digits after those of n
 abbrev pub read_on : ℕ → List ℕ → ℕ
 read_on n [] = n
 read_on n (c ∷ cs) = read_on (10 * n + (c - 48)) cs
@@ -31,7 +31,7 @@ digits_of n ds h e = ap all_ascii_digits e ∙ digits_decimal own n h
 value_is : (n : ℕ) (ds : List ℕ) → n < 2 ^ 64 → ds ≡ decimal n → read_on 0 ds ≡ n
 value_is n ds h e = ap (read_on 0) e ∙ digits_value-decimal own n h
 
--- ---- what is no spelling
+-- ---- words that spell no number
 
 pub not_empty : (n : ℕ) (ds : List ℕ) → n ≤ 2 ^ 63 → length ds ≡ 0 → ds ≡ decimal n → ⊥
 not_empty n ds h len e = absurd (omega (arith, decimal_nonempty n (omega arith), ap length e))
@@ -60,14 +60,14 @@ true_and : (a b : Bool) → a ≡ true → b ≡ true → (a && b) ≡ true
 true_and true b h k = k
 true_and false b h k = absurd cc
 
--- the byte at i is no digit
+-- the byte at i isn't a digit
 pub no_digit : (n i : ℕ) (ds : List ℕ) → n ≤ 2 ^ 63 → i < length ds → is_ascii_digit (get_or ds i 0) ≡ false → all_ascii_digits (drop i ds) ≡ all_ascii_digits ds → ds ≡ decimal n → ⊥
 no_digit n i ds h lt bad same e =
     let here : all_ascii_digits (drop i ds) ≡ false = rw (drop-cons ds i 0 lt) (false_and (is_ascii_digit (get_or ds i 0)) (all_ascii_digits (drop (suc i) ds)) bad) in
     let whole = digits_of n ds (omega arith) e in
     absurd cc
 
--- a digit more makes the number too large
+-- one more digit makes the number too large
 pub over : (n i value : ℕ) (ds : List ℕ) → n ≤ 2 ^ 63 → i < length ds → 922337203685477580 < value → read_on value (drop i ds) ≡ read_on 0 ds → ds ≡ decimal n → ⊥
 over n i value ds h lt large same e =
     let here : read_on value (drop i ds) ≡ read_on (10 * value + (get_or ds i 0 - 48)) (drop (suc i) ds) = rw (drop-cons ds i 0 lt) refl in
@@ -79,7 +79,7 @@ at_end i value ds le same = sym same ∙ rw (drop_all i ds le) refl
 pub too_large : (n i value most : ℕ) (ds : List ℕ) → n ≤ most → most ≤ 2 ^ 63 → length ds ≤ i → most < value → read_on value (drop i ds) ≡ read_on 0 ds → ds ≡ decimal n → ⊥
 too_large n i value most ds h k le large same e = absurd (omega (arith, at_end i value ds le same, value_is n ds (omega arith) e))
 
--- digits of which the first is no 0
+-- digits of which the first isn't 0
 pub spells : (i value : ℕ) (ds : List ℕ) → value ≤ 2 ^ 63 → length ds ≤ i → (length ds ≡ 0 → ⊥) → (get_or ds 0 0 ≡ 48 → ⊥) → all_ascii_digits (drop i ds) ≡ all_ascii_digits ds → read_on value (drop i ds) ≡ read_on 0 ds → ds ≡ decimal value
 spells i value ds h le long first digits same =
     let is : read_on 0 ds ≡ value = at_end i value ds le same in
@@ -120,7 +120,7 @@ number_none w none =
     chosen_none _ (Some (digits_value 10 w)) None (λ t.
     none (digits_value 10 w) (ltb-true (digits_value 10 w) (2 ^ 32) (and_right (bytes_eq w (decimal (digits_value 10 w))) _ t)) ((bytes_eq-Decides w (decimal (digits_value 10 w))).0 (and_left _ (ltb (digits_value 10 w) (2 ^ 32)) t)))
 
--- what is read as a number is its spelling
+-- a word that is read as a number is its spelling
 pub number_spelled : (n : ℕ) (w : List ℕ) → number_of w ≡ Some n → (n < 2 ^ 32) × (w ≡ decimal n)
 unfolding number_of
 number_spelled n w e = picked (bytes_eq w (decimal (digits_value 10 w))) (ltb (digits_value 10 w) (2 ^ 32)) refl refl e where
@@ -174,7 +174,7 @@ no_minus (b ∷ bs) d k = no_minus_byte b (and_left (is_ascii_digit b) (all_asci
 first_is_no_minus : (n : ℕ) (w : List ℕ) → n < 2 ^ 64 → w ≡ decimal n → get_or w 0 0 ≡ 45 → ⊥
 first_is_no_minus n w h e k = no_minus (decimal n) (digits_decimal own n h) (sym (ap (λ (l : List ℕ). get_or l 0 0) e) ∙ k)
 
--- digits behind a minus
+-- digits after a minus
 minus_each : (ds : List ℕ) → ((n : ℕ) → 0 < n → n ≤ 2 ^ 63 → ds ≡ decimal n → ⊥) → (z : ℤ) → mag z < 2 ^ 63 → 45 ∷ ds ≡ signed_decimal z → ⊥
 minus_each ds none (pos n) h e = first_is_no_minus n (45 ∷ ds) (omega arith) e refl
 minus_each ds none (negsuc n) h e = none (suc n) (omega arith) (omega arith) cc

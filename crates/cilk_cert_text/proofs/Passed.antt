@@ -1,8 +1,9 @@
--- A line that is known is compared, and not read.
+-- A known line is compared instead of parsed.
 --
--- - `reading_passed`: where a line is due that the bytes begin with, they are read as that line and what comes behind it;
--- - `passed`: the same of a reader that holds no part of a line;
--- - `passed_short`: a line with its LF has a byte, and at most 53.
+-- - `reading_passed`: if a line is due and the bytes begin with it, they are read as that line and
+-- the rest;
+-- - `passed`: the same for a reader that holds no part of a line;
+-- - `passed_short`: a line with its LF has from 1 to 53 bytes.
 use Rattle.std.proofs.Common.{◌≡◌, ℕ, ◌+◌, ◌≤◌, List, [], ◌∷◌, ◌++◌, length, take, Option, None, ap, ◌∙◌, append_assoc, arith, length-append}
 use Rattle.cilk_cert_text.specs.declared.fault.CertFault.{CertFault}
 use Rattle.cilk_cert_text.specs.declared.line.Form.{Form}

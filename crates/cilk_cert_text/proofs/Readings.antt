@@ -1,4 +1,4 @@
--- What a text is read as, where it is taken in pieces.
+-- The reading of a text that comes in pieces.
 use Rattle.std.proofs.Common.{◌≡◌, ℕ, ◌+◌, ◌-◌, ◌<◌, ◌≤◌, Bool, true, false, cond, List, [], ◌∷◌, ◌++◌, length, take, drop, Option, Some, None, Result, Ok, Err, ◌⊎◌, inl, inr, refl, sym, ap, ◌∙◌, append_assoc, eqb, ltb, arith, length-append, append-nil, length-take}
 use Rattle.std.specs.Prelude.{option_map, OnOk}
 use Rattle.std.proofs.lemmas.Bool.{lt-ltb, le-ltb}
@@ -13,7 +13,7 @@ use Rattle.cilk_cert_text.specs.Reading.{Reading, whole, stops, with_line, first
 use Rattle.cilk_cert_text.specs.Places.{line_at}
 use Rattle.cilk_cert_text.specs.Readers.{rest_of}
 
--- ---- one step for each place
+-- ---- one step at each place
 
 abbrev after_line : ℕ → Line × Due → List ℕ → Reading
 after_line n p rest = with_line p.0 (reading p.1 (n + 1) rest)
@@ -33,7 +33,7 @@ reading_step (Sizing v) n bytes unread = step_map (λ s. (lines.Size s, Lines (f
 reading_step (Lines []) n bytes unread = absurd (unread refl)
 reading_step (Lines (form ∷ forms)) n bytes unread = step_map (λ x. (x, Lines forms)) n (line_of form) (after_line n) bytes (first_line bytes)
 
--- ---- the first line of bytes put together
+-- ---- the first line of appended bytes
 
 abbrev split_at : Bool → ℕ → List ℕ → Option (List ℕ × List ℕ) → Option (List ℕ × List ℕ)
 split_at t b bs o = cond t (Some ([], bs)) (option_map (λ s. (b ∷ s.0, s.1)) o)
@@ -91,7 +91,7 @@ pub long_law : (due : Due) (n : ℕ) (part piece more l r : List ℕ) → (due �
 long_law due n part piece more l r unread h k big =
     reading_step due n (part ++ (piece ++ more)) unread ∙ rw (joined_line part piece more l r h k, long part l big) refl
 
--- bytes without LF that are too long already
+-- bytes without an LF that are too long already
 long_step : {A : Type 0} (n : ℕ) (line : List ℕ → Option A) (next : A → List ℕ → Reading) (a b : List ℕ) (o : Option (List ℕ × List ℕ)) → o ≡ first_line b → first_line a ≡ None → 96 < length a → step n line next (a ++ b) (first_line (a ++ b)) ≡ stops (Malformed n)
 long_step n line next a b None e h big =
     rw (first_none a b h (sym e), long a b (omega (arith, big))) refl
@@ -150,7 +150,7 @@ pub over : (fault : Option CertFault) (due : Due) (n len : ℕ) (bytes piece mor
 over fault due n len bytes [] more e d z nonempty = absurd cc
 over fault due n len bytes (b ∷ piece) more e d z nonempty = rw (e, z) (over_law due n b (piece ++ more) d)
 
--- ---- no fault is held back
+-- ---- a fault is returned at once
 
 differ : (n : ℕ) → ◌≡◌ {A = Option CertFault} (Some (Truncated n)) (Some (Malformed n)) → ⊥
 differ n e = absurd cc

@@ -1,4 +1,4 @@
--- How many lines there are at most: `number_small`.
+-- The greatest number of lines: `number_small`.
 use Rattle.std.proofs.Common.{◌≤◌, arith}
 use Rattle.cilk_cert_text.specs.declared.place.Tail.{Tail}
 use Rattle.cilk_cert_text.specs.declared.place.Tail.TheVariants as tails

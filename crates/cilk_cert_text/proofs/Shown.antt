@@ -1,4 +1,4 @@
--- A line's words have no blank in them, and are short.
+-- The words of a line are short and have no blanks.
 use Rattle.std.proofs.Common.{◌≡◌, ℕ, ◌+◌, ◌≤◌, true, List, [], ◌∷◌, ◌++◌, length, Some, None, ℤ, refl, ap, ◌∙◌, append-nil, append_assoc, arith, length-append}
 use Rattle.std.specs.Prelude.{codes}
 use Rattle.std.specs.Fmt.{decimal, signed_decimal}
@@ -22,7 +22,7 @@ use Rattle.cilk_cert_text.proofs.Readings.{first_some}
 use Rattle.cilk_cert_text.proofs.Spellings.{is_plain, are_plain, both, number_plain, value_plain, words_joined, joined_line, size_within}
 use Rattle.cilk_cert_text.proofs.Entries.{words_again}
 
--- the bytes that words take behind a first one
+-- the bytes of the words after the first one
 abbrev pub extra : List (List ℕ) → ℕ
 extra [] = 0
 extra (w ∷ ws) = 1 + length w + extra ws
@@ -31,7 +31,7 @@ joined_length : (w : List ℕ) (ws : List (List ℕ)) → length (joined (w ∷ 
 joined_length w [] = omega arith
 joined_length w (v ∷ ws) = omega (arith, joined_length v ws, length-append w (32 ∷ joined (v ∷ ws)))
 
--- words of at most so many bytes behind the first, without blanks
+-- words without blanks, with at most this many bytes after the first
 record Fine (most : ℕ) (ws : List (List ℕ)) : Type 0 where
   plain : are_plain ws ≡ true
   short : extra ws ≤ most
@@ -57,7 +57,7 @@ reducer most One (Place i) ws h f = absurd h
 reducer most Two (Number n) ws h f = absurd h
 reducer most Two (Place i) ws h f = let two = number (11 + most) i.frame (decimal i.place ∷ ws) h.0 (number most i.place ws h.1 f) in record { plain = two.plain; short = omega (arith, two.short) }
 
--- a line's words
+-- the words of a line
 pub record Shown (ws : List (List ℕ)) : Type 0 where
   pub first : List ℕ
   pub rest : List (List ℕ)
@@ -106,7 +106,7 @@ shown_size s h =
     let b = size_within s h in
     shown 33 (codes "size") _ refl (number 22 s.events _ (omega arith) (number 11 s.frames _ (omega arith) (number 0 s.strands [] (omega arith) none))) (omega arith)
 
--- ---- what follows for its spelling
+-- ---- consequences for its spelling
 
 pub words_shown : (x : Line) → Shown (line_words x) → words (spelled x) ≡ line_words x
 unfolding spelled
@@ -120,7 +120,7 @@ pub short : (x : Line) → Shown (line_words x) → length (spelled x) ≤ 52
 unfolding spelled
 short x s = rw s.are (omega (arith, s.short, joined_length s.first s.rest))
 
--- the line at the front of a text
+-- the first line of a text
 pub front_line : (x : Line) (text : List ℕ) → Shown (line_words x) → first_line ((spelled x ++ 10 ∷ []) ++ text) ≡ Some (spelled x, text)
 front_line x text s =
     ap first_line (append_assoc (spelled x) (10 ∷ []) text)

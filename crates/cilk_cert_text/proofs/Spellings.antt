@@ -1,4 +1,4 @@
--- A line's spelling is read as that line, and nothing else is.
+-- A line's spelling is read as that line, and no other bytes are.
 use Rattle.std.proofs.Common.{◌≡◌, ℕ, suc, ◌≤◌, Bool, true, false, cond, not, ◌&&◌, List, [], ◌∷◌, ◌++◌, Option, Some, None, ℤ, pos, negsuc, refl, sym, ap, subst, ◌∙◌, eqb, ltb, arith}
 use Rattle.std.specs.Prelude.{option_map, codes}
 use Rattle.std.specs.Fmt.{decimal, signed_decimal}
@@ -23,7 +23,7 @@ use Rattle.cilk_cert_text.proofs.Readings.{first_none}
 
 -- ---- words without blanks
 
--- neither a space nor a LF is in it
+-- it has no space and no LF
 abbrev pub is_plain : List ℕ → Bool
 is_plain [] = true
 is_plain (b ∷ bs) = not (eqb b 32) && (not (eqb b 10) && is_plain bs)
@@ -62,7 +62,7 @@ words_last (b ∷ w) h =
     let plain = and_right (not (eqb b 10)) (is_plain w) (and_right (not (eqb b 32)) (not (eqb b 10) && is_plain w) h) in
     rw (no_space, words_last w plain) refl
 
--- words put together are cut again
+-- joined words are split again
 pub words_joined : (w : List ℕ) (ws : List (List ℕ)) → are_plain (w ∷ ws) ≡ true → words (joined (w ∷ ws)) ≡ w ∷ ws
 words_joined w [] h = words_last w (and_left (is_plain w) true h)
 words_joined w (v ∷ ws) h =
@@ -85,7 +85,7 @@ joined_line w (v ∷ ws) h =
     first_none w (32 ∷ joined (v ∷ ws)) (plain_line w (and_left (is_plain w) (are_plain (v ∷ ws)) h))
     (space_line (joined (v ∷ ws)) (joined_line v ws (and_right (is_plain w) (are_plain (v ∷ ws)) h)))
 
--- ---- cut words are put together again
+-- ---- split words are joined again
 
 has_word_cond : (t : Bool) (b : ℕ) (ws : List (List ℕ)) → (w : List ℕ) × (vs : List (List ℕ)) × (cond t ([] ∷ ws) (with_first b ws) ≡ w ∷ vs)
 has_word_cond true b ws = ([], ws, refl)
@@ -134,7 +134,7 @@ pub value_plain : (z : ℤ) → IsValue z → is_plain (signed_decimal z) ≡ tr
 value_plain (pos n) h = digits_plain (decimal n) (digits_decimal own n (omega arith))
 value_plain (negsuc n) h = digits_plain (decimal (suc n)) (digits_decimal own (suc n) (omega arith))
 
--- ---- what is read at the front of the words
+-- ---- reading the first word
 
 pub bind_some : {A B : Type 0} (o : Option A) (f : A → Option B) (y : B) → (o >>= f) ≡ Some y → (x : A) × (o ≡ Some x) × (f x ≡ Some y)
 bind_some (Some x) f y e = (x, refl, e)
@@ -172,7 +172,7 @@ pub ended_step : {A : Type 0} (x y : A) (ws : List (List ℕ)) → ended x ws �
 ended_step x y [] e = (cc, refl)
 ended_step x y (w ∷ ws) e = absurd cc
 
--- words that are a line's
+-- the words of a line
 pub record Spells (form : Form) (ws : List (List ℕ)) (x : Line) : Type 0 where
   pub at : IsAt form x
   pub words : ws ≡ line_words x
@@ -193,7 +193,7 @@ result_sound ws x e =
     let c = ended_step (lines.Result b.0.0) x b.0.1 b.2 in
     subst (λ (y : Line). Spells forms.Result ws y) c.0 (record { at = v.0; words = behind_step (codes "result") ws a.0 a.1 ∙ ap (λ (t : List (List ℕ)). codes "result" ∷ t) (v.1 ∙ ap (λ (t : List (List ℕ)). signed_decimal b.0.0 ∷ t) c.1) })
 
--- a word more in front
+-- one more word at the front
 pub prepend : (w : List ℕ) (ws vs : List (List ℕ)) → ws ≡ vs → w ∷ ws ≡ w ∷ vs
 prepend w ws vs e = ap (λ (t : List (List ℕ)). w ∷ t) e
 
@@ -290,7 +290,7 @@ size_sound ws x e =
     let spelled : ws ≡ line_words (lines.Size size) = behind_step (codes "size") ws a.0 a.1 ∙ prepend _ _ _ (n'.1 ∙ prepend _ _ _ (f'.1 ∙ prepend _ _ _ (s'.1 ∙ prepend _ _ _ d.1))) in
     subst (λ (y : Size). SpellsSize ws y) same (record { few = few; words = spelled })
 
--- ---- numbers that were written are read again
+-- ---- written numbers are read again
 
 pub number_again : (n : ℕ) (ws : List (List ℕ)) → IsNumber n → number_at (decimal n ∷ ws) ≡ Some (n, ws)
 number_again n ws h = rw (number_found n (decimal n) h refl) refl

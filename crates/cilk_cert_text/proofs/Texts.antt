@@ -1,4 +1,4 @@
--- What the lines of a text without a fault add up to.
+-- The contents of a text without a fault.
 use Rattle.std.proofs.Common.{◌≡◌, ◌≢◌, ℕ, List, [], ◌∷◌, ◌++◌, Option, Some, None, refl, sym, ap, subst, ◌∙◌}
 use Rattle.cilk_cert_text.specs.declared.fault.CertFault.{CertFault}
 use Rattle.cilk_cert_text.specs.declared.fault.CertFault.TheVariants.{Malformed, Truncated, Memory}
@@ -11,7 +11,7 @@ use Rattle.cilk_cert_text.proofs.Wholes.{certificate_sound, certificate_again, c
 same_reading : (r : Reading) (ls : List Line) → r.lines ≡ ls → r.fault ≡ None → r ≡ record { lines = ls; fault = None }
 same_reading r ls e f = rw (← e, ← f) refl
 
--- what the lines say is the certificate whose text it is
+-- the contents are those of the certificate whose text it is
 pub record IsRead (text : List ℕ) (p : Contents) : Type 0 where
   pub fits : IsCertificate p
   pub text_is : text ≡ text_of p

@@ -1,4 +1,5 @@
--- A certificate's text is read as its lines, and what is read without a fault is a certificate's text.
+-- A certificate's text is read as its lines, and a text that is read without a fault is a
+-- certificate's.
 use Rattle.std.proofs.Common.{◌≡◌, ℕ, zero, suc, ◌+◌, ◌^◌, ◌≤◌, Bool, true, false, cond, List, [], ◌∷◌, ◌++◌, length, Option, Some, None, ℤ, refl, sym, ap, subst, ◌∙◌, append-nil, append_assoc, eqb, ltb, arith}
 use Rattle.std.specs.Prelude.{option_map}
 use Rattle.std.specs.List.{AllByRecursion}
@@ -67,7 +68,7 @@ pub front_is : (bytes : List ℕ) (p : List ℕ × List ℕ) → first_line byte
 front_is [] p e = absurd cc
 front_is (b ∷ bs) p e = front_cond (eqb b 10) b bs (first_line bs) p refl (front_is bs) e
 
--- what a step that gave no fault took
+-- the line of a step without a fault
 record Took {A : Type 0} (line : List ℕ → Option A) (next : A → List ℕ → Reading) (bytes : List ℕ) (r : Reading) : Type 0 where
   front : List ℕ
   rest : List ℕ
@@ -100,7 +101,7 @@ took_parts n line next bytes (Some p) r is e clean = took_cond n line next bytes
 took : {A : Type 0} (n : ℕ) (line : List ℕ → Option A) (next : A → List ℕ → Reading) (bytes : List ℕ) (r : Reading) → step n line next bytes (first_line bytes) ≡ r → r.fault ≡ None → Took line next bytes r
 took n line next bytes r e clean = took_parts n line next bytes (first_line bytes) r refl e clean
 
--- lines that were read whole
+-- lines that were read to the end
 pub record AreRead (fs : List Form) (bytes : List ℕ) (xs : List Line) : Type 0 where
   pub at : AllAt fs xs
   pub text : bytes ≡ text_of_lines xs
@@ -169,7 +170,7 @@ certificate_again c h =
     (step_again 2 (λ l. size_line (words l)) (λ size rest. with_line (lines.Size size) (reading_lines 3 (forms_of c.version size) rest)) (lines.Size (size_of c)) (size_of c) _ s size_is
     ∙ ap (with_line (lines.Size (size_of c))) (lines_again 3 (forms_of c.version (size_of c)) (body_lines c) (body_at c h)))
 
--- ---- bytes behind a certificate's text
+-- ---- bytes after a certificate's text
 
 -- the fault that a reading ends with
 abbrev pub Ends : Reading → Type 0
@@ -297,7 +298,7 @@ spelled_from : (front : List ℕ) (x : Line) → words front ≡ line_words x �
 unfolding spelled
 spelled_from front x e = sym (joined_words front) ∙ ap joined e
 
--- a certificate whose text the bytes are
+-- a certificate whose text is these bytes
 pub record IsTextOf (bytes : List ℕ) (xs : List Line) : Type 0 where
   pub certificate : Contents
   pub fits : IsCertificate certificate
@@ -355,7 +356,7 @@ certificate_sound bytes r e clean =
     (u.parts ∙ line_text (lines.Size u.read) u.front u.rest third.lines (spelled_from u.front (lines.Size u.read) s.words) body.text) in
     record { certificate = c; fits = b.1; lines = all ∙ same; text = text ∙ ap text_of_lines same }
 
--- ---- what the lines add up to
+-- ---- the contents that the lines add up to
 
 gathered_frames : (k : ℕ) (fs : List Frame) (c : Contents) (ys : List Line) → gathered c (frame_lines k fs ++ ys) ≡ gathered (record c { frames = c.frames ++ fs }) ys
 gathered_frames k [] c ys = ap (λ (fs : List Frame). gathered (record c { frames = fs }) ys) (sym (append-nil c.frames))

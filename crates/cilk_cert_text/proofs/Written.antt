@@ -1,6 +1,7 @@
--- A text that is written line by line.
+-- A text written line by line.
 --
--- `line_more`: one line more is written of those that are left. `piece_more`: one piece more of a text.
+-- `line_more`: one more of the lines that are left is written. `piece_more`: one more piece of a
+-- text.
 use Rattle.std.proofs.Common.{◌≡◌, ℕ, ◌+◌, List, [], ◌∷◌, ◌++◌, drop, Some, sym, ap, ◌∙◌, append_assoc}
 use Rattle.std.specs.Prelude.{slice_get}
 use Rattle.cilk_cert_text.specs.declared.line.Line.{Line}

@@ -1,4 +1,4 @@
--- A certificate as lists, its lines, and its text.
+-- Certificates as plain data, their lines and their text.
 use Rattle.std.specs.Prelude.{◌≡◌, ℕ, ◌+◌, ◌^◌, ◌<◌, ◌≤◌, List, [], ◌∷◌, ◌++◌, length, ℤ, map}
 use Rattle.std.specs.List.{flat_map, AllByRecursion}
 use lib.Signed.{mag}
@@ -17,7 +17,7 @@ use Rattle.cilk_cert_text.specs.declared.line.Form.{Form}
 use Rattle.cilk_cert_text.specs.declared.line.Form.TheVariants as forms
 use Rattle.cilk_cert_text.specs.Lines.{spelled}
 
--- what a certificate says: frame and strand number k stand at place k of their lists, counted from 1
+-- the contents of a certificate: frame k and strand k are at place k of their lists, from 1
 pub record Contents : Type 0 where
   pub version : Version
   pub frames : List Frame
@@ -39,22 +39,22 @@ event_lines es = map (λ e. lines.Event e) es
 abbrev pub size_of : Contents → Size
 size_of c = record { events = length c.events; frames = length c.frames; strands = length c.strands }
 
--- those of events and result, and the last
+-- the lines of events and the result, and the last line
 abbrev pub late_lines : Contents → List Line
 late_lines c = event_lines c.events ++ lines.Result c.result ∷ lines.End ∷ []
 
--- those behind the first two
+-- the lines after the first two
 abbrev pub column_lines : Contents → List Line
 column_lines c = frame_lines 1 c.frames ++ (strand_lines 1 c.strands ++ late_lines c)
 
 abbrev pub lines_of : Contents → List Line
 lines_of c = lines.Version c.version ∷ lines.Size (size_of c) ∷ column_lines c
 
--- each line with its LF
+-- the lines, each with its LF
 abbrev pub text_of_lines : List Line → List ℕ
 text_of_lines ls = flat_map (λ line. spelled line ++ 10 ∷ []) ls
 
--- the one text of a certificate
+-- the text of a certificate
 abbrev pub text_of : Contents → List ℕ
 text_of c = text_of_lines (lines_of c)
 
@@ -67,14 +67,14 @@ IsNumber n = n < 2 ^ 32
 abbrev pub IsValue : ℤ → Type 0
 IsValue z = mag z < 2 ^ 63
 
--- a name as the version writes it
+-- the version names reducers in this way
 abbrev pub NamesReducer : Version → Reducer → Type 0
 NamesReducer One (Number n) = IsNumber n
 NamesReducer One (Place i) = ⊥
 NamesReducer Two (Number n) = ⊥
 NamesReducer Two (Place i) = IsNumber i.frame × IsNumber i.place
 
--- an event that the version can write
+-- the version can write this event
 abbrev pub IsEntry : Version → Entry → Type 0
 IsEntry v (entries.Begin frame) = IsNumber frame
 IsEntry v (entries.Spawn child) = IsNumber child
@@ -96,7 +96,7 @@ IsFrame f = IsNumber f.parent × IsNumber f.ordinal
 abbrev pub IsStrand : Strand → Type 0
 IsStrand s = IsNumber s.frame × IsNumber s.hebrew × IsNumber s.class
 
--- which lines may stand at a place
+-- a line of this form
 abbrev pub IsAt : Form → Line → Type 0
 IsAt (forms.Frame k) (lines.Frame n f) = IsNumber n × (n ≡ k) × IsFrame f
 IsAt (forms.Strand k) (lines.Strand n s) = IsNumber n × (n ≡ k) × IsStrand s
@@ -105,7 +105,7 @@ IsAt forms.Result (lines.Result z) = IsValue z
 IsAt forms.End lines.End = Unit {0}
 IsAt form line = ⊥
 
--- what has a text
+-- contents within the limits, which have a text
 pub record IsCertificate (c : Contents) : Type 0 where
   pub few_events : length c.events ≤ 1000000
   pub few_frames : length c.frames ≤ 65536

@@ -1,4 +1,4 @@
--- The numbers by which faults of a certificate's text are reported.
+-- The numbers by which the faults of a certificate's text are reported.
 use Rattle.std.specs.Prelude.{ℕ}
 use Rattle.cilk_cert_text.specs.declared.fault.CertFault.{CertFault}
 use Rattle.cilk_cert_text.specs.declared.fault.CertFault.TheVariants.{Malformed, Truncated, Memory}

@@ -1,4 +1,4 @@
--- The certificate that lines add up to.
+-- The contents that lines add up to.
 use Rattle.std.specs.Prelude.{List, [], ◌∷◌, ◌++◌, pos}
 use Rattle.cilk_cert_text.specs.declared.line.Version.TheVariants.{One}
 use Rattle.cilk_cert_text.specs.declared.line.Line.{Line}
@@ -8,7 +8,7 @@ use Rattle.cilk_cert_text.specs.Certificates.{Contents}
 abbrev pub nothing : Contents
 nothing = record { version = One; frames = []; strands = []; events = []; result = pos 0 }
 
--- with what one line more says
+-- with the contents of one more line
 abbrev pub with_said : Contents → Line → Contents
 with_said c (lines.Version v) = record { version = v; frames = c.frames; strands = c.strands; events = c.events; result = c.result }
 with_said c (lines.Size s) = c

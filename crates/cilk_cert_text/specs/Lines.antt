@@ -64,11 +64,11 @@ line_words (lines.Event e) = entry_words e
 line_words (lines.Result value) = codes "result" ∷ signed_decimal value ∷ []
 line_words lines.End = codes "end" ∷ []
 
--- the one spelling of a line, without its LF
+-- the spelling of a line, without its LF
 unfoldable pub spelled : Line → List ℕ
 spelled line = joined (line_words line)
 
--- ---- which line the words are
+-- ---- parsing a line from its words
 
 abbrev pub first_spelled : List Keyword → List ℕ → Option Keyword
 first_spelled [] word = None
@@ -77,11 +77,11 @@ first_spelled (k ∷ ks) word = if bytes_eq word (spelling k) then Some k else f
 abbrev pub all_keywords : List Keyword
 all_keywords = keywords.Begin ∷ keywords.Spawn ∷ keywords.Call ∷ keywords.Resume ∷ keywords.Sync ∷ keywords.End ∷ keywords.Read ∷ keywords.Write ∷ keywords.Create ∷ keywords.Update ∷ keywords.Set ∷ keywords.Value ∷ keywords.Print ∷ []
 
--- the keyword that the word spells
+-- the keyword with this spelling
 unfoldable pub keyword_of : List ℕ → Option Keyword
 keyword_of word = first_spelled all_keywords word
 
--- a reducer's name, as the version writes it
+-- a reducer's name, in the form of the version
 unfoldable pub reducer_at : Version → List (List ℕ) → Option (Reducer × List (List ℕ))
 reducer_at One ws = do
   n ← number_at ws
@@ -98,7 +98,7 @@ reducer_value_at version ws = do
   v ← value_at r.1
   Some ((r.0, v.0), v.1)
 
--- what stands behind an event's keyword
+-- the rest of an event after its keyword
 unfoldable pub entry_at : Version → Keyword → List (List ℕ) → Option (Entry × List (List ℕ))
 entry_at version keywords.Begin ws = do
   n ← number_at ws
@@ -197,7 +197,7 @@ end_line ws = do
   rest ← behind (codes "end") ws
   ended lines.End rest
 
--- the line of this form that the words are
+-- the line of this form with these words
 abbrev pub words_line : Form → List (List ℕ) → Option Line
 words_line (forms.Frame number) ws = frame_line number ws
 words_line (forms.Strand number) ws = strand_line number ws
@@ -205,6 +205,6 @@ words_line (forms.Event version) ws = event_line version ws
 words_line forms.Result ws = result_line ws
 words_line forms.End ws = end_line ws
 
--- the line of this form that the bytes spell
+-- the line of this form with this spelling
 unfoldable pub line_of : Form → List ℕ → Option Line
 line_of form bytes = words_line form (words bytes)

@@ -40,14 +40,14 @@ number_at places.Version = 1
 number_at (places.Size version) = 2
 number_at (places.Lines p) = number_left p
 
--- the line that the bytes are, and what is due behind it
+-- the line with these bytes, and the lines due after it
 abbrev pub line_at : Due → List ℕ → Option (Line × Due)
 line_at Opening l = option_map (λ v. (lines.Version v, Sizing v)) (version_line (words l))
 line_at (Sizing version) l = option_map (λ s. (lines.Size s, Lines (forms_of version s))) (size_line (words l))
 line_at (Lines []) l = None
 line_at (Lines (form ∷ forms)) l = option_map (λ x. (x, Lines forms)) (line_of form l)
 
--- a line of this form is due, and these behind it
+-- a line of this form is due, and these after it
 abbrev pub IsDue : Form → Due → Due → Type 0
 IsDue form later due = (forms : List Form) × (due ≡ Lines (form ∷ forms)) × (later ≡ Lines forms)
 

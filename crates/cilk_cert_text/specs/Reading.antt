@@ -1,4 +1,4 @@
--- What a text is read as, line by line, up to its first fault.
+-- The reading of a text: its lines up to its first fault.
 use Rattle.std.specs.Prelude.{ℕ, zero, suc, ◌+◌, List, [], ◌∷◌, ◌++◌, length, Option, Some, None, option_map, nat_lt, ◌==◌, if◌then◌else◌}
 use Rattle.cilk_cert_text.specs.declared.fault.CertFault.{CertFault}
 use Rattle.cilk_cert_text.specs.declared.fault.CertFault.TheVariants.{Malformed, Truncated}
@@ -11,7 +11,7 @@ use Rattle.cilk_cert_text.specs.declared.line.Form.TheVariants as forms
 use Rattle.cilk_cert_text.specs.Words.{words}
 use Rattle.cilk_cert_text.specs.Lines.{version_line, size_line, line_of}
 
--- the lines up to the first fault, and that fault; none where the text is whole
+-- the lines up to the first fault, and that fault, or none if the text is whole
 pub record Reading : Type 0 where
   pub lines : List Line
   pub fault : Option CertFault
@@ -25,17 +25,17 @@ stops fault = record { lines = []; fault = Some fault }
 abbrev pub with_line : Line → Reading → Reading
 with_line line reading = record { lines = line ∷ reading.lines; fault = reading.fault }
 
--- the bytes before the first LF, and those behind it; none where there is no LF
+-- the bytes before the first LF and those after it, or none if there is no LF
 abbrev pub first_line : List ℕ → Option (List ℕ × List ℕ)
 first_line [] = None
 first_line (b ∷ bs) = if b == 10 then Some ([], bs) else option_map (λ s. (b ∷ s.0, s.1)) (first_line bs)
 
--- a line that isn't one that may stand here is malformed
+-- a line that may not be here is malformed
 abbrev pub taken : {A : Type 0} → ℕ → (A → List ℕ → Reading) → List ℕ → Option A → Reading
 taken number next rest None = stops (Malformed number)
 taken number next rest (Some x) = next x rest
 
--- One line: with 97 bytes or more it is malformed, and without LF truncated.
+-- One line: it is malformed if it has 97 bytes or more, and truncated if it has no LF.
 abbrev pub step : {A : Type 0} → ℕ → (List ℕ → Option A) → (A → List ℕ → Reading) → List ℕ → Option (List ℕ × List ℕ) → Reading
 step number line next bytes None = if nat_lt (length bytes) 97 then stops (Truncated number) else stops (Malformed number)
 step number line next bytes (Some parts) =
@@ -53,18 +53,19 @@ abbrev pub event_forms : Version → ℕ → List Form
 event_forms version zero = []
 event_forms version (suc n) = forms.Event version ∷ event_forms version n
 
--- the forms of the lines behind the size line, in order
+-- the forms of the lines after the size line, in order
 abbrev pub forms_of : Version → Size → List Form
 forms_of version size =
     frame_forms 1 size.frames ++ (strand_forms 1 size.strands ++ (event_forms version size.events ++ forms.Result ∷ forms.End ∷ []))
 
--- which lines are still due
+-- the lines that are still due
 pub data Due : Type 0 where
   Opening : Due
   Sizing : Version → Due
   Lines : List Form → Due
 
--- What the bytes are read as where lines of these forms are due. A byte behind the last line is a fault of the line behind it.
+-- The reading of bytes if lines of these forms are due. A byte after the last line is a fault of
+-- the line after it.
 abbrev pub reading_lines : ℕ → List Form → List ℕ → Reading
 reading_lines number [] [] = whole
 reading_lines number [] (b ∷ bs) = stops (Malformed number)
@@ -82,6 +83,6 @@ reading Opening number bytes =
 reading (Sizing version) number bytes = reading_size version number bytes
 reading (Lines forms) number bytes = reading_lines number forms bytes
 
--- what a text is read as
+-- the reading of a text
 abbrev pub reading_of : List ℕ → Reading
 reading_of text = reading Opening 1 text

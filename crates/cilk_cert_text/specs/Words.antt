@@ -10,38 +10,38 @@ abbrev pub ◌>>=◌ : {A B : Type 0} → Option A → (A → Option B) → Opti
 (Some x) >>= f = f x
 None >>= f = None
 
--- the words with one space between two
+-- the words, with one space between two
 abbrev pub joined : List (List ℕ) → List ℕ
 joined [] = []
 joined (w ∷ []) = w
 joined (w ∷ v ∷ ws) = w ++ 32 ∷ joined (v ∷ ws)
 
--- a byte more at the front of the first word
+-- with another byte at the front of the first word
 abbrev pub with_first : ℕ → List (List ℕ) → List (List ℕ)
 with_first b [] = (b ∷ []) ∷ []
 with_first b (w ∷ ws) = (b ∷ w) ∷ ws
 
--- what stands between the spaces
+-- the words between the spaces
 abbrev pub words : List ℕ → List (List ℕ)
 words [] = [] ∷ []
 words (b ∷ bs) = if b == 32 then [] ∷ words bs else with_first b (words bs)
 
--- the number below 2^32 whose decimal spelling the word is
+-- the number below 2^32 with this decimal spelling
 unfoldable pub number_of : List ℕ → Option ℕ
 number_of word =
     if bytes_eq word (decimal (digits_value 10 word)) && nat_lt (digits_value 10 word) (2 ^ 32) then Some (digits_value 10 word) else None
 
--- what digits, or digits behind a minus, stand for
+-- the value of digits, or of a minus and digits
 abbrev pub signed_value : List ℕ → ℤ
 signed_value [] = pos 0
 signed_value (b ∷ bs) = if b == 45 then neg_ℤ (pos (digits_value 10 bs)) else pos (digits_value 10 (b ∷ bs))
 
--- the number from -2^63 to 2^63 - 1 whose decimal spelling the word is
+-- the number from -2^63 to 2^63 - 1 with this decimal spelling
 unfoldable pub value_of : List ℕ → Option ℤ
 value_of word =
     if bytes_eq word (signed_decimal (signed_value word)) && nat_lt (mag (signed_value word)) (2 ^ 63) then Some (signed_value word) else None
 
--- A number at the front of the words, and the words behind it.
+-- A number that is the first word, and the words after it.
 abbrev pub number_at : List (List ℕ) → Option (ℕ × List (List ℕ))
 number_at [] = None
 number_at (w ∷ ws) = option_map (λ n. (n, ws)) (number_of w)
@@ -54,12 +54,12 @@ abbrev pub first_of : List (List ℕ) → Option (List ℕ × List (List ℕ))
 first_of [] = None
 first_of (w ∷ ws) = Some (w, ws)
 
--- the words behind this one
+-- the words after this one
 abbrev pub behind : List ℕ → List (List ℕ) → Option (List (List ℕ))
 behind word [] = None
 behind word (w ∷ ws) = if bytes_eq w word then Some ws else None
 
--- this, where no word is left
+-- the result, if no word is left
 abbrev pub ended : {A : Type 0} → A → List (List ℕ) → Option A
 ended x [] = Some x
 ended x (w ∷ ws) = None

@@ -1,4 +1,4 @@
--- What a writer in the middle of a text stands for.
+-- The state of a writer in the middle of a text.
 use Rattle.std.specs.Prelude.{List, drop}
 use Rattle.cilk_cert_text.specs.declared.line.Line.{Line}
 use Rattle.cilk_cert_text.specs.declared.writer.LineWriter.{LineWriter}

@@ -1,7 +1,7 @@
--- Words behind the first of a line.
+-- The words after the first word of a line.
 use Rattle.std.specs.Prelude.{ℕ, List, [], ◌∷◌, ◌++◌}
 
--- each word behind a space
+-- each word after a space
 abbrev pub behind_spaces : List (List ℕ) → List ℕ
 behind_spaces [] = []
 behind_spaces (w ∷ ws) = 32 ∷ (w ++ behind_spaces ws)

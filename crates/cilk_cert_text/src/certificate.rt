@@ -1,12 +1,13 @@
-//! A certificate: what a run claims about itself.
+//! Certificates: what a run claims about itself.
 
 ghost use Rattle.std.specs.Prelude.{◌≡◌, ◌≤◌, IfSome, length, slice_get};
 
 use crate::line::{Entry, Frame, Line, Size, Strand, Version};
 use std::marker::Model;
 
-/// A certificate within the limits of the format: at most 1,000,000 events, 65,536 frames and 1,000,000 strands, and each
-/// reducer named as the version does it. Frame number k stands at place k - 1, and so does strand number k.
+/// A certificate within the limits of the format: at most 1,000,000 events, 65,536 frames and
+/// 1,000,000 strands, with reducers named as in its version. Frame `k` is at index `k - 1`, and so
+/// is strand `k`.
 #[derive(Debug)]
 pub struct Certificate {
     version: Version,
@@ -16,7 +17,7 @@ pub struct Certificate {
     result: i64,
 }
 
-// A function of its own, so that a proof follows one call where a certificate is dropped.
+// A drop function of its own keeps proofs short: they follow one call.
 impl Drop for Certificate {
     fn drop(self) {
         let Certificate {
@@ -42,7 +43,7 @@ impl Model for Certificate {
 impl Certificate {
     ghost use Rattle.cilk_cert_text.specs.Certificates.{Contents, IsCertificate, column_lines, late_lines, lines_of, size_of};
 
-    /// The certificate of these parts, with the result's value last.
+    /// Makes a certificate of these parts; `value` is the run's result.
     pub fn new(
         version: Version,
         frames: Vec<Frame>,
@@ -69,7 +70,7 @@ impl Certificate {
         self.version
     }
 
-    /// How many lines of each kind its text has.
+    /// Returns the number of lines of each kind in its text.
     pub fn size(&self) -> Size
         ensures value { result ≡ size_of self.now }
         ensures certificate { IsCertificate self.now }
@@ -109,7 +110,7 @@ impl Certificate {
         self.result
     }
 
-    /// The line behind so many others of its text.
+    /// Returns the line of its text at an index, from 0.
     pub fn line(&self, ahead: usize) -> Option<Line>
         ensures value { result ≡ slice_get (lines_of self.now) ahead }
         ensures few { IfSome result (λ _. ahead ≤ 2065539) }
@@ -121,7 +122,7 @@ impl Certificate {
         }
     }
 
-    /// The line behind the first two and so many others.
+    /// Returns the line at an index counted from the first line after the size line.
     fn column_line(&self, ahead: usize) -> Option<Line>
         ensures value { result ≡ slice_get (column_lines self.now) ahead }
         ensures few { IfSome result (λ _. ahead ≤ 2065537) }
@@ -140,7 +141,7 @@ impl Certificate {
         self.late_line(ahead - strands.len())
     }
 
-    /// The line behind those of frames and strands and so many others.
+    /// Returns the line at an index counted from the first event.
     fn late_line(&self, ahead: usize) -> Option<Line>
         ensures value { result ≡ slice_get (late_lines self.now) ahead }
         ensures few { IfSome result (λ _. ahead ≤ 1000001) }

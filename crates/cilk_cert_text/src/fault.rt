@@ -1,4 +1,4 @@
-//! Why a text is no certificate's.
+//! The faults of certificate texts.
 
 ghost use Rattle.std.specs.Prelude.{◌≡◌};
 ghost use Rattle.cilk_cert_text.specs.declared.fault.CertFault.TheVariants.{Memory};
@@ -6,13 +6,13 @@ ghost use Rattle.cilk_cert_text.specs.declared.fault.CertFault.TheVariants.{Memo
 use std::alloc::{AllocError, AllocFailed};
 use thiserror::Error;
 
-/// Why a text is no certificate's, or why there was no answer.
+/// Why a text isn't read as a certificate.
 #[derive(Clone, Copy, PartialEq, Eq, Debug, Error)]
 pub enum CertFault {
-    /// The line, counted from 1, isn't one that may stand there.
+    /// This line, counted from 1, isn't one that may be there.
     #[error("malformed certificate at line {line}")]
     Malformed { line: u32 },
-    /// The text ends before the line, counted from 1, does.
+    /// The text ends before the end of this line, counted from 1.
     #[error("truncated certificate at line {line}")]
     Truncated { line: u32 },
     /// Memory ran out.
@@ -23,7 +23,7 @@ pub enum CertFault {
 impl CertFault {
     ghost use Rattle.cilk_cert_text.specs.Fault.{number_of};
 
-    /// The number by which the fault is reported: 301, 302 or 401.
+    /// Returns the number by which the fault is reported: 301, 302 or 401.
     pub fn number(self) -> u16
         ensures { result ≡ number_of self }
     {

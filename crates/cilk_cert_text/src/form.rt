@@ -1,11 +1,11 @@
-// Which lines are of a form.
+// Whether a line is of a form.
 
 ghost use Rattle.std.specs.Prelude.{◌↔◌, IsTrue};
 ghost use Rattle.cilk_cert_text.specs.Certificates.{IsAt, IsEntry, IsNumber, IsValue, NamesReducer};
 
 use crate::line::{Entry, Form, Line, Reducer, Version};
 
-/// A number of 32 bits may stand in a line.
+/// Returns true: each number of 32 bits may be in a line.
 fn is_number(number: u32) -> bool
     ensures { IsTrue result ↔ IsNumber number }
 {
@@ -13,7 +13,7 @@ fn is_number(number: u32) -> bool
     true
 }
 
-/// A value of 64 bits may stand in a line.
+/// Returns true: each value of 64 bits may be in a line.
 fn is_value(value: i64) -> bool
     ensures { IsTrue result ↔ IsValue value }
 {
@@ -21,7 +21,7 @@ fn is_value(value: i64) -> bool
     true
 }
 
-/// Whether the version writes a reducer so.
+/// Tells whether the version names a reducer in this way.
 fn is_name(version: Version, name: Reducer) -> bool
     ensures { IsTrue result ↔ NamesReducer version name }
 {
@@ -34,7 +34,7 @@ fn is_name(version: Version, name: Reducer) -> bool
     }
 }
 
-/// Whether the version can write the event.
+/// Tells whether the version can write the event.
 fn is_entry(version: Version, entry: Entry) -> bool
     ensures { IsTrue result ↔ IsEntry version entry }
 {
@@ -58,7 +58,7 @@ fn is_entry(version: Version, entry: Entry) -> bool
     }
 }
 
-/// Whether the line is one of this form.
+/// Tells whether the line is of this form.
 pub(crate) fn is_at(form: Form, line: Line) -> bool
     ensures { IsTrue result ↔ IsAt form line }
 {

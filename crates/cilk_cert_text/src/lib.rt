@@ -1,7 +1,8 @@
-//! The text form of certificates, read and written: each certificate has one text, and each text is of one certificate.
+//! The text form of certificates: reading and writing it.
 //!
-//! A certificate is what a run claims of itself: its frames, its strands with their labels, its events with the source of
-//! each read, and its result. Its text is lines of words with one space between two, each ended by one LF:
+//! A certificate lists what a serial run claims: its frames, its strands with their labels, its
+//! events with the source of each read, and its result. Its text is lines of words. One space
+//! separates two words, and one LF ends each line.
 //!
 //! ```text
 //! cilkcert 1                      or 2; the versions differ in how an event names a reducer
@@ -13,26 +14,25 @@
 //! end
 //! ```
 //!
-//! A number is `0`, or digits without a leading 0, below 2^32; a value may have `-` before a number that isn't 0, and is
-//! one of 64 bits. Reading goes line by line, and ends at the first fault: a line of 97 bytes or more before its LF or
-//! the text's end is malformed; one that is absent or has no LF is truncated; one that isn't of its place's form, or
-//! stands behind the last line, is malformed. A fault names its line, counted from 1.
+//! A number is below 2^32 and has no leading zeros. A value is a number of 64 bits; a minus may
+//! precede it unless it is 0. Each certificate has one text, and each text is that of one
+//! certificate ([`laws`]).
 //!
-//! [`write::write`] gives a certificate's text, and [`writer::LineWriter`] gives it in pieces, without memory of its own.
-//! [`read::read`] and [`read::read_pieces`] read one that lies in memory, and [`reader::LineReader`] reads one in pieces,
-//! without memory of its own:
+//! | Call | Use |
+//! |---|---|
+//! | [`write::write`], [`writer::LineWriter`] | Write a text; the second without allocating. |
+//! | [`read::read`], [`read::read_pieces`] | Read a text that is in memory. |
+//! | [`reader::LineReader`] | Reads a text piece by piece without allocating. |
+//!
+//! Reading stops at the first fault: a [`fault::CertFault`] with its line, from 1. A line is
+//! malformed if it has 97 bytes or more before its LF, isn't of the form due there, or follows the
+//! last line. It is truncated if the text ends before its LF.
 //!
 //! ```text
 //! let mut reader = LineReader::new();
-//! while !piece.is_empty() {
-//!     let (taken, line) = reader.next(piece)?;     // a line, where one became whole
-//!     piece = &piece[taken..];
-//! }
-//! reader.end()?;
+//! let (taken, line) = reader.next(piece)?;     // then continue with piece[taken..]
+//! reader.end()?;                               // after the last piece
 //! ```
-//!
-//! What a text is read as is one definition, `reading_of` in `specs/Reading.antt`; [`laws`] says that it fits the
-//! spelling, `text_of` in `specs/Certificates.antt`, in both directions.
 #![tactic(auto)]
 
 pub mod certificate;

@@ -1,8 +1,8 @@
-//! What a line of a certificate says.
+//! The lines of a certificate.
 
 use cilk_types::event::{Cell, FrameNo, Instance, Pos, StrandNo};
 
-/// The version of the format. They differ in how an event names a reducer.
+/// The version of the format. The versions differ in how an event names a reducer.
 #[derive(Clone, Copy, PartialEq, Eq, Debug)]
 pub enum Version {
     One,
@@ -12,13 +12,13 @@ pub enum Version {
 /// How an event names a reducer.
 #[derive(Clone, Copy, PartialEq, Eq, Debug)]
 pub enum Reducer {
-    /// In version 1: the reducers are counted from 1 as they are created.
+    /// In version 1: a number, counted from 1 in the order of creation.
     Number(u32),
-    /// In version 2: by the frame that created it, and its place among that frame's reducers from 1.
+    /// In version 2: the frame that created it, and its number among that frame's reducers, from 1.
     Place(Instance),
 }
 
-/// An event as a certificate lists it: as the run makes it, and with the source of each read.
+/// An event in a certificate: an event of the run, with the source of each read.
 #[derive(Clone, Copy, PartialEq, Eq, Debug)]
 pub enum Entry {
     Begin { frame: FrameNo },
@@ -27,7 +27,8 @@ pub enum Entry {
     Resume { parent: FrameNo },
     Sync,
     End,
-    /// The source is the position of the last earlier write of the cell, 0 where there is none.
+    /// The source is the position of the last write of the cell before the read, or 0 if there is
+    /// none.
     Read { cell: Cell, value: i64, source: Pos },
     Write { cell: Cell, value: i64 },
     Create { reducer: Reducer },
@@ -39,7 +40,7 @@ pub enum Entry {
 
 const _: () = prove!(std::mem::size_of::<Entry>() <= 40);
 
-/// How many lines of each kind there are.
+/// The number of lines of each kind.
 #[derive(Clone, Copy, PartialEq, Eq, Debug)]
 pub struct Size {
     pub events: u32,
@@ -47,14 +48,16 @@ pub struct Size {
     pub strands: u32,
 }
 
-/// The parent of a frame, and the number of its invocation there from 1; both are 0 for the root.
+/// The parent of a frame, and the number of its invocation in the parent, from 1. Both are 0 for the
+/// root.
 #[derive(Clone, Copy, PartialEq, Eq, Debug)]
 pub struct Frame {
     pub parent: FrameNo,
     pub ordinal: u32,
 }
 
-/// The frame of a strand, its Hebrew number (Feng and Leiserson 1997) and its peer class (Lee and Schardl 2015).
+/// The frame of a strand, its Hebrew number (Feng and Leiserson 1997) and its peer class (Lee and
+/// Schardl 2015).
 #[derive(Clone, Copy, PartialEq, Eq, Debug)]
 pub struct Strand {
     pub frame: FrameNo,
@@ -74,7 +77,7 @@ pub enum Line {
     End,
 }
 
-/// What stands at a place of a certificate behind its first two lines.
+/// The form of a line after the size line.
 #[derive(Clone, Copy, PartialEq, Eq)]
 pub enum Form {
     /// The line of the frame with this number.
@@ -87,7 +90,7 @@ pub enum Form {
     End,
 }
 
-/// The word that an event's line begins with.
+/// The first word of an event's line.
 #[derive(Clone, Copy, PartialEq, Eq)]
 pub enum Keyword {
     Begin,

@@ -1,4 +1,4 @@
-// Which line the bytes spell at a place.
+// Parsing a line of a known form.
 
 ghost use Rattle.std.specs.Prelude.{◌≡◌, IfSome, IsTrue, option_map};
 ghost use Rattle.cilk_cert_text.specs.Lines.{keyword_of, reducer_at, reducer_value_at, entry_at, event_line, version_of, version_line, is_size, size_line, frame_line, strand_line, result_line, end_line, line_of};
@@ -10,7 +10,7 @@ use crate::word::{self, after, alone, first, number, value};
 use cilk_types::event::{FrameNo, Instance, StrandNo};
 use cilk_types::limits::{MAX_EVENTS, MAX_FRAMES};
 
-/// The keyword that the word spells.
+/// Returns the keyword with this spelling.
 #[tactic(auto, unfolding(crate::specs::Lines::keyword_of))]
 fn keyword(word: &[u8]) -> Option<Keyword>
     ensures { result ≡ keyword_of word.now }
@@ -57,7 +57,7 @@ fn keyword(word: &[u8]) -> Option<Keyword>
     None
 }
 
-/// A reducer's name, as the version writes it.
+/// Parses a reducer's name, in the form of the version.
 #[tactic(auto, unfolding(crate::specs::Lines::reducer_at))]
 fn reducer<'a>(version: Version, left: Option<&'a [u8]>) -> Option<(Reducer, Option<&'a [u8]>)>
     ensures { option_map (λ r. (r.0, words_in r.1)) result ≡ reducer_at version (words_in left.entry) }
@@ -75,7 +75,7 @@ fn reducer<'a>(version: Version, left: Option<&'a [u8]>) -> Option<(Reducer, Opt
     }
 }
 
-/// A reducer's name and a value.
+/// Parses a reducer's name and a value.
 #[tactic(auto, unfolding(crate::specs::Lines::reducer_value_at))]
 fn reducer_value<'a>(
     version: Version,
@@ -88,7 +88,7 @@ fn reducer_value<'a>(
     Some(((reducer, value), rest))
 }
 
-/// What stands behind an event's keyword.
+/// Parses the rest of an event's line after its keyword.
 #[tactic(auto, unfolding(crate::specs::Lines::entry_at))]
 fn entry<'a>(
     version: Version,
@@ -177,7 +177,7 @@ fn version_of(word: &[u8]) -> Option<Version>
     None
 }
 
-/// The version that the line gives.
+/// Parses the version line.
 #[tactic(auto, unfolding(crate::specs::Lines::version_line))]
 pub(crate) fn version(bytes: &[u8]) -> Option<Version>
     ensures { result ≡ version_line (words bytes.now) }
@@ -188,14 +188,14 @@ pub(crate) fn version(bytes: &[u8]) -> Option<Version>
     alone(version, rest)
 }
 
-/// Tells whether the numbers are within the limits of the format.
+/// Tells whether the sizes are within the limits of the format.
 fn is_size(size: Size) -> bool
     ensures { result ≡ is_size size }
 {
     size.events <= MAX_EVENTS && size.frames <= MAX_FRAMES && size.strands <= MAX_EVENTS
 }
 
-/// The size that the line gives, where it is within the limits of the format.
+/// Parses the size line, if it is within the limits of the format.
 #[tactic(auto, unfolding(crate::specs::Lines::size_line))]
 pub(crate) fn size(bytes: &[u8]) -> Option<Size>
     ensures line { result ≡ size_line (words bytes.now) }
@@ -266,7 +266,7 @@ fn end(left: Option<&[u8]>) -> Option<Line>
     alone(Line::End, rest)
 }
 
-/// The line of this form that the bytes spell.
+/// Parses a line of this form.
 #[tactic(auto, unfolding(crate::specs::Lines::line_of))]
 pub(crate) fn line(form: Form, bytes: &[u8]) -> Option<Line>
     ensures { result ≡ line_of form bytes.now }

@@ -1,11 +1,11 @@
-// Which line stands next.
+// The place of a reader in a text: which line is due.
 
 ghost use Rattle.std.specs.Prelude.{◌≡◌, ◌+◌, ◌≤◌, [], ◌∷◌, IfSome, IfNone, IsTrue, false, option_map};
 
 use crate::line::{Form, Line, Size, Version};
 use crate::parse;
 
-/// What follows the events.
+/// The lines due after the events.
 #[derive(Clone, Copy, Debug)]
 pub(crate) enum Tail {
     Result,
@@ -13,7 +13,7 @@ pub(crate) enum Tail {
     Nothing,
 }
 
-/// How far the lines behind the size line were read.
+/// The number of lines read after the size line.
 #[derive(Clone, Copy, Debug)]
 pub(crate) struct Progress {
     version: Version,
@@ -30,7 +30,7 @@ pub(crate) struct Progress {
     ghost events_within: { events ≤ size.events },
 }
 
-/// Where the reader stands.
+/// The place of a reader.
 #[derive(Clone, Copy, Debug)]
 pub(crate) enum ReaderPlace {
     Version,
@@ -43,7 +43,7 @@ impl Progress {
     ghost use Rattle.cilk_cert_text.specs.Lines.{is_size};
     ghost use Rattle.cilk_cert_text.specs.Reading.{forms_of};
 
-    /// Nothing is read behind the size line.
+    /// Makes the place directly after the size line.
     fn new(version: Version, size: Size) -> Self
         requires { IsTrue (is_size size) }
         ensures forms { forms_left result ≡ forms_of version size }
@@ -59,7 +59,7 @@ impl Progress {
         }
     }
 
-    /// The form of the next line, and how far the lines are read behind it.
+    /// Returns the form of the next line, and the progress after it.
     fn next(self) -> Option<(Form, Progress)>
         ensures form { IfSome result (λ r. forms_left self ≡ r.0 ∷ forms_left r.1) }
         ensures number { IfSome result (λ r. number_left r.1 ≡ number_left self + 1) }
@@ -107,7 +107,7 @@ impl ReaderPlace {
     ghost use Rattle.cilk_cert_text.specs.Places.{due_of, number_at, line_at, IsAwaited, IsDue};
     ghost use Rattle.cilk_cert_text.specs.Reading.{Lines};
 
-    /// The number of the line that stands next, from 1.
+    /// Returns the number of the next line, from 1.
     pub(crate) fn number(self) -> u32
         ensures { result ≡ number_at self }
     {
@@ -132,7 +132,7 @@ impl ReaderPlace {
         }
     }
 
-    /// The form of the line that stands next behind the size line, and the place behind it.
+    /// Returns the form of the next line after the size line, and the place after it.
     pub(crate) fn next(self) -> Option<(Form, ReaderPlace)>
         ensures due { IfSome result (λ r. IsDue r.0 (due_of r.1) (due_of self)) }
         ensures number { IfSome result (λ r. number_at r.1 ≡ number_at self + 1) }
@@ -148,7 +148,7 @@ impl ReaderPlace {
         }
     }
 
-    /// The line that the bytes are, and the place behind it.
+    /// Parses the next line, and returns the place after it.
     pub(crate) fn line(self, bytes: &[u8]) -> Option<(Line, ReaderPlace)>
         ensures line { option_map (λ r. (r.0, due_of r.1)) result ≡ line_at (due_of self) bytes.now }
         ensures number { IfSome result (λ r. number_at r.1 ≡ number_at self + 1) }

@@ -1,4 +1,4 @@
-//! A certificate's text read whole.
+//! Reading a certificate's text that is in memory.
 
 ghost use Rattle.std.specs.Prelude.{◌≡◌, ◌≢◌, ◌++◌, List, ℕ, IfOk, IfErr, OnOk, Some, None, MatchResult};
 ghost use Rattle.cilk_cert_text.specs.declared.fault.CertFault.TheVariants.{Memory};
@@ -14,7 +14,7 @@ use crate::line::{Entry, Frame, Line, Strand, Version};
 use crate::reader::LineReader;
 use std::alloc::Global;
 
-/// What the lines said so far.
+/// The contents of the lines read so far.
 #[derive(Drop)]
 struct Parts {
     version: Version,
@@ -40,14 +40,14 @@ impl Parts {
         }
     }
 
-    /// Adds what a line says.
+    /// Adds the contents of a line.
     fn add(&mut self, line: Line) -> Result<(), CertFault>
         ensures added { OnOk result (said self.new ≡ with_said (said self.old) line) }
         ensures memory { IfErr result (λ fault. fault ≡ Memory) }
     {
         match line {
             Line::Version(version) => self.version = version,
-            // What a text claims reserves nothing: the lists grow with the lines that come.
+            // The sizes that a text claims reserve no memory: the lists grow as lines are read.
             Line::Size(_) | Line::End => {}
             Line::Frame { frame, .. } => self.frames.push(frame)?,
             Line::Strand { strand, .. } => self.strands.push(strand)?,
@@ -57,7 +57,7 @@ impl Parts {
         Ok(())
     }
 
-    /// The certificate.
+    /// Makes the certificate.
     fn finish(self) -> Certificate
         requires { IsCertificate (said self) }
         ensures { result ≡ said self }
@@ -88,7 +88,7 @@ fn take(reader: &mut LineReader, parts: &mut Parts, piece: &[u8]) -> Result<(), 
     Ok(())
 }
 
-/// What the text's lines say.
+/// Reads the lines of a text.
 fn parts_of(alloc: Global, text: &[u8]) -> Result<Parts, CertFault>
     ensures said { IfOk result (λ parts. said parts ≡ gathered nothing (reading_of text.now).lines) }
     ensures whole { OnOk result ((reading_of text.now).fault ≡ None) }
@@ -101,13 +101,13 @@ fn parts_of(alloc: Global, text: &[u8]) -> Result<Parts, CertFault>
     Ok(parts)
 }
 
-/// The certificate whose text this is, or why it is none: the first fault, with its line. It is one pass over the text.
+/// Reads a certificate's text in one pass, or returns the first fault with its line.
 pub fn read(alloc: Global, text: &[u8]) -> Result<Certificate, CertFault>
-    // It is a certificate, and this is its text.
+    // The result is a certificate, and the text is its text.
     ensures found { IfOk result (λ c. IsCertificate c × (text.now ≡ text_of c)) }
     // A certificate's text is read, unless memory runs out.
     ensures only { (c : Contents) → IsCertificate c → text.now ≡ text_of c → MatchResult result (λ d. d ≡ c) (λ fault. fault ≡ Memory) }
-    // Which lines they are, and which fault it is.
+    // The lines are the certificate's, or the fault is the first one.
     ensures lines { IfOk result (λ c. reading_of text.now ≡ record { lines = lines_of c; fault = None }) }
     ensures fault { IfErr result (λ fault. fault ≢ Memory → (reading_of text.now).fault ≡ Some fault) }
 {
@@ -115,7 +115,7 @@ pub fn read(alloc: Global, text: &[u8]) -> Result<Certificate, CertFault>
     Ok(parts.finish())
 }
 
-/// What the lines of a text in pieces say.
+/// Reads the lines of a text in pieces.
 fn parts_of_pieces(alloc: Global, pieces: &[&[u8]]) -> Result<Parts, CertFault>
     ensures said { IfOk result (λ parts. said parts ≡ gathered nothing (reading_of (joined_pieces pieces.now)).lines) }
     ensures whole { OnOk result ((reading_of (joined_pieces pieces.now)).fault ≡ None) }
@@ -130,7 +130,7 @@ fn parts_of_pieces(alloc: Global, pieces: &[&[u8]]) -> Result<Parts, CertFault>
     Ok(parts)
 }
 
-/// The same of a text in pieces, however it is cut.
+/// Reads a certificate's text in pieces, cut anywhere.
 pub fn read_pieces(alloc: Global, pieces: &[&[u8]]) -> Result<Certificate, CertFault>
     ensures found { IfOk result (λ c. IsCertificate c × (joined_pieces pieces.now ≡ text_of c)) }
     ensures only { (c : Contents) → IsCertificate c → joined_pieces pieces.now ≡ text_of c → MatchResult result (λ d. d ≡ c) (λ fault. fault ≡ Memory) }

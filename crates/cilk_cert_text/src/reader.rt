@@ -1,4 +1,4 @@
-//! A certificate's text read in pieces.
+//! Reading a certificate's text piece by piece.
 
 ghost use Rattle.std.specs.Prelude.{◌≡◌, ◌+◌, ◌<◌, ◌≤◌, [], ◌++◌, length as len_of, take, drop, Some, None, IfSome, IfNone};
 ghost use Rattle.cilk_cert_text.specs.Reading.{first_line, Lines};
@@ -10,14 +10,15 @@ use crate::line::Line;
 use crate::place::ReaderPlace;
 use crate::spelling::Spelling;
 
-/// The most bytes of a line before its LF.
+/// Most bytes of a line, without its LF.
 pub const MAX_LINE: usize = 96;
 
-/// Reads a certificate's text in whatever pieces it comes, and gives its lines. It takes no memory.
+/// Reads a certificate's text in pieces, cut anywhere, and returns its lines one by one. It doesn't
+/// allocate.
 #[derive(Drop, Debug)]
 pub struct LineReader {
     place: ReaderPlace,
-    // The bytes of the line at hand so far stand in front.
+    // The first `length` bytes are those of the current line so far.
     bytes: [u8; MAX_LINE],
     length: usize,
     fault: Option<CertFault>,
@@ -27,7 +28,7 @@ pub struct LineReader {
     ghost at_end: { due_of place ≡ Lines [] → length ≡ 0 },
 }
 
-/// Where the first LF is.
+/// Returns the index of the first LF.
 fn end_of_line(piece: &[u8]) -> Option<usize>
     ensures found { IfSome result (λ at. first_line piece.now ≡ Some (take at piece.now, drop (at + 1) piece.now)) }
     ensures within { IfSome result (λ at. at < len_of piece.now) }
@@ -41,7 +42,7 @@ fn end_of_line(piece: &[u8]) -> Option<usize>
     None
 }
 
-/// Writes the bytes behind the first `length`.
+/// Writes bytes after the first `length`.
 fn append(bytes: &mut [u8; MAX_LINE], length: usize, more: &[u8])
     requires { length + len_of more.now ≤ 96 }
     ensures front { take (length + len_of more.now) bytes.new ≡ take length bytes.old ++ more.now }
@@ -55,7 +56,7 @@ impl Default for LineReader {
     ghost use Rattle.cilk_cert_text.specs.Reading.{reading_of};
     ghost use Rattle.cilk_cert_text.specs.Readers.{ahead, fault_of, room_of};
 
-    // It stands at the beginning of a text.
+    // It is at the beginning of a text.
     ghost is_default = { λ r. ((text : List ℕ) → ahead r text ≡ reading_of text) × (fault_of r ≡ None) × (room_of r ≡ 200357477) };
 
     fn default() -> Self {
@@ -72,7 +73,7 @@ impl LineReader {
     ghost use Rattle.cilk_cert_text.specs.Readers.{ahead, fault_of, with_lines, line_number, room_of, Awaits, IsCertain};
     ghost use Rattle.cilk_cert_text.specs.Lines.{spelled};
 
-    /// At the beginning of a text.
+    /// Makes a reader at the beginning of a text.
     pub fn new() -> Self
         ensures text { (text : List ℕ) → ahead result text ≡ reading_of text }
         ensures fault { fault_of result ≡ None }
@@ -86,7 +87,7 @@ impl LineReader {
         }
     }
 
-    /// Ends with a malformed line.
+    /// Ends with the current line as malformed.
     fn malformed(&mut self) -> CertFault
         ensures value { result ≡ Malformed (line_number self.old) }
         ensures stays { fault_of self.new ≡ Some result }
@@ -97,7 +98,7 @@ impl LineReader {
         fault
     }
 
-    /// The line that these bytes end, and the place behind it.
+    /// Parses the line that these bytes complete, and returns the place after it.
     fn line(&self, front: &[u8]) -> Option<(Line, ReaderPlace)>
         requires { self.now.length + len_of front.now ≤ 96 }
         ensures line { option_map (λ r. (r.0, due_of r.1)) result ≡ line_at (due_of self.now.place) (take self.now.length self.now.bytes ++ front.now) }
@@ -112,7 +113,7 @@ impl LineReader {
         self.place.line(&bytes[..self.length + front.len()])
     }
 
-    /// Takes the bytes up to the first LF.
+    /// Reads the bytes up to the first LF.
     fn end_line(&mut self, at: usize, piece: &[u8]) -> Result<(usize, Option<Line>), CertFault>
         requires within { at < len_of piece.now }
         requires found { first_line piece.now ≡ Some (take at piece.now, drop (at + 1) piece.now) }
@@ -139,7 +140,7 @@ impl LineReader {
         }
     }
 
-    /// Takes bytes with no LF.
+    /// Reads bytes without an LF.
     fn go_on(&mut self, piece: &[u8]) -> Result<(usize, Option<Line>), CertFault>
         requires none { first_line piece.now ≡ None }
         requires fault { fault_of self.old ≡ None }
@@ -160,8 +161,9 @@ impl LineReader {
         Ok((piece.len(), None))
     }
 
-    /// Takes bytes from the front of the piece, up to the end of a line at most; gives how many, and the line that
-    /// became whole. A fault comes as soon as it is certain, whatever bytes follow; every later call answers it too.
+    /// Reads bytes from the front of the piece, up to the end of a line at most. It returns the
+    /// number of bytes read, and the line if one is complete. A fault is returned as soon as it is
+    /// certain, whatever bytes follow, and again by each later call.
     pub fn next(&mut self, piece: &[u8]) -> Result<(usize, Option<Line>), CertFault>
         ensures fault { IfErr result (λ fault. (more : List ℕ) → ahead self.old (piece.now ++ more) ≡ stops fault) }
         ensures stays { IfErr result (λ fault. fault_of self.new ≡ Some fault) }
@@ -189,9 +191,10 @@ impl LineReader {
         }
     }
 
-    /// Takes the line at the front of the piece where it is this one, with its LF, and gives how many bytes that were: so a line
-    /// that is known is compared, and not read. Else, and where the line at hand has begun in an earlier piece, nothing changes.
-    /// It is taken wherever the reader awaits it and the piece begins with it.
+    /// Skips a known line, with its LF, at the front of the piece, and returns the number of bytes
+    /// skipped. It compares the bytes instead of parsing them, and works only after the size line.
+    /// If the piece doesn't begin with this line, if the line isn't due, or if the current line
+    /// began in an earlier piece, it returns none and changes nothing.
     pub fn pass(&mut self, piece: &[u8], line: Line) -> Option<usize>
         ensures line { IfSome result (λ taken. (more : List ℕ) → ahead self.old (piece.now ++ more) ≡ with_lines (Some line) (ahead self.new (drop taken piece.now ++ more))) }
         ensures taken { IfSome result (λ taken. taken ≤ len_of piece.now) }
@@ -218,7 +221,7 @@ impl LineReader {
         Some(text.len())
     }
 
-    /// Says that the text has ended. A text that ends too early is a fault, which every later call answers too.
+    /// Ends the text. If it isn't complete, a fault is returned, and again by each later call.
     pub fn end(&mut self) -> Result<(), CertFault>
         ensures whole { OnOk result ((ahead self.old [] ≡ whole) × (self.new ≡ self.old)) }
         ensures fault { IfErr result (λ fault. ahead self.old [] ≡ stops fault) }

@@ -1,5 +1,6 @@
-// The spelling of a line, put together from its end in a fixed array: no memory is taken for it, and a number's digits come from the
-// last to the first. It stays where it is, since to hand out the array costs as much as to spell.
+// The spelling of a line, built from its end in a fixed array, because digits are computed from the
+// last to the first. Nothing is allocated. The array isn't moved out, since copying it would cost
+// as much as the spelling.
 
 ghost use Rattle.std.specs.Prelude.{◌≡◌, ℕ, ◌+◌, ◌^◌, ◌<◌, ◌≤◌, List, [], ◌∷◌, ◌++◌, length, drop};
 ghost use Rattle.std.specs.Fmt.{decimal, signed_decimal};
@@ -11,7 +12,7 @@ use std::marker::Model;
 /// Room for the longest line, which has 53 bytes with its LF.
 pub(crate) const ROOM: usize = 64;
 
-/// The bytes that were put together so far.
+/// The bytes so far, at the end of the array.
 #[derive(Drop)]
 pub(crate) struct Spelling {
     bytes: [u8; ROOM],
@@ -31,7 +32,7 @@ impl Spelling {
     ghost use Rattle.cilk_cert_text.specs.declared.line.Line.TheVariants as lines;
     ghost use Rattle.cilk_cert_text.specs.Writing.{behind_spaces};
 
-    /// An LF.
+    /// Makes a spelling that is an LF.
     pub(crate) fn new() -> Spelling
         ensures { result ≡ 10 ∷ [] }
     {
@@ -41,7 +42,7 @@ impl Spelling {
         }
     }
 
-    /// The bytes.
+    /// Returns the bytes.
     pub(crate) fn text(&self) -> &[u8]
         ensures value { result.now ≡ self.now }
         ensures short { length result.now ≤ 64 }
@@ -49,7 +50,7 @@ impl Spelling {
         &self.bytes[self.start..]
     }
 
-    /// Puts a word in front.
+    /// Prepends a word.
     fn word(&mut self, word: &[u8])
         requires { length word.now + length self.old ≤ 64 }
         ensures { self.new ≡ word.now ++ self.old }
@@ -59,7 +60,7 @@ impl Spelling {
         self.start = start;
     }
 
-    /// Puts a byte in front.
+    /// Prepends a byte.
     fn byte(&mut self, byte: u8)
         requires { length self.old < 64 }
         ensures { self.new ≡ byte ∷ self.old }
@@ -69,7 +70,7 @@ impl Spelling {
         self.start = start;
     }
 
-    /// Puts the digits of a number in front.
+    /// Prepends the digits of a number.
     fn digits(&mut self, number: u64)
         requires { length (decimal number) + length self.old ≤ 64 }
         ensures { self.new ≡ decimal number ++ self.old }
@@ -78,7 +79,7 @@ impl Spelling {
         self.start = start;
     }
 
-    /// Puts a space and the number in front.
+    /// Prepends a space and a number.
     fn number(&mut self, number: u32)
         requires { length self.old ≤ 53 }
         ensures said { self.new ≡ (32 ∷ decimal number) ++ self.old }
@@ -88,7 +89,7 @@ impl Spelling {
         self.byte(b' ');
     }
 
-    /// Puts a space and the value in front.
+    /// Prepends a space and a value.
     fn value(&mut self, value: i64)
         requires { length self.old ≤ 43 }
         ensures said { self.new ≡ (32 ∷ signed_decimal value) ++ self.old }
@@ -101,7 +102,7 @@ impl Spelling {
         self.byte(b' ');
     }
 
-    /// Puts a reducer's name behind a space in front.
+    /// Prepends a space and a reducer's name.
     fn reducer(&mut self, name: Reducer)
         requires { length self.old ≤ 42 }
         ensures said { self.new ≡ behind_spaces (reducer_words name) ++ self.old }
@@ -116,7 +117,7 @@ impl Spelling {
         }
     }
 
-    /// Puts an event's line in front.
+    /// Prepends the line of an event.
     #[tactic(auto, unfolding(crate::specs::Lines::spelled))]
     fn entry(&mut self, entry: Entry)
         requires { length self.old ≤ 1 }
@@ -182,7 +183,7 @@ impl Spelling {
         }
     }
 
-    /// Puts a line without its LF in front.
+    /// Prepends a line, without its LF.
     #[tactic(auto, unfolding(crate::specs::Lines::spelled))]
     pub(crate) fn line(&mut self, line: Line)
         requires { length self.old ≤ 1 }

@@ -1,12 +1,12 @@
-// Words of a line, and the numbers that they spell. What is left of a line is the bytes behind the last space that
-// was passed, and none once its end was reached.
+// Words of a line, and the numbers that they spell. The rest of a line is the bytes after the last
+// space read, or none at the end of the line.
 
 ghost use Rattle.std.specs.Prelude.{◌≡◌, ◌≢◌, ℕ, ◌^◌, ◌≤◌, [], ◌∷◌, IfSome, IfNone, option_map};
 ghost use Rattle.std.specs.Fmt.{decimal};
 ghost use Rattle.cilk_cert_text.specs.Words.{words, number_of, number_at, value_of, value_at, behind, ended};
 ghost use Rattle.cilk_cert_text.specs.Parsing.{words_in};
 
-/// The bytes up to the first space, and those behind it.
+/// Splits bytes at the first space.
 fn cut(bytes: &[u8]) -> (&[u8], Option<&[u8]>)
     ensures { words bytes.now ≡ result.0.now ∷ words_in result.1 }
 {
@@ -18,7 +18,7 @@ fn cut(bytes: &[u8]) -> (&[u8], Option<&[u8]>)
     (bytes, None)
 }
 
-/// The first word, and what is left behind it.
+/// Returns the first word and the rest.
 pub(crate) fn first<'a>(left: Option<&'a [u8]>) -> Option<(&'a [u8], Option<&'a [u8]>)>
     ensures found { IfSome result (λ r. words_in left.entry ≡ r.0.now ∷ words_in r.1) }
     ensures none { IfNone result (words_in left.entry ≡ []) }
@@ -27,7 +27,7 @@ pub(crate) fn first<'a>(left: Option<&'a [u8]>) -> Option<(&'a [u8], Option<&'a 
     Some(cut(bytes))
 }
 
-/// What is left behind this word, where it is the first.
+/// Returns the rest after this word, if it is the first.
 pub(crate) fn after<'a>(word: &[u8], left: Option<&'a [u8]>) -> Option<Option<&'a [u8]>>
     ensures { option_map words_in result ≡ behind word.now (words_in left.entry) }
 {
@@ -35,7 +35,7 @@ pub(crate) fn after<'a>(word: &[u8], left: Option<&'a [u8]>) -> Option<Option<&'
     if found == word { Some(rest) } else { None }
 }
 
-/// What was read, where nothing is left.
+/// Returns the result, if nothing is left.
 #[tactic(auto, using(crate::proofs::Cuts::ended_words))]
 pub(crate) fn alone<T: Copy>(read: T, left: Option<&[u8]>) -> Option<T>
     ensures { result ≡ ended read (words_in left.entry) }
@@ -46,7 +46,7 @@ pub(crate) fn alone<T: Copy>(read: T, left: Option<&[u8]>) -> Option<T>
     }
 }
 
-/// The number at most this whose decimal spelling the digits are.
+/// Returns the number with these digits, if it is at most `most` and has no leading zeros.
 fn natural(digits: &[u8], most: u64) -> Option<u64>
     requires { most ≤ 2 ^ 63 }
     ensures found { IfSome result (λ n. (n ≤ most) × (digits.now ≡ decimal n)) }
@@ -71,7 +71,7 @@ fn natural(digits: &[u8], most: u64) -> Option<u64>
     if value > most { None } else { Some(value) }
 }
 
-/// The number of 32 bits that the word spells.
+/// Parses a number of 32 bits.
 fn number_in(word: &[u8]) -> Option<u32>
     ensures { result ≡ number_of word.now }
 {
@@ -79,7 +79,7 @@ fn number_in(word: &[u8]) -> Option<u32>
     Some(number as u32)
 }
 
-/// The number of 32 bits that is first, and what is left behind it.
+/// Parses the first word as a number of 32 bits, and returns the rest.
 pub(crate) fn number<'a>(left: Option<&'a [u8]>) -> Option<(u32, Option<&'a [u8]>)>
     ensures { option_map (λ r. (r.0, words_in r.1)) result ≡ number_at (words_in left.entry) }
 {
@@ -88,7 +88,7 @@ pub(crate) fn number<'a>(left: Option<&'a [u8]>) -> Option<(u32, Option<&'a [u8]
     Some((number, rest))
 }
 
-/// The number below 0 whose size these digits spell.
+/// Returns the negative number with these digits.
 fn negative(digits: &[u8]) -> Option<i64>
     ensures { result ≡ value_of (45 ∷ digits.now) }
 {
@@ -99,7 +99,7 @@ fn negative(digits: &[u8]) -> Option<i64>
     Some(-1 - (size - 1) as i64)
 }
 
-/// The value that the word spells.
+/// Parses a value.
 fn value_in(word: &[u8]) -> Option<i64>
     ensures { result ≡ value_of word.now }
 {
@@ -110,7 +110,7 @@ fn value_in(word: &[u8]) -> Option<i64>
     Some(size as i64)
 }
 
-/// The value that is first, and what is left behind it.
+/// Parses the first word as a value, and returns the rest.
 pub(crate) fn value<'a>(left: Option<&'a [u8]>) -> Option<(i64, Option<&'a [u8]>)>
     ensures { option_map (λ r. (r.0, words_in r.1)) result ≡ value_at (words_in left.entry) }
 {

@@ -1,4 +1,4 @@
-//! A certificate's text written whole.
+//! Writing a certificate's text whole.
 
 ghost use Rattle.std.specs.Prelude.{◌≡◌, IfOk};
 ghost use Rattle.cilk_cert_text.specs.Certificates.{text_of};
@@ -9,7 +9,8 @@ use std::alloc::{AllocError, Global};
 
 const PIECE: usize = 4096;
 
-/// The one text of the certificate. Its only error is want of memory. Who only hands the text on takes a [`LineWriter`].
+/// Returns the text of a certificate, or an error if memory runs out. To pass the text on in
+/// pieces, use a [`LineWriter`].
 pub fn write(alloc: Global, certificate: &Certificate) -> Result<Vec<u8>, AllocError>
     ensures { IfOk result (λ text. text.items ≡ text_of certificate.now) }
 {

@@ -1,4 +1,4 @@
-//! A certificate's text written in pieces.
+//! Writing a certificate's text in pieces.
 
 ghost use Rattle.std.specs.Prelude.{◌≡◌, ◌+◌, ◌≤◌, [], ◌∷◌, ◌++◌, length, take};
 ghost use Rattle.cilk_cert_text.specs.Certificates.{lines_of, text_of_lines};
@@ -9,15 +9,16 @@ use crate::certificate::Certificate;
 use crate::line::Line;
 use crate::spelling::{ROOM, Spelling};
 
-/// Writes a certificate's text in pieces of whole lines, into room that the caller lends. It takes no memory.
+/// Writes a certificate's text in pieces of whole lines, into a buffer of the caller. It doesn't
+/// allocate.
 #[derive(Drop)]
 pub struct LineWriter<'c> {
     certificate: &'c Certificate,
-    // How many lines are written.
+    // The number of lines written.
     written: usize,
 }
 
-/// Writes a line with its LF at a place, and gives how many bytes it has.
+/// Writes a line and its LF at a place, and returns the number of its bytes.
 fn put(room: &mut [u8], at: usize, line: Line) -> usize
     requires { at + 64 ≤ length room.old }
     ensures text { take (at + result) room.new ≡ take at room.old ++ (spelled line ++ 10 ∷ []) }
@@ -32,7 +33,7 @@ fn put(room: &mut [u8], at: usize, line: Line) -> usize
 }
 
 impl<'c> LineWriter<'c> {
-    /// With all lines of a certificate left.
+    /// Makes a writer at the first line.
     pub fn new(certificate: &'c Certificate) -> Self
         ensures { left result ≡ lines_of certificate.entry.now }
     {
@@ -42,8 +43,8 @@ impl<'c> LineWriter<'c> {
         }
     }
 
-    /// Writes lines from the front of the room on while a longest line has room, and gives how many bytes they have: none only
-    /// where no line is left.
+    /// Writes lines into the buffer while it has room for the longest line, and returns the number
+    /// of bytes written. This is 0 only if no line is left.
     pub fn fill(&mut self, room: &mut [u8]) -> usize
         requires { 64 ≤ length room.old }
         ensures text { text_of_lines (left self.old) ≡ take result room.new ++ text_of_lines (left self.new) }

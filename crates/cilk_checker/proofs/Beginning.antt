@@ -1,8 +1,9 @@
--- How a serial run's frames are numbered as they begin, and their cells.
+-- The numbers and the cells of a serial run's frames, in the order in which they begin.
 --
--- - `begun_after`, `frames_after`, `InOrder`: events that begin frames in the order of their numbers; `order_at`, `after_append`, `after_grows`: at an event, and of a list's parts;
+-- - `begun_after`, `frames_after`, `InOrder`: events that begin frames in the order of their
+--   numbers; `order_at`, `after_append`, `after_grows`: at an event, and for the parts of a list;
 -- - `cells_after`, `CellsFit`, `fits_at`: the cells of frames that begin one after the other;
--- - `run_in_order`, `run_fits`: so of a serial run.
+-- - `run_in_order`, `run_fits`: the same for a serial run.
 use Rattle.std.proofs.Common.{◌≡◌, nat_eq, nat_lt, Bool, true, false, if◌then◌else◌, ℕ, zero, suc, ◌+◌, ◌≤◌, ℤ, List, [], ◌∷◌, ◌++◌, length, take, Option, Some, None, slice_get, refl, sym, ap, ◌∙◌, subst, arith, length-append}
 use Rattle.std.proofs.lemmas.Bool.{ltb-false}
 use Rattle.cilk_types.specs.declared.event.Event.{Event}
@@ -22,7 +23,7 @@ use Rattle.cilk_program.specs.Numbering.{Counts, counts_of, entered, counts_afte
 use Rattle.cilk_program.proofs.Numbers.{serial_counts}
 use Rattle.cilk_serial.specs.SoFar.{begun_in}
 
--- how many frames have begun behind an event, where so many had begun ahead of it
+-- how many frames have begun after an event, given how many had begun before it
 abbrev pub begun_after : ℕ → Event → ℕ
 begun_after k (events.Spawn n) = suc k
 begun_after k (events.Call n) = suc k
@@ -73,7 +74,7 @@ abbrev pub cells_after : Source → ℕ → List Callee → ℕ
 cells_after p n [] = n
 cells_after p n (c ∷ cs) = cells_after p (n + cells_of p c) cs
 
--- each of the frames, as it begins, leaves few cells
+-- the cells fit after each of the frames has begun
 abbrev pub CellsFit : Source → ℕ → List Callee → Type 0
 CellsFit p n [] = Unit {0}
 CellsFit p n (c ∷ cs) = (n + cells_of p c ≤ MAX_CELLS) × CellsFit p (n + cells_of p c) cs
@@ -129,7 +130,7 @@ inner_begins_none k fr m (asks.Result v) h = written fr.result
 inner_begins_none k fr m (asks.End v) h = absurd h
 inner_begins_none k fr m (asks.Fault f) h = absurd h
 
--- the events begin these frames, in the order of their numbers, behind so many
+-- the events begin these frames, in the order of their numbers, after the first n
 pub record Begins (k : ℕ) (es : List Event) (cs : List Callee) : Type 0 where
   pub order : InOrder k es
   pub all : frames_after k es ≡ k + length cs

@@ -1,11 +1,12 @@
--- What a checked certificate's run is.
+-- Properties of the run of a checked certificate.
 --
--- - `run_spelled`: a serial run that ends has a shape, and its reducers are created before they are used;
--- - `is_determinate`: where such a run has no race, it is determinate;
--- - `given_refused`, `refused_at_end`, `refused_before`: what is found in a certificate is a true refusal;
+-- - `run_spelled`: a serial run that ends has a shape, and its reducers are created before they are
+--   used;
+-- - `is_determinate`: such a run without a race is determinate;
+-- - `given_refused`, `refused_at_end`, `refused_before`: the first failing check is a true refusal;
 -- - `certified`: a run with a right certificate and no race is determinate;
--- - `told_true`: that a text wasn't heard to its end is told truly;
--- - `ran_at`, `frames_at`, `stops_at`: how a run has ended, of the events that a column has.
+-- - `told_true`: the error for a text that wasn't read to its end is true;
+-- - `ran_at`, `frames_at`, `stops_at`: how a run has ended, for the events of a column.
 use Rattle.std.proofs.Common.{◌≡◌, inl, inr, ℕ, ℤ, List, Option, IsTrue, sym, subst}
 use Rattle.std.proofs.Common.{Vec, Global}
 use Rattle.cilk_types.specs.declared.event.Event.{Event}
@@ -63,7 +64,7 @@ is_determinate p inputs settle s es o e races view_races = record {
 
 -- ---- refusals
 
--- nothing else than these is found
+-- these are the only refusals
 abbrev pub FindsNothing : Refusal → Type 0
 FindsNothing r = ((s : Shape) (es : List Event) (value : ℤ) (c : Contents) → IsFound s es value c r → ⊥) × ((es : List Event) (c : Contents) → IsFoundBefore es c r → ⊥)
 

@@ -1,8 +1,10 @@
 -- The first wrong item of a list.
 --
--- - `place_is`: the place that is found is the least one that is wrong; where none is found no place is;
--- - `found_by`, `column_by`: the same as a function's clause has it, and where the column is that of a run's shape;
--- - `none_differs`: where no item is wrong, none was found that differs.
+-- - `place_is`: the place that is found is the least wrong one; if none is found, no place is
+--   wrong;
+-- - `found_by`, `column_by`: the same in the form of a function's clause, also for the column of a
+--   shape;
+-- - `none_differs`: if no item is wrong, none was found that differs.
 use Rattle.std.proofs.Common.{◌≡◌, ◌≢◌, ℕ, zero, suc, ◌+◌, ◌-◌, ◌<◌, ◌≤◌, Bool, true, false, List, length, Option, Some, None, MatchOption, slice_get, refl, sym, ap, subst, ◌∙◌, arith, ◌⊎◌, inl, inr}
 use Rattle.std.specs.Prelude.{nat_lt, ◌||◌}
 use Rattle.std.proofs.lemmas.Bool.{cases_lt, ltb-true, ltb-false}
@@ -49,18 +51,18 @@ place_at {A = A} P given count f false false on e a =
       | inr more ↦ (let missing : k - 1 < count = subst (λ (o : Option A). is_wrong P o (k - 1) count) (slice_get_past given (k - 1) (omega (arith, all, more))) w.1 in absurd (omega (arith, missing, none, more)))
     ])
 
--- what the place says of a column
+-- the place as a statement about a column
 pub place_is : {A : Type 0} (P : ℕ → A → Type 0) (given : List A) (count : ℕ) (f : First) → Agrees P given f
     → MatchOption (place_of f count) (IsNowhere (IsWrongAt P given count)) (λ k. IsLeast (IsWrongAt P given count) k)
 place_is P given count f a = place_at P given count f f.differs (nat_lt f.agreed count) refl refl a
 
--- The same of a column, where so many items are right in it, and the place is this.
+-- The same for a column, given the length of the right one, and the place.
 pub found_by : {A : Type 0} (P : ℕ → A → Type 0) (given : List A) (count : ℕ) (f : First) → Agrees P given f → (n : ℕ) (o : Option ℕ) → o ≡ place_of f n → n ≡ count
     → MatchOption o (IsNowhere (IsWrongAt P given count)) (λ k. IsLeast (IsWrongAt P given count) k)
 found_by P given count f a n o e m =
     subst (λ (q : Option ℕ). MatchOption q (IsNowhere (IsWrongAt P given count)) (λ k. IsLeast (IsWrongAt P given count) k)) (sym (e ∙ ap (place_of f) m)) (place_is P given count f a)
 
--- The same where the column is that of a run's shape.
+-- The same for the column of a run's shape.
 pub column_by : {A B : Type 0} (view : A → B) (column right : List B) → column ≡ right → (given : List A) (f : First) → Agrees (λ k x. IsAt column k (view x)) given f
     → (n : ℕ) (o : Option ℕ) → o ≡ place_of f n → n ≡ length column
     → MatchOption o (IsNowhere (IsWrongAt (λ k x. IsAt right k (view x)) given (length right))) (λ k. IsLeast (IsWrongAt (λ k x. IsAt right k (view x)) given (length right)) k)
@@ -68,7 +70,7 @@ column_by {A = A} {B = B} view column right is given f a n o e m =
     subst (λ (l : List B). MatchOption o (IsNowhere (IsWrongAt (λ k x. IsAt l k (view x)) given (length l))) (λ k. IsLeast (IsWrongAt (λ k x. IsAt l k (view x)) given (length l)) k)) is
     (found_by (λ k x. IsAt column k (view x)) given (length column) f a n o e m)
 
--- where no event is wrong, none was found that differs
+-- if no event is wrong, none was found that differs
 pub none_differs : {A : Type 0} (P : ℕ → A → Type 0) (given : List A) (count : ℕ) (f : First) → Agrees P given f → IsNowhere (IsWrongAt P given count) → f.differs ≡ false
 none_differs {A = A} P given count f a nowhere = by f.differs refl where
   by : (d : Bool) → f.differs ≡ d → f.differs ≡ false

@@ -1,9 +1,9 @@
--- What is found first in a certificate is found once.
+-- A certificate has one first failing check.
 --
--- The passes count from 0. Each looks for the least place at which something is wrong, and a race is a place with an
--- earlier one.
+-- The passes count from 0. Each looks for the least place at which something is wrong, and a race
+-- is a place with an earlier one.
 --
--- - `once`: where no pass ahead finds anything, there is one pass that does, and one least place;
+-- - `once`: the first pass that finds something is one, and so is its least place;
 -- - `one_race`, `one_view_race`: a first race with a given later position is one;
 -- - `found_in`: by which pass, and where, a refusal is found;
 -- - `found_once`, `found_before_once`: two that are found are equal;
@@ -61,11 +61,11 @@ use Rattle.cilk_checker.specs.declared.refusal.Refusal.TheVariants as refusals
 -- ---- passes in order, whatever each looks for
 
 module _ (wrong : ℕ → ℕ → Type 0) where
-  -- no pass ahead of this one finds anything
+  -- no earlier pass finds anything
   abbrev pub AheadOf : ℕ → Type 0
   AheadOf i = (j : ℕ) → j < i → IsNowhere (wrong j)
 
-  -- this pass finds something, here first, and none ahead of it does
+  -- this pass finds something, here first, and no earlier pass does
   pub record IsFirstIn (i k : ℕ) : Type 0 where
     pub ahead : AheadOf i
     pub here : IsLeast (wrong i) k
@@ -125,7 +125,7 @@ one_view_race t es p p' q f g =
 -- ---- the passes of a check
 
 module _ (s : Shape) (es : List Event) (value : ℤ) (c : Contents) where
-  -- what each pass looks for
+  -- the places that each pass looks for
   abbrev wrong : ℕ → ℕ → Type 0
   wrong zero k = EventIsWrong es c k
   wrong (suc zero) k = FrameIsWrong s c k

@@ -1,8 +1,8 @@
--- What is said of a judged program and input, said of their texts.
+-- Statements about a judged program and input, carried over to their texts.
 --
 -- - `true_refusal`, `true_answer`: a refusal at the texts that were judged is one at the texts;
--- - `not_of_texts`: what is found in a certificate is no fault of the texts that were judged;
--- - `texts_kept`, `certified_kept`: what holds of the program and the input that were checked holds of those that
+-- - `not_of_texts`: a refusal of the certificate is no fault of the texts that were judged;
+-- - `texts_kept`, `certified_kept`: properties of the checked program and input hold of those that
 --   are kept.
 use Rattle.std.proofs.Common.{◌≡◌, ℕ, ℤ, List, Option, Result, Ok, Err, sym, subst}
 use Rattle.std.specs.Prelude.{IfOk}

@@ -1,7 +1,7 @@
 -- A text's tree, and then the program of the tree.
 --
--- `spelled_wrong`: a fault of the spelling is the text's. `resolved_right`, `resolved_wrong`: where a text spells a
--- tree, the program of the tree, or the fault of its names, is the text's.
+-- `spelled_wrong`: a fault of the spelling is the text's. `resolved_right`, `resolved_wrong`: if a
+-- text spells a tree, the program of the tree or the fault of its names is the text's.
 use Rattle.std.specs.Prelude.{◌≡◌, ℕ, List, Result, Ok, Err, IfOk, IfErr, IsErrAnd}
 use Rattle.std.proofs.Common.{subst, sym}
 use Rattle.cilk_parser.specs.Texts.{IsText}

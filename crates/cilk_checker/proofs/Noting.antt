@@ -1,8 +1,10 @@
--- What is noted of a serial run's frames as its events are made.
+-- The frames of a serial run, noted as its events are made.
 --
--- - `NotedSoFar`: what the frames run that the first events begin, and how many cells there are then; `noted_first`, `noted_all`: of none and of all events;
--- - `room`, `noted_some`, `noted_none`: one event more, which begins a frame or none;
--- - `noted_start`, `own_there`, `none_there`, `made_by`, `smaller`, `small_room`, `noted_more`, `noted_same`, `noted_whole`: as the loop over the run's events has them.
+-- - `NotedSoFar`: the frames that the first events begin, and the count of cells; `noted_first`,
+--   `noted_all`: for no events and for all events;
+-- - `room`, `noted_some`, `noted_none`: one more event, which begins a frame or none;
+-- - `noted_start`, `own_there`, `none_there`, `made_by`, `smaller`, `small_room`, `noted_more`,
+--   `noted_same`, `noted_whole`: the same in the form that the loop over the run's events needs.
 use Rattle.std.proofs.Common.{◌≡◌, ℕ, zero, suc, ◌+◌, ◌-◌, ◌<◌, ◌≤◌, ℤ, List, [], ◌∷◌, ◌++◌, length, take, Option, Some, None, slice_get, option_map, refl, sym, ap, ◌∙◌, subst, arith, length-append}
 use Rattle.std.proofs.lemmas.List.{take_all}
 use Rattle.cilk_lower.specs.Layout.{LaysOut, cells_in}
@@ -29,7 +31,7 @@ use Rattle.cilk_checker.specs.declared.frames.PlannedFrame.{PlannedFrame}
 use Rattle.cilk_checker.specs.Frames.{AreFramesIn, frame_begun, frames_from}
 use Rattle.cilk_checker.proofs.Beginning.{begun_after, frames_after, IsNext, order_at, after_append, after_grows, cells_after, cells_append, fits_at, run_in_order, run_fits}
 
--- what the frames run that these events begin, the first frame among them
+-- the callees of the frames that these events begin, with the first frame
 abbrev pub begun_by : List Event → Transcript → List Callee
 begun_by es run = take (frames_after 1 es) (callees_of run)
 
@@ -79,7 +81,7 @@ frames_append : (p : Source) (n : ℕ) (xs : List Callee) (c : Callee) → frame
 frames_append p n [] c = refl
 frames_append p n (x ∷ xs) c = ap (λ (z : List PlannedFrame). frame_begun p n x ∷ z) (frames_append p (n + cells_of p x) xs c)
 
--- ---- one event more
+-- ---- one more event
 
 begun_now : (cs : List Callee) (k : ℕ) (e : Event) (c : Callee) → IsNext k e → callee_at cs e ≡ Some c → (begun_after k e ≡ suc k) × (slice_get cs k ≡ Some c)
 begun_now cs k (events.Spawn n) c is at = let same : n - 1 ≡ k = omega (arith, is) in (refl, ap (slice_get cs) (sym same) ∙ at)

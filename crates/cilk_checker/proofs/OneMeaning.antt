@@ -1,8 +1,8 @@
 -- A program text means one program, or has one first fault, and not both.
 --
--- `resolves_too`, `same_faults`: what a tree resolves to, and what is wrong with its names, follows from its text and
--- its program. `one_meant`, `one_fault_found`, `no_fault`: two meanings are one, two faults are one, and not both.
--- `one_meaning`: all three.
+-- `resolves_too`, `same_faults`: the program of a tree and the faults of its names follow from its
+-- text and its program. `one_meant`, `one_fault_found`, `no_fault`: two meanings are one, two
+-- faults are one, and not both. `one_meaning`: all three.
 use Rattle.std.proofs.Common.{◌≡◌, ℕ, List, length, map, Some, refl, sym, ap, ◌∙◌, subst}
 use Rattle.std.specs.Prelude.{◌≢◌}
 use Rattle.cilk_syntax.specs.declared.tree.Tree.{Tree}
@@ -24,7 +24,7 @@ use Rattle.cilk_checker.specs.declared.fault.ProgramFault.TheVariants.{Memory, T
 moved : (P : List ℕ → List Item → Type 0) (x y : List ℕ) (i j : List Item) → x ≡ y → i ≡ j → P x i → P y j
 moved P x y i j e q h = subst (P y) q (subst (λ z. P z i) e h)
 
--- what is wrong with the names of these items
+-- the faults of the names of these items
 abbrev faults_at : List ℕ → List Item → List Misnaming
 faults_at text items = or_no_main (main_of text 0 items) (length text) (items_faults (start text items) items)
 

@@ -1,14 +1,16 @@
 -- Three texts have at most one verdict.
 --
 -- - `one_end`, `ends_or_stops`: a program's run ends in one way;
--- - `one_refused`: two refusals of one certificate of a program's run are equal; `acceptable_refused`: where it is to
---   be accepted there is none;
--- - `kind_of`: a true refusal is of the program's text, the input's, the certificate's, or of the run;
+-- - `one_refused`: two refusals of one certificate of a program's run are equal;
+--   `acceptable_refused`: a certificate that is to be accepted has none;
+-- - `kind_of`: a true refusal is of the program's text, the input's, the certificate's, or of the
+--   run;
 -- - `same_kind`: two are equal;
--- - `acceptable_by`: what is accepted was to be;
+-- - `acceptable_by`: an accepted certificate is one that is to be accepted;
 -- - `one_verdict`: all of it;
--- - `only_memory`, `same_or_memory`, `only_none`, `same_or_none`: so a true answer is that verdict, or none;
--- - `only_by`, `one_by`: the same of what a check answered.
+-- - `only_memory`, `same_or_memory`, `only_none`, `same_or_none`: so a true answer is that verdict,
+--   or none;
+-- - `only_by`, `one_by`: the same for the result of a check.
 use Rattle.std.proofs.Common.{
   ◌≡◌,
   ◌≢◌,
@@ -99,7 +101,7 @@ stops_once p inputs es es' f f' a b =
     let e = serial_run_is_one p inputs MAX_TICKS MAX_EVENTS b.run a.run es' es (StopsBy f')
     (StopsBy f) b.serial a.serial in e.1
 
--- what is found in the certificate of a run, said of the same run
+-- the first failing check for a run, carried over to an equal run
 found_of : (c : Contents) (r : Refusal) (s s' : Shape) (es es' : List Event) (o o' : Outcome)
     → IsOneEnd s s' es es' o o' → IsFound s' es' o'.result c r → IsFound s es o.result c r
 found_of c r s s' es es' o o' e h =
@@ -140,7 +142,7 @@ of_text (cert_faults.Truncated line) = refusals.Truncated line
 of_text cert_faults.Memory = refusals.Memory
 
 module _ (program input certificate : List ℕ) where
-  -- what a true refusal is of
+  -- the text that a true refusal is about
   data Kind (r : Refusal) : Type 0 where
     OfProgram : (f : ProgramFault) → f ≢ program_faults.Memory → IsProgramFault f program → r ≡ of_program f → Kind r
     OfInput : (n : SyntaxErrorKind) (place : ℕ) (m : Meant) → IsProgramText program m
@@ -254,7 +256,7 @@ module _ (program input certificate : List ℕ) where
     apart = λ r v a h. kind_acceptable r a (kind_of r v h);
   }
 
--- ---- what a check answers
+-- ---- the results of a check
 
 pub acceptable_by : (program input : List ℕ) (known : Option (List ℕ)) (m : Meant) (inputs : List ℤ) (es : List Event)
     (o : Outcome) → AreTexts program input m inputs

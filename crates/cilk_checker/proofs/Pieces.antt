@@ -45,7 +45,7 @@ heard_end r text reader t known gives h e =
     let is = is_read text (gathered nothing h.lines) (ap (gathered nothing) (sym all)) (ap (λ (x : Reading). x.fault) read) in
     record { text = text; gives = gives; certificate = gathered nothing h.lines; fits = is.fits; text_is = is.text_is; holds = h.tallied }
 
--- a fault of all texts that begin so is that of the source's
+-- a fault of every text that begins like this is a fault of the source's text
 pub fault_given : (known known' : Option (List ℕ)) (text : List ℕ) (f : CertFault) → Consumes known known' text → ((more : List ℕ) → (reading_of (text ++ more)).fault ≡ Some f) → HasTextFault known f
 fault_given None known' text f c h = (text ++ [], tt, h [])
 fault_given (Some all) None text f c h = absurd c

@@ -15,7 +15,7 @@ use Rattle.cilk_checker.proofs.Beginning.{cells_after, counted_frames, counted_c
 abbrev planned_frame : Source → Callee → Block → PlannedFrame
 planned_frame p callee b = record { body = body_of p callee; first_cell = b.first; cells = b.cells }
 
--- the list has the frame where it begins so many frames behind n
+-- the frame is at some index k of the list, and its number is n + k + 1
 abbrev Stands : Source → ℕ → ℕ → List Callee → Block → Callee → Type 0
 Stands p n cells cs b callee = (k : ℕ) × (b.number ≡ suc (n + k)) × (slice_get (frames_from p cells cs) k ≡ Some (planned_frame p callee b))
 

@@ -1,4 +1,4 @@
--- One line more.
+-- One more line.
 use Rattle.std.proofs.Common.{◌≡◌, ℕ, zero, suc, ◌+◌, ◌<◌, ◌≤◌, Bool, true, false, List, [], ◌∷◌, ◌++◌, length, take, append-nil, add-one, Option, Some, None, slice_get, refl, sym, ap, subst, ◌∙◌, arith, append_assoc}
 use Rattle.std.specs.Prelude.{◌↔◌, IsTrue, flat_map}
 use Rattle.cilk_types.specs.declared.event.Instance.{Instance}
@@ -21,7 +21,7 @@ use Rattle.cilk_checker.specs.Tallies.{Tallied}
 use Rattle.cilk_cert_maker.specs.Right.{IsAt}
 use Rattle.cilk_checker.proofs.Firsts.{agrees_met, agrees_kept, some_is, met_on, met_off}
 
--- an item whose test is right exactly where the item is
+-- an item whose test succeeds exactly if the item is right
 pub agrees_by : {A : Type 0} (P : ℕ → A → Type 0) (given : List A) (x : A) (f : First) (b : Bool)
     → IsTrue b ↔ P f.agreed x → Agrees P given f → Agrees P (given ++ x ∷ []) (met f b)
 agrees_by P given x f b e a = agrees_met P given x f b (λ h. e.0 h) (λ h p. absurd (let t = e.1 p in cc)) a

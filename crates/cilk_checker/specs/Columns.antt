@@ -1,4 +1,4 @@
--- The columns of a run, and the place of the first wrong item in one.
+-- The columns of a run, and the first wrong place of a column.
 use Rattle.std.specs.Prelude.{◌≡◌, ℕ, ◌+◌, ◌||◌, nat_lt, if◌then◌else◌, Option, Some, None, MatchOption}
 use Rattle.cilk_tree.specs.Shape.{Shape, Spells}
 use Rattle.cilk_tree.specs.Tree.{tree}
@@ -17,10 +17,10 @@ pub record HasColumns (s : Shape) (r : Right) : Type 0 where
   pub hebrews : r.labels ≡ hebrews (tree s) 1
   pub classes : r.classes ≡ class_numbers (tree s) 0 1
 
--- the place of the first wrong item, where so many items are right
+-- the place of the first wrong item, from 1; the right column has `count` items
 abbrev pub place_of : First → ℕ → Option ℕ
 place_of f count = if f.differs || nat_lt f.agreed count then Some (f.agreed + 1) else None
 
--- the least place of which this holds; none where it holds of no place
+-- the least place that has this property, or none if no place has it
 abbrev pub IsFirstPlace : (ℕ → Type 0) → Option ℕ → Type 0
 IsFirstPlace P found = MatchOption found (IsNowhere P) (λ k. IsLeast P k)

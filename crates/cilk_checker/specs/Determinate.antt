@@ -1,4 +1,4 @@
--- Runs that are determinate.
+-- Determinate runs.
 use Rattle.std.specs.Prelude.{ℤ, List, refl}
 use Rattle.std.specs.Coded.{Coded, code_by, coded×, coded_list, coded_ℤ}
 use Rattle.cilk_types.specs.contracts.event.Event as event
@@ -18,15 +18,15 @@ use Rattle.cilk_checker.specs.declared.frames.PlannedFrame.{PlannedFrame}
 use Rattle.cilk_checker.specs.Frames.{AreFramesIn}
 use Rattle.cilk_checker.specs.Refusals.{Ended}
 
--- These are the events and the outcome of the program's serial run, no two positions race in either way, and whatever steps
--- are made, in whatever order, the state is as that run.
+-- These are the events and the outcome of the program's serial run, no two positions of it race in
+-- either way, and in every schedule each state is a part of that run.
 pub record IsDeterminateRun (p : Source) (inputs : List ℤ) (s : Shape) (es : List Event) (o : Outcome) : Type 0 where
   pub ended : Ended p inputs s es o
   pub races : HasNoRace (tree s) es
   pub view_races : HasNoViewRace (tree s) es
   pub parallel : AlwaysAsSerial p inputs ended.ran.run o
 
--- what is kept of an accepted certificate: the program, its input, the events of its serial run, and what that leaves
+-- an accepted program with its input, and the events and the outcome of its serial run
 pub record AcceptedRun : Type 0 where
   pub program : Program
   pub input : List ℤ

@@ -1,4 +1,4 @@
--- What the frames of a serial run run, and where their cells lie.
+-- The bodies and the cells of the frames of a serial run.
 use Rattle.std.specs.Prelude.{◌≡◌, ℕ, ◌+◌, ◌-◌, ℤ, List, [], ◌∷◌, length, Option, Some, option_map, slice_get}
 use Rattle.cilk_types.specs.declared.event.Event.{Event}
 use Rattle.cilk_types.specs.declared.outcome.Outcome.{Outcome}
@@ -16,34 +16,36 @@ use Rattle.cilk_determinacy.specs.Numbers.{frame_runs}
 use Rattle.cilk_checker.specs.declared.frames.Own.{Own}
 use Rattle.cilk_checker.specs.declared.frames.PlannedFrame.{PlannedFrame}
 
--- one that begins where so many cells are there
+-- a frame that begins when there are `cells` cells
 abbrev pub frame_begun : Source → ℕ → Callee → PlannedFrame
 frame_begun p cells c = record { body = body_of p c; first_cell = cells; cells = cells_of p c }
 
--- of frames that begin one after the other, where so many cells are there
+-- frames that begin one after the other, the first when there are `cells` cells
 abbrev pub frames_from : Source → ℕ → List Callee → List PlannedFrame
 frames_from p cells [] = []
 frames_from p cells (c ∷ cs) = frame_begun p cells c ∷ frames_from p (cells + cells_of p c) cs
 
--- of a run, in the order of the frames' numbers: the globals' cells come first, then those of each frame as frames begin
+-- The frames of a run, in the order of their numbers. The cells of the globals come first, then
+-- those of each frame as it begins.
 abbrev pub frames_of : Source → Transcript → List PlannedFrame
 frames_of p r = frames_from p (length p.openings) (callees_of r)
 
--- of the serial run with these events, which leaves this
+-- the frames of the serial run with these events and this outcome
 abbrev pub AreFramesIn : Source → List ℤ → List Event → Outcome → List PlannedFrame → Type 0
 AreFramesIn p inputs es o frames = (run : Transcript) → IsSerialRun p inputs run es (Leaves o) → frames ≡ frames_of p run
 
--- what the frame of a callee runs, and how many cells it has
+-- the body of a callee's frame, and how many cells it has
 abbrev pub own_of : Source → Layout → Callee → Own
 own_of p l c = record { body = body_of p c; cells = cells_in l c }
 
--- of the frame that the run's next event begins, if it begins one
+-- the same for the frame that the run's next event begins, if it begins one
 pub record BeginsOwn (p : Source) (l : Layout) (v : RunView) (own : Option Own) : Type 0 where
   pub callee : Option Callee
   pub is : own ≡ option_map (own_of p l) callee
   pub begins : IsIntact v.stage → BeginsNext (source v.program) v.inputs v.events callee
 
--- By names: a frame stands at its number, from 1, with what it runs, the number of its first cell, and how many it has.
+-- A frame, given by its path, is in the list at its number, from 1, with its body, its first cell
+-- and the count of its cells.
 abbrev pub FramesStandAtTheirNumbers : Type 0
 FramesStandAtTheirNumbers =
     (p : Source) (r : Transcript) (path : List ℕ) (b : Block) (callee : Callee) → frame_at p r path ≡ Some b → frame_runs r path ≡ Some callee

@@ -1,4 +1,4 @@
--- What a program text means, and what is wrong with a text that means nothing.
+-- The meaning of a program text, or its first fault.
 use Rattle.std.specs.Prelude.{◌≡◌, ℕ, List, map}
 use Rattle.cilk_parser.specs.Texts.{IsText, IsTextFault}
 use Rattle.cilk_parser.specs.declared.fault.TextFault.TheVariants as text_faults
@@ -12,7 +12,7 @@ use Rattle.cilk_program.specs.declared.program.Program.{Program}
 use Rattle.cilk_checker.specs.declared.fault.ProgramFault.{ProgramFault}
 use Rattle.cilk_checker.specs.declared.fault.ProgramFault.TheVariants.{Memory, Text, Name}
 
--- what a program means, and the names of its global reducers in order of declaration
+-- the meaning of a program, and the names of its global reducers in order of declaration
 pub record Meant : Type 0 where
   pub source : Source
   pub names : List (List ℕ)
@@ -20,11 +20,11 @@ pub record Meant : Type 0 where
 abbrev pub meant : Program → Meant
 meant p = record { source = source p; names = map (λ r. r.name) p.reducers.items }
 
--- a tree resolves to this
+-- the names of a tree resolve to this program
 abbrev pub ResolvesTo : Tree → Meant → Type 0
 ResolvesTo t m = Resolves t m.source × (m.names ≡ map (λ r. r.name) (shared_of t))
 
--- the text spells a tree, which resolves to this
+-- the text spells a tree that resolves to this program
 abbrev pub IsProgramText : List ℕ → Meant → Type 0
 IsProgramText text m = (t : Tree) × IsText text t × ResolvesTo t m
 
@@ -40,7 +40,8 @@ AreNamesAtFault Memory t = Unit {0}
 AreNamesAtFault (Text n place) t = ⊥
 AreNamesAtFault (Name n place) t = IsNameFault (name_faults.At n place) t
 
--- the first fault of a program text, that of its spelling, or of its names where that is right; or memory ran out
+-- The first fault of a program text: of its spelling or, if that is right, of its names. Or memory
+-- ran out.
 abbrev pub IsProgramFault : ProgramFault → List ℕ → Type 0
 IsProgramFault Memory text = Unit {0}
 IsProgramFault (Text n place) text = IsTextFault (text_faults.At n place) text

@@ -1,4 +1,4 @@
--- How a refusal is reported.
+-- The number and the places by which a refusal is reported.
 use Rattle.std.specs.Prelude.{ℕ}
 use Rattle.cilk_parser.specs.Texts as texts
 use Rattle.cilk_names.specs.Faults as names
@@ -26,7 +26,7 @@ number_of (refusals.Race earlier later) = 311
 number_of (refusals.ViewRace created used) = 312
 number_of refusals.Memory = 401
 
--- the places that it names
+-- the places that a refusal names
 abbrev pub fields_of : Refusal → Fields
 fields_of (refusals.Program n place) = fields.One place
 fields_of (refusals.Name n place) = fields.One place

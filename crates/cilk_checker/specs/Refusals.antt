@@ -1,4 +1,4 @@
--- When a certificate is refused.
+-- The refusals of a certificate.
 use Rattle.std.specs.Prelude.{◌≡◌, ◌≢◌, ◌⊎◌, ℕ, ◌+◌, ◌≤◌, ℤ, List, length}
 use Rattle.cilk_types.specs.declared.event.Event.{Event}
 use Rattle.cilk_types.specs.declared.fault.Fault.{Fault}
@@ -20,8 +20,8 @@ pub record IsClean (s : Shape) (es : List Event) (value : ℤ) (c : Contents) : 
   pub races : HasNoRace (tree s) es
   pub view_races : HasNoViewRace (tree s) es
 
--- What is found first in the certificate of a run that ends without a fault, in the order of the passes: events, frames, the strands' frames,
--- Hebrew numbers and classes, the sources of reads, the result, races.
+-- The first failing check for a run that ends without a fault. The order is: events, frames, the
+-- frames of strands, Hebrew numbers, peer classes, the sources of reads, the result, races.
 module _ (s : Shape) (es : List Event) (value : ℤ) (c : Contents) where
   abbrev pub IsFound : Refusal → Type 0
   IsFound (refusals.Event at) = IsLeast (EventIsWrong es c) at
@@ -41,7 +41,7 @@ module _ (s : Shape) (es : List Event) (value : ℤ) (c : Contents) where
       IsRight s es value c × HasNoRace (tree s) es × IsFirstViewRace (tree s) es created used × IsCreationAndUse (tree s) es created used
   IsFound other = ⊥
 
--- what is found first in the certificate of a run that a fault stops after these events: only they are compared
+-- the first failing check for a run that a fault stops after these events; only events are compared
 module _ (es : List Event) (c : Contents) where
   abbrev pub IsFoundBefore : Refusal → Type 0
   IsFoundBefore (refusals.Event at) = IsLeast (EventIsWrong es c) at × (at ≤ length es)
@@ -49,12 +49,12 @@ module _ (es : List Event) (c : Contents) where
   IsFoundBefore other = ⊥
 
 module _ (p : Source) (inputs : List ℤ) where
-  -- the serial run ends without a fault, makes these events of this shape, and leaves this
+  -- the serial run ends without a fault, with these events of this shape and this outcome
   pub record Ended (s : Shape) (es : List Event) (o : Outcome) : Type 0 where
     pub ran : Ran p inputs o es
     pub spells : Spells s es
 
-  -- this is found first in the certificate of the program's run
+  -- this is the first failing check for a certificate of the program's run
   abbrev pub IsRefused : Contents → Refusal → Type 0
   IsRefused c r =
       ((s : Shape) × (es : List Event) × (o : Outcome) × Ended s es o × IsFound s es o.result c r)

@@ -1,4 +1,4 @@
--- Runs of a program on an input.
+-- How the serial run of a program on an input ends.
 use Rattle.std.specs.Prelude.{ℤ, List}
 use Rattle.cilk_types.specs.declared.event.Event.{Event}
 use Rattle.cilk_program.specs.Syntax.{Source}
@@ -7,7 +7,7 @@ use Rattle.cilk_checker.specs.Frames.{AreFramesIn}
 use Rattle.cilk_checker.specs.declared.ending.End.{End}
 use Rattle.cilk_checker.specs.declared.ending.End.TheVariants.{Left, Stopped}
 
--- the serial run makes these events, and ends so; where it ends by itself, its frames are these
+-- The serial run makes these events and ends in this way. A run without a fault has these frames.
 abbrev pub EndsWith : Source → List ℤ → End → List Event → Type 0
 EndsWith p inputs (Left o frames) es = Ran p inputs o es × AreFramesIn p inputs es o frames.items
 EndsWith p inputs (Stopped fault) es = StopsAfter p inputs es fault

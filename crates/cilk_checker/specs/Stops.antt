@@ -1,4 +1,4 @@
--- What was heard of a source.
+-- The text that a source gives.
 use Rattle.std.specs.Prelude.{◌≡◌, ℕ, ◌<◌, List, Option, Some, IfSome}
 use Rattle.cilk_cert_text.specs.declared.fault.CertFault.{CertFault}
 use Rattle.cilk_cert_text.specs.declared.fault.CertFault.TheVariants.{Malformed, Truncated, Memory}
@@ -10,11 +10,11 @@ use Rattle.cilk_checker.specs.declared.right.Right.{Right}
 use Rattle.cilk_checker.specs.declared.tally.Tally.{Tally}
 use Rattle.cilk_checker.specs.Tallies.{Tallied}
 
--- a source of which this is known gives this text
+-- the source gives this text, as far as it is known
 abbrev pub Gives : Option (List ℕ) → List ℕ → Type 0
 Gives known text = IfSome known (λ all. text ≡ all)
 
--- it gives a certificate of which this holds
+-- the source gives the text of a certificate with this property
 pub record GivesCertificate (known : Option (List ℕ)) (P : Contents → Type 0) : Type 0 where
   pub text : List ℕ
   pub gives : Gives known text
@@ -23,15 +23,15 @@ pub record GivesCertificate (known : Option (List ℕ)) (P : Contents → Type 0
   pub text_is : text ≡ text_of certificate
   pub holds : P certificate
 
--- it gives a certificate, whose lines were tallied
+-- the source gives a certificate whose lines were compared
 abbrev pub IsHeard : Right → Option (List ℕ) → Tally → Type 0
 IsHeard r known t = GivesCertificate known (λ c. Tallied r c t)
 
--- it gives a text that has this fault
+-- the source gives a text that has this fault
 abbrev pub HasTextFault : Option (List ℕ) → CertFault → Type 0
 HasTextFault known f = (text : List ℕ) × Gives known text × ((reading_of text).fault ≡ Some f)
 
--- the text has this fault; or the count of failures rose
+-- the text has this fault, memory ran out, or the count of failures rose
 abbrev pub IsStop : Option (List ℕ) → ℕ → ℕ → Stop → Type 0
 IsStop known failed failed' (Fault (Malformed n)) = HasTextFault known (Malformed n)
 IsStop known failed failed' (Fault (Truncated n)) = HasTextFault known (Truncated n)

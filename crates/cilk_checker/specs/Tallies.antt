@@ -1,4 +1,4 @@
--- What was found in the lines that came.
+-- The comparison of the lines so far with the run.
 use Rattle.std.specs.Prelude.{◌≡◌, ◌≢◌, ℕ, ◌<◌, ◌^◌, false, List, ◌++◌, take, length, Some}
 use Rattle.cilk_cert_text.specs.declared.fault.CertFault.{CertFault}
 use Rattle.cilk_cert_text.specs.declared.fault.CertFault.TheVariants.{Memory}
@@ -25,7 +25,8 @@ pub record AreFew (r : Right) : Type 0 where
   pub classes : length r.classes < 2 ^ 32
   pub events : length r.trace < 2 ^ 32
 
--- what was said so far is right up to these places; and while all events are the run's, what is known of cells and reducers ahead of the next one
+-- The tally of the certificate `c` so far: the first wrong place of each column and, while all
+-- events are the run's, the last writes and the created reducers before the next event.
 pub record Tallied (r : Right) (c : Contents) (t : Tally) : Type 0 where
   pub frames : Agrees (IsAt r.frames.items) c.frames t.frames
   pub owners : Agrees (λ k x. IsAt r.owners.items k x.frame) c.strands t.owners
@@ -38,20 +39,21 @@ pub record Tallied (r : Right) (c : Contents) (t : Tally) : Type 0 where
   pub last : t.events.differs ≡ false → AreLast r.trace t.events.agreed t.writes.positions.items
   pub made : t.events.differs ≡ false → t.made.made.items ≡ creations (take t.events.agreed r.trace)
 
--- one line more is tallied, whatever certificate the lines so far are the beginning of
+-- one more line is compared, whatever the lines so far are
 abbrev pub TalliesLine : Right → Tally → Line → Tally → Type 0
 TalliesLine r t line t' = (c : Contents) → Tallied r c t → Tallied r (with_said c line) t'
 
--- a reading behind these lines
+-- a reading that begins with these lines
 abbrev pub behind_lines : List Line → Reading → Reading
 behind_lines lines r = record { lines = lines ++ r.lines; fault = r.fault }
 
--- The text so far was read as lines, which were tallied, but for the bytes at its end that the reader hasn't been given.
+-- The text so far was read as lines and compared, except for the bytes `rest` at its end, which the
+-- reader hasn't been given.
 pub record Heard (r : Right) (text rest : List ℕ) (reader : LineReader) (t : Tally) : Type 0 where
   pub lines : List Line
   pub ahead_is : (more : List ℕ) → reading_of (text ++ more) ≡ behind_lines lines (ahead reader (rest ++ more))
   pub tallied : Tallied r (gathered nothing lines) t
 
--- memory ran out, or each text that begins so has this fault
+-- memory ran out, or every text that begins like this has this fault
 abbrev pub IsFaultOf : List ℕ → CertFault → Type 0
 IsFaultOf text fault = fault ≢ Memory → (more : List ℕ) → (reading_of (text ++ more)).fault ≡ Some fault

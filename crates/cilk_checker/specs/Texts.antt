@@ -1,4 +1,4 @@
--- What a check of a certificate answers of the texts of a program and an input.
+-- The possible results of a check, for the texts of a program and an input.
 use Rattle.std.specs.Prelude.{ℕ, ◌<◌, ℤ, List, Option}
 use Rattle.cilk_parser.specs.Inputs.{IsInput, IsInputFault}
 use Rattle.cilk_parser.specs.declared.fault.TextFault.TheVariants as text_faults
@@ -21,8 +21,8 @@ pub record AreTexts (program input : List ℕ) (m : Meant) (inputs : List ℤ) :
   pub input_is : IsInput input inputs
 
 module _ (program input : List ℕ) where
-  -- this is the first fault of the program text or, where it has none, of the input text; or a refusal of the
-  -- certificate is true
+  -- The first fault of the program text or, if it has none, of the input text; or a true refusal of
+  -- the certificate.
   abbrev pub IsTrueRefusal : Option (List ℕ) → Refusal → Type 0
   IsTrueRefusal known (refusals.Program fault place) = IsProgramFault (program_faults.Text fault place) program
   IsTrueRefusal known (refusals.Name fault place) = IsProgramFault (program_faults.Name fault place) program
@@ -36,15 +36,15 @@ module _ (program input : List ℕ) where
   IsTrueAnswer known failed failed' (unaccepted.Refusal r) = IsTrueRefusal known r
   IsTrueAnswer known failed failed' unaccepted.Unread = failed < failed'
 
--- a fault of the program text or of the input text is told
+-- the error is a fault of the program text or of the input text
 abbrev pub IsOfTexts : Unaccepted → Type 0
 IsOfTexts (unaccepted.Refusal (refusals.Program fault place)) = Unit {0}
 IsOfTexts (unaccepted.Refusal (refusals.Name fault place)) = Unit {0}
 IsOfTexts (unaccepted.Refusal (refusals.Input fault place)) = Unit {0}
 IsOfTexts _ = ⊥
 
--- The texts have no fault, the serial run ends without one, no two positions of it race, and the source gives its
--- right certificate.
+-- The texts have no fault, the serial run ends without one, no two positions of it race, and the
+-- source gives its right certificate.
 pub record IsAcceptable (program input : List ℕ) (known : Option (List ℕ)) : Type 0 where
   pub meant : Meant
   pub inputs : List ℤ

@@ -1,4 +1,4 @@
--- How it is told that a text wasn't heard to its end.
+-- The error of a check whose text wasn't read to its end.
 use Rattle.cilk_cert_text.specs.declared.fault.CertFault.TheVariants as cert_faults
 use Rattle.cilk_checker.specs.declared.hearing.Stop.{Stop}
 use Rattle.cilk_checker.specs.declared.hearing.Stop.TheVariants as stops

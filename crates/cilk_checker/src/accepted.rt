@@ -10,8 +10,10 @@ use cilk_types::outcome::Outcome;
 use cilk_types::trace::Trace;
 use std::marker::Model;
 
-/// A program and its input, the events of its serial run, what that run leaves, and what its frames run. The program is determinate on this input: after every
-/// list of steps of the free machine the state is a part of that serial run, and once the run has ended, what it leaves is this.
+/// A program that is determinate on its input, with its serial run.
+///
+/// It holds the program, the input, and the events, outcome and frames of the serial run. In every
+/// schedule, each state is a part of that serial run, and each run that ends has its outcome.
 pub struct Accepted {
     program: Program,
     input: Input,
@@ -20,7 +22,7 @@ pub struct Accepted {
     frames: Vec<PlannedFrame>,
 }
 
-// A function of its own, so that a proof follows one call where an accepted run is dropped.
+// A function of its own, so that a proof follows one call where the value is dropped.
 impl Drop for Accepted {
     fn drop(self) {
         let Accepted {
@@ -46,7 +48,7 @@ impl Model for Accepted {
 }
 
 impl Accepted {
-    /// A program whose run is determinate on its input.
+    /// Makes the value from a run that is shown to be determinate.
     pub(crate) fn new(
         program: Program,
         input: Input,
@@ -81,7 +83,7 @@ impl Accepted {
         &self.input
     }
 
-    /// The events of the serial run.
+    /// Returns the events of the serial run.
     pub fn trace(&self) -> &Trace
         ensures value { result.now ≡ self.now.trace }
         ensures determinate { HasDeterminateRun self.now }
@@ -89,7 +91,7 @@ impl Accepted {
         &self.trace
     }
 
-    /// What the serial run leaves, and so every parallel run that has ended.
+    /// Returns the outcome of the serial run, and so of every parallel run that has ended.
     pub fn outcome(&self) -> &Outcome
         ensures value { result.now ≡ self.now.outcome }
         ensures determinate { HasDeterminateRun self.now }
@@ -97,7 +99,8 @@ impl Accepted {
         &self.outcome
     }
 
-    /// What each frame of the serial run runs, and where its cells lie, in the order of the frames' numbers.
+    /// Returns the body and the cells of each frame of the serial run, in the order of their
+    /// numbers.
     pub fn frames(&self) -> &[PlannedFrame]
         ensures { AreFramesOf self.now result.now }
     {

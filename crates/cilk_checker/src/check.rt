@@ -17,10 +17,12 @@ use cilk_types::input::Input;
 use cilk_types::trace::Trace;
 use std::alloc::Global;
 
-/// Checks the certificate that a source gives, against the serial run of a program on an input. It is accepted only
-/// where it is right, the run ends without a fault, and no two positions of it race; the program is determinate on its
-/// input then. Else the first pass that finds something says why. Nothing is pulled any more once a fault of the text
-/// is certain. Cost: that of the run, and linear in the text; memory: linear in the run, however long the text is.
+/// Checks a certificate from a source against the serial run of a program on an input.
+///
+/// It is accepted only if the run ends without a fault, the certificate is right, and no two
+/// positions of the run race. Then the program is determinate on its input. Otherwise the error is
+/// the first failing check. Pulling stops once the text has a fault. Cost: that of the run, and
+/// linear in the text; memory: linear in the run, whatever the length of the text.
 pub fn check_run<S: Source>(
     alloc: Global,
     program: Program,
@@ -42,7 +44,9 @@ pub fn check_run<S: Source>(
     check_end(alloc, program, input, end, trace, source)
 }
 
-/// The same where the serial run was made: it ends so, after these events. Cost: linear in the run and in the text.
+/// Checks a certificate, as [`check_run`] does, against a serial run that is already made.
+///
+/// Cost: linear in the run and in the text.
 pub fn check_end<S: Source>(
     alloc: Global,
     program: Program,

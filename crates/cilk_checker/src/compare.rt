@@ -1,4 +1,4 @@
-//! A certificate is compared with what is right of a run, as its text comes.
+//! Compares a certificate with the columns of a run, while its text arrives.
 
 ghost use Rattle.std.specs.Prelude.{◌≡◌, ◌<◌, ℤ, List, MatchOption, IfOk, IfErr, OnOk};
 ghost use Rattle.cilk_program.specs.Syntax.{Source as Meaning};
@@ -25,7 +25,7 @@ use cilk_cells::view_race::first_view_read;
 use cilk_types::outcome::Outcome;
 use std::alloc::{AllocError, Global};
 
-/// What is found first in the certificate of a run that a fault stopped, of which `right` has the events.
+/// Returns the refusal of a certificate whose run a fault stopped. `right` has the run's events.
 pub fn stopped<S: Source>(
     alloc: Global,
     right: &Right,
@@ -45,7 +45,7 @@ pub fn stopped<S: Source>(
     Ok(found_before(&tally, right))
 }
 
-// What is found in the lines that were tallied of such a run.
+// The first wrong event up to the fault, else the refusal that names the fault's position.
 fn found_before(tally: &Tally, right: &Right) -> Refusal
     ensures { (c : Contents) → Tallied right.now c tally.now → IsFoundBefore right.now.trace c result }
 {
@@ -63,8 +63,10 @@ fn found_before(tally: &Tally, right: &Right) -> Refusal
     }
 }
 
-/// Compares the certificate of a run that has ended and leaves this, of which `right` has the columns. Ok where it is
-/// right and nothing races; else what the first pass finds that finds something.
+/// Compares a certificate with a run that ended with this outcome. `right` has the run's columns.
+///
+/// Ok if the certificate is right and the run has no race. Otherwise the error is the first failing
+/// check.
 pub fn ended<S: Source>(
     alloc: Global,
     right: &Right,
@@ -90,7 +92,7 @@ pub fn ended<S: Source>(
     Ok(())
 }
 
-// What is found first in the certificate of a run that has ended: a difference, a race, a view-read race.
+// The first failing check for a run that has ended: a difference, a race, or a view-read race.
 fn first_found(
     alloc: Global,
     tally: &Tally,
@@ -108,7 +110,7 @@ fn first_found(
     first_race_of(alloc, right)
 }
 
-// What is found first where nothing differs: a race, a view-read race.
+// The first race of a run whose certificate is right: a determinacy race, else a view-read race.
 fn first_race_of(alloc: Global, right: &Right) -> Result<Option<Refusal>, AllocError>
     ensures { IfOk result (λ found. (s : Shape) (value : ℤ) (c : Contents) → HasColumns s right.now
         → HasCreations right.now.trace → IsRight s right.now.trace value c
@@ -120,7 +122,7 @@ fn first_race_of(alloc: Global, right: &Right) -> Result<Option<Refusal>, AllocE
     }
 }
 
-// The first view-read race, where there is no other race.
+// The first view-read race of a run without determinacy races.
 fn first_view_race(alloc: Global, right: &Right) -> Result<Option<Refusal>, AllocError>
     ensures { IfOk result (λ found. (s : Shape) (value : ℤ) (c : Contents) → HasColumns s right.now
         → HasCreations right.now.trace → IsRight s right.now.trace value c

@@ -1,4 +1,4 @@
-//! The serial run up to its end, whatever that is.
+//! The serial run up to its end or to the fault that stops it.
 
 ghost use Rattle.std.specs.Prelude.{IfOk};
 ghost use Rattle.cilk_lower.specs.Behaves.{Behaves};
@@ -21,14 +21,15 @@ use std::alloc::{AllocError, Global};
 /// How a serial run ends.
 #[derive(Drop, Debug)]
 pub enum End {
-    /// By itself: it leaves this, and these are its frames, in the order of their numbers.
+    /// Without a fault: its outcome, and its frames in the order of their numbers.
     Left(Outcome, Vec<PlannedFrame>),
-    /// By this fault, in place of the event behind the last.
+    /// By this fault, in place of the next event.
     Stopped(Fault),
 }
 
-/// The end of the program's serial run on this input, and the events up to it. Cost: that of the run; memory: linear in the events and
-/// the frames.
+/// Runs a program serially and returns how the run ends, with its events.
+///
+/// Cost: that of the run; memory: linear in the events and the frames.
 pub fn run_to_end(
     alloc: Global,
     program: &Program,
@@ -40,7 +41,7 @@ pub fn run_to_end(
     run_code(alloc, program, &code, input)
 }
 
-// The same by the program's code.
+// The same, for a program that is lowered already.
 fn run_code(
     alloc: Global,
     program: &Program,

@@ -1,18 +1,18 @@
-//! What is wrong with a program text.
+//! Faults of program texts.
 
 use cilk_names::fault::NameErrorKind;
 use cilk_parser::fault::SyntaxErrorKind;
 use thiserror::Error;
 
-/// Why a text is no program: memory ran out, or what is wrong at which byte, counted from 0.
+/// The reason why a text is no program. A place is a byte, counted from 0.
 #[derive(Debug, Drop, Error)]
 pub enum ProgramFault {
     #[error("no memory")]
     Memory,
-    /// Its spelling is wrong.
+    /// A lexical or syntax error.
     #[error("{0} at byte {1}")]
     Text(SyntaxErrorKind, usize),
-    /// It spells a tree, of which a name is wrong.
+    /// The syntax is right, and a name is wrong.
     #[error("{0} at byte {1}")]
     Name(NameErrorKind, usize),
 }

@@ -1,4 +1,4 @@
-//! What the frames of a serial run run, and where their cells lie.
+//! The bodies and the cells of the frames of a serial run.
 
 ghost use Rattle.std.specs.Prelude.{◌≡◌, ◌+◌, ◌<◌, ◌^◌, ◌∷◌, ◌++◌, [], IfOk, OnOk};
 ghost use Rattle.cilk_program.specs.Inside.{body_of};
@@ -12,7 +12,8 @@ use cilk_serial::serial_run::SerialRun;
 use cilk_types::event::Cell;
 use std::alloc::AllocError;
 
-/// What a frame runs, the number of its first cell, and how many it has: they lie there, one after the other.
+/// The body of a frame, the number of its first cell, and how many cells it has. The cells have
+/// consecutive numbers.
 #[derive(Clone, Copy, Debug)]
 pub struct PlannedFrame {
     pub body: Body,
@@ -20,14 +21,14 @@ pub struct PlannedFrame {
     pub cells: u32,
 }
 
-/// What a frame runs, and how many cells it has.
+/// The body of a frame, and how many cells it has.
 #[derive(Clone, Copy)]
 pub struct Own {
     pub body: Body,
     pub cells: u32,
 }
 
-/// What the frame of a callee runs, and how many cells it has.
+/// Returns the body of a callee's frame, and how many cells it has.
 pub fn of_callee(program: &Program, layout: &Layout, callee: &Callee) -> Own
     ensures { result ≡ own_of (source program.now) layout.now callee.now }
 {
@@ -37,7 +38,8 @@ pub fn of_callee(program: &Program, layout: &Layout, callee: &Callee) -> Own
     }
 }
 
-/// The same of the frame that the run's next event begins, if it begins one: to be asked before the event is made.
+/// Returns the same for the frame that the run's next event begins, if it begins one. Must be
+/// called before that event is made.
 pub(crate) fn of_next(serial: &SerialRun, program: &Program, layout: &Layout) -> Option<Own>
     ensures { BeginsOwn (source program.now) layout.now serial.now result }
 {
@@ -47,7 +49,7 @@ pub(crate) fn of_next(serial: &SerialRun, program: &Program, layout: &Layout) ->
     }
 }
 
-/// One frame more, where so many cells are there. Gives how many there are then.
+/// Appends a frame whose first cell is number `cells`, and returns the number of cells after it.
 pub fn begin(frames: &mut Vec<PlannedFrame>, cells: u64, own: Own) -> Result<u64, AllocError>
     requires { cells < 2 ^ 32 }
     ensures frame { OnOk result (frames.new.items ≡ frames.old.items ++ record { body = own.body; first_cell = cells; cells = own.cells } ∷ []) }
@@ -71,7 +73,9 @@ fn body(program: &Program, callee: &Callee) -> Body
     }
 }
 
-/// By names: each frame of a run stands at its number, with what it runs, and its cells where the run's numbers have them.
+/// The list of frames has each frame at its number, with its body and its cells.
+///
+/// Frames are identified by name, the path from the root. This is a law: the function does nothing.
 pub fn frames_stand_at_their_numbers()
     ensures { FramesStandAtTheirNumbers }
 {}

@@ -1,4 +1,4 @@
-//! Pieces of a certificate's text are read as lines, and the lines are compared.
+//! Reads pieces of a certificate's text as lines and compares them with the run.
 
 ghost use Rattle.std.specs.Prelude.{◌≡◌, ◌≤◌, ◌<◌, ◌+◌, ℕ, List, [], ◌++◌, IfErr, IfOk, OnOk, length, drop};
 ghost use Rattle.cilk_cert_text.specs.Gathering.{nothing};
@@ -13,7 +13,8 @@ use cilk_cert_text::fault::CertFault;
 use cilk_cert_text::reader::LineReader;
 use std::alloc::{AllocError, Global};
 
-// Hears a line, or as much of one as there is.
+// Reads a line, or the part of one that is there, and returns how many bytes were read. The
+// expected line is tried first, without parsing.
 fn hear_line(
     reader: &mut LineReader,
     tally: &mut Tally,
@@ -43,7 +44,7 @@ fn hear_line(
     Ok(taken)
 }
 
-// Hears a piece of the text.
+// Reads a piece of the text.
 fn hear(
     reader: &mut LineReader,
     tally: &mut Tally,
@@ -66,10 +67,10 @@ fn hear(
     Ok(())
 }
 
-/// Why the text wasn't heard to its end.
+/// The reason why the text wasn't read to its end.
 #[derive(Clone, Copy, PartialEq, Eq, Debug)]
 pub enum Stop {
-    /// It isn't a certificate's, or memory ran out.
+    /// The text is no certificate, or memory ran out.
     Fault(CertFault),
     /// The source's device failed.
     Unread,
@@ -86,10 +87,10 @@ impl From<AllocError> for Stop {
     }
 }
 
-// Large, since a file is opened anew for each pull.
+// The bytes of a pull. Large, since a file is opened anew for each pull.
 const PIECE: usize = 32_768;
 
-// Hears the whole text of a source, and pulls no more once a fault of the text is certain.
+// Reads the whole text of a source. Stops pulling once the text has a fault.
 fn hear_all<S: Source>(tally: &mut Tally, right: &Right, source: &mut S) -> Result<(), Stop>
     requires few { AreFew right.now }
     requires new { Tallied right.now nothing tally.old }
@@ -121,7 +122,7 @@ fn hear_all<S: Source>(tally: &mut Tally, right: &Right, source: &mut S) -> Resu
     }
 }
 
-/// What was found in the whole text of a source.
+/// Reads the whole text of a source and compares it with the run.
 pub fn heard<S: Source>(alloc: Global, right: &Right, source: &mut S) -> Result<Tally, Stop>
     requires few { AreFew right.now }
     requires counted { S.failed source.old < 18446744073709551615 }

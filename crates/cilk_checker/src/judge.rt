@@ -1,4 +1,4 @@
-//! From the bytes of a text to the program that it means.
+//! From the bytes of a program text to the program.
 
 ghost use Rattle.std.specs.Prelude.{IfOk, IfErr};
 ghost use Rattle.cilk_checker.specs.Judging.{AreNamesAtFault, IsSpellingFault, ResolvesTo};
@@ -14,7 +14,7 @@ use cilk_program::program::Program;
 use cilk_syntax::tree::Tree;
 use std::alloc::Global;
 
-/// The tree of a program text.
+// The syntax tree of a program text.
 fn tree(alloc: Global, text: &[u8]) -> Result<Tree, ProgramFault>
     ensures ok { IfOk result (λ t. IsText text.now t) }
     ensures err { IfErr result (λ e. IsSpellingFault e text.now) }
@@ -26,7 +26,7 @@ fn tree(alloc: Global, text: &[u8]) -> Result<Tree, ProgramFault>
     }
 }
 
-/// The program of a tree.
+// The program of a syntax tree.
 fn resolved(alloc: Global, tree: &Tree) -> Result<Program, ProgramFault>
     ensures ok { IfOk result (λ p. ResolvesTo tree.now (meant p)) }
     ensures err { IfErr result (λ e. AreNamesAtFault e tree.now) }
@@ -38,7 +38,9 @@ fn resolved(alloc: Global, tree: &Tree) -> Result<Program, ProgramFault>
     }
 }
 
-/// The program of a text, or its first fault. Takes time in proportion to the text and to the depth of its scopes.
+/// Returns the program of a text, or its first fault.
+///
+/// Cost: linear in the text times the depth of its scopes.
 pub fn program(alloc: Global, text: &[u8]) -> Result<Program, ProgramFault>
     ensures ok { IfOk result (λ p. IsProgramText text.now (meant p)) }
     ensures err { IfErr result (λ e. IsProgramFault e text.now) }

@@ -1,38 +1,33 @@
-//! Checks a certificate against the serial run, as its text comes.
+//! Checks a certificate against the serial run of its program, while the certificate's text
+//! arrives.
 //!
-//! A certificate's text comes from a [`source::Source`], in whatever pieces. [`hearing::heard`] reads its lines one by one and compares
-//! each with what is right of the run ([`right::Right`]); of a column no more is kept than how many items from the front are right, and
-//! whether the next one isn't ([`first::First`]). So no certificate is built, and memory doesn't grow with the text.
+//! The checker runs the program serially and computes the columns that a right certificate of this
+//! run has ([`right::Right`]). It pulls the certificate's text from a [`source::Source`] in pieces
+//! of any size, reads it line by line, and compares each line with the run ([`hearing::heard`]). Of
+//! each column it keeps only how many items from the front are right, and whether the next one is
+//! wrong ([`first::First`]). No certificate is built, and memory doesn't grow with the text.
 //!
-//! [`compare::ended`] and [`compare::stopped`] then go through the passes in their order: events, frames, the strands' frames, Hebrew
-//! numbers and classes, the sources of reads, the result, races. The first that finds something gives a [`refusal::Refusal`].
-//! [`check::check_run`] does all of it, and [`texts::check_from`] from the texts of program and input: an [`accepted::Accepted`] says
-//! of a program that it is determinate on its input, for all lists of steps. Three texts have at most one verdict
-//! ([`laws::texts_have_one_verdict`]), and where they have one, it is answered, but for a want of memory.
+//! Then the columns are judged in a fixed order: events, frames, the frames of strands, Hebrew
+//! numbers, peer classes, the sources of reads, the result, determinacy races, view-read races. The
+//! first failing check gives a [`refusal::Refusal`]. If none fails, the result is an
+//! [`accepted::Accepted`]: a proof that the program is determinate on its input, whatever the
+//! schedule. A race-free serial run is enough for that (Feng and Leiserson 1997).
 //!
-//! ```text
-//! check(alloc, b"int main(){return 0;}", b"", certificate)       // Ok(accepted), and accepted.outcome().result is 0
-//! check(alloc, b"int main(){return 0;}", b"", b"")               // Err(Refusal::Truncated { line: 1 })
-//! check(alloc, b"int main(){return x;}", b"", certificate)       // Err(Refusal::Name(NameErrorKind::Unknown, 18))
-//! ```
-//!
-//! Program texts are judged: what each means, or what is wrong with it first.
-//!
-//! A text that spells a tree whose names resolve means a program (`specs/Judging.antt`). Else its first fault is told:
-//! that of its spelling, and where that is right, that of its names. A text has at most one of both
-//! ([`laws::text_has_one_meaning`]). An input text is judged by `cilk_parser` alone.
-//!
-//! ```text
-//! program(alloc, b"int main(){return x;}")       // Err(ProgramFault::Name(NameErrorKind::Unknown, 18))
-//! ```
-//!
-//! The serial run of a program up to its end, with what its frames run.
-//!
-//! [`ending::run_to_end`] makes the run event by event. Of a run that ends by itself it notes what each frame runs and where its cells lie
-//! ([`frames::PlannedFrame`]), in the order of the frames' numbers: who has the frames need not make the run once more.
+//! | Call | Result |
+//! |---|---|
+//! | [`texts::check`] | the verdict on three texts in memory |
+//! | [`texts::check_from`] | the same, with a certificate that comes from a source |
+//! | [`check::check_run`] | the same for a parsed program |
+//! | [`check::check_end`] | the same for a serial run that is already made |
+//! | [`judge::program`] | the program that a text means, or its first fault |
+//! | [`ending::run_to_end`] | how a serial run ends, its events, and its frames with their cells |
+//! | [`laws::texts_have_one_verdict`] | three texts have at most one verdict |
 //!
 //! ```text
-//! let (end, trace) = run_to_end(alloc, &program, &input)?;   // of `int main(){return 0;}`: one frame without cells
+//! check(alloc, b"int main(){return 0;}", b"", certificate)  // Ok(a), a.outcome().result is 0
+//! check(alloc, b"int main(){return 0;}", b"", b"")          // Err(Refusal::Truncated { line: 1 })
+//! check(alloc, b"int main(){return x;}", b"", certificate)
+//!     // Err(Refusal::Name(NameErrorKind::Unknown, 18))
 //! ```
 #![tactic(auto)]
 

@@ -1,4 +1,4 @@
-//! The passes that find what is right of a run.
+//! Computes the columns that a right certificate of a run has.
 
 ghost use Rattle.std.specs.Prelude.{◌≡◌, ◌<◌, ◌^◌, IfOk, length};
 ghost use Rattle.cilk_tree.specs.Shape.{Shape, Spells};
@@ -19,7 +19,7 @@ use cilk_tree::building::tree_of;
 use cilk_types::trace::Trace;
 use std::alloc::{AllocError, Global};
 
-/// What is right of a run that has ended by itself. Cost: linear in the events.
+/// Computes the columns of a run that ended without a fault. Cost: linear in the events.
 pub fn right_of(alloc: Global, trace: Trace) -> Result<Right, AllocError>
     requires { (s : Shape) × Spells s trace }
     ensures few { IfOk result (λ r. AreFew r) }
@@ -39,7 +39,7 @@ pub fn right_of(alloc: Global, trace: Trace) -> Result<Right, AllocError>
     })
 }
 
-/// What is right of a run that a fault has stopped: its events, and no more.
+/// Returns the columns of a run that a fault stopped: only its events, the others empty.
 pub fn events_of(alloc: Global, trace: Trace) -> Result<Right, AllocError>
     ensures few { IfOk result (λ r. AreFew r) }
     ensures trace { IfOk result (λ r. r.trace ≡ trace) }
@@ -55,7 +55,7 @@ pub fn events_of(alloc: Global, trace: Trace) -> Result<Right, AllocError>
     })
 }
 
-/// The Hebrew numbers and the classes of the strands. The tree is let go with the pass.
+/// Computes the Hebrew numbers and the peer classes of the strands. The tree is dropped here.
 pub(crate) fn labelled(alloc: Global, trace: &Trace) -> Result<(Labels, Classes), AllocError>
     ensures labels { IfOk result (λ r. (s : Shape) → Spells s trace.now → r.0 ≡ hebrews (tree s) 1) }
     ensures classes { IfOk result (λ r. (s : Shape) → Spells s trace.now → r.1 ≡ class_numbers (tree s) 0 1) }

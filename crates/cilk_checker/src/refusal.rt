@@ -1,4 +1,4 @@
-//! Why a certificate is refused.
+//! Refusals, with their numbers and places.
 
 ghost use Rattle.std.specs.Prelude.{◌≡◌};
 ghost use Rattle.cilk_checker.specs.declared.refusal.Refusal.TheVariants as refusals;
@@ -13,8 +13,9 @@ use cilk_types::event::Pos;
 use std::alloc::{AllocError, AllocFailed};
 use thiserror::Error;
 
-/// Why a certificate is refused: what the first pass finds that finds something. A number that is one more than the run's last says that
-/// the certificate has an item more than the run.
+/// The reason for a refusal: the first failing check.
+///
+/// An item with the number after the run's last one is an extra item of the certificate.
 #[derive(Clone, Copy, Debug, Error)]
 pub enum Refusal {
     #[error("{0} in the program at byte {1}")]
@@ -23,29 +24,29 @@ pub enum Refusal {
     Name(NameErrorKind, usize),
     #[error("{0} in the input at byte {1}")]
     Input(SyntaxErrorKind, usize),
-    /// The certificate isn't in its grammar at this line, counted from 1.
+    /// The certificate doesn't follow its grammar at this line, counted from 1.
     #[error("malformed certificate at line {line}")]
     Malformed { line: u32 },
     /// The certificate ends too early, at this line.
     #[error("truncated certificate at line {line}")]
     Truncated { line: u32 },
-    /// The run has another event at this position, or only one of the two has one there.
+    /// The run has another event at this position, or one of the two has no event there.
     #[error("not the run's event at {at}")]
     Event { at: u64 },
     /// A fault stops the run in place of the event at this position.
     #[error("the run is stopped at {at}")]
     Stops { at: u64 },
-    /// The line of this frame is wrong, missing or too many.
+    /// The line of this frame is wrong, missing or extra.
     #[error("wrong line of frame {frame}")]
     Frame { frame: u64 },
-    /// This strand has another frame, is missing or too many.
+    /// The frame of this strand is wrong, or the strand's line is missing or extra.
     #[error("wrong frame of strand {strand}")]
     Strand { strand: u64 },
     #[error("wrong Hebrew number of strand {strand}")]
     Hebrew { strand: u64 },
     #[error("wrong peer class of strand {strand}")]
     Class { strand: u64 },
-    /// The last earlier write of the cell that is read at this position is another.
+    /// The last earlier write of the cell read at this position is another.
     #[error("wrong source of the read at {at}")]
     ReadSource { at: u64 },
     #[error("wrong result")]
@@ -53,14 +54,14 @@ pub enum Refusal {
     /// Two positions have a determinacy race.
     #[error("a race of {earlier} and {later}")]
     Race { earlier: Pos, later: Pos },
-    /// A reducer's creation and a set or value of it have a view-read race.
+    /// A reducer's creation and a `set` or `value` of it have a view-read race.
     #[error("a view-read race of {created} and {used}")]
     ViewRace { created: Pos, used: Pos },
     #[error("no memory")]
     Memory,
 }
 
-/// The numbers that are told beside a refusal's own.
+/// The places that a refusal reports after its number.
 #[derive(Clone, Copy, PartialEq, Eq, Debug)]
 pub enum Fields {
     None,
@@ -69,7 +70,10 @@ pub enum Fields {
 }
 
 impl Refusal {
-    /// The number by which it is reported: 101 to 122 for the texts of program and input, 301 to 312 for the certificate, 401 for memory.
+    /// Returns the number by which it is reported.
+    ///
+    /// 101 to 122 are faults of the program and input texts, 301 to 312 are refusals of the
+    /// certificate, and 401 is out of memory.
     pub fn number(self) -> u16
         ensures { result ≡ number_of self }
     {
@@ -93,7 +97,7 @@ impl Refusal {
         }
     }
 
-    /// The places that it names: a byte, line, frame, strand or position, or two positions.
+    /// Returns the places that it names: a byte, line, frame, strand or position, or two positions.
     pub fn fields(self) -> Fields
         ensures { result ≡ fields_of self }
     {
@@ -131,7 +135,7 @@ impl<T: Drop> From<AllocFailed<T>> for Refusal {
     }
 }
 
-/// Why nothing was accepted.
+/// The reason why nothing was accepted: a refusal, or a source that can't be read.
 #[derive(Clone, Copy, Debug, Error)]
 pub enum Unaccepted {
     #[error("{0}")]

@@ -1,4 +1,4 @@
-//! What is right of a run, by columns.
+//! The columns of a run, against which a certificate is compared.
 
 ghost use Rattle.std.specs.Prelude.{◌≡◌, ◌↔◌, IsTrue, Some, length, slice_get};
 
@@ -8,7 +8,8 @@ use cilk_peers::class::Classes;
 use cilk_types::event::{Event, FrameNo};
 use cilk_types::trace::Trace;
 
-/// What is right of a run, by columns: its frames, the frames of its strands, their Hebrew numbers and classes, and its events.
+/// The columns of a run: its frames, the frame, Hebrew number and peer class of each strand, and
+/// its events.
 pub struct Right {
     pub frames: Vec<Frame>,
     pub owners: Vec<FrameNo>,
@@ -17,7 +18,7 @@ pub struct Right {
     pub trace: Trace,
 }
 
-// A function of its own, so that a proof follows one call where it is dropped.
+// A function of its own, so that a proof follows one call where the value is dropped.
 impl Drop for Right {
     fn drop(self) {
         let Right {
@@ -31,7 +32,7 @@ impl Drop for Right {
 }
 
 impl Right {
-    /// The events alone.
+    /// Returns the events and drops the rest.
     pub(crate) fn into_trace(self) -> Trace
         ensures { result ≡ self.trace }
     {
@@ -45,14 +46,14 @@ impl Right {
         trace
     }
 
-    /// How many frames there are.
+    /// Returns the number of frames.
     pub(crate) fn frame_count(&self) -> usize
         ensures { result ≡ length self.now.frames.items }
     {
         self.frames.as_slice().len()
     }
 
-    /// How many strands have a frame.
+    /// Returns the number of strands.
     pub(crate) fn owner_count(&self) -> usize
         ensures { result ≡ length self.now.owners.items }
     {
@@ -60,7 +61,7 @@ impl Right {
     }
 }
 
-/// Whether the column of frames has the frame at the place, from 0.
+/// Returns whether the column has this frame at the index.
 pub(crate) fn has_frame(column: &[Frame], place: u32, value: Frame) -> bool
     ensures { IsTrue result ↔ (slice_get column.now place ≡ Some value) }
 {
@@ -70,7 +71,7 @@ pub(crate) fn has_frame(column: &[Frame], place: u32, value: Frame) -> bool
     }
 }
 
-/// Whether the column has the number at the place, from 0.
+/// Returns whether the column has this number at the index.
 pub(crate) fn has(column: &[u32], place: u32, value: u32) -> bool
     ensures { IsTrue result ↔ (slice_get column.now place ≡ Some value) }
 {
@@ -80,7 +81,7 @@ pub(crate) fn has(column: &[u32], place: u32, value: u32) -> bool
     }
 }
 
-/// Whether the strand behind so many others has the Hebrew number.
+/// Returns whether strand number `place + 1` has this Hebrew number.
 pub(crate) fn has_hebrew(labels: &Labels, place: u32, value: u32) -> bool
     ensures { IsTrue result ↔ (slice_get labels.now place ≡ Some value) }
 {
@@ -90,7 +91,7 @@ pub(crate) fn has_hebrew(labels: &Labels, place: u32, value: u32) -> bool
     labels.hebrew(place + 1) == value
 }
 
-/// Whether the strand behind so many others has the class.
+/// Returns whether strand number `place + 1` has this peer class.
 pub(crate) fn has_class(classes: &Classes, place: u32, value: u32) -> bool
     ensures { IsTrue result ↔ (slice_get classes.now place ≡ Some value) }
 {
@@ -100,7 +101,7 @@ pub(crate) fn has_class(classes: &Classes, place: u32, value: u32) -> bool
     classes.class(place + 1) == value
 }
 
-/// The event behind so many others.
+/// Returns the event after the first `place` ones.
 pub(crate) fn event_behind(events: &[Event], place: u32) -> Option<Event>
     ensures { slice_get events.now place ≡ result }
 {

@@ -1,4 +1,4 @@
-//! Lines of a certificate are compared with the run as they come.
+//! Compares the lines of a certificate with the run as they arrive.
 
 ghost use Rattle.std.specs.Prelude.{◌≡◌, ◌↔◌, ℕ, List, IsTrue, Some, IfOk, OnOk};
 ghost use Rattle.cilk_types.specs.declared.event.Event.{Event};
@@ -14,7 +14,7 @@ use cilk_cert_text::line::{Entry, Frame, Line, Strand};
 use cilk_types::event::Event;
 use std::alloc::{AllocError, Global};
 
-/// What was found so far.
+/// The first wrong item of each column so far, and the state for the next event.
 #[derive(Drop, Debug)]
 pub struct Tally {
     pub frames: First,
@@ -28,7 +28,7 @@ pub struct Tally {
     pub made: Creations,
 }
 
-// Whether the entry lists the event, where these reducers were created up to it.
+// Whether the entry lists the event. `made` are the reducers created up to it.
 fn lists(made: &Creations, entry: Entry, event: &Event) -> bool
     ensures { IsTrue result ↔ (event_in made.now.made.items entry ≡ Some event.now) }
 {
@@ -38,7 +38,7 @@ fn lists(made: &Creations, entry: Entry, event: &Event) -> bool
     }
 }
 
-// Whether the entry gives the source of its event, where it is a read.
+// Whether the entry's source is the event's: the last write of its cell for a read, else none.
 fn has_source(writes: &LastWrites, entry: Entry, event: &Event) -> bool
     ensures { (es : List Event) (n : ℕ) → AreLast es n writes.now.positions.items
         → IsTrue result ↔ (source_in entry ≡ source_at es n event.now) }
@@ -51,7 +51,7 @@ impl Tally {
     ghost use Rattle.cilk_cert_text.specs.declared.line.Line.TheVariants as lines;
     ghost use Rattle.cilk_checker.specs.Tallies.{AreFew, Tallied, TalliesLine};
 
-    /// Before the first line.
+    /// Returns the tally before the first line.
     pub fn new(alloc: Global, right: &Right) -> Result<Tally, AllocError>
         ensures { IfOk result (λ t. Tallied right.now nothing t) }
     {
@@ -114,14 +114,14 @@ impl Tally {
         Ok(())
     }
 
-    // The frame's line that is right behind those that came.
+    // The expected line of the next frame.
     fn frame_due(&self, right: &Right) -> Option<Line> {
         let number = self.frames.agreed.checked_add(1)?;
         let frame = *right.frames.as_slice().get(self.frames.agreed as usize)?;
         Some(Line::Frame { number, frame })
     }
 
-    // The strand's line that is right behind those that came.
+    // The expected line of the next strand.
     fn strand_due(&self, right: &Right) -> Option<Line> {
         let number = self.owners.agreed.checked_add(1)?;
         let frame = *right.owners.as_slice().get(self.owners.agreed as usize)?;
@@ -138,14 +138,16 @@ impl Tally {
         Some(Line::Strand { number, strand })
     }
 
-    // The event's line that is right behind those that came, as version 2 has it.
+    // The expected line of the next event, in version 2.
     fn event_due(&self, right: &Right) -> Option<Line> {
         let event = event_behind(right.trace.as_slice(), self.events.agreed)?;
         Some(Line::Event(entry(&event, &self.writes)))
     }
 
-    /// The line that comes next where all that came is right, if it is one of a frame, a strand or an event. It is a guess,
-    /// so that the text is compared with it before it is read: what the text says is found out there.
+    /// Returns the line that comes next if all lines so far are right.
+    ///
+    /// It is a guess: a text that begins with this line need not be parsed. `None` if the next line
+    /// is none of a frame, a strand or an event.
     pub fn due(&self, right: &Right) -> Option<Line> {
         if self.events.differs {
             return None;
@@ -159,7 +161,7 @@ impl Tally {
         }
     }
 
-    /// One line more.
+    /// Compares one more line.
     pub fn meet(&mut self, right: &Right, line: Line) -> Result<(), AllocError>
         requires few { AreFew right.now }
         requires heard { (c : Contents) × Tallied right.now c self.old }

@@ -20,10 +20,12 @@ use cilk_program::program::Program;
 use cilk_types::input::Input;
 use std::alloc::Global;
 
-/// Checks the certificate that a source gives, against a program text and an input text, which are judged before a
-/// byte is pulled. It is accepted exactly where the texts have no fault, the certificate is right, the run ends without
-/// a fault, and no two positions of it race. Else it says what the first pass finds that finds something. Only a want
-/// of memory or a failing device give another answer.
+/// Checks a certificate from a source against a program text and an input text.
+///
+/// The two texts are judged before a byte is pulled. The certificate is accepted exactly if the
+/// texts have no fault, the run ends without a fault, the certificate is right, and no two
+/// positions of the run race. Otherwise the error is the first failing check. Out of memory and a
+/// failing device are the only errors that say nothing about the texts.
 pub fn check_from<S: Source>(
     alloc: Global,
     program: &[u8],
@@ -48,7 +50,7 @@ pub fn check_from<S: Source>(
     check_run(alloc, meant, numbers, source)
 }
 
-/// The same of a certificate's text that is there.
+/// Checks a certificate whose text is in memory, as [`check_from`] does.
 pub fn check(
     alloc: Global,
     program: &[u8],
@@ -84,7 +86,7 @@ fn meaning(alloc: Global, text: &[u8]) -> Result<Program, Refusal>
     }
 }
 
-// The numbers of an input text, or its first fault; the program is judged before.
+// The numbers of an input text, or its first fault. The program was judged before.
 fn numbers(alloc: Global, text: &[u8]) -> Result<Input, Refusal>
     ensures numbers { IfOk result (λ ns. IsInput text.now ns) }
     ensures fault { IfErr result (λ r. (program : List ℕ) (m : Meant) (known : Option (List ℕ))

@@ -14,7 +14,7 @@ use crate::right::Right;
 use crate::tally::Tally;
 use cilk_types::outcome::Outcome;
 
-// The place of the first wrong item, where so many are right.
+// The place of the first wrong item, from 1. `count` is the length of the right column.
 fn place(first: First, count: usize) -> Option<u64>
     ensures { result ≡ place_of first count }
 {
@@ -25,14 +25,13 @@ fn place(first: First, count: usize) -> Option<u64>
     }
 }
 
-// Whether two values are one.
 fn is_same(one: &i64, other: &i64) -> bool
     ensures { IsTrue result ↔ (one.now ≡ other.now) }
 {
     *one == *other
 }
 
-/// The first event that isn't the run's.
+/// Returns the position of the first event that isn't the run's.
 pub(crate) fn wrong_event(tally: &Tally, right: &Right) -> Option<u64>
     ensures { (c : Contents) → Tallied right.now c tally.now
         → IsFirstPlace (EventIsWrong right.now.trace c) result }
@@ -68,7 +67,7 @@ fn wrong_class(tally: &Tally, right: &Right) -> Option<u64>
     place(tally.classes, right.classes.count() as usize)
 }
 
-// Where all events are the run's.
+// Meaningful only if all events are the run's.
 fn wrong_source(tally: &Tally, right: &Right) -> Option<u64>
     ensures { (c : Contents) → IsNowhere (EventIsWrong right.now.trace c) → Tallied right.now c tally.now
         → IsFirstPlace (SourceIsWrong right.now.trace c) result }
@@ -76,7 +75,7 @@ fn wrong_source(tally: &Tally, right: &Right) -> Option<u64>
     place(tally.sources, right.trace.len())
 }
 
-/// The first difference of a certificate whose lines were tallied, in the order of the passes.
+/// Returns the first difference between a certificate and the run, in the order of the checks.
 pub(crate) fn first_difference(tally: &Tally, right: &Right, outcome: &Outcome) -> Option<Refusal>
     ensures { (s : Shape) (c : Contents) → HasColumns s right.now → Tallied right.now c tally.now
         → MatchOption result (IsRight s right.now.trace outcome.now.result c)

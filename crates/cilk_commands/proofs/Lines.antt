@@ -19,7 +19,7 @@ module _ {X : Type 0} where
       k ∙ ap (λ t. t ++ f (get_or xs i d)) e ∙ append_assoc old (flat_map f (take i xs)) (f (get_or xs i d))
       ∙ ap (λ t. old ++ t) (sym (rw add-one (one_more f xs i d h)))
 
--- one more reducer's line, of those that are left
+-- one more reducer's line of the remaining ones
 pub reducer_more : (ks ks' : List Text) (vs vs' : List Final) (k : Text) (v : Final) (text text' all : Text) → ks ≡ k ∷ ks' → vs ≡ v ∷ vs'
     → text ++ reducer_lines ks vs ≡ all → text' ≡ text ++ reducer_line k v → text' ++ reducer_lines ks' vs' ≡ all
 reducer_more ks ks' vs vs' k v text text' all ek ev h e =

@@ -1,9 +1,9 @@
 -- The texts that the words name have one reply.
 --
--- `given_once`, `input_once`: the texts are one. `one_refusal`, `one_input_refusal`: a text has one first fault.
--- `same_given`, `one_refused`, `not_refused`: the texts mean one program and one input, or have one first fault, and
--- not both. `one_judged`, `one_run`, `one_certify`, `one_check`, `one_play`: a command has one reply.
--- `one_reply`: and so have words.
+-- `given_once`, `input_once`: the texts are one. `one_refusal`, `one_input_refusal`: a text has one
+-- first fault. `same_given`, `one_refused`, `not_refused`: the texts mean one program and one
+-- input, or have one first fault, and not both. `one_judged`, `one_run`, `one_certify`,
+-- `one_check`, `one_play`: a command has one reply. `one_reply`: and so have words.
 use Rattle.std.proofs.Common.{◌≡◌, ◌<◌, ℕ, ℤ, List, take, Option, Some, None, refl, sym, ap, ◌∙◌, subst}
 use Rattle.std.specs.Prelude.{◌≢◌, IfSome, IsSome}
 use Rattle.cilk_parser.specs.declared.fault.TextFault.{TextFault}
@@ -43,7 +43,7 @@ input_once : (w : Surroundings) (o : Option Text) (x y : Text) → IsKnownInput 
 input_once w None x y known h k = h ∙ sym k
 input_once w (Some path) x y known h k = held (w.files path) (λ all. all) x y known h k
 
--- a fault that is told is no want of memory
+-- a fault that is shown isn't out of memory
 told : (f : ProgramFault) (r : Reply) → r ≡ program_fault_view f → IsOfTexts r → f ≢ program_faults.Memory
 told f r e v m = subst IsOfTexts (e ∙ ap program_fault_view m) v
 
@@ -93,7 +93,7 @@ input_not_unread : (n m : Failures) (o : Option Text) (r : Reply) → InputFileF
 input_not_unread n m None r h v = h
 input_not_unread n m (Some path) r h v = not_unread n m (File path) r h v
 
--- the text that is refused
+-- the refused text
 data Refused (w : Surroundings) (program : Origin) (input : Option Text) (r : Reply) : Type 0 where
   OfProgram : (text : Text) → GivesProgram w.files w.input program text → ProgramFails text r
       → Refused w program input r
@@ -141,7 +141,7 @@ same_given w program input m m' inputs inputs' x y h k =
       (one_input k.numbers).numbers inputs inputs' (subst (λ z. IsInput z inputs) d h.input_is) k.input_is,
     )
 
--- where one reply is shown of a program and an input, a command over them has one reply
+-- if a program and an input have one reply, a command on them has one reply
 one_judged : (IsShown : Meant → List ℤ → Reply → Type 0)
     → ((m : Meant) (inputs : List ℤ) (text numbers : Text) → IsProgramText text m → IsInput numbers inputs → (r q : Reply)
     → IsOfTexts r → IsOfTexts q → IsShown m inputs r → IsShown m inputs q → r ≡ q)

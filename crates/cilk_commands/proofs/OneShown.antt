@@ -1,7 +1,8 @@
 -- A program, an input and a certificate's text show one reply.
 --
--- `one_end`: two runs end as one. `one_shown`: a run that ends, or stops, shows one reply. `shows_once`, `certifies_once`:
--- so do the commands `run` and `certify`. `checks_once`: a certificate has one verdict.
+-- `one_end`: two runs end as one. `one_shown`: a run that ends, or stops, shows one reply.
+-- `shows_once`, `certifies_once`: so do the commands `run` and `certify`. `checks_once`: a
+-- certificate has one verdict.
 use Rattle.std.proofs.Common.{◌≡◌, ℕ, ℤ, ◌+◌, List, length, Option, Some, None, refl, sym, ap, ◌∙◌, subst}
 use Rattle.std.specs.Prelude.{◌≢◌, IsSome, IsTrue}
 use Rattle.cilk_types.specs.Fault as faults
@@ -37,7 +38,7 @@ use Rattle.cilk_commands.specs.Shown.{CertifyShows, CheckShows, RunFails, RunSho
 
 -- ---- a program's run
 
--- what is shown of a run: this where it ends, or the fault that stops it
+-- the reply to a run: this one if it ends, or the fault that stops it
 data Shown (m : Meant) (inputs : List ℤ) (IsMade : Reply → Outcome → Type 0) (r : Reply) : Type 0 where
   Ends : (o : Outcome) (events : List Event) → IsMade r o → serial.Ran m.source inputs o events → Shown m inputs IsMade r
   Stops : (fault : Fault) (at : ℕ) → r ≡ Faulted (faults.number_of fault) at → serial.Stops m.source inputs fault at
@@ -146,7 +147,7 @@ certifies_once m inputs named r q v w h k =
 
 -- ---- the check of a certificate
 
--- what is shown of a check
+-- the reply to a check
 data Checked (known : Option Text) (m : Meant) (inputs : List ℤ) (r : Reply) : Type 0 where
   Accepts : (events : List Event) (o : Outcome) → r ≡ replies.Accepted → IsCertified m.source inputs known events o
       → Checked known m inputs r

@@ -1,13 +1,16 @@
--- How a reply comes about.
+-- The replies of commands.
 --
--- `front_of`: what was sent is a text, or a part of it. `keeps`: nothing went out. `no_memory`: a want of memory answers
--- anything. `fails`, `ends`: a failure, or an answer, is served. `handed`: an error that was handed on.
--- `program_refused`, `input_unread`, `input_refused`: no program and input are given. `both_given`: both are.
--- `judged_ok`, `judged_err`: the answer to a command over both, and its failure. `given_later`: they are given whatever is
--- read afterwards. `checked_ok`, `checked_err`: the answer to a check, and its failure. `refused_ok`,
--- `refused_err`: a refusal that is told, or a want of memory. `refused_whole`: a refusal of a file's text.
--- `fault_shown`: a fault of a script's steps. `steps_shown`, `steps_fail`: what the steps of a script's text show. `script_unread`, `text_played`: a script that isn't read, and what its text shows. `played_ok`, `played_err`: the answer to a
--- wish to play it, and its failure.
+-- `front_of`: the bytes sent are a text, or a part of it. `keeps`: nothing was written.
+-- `no_memory`: out of memory may be the reply to anything. `fails`, `ends`: a failure, or an
+-- answer, is served. `handed`: an error that was passed on. `program_refused`, `input_unread`,
+-- `input_refused`: no program and input are given. `both_given`: both are. `judged_ok`,
+-- `judged_err`: the answer to a command on both, and its failure. `given_later`: they are given
+-- whatever is read afterwards. `checked_ok`, `checked_err`: the answer to a check, and its failure.
+-- `refused_ok`, `refused_err`: a refusal that is shown, or out of memory. `refused_whole`: a
+-- refusal of a file's text. `fault_shown`: a fault of a script's steps. `steps_shown`,
+-- `steps_fail`: the reply to the steps of a script's text. `script_unread`, `text_played`: a script
+-- that isn't read, and the reply to its text. `played_ok`, `played_err`: the answer to `play`, and
+-- its failure.
 use Rattle.std.proofs.Common.{◌≡◌, ℕ, List, [], Bool, true, false, Option, Some, None, option_map, drop, length, refl, sym, ap, subst, inl, inr, ◌∙◌, arith}
 use Rattle.std.specs.Prelude.{◌≢◌, ◌<◌, IsTrue, IsFalse, Result, Ok, Err, IfOk, IfErr, IsErrAnd, ℤ}
 use Rattle.std.specs.Io.KnownBytes.{Appends}
@@ -47,7 +50,7 @@ pub keeps : (o : Option Text) → Appends o o []
 keeps None = tt
 keeps (Some bytes) = sym (append-nil bytes)
 
--- a want of memory answers anything
+-- out of memory may be the reply to anything
 pub no_memory : (w : Surroundings) (asked : Option Requested) → Answers w asked NoMemory
 no_memory w None = tt
 no_memory w (Some (Run Standard input)) = Unjudged (ProgramUnread tt)
@@ -88,7 +91,7 @@ pub ends : (words : List Text) (w : Surroundings) (wanted : Reply) (status : ℕ
     → (r : Reply) × IsOrNoMemory wanted r × Shows r status told o o' e e' → Serves words w status told o o' e e'
 ends words w wanted status told o o' e e' h shown = (shown.0, or_no_memory w (order_in words) wanted shown.0 h shown.1, shown.2)
 
--- an error that was handed on
+-- an error that was passed on
 pub handed : {T : Type 0} (x : Result T Failure) (f : Failure) (P : Failure → Type 0) → IsErrAnd x (λ e. e ≡ f) → P f → IfErr x P
 handed (Ok v) f P h p = absurd h
 handed (Err e) f P h p = subst P (sym h) p
@@ -126,7 +129,7 @@ both_given w p i text slice q files numbers slice' inputs given e h same input e
   input_is = subst (λ (t : Text). IsInput t inputs) e' spelled;
 }
 
--- the answer to a command over a program and its input
+-- the answer to a command on a program and its input
 pub judged_ok : {T : Type 0} (IsShown : Meant → List ℤ → Reply → Type 0) (x : Result Answer T) (w : Surroundings) (p : Origin)
     (i : Option Text) (q : Meant) (inputs : List ℤ)
     → AreGiven w p i q inputs → IfOk x (λ a. IsShown q inputs (answer_view a))
@@ -155,7 +158,7 @@ given_later files input failed before after p i q inputs h = record {
   input_is = h.input_is;
 }
 
--- the answer to a check, by what was known before the two texts were read
+-- the answer to a check, in terms of the surroundings before the two texts were read
 pub checked_ok : {T : Type 0} (x : Result Answer T) (path : Text) (known known' : Option Text) (n m failed : Failures) (q : Meant)
     (inputs : List ℤ) → known ≡ known' → n ≡ m
     → IfOk x (λ a. CheckShows path known n failed q inputs (answer_view a))
@@ -173,7 +176,7 @@ checked_err x path known known' n m failed q inputs e d h =
     let P : Option Text → Failures → Type 0 = λ k f. IfErr x (λ a. CheckShows path k f failed q inputs (failure_view a)) in
     subst (λ k. P k m) e (subst (λ f. P known f) d h)
 
--- a refusal that is told is shown
+-- a refusal is shown
 pub refused_ok : {F T : Type 0} (x : Result Answer T) (path : Text) (known : Option Text) (failed : F → Failures) (old new : F)
     (q : Meant) (inputs : List ℤ) (f : Refusal)
     → IfOk x (λ a. (f ≢ refusals.Memory) × (answer_view a ≡ Refused (number_of f) (places_of (fields_of f))))
@@ -209,12 +212,12 @@ told_of workers steps q inputs play_faults.Memory h never = tt
 told_of workers steps q inputs (play_faults.Line at) h never = h
 told_of workers steps q inputs (play_faults.Stop fault name) h never = (fault, refl, h, never)
 
--- a fault that is told of a script's steps
+-- a fault of a script's steps
 pub fault_shown : (workers : ℕ) (steps : List Step) (q : Meant) (inputs : List ℤ) (f : PlayFault) (r : Reply) → (0 < workers → IsFault (Ends q.source inputs workers steps) f) → (0 < workers → FailsAsSettled q.source inputs f)
     → r ≡ play_fault_view f → StepsShow workers steps q inputs r
 fault_shown workers steps q inputs f r h never e = subst (λ x. StepsShow workers steps q inputs x) (sym e) (told_of workers steps q inputs f h never)
 
--- what the steps of a script's text show
+-- the reply to the steps of a script's text
 pub steps_shown : {T : Type 0} (x : Result Answer T) (workers : ℕ) (text : Text) (steps slice : List Step) (q : Meant) (inputs : List ℤ) → IsScript text steps
     → slice ≡ steps → IfOk x (λ a. StepsShow workers slice q inputs (answer_view a)) → IfOk x (λ a. TextShows workers text q inputs (answer_view a))
 steps_shown (Ok a) workers text steps slice q inputs is e h = inr (steps, is, subst (λ s. StepsShow workers s q inputs (answer_view a)) e h)
@@ -232,7 +235,7 @@ script_unread path known failed failed' workers q inputs (Unreadable name) h = h
 script_unread path known failed failed' workers q inputs NoMemory h = tt
 script_unread path known failed failed' workers q inputs _ h = absurd h
 
--- what a script's text shows
+-- the reply to a script's text
 pub text_played : (path : Text) (known : Option Text) (failed failed' : Failures) (workers : ℕ) (q : Meant) (inputs : List ℤ) (r : Reply)
     (text slice : Text) → IsHeld known text → slice ≡ text → TextShows workers slice q inputs r → PlayShows path known failed failed' workers q inputs r
 text_played path known failed failed' workers q inputs (Unreadable name) text slice held e h = elim h [ inl k ↦ absurd k | inr k ↦ absurd k.2 ]
@@ -274,7 +277,7 @@ texts_fail (Ok a) path known failed failed' workers q inputs text slice held e h
 texts_fail (Err f) path known failed failed' workers q inputs text slice held e h =
     text_played path known failed failed' workers q inputs (failure_view f) text slice held e h
 
--- the answer to a wish to play a script, by what was known before the two texts were read
+-- the answer to `play`, in terms of the surroundings before the two texts were read
 pub played_ok : {T : Type 0} (x : Result Answer T) (path : Text) (known known' : Option Text) (n m failed : Failures) (workers : ℕ) (q : Meant)
     (inputs : List ℤ) → known ≡ known' → n ≡ m
     → IfOk x (λ a. PlayShows path known n failed workers q inputs (answer_view a))

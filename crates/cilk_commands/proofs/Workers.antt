@@ -1,6 +1,7 @@
--- Words that order a script name one worker or more.
+-- A `play` order has one worker or more.
 --
--- - `by_count`, `by_words`, `by_command`: what a word of digits names, what the matches of `play` do, and a command's;
+-- - `by_count`, `by_words`, `by_command`: for a word of digits, the matches of `play`, and those of
+--   a command;
 -- - `has_workers`: the law.
 use Rattle.std.proofs.Common.{◌≡◌, ◌<◌, ◌≤◌, ℕ, Bool, true, false, List, [], ◌∷◌, Option, Some, None, refl, sym, ap, ◌∙◌, subst, arith, leb-true}
 use Rattle.std.specs.Prelude.{◌&&◌, if◌then◌else◌, codes, nat_le, option_map, option_and_then}
@@ -13,7 +14,7 @@ use Rattle.cilk_messages.specs.declared.words.TheConstants.{MAX_WORKERS}
 use Rattle.cilk_messages.specs.Words as words
 use Rattle.cilk_messages.specs.Words.{Certify, Check, Play, Requested, Run, certify_with, check_with, cilk_app, named, order_by, order_in, paths_in, play_with, run_with, script_with, worker_count, workers_in}
 
--- what is asked for has workers, where it is a script
+-- an order has workers, if it is `play`
 abbrev pub HasWorkers : Option Requested → Type 0
 HasWorkers None = Unit {0}
 HasWorkers (Some (Run program input)) = Unit {0}

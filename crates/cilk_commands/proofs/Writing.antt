@@ -1,7 +1,7 @@
 -- Writes one after the other.
 --
--- `appends_more`: of one text. `appends_both`: of two. `part_later`: a beginning of the second of two. `piece_out`: one piece more of
--- a text.
+-- `appends_more`: of one text. `appends_both`: of two. `part_later`: a beginning of the second of
+-- two. `piece_out`: one more piece of a text.
 use Rattle.std.proofs.Common.{◌≡◌, ℕ, ◌+◌, List, ◌++◌, length, take, drop, Option, Some, None, arith, subst, sym, ap, ◌∙◌, append_assoc, length-append}
 use Rattle.std.specs.Io.KnownBytes.{Appends}
 use Rattle.std.proofs.Math.Seq.{take-add, take-append-add}
@@ -36,6 +36,6 @@ part_later o m n front piece rest all h part e =
       subst (λ t. Appends o n t) (sym same) (appends_both o m n front (take k piece) h part.2),
     )
 
--- what is left behind a piece that went out
+-- the rest of the text after a written piece
 pub piece_out : (front piece rest rest' all : List ℕ) → all ≡ front ++ (piece ++ rest) → rest ≡ rest' → all ≡ (front ++ piece) ++ rest'
 piece_out front piece rest rest' all h e = h ∙ sym (append_assoc front piece rest) ∙ ap (λ t. (front ++ piece) ++ t) e

@@ -1,20 +1,20 @@
--- One command, one reply.
+-- A command has one reply.
 use Rattle.std.specs.Prelude.{◌≡◌, Option, Some, None, IsSome}
 use Rattle.cilk_commands.specs.Replies.{NoMemory, Reply, Text, Unreadable}
 use Rattle.cilk_commands.specs.Serving.{Answers, Surroundings}
 use Rattle.cilk_messages.specs.Words.{Requested, Certify, Check, File, Origin, Play, Run, Standard}
 
--- it is known what standard input gives, or the file
+-- the text of standard input, or of the file, is known
 abbrev pub IsKnown : Surroundings → Origin → Type 0
 IsKnown w Standard = IsSome w.input
 IsKnown w (File path) = IsSome (w.files path)
 
--- the input file is known, where there is one
+-- the input file is known, if there is one
 abbrev pub IsKnownInput : Surroundings → Option Text → Type 0
 IsKnownInput w None = Unit {0}
 IsKnownInput w (Some path) = IsKnown w (File path)
 
--- each text that is asked for is known
+-- each text that the order names is known
 abbrev pub AreKnown : Surroundings → Option Requested → Type 0
 AreKnown w None = Unit {0}
 AreKnown w (Some (Run program input)) = IsKnown w program × IsKnownInput w input
@@ -24,13 +24,13 @@ AreKnown w (Some (Check program certificate input)) =
 AreKnown w (Some (Play program script workers input)) =
     IsKnown w (File program) × IsKnownInput w input × IsKnown w (File script)
 
--- a reply that neither a want of memory nor a device made
+-- a reply that is neither out of memory nor the failure of a device
 abbrev pub IsOfTexts : Reply → Type 0
 IsOfTexts NoMemory = ⊥
 IsOfTexts (Unreadable name) = ⊥
 IsOfTexts _ = Unit {0}
 
--- where the texts are known, what is asked has one reply that follows from them
+-- if the texts are known, the order has one reply that follows from them
 abbrev pub HasOneReply : Surroundings → Option Requested → Type 0
 HasOneReply w asked =
     AreKnown w asked → (r r' : Reply) → Answers w asked r → Answers w asked r' → IsOfTexts r → IsOfTexts r' → r ≡ r'

@@ -1,4 +1,4 @@
--- What the tool shows: a text on standard output or on standard error, and a status.
+-- The replies of the tool: a text on standard output or on standard error, and a status.
 use Rattle.std.specs.Prelude.{◌≡◌, ℕ, ℤ, List, [], ◌∷◌, ◌++◌, codes, decimal, flat_map, zip}
 use Rattle.std.specs.Fmt.{signed_decimal}
 use Rattle.cilk_types.specs.declared.outcome.Outcome.{Outcome}
@@ -25,13 +25,13 @@ pub data Reply : Type 0 where
   -- a fault of the program text, or of the input text, at a byte counted from 0
   BadProgram : (number place : ℕ) → Reply
   BadInput : (number place : ℕ) → Reply
-  -- the run stops by a fault in place of an event counted from 1
+  -- a fault stops the run in place of an event, counted from 1
   Faulted : (number at : ℕ) → Reply
-  -- the run of a script stops by a fault in the strand of this name
+  -- a fault stops the run of a script in the strand of this name
   FaultedIn : (number : ℕ) (name : List ℕ) → Reply
-  -- a line of a script, counted from 1, has another form, or its choices go past the limit
+  -- a line of a script, from 1, has another form, or its choices go past the limit
   BadScript : (at : ℕ) → Reply
-  -- what the run left, with the names of its global reducers
+  -- the outcome of a run, with the names of its global reducers
   Ended : (names : List Text) (outcome : Outcome) → Reply
   -- a certificate
   Certified : (certificate : Contents) → Reply
@@ -41,7 +41,7 @@ pub data Reply : Type 0 where
   Refused : (number : ℕ) (places : List ℕ) → Reply
   -- the run of a script hasn't ended
   NotEnded : Reply
-  -- memory was refused
+  -- out of memory
   NoMemory : Reply
 
 abbrev pub status_of : Reply → ℕ
@@ -67,7 +67,7 @@ number_line v = line (signed_decimal v)
 abbrev pub element : ℤ → Text
 element v = 32 ∷ signed_decimal v
 
--- a number's own text, or those of a list's elements
+-- the text of a number, or of a list's elements
 abbrev pub elements : Final → Text
 elements (finals.Number v) = element v
 elements (finals.List vs) = flat_map element vs
@@ -88,12 +88,12 @@ outcome_text names o =
 abbrev pub place_line : Text → ℕ → ℕ → Text
 place_line what number place = line (what ++ codes " " ++ decimal number ++ codes " at " ++ decimal place)
 
--- ahead of a strand's number stands `:`, and `.` ahead of each ordinal of its frame's path
+-- `:` before a strand's number, and `.` before each ordinal of its frame's path
 abbrev pub mark : List ℕ → ℕ
 mark [] = 58
 mark (n ∷ behind) = 46
 
--- a strand's name behind the first frame's
+-- a strand's name after the root's `r`
 abbrev pub strand_text : List ℕ → Text
 strand_text [] = []
 strand_text (n ∷ behind) = (mark behind ∷ decimal n) ++ strand_text behind
@@ -114,7 +114,7 @@ place_text place = 32 ∷ decimal place
 abbrev pub refused_line : ℕ → List ℕ → Text
 refused_line number places = line (codes "refused " ++ decimal number ++ flat_map place_text places)
 
--- what goes to standard output
+-- the text for standard output
 abbrev pub out_text : Reply → Text
 out_text (Ended names o) = outcome_text names o
 out_text (Certified certificate) = text_of certificate
@@ -123,7 +123,7 @@ out_text (Refused number places) = refused_line number places
 out_text NotEnded = line (codes "not ended")
 out_text _ = []
 
--- what goes to standard error; clap's text for bad words isn't stated
+-- the text for standard error; clap's text for bad words isn't specified
 abbrev pub IsErrorText : Reply → Text → Type 0
 IsErrorText BadWords text = Unit {0}
 IsErrorText (Unreadable name) text = text ≡ line (codes "cannot read " ++ name)

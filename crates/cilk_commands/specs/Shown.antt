@@ -1,4 +1,4 @@
--- What is shown of a text with a fault, of a run, of a certificate, and of a script.
+-- The replies to texts with a fault, to runs, to certificates and to scripts.
 use Rattle.std.specs.Prelude.{◌≡◌, ◌≢◌, ◌⊎◌, ◌<◌, ℕ, ℤ, List, Option, Some, None}
 use Rattle.cilk_types.specs.Fault as run_faults
 use Rattle.cilk_types.specs.declared.event.Event.{Event}
@@ -49,31 +49,32 @@ play_fault_view play_faults.Memory = NoMemory
 play_fault_view (play_faults.Line at) = BadScript at
 play_fault_view (play_faults.Stop fault name) = FaultedIn (run_faults.number_of fault) (let n = name in n.items)
 
--- what is shown of a program text with a fault
+-- the reply to a program text with a fault
 abbrev pub ProgramFails : Text → Reply → Type 0
 ProgramFails text r = (f : ProgramFault) × (r ≡ program_fault_view f) × IsProgramFault f text
 
--- what is shown of an input text with a fault
+-- the reply to an input text with a fault
 abbrev pub InputFails : Text → Reply → Type 0
 InputFails text r = (f : TextFault) × (r ≡ input_fault_view f) × IsInputFault f text
 
--- what is shown of a run that stops
+-- the reply to a run that a fault stops
 abbrev pub RunFails : Meant → List ℤ → Reply → Type 0
 RunFails m inputs r = (f : RunFault) × (r ≡ run_fault_view f) × IsRunFault m.source inputs f
 
--- what is shown of a program's run: its outcome, or the fault that stops it, by number and position
+-- the reply to a program's run: its outcome, or the fault that stops it, by number and position
 abbrev pub RunShows : Meant → List ℤ → Reply → Type 0
 RunShows m inputs (Ended names o) = (names ≡ m.names) × ((events : List Event) × Ran m.source inputs o events)
 RunShows m inputs r = RunFails m inputs r
 
--- what is shown of a wish for a certificate: the right one of the program's run, in version 2, or the fault that stops the
--- run
+-- the reply to `certify`: the right certificate of the run, in version 2, or the fault that stops
+-- the run
 abbrev pub CertifyShows : Meant → List ℤ → Reply → Type 0
 CertifyShows m inputs (Certified c) = (c.version ≡ Two) × IsCertificate c × made.IsCertificateOf m.source inputs c
 CertifyShows m inputs r = RunFails m inputs r
 
--- what is shown of the certificate in the file of this path, of which so much is known, where these reads of files met a
--- failing device before and up to its end: that it is accepted, or refused, or that the file can't be read
+-- The reply to the certificate in the file of this path: it is accepted or refused, or the file
+-- can't be read. `known` are the contents of the file, if they are known; `failed` and `failed'`
+-- are the failed reads before and after.
 abbrev pub CheckShows : Text → Option Text → Failures → Failures → Meant → List ℤ → Reply → Type 0
 CheckShows path known failed failed' m inputs Accepted =
     (events : List Event) × (o : Outcome) × IsCertified m.source inputs known events o
@@ -84,15 +85,16 @@ CheckShows path known failed failed' m inputs (Unreadable name) = (name ≡ path
 CheckShows path known failed failed' m inputs NoMemory = Unit {0}
 CheckShows path known failed failed' m inputs _ = ⊥
 
--- what is shown of a text that is no script
+-- the reply to a text that is no script
 abbrev pub ScriptFails : Text → Reply → Type 0
 ScriptFails text (BadScript at) = IsNoScript text at
 ScriptFails text NoMemory = Unit {0}
 ScriptFails text _ = ⊥
 
--- What is shown of the steps of a script, with so many workers, of which there is one or more: the one end that they have. That is what the run
--- has left, that it hasn't ended, the line whose choices go past the limit, or the fault of the choice that stopped it, with its strand. Where one
--- serial run settles every parallel one, an outcome is that run's, and no fault comes.
+-- The reply to the steps of a script, with one or more workers: their one end. It is the run's
+-- outcome, a run that hasn't ended, the line whose choices go past the limit, or the fault of a
+-- choice with its strand. If one serial run settles every parallel one, an outcome is that run's,
+-- and there is no fault.
 abbrev pub StepsShow : ℕ → List Step → Meant → List ℤ → Reply → Type 0
 StepsShow workers steps m inputs (Ended names o) = (names ≡ m.names) × (0 < workers → IsLeft m.source inputs workers steps (Some o)) × (0 < workers → LeavesAsSettled m.source inputs (Some o))
 StepsShow workers steps m inputs NotEnded = 0 < workers → IsLeft m.source inputs workers steps None
@@ -103,12 +105,12 @@ StepsShow workers steps m inputs (FaultedIn number name) =
 StepsShow workers steps m inputs NoMemory = Unit {0}
 StepsShow workers steps m inputs _ = ⊥
 
--- what is shown of a script's text: the line that makes it none, or what is shown of its steps
+-- the reply to a script's text: its wrong line, or the reply to its steps
 abbrev pub TextShows : ℕ → Text → Meant → List ℤ → Reply → Type 0
 TextShows workers text m inputs r = ScriptFails text r ⊎ ((steps : List Step) × IsScript text steps × StepsShow workers steps m inputs r)
 
--- what is shown of the script in the file of this path, of which so much is known, where these reads of files met a failing
--- device before and up to its end: that the file can't be read, or what is shown of its text
+-- The reply to the script in the file of this path: the file can't be read, or the reply to its
+-- text. `known`, `failed` and `failed'` are as above.
 abbrev pub PlayShows : Text → Option Text → Failures → Failures → ℕ → Meant → List ℤ → Reply → Type 0
 PlayShows path known failed failed' workers m inputs (Unreadable name) = (name ≡ path) × HasFailed path failed failed'
 PlayShows path known failed failed' workers m inputs NoMemory = Unit {0}

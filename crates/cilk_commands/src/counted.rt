@@ -1,4 +1,4 @@
-//! A reader whose reads are counted.
+//! A reader that counts its reads.
 
 ghost use Rattle.std.specs.Prelude.{◌≡◌, ◌+◌, ◌<◌, ◌^◌};
 ghost use Rattle.std.specs.Io.{ReadsAtMost};
@@ -7,7 +7,7 @@ ghost use Rattle.std.specs.Io.KnownBytes.{ReadConsumes};
 use std::io;
 use std::io::Read;
 
-/// A reader, and how often it was read.
+/// A reader, and the number of its reads so far.
 #[derive(Drop)]
 pub struct CountedReader<'a, R> {
     reader: &'a mut R,
@@ -15,7 +15,7 @@ pub struct CountedReader<'a, R> {
 }
 
 impl<'a, R: Read> CountedReader<'a, R> {
-    /// A reader that wasn't read yet.
+    /// Returns the reader with a count of 0.
     pub fn new(reader: &'a mut R) -> Self
         ensures same_reference { result.reader.ghost_name ≡ reader.entry.ghost_name }
         ensures reader { result.reader.now ≡ reader.old }
@@ -24,7 +24,7 @@ impl<'a, R: Read> CountedReader<'a, R> {
         CountedReader { reader, reads: 0 }
     }
 
-    /// One read more.
+    /// Reads once, and counts it.
     pub fn read(&mut self, piece: &mut [u8]) -> io::Result<usize>
         requires { self.old.reads + 1 < 2 ^ 32 }
         ensures counted { self.new.reads ≡ self.old.reads + 1 }

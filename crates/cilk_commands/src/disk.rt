@@ -1,4 +1,4 @@
-//! The files of the system.
+//! The files of the operating system.
 
 ghost use Rattle.std.specs.Prelude.{◌≡◌, ◌+◌, ◌<◌, ◌≤◌, None, IfOk, length};
 
@@ -9,10 +9,10 @@ use std::io::{ErrorKind, Read, Seek, SeekFrom};
 use std::rt::Files as System;
 use std::{fs, io};
 
-/// The bytes of the largest file that is read.
+/// The size of the largest file that is read, in bytes.
 pub const MAX_FILE: u64 = 268_435_456;
 
-/// The files of the system, and how many reads failed so far.
+/// The files of the operating system, and the number of failed reads so far.
 #[derive(Drop)]
 pub struct Disk<'a, R> {
     system: &'a R,
@@ -20,7 +20,7 @@ pub struct Disk<'a, R> {
 }
 
 impl<'a, R: System> Disk<'a, R> {
-    /// The files of a system, none of which was read yet.
+    /// Returns the files of a system, with no failure yet.
     pub fn new(system: &'a R) -> Self
         ensures { result.failures ≡ 0 }
     {
@@ -31,7 +31,7 @@ impl<'a, R: System> Disk<'a, R> {
     }
 }
 
-/// Opens a file that isn't past the limit, with its size.
+// Opens a file within the limit, and returns its size too.
 fn opened<R: System>(system: &R, path: &str) -> io::Result<(R::File, u64)> {
     let file = fs::open(system, path)?;
     let size = file.metadata()?.len();
@@ -41,7 +41,7 @@ fn opened<R: System>(system: &R, path: &str) -> io::Result<(R::File, u64)> {
     Ok((file, size))
 }
 
-/// The bytes of a file, of which no more than one past the limit is read.
+// The bytes of a file. At most one byte past the limit is read.
 fn contents<R: System>(system: &R, alloc: Global, path: &str) -> io::Result<Vec<u8>> {
     let (file, size) = opened(system, path)?;
     let mut bytes = Vec::with_capacity(alloc, size as usize)?;
@@ -52,7 +52,7 @@ fn contents<R: System>(system: &R, alloc: Global, path: &str) -> io::Result<Vec<
     Ok(bytes)
 }
 
-/// What one read of a file gives from a byte on.
+// One read of a file from a byte on.
 fn part<R: System>(system: &R, path: &str, at: u64, into: &mut [u8]) -> io::Result<usize>
     ensures within { IfOk result (λ n. n ≤ length into.old) }
     ensures small { IfOk result (λ n. at + n ≤ MAX_FILE) }
@@ -70,7 +70,7 @@ fn part<R: System>(system: &R, path: &str, at: u64, into: &mut [u8]) -> io::Resu
 }
 
 impl<R: System> Disk<'_, R> {
-    /// Why a file wasn't read. A fault of the device is counted.
+    // The fault of an error. A failure of the device is counted.
     fn fault(&mut self, error: &io::Error) -> FileFault
         requires { self.old.failures < 18446744073709551615 }
         ensures { result ≡ FileFault.Device → self.old.failures < self.new.failures }

@@ -7,10 +7,10 @@ ghost use Rattle.cilk_commands.specs.declared.disk.TheConstants.{MAX_FILE};
 use std::alloc::{AllocError, AllocFailed, Global};
 use thiserror::Error;
 
-/// Why a file, or standard input, wasn't read.
+/// The reason why a file or standard input wasn't read.
 #[derive(Clone, Copy, PartialEq, Eq, Debug, Error)]
 pub enum FileFault {
-    /// The file isn't there, can't be read, or is too large.
+    /// The file doesn't exist, can't be read, or is too large.
     #[error("cannot read")]
     Device,
     #[error("no memory")]
@@ -39,14 +39,15 @@ impl<T: Drop> From<AllocFailed<T>> for FileFault {
 
 /// Files as the tool reads them: those of the system, or those of a test.
 pub trait Files {
-    /// How many reads met a failing device so far, and how many of them were of other files than that of a path: none where
-    /// these files don't tell paths apart. Whoever reads any files whatever knows by it which file failed.
+    /// The number of reads so far that met a failing device, and how many of these were of other
+    /// files than that of a path (0 if these files don't distinguish paths). It shows which file
+    /// failed.
     ghost failed: { Self → Failures };
 
-    /// What the file of a path holds, where that is known. It stays so over all reads.
+    /// The contents of the file of a path, if they are known. No read changes them.
     ghost holds: { Self → List ℕ → Option (List ℕ) };
 
-    /// The whole file of a path. A fault of the device is counted.
+    /// Reads the whole file of a path. A failure of the device is counted.
     fn read(&mut self, alloc: Global, path: &str) -> Result<Vec<u8>, FileFault>
         requires { (failed self.old).count < 18446744073709551615 }
         ensures held { IfOk result (λ bytes. IsHeld (holds self.old path.now) bytes.items) }
@@ -55,9 +56,11 @@ pub trait Files {
         ensures elsewhere { (failed self.new).elsewhere path.now ≡ (failed self.old).elsewhere path.now }
         ensures same { (p : List ℕ) → holds self.new p ≡ holds self.old p };
 
-    /// Bytes of the file of a path from a byte on, counted from 0, by one read: how many stand at the front of `into`
-    /// afterwards. None in an `into` that isn't empty means that the file ends there. No byte past the greatest size of
-    /// a file is given. A fault of the device is counted.
+    /// Reads the file of a path once, from a byte on, counted from 0.
+    ///
+    /// Returns how many bytes are now at the front of `into`. If `into` isn't empty, 0 means the
+    /// end of the file. No byte past [`MAX_FILE`](crate::disk::MAX_FILE) is read. A failure of the
+    /// device is counted.
     fn part(&mut self, path: &str, at: u64, into: &mut [u8]) -> Result<usize, FileFault>
         requires { (failed self.old).count < 18446744073709551615 }
         ensures within { IfOk result (λ n. n ≤ length into.old) }
@@ -69,7 +72,7 @@ pub trait Files {
         ensures elsewhere { (failed self.new).elsewhere path.now ≡ (failed self.old).elsewhere path.now }
         ensures same { (p : List ℕ) → holds self.new p ≡ holds self.old p };
 
-    /// How many reads met a failing device so far.
+    /// Returns the number of reads so far that met a failing device.
     fn failures(&self) -> u64
         ensures { result ≡ (failed self.now).count };
 }

@@ -1,5 +1,4 @@
-//! Texts are judged, and a program is run, its run certified, or a script played: what fails is told as what is shown
-//! in place of an answer.
+//! Judges texts, runs and certifies programs, and plays scripts. Each error is the failure to show.
 
 ghost use Rattle.std.specs.Prelude.{◌≡◌, IfOk, IfErr, map};
 ghost use Rattle.cilk_checker.specs.Judging.{IsProgramText, meant};
@@ -23,7 +22,7 @@ use cilk_types::input::Input;
 use cilk_types::sequence::Sequence;
 use std::alloc::{AllocError, Global};
 
-/// The program of a text.
+/// Returns the program of a text.
 pub fn program<'a>(alloc: Global, text: &[u8]) -> Result<Program, Failure<'a>>
     ensures ok { IfOk result (λ p. IsProgramText text.now (meant p)) }
     ensures err { IfErr result (λ e. ProgramFails text.now (failure_view e)) }
@@ -42,7 +41,7 @@ pub fn program<'a>(alloc: Global, text: &[u8]) -> Result<Program, Failure<'a>>
     }
 }
 
-/// The numbers of an input text.
+/// Returns the numbers of an input text.
 pub fn input<'a>(alloc: Global, text: &[u8]) -> Result<Input, Failure<'a>>
     ensures ok { IfOk result (λ i. IsInput text.now i) }
     ensures err { IfErr result (λ e. InputFails text.now (failure_view e)) }
@@ -57,7 +56,7 @@ pub fn input<'a>(alloc: Global, text: &[u8]) -> Result<Input, Failure<'a>>
     }
 }
 
-/// The names of reducers, in order.
+/// Returns the names of reducers, in order.
 pub fn names(
     alloc: Global,
     reducers: &[GlobalReducer],
@@ -72,7 +71,7 @@ pub fn names(
     Ok(Sequence::new(names))
 }
 
-/// What is shown of a run that stops.
+/// Returns the failure that shows a run's fault.
 pub fn stopped<'a>(fault: &RunFault) -> Failure<'a>
     ensures { failure_view result ≡ run_fault_view fault.now }
 {
@@ -85,7 +84,7 @@ pub fn stopped<'a>(fault: &RunFault) -> Failure<'a>
     }
 }
 
-/// What the run of a program on an input leaves.
+/// Runs a program serially, and returns its outcome.
 pub fn run<'a>(alloc: Global, program: &Program, input: &Input) -> Result<Answer, Failure<'a>>
     ensures ok { IfOk result (λ a. RunShows (meant program.now) input.now (answer_view a)) }
     ensures err { IfErr result (λ e. RunShows (meant program.now) input.now (failure_view e)) }
@@ -99,7 +98,7 @@ pub fn run<'a>(alloc: Global, program: &Program, input: &Input) -> Result<Answer
     }
 }
 
-/// The certificate of the run of a program on an input.
+/// Returns the certificate of a program's run.
 pub fn certificate<'a>(
     alloc: Global,
     program: &Program,
@@ -114,7 +113,7 @@ pub fn certificate<'a>(
     }
 }
 
-/// The steps of a script's text.
+// The steps of a script's text.
 fn steps<'a>(alloc: Global, text: &[u8]) -> Result<Vec<Step>, Failure<'a>>
     ensures ok { IfOk result (λ steps. IsScript text.now steps.items) }
     ensures err { IfErr result (λ e. ScriptFails text.now (failure_view e)) }
@@ -126,7 +125,7 @@ fn steps<'a>(alloc: Global, text: &[u8]) -> Result<Vec<Step>, Failure<'a>>
     }
 }
 
-/// What is shown of a script that doesn't come to its end.
+// The failure that shows a script's fault.
 fn unplayed<'a>(fault: PlayFault) -> Failure<'a>
     ensures { failure_view result ≡ play_fault_view fault }
 {
@@ -140,7 +139,7 @@ fn unplayed<'a>(fault: PlayFault) -> Failure<'a>
     }
 }
 
-/// What the steps of a script leave, with so many workers.
+// Plays the steps of a script with `workers` workers.
 fn steps_left<'a>(
     alloc: Global,
     program: &Program,
@@ -161,7 +160,7 @@ fn steps_left<'a>(
     }
 }
 
-/// What the script of a text leaves, with so many workers.
+/// Plays the script of a text with `workers` workers.
 pub fn script<'a>(
     alloc: Global,
     program: &Program,

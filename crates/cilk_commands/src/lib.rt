@@ -1,11 +1,31 @@
-//! The tool: words, files and streams on one side, texts and replies on the other.
+//! The commands of the tool: from the words of a command line to one reply and a status.
 //!
-//! [`serve`] reads the words of a command line, reads the texts that they name, judges them, and shows one reply: a
-//! text on standard output or a line on standard error, and a status. It runs over any [`files::Files`], any reader
-//! and any writers, so what it shows is a stated function of what these give (`specs/Serving.antt`).
+//! [`serve`] reads the words, reads the texts that they name, judges them, and shows one reply. The
+//! reply is a text on standard output or a line on standard error. Texts are read and judged in
+//! order, and the first one that fails is shown. The outside world is abstract: [`serve`]
+//! works with any [`files::Files`], any reader and any writers. So its contract can say what it
+//! shows, given what these hold (`specs/Serving.antt`), and tests run it without a file system.
+//!
+//! | Call | Result |
+//! |---|---|
+//! | [`serve`] | the status; [`serve_and_tell`] also returns whether standard error was written |
+//! | [`carry_out`] | the answer to one order, not yet shown |
+//! | [`given`] | a program and its input, read and judged |
+//! | [`disk::Disk`] | the files of the system |
+//! | [`reply::Answer`], [`reply::Failure`] | the replies, with their texts and statuses |
+//! | [`laws::reply_is_one`] | one reply to the same words and texts, devices and memory aside |
+//!
+//! | Status | Meaning |
+//! |---|---|
+//! | 0 | an answer |
+//! | 2 | wrong words, a text with a fault, a file that can't be read, or a failed write |
+//! | 3 | the program's run faults |
+//! | 4 | a certificate is refused |
+//! | 5 | out of memory |
 //!
 //! ```text
-//! serve(alloc, &["run", "examples/first.c"], &mut files, &mut input, &mut out, &mut err)    // the status
+//! let words = ["run", "examples/first.c"];
+//! let status = serve(alloc, &words, &mut files, &mut input, &mut out, &mut err);
 //! ```
 #![tactic(auto)]
 

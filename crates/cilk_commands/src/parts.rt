@@ -1,4 +1,4 @@
-//! A file, read in parts, as the source of a certificate's text.
+//! A file as the source of a certificate's text, read in parts.
 
 ghost use Rattle.std.specs.Prelude.{◌≡◌, ◌∷◌, drop, option_map};
 
@@ -14,7 +14,7 @@ pub struct PartSource<'f, 'p, F> {
 }
 
 impl<'f, 'p, F: Files> PartSource<'f, 'p, F> {
-    /// All of the file of a path.
+    /// Returns a source at the beginning of the file of a path.
     pub fn new(files: &'f mut F, path: &'p str) -> Self
         ensures same_reference { result.files.ghost_name ≡ files.entry.ghost_name }
         ensures files { result.files.now ≡ files.old }
@@ -32,7 +32,7 @@ impl<F: Files> Source for PartSource<'_, '_, F> {
 
     ghost lender = { λ s. s.files.ghost_name };
 
-    // Its path, and the failures of other files.
+    // The path, and the failures of other files.
     ghost kept = { λ s. (F.failed s.files.now).elsewhere s.path.now ∷ s.path.now };
 
     fn pull(&mut self, into: &mut [u8]) -> Result<usize, PullFault> {

@@ -73,7 +73,8 @@ fn push_reducers(
     Ok(())
 }
 
-/// An outcome's text: a line for each printed number, a line for each global reducer, and the result.
+/// Returns an outcome's text: a line for each printed number and each global reducer, and the
+/// result.
 pub fn outcome(
     alloc: Global,
     names: &[Sequence<u8>],
@@ -90,7 +91,7 @@ pub fn outcome(
     Ok(text)
 }
 
-/// The line `WHAT N at PLACE`.
+/// Returns the line `WHAT N at PLACE`.
 pub fn place(alloc: Global, what: &[u8], number: u16, place: usize) -> Result<Vec<u8>, AllocError>
     ensures { IfOk result (λ text. text.items ≡ place_line what.now number place) }
 {
@@ -104,7 +105,7 @@ pub fn place(alloc: Global, what: &[u8], number: u16, place: usize) -> Result<Ve
     Ok(text)
 }
 
-/// The line `script at LINE`.
+/// Returns the line `script at LINE`.
 pub fn script(alloc: Global, at: usize) -> Result<Vec<u8>, AllocError>
     ensures { IfOk result (λ text. text.items ≡ script_line at) }
 {
@@ -115,7 +116,7 @@ pub fn script(alloc: Global, at: usize) -> Result<Vec<u8>, AllocError>
     Ok(text)
 }
 
-// A strand's name behind the first frame's: the ordinals of its frame's path, and its number there.
+// A strand's name after the root's `r`: the ordinals of its frame's path, and its number there.
 fn push_strand(text: &mut Vec<u8>, name: &[u32]) -> Result<(), AllocError>
     ensures { OnOk result (text.new.items ≡ text.old.items ++ strand_text name.now) }
 {
@@ -129,7 +130,7 @@ fn push_strand(text: &mut Vec<u8>, name: &[u32]) -> Result<(), AllocError>
     Ok(())
 }
 
-/// The line `fault N in STRAND`.
+/// Returns the line `fault N in STRAND`.
 pub fn strand(alloc: Global, number: u16, name: &[u32]) -> Result<Vec<u8>, AllocError>
     ensures { IfOk result (λ text. text.items ≡ strand_line number name.now) }
 {
@@ -163,7 +164,7 @@ fn push_places(text: &mut Vec<u8>, places: Fields) -> Result<(), AllocError>
     }
 }
 
-/// The line `refused N`, with the places that the refusal names.
+/// Returns the line `refused N`, with the places that the refusal names.
 pub fn refused(alloc: Global, refusal: Refusal) -> Result<Vec<u8>, AllocError>
     ensures { IfOk result (λ text. text.items ≡ refused_line (number_of refusal) (places_of (fields_of refusal))) }
 {
@@ -175,7 +176,7 @@ pub fn refused(alloc: Global, refusal: Refusal) -> Result<Vec<u8>, AllocError>
     Ok(text)
 }
 
-/// The line `cannot read NAME`.
+/// Returns the line `cannot read NAME`.
 pub fn unreadable(alloc: Global, name: &str) -> Result<Vec<u8>, AllocError>
     ensures { IfOk result (λ text. text.items ≡ line (codes "cannot read " ++ name.now)) }
 {

@@ -1,4 +1,4 @@
-//! What the tool shows, and the status that it ends with.
+//! The replies of the tool, with their texts and statuses.
 
 ghost use Rattle.std.specs.Prelude.{◌≡◌, IfOk, IsFalse, IsTrue, OnErr};
 ghost use Rattle.std.specs.Io.KnownBytes.{Appends};
@@ -15,25 +15,25 @@ use cilk_types::sequence::Sequence;
 use std::alloc::{AllocError, Global};
 use std::io::Write;
 
-/// The status where the words, a file or a text is wrong, or a write fails.
+/// The status if the words, a file or a text is wrong, or a write fails.
 pub const WRONG: u8 = 2;
 
-/// The status where the program's run faults.
+/// The status if the program's run faults.
 pub const FAULTED: u8 = 3;
 
-/// The status where a certificate is refused.
+/// The status if a certificate is refused.
 pub const REFUSED: u8 = 4;
 
-/// The status for a want of memory.
+/// The status if memory runs out.
 pub const NO_MEMORY: u8 = 5;
 
-/// What is said of a want of memory.
+/// The line for out of memory.
 pub const NO_MEMORY_LINE: &str = "no memory\n";
 
-/// What a command shows on standard output.
+/// An answer, which is shown on standard output.
 #[derive(Drop, Debug)]
 pub enum Answer {
-    /// What a run left, with the names of its global reducers in order of declaration.
+    /// The outcome of a run, with the names of its global reducers in order of declaration.
     Outcome {
         names: Sequence<Sequence<u8>>,
         outcome: Outcome,
@@ -42,37 +42,37 @@ pub enum Answer {
     Certificate(Certificate),
     /// A certificate is accepted.
     Accepted,
-    /// Why a certificate is refused.
+    /// The refusal of a certificate.
     Refused(Refusal),
     /// The run of a script hasn't ended.
     NotEnded,
 }
 
-/// What is shown in place of an answer, on standard error.
+/// A failure, which is shown on standard error in place of an answer.
 #[derive(Drop)]
 pub enum Failure<'a> {
     /// The words are no command: clap's own text.
     Words(String),
     /// A file, or `-` for standard input, can't be read.
     Unreadable(&'a str),
-    /// What is wrong with the program text, at which byte, counted from 0.
+    /// A fault of the program text at a byte, counted from 0.
     Program { number: u16, place: usize },
-    /// What is wrong with the input text, at which byte, counted from 0.
+    /// A fault of the input text at a byte, counted from 0.
     Input { number: u16, place: usize },
-    /// The run stops by a fault, in place of the event at this position, counted from 1.
+    /// A fault stops the run in place of the event at this position, counted from 1.
     Run { number: u16, at: Pos },
-    /// The run of a script stops by a fault in the strand of this name.
+    /// A fault stops the run of a script in the strand of this name.
     Strand { number: u16, name: Vec<u32> },
-    /// The first line of a script, from 1, that has another form, or whose choices go past the limit.
+    /// The first wrong line of a script, from 1: of another form, or with choices past the limit.
     Script(usize),
-    /// Memory was refused.
+    /// Out of memory.
     Memory,
 }
 
 impl Answer {
     ghost use Rattle.cilk_commands.specs.Replies.{answer_view};
 
-    /// 4 where a certificate is refused, else 0.
+    /// Returns 4 for a refused certificate, else 0.
     pub fn status(&self) -> u8
         ensures { result ≡ status_of (answer_view self.now) }
     {
@@ -83,8 +83,10 @@ impl Answer {
         }
     }
 
-    /// Writes what goes to standard output, and says whether all of it went out: else a beginning of it, less than all, did.
-    /// Where memory was refused nothing did. A certificate takes no memory.
+    /// Writes the answer's text, and returns whether all of it was written.
+    ///
+    /// If not, a beginning of it was written. On an error nothing was. A certificate needs no
+    /// memory.
     pub fn send<O: Write>(&self, alloc: Global, out: &mut O) -> Result<bool, AllocError>
         ensures all { IfOk result (λ sent. IsTrue sent → Appends (O.contents out.old) (O.contents out.new) (out_text (answer_view self.now))) }
         ensures part { IfOk result (λ sent. IsFalse sent → AppendsPart (O.contents out.old) (O.contents out.new) (out_text (answer_view self.now))) }
@@ -106,7 +108,7 @@ impl Answer {
 impl Failure<'_> {
     ghost use Rattle.cilk_commands.specs.Replies.{failure_view};
 
-    /// 2 where words, files or texts are wrong, 3 where the run faults, 5 for a want of memory.
+    /// Returns 2 if words, files or texts are wrong, 3 if the run faults, and 5 for out of memory.
     pub fn status(&self) -> u8
         ensures { result ≡ status_of (failure_view self.now) }
     {
@@ -121,7 +123,7 @@ impl Failure<'_> {
         }
     }
 
-    /// What goes to standard error.
+    /// Returns the text for standard error.
     pub fn text(&self, alloc: Global) -> Result<Vec<u8>, AllocError>
         ensures { IfOk result (λ text. IsErrorText (failure_view self.now) text.items) }
     {

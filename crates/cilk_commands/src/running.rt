@@ -1,4 +1,4 @@
-//! The commands: texts are read and judged in order, and the first that fails is shown.
+//! The commands. Texts are read and judged in order, and the error is the first one that fails.
 
 ghost use Rattle.std.specs.Prelude.{◌≡◌, ◌≢◌, ◌<◌, ℕ, List, IfOk, IfErr, OnOk, option_map, codes};
 ghost use Rattle.cilk_checker.specs.Judging.{meant};
@@ -24,7 +24,7 @@ use cilk_types::input::Input;
 use std::alloc::Global;
 use std::io::Read;
 
-/// The text of a file.
+/// Reads the text of a file.
 pub fn read_file<'a, F: Files>(
     alloc: Global,
     path: &'a str,
@@ -43,7 +43,7 @@ pub fn read_file<'a, F: Files>(
     }
 }
 
-/// The text of standard input.
+// The text of standard input.
 fn read_standard<'a, R: Read>(alloc: Global, reader: &mut R) -> Result<Vec<u8>, Failure<'a>>
     ensures given { IfOk result (λ text. IsReceived (R.remaining reader.old) text.items) }
     ensures fault { IfErr result (λ e. StandardFails (failure_view e)) }
@@ -55,7 +55,7 @@ fn read_standard<'a, R: Read>(alloc: Global, reader: &mut R) -> Result<Vec<u8>, 
     }
 }
 
-/// A program text.
+// A program text.
 fn read_program<'a, F: Files, R: Read>(
     alloc: Global,
     origin: Origin<'a>,
@@ -74,7 +74,7 @@ fn read_program<'a, F: Files, R: Read>(
     }
 }
 
-/// An input text: that of a file, or the empty text.
+// An input text: that of a file, or the empty text.
 fn read_input<'a, F: Files>(
     alloc: Global,
     path: Option<&'a str>,
@@ -92,7 +92,7 @@ fn read_input<'a, F: Files>(
     }
 }
 
-/// A program and its input. Each text is read and judged before the next is read.
+/// Reads a program and its input. Each text is judged before the next one is read.
 pub fn given<'a, F: Files, R: Read>(
     alloc: Global,
     program: Origin<'a>,
@@ -135,7 +135,7 @@ pub fn run<'a, F: Files, R: Read>(
     judge::run(alloc, &program, &input)
 }
 
-/// The certificate of a program's run on an input.
+/// Makes the certificate of a program's run on an input.
 pub fn certify<'a, F: Files, R: Read>(
     alloc: Global,
     program: &'a str,
@@ -153,7 +153,7 @@ pub fn certify<'a, F: Files, R: Read>(
     judge::certificate(alloc, &program, &input)
 }
 
-/// What is shown of a refusal.
+/// Returns a refusal as an answer, or as a failure if it is out of memory.
 pub fn refused<'a>(refusal: Refusal) -> Result<Answer, Failure<'a>>
     ensures answer { IfOk result (λ a. (refusal ≢ refusals.Memory) × (answer_view a ≡ Refused (number_of refusal) (places_of (fields_of refusal)))) }
     ensures failure { IfErr result (λ e. failure_view e ≡ NoMemory) }
@@ -164,7 +164,7 @@ pub fn refused<'a>(refusal: Refusal) -> Result<Answer, Failure<'a>>
     }
 }
 
-/// What is shown of a program, an input and the file of a certificate.
+// The check of the certificate in a file.
 fn checked<'a, F: Files>(
     alloc: Global,
     program: Program,
@@ -186,7 +186,8 @@ fn checked<'a, F: Files>(
     }
 }
 
-/// Checks the certificate of a program's run on an input. The certificate is read after the two texts were judged.
+/// Checks the certificate of a program's run on an input. The certificate is read after the two
+/// texts are judged.
 pub fn check<'a, F: Files, R: Read>(
     alloc: Global,
     program: &'a str,
@@ -205,7 +206,7 @@ pub fn check<'a, F: Files, R: Read>(
     checked(alloc, program, input, certificate, files)
 }
 
-/// What is shown of a program, an input and the file of a script, with so many workers.
+// The run of the script in a file, with `workers` workers.
 fn played<'a, F: Files>(
     alloc: Global,
     program: &Program,
@@ -224,7 +225,8 @@ fn played<'a, F: Files>(
     judge::script(alloc, program, input, workers, text.as_slice())
 }
 
-/// Plays a script with so many workers over a program and an input. The script is read after the two texts were judged.
+/// Plays a script for a program and an input, with `workers` workers. The script is read after the
+/// two texts are judged.
 pub fn play<'a, F: Files, R: Read>(
     alloc: Global,
     program: &'a str,

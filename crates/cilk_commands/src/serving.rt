@@ -15,7 +15,7 @@ use cilk_messages::words::{Order, WordsFault, read};
 use std::alloc::Global;
 use std::io::{Read, Write};
 
-/// Does what an order asks for.
+/// Carries out an order.
 pub fn carry_out<'a, F: Files, R: Read>(
     alloc: Global,
     order: Order<'a>,
@@ -51,7 +51,7 @@ pub fn carry_out<'a, F: Files, R: Read>(
     }
 }
 
-/// Does what the words ask for.
+// Carries out the order of the words.
 fn answer<'a, F: Files, R: Read>(
     alloc: Global,
     words: &'a [&'a str],
@@ -71,16 +71,16 @@ fn answer<'a, F: Files, R: Read>(
     }
 }
 
-/// What a call ends with.
+/// The result of a call of the tool.
 #[derive(Clone, Copy, PartialEq, Eq, Debug)]
 pub struct Served {
     /// The status to end with.
     pub status: u8,
-    /// Whether all that goes to standard error went out: it didn't only where a write there failed.
+    /// False if a write to standard error failed.
     pub told: bool,
 }
 
-/// Writes to standard error, and says whether all of it went out.
+/// Writes to standard error, and returns whether all of the text was written.
 pub fn tell<E: Write>(err: &mut E, text: &[u8]) -> bool
     ensures { AppendsFront result (E.contents err.old) (E.contents err.new) text.now }
 {
@@ -122,7 +122,7 @@ pub fn show<O: Write, E: Write>(alloc: Global, answer: &Answer, out: &mut O, err
     }
 }
 
-/// Serves the words after the program's own name, and says whether all that goes to standard error went out, as [`serve`] doesn't.
+/// Does what [`serve`] does, and also returns whether standard error was written.
 pub fn serve_and_tell<F: Files, R: Read, O: Write, E: Write>(
     alloc: Global,
     words: &[&str],
@@ -142,9 +142,11 @@ pub fn serve_and_tell<F: Files, R: Read, O: Write, E: Write>(
     }
 }
 
-/// Serves the words after the program's own name: reads what they ask for, shows one reply, and answers the status to
-/// end with. A fault of `err` changes nothing else. (Standard input is read only where no words are given, in at most 262,145
-/// reads: `streams::receive` promises the number.)
+/// Serves the words after the program's own name: carries out their order, shows one reply, and
+/// returns the status.
+///
+/// A failure of `err` changes nothing else. Standard input is read only if there are no words, in
+/// at most 262,145 reads; see [`receive`](crate::streams::receive).
 pub fn serve<F: Files, R: Read, O: Write, E: Write>(
     alloc: Global,
     words: &[&str],

@@ -1,4 +1,4 @@
-//! Bytes in from a reader and out to a writer.
+//! Reads and writes of whole texts.
 
 ghost use Rattle.std.specs.Prelude.{◌≡◌, ℕ, ◌+◌, ◌^◌, ◌≤◌, ◌<◌, length, take, IsTrue, IsFalse, IfOk, IfSome};
 ghost use Rattle.std.specs.Io.KnownBytes.{Appends, Consumes};
@@ -13,15 +13,15 @@ use cilk_types::limits::MAX_TEXT;
 use std::alloc::Global;
 use std::io::{Read, Write};
 
-/// The bytes after which a program text on standard input is read no further: one more than it may have.
+/// The most bytes that are read from standard input: one more than a program text may have.
 pub const MAX_READ: usize = MAX_TEXT + 1;
 
 const PIECE: usize = 4096;
 
-/// The most bytes of a certificate's text that are put together before they are written.
+// The most bytes of a certificate's text in one write.
 const MAX_PIECE: usize = 16_384;
 
-/// Reads once, and puts what came at the end of the text. No byte came only at the input's end.
+// Reads once, and appends the bytes to the text. The count is 0 only at the end of the input.
 fn receive_some<R: Read>(
     input: &mut CountedReader<'_, R>,
     text: &mut Vec<u8>,
@@ -41,8 +41,9 @@ fn receive_some<R: Read>(
     Ok(count)
 }
 
-/// Reads a text of at most [`MAX_READ`] bytes, in at most 262,145 reads, also where one of them fails: that ends the reading. What
-/// stands after those bytes stays unread.
+/// Reads a text of at most [`MAX_READ`] bytes; later bytes remain unread.
+///
+/// It makes at most 262,145 reads. A failed read ends the reading.
 pub fn receive<R: Read>(
     alloc: Global,
     input: &mut CountedReader<'_, R>,
@@ -67,8 +68,10 @@ pub fn receive<R: Read>(
     Ok(text)
 }
 
-/// Writes a text, and says whether all of it went out. A write that fails, or takes nothing, ends the writing, and
-/// then a beginning of the text, less than all of it, went out.
+/// Writes a text, and returns whether all of it was written.
+///
+/// A write that fails or accepts no byte ends the writing. Then only a beginning of the text was
+/// written.
 pub fn send<W: Write>(out: &mut W, text: &[u8]) -> bool
     ensures all { IsTrue result → Appends (W.contents out.old) (W.contents out.new) text.now }
     ensures part { IsFalse result → AppendsPart (W.contents out.old) (W.contents out.new) text.now }
@@ -83,8 +86,11 @@ pub fn send<W: Write>(out: &mut W, text: &[u8]) -> bool
     true
 }
 
-/// Writes the text of a certificate in pieces, without taking memory, and says whether all of it went out. A write that
-/// fails, or takes nothing, ends the writing, and then a beginning of the text, less than all of it, went out.
+/// Writes the text of a certificate in pieces, without allocating, and returns whether all of it
+/// was written.
+///
+/// A write that fails or accepts no byte ends the writing. Then only a beginning of the text was
+/// written.
 pub fn send_certificate<W: Write>(out: &mut W, certificate: &Certificate) -> bool
     ensures all { IsTrue result → Appends (W.contents out.old) (W.contents out.new) (text_of certificate.now) }
     ensures part { IsFalse result → AppendsPart (W.contents out.old) (W.contents out.new) (text_of certificate.now) }

@@ -1,4 +1,5 @@
--- The serial run by names: each frame does what its behaviour asks for, and the ticks of all frames add up.
+-- The serial run by names: each frame makes the asks of its behaviour, and the ticks of all frames
+-- add up.
 use Rattle.std.proofs.Common.{◌≡◌, ◌⊎◌, inl, inr, ℕ, suc, ◌+◌, ◌-◌, ◌≤◌, ℤ, pos, Bool, true, false, true≢false, cond, List, [], ◌∷◌, ◌++◌, Some, None, refl, sym, ap, ap₂, ◌∙◌, subst, arith}
 use Rattle.cilk_types.specs.declared.limits.TheConstants.{MAX_TICKS}
 use Rattle.cilk_types.specs.declared.event.Event.{Event}
@@ -106,14 +107,14 @@ inner_goes (asks.Fault f) i = absurd i
 -- ---- runs
 
 module _ (p : Source) (inputs : List ℤ) where
-  -- where a frame by names stands at this history of answers
+  -- the point of a frame by names at this history of answers
   pub record At (w : FrameEnv) (fr : Frame) (past : List (Deed FrameEnv)) (history : List ℤ) (k : ℕ) : Type 0 where
     pub callee : w.callee ≡ fr.callee
     pub answers : answers_of past ≡ history
     pub going : has_ended past ≡ false
     pub ordinal : suc (started past) ≡ k
 
-  -- what is asked there, and the ticks taken by then
+  -- the ask there, and the ticks used by then
   record Asking (w : FrameEnv) (past : List (Deed FrameEnv)) (k : ℕ) (a : language.Ask) (start left : ℕ) : Type 0 where
     asks : next p inputs w past ≡ Some (named_ask p w k a)
     took : taken p inputs w past ≡ start - left
@@ -164,7 +165,7 @@ module _ (p : Source) (inputs : List ℤ) where
     ordinal = ap suc (started_invokes past kind v ∙ at.ordinal);
   }
 
-  -- what is shown of a run, with the ticks that it leaves
+  -- the claim for a run, with the ticks left after it
   abbrev pub Holds : Ending → FrameEnv → List (Deed FrameEnv) → Run FrameEnv → ℕ → Type 0
   Holds (Finished v left m) w past t start =
       Behaves FrameEnv (follows (next p inputs)) w past t × (weight (costs p inputs) TickTotal w past t + left + taken p inputs w (but_last past) ≡ start)

@@ -1,4 +1,4 @@
--- Where frames by names stand, from the first frame on to each child.
+-- Frames by names in the serial run, from the first frame to each child.
 use Rattle.std.proofs.Common.{◌≡◌, ℕ, suc, ◌+◌, ◌<◌, Bool, IsTrue, if◌then◌else◌, List, [], ◌∷◌, ◌++◌, length, Some, refl, sym, ap, ◌∙◌, subst, append_assoc, arith}
 use Rattle.cilk_program.specs.declared.ask.Callee.{Callee}
 use Rattle.cilk_program.specs.declared.ask.Callee.TheVariants as callees
@@ -23,7 +23,7 @@ module _ (p : Source) (r : Transcript) where
     runs = λ i more. let e : 0 + i ≡ i = omega arith in ap (λ i. child_runs r i more) e;
   }
 
-  -- a child's children are ahead of it
+  -- the children of a child are in the rest of the run
   pub child_ahead : (path : List ℕ) (j : ℕ) (how : _) (callee : Callee) (u rest : Transcript) (n : Counts) → Ahead p r path j (child how callee u rest) n → Ahead p r (path ++ j ∷ []) 0 u (entered p callee n)
   child_ahead path j how callee u rest n a = record {
     blocks = λ i more.

@@ -1,8 +1,10 @@
--- Where reducers are created one after another along a list of events, each is created once, before its sets and values.
+-- If reducers are created one after another in a list of events, each is created once, before its
+-- sets and values.
 --
 -- - `used_after`: a set or value comes after its reducer's creation, or that was before the list;
 -- - `not_again`, `not_twice`: a creation along the list is of a reducer that has not been created;
--- - `created_before_use`, `have_creations`: the premise of the law of the first view-read race, and that law for serial runs.
+-- - `created_before_use`, `have_creations`: the premise of the law of the first view-read race, and
+--   that law for serial runs.
 use Rattle.std.proofs.Common.{◌≡◌, ◌⊎◌, inl, inr, ℕ, zero, suc, ◌<◌, ◌-◌, ℤ, List, [], ◌∷◌, Some, None, slice_get, refl, sym, ap, ◌∙◌, subst, arith}
 use Rattle.cilk_types.specs.declared.event.Event.{Event}
 use Rattle.cilk_types.specs.declared.event.Event.TheVariants as events
@@ -15,7 +17,7 @@ use Rattle.cilk_peers.specs.ViewRaces.{UsesReducer, AreCreatedBeforeUse}
 use Rattle.cilk_peers.proofs.Creations.{first_is}
 use Rattle.cilk_determinacy.specs.Events.{RunsHaveCreations}
 
--- its creation stands ahead of position q, from 0
+-- its creation is before position q, from 0
 abbrev IsAhead : Instance → List Event → ℕ → Type 0
 IsAhead i es q = (k : ℕ) × (k < q) × (slice_get es k ≡ Some (events.Create i))
 

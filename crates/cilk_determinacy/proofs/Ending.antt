@@ -1,4 +1,4 @@
--- What a state of the free machine has made once the first frame has ended.
+-- The outcome of a state of the free machine once the first frame has ended.
 use Rattle.std.proofs.Common.{◌≡◌, ℕ, zero, suc, ◌+◌, ◌<◌, ℤ, IsTrue, List, [], ◌∷◌, length, slice_get, refl, ap, ap₂, ◌∙◌, subst, arith}
 use Rattle.cilk_types.specs.declared.event.Event.{Event}
 use Rattle.cilk_types.specs.declared.outcome.Final.{Final}
@@ -28,7 +28,7 @@ use Rattle.cilk_determinacy.proofs.Remembered.{view_at}
 use Rattle.cilk_determinacy.proofs.Sights.{global_tied, global_here}
 use Rattle.cilk_determinacy.proofs.Stores.{Same}
 
--- an event after which the frame goes on gives no result
+-- an event after which the frame continues gives no result
 inner_result : (p : Source) (w : FrameEnv) (a : language.Ask) (v : ℤ) (ds : List (Deed FrameEnv)) → IsInner a → result_in (Does (named_event p w a v) ∷ ds) ≡ result_in ds
 inner_result p w asks.Begin v ds i = refl
 inner_result p w (asks.Read x) v ds i = refl

@@ -1,6 +1,6 @@
 -- The frames of a serial run begin in the order of their numbers.
 --
--- - `count_more`: counting goes on;
+-- - `count_more`: counting continues;
 -- - `begins`: the frames that begin from some point of a frame on;
 -- - `frames_counted`: the law, for a whole run.
 use Rattle.std.proofs.Common.{◌≡◌, ℕ, zero, suc, ◌+◌, ℤ, List, [], ◌∷◌, ◌++◌, Option, Some, None, refl, sym, ap, ap₂, ◌∙◌, subst, arith}

@@ -1,9 +1,10 @@
--- Frames hold views of the language, whatever steps are made: what they ask for is words, and they resume after children alone.
+-- Frames hold views of the language, whatever steps are made: the values in their asks are words,
+-- and they resume only after children.
 --
--- - `Advance`, `advance`: the stage of a frame's order that follows an ask;
--- - `deed_word`, `write_word`, `ask_sound`: what a frame is answered, writes, and puts into views, is words;
--- - `Fit`, `step_fits`: what holds of each state, and its step;
--- - `Long`, `step_long`: how long views are beside, and its step;
+-- - `Advance`, `advance`: the stage of a frame's order after an ask;
+-- - `deed_word`, `write_word`, `ask_sound`: the answers, writes and updates of a frame are words;
+-- - `Fit`, `step_fits`: the invariant of each state, and its step;
+-- - `Long`, `step_long`: the bound on the sizes of views, and its step;
 -- - `views_held`, `lists_short`: the laws.
 use Rattle.std.proofs.Common.{◌≡◌, ◌≤◌, ◌+◌, ℕ, zero, suc, ℤ, pos, Bool, true, false, cond, List, [], ◌∷◌, ◌++◌, length, Option, Some, None, ◌⊎◌, inl, inr, ⊎_elim, refl, sym, ap, ◌∙◌, subst, arith, append_assoc, append-nil, le_refl}
 use Rattle.std.proofs.lemmas.Bool.{cond-true, cond-false, ltb-false}
@@ -123,8 +124,8 @@ opening_bits (asks.Result v) h = (refl, refl)
 opening_bits (asks.End v) h = (refl, refl)
 opening_bits (asks.Fault f) h = (refl, refl)
 
--- After this ask the frame stands at a stage, unless it has ended; a child has just ended there only if the ask starts one. And it resumes only where
--- a child has just ended.
+-- After this ask the frame is at a stage, unless it has ended. A child has just ended there only if
+-- the ask starts one. The frame resumes only where a child has just ended.
 record Advance (G : Stage → Type 0) (s : Stage) (k : language.Ask) : Type 0 where
   next_stage : IsEnd k ⊎ ((s' : Stage) × IsSound s' × G s' × (IsResuming s' → IsInvoke k) × (invoke_bit k ≡ resuming_bit s'))
   comes_after : resume_bit k ≡ resuming_bit s
@@ -425,7 +426,7 @@ events_within C totals w past a h =
     ltb-false (C.limit EventTotal) (totals EventTotal + 1) events.0
 
 module _ (p : Source) (inputs : List ℤ) where
-  -- a frame that hasn't ended comes in order for so many asks more
+  -- a frame that hasn't ended keeps its order for r more asks
   record Standing (f : Frame FrameEnv) (r : ℕ) : Type 0 where
     stage : Stage
     sound : IsSound stage
@@ -443,7 +444,7 @@ module _ (p : Source) (inputs : List ℤ) where
     answers : AreWords (answers_of f.deeds)
     standing : has_ended f.deeds ≡ false → Standing f r
 
-  -- a state for so many steps more
+  -- the invariant of a state, for r more steps
   record Fit (r : ℕ) (s : State FrameEnv View) : Type 0 where
     holds : HoldsViews s
     cells : (c : Cell) → IsWord (s.memory c)
@@ -474,7 +475,7 @@ module _ (p : Source) (inputs : List ℤ) where
     };
   }
 
-  -- what a frame asks for next, in the language's words
+  -- a frame's next ask, in the language's words
   abbrev asks_now : Frame FrameEnv → language.Ask
   asks_now f = (asked_after p inputs f.what f.deeds).ask
 
@@ -651,7 +652,7 @@ module _ (p : Source) (inputs : List ℤ) where
             subst (FrameFits r) (sym same) (begun_fits r (first_world p) tt)
         opened_frame (k ∷ n) f q = let none : None ≡ Some f = sym (o.0 (k ∷ n)) ∙ q in absurd (cc)
 
-    -- what holds of a state beside
+    -- the bounds of a state
     record Long (s : State FrameEnv View) : Type 0 where
       sized : Sized s.frames s.piece s.stolen (s.totals EventTotal)
       events : s.totals EventTotal ≤ 1000000

@@ -1,7 +1,8 @@
 -- Views have no more elements than events were made, whatever steps are made.
 --
--- - `Small`, `small_unit`, `small_single`, `small_join`, `block_small`: views with at most so many elements;
--- - `Sized`: what holds of each state; `ask_sized`, `steals_sized`: its steps;
+-- - `Small`, `small_unit`, `small_single`, `small_join`, `block_small`: views with at most n
+--   elements;
+-- - `Sized`: the invariant of each state; `ask_sized`, `steals_sized`: its steps;
 -- - `number_word`: the length of such a view is a word.
 use Rattle.std.proofs.Common.{◌≡◌, ◌≤◌, ◌<◌, ◌+◌, ℕ, suc, ℤ, Bool, true, false, true≢false, cond, List, [], ◌∷◌, ◌++◌, length, length-append, Option, Some, None, refl, sym, ap, ap₂, ◌∙◌, subst, arith}
 use Rattle.std.proofs.lemmas.Bool.{cond-true, cond-false}
@@ -26,7 +27,7 @@ use Rattle.cilk_determinacy.proofs.Owed.{waiting, lies, onward, onward_does, onw
 
 -- ---- views
 
--- a view of the language with at most so many elements
+-- a view of the language with at most n elements
 abbrev pub Small : MonoidKind → ℕ → View → Type 0
 Small k b v = (x : ViewValue) × IsViewOf k v x × (size_of x ≤ b)
 
@@ -104,7 +105,7 @@ module _ (k : MonoidKind) where
         by true = small_join a (t j) (a + t j) acc (kid j) s (g j (omega arith) (omega arith)) (omega arith)
         by false = s
 
--- the child's number tells it from another
+-- the child's number differs from another's
 snoc_name : (n m : Name) (q r : ℕ) → n ++ q ∷ [] ≡ m ++ r ∷ [] → (n ≡ m) × (q ≡ r)
 snoc_name [] [] q r h = let z : q ∷ [] ≡ r ∷ [] = h in (refl, cc)
 snoc_name [] (j ∷ []) q r h = let z : q ∷ [] ≡ j ∷ r ∷ [] = h in absurd (let f : ⊥ = cc in f)
@@ -130,7 +131,8 @@ there_not x y h g = let z : Some x ≡ None = sym h ∙ g in cc
 
 -- ---- states
 
--- What each piece has at most, and what the pieces that the frame and all below it still hand on have together at most.
+-- A bound for each piece, and one for all pieces together that the frame and those below it still
+-- hand on.
 pub record Sized (frames : Frames FrameEnv) (piece : Name → Instance → View) (stolen : Name → Bool) (events : ℕ) : Type 0 where
   pub own : Name → ℕ
   pub total : Name → ℕ
@@ -338,7 +340,7 @@ module _ (frames : Frames FrameEnv) (piece : Name → Instance → View) (stolen
           (s.late m k (let y = more.0 in omega (arith, y, low)));
     }
 
-  -- a thief takes the continuation beside the last child
+  -- a thief steals the continuation beside the last child
   module _ (before : List (Deed FrameEnv)) (what : FrameEnv) (spawned : f.deeds ≡ before ++ Invokes Spawn what ∷ []) (not_yet : stolen (n ++ suc (started before) ∷ []) ≡ false) where
     abbrev taken_name : Name
     taken_name = n ++ suc (started before) ∷ []

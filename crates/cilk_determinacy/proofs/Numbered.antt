@@ -1,4 +1,5 @@
--- The events of a serial run are those of the run by names, by the numbers of its frames, cells and reducers.
+-- The events of a serial run are those of the run by names, by the numbers of its frames, cells and
+-- reducers.
 --
 -- - `act_numbered`: one event of a frame;
 -- - `start_numbered`, `run_numbered`: a run from some point on;
@@ -73,7 +74,7 @@ module _ (p : Source) (whole : serial.Transcript) where
     act_numbered (asks.End v) there inner = absurd inner
     act_numbered (asks.Fault f) there inner = absurd inner
 
-  -- what is shown of a frame's run from some point on
+  -- the claim for the rest of a frame's run
   record AreEvents (name : List ℕ) (t : Run FrameEnv) (es : List numbers.Event) : Type 0 where
     number : es ≡ numbered_events p whole name t
     here : AreHere p whole t

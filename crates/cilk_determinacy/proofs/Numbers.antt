@@ -1,7 +1,8 @@
 -- The numbers of names in a run. Names that the run has are numbered one to one.
 --
 -- - `frame_is`, `cell_is`, `number_is`: numbers by the frame's block;
--- - `one_frame`, `cells_one`, `instances_one`, `declared_one`: names with one number are one, `same_cells` and `same_instances` by comparison;
+-- - `one_frame`, `cells_one`, `instances_one`, `declared_one`: names with one number are equal,
+--   `same_cells` and `same_instances` by comparison;
 -- - `one_to_one`: the law.
 use Rattle.std.proofs.Common.{◌≡◌, ◌⊎◌, inl, inr, ℕ, suc, ◌+◌, ◌≤◌, nat_eq, Bool, true, false, ◌&&◌, IsTrue, List, [], ◌∷◌, ◌++◌, slice_get, Option, Some, None, refl, sym, ap, ap₂, ◌∙◌, subst, arith, eq-eqb, eqb-true}
 use Rattle.std.proofs.lemmas.Bool.{and_parts, and_from, false≢true, cases_Bool}
@@ -54,7 +55,7 @@ module _ (p : Source) (r : Transcript) where
   some_block : (b c : Block) → Some b ≡ Some c → b ≡ c
   some_block b c e = ap (λ o. block_is o b) e
 
-  -- two frames that are there are one, or lie apart
+  -- two frames of the run are equal, or their blocks are apart
   one_frame : (name name' : Name) (here : IsHere p r name) (here' : IsHere p r name') → ((name ≡ name') × (here.block ≡ here'.block)) ⊎ Apart here.block here'.block
   one_frame name name' here here' = by (one_name p r here.path here'.path here.block here'.block here.found here'.found)
     where
@@ -145,7 +146,7 @@ module _ (p : Source) (r : Transcript) where
           subst (λ j. same_instance i j ≡ true) (instances_one i j h g (same_from_true (instance_number p r i) (instance_number p r j) both.1) (same_kind-eq (kind_of i) (kind_of j) both.0)) (same_instance-refl i) ∙ sym holds
       by (inr fails) = differ fails ∙ sym fails
 
-  -- a number and its declaration tell the monoid
+  -- a number and its declaration determine the monoid
   pub declared_one : (name name' : Name) (n n' : ℕ) (k k' : MonoidKind) → HasReducer p r name n k → HasReducer p r name' n' k' → instance_number p r (Reducer name n k) ≡ instance_number p r (Reducer name' n' k') → Reducer name n k ≡ Reducer name' n' k'
   declared_one name name' n n' k k' h g e = by (one_name p r h.here.path g.here.path h.here.block g.here.block h.here.found g.here.found)
     where

@@ -1,8 +1,10 @@
--- What a frame owes: bounds of the pieces that lie at its open block, and of the piece that goes on.
+-- The bounds that a frame passes on: those of the pieces at its open block, and that of the piece
+-- it continues with.
 --
 -- - `lies`, `onward`: the two bounds, from bounds of the children's pieces and the frame's own;
 -- - `grown_most`: how far they grow where one child's bound grows by one;
--- - `same_lies`, `lies_does`, `lies_sync`, `lies_invokes`, `onward_does`, `onward_invokes`, `onward_settled`, `onward_waiting`: with one more deed.
+-- - `same_lies`, `lies_does`, `lies_sync`, `lies_invokes`, `onward_does`, `onward_invokes`,
+--   `onward_settled`, `onward_waiting`: with one more deed;
 -- - `under`: where an event of one frame is below another.
 use Rattle.std.proofs.Common.{◌≡◌, ◌≤◌, ◌<◌, ◌+◌, ℕ, suc, Bool, true, false, true≢false, cond, List, [], ◌∷◌, ◌++◌, nat_eq, refl, sym, ap, ◌∙◌, subst, arith, eq-eqb, eqb-true}
 use Rattle.cilk_types.specs.declared.invocation.Invocation.{Invocation}
@@ -39,7 +41,8 @@ module _ (loose : ℕ → Bool) (t : ℕ → ℕ) where
   lies acc k (Invokes Call w ∷ ds) = lies acc (suc k) ds
   lies acc k (Invokes Spawn w ∷ ds) = lies (cond (loose k) (acc + t k) acc) (suc k) ds
 
-  -- a bound of the piece that the frame goes on with: its own, or that of a child that it waits for
+  -- a bound of the piece that the frame continues with: its own, or that of a child that it waits
+  -- for
   abbrev pub onward : ℕ → ℕ → ℕ → List (Deed FrameEnv) → ℕ
   onward c now k [] = now
   onward c now k (Does e ∷ ds) = onward c c k ds

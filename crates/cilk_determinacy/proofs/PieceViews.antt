@@ -1,4 +1,4 @@
--- What the pieces of a state cover, and what their views are.
+-- The stretches that a state's pieces cover, and their views.
 --
 -- - `pieces_cover`: the law.
 use Rattle.std.proofs.Common.{ℤ, List}

@@ -1,8 +1,8 @@
 -- A read has the value that its source wrote.
 --
--- - `right_at`: a read of a right list has what its cell holds after the events ahead of it;
+-- - `right_at`: a read of a right list gives its cell's value after the events before it;
 -- - `after_next`: the cells after one event more;
--- - `written_last`: what a cell holds after the first events is what its last write among them wrote;
+-- - `written_last`: a cell's value after the first events is that of its last write among them;
 -- - `reads_have_sources`: both for serial runs.
 use Rattle.std.proofs.Common.{◌≡◌, ◌⊎◌, inl, inr, ℕ, zero, suc, ◌-◌, ℤ, nat_eq, true, false, if◌then◌else◌, List, [], ◌∷◌, take, Option, Some, None, slice_get, refl, sym, ap, ◌∙◌, subst, arith, eqb-true}
 use Rattle.std.proofs.lemmas.Bool.{cases_Bool, false≢true}

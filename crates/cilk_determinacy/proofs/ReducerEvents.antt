@@ -1,7 +1,8 @@
 -- The reducers' views in a serial run are those of its events.
 --
 -- - `only_both`, `view_pushed`: the view over a range with one event more;
--- - `Holds`: the store has the views over the events so far; `put_holds`, `retire_holds`, `act_holds`: so it is after an event;
+-- - `Holds`: the store has the views over the events so far; `put_holds`, `retire_holds`,
+--   `act_holds`: the same after an event;
 -- - `run_viewed`: along a run, each value that is read is the view's number;
 -- - `values_viewed`, `finals_viewed`: the laws.
 use Rattle.std.proofs.Common.{◌≡◌, ℕ, zero, suc, ◌-◌, ℤ, Bool, true, false, cond, ◌&&◌, if◌then◌else◌, IsTrue, List, [], ◌∷◌, ◌++◌, take, slice_get, Option, Some, None, refl, sym, ap, ap₂, ◌∙◌, subst, append_assoc, append-nil}
@@ -197,7 +198,7 @@ module _ (p : Source) (whole : serial.Transcript) where
   events_both (Does e ∷ ds) es = ap (λ l. of_event p whole e ++ l) (events_both ds es) ∙ sym (append_assoc (of_event p whole e) (reducer_events p whole ds) (reducer_events p whole es))
   events_both (Invokes k w ∷ ds) es = events_both ds es
 
-  -- each value that is read, where these events stand ahead of the list
+  -- each value that is read, where these events come before the list
   abbrev AreOver : List OfKind → List (Deed FrameEnv) → List numbers.Event → Type 0
   AreOver ts [] [] = Unit {0}
   AreOver ts [] (e ∷ es) = ⊥

@@ -1,4 +1,5 @@
--- The serial run by names: reads and values are right, its memory and views end as the serial run's store, and its events by numbers are the list.
+-- The serial run by names: reads and values are right, its memory and views end as the serial run's
+-- store, and its events by numbers are the list.
 use Rattle.std.proofs.Common.{◌≡◌, ℕ, suc, ◌+◌, ℤ, IsTrue, List, [], ◌∷◌, ◌++◌, Some, option_map, unwrap_or, refl, sym, ap, ◌∙◌, subst, arith}
 use Rattle.cilk_types.specs.declared.event.Instance as numbered
 use Rattle.cilk_types.specs.declared.event.Event as numbers
@@ -202,7 +203,7 @@ module _ (p : Source) (whole : serial.Transcript) where
           has = tt;
         }
 
-  -- what is shown of a run
+  -- the claim for a run
   pub record Remembers (t : Run FrameEnv) (es : List numbers.Event) (memory : Cell → ℤ) (views : Instance → View) (store : Store numbered.Instance) : Type 0 where
     pub serial : IsSerial t memory
     pub serial_views : IsSerialViews monoid_of t views

@@ -58,7 +58,7 @@ due_both w i (asks.Result y ∷ a) b h = due_both w i a b h
 due_both w i (asks.End y ∷ a) b h = due_both w i a b h
 due_both w i (asks.Fault f ∷ a) b h = due_both w i a b h
 
--- what is retired has been created, or is due
+-- an instance that is retired has been created, or is due
 due_retired : (p : Source) (w : FrameEnv) (i : Instance) (own : ℕ → Reducers) (place : ℕ → ReducerPlace) → ((n : ℕ) (k : MonoidKind) → reducer_seen w (record { place = place n; kind = k }) ≡ own n k) → (n : ℕ) (ks : List MonoidKind)
     → has_instance (retired_from own n ks) i ≡ true → DueCreates w i (creations place n ks)
 due_retired p w i own place same n [] h = absurd (true≢false (sym h))
@@ -122,7 +122,7 @@ module _ (p : Source) (i : Instance) where
   opens w (asks.End y) due v G mine o sound g = absurd o
   opens w (asks.Fault f) due v G mine o sound g = absurd o
 
-  -- an event after which the frame goes on, or its end
+  -- an event after which the frame continues, or its end
   one_step : (w : FrameEnv) (G : Stage → Type 0) (mine : Type 0) (v : ℤ) (s : Stage) (k : Ask) → IsSound s → View G s k → (¬ ((how : Invocation) × (c : Callee) × (k ≡ asks.Invoke how c))) → OneStep w s k v G mine ⊎ ((due_of s ≡ []) × ((y : ℤ) × (k ≡ asks.End y)))
   one_step w G mine v (Fresh due) k sound (BeginsNow g) own = inl (record { to = opened due; sound = opened_sound due sound; goes = g; quiet = λ x. x; covers = λ c. still w mine _ due (due_of (opened due)) (sym (due_opened due)) c })
   one_step w G mine v (Due k due) k' sound (Opens g) own = inl (opens w k due v G mine sound.0 sound.1 g)
@@ -152,7 +152,7 @@ module _ (p : Source) (i : Instance) where
       absurd_of : ⊥ → mine
       absurd_of d = absurd d
 
-  -- at a child nothing is due, and the frame goes on to resume
+  -- at a child nothing is due, and the frame continues with a resume
   child_step : (G : Stage → Type 0) (how : Invocation) (callee : Callee) (s : Stage) → IsSound s → View G s (asks.Invoke how callee) → (due_of s ≡ []) × ((b : Bool) × G (Resuming b))
   child_step G how callee (Fresh due) sound h = elim h [ ]
   child_step G how callee (Due k due) sound (Opens g) = absurd sound.0

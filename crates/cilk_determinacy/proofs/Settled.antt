@@ -1,4 +1,5 @@
--- What a serial run settles, from what its run and its judging promise.
+-- A serial run without a race settles all runs: from the contracts of the run and of the race
+-- tests.
 use Rattle.std.proofs.Common.{◌≡◌, ℕ, ℤ, true, false, List, IsTrue, Option, Some, None, MatchOption, inr}
 use Rattle.std.specs.Option.{is_some}
 use Rattle.cilk_types.specs.declared.event.Event.{Event}

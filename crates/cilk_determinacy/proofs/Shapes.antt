@@ -1,4 +1,5 @@
--- The shape of the serial run by names: frames begin, resume and end where they must, and wait for what they spawned.
+-- The shape of the serial run by names: frames have their begin, resumes and end in their places,
+-- and await the children that they spawned.
 use Rattle.std.proofs.Common.{◌≡◌, ℕ, suc, ◌<◌, ℤ, Bool, true, false, List, [], ◌∷◌, ◌++◌, length, Option, Some, None, refl, sym, ap, ◌∙◌, subst, arith}
 use Rattle.cilk_types.specs.declared.event.Event as numbers
 use Rattle.cilk_program.specs.declared.ask.Ask.{Ask}

@@ -1,4 +1,5 @@
--- What frames see by names: it is there, and its numbers are what the serial run's frames see.
+-- The cells and reducers that frames see by names exist, and their numbers are those that the
+-- serial run's frames see.
 use Rattle.std.proofs.Common.{◌≡◌, ℕ, zero, suc, ◌+◌, IsTrue, List, [], ◌∷◌, ◌++◌, length, drop, slice_get, unwrap_or, Option, Some, None, option_map, refl, ap, ◌∙◌, subst, arith}
 use Rattle.std.proofs.lemmas.Bool.{false≢true}
 use Rattle.cilk_types.specs.declared.event.Instance as numbered
@@ -148,7 +149,7 @@ module _ (p : Source) (r : Transcript) where
     given = t;
   }
 
-  -- ---- what is there
+  -- ---- names that exist
 
   -- of the reducers at a place, the one of this monoid is there
   abbrev pub HasOne : Reducers → MonoidKind → Type 0
@@ -181,7 +182,7 @@ module _ (p : Source) (r : Transcript) where
     pub result_tied : option_map (cell_number p r) w.result ≡ fr.result
     pub sees : FrameSees p Global global_named (HasCell p r) HasOne w.callee w.sight w.result
 
-  -- what is ahead of a frame at a path, where so many of its children have begun
+  -- the rest of the run of the frame at a path, where j of its children have begun
   pub record Ahead (path : List ℕ) (j : ℕ) (rest : Transcript) (n : Counts) : Type 0 where
     pub blocks : (i : ℕ) (more : List ℕ) → frame_at p r (path ++ (j + i) ∷ more) ≡ child_at p rest n i more
     pub runs : (i : ℕ) (more : List ℕ) → frame_runs r (path ++ (j + i) ∷ more) ≡ child_runs rest i more

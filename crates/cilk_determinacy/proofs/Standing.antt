@@ -1,4 +1,4 @@
--- A point of the serial run, by names: a frame that stands there, and what is ahead of it.
+-- A point of the serial run, by names: a frame and the rest of its run.
 use Rattle.std.proofs.Common.{◌≡◌, ℕ, suc, ℤ, IsTrue, List, sym, ap, ◌∙◌, subst}
 use Rattle.cilk_program.specs.declared.ask.Ask.{Ask}
 use Rattle.cilk_program.specs.declared.ask.Ask.TheVariants as asks
@@ -22,7 +22,7 @@ module _ (p : Source) (inputs : List ℤ) (well : IsTrue (is_well_named p)) (r :
     pub stands : Stands p r w fr
     pub ahead : let here = stands.here in Ahead p r here.path j rest n
 
-  -- what a frame asks for is there
+  -- the names in a frame's next ask exist
   pub asked_there : (w : FrameEnv) (fr : Frame) (history : List ℤ) (start left : ℕ) (a : Ask) → Stands p r w fr → frame_asks p inputs fr.callee history start ≡ asks_for a left → AskIsThere p w.callee a
   asked_there w fr history start left a h q =
       subst (λ (q : OpenAsk). AskIsThere p w.callee q.ask) (ap (λ callee. frame_asks p inputs callee history start) h.callee ∙ q) (asks_there p well w.callee h.sees.fit inputs history start)

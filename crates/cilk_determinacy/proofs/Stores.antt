@@ -68,7 +68,7 @@ module _ (p : Source) (r : Transcript) where
       reducer_views Output has = absurd has
       reducer_views (Reducer name n k) has = h.reducers (Reducer name n k) has
 
-  -- the same views, told otherwise
+  -- the same for equal views
   pub same_views : (memory : Cell → ℤ) (views views' : Instance → View) (store : Store numbered.Instance) → ((i : Instance) → views i ≡ views' i) → Same memory views store → Same memory views' store
   same_views memory views views' store e h = record {
     cells = h.cells;

@@ -1,6 +1,7 @@
 -- Strands by names.
 --
--- - `written_split`, `strand_left`, `strand_right`, `strand_grows`: lists of events that follow one another;
+-- - `written_split`, `strand_left`, `strand_right`, `strand_grows`: lists of events that follow one
+--   another;
 -- - `begin_first`, `resume_first`: a frame's begin and a resume begin strands;
 -- - `count_from_point`, `many_events`, `named_at`: from any point of a frame on;
 -- - `Within`, `all_within`, `all_apart`: names are different;
@@ -104,7 +105,7 @@ module _ (cell : Cell → ℕ) (instance : Instance → numbered.Instance) where
   resume_first (act (Passes Resumes) t) es m framed w h = some_begun (Passes Resumes) t es m refl w h
   resume_first _ es m framed w h = absurd framed
 
-  -- a frame goes on: what is due then
+  -- a frame continues: the event due then
   after_act : (d : Due) (e : Event) (t : Run FrameEnv) → IsFramed d (act e t) → ((d' : Due) × IsFramed d' t) ⊎ (t ≡ stop)
   after_act begin_due (Passes Begins) t h = inl (neither_due, h)
   after_act resume_due (Passes Resumes) t h = inl (neither_due, h)

@@ -1,7 +1,9 @@
 -- The events of a serial run that ends spell one shape, in which each frame syncs after it spawned.
 --
--- - `spelled`: from any point of a frame on, the events of the run spell the shape of the run by names;
--- - `has_sync`, `synced_shape`: where each child of a run by names is waited for, so it is in its shape;
+-- - `spelled`: from any point of a frame, the events of the run spell the shape of the run by
+--   names;
+-- - `has_sync`, `synced_shape`: where each child of a run by names is awaited, so it is in its
+--   shape;
 -- - `spell_one_shape`: both for a whole run, with the uniqueness of the shape.
 use Rattle.std.proofs.Common.{◌≡◌, ℕ, suc, ℤ, List, [], ◌∷◌, ◌++◌, map, Option, Some, None, refl, sym, ap, ◌∙◌, subst}
 use Rattle.std.proofs.lemmas.List.{map-append}
@@ -42,7 +44,7 @@ how_starts ways.Call n = refl
 how_starts ways.Spawn n = refl
 
 module _ (p : Source) where
-  -- what is to be shown of a frame's run from some point on
+  -- the claim for the rest of a frame's run
   abbrev Spelled : Due → FrameEnv → ℕ → Frame → Counts → serial.Transcript → Type 0
   Spelled d w k fr n r = map mark_of (events_of p fr n r) ≡ ahead d ++ marks (shape_of (named_from p w k r))
 

@@ -1,4 +1,4 @@
--- What the serial run by names weighs.
+-- The totals of the serial run by names.
 use Rattle.std.proofs.Common.{◌≡◌, ℕ, suc, ◌+◌, ℤ, List, [], ◌∷◌, ◌++◌, length, refl, ap, arith, length-append}
 use Rattle.cilk_types.specs.declared.event.Event as numbers
 use Rattle.cilk_program.specs.Syntax.{Source}

@@ -1,4 +1,5 @@
--- Where a program, its inputs and what a frame was answered are words, what the frame asks with is words.
+-- If a program, its inputs and a frame's answers are words, the values in the frame's asks are
+-- words.
 use Rattle.std.proofs.Common.{◌≡◌, ℕ, zero, suc, ◌<◌, ◌^◌, ℤ, pos, negsuc, ◌+ℤ◌, ◌-ℤ◌, ◌<ℤ◌, neg_ℤ, int_lt, int_eq, int_rem, Bool, true, false, if◌then◌else◌, List, [], ◌∷◌, slice_get, Option, Some, None, is_some, unwrap_or, refl, arith, lit<}
 use Rattle.std.specs.Int.{w64}
 use Rattle.std.proofs.lemmas.Int.{ints, SFits-int_wrap}

@@ -1,4 +1,4 @@
--- What the events of a serial run say of one another.
+-- Properties of the events of a serial run.
 use Rattle.std.specs.Prelude.{◌≡◌, ◌≤◌, ℕ, zero, suc, ℤ, IsTrue, List, [], ◌∷◌, ◌++◌, Some}
 use Rattle.cilk_types.specs.declared.event.Event.{Event}
 use Rattle.cilk_types.specs.declared.event.Event.TheVariants.{Begin, Read, Write}
@@ -14,12 +14,13 @@ use Rattle.cilk_tree.specs.Sources.{source_at}
 use Rattle.cilk_tree.specs.Tree.{Tree}
 use Rattle.cilk_peers.specs.ViewRaces.{AreCreatedBeforeUse, IsFirstViewRace, IsCreationAndUse}
 
--- each reducer is created before its other events, so the first view-read race is a creation and a set or value
+-- each reducer is created before its other events, so the first view-read race is of a creation and
+-- a set or value
 pub record HasCreations (es : List Event) : Type 0 where
   pub created : AreCreatedBeforeUse es
   pub first : (t : Tree) (p q : ℕ) → IsFirstViewRace t es p q → IsCreationAndUse t es p q
 
--- the value of a read at position q is what its source wrote, or the cell's opening value where it has none
+-- the read at position q gives the value of its source, or the cell's opening value if it has none
 pub record HasReadSource (opening : ℕ → ℤ) (es : List Event) (q c : ℕ) (v : ℤ) : Type 0 where
   pub opened : source_at es c q ≡ 0 → v ≡ opening c
   pub written : (s : ℕ) → source_at es c q ≡ suc s → event_at es (suc s) ≡ Some (Write c v)
@@ -33,12 +34,12 @@ abbrev pub frames_begun : List Event → List ℕ
 frames_begun [] = []
 frames_begun (e ∷ es) = frame_begun e ++ frames_begun es
 
--- so many numbers, from one on
+-- k numbers, counted from n
 abbrev pub count_from : ℕ → ℕ → List ℕ
 count_from n zero = []
 count_from n (suc k) = n ∷ count_from (suc n) k
 
--- frames are numbered from 1 as they begin, and are within their limit
+-- frames are numbered from 1 as they begin, and their number is within its limit
 pub record HasCountedFrames (es : List Event) : Type 0 where
   pub many : ℕ
   pub few : many ≤ MAX_FRAMES

@@ -11,7 +11,7 @@ use Rattle.cilk_runs.specs.Steps.{Reaches}
 use Rattle.cilk_runs.specs.FrameEnvs.{FrameEnv}
 use Rattle.cilk_determinacy.specs.Words.{HasWords, InputsAreWords}
 
--- the length of a list, where it is read, is a word
+-- a list length that is read is a word
 abbrev pub LengthIsWord : Deed FrameEnv → Type 0
 LengthIsWord (Does (Reads c v)) = Unit {0}
 LengthIsWord (Does (Writes c v)) = Unit {0}
@@ -30,6 +30,6 @@ abbrev pub LengthsAreWords : List (Deed FrameEnv) → Type 0
 LengthsAreWords [] = Unit {0}
 LengthsAreWords (d ∷ ds) = LengthIsWord d × LengthsAreWords ds
 
--- whatever steps are made, each view in the piece of each frame is a view of the language
+-- whatever steps are made, each view in each frame's piece is a view of the language
 abbrev pub ViewsAreHeld : Source → List ℤ → Type 0
 ViewsAreHeld p inputs = HasWords p → InputsAreWords inputs → (ns : List Name) (s : State FrameEnv View) → Reaches p inputs ns s → HoldsViews s

@@ -1,4 +1,4 @@
--- The serial run of a program by names, each child's run inside its parent's.
+-- The serial run of a program by names, with each child's run inside its parent's.
 use Rattle.std.specs.Prelude.{ℕ, suc, ℤ}
 use Rattle.cilk_program.specs.declared.ask.Ask as language
 use Rattle.cilk_program.specs.declared.ask.Ask.TheVariants as asks
@@ -8,7 +8,7 @@ use Rattle.cilk_runs.specs.Runs.{Event, Reads, Writes, Syncs, Ends, Passes, Begi
 use Rattle.cilk_runs.specs.FrameEnvs.{FrameEnv, first_world, child_world, cell_seen, reducer_seen, result_cell}
 use Rattle.cilk_runs.specs.FrameEnvMachine.{retired_by}
 
--- the event of an ask that was answered so; a frame of a run doesn't ask for a child or a fault so
+-- the event of an ask with this answer; a child's start and a fault are no events of this kind
 abbrev pub named_event : Source → FrameEnv → language.Ask → ℤ → Event
 named_event p w asks.Begin a = Passes Begins
 named_event p w (asks.Read x) a = Reads (cell_seen w x) a
@@ -25,7 +25,7 @@ named_event p w (asks.Result v) a = Writes (result_cell w) v
 named_event p w (asks.End v) a = Ends v (retired_by p w)
 named_event p w (asks.Fault f) a = Passes Begins
 
--- a frame's run from a point on, where its next child has this ordinal
+-- the rest of a frame's run, where its next child has this ordinal
 abbrev pub named_from : Source → FrameEnv → ℕ → serial.Transcript → Run FrameEnv
 named_from p w k serial.stop = stop
 named_from p w k (serial.act a v r) = act (named_event p w a v) (named_from p w k r)

@@ -1,4 +1,4 @@
--- The numbers that a serial run gives to names: frames, cells and reducers, and its events by these numbers.
+-- The numbers of a serial run's frames, cells and reducers, and its events by these numbers.
 use Rattle.std.specs.Prelude.{◌≡◌, ℕ, zero, suc, ◌+◌, ◌<◌, ℤ, IsTrue, List, [], ◌∷◌, ◌++◌, length, slice_get, Option, Some, None}
 use Rattle.cilk_types.specs.declared.event.Event as numbers
 use Rattle.cilk_types.specs.declared.event.Event.TheVariants as events
@@ -17,7 +17,7 @@ use Rattle.cilk_runs.specs.Runs.{Name, Cell, Global, Own, Instance, Output, Redu
 use Rattle.cilk_determinacy.specs.Nested.{named}
 use Rattle.cilk_runs.specs.FrameEnvs.{FrameEnv}
 
--- names count children from 1, paths from 0
+-- names count children from 1, paths count them from 0
 abbrev pub up : List ℕ → Name
 up [] = []
 up (k ∷ path) = suc k ∷ up path
@@ -30,7 +30,7 @@ abbrev pub down : Name → List ℕ
 down [] = []
 down (k ∷ name) = below_one k ∷ down name
 
--- what the frame to which a path leads runs: first so many children are passed over, then the next child's path follows
+-- the code that the frame at a path runs: the path skips k children, and continues in the next one
 abbrev pub child_runs : serial.Transcript → ℕ → List ℕ → Option Callee
 child_runs serial.stop k path = None
 child_runs (serial.act a v r) k path = child_runs r k path
@@ -70,12 +70,12 @@ module _ (p : Source) (r : serial.Transcript) where
   cell_number (Global n) = n
   cell_number (Own name n) = first_cell (frame_at p r (down name)) + n
 
-  -- a reducer has its frame's number, and its place among that frame's reducers from 1
+  -- a reducer has its frame's number and its place among that frame's reducers, from 1
   abbrev pub instance_number : Instance → numbered.Instance
   instance_number Output = record { frame = 0; place = 0 }
   instance_number (Reducer name n k) = record { frame = frame_number name; place = suc n }
 
-  -- the run has the frame of a name
+  -- the run has a frame of this name
   pub record IsHere (name : Name) : Type 0 where
     pub path : List ℕ
     pub named : name ≡ up path
@@ -87,7 +87,7 @@ module _ (p : Source) (r : serial.Transcript) where
   HasCell (Global n) = n < length p.openings
   HasCell (Own name n) = (here : IsHere name) × (n < here.block.cells)
 
-  -- the run has the frame of the reducer, which creates it
+  -- the run has the frame that creates the reducer
   pub record HasReducer (name : Name) (n : ℕ) (k : MonoidKind) : Type 0 where
     pub here : IsHere name
     pub callee : Callee
@@ -98,13 +98,13 @@ module _ (p : Source) (r : serial.Transcript) where
   HasInstance Output = ⊥
   HasInstance (Reducer name n k) = HasReducer name n k
 
-  -- names of frames, cells and reducers that the run has are numbered one to one
+  -- the numbers of the run's frames, cells and reducers are one to one
   pub record AreOneToOne : Type 0 where
     pub frames : (n m : Name) → IsHere n → IsHere m → frame_number n ≡ frame_number m → n ≡ m
     pub cells : (c d : Cell) → HasCell c → HasCell d → cell_number c ≡ cell_number d → c ≡ d
     pub reducers : (i j : Instance) → HasInstance i → HasInstance j → instance_number i ≡ instance_number j → i ≡ j
 
-  -- an event by numbers, of the frame with this name
+  -- an event by numbers, in the frame of this name
   abbrev pub numbered_mark : Name → Granted → numbers.Event
   numbered_mark name Begins = events.Begin (frame_number name)
   numbered_mark name Resumes = events.Resume (frame_number name)
@@ -121,13 +121,14 @@ module _ (p : Source) (r : serial.Transcript) where
   numbered_event name (Ends v gone) = events.End
   numbered_event name (Passes m) = numbered_mark name m
 
-  -- the events of a run by names, of the frame with this name and those that it starts, in serial order
+  -- the events of a run by names, of the frame of this name and those that it starts, in serial
+  -- order
   abbrev pub numbered_events : Name → Run FrameEnv → List numbers.Event
   numbered_events name stop = []
   numbered_events name (act e t) = numbered_event name e ∷ numbered_events name t
   numbered_events name (child k w u t) = start_event k (frame_number w.name) ∷ (numbered_events w.name u ++ numbered_events name t)
 
-  -- what an event names is the run's
+  -- all that an event names exists in the run
   abbrev pub MarkIsHere : Granted → Type 0
   MarkIsHere Begins = Unit {0}
   MarkIsHere Resumes = Unit {0}
@@ -144,13 +145,14 @@ module _ (p : Source) (r : serial.Transcript) where
   EventIsHere (Ends v gone) = Unit {0}
   EventIsHere (Passes m) = MarkIsHere m
 
-  -- the frames that a run by names starts, and the cells and reducers that its events name, are the run's
+  -- the frames that a run by names starts, and the cells and reducers that its events name, exist
+  -- in the run
   abbrev pub AreHere : Run FrameEnv → Type 0
   AreHere stop = Unit {0}
   AreHere (act e t) = EventIsHere e × AreHere t
   AreHere (child k w u t) = IsHere w.name × AreHere u × AreHere t
 
--- the list is the run by names, where each frame, cell and reducer has its number
+-- the list is the run by names, with numbers for its frames, cells and reducers
 pub record AreNumbered (p : Source) (r : serial.Transcript) (es : List numbers.Event) : Type 0 where
   pub events : es ≡ numbered_events p r [] (named p r)
   pub here : AreHere p r (named p r)

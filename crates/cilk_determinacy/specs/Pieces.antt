@@ -1,4 +1,4 @@
--- What the pieces of a state cover of the serial run, and what their views are.
+-- The stretches of the serial run that pieces cover, and their views.
 use Rattle.std.specs.Prelude.{ℤ, List}
 use Rattle.cilk_types.specs.declared.event.Event.{Event}
 use Rattle.cilk_types.specs.declared.outcome.Outcome.{Outcome}
@@ -11,7 +11,8 @@ use Rattle.cilk_runs.specs.FrameEnvs.{FrameEnv}
 use Rattle.cilk_determinacy.specs.Nested.{named}
 use Rattle.cilk_determinacy.specs.Theorem.{RunsFree, IsCut}
 
--- in each consistent cut of a serial run without races each piece covers one stretch of the run, and has the views of that stretch
+-- in each consistent cut of a serial run without races each piece covers at most one stretch of the
+-- run and has its views
 abbrev pub PiecesCover : Source → List ℤ → Type 0
 PiecesCover p inputs =
     (r : serial.Transcript) (es : List Event) (outcome : Outcome) → RunsFree p inputs r es outcome → (s : State FrameEnv View) → IsCut p inputs r s

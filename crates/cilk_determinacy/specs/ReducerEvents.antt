@@ -1,4 +1,4 @@
--- The events of reducers in a serial run, and the views that they give.
+-- The events of reducers in a serial run, and the views that they make.
 use Rattle.std.specs.Prelude.{◌≡◌, ◌≤◌, ◌-◌, ℕ, suc, ℤ, cond, IsTrue, List, [], ◌∷◌, ◌++◌, take, Some}
 use Rattle.cilk_types.specs.declared.event.Event as numbers
 use Rattle.cilk_types.specs.declared.event.Event.TheVariants as events
@@ -27,7 +27,7 @@ pub record OfKind : Type 0 where
   pub kind : MonoidKind
   pub event : ReducerEvent
 
--- those of one monoid, in order
+-- the events of one monoid, in order
 abbrev pub only : MonoidKind → List OfKind → List ReducerEvent
 only k [] = []
 only k (t ∷ ts) = cond (same_kind t.kind k) (t.event ∷ only k ts) (only k ts)
@@ -40,7 +40,7 @@ module _ (p : Source) (r : serial.Transcript) where
   abbrev pub of_instance : Instance → (numbered.Instance → ReducerEvent) → OfKind
   of_instance i e = record { kind = kind_of i; event = e (instance_number p r i) }
 
-  -- with its end a frame retires the reducers that it created for itself
+  -- a frame's end retires the reducers that it created for itself
   abbrev pub retired_all : List Instance → List OfKind
   retired_all [] = []
   retired_all (i ∷ is) = of_instance i Retired ∷ retired_all is
@@ -61,24 +61,25 @@ module _ (p : Source) (r : serial.Transcript) where
   of_event (Ends v gone) = retired_all gone
   of_event (Passes m) = of_mark m
 
-  -- the events of reducers among what is done, in order
+  -- the events of reducers among these deeds, in order
   abbrev pub reducer_events : List (Deed FrameEnv) → List OfKind
   reducer_events [] = []
   reducer_events (Does e ∷ ds) = of_event e ++ reducer_events ds
   reducer_events (Invokes k w ∷ ds) = reducer_events ds
 
-  -- those ahead of a position of the run
+  -- those before a position of the run
   abbrev pub reducer_events_before : ℕ → List OfKind
   reducer_events_before q = reducer_events (take (q - 1) (trace (named p r)))
 
-  -- a value that is read of a reducer, which has one name in the run and so one monoid, is the number of its view over the events ahead
+  -- A value that is read of a reducer is the number of its view over the earlier events. The
+  -- reducer has one name in the run, and so one monoid.
   pub record IsViewed (q : ℕ) (i : numbered.Instance) (v : ℤ) : Type 0 where
     pub name : Instance
     pub here : HasInstance p r name
     pub number : instance_number p r name ≡ i
     pub value : v ≡ (structure_of (kind_of name)).number (view_over (kind_of name) i (reducer_events_before q))
 
--- the last values of the global reducers with these monoids, from one on, over a range of events
+-- the last values of the global reducers with these monoids, counted from n, over a range of events
 abbrev pub finals_over : List OfKind → ℕ → List MonoidKind → List Final
 finals_over ts n [] = []
 finals_over ts n (k ∷ ks) = final_of (view_over k (global_reducer n) ts) ∷ finals_over ts (suc n) ks
@@ -89,7 +90,7 @@ module _ (p : Source) (inputs : List ℤ) where
       (r : serial.Transcript) (es : List numbers.Event) (c : Conclusion) → IsTrue (is_well_named p) → serial.IsSerialRun p inputs r es c
       → (q : ℕ) (i : numbered.Instance) (v : ℤ) → 1 ≤ q → event_at es q ≡ Some (events.Value i v) → IsViewed p r q i v
 
-  -- what a run leaves in the global reducers is their views over all its events
+  -- the final values of the global reducers are their views over all events of the run
   abbrev pub FinalsAreViewed : Type 0
   FinalsAreViewed =
       (r : serial.Transcript) (es : List numbers.Event) (outcome : Outcome) → IsTrue (is_well_named p) → serial.IsSerialRun p inputs r es (Leaves outcome)

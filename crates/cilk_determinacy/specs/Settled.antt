@@ -1,4 +1,4 @@
--- What one serial run settles.
+-- The consequences of one serial run without a race.
 use Rattle.std.specs.Prelude.{ℕ, ◌⊎◌, ℤ, Bool, true, false, List}
 use Rattle.cilk_types.specs.declared.event.Event.{Event}
 use Rattle.cilk_types.specs.declared.outcome.Outcome.{Outcome}
@@ -26,21 +26,22 @@ pub record IsRacy (es : List Event) : Type 0 where
   pub later : ℕ
   pub race : IsRace (tree shape) es earlier later ⊎ IsViewRace (tree shape) es earlier later
 
--- true where no two positions race, false where two do
+-- true if no two positions race, false if two do
 abbrev pub IsJudged : Bool → List Event → Type 0
 IsJudged true es = IsRaceFree es
 IsJudged false es = IsRacy es
 
 module _ (p : Source) (inputs : List ℤ) where
-  -- whatever steps are made, in whatever order, the state is as this serial run, which leaves this outcome
+  -- whatever steps are made, in any order, the state agrees with this serial run and its outcome
   abbrev pub AlwaysAsSerial : Transcript → Outcome → Type 0
   AlwaysAsSerial r outcome = (ns : List Name) (s : State FrameEnv View) → Reaches p inputs ns s → IsAsSerial p inputs r outcome s
 
-  -- a serial run that ends without a fault, and has no race, settles every parallel one
+  -- a serial run that ends without a fault and has no race settles every parallel run
   abbrev pub SerialRunsSettle : Type 0
   SerialRunsSettle = (r : Transcript) (es : List Event) (outcome : Outcome) → IsSerialRun p inputs r es (Leaves outcome) → IsRaceFree es → AlwaysAsSerial r outcome
 
-  -- the serial run leaves this outcome, which is the serial elision's, and has no race, so every parallel run is as it is
+  -- The serial run has this outcome, which is the serial elision's, and no race, so every parallel
+  -- run agrees with it.
   pub record IsSettled (outcome : Outcome) : Type 0 where
     pub run : Transcript
     pub events : List Event
@@ -49,7 +50,7 @@ module _ (p : Source) (inputs : List ℤ) where
     pub free : IsRaceFree events
     pub parallel : AlwaysAsSerial run outcome
 
-  -- the serial run ends without a fault, and has a race
+  -- the serial run ends without a fault and has a race
   pub record HasRace : Type 0 where
     pub run : Transcript
     pub events : List Event

@@ -1,4 +1,4 @@
--- The names of strands, which no schedule changes, and the strands of a serial run.
+-- The names of strands, which no schedule changes, in a serial run.
 use Rattle.std.specs.Prelude.{◌≡◌, ◌-◌, ℕ, suc, ℤ, IsTrue, cond, List, [], ◌∷◌, ◌++◌, length, Some, slice_get}
 use Rattle.cilk_types.specs.declared.event.Event as numbers
 use Rattle.cilk_types.specs.declared.outcome.Outcome.{Outcome}
@@ -13,7 +13,7 @@ use Rattle.cilk_tree.specs.Races.{strand_at}
 use Rattle.cilk_runs.specs.FrameEnvs.{FrameEnv}
 use Rattle.cilk_determinacy.specs.Nested.{named}
 
--- a strand by its frame's name, and its place among the frame's strands, from 1
+-- a strand's name: its frame's name, and its place among the frame's strands, from 1
 pub record StrandName : Type 0 where
   pub frame : Name
   pub place : ℕ
@@ -21,25 +21,26 @@ pub record StrandName : Type 0 where
 abbrev pub strand : Name → ℕ → StrandName
 strand n k = record { frame = n; place = k }
 
--- the strands that begin from a point of frame n on, where k of its own have begun, in serial order
+-- the strands that begin in the rest of frame n's run, after k of its own, in serial order
 abbrev pub strands_from : Name → ℕ → Run FrameEnv → List StrandName
 strands_from n k stop = []
 strands_from n k (act e t) =
     cond (begins_strand e) (strand n (suc k) ∷ []) [] ++ strands_from n (cond (begins_strand e) (suc k) k) t
 strands_from n k (child i w u t) = strands_from w.name 0 u ++ strands_from n k t
 
--- for each event from that point on, in serial order: its strand
+-- the strand of each event there, in serial order
 abbrev pub strand_of_each : Name → ℕ → Run FrameEnv → List StrandName
 strand_of_each n k stop = []
 strand_of_each n k (act e t) = strand n (cond (begins_strand e) (suc k) k) ∷ strand_of_each n (cond (begins_strand e) (suc k) k) t
 strand_of_each n k (child i w u t) = strand n k ∷ (strand_of_each w.name 0 u ++ strand_of_each n k t)
 
 module _ (p : Source) (r : serial.Transcript) where
-  -- the names of the run's strands, where the first is strand 1
+  -- the names of the run's strands, in the order of their numbers from 1
   abbrev pub strand_names : List StrandName
   strand_names = strands_from [] 0 (named p r)
 
-  -- The strands of the list are named one to one, and each event is of the strand with the name that its frame gives it.
+  -- The strands of the list are named one to one, and each event is in the strand that its frame
+  -- names.
   pub record AreStrandsNamed (es : List numbers.Event) : Type 0 where
     pub many : strand_at es (length es) ≡ length strand_names
     pub apart : (j j' : ℕ) (x : StrandName) → slice_get strand_names j ≡ Some x → slice_get strand_names j' ≡ Some x → j ≡ j'

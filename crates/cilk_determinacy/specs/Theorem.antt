@@ -1,4 +1,4 @@
--- The theorem at the language.
+-- The theorem on the language.
 use Rattle.std.specs.Prelude.{◌≡◌, ◌≤◌, ◌<◌, ℕ, ◌+◌, ℤ, List, [], ◌∷◌, ◌++◌, length, IsTrue, None}
 use Rattle.cilk_types.specs.declared.limits.TheConstants.{MAX_EVENTS, MAX_TICKS}
 use Rattle.cilk_types.specs.declared.event.Event.{Event}
@@ -29,7 +29,7 @@ use Rattle.cilk_runs.specs.Steps.{Next, IsFirst, OneStep, Reaches, outcome_in}
 use Rattle.cilk_determinacy.specs.Nested.{named}
 use Rattle.cilk_determinacy.specs.Numbers.{cell_number, instance_number}
 
--- a reducer is set to a word, as each number of a program is one
+-- a reducer is set to a word
 abbrev pub SetsWord : Event → Type 0
 SetsWord (events.Set i v) = IsWord v
 SetsWord e = Unit {0}
@@ -39,7 +39,7 @@ SetWords [] = Unit {0}
 SetWords (e ∷ es) = SetsWord e × SetWords es
 
 module _ (p : Source) (inputs : List ℤ) where
-  -- the serial run, by names, is one in the sense of the theorem on free machines
+  -- the serial run by names is one in the sense of `cilk_runs`
   abbrev pub IsSerial : serial.Transcript → Type 0
   IsSerial r = IsNestedSerialRun FrameEnv View monoid_of (Next p inputs) (costs p inputs) (first_world p) (named p r) (opening_values p inputs)
 
@@ -47,14 +47,15 @@ module _ (p : Source) (inputs : List ℤ) where
   abbrev pub IsCut : serial.Transcript → State FrameEnv View → Type 0
   IsCut r s = IsConsistent monoid_of (costs p inputs) (first_world p) (named p r) (opening_values p inputs) s
 
-  -- what the serial run uses as a whole, as the free machine counts it
+  -- the totals of the serial run, as the free machine counts them
   abbrev pub whole : serial.Transcript → Total → ℕ
   whole r total = used p inputs total + weight (costs p inputs) total (first_world p) [] (named p r)
 
-  -- What holds of each consistent cut, and so of each state that steps lead to. It is a consistent cut of the serial run, which nothing stopped; each frame has made a beginning of
-  -- its serial events with the same values; each child is at most once in the joins; no total is more than the serial run's. Once the first frame has
-  -- ended, result, globals, output and reducers are the serial elision's, each spawned child is in the joins exactly once, and the totals are
-  -- the serial run's; until then fewer events are made.
+  -- The properties of a consistent cut, and so of each state that steps lead to. Nothing has
+  -- stopped it. Each frame's deeds are a prefix of its serial ones, with the same values. Each
+  -- child was joined at most once, and no total exceeds the serial run's. Once the first frame has
+  -- ended, the result, globals, output and reducers are the serial elision's, each spawned child
+  -- was joined exactly once, and the totals are the serial run's. Until then fewer events are made.
   pub record IsAsSerial (r : serial.Transcript) (outcome : Outcome) (s : State FrameEnv View) : Type 0 where
     pub agrees : Agrees FrameEnv View monoid_of (Next p inputs) (costs p inputs) (first_world p) (named p r) (opening_values p inputs) s
     pub not_stopped : s.stopped ≡ None
@@ -64,7 +65,8 @@ module _ (p : Source) (inputs : List ℤ) where
     pub spent : HasEnd (deeds_at (s.frames [])) → (total : Total) → s.totals total ≡ whole r total
     pub unspent : ¬ (HasEnd (deeds_at (s.frames []))) → s.totals EventTotal < whole r EventTotal
 
-  -- the serial run of these events ends without a fault, and no two positions race
+  -- the program is well named, and its serial run ends without a fault, sets reducers to words, and
+  -- has no race
   pub record RunsFree (r : serial.Transcript) (es : List Event) (outcome : Outcome) : Type 0 where
     pub named : IsTrue (is_well_named p)
     pub runs : serial.IsSerialRun p inputs r es (Leaves outcome)
@@ -73,7 +75,8 @@ module _ (p : Source) (inputs : List ℤ) where
 
   -- ---- the laws
 
-  -- With more ticks a frame asks the same, unless they had run out, with as many more left; and one more answer leaves no more ticks.
+  -- With d more ticks the next ask is the same, with d more left, unless they had run out. One more
+  -- answer leaves no more ticks.
   pub record TicksAddUp : Type 0 where
     pub more : (callee : Callee) (d : ℕ) (history : List ℤ) (start : ℕ) → IsWithin (frame_asks p inputs callee history start).ask
         → frame_asks p inputs callee history (start + d) ≡ asks_for (frame_asks p inputs callee history start).ask ((frame_asks p inputs callee history start).left + d)
@@ -82,7 +85,8 @@ module _ (p : Source) (inputs : List ℤ) where
   abbrev pub SerialRunsByNames : Type 0
   SerialRunsByNames = (r : serial.Transcript) (es : List Event) (outcome : Outcome) → IsTrue (is_well_named p) → serial.IsSerialRun p inputs r es (Leaves outcome) → SetWords es → IsSerial r
 
-  -- the events of the serial run by names are the list, by the numbers of its frames, cells and reducers, and the list spells its shape
+  -- the list is that of the serial run by names, by the numbers of its cells and reducers, and it
+  -- spells the run's shape
   pub record IsNumbered (r : serial.Transcript) (es : List Event) : Type 0 where
     pub framed : IsFramed begin_due (named p r)
     pub written : AreWritten (cell_number p r) (instance_number p r) (trace (named p r)) es
@@ -91,7 +95,8 @@ module _ (p : Source) (inputs : List ℤ) where
   abbrev pub SerialRunsAreNumbered : Type 0
   SerialRunsAreNumbered = (r : serial.Transcript) (es : List Event) (outcome : Outcome) → IsTrue (is_well_named p) → serial.IsSerialRun p inputs r es (Leaves outcome) → IsNumbered r es
 
-  -- what a serial run that ended has used, as the language counts it: all ticks but those that are left, its events, frames and cells
+  -- the totals of a serial run that ended, as the language counts them: ticks used, events, frames
+  -- and cells
   pub record IsCounted (r : serial.Transcript) (es : List Event) (left : ℕ) (m : serial.Memory) : Type 0 where
     pub ticks : whole r TickTotal + left ≡ MAX_TICKS
     pub events : whole r EventTotal ≡ length es
@@ -109,7 +114,8 @@ module _ (p : Source) (inputs : List ℤ) where
   abbrev pub StepsKeepCuts : Type 0
   StepsKeepCuts = (r : serial.Transcript) (es : List Event) (outcome : Outcome) → RunsFree r es outcome → (s s' : State FrameEnv View) (n : Name) → IsCut r s → OneStep p inputs s n s' → IsCut r s'
 
-  -- each consistent cut of a serial run that ended and has no race is as that run, however it came about
+  -- each consistent cut of a serial run that ended without a race agrees with that run, whatever
+  -- steps led to it
   abbrev pub CutsAreAsSerial : Type 0
   CutsAreAsSerial = (r : serial.Transcript) (es : List Event) (outcome : Outcome) → RunsFree r es outcome → (s : State FrameEnv View) → IsCut r s → IsAsSerial r outcome s
 

@@ -1,4 +1,4 @@
--- Programs and inputs whose numbers are words, as every number of the language is.
+-- Programs and inputs whose numbers are words.
 use Rattle.std.specs.Prelude.{ℤ, List, [], ◌∷◌, IsTrue, Option, Some, None}
 use Rattle.cilk_types.specs.Input.{input_count}
 use Rattle.cilk_types.specs.declared.event.Event.{Event}
@@ -20,7 +20,7 @@ abbrev pub AreWords : List ℤ → Type 0
 AreWords [] = Unit {0}
 AreWords (v ∷ vs) = IsWord v × AreWords vs
 
--- each number that an expression writes is a word
+-- each number in an expression is a word
 abbrev pub ExpressionWords : Expression → Type 0
 ExpressionWords (Number n) = IsWord n
 ExpressionWords (Variable x) = Unit {0}
@@ -92,16 +92,16 @@ pub record HasWords (p : Source) : Type 0 where
   pub functions : FunctionsWords p.functions
   pub loops : LoopsWords p.loops
 
--- each input is a word, and so is their count
+-- each input is a word, and so is the number of inputs
 pub record InputsAreWords (inputs : List ℤ) : Type 0 where
   pub inputs_are : AreWords inputs
   pub count : IsWord (input_count inputs)
 
--- where the program's numbers and its inputs are words, a serial run sets reducers to words alone
+-- if the program's numbers and its inputs are words, a serial run sets reducers to words only
 abbrev pub SetsWords : Source → List ℤ → Type 0
 SetsWords p inputs = HasWords p → InputsAreWords inputs → (r : Transcript) (es : List Event) (c : Conclusion) → IsSerialRun p inputs r es c → SetWords es
 
--- The theorem with premises on the program and its inputs alone, and on its serial run: that it ends without a fault and has no race.
+-- The theorem with premises on the program, its inputs and its serial run alone.
 abbrev pub IsDeterminateInWords : Source → List ℤ → Type 0
 IsDeterminateInWords p inputs =
     IsTrue (is_well_named p) → HasWords p → InputsAreWords inputs → (r : Transcript) (es : List Event) (outcome : Outcome) → IsSerialRun p inputs r es (Leaves outcome) → IsRaceFree es

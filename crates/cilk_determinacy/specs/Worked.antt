@@ -1,4 +1,5 @@
--- Worked programs of which the theorem speaks: their serial runs have no race, so they leave the same whatever steps are made.
+-- Worked programs whose serial runs have no race, so their outcome is the same whatever steps are
+-- made.
 use Rattle.std.specs.Prelude.{◌≡◌, ℤ, pos, negsuc, List, [], ◌∷◌, None}
 use Rattle.cilk_types.specs.declared.event.Event.{Event}
 use Rattle.cilk_types.specs.declared.outcome.Final.TheVariants as final
@@ -14,11 +15,12 @@ use Rattle.cilk_runs.specs.FrameEnvs.{FrameEnv}
 use Rattle.cilk_determinacy.specs.Theorem.{RunsFree}
 use Rattle.cilk_runs.specs.Steps.{Reaches, outcome_in}
 
--- the program's serial run has no race and leaves this
+-- the program's serial run has no race and this outcome
 abbrev pub IsFree : Source → List ℤ → Outcome → Type 0
 IsFree p inputs outcome = (r : Transcript) × (es : List Event) × RunsFree p inputs r es outcome
 
--- whatever steps are made, nothing stops the run, and once the first frame has ended it has left this
+-- whatever steps are made, nothing stops the run, and once the first frame has ended this is its
+-- outcome
 abbrev pub AlwaysLeaves : Source → List ℤ → Outcome → Type 0
 AlwaysLeaves p inputs outcome =
     (ns : List Name) (s : State FrameEnv View) → Reaches p inputs ns s → (s.stopped ≡ None) × (HasEnd (deeds_at (s.frames [])) → outcome_in p s ≡ outcome)
@@ -53,7 +55,7 @@ ChangedIsFree = IsFree changed [] changed_to
 abbrev pub ChangedLeaves : Type 0
 ChangedLeaves = AlwaysLeaves changed [] changed_to
 
--- main calls itself, and each call has a reducer of its own
+-- main calls itself, and each call has its own reducer
 abbrev pub called_again : Outcome
 called_again = record { result = pos 3; globals = pos 1 ∷ []; output = []; reducers = final.Number (negsuc 9223372036854775807) ∷ [] }
 

@@ -1,24 +1,31 @@
-//! Race-free programs of the language are determinate.
+//! The theorem that a race-free program of the language is determinate, and the function that uses
+//! it.
 //!
-//! `cilk_runs` has the free machine, in which any frame that isn't waiting may make its next event at any moment and any
-//! continuation beside a spawned child may be stolen, and the theorem on it for any behaviour. `cilk_runs` says what that
-//! machine is for a program of the language (`cilk_program`). This crate proves the theorem there.
+//! A race detector for Cilk examines one serial run: if it has no race, every parallel run should
+//! give the same result. This crate proves that for the language of `cilk_program`. The parallel
+//! runs are those of the free machine of `cilk_runs`: any frame that isn't waiting may make its
+//! next event at any moment, and any continuation of a spawn may be stolen.
 //!
-//! * **The serial run by names** (`specs/Nested`) is the language's serial run with each child's run inside its parent's.
-//! * **The theorem** (`specs/Theorem`, [`laws::race_free_programs_are_determinate`]): where a program is well named, its serial run ends without a
-//!   fault, and no two positions of its list of events have a determinacy race or a view-read race, every state that steps of the
-//!   machine lead to is a consistent cut of the serial run, which nothing stopped; and once the first frame has ended, the result,
-//!   globals, output and reducers are those of the serial elision.
-//! * **The list of events** ([`events`]): what a serial run's events are as a list: they spell one shape, with one tree of strands.
-//! * **Settling** ([`settle::settle`]): one serial run of a program of the code, judged for races, settles every parallel run.
+//! - **The theorem** ([`laws::race_free_programs_are_determinate`]). The program is well named, its
+//!   serial run ends without a fault, and no two positions of it have a determinacy race (Feng and
+//!   Leiserson 1997) or a view-read race (Lee and Schardl 2015). Then each state that steps of the
+//!   machine lead to is a consistent cut of the serial run, and nothing has stopped it. Once the
+//!   first frame has ended, the result, globals, output and reducers are those of the serial
+//!   elision.
+//! - **Settling** ([`settle::settle`]) runs a program serially and looks for races. If there is
+//!   none, the outcome is that of every parallel run that ends.
+//! - **A single step** ([`laws::step_keeps_cuts`]) leads from a consistent cut to a consistent cut,
+//!   which is what a scheduler needs.
+//! - **Events** ([`events`], [`positions`]): the list of a serial run's events, its tree, and its
+//!   names.
 //!
-//! Numbers that reducers are set to have to be words, as every number of a program is: arithmetic brings results back into
-//! words, so a view that is no word would change as it is multiplied by an empty one. The programs and inputs of the code have no
-//! other numbers (`words`).
+//! The theorem needs reducers to be set to words. Arithmetic brings its results back into words, so
+//! a view that is no word would change when it is multiplied by an empty one. Programs and inputs
+//! of the code have words only ([`words`]).
 //!
 //! ```text
 //! match settle(alloc, &program, &input)? {
-//!     Some(outcome) => ..,                   // what every parallel run that ends leaves
+//!     Some(outcome) => ..,                   // the outcome of every parallel run that ends
 //!     None => ..,                            // two positions of the serial run race
 //! }
 //! ```

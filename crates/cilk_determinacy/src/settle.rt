@@ -1,4 +1,4 @@
-//! One serial run settles every parallel one.
+//! One serial run, checked for races, settles every parallel run.
 
 ghost use Rattle.std.specs.Prelude.{MatchOption, IfOk, IfErr};
 ghost use Rattle.cilk_program.specs.Sources.{source};
@@ -20,9 +20,10 @@ use cilk_types::outcome::Outcome;
 use cilk_types::trace::Trace;
 use std::alloc::{AllocError, Global};
 
-/// The outcome of the program's serial elision on this input, where its serial run ends without a fault and has neither a determinacy
-/// race nor a view-read race: then every parallel run is as the serial one, and has this outcome once it has ended. None where the
-/// serial run has a race. Cost: that of the serial run; memory linear in its events.
+/// Runs a program serially and returns its outcome if the run has no race. Then every parallel run
+/// agrees with the serial one, and has this outcome once it has ended. Returns `None` if the run
+/// has a determinacy race or a view-read race, and an error if it ends by a fault. Cost: that of
+/// the serial run; memory: linear in its events.
 pub fn settle(alloc: Global, program: &Program, input: &Input) -> Result<Option<Outcome>, RunFault>
     ensures settled { IfOk result (λ found. MatchOption found (HasRace (source program.now) input.now) (λ outcome. IsSettled (source program.now) input.now outcome)) }
     ensures fault { IfErr result (λ e. IsRunFault (source program.now) input.now e) }
@@ -37,8 +38,8 @@ pub fn settle(alloc: Global, program: &Program, input: &Input) -> Result<Option<
     }
 }
 
-/// The theorem at a program and an input of the code, whose numbers are words and whose names are resolved: nothing is left to ask
-/// but that the serial run ends without a fault, and that no two positions of it race.
+/// The theorem for a program and an input of the code, whose numbers are words and whose names are
+/// resolved. The only premises left are that the serial run ends without a fault and has no race.
 pub fn serial_runs_settle(program: &Program, input: &Input)
     ensures { SerialRunsSettle (source program.now) input.now }
 {
@@ -46,7 +47,7 @@ pub fn serial_runs_settle(program: &Program, input: &Input)
     inputs_are_words(input);
 }
 
-// Whether no two positions race.
+// Tells whether no two positions race.
 fn is_race_free(alloc: Global, trace: &Trace) -> Result<bool, AllocError>
     ensures { IfOk result (λ free. (s : Shape) → Spells s trace.now → IsJudged free trace.now) }
 {

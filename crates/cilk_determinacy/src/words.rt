@@ -1,6 +1,7 @@
-//! The numbers of a program and of its input are words, as their types keep: [`Literal`](cilk_program::syntax::Literal) of a
-//! number in an expression, [`WordList`](cilk_types::word_list::WordList) of the values that globals open with and of the
-//! input. These functions do nothing: the contract of each is the law.
+//! The numbers of a program and of its input are words, which their types guarantee:
+//! [`Literal`](cilk_program::syntax::Literal) for a number in an expression, and
+//! [`WordList`](cilk_types::word_list::WordList) for the opening values of globals and for the
+//! input. Each function does nothing: its contract is the law.
 
 ghost use Rattle.cilk_program.specs.Sources.{source};
 ghost use Rattle.cilk_determinacy.specs.Words.{HasWords, InputsAreWords};

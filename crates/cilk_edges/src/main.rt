@@ -1,4 +1,21 @@
-//! The tool on real files and on standard input, as the gate runs it: each call's reply and status go to standard output.
+//! Tests of the tool on the system's files and standard input.
+//!
+//! Other tests give the tool files in memory. This program calls [`cilk_commands::serve`] over
+//! [`cilk_commands::disk::Disk`] and the real standard input, in the folder `data`. It covers
+//! missing files, a directory in place of a file, an input that isn't one, a standard input of one
+//! byte too many, and reads of a file in parts. Each reply and its status are printed to standard
+//! output, and the whole output is compared with the file `stdout`.
+//!
+//! | Function | Purpose |
+//! |---|---|
+//! | `show` | one call of the tool, with its status |
+//! | `show_parts` | the parts of a file, 4 bytes each |
+//!
+//! The exit status is 0, or 1 if a line couldn't be printed.
+//!
+//! ```text
+//! show(rt, &["run", "missing.c"])?;     // the reply, then `status 2`
+//! ```
 #![tactic(auto)]
 
 use cilk_commands::disk::Disk;
@@ -7,7 +24,7 @@ use cilk_commands::serve;
 use std::io;
 use std::process::ExitCode;
 
-/// Serves these words; both streams of the reply, and then its status, are printed.
+/// Serves these words. Prints both streams of the reply, then its status.
 fn show(rt: &HostRuntime, words: &[&str]) -> io::Result<()> {
     let status = serve(
         rt.alloc(),
@@ -20,7 +37,7 @@ fn show(rt: &HostRuntime, words: &[&str]) -> io::Result<()> {
     println!(rt; "status {status}")
 }
 
-/// Prints the parts of a file, each with its place, up to the end or to a fault.
+/// Prints the parts of a file with their places, up to the end or to a fault.
 fn show_parts(rt: &HostRuntime, path: &str) -> io::Result<()> {
     let mut at = 0;
     for _part in 0..8 {
@@ -57,7 +74,7 @@ fn show_all(rt: &HostRuntime) -> io::Result<()> {
     )?;
     show(rt, &["check", "program.c", "missing"])?;
     show(rt, &["check", "program.c", "."])?;
-    // A text on standard input that is one byte too long; nothing is left of it for the next call.
+    // Standard input is one byte too long. Nothing of it is left for the next call.
     show(rt, &[])?;
     show(rt, &[])?;
     show_parts(rt, "numbers")?;

@@ -1,4 +1,4 @@
--- What is measured of a program's run.
+-- The measures of a program's run.
 use Rattle.std.specs.Prelude.{◌≡◌, ℤ, List, length}
 use Rattle.cilk_types.specs.declared.event.Event.{Event}
 use Rattle.cilk_types.specs.declared.outcome.Outcome.{Outcome}
@@ -10,15 +10,15 @@ use Rattle.cilk_tree.specs.Span.{IsSpan}
 use Rattle.cilk_cert_maker.specs.Frames.{frames_of, owners_of}
 use Rattle.cilk_findings.specs.declared.totals.Totals.{Totals}
 
--- The work of a run is how many events it makes, and its span the greatest number of events in a chain
--- (Frigo, Leiserson and Randall 1998, section 1). Its frames and strands are counted.
+-- Totals of a list of events: work is its length, and span the length of its longest chain (Frigo,
+-- Leiserson and Randall 1998, section 1). Frames and strands are counted.
 pub record AreTotals (events : List Event) (t : Totals) : Type 0 where
   pub work : t.work ≡ length events
   pub span : (s : Shape) → Spells s events → IsSpan (tree s) events t.span
   pub frames : (s : Shape) → Spells s events → t.frames ≡ length (frames_of s)
   pub strands : (s : Shape) → Spells s events → t.strands ≡ length (owners_of s)
 
--- these are the totals of the program's serial run on its input, whose events these are
+-- The totals and events of the program's serial run on its input.
 pub record AreMeasures (p : Source) (inputs : List ℤ) (t : Totals) (events : List Event) : Type 0 where
   pub outcome : Outcome
   pub ran : Ran p inputs outcome events

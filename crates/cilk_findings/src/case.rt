@@ -1,4 +1,4 @@
-//! A program with its input, and the map of its text.
+//! A program with its input and the map of its text.
 
 use crate::fault::CaseFault;
 use crate::items::map_of;
@@ -11,7 +11,7 @@ use cilk_syntax::lexer::lex;
 use cilk_types::input::Input;
 use std::alloc::Global;
 
-/// A program and its input, with the name of the program's file, its text and the map of that.
+/// A program and its input, with the file's name, the program's text and the map of that text.
 pub struct Case<'a> {
     pub alloc: Global,
     pub file: &'a str,
@@ -21,7 +21,7 @@ pub struct Case<'a> {
     pub map: TextMap,
 }
 
-// A function of its own, so that a proof follows one call where a case is dropped.
+// Written out, so that a proof follows one call where a case is dropped.
 impl Drop for Case<'_> {
     fn drop(self) {
         let Case {
@@ -36,7 +36,7 @@ impl Drop for Case<'_> {
 }
 
 impl<'a> Case<'a> {
-    /// The case of two texts.
+    /// Reads a program and its input. Fails with [`CaseFault::Unfit`] where either is refused.
     pub fn of(
         alloc: Global,
         file: &'a str,

@@ -3,11 +3,12 @@
 use cilk_tree::tree::{Node, SpTree};
 use std::alloc::{AllocError, Global};
 
-/// The most nodes that are drawn.
+/// The most nodes that [`dot`] draws.
 pub const MAX_NODES: usize = 2000;
 
-/// The tree as a graph in the language of Graphviz's `dot`: strands are boxes with their numbers and events, S nodes are diamonds, P
-/// nodes circles. A larger tree is said to be one.
+/// Returns the tree in the language of Graphviz's `dot`. Strands are boxes with their number and
+/// their count of events, S nodes are diamonds, P nodes are circles. For a tree of more than
+/// [`MAX_NODES`] nodes the result is a comment that says so.
 pub fn dot(alloc: Global, tree: &SpTree) -> Result<String, AllocError> {
     let nodes = tree.as_slice();
     let count = nodes.len();
@@ -17,7 +18,7 @@ pub fn dot(alloc: Global, tree: &SpTree) -> Result<String, AllocError> {
         );
     }
     let mut text = String::from_str(alloc, "digraph run {\n")?;
-    // Where parts are still to come: the node that they belong to.
+    // The nodes that still miss a child, once for each missing child.
     let mut open: Vec<usize> = Vec::new(alloc);
     let mut strand: usize = 0;
     for (number, node) in nodes.iter().enumerate() {
@@ -37,7 +38,7 @@ pub fn dot(alloc: Global, tree: &SpTree) -> Result<String, AllocError> {
     Ok(text)
 }
 
-// A node by itself.
+// The line that declares a node.
 fn line_of(alloc: Global, number: usize, node: &Node, strand: usize) -> Result<String, AllocError> {
     match *node {
         Node::Strand { events } => format!(in alloc;

@@ -1,4 +1,4 @@
-//! A run as a picture: how much of it could run at each step, and its tree.
+//! Pictures of a run: its parallelism at each step, and its series-parallel tree.
 
 use crate::case::Case;
 use crate::dot::dot;
@@ -9,24 +9,23 @@ use cilk_tree::building::tree_of;
 use cilk_types::trace::Trace;
 use std::alloc::{AllocError, Global};
 
-// The picture's size, in its own units.
+// The picture's size, in units of its view box.
 const WIDTH: usize = 800;
 
 const HEIGHT: usize = 300;
 
-/// How many events could be made at each step of the span, with workers enough, as a picture (SVG). The case's run has to end.
+/// Draws, as SVG, how many events could be made at each step of the span with enough workers. The
+/// case's run has to end without a fault; otherwise the error is [`CaseFault::Unfit`].
 pub fn profile_of(case: &Case<'_>) -> Result<String, CaseFault> {
     let run = ended(case)?;
     Ok(picture_of(case.alloc, &run.trace)?)
 }
 
-// The picture of a run's events.
 fn picture_of(alloc: Global, trace: &Trace) -> Result<String, AllocError> {
     let steps = profile(alloc, trace)?;
     picture(alloc, steps.as_slice())
 }
 
-// The picture of how many events stand at each step.
 fn picture(alloc: Global, steps: &[u32]) -> Result<String, AllocError> {
     let most = greatest(steps);
     let mut text = head(alloc, steps.len(), most)?;
@@ -35,7 +34,7 @@ fn picture(alloc: Global, steps: &[u32]) -> Result<String, AllocError> {
     Ok(text)
 }
 
-// The most events of a step, and 1 where there are none.
+// The most events of one step, but at least 1.
 fn greatest(steps: &[u32]) -> usize {
     let mut most: usize = 1;
     for events in steps {
@@ -50,7 +49,7 @@ fn head(alloc: Global, span: usize, most: usize) -> Result<String, AllocError> {
     )
 }
 
-// Where the outline goes up or down, column by column.
+// The corners of the outline, from left to right.
 fn push_outline(
     alloc: Global,
     text: &mut String,
@@ -68,7 +67,7 @@ fn push_outline(
     Ok(())
 }
 
-// How far from the top so many events stand.
+// The distance from the top for a step of this many events.
 fn top_of(events: usize, most: usize) -> usize {
     let height = events.saturating_mul(HEIGHT).checked_div(most).unwrap_or(0);
     HEIGHT.saturating_sub(height)
@@ -87,7 +86,7 @@ fn push_foot(alloc: Global, text: &mut String) -> Result<(), AllocError> {
     text.push_str(format!(in alloc; " H{WIDTH} V{HEIGHT} Z\"/>\n</svg>\n")?.as_str())
 }
 
-// The most events of the steps that a column of the picture stands for.
+// The most events of the steps that fall into a column.
 fn most_in(steps: &[u32], column: usize) -> usize {
     let from = column.saturating_mul(steps.len()) / WIDTH;
     let upto = column.saturating_add(1).saturating_mul(steps.len()) / WIDTH;
@@ -100,19 +99,19 @@ fn most_in(steps: &[u32], column: usize) -> usize {
     most
 }
 
-/// The series-parallel tree of a small run, for Graphviz's `dot`. The case's run has to end.
+/// Draws the series-parallel tree of a small run for Graphviz's `dot`. The case's run has to end
+/// without a fault; otherwise the error is [`CaseFault::Unfit`].
 pub fn tree_of_run(case: &Case<'_>) -> Result<String, CaseFault> {
     let run = ended(case)?;
     Ok(tree_of_trace(case.alloc, &run.trace)?)
 }
 
-// The tree of a run's events.
 fn tree_of_trace(alloc: Global, trace: &Trace) -> Result<String, AllocError> {
     let tree = tree_of(alloc, trace)?;
     dot(alloc, &tree)
 }
 
-// The run of a case, which ends by itself.
+// The run of a case that no fault stops.
 fn ended(case: &Case<'_>) -> Result<Run, CaseFault> {
     let run = Run::of(case)?;
     match run.fault {

@@ -1,4 +1,4 @@
-//! The instructions of expressions, assignments and calls.
+//! The places of the instructions of expressions, assignments and calls.
 
 use crate::map::CallSpot;
 use crate::walker::Walker;
@@ -8,7 +8,7 @@ use cilk_types::invocation::Invocation;
 use std::alloc::AllocError;
 
 impl Walker<'_> {
-    /// An expression.
+    /// Walks over an expression.
     pub fn expression(&mut self, tree: &Expr) -> Result<(), AllocError> {
         match tree {
             Expr::Number(_) | Expr::Variable(_) => {
@@ -61,7 +61,7 @@ impl Walker<'_> {
         }
     }
 
-    /// An assignment: `at` is where its statement begins.
+    /// Walks over an assignment whose statement begins at byte `at`.
     pub fn assignment(&mut self, at: usize, tree: &Assignment) -> Result<(), AllocError> {
         self.put(at)?;
         match tree {
@@ -83,7 +83,7 @@ impl Walker<'_> {
         }
     }
 
-    // `++` and `--` stand ahead of their place or behind it.
+    // `++` and `--` come before or after the name.
     fn step(&mut self, place: &Lvalue) -> Result<(), AllocError> {
         let is_ahead = matches!(self.kind(), Some(Kind::Increment | Kind::Decrement));
         if is_ahead {
@@ -96,7 +96,7 @@ impl Walker<'_> {
         self.put_times(name, 3)
     }
 
-    // What is written to: its index, if it has one. The place of its name is the result.
+    // Walks over the index of an assigned place, if it has one. Returns the place of its name.
     fn index(&mut self, place: &Lvalue) -> Result<usize, AllocError> {
         let at = self.take();
         if let Lvalue::Element(_, index) = place {
@@ -107,7 +107,7 @@ impl Walker<'_> {
         Ok(at)
     }
 
-    /// A call or spawn, from the word `cilk_spawn` or the function's name on.
+    /// Walks over a call or spawn, which begins with `cilk_spawn` or the function's name.
     pub fn call(&mut self, how: Invocation, tree: &Call, takes: bool) -> Result<(), AllocError> {
         let at = self.take();
         if how == Invocation::Spawn {
@@ -136,7 +136,7 @@ impl Walker<'_> {
     }
 }
 
-// How many instructions an operator has between its operands.
+// The number of instructions that an operator has between its operands.
 fn instructions_ahead(operator: BinaryOperator) -> usize {
     match operator {
         BinaryOperator::And => 1,
@@ -145,7 +145,7 @@ fn instructions_ahead(operator: BinaryOperator) -> usize {
     }
 }
 
-// How many it has behind them.
+// The number of instructions that it has after them.
 fn instructions_behind(operator: BinaryOperator) -> usize {
     match operator {
         BinaryOperator::And => 3,

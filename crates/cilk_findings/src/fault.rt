@@ -1,16 +1,17 @@
-//! Why nothing is told of a run.
+//! Reasons why a run can't be explained.
 
 use cilk_names::fault::NameFault;
 use cilk_parser::fault::TextFault;
 use cilk_syntax::lexer::LexFault;
 use std::alloc::AllocError;
 
-/// Why nothing is told of a run.
+/// The reason why a run can't be explained.
 #[derive(Clone, Copy, PartialEq, Eq, Debug)]
 pub enum CaseFault {
     Memory,
-    /// The texts aren't a program and its input, or their run isn't the one that was judged. Of texts as they were judged it
-    /// doesn't come.
+    /// The texts aren't a program and its input, or their run isn't the expected one: it has a
+    /// fault where none is expected or the other way round, or it misses an event. Texts unchanged
+    /// since they were judged don't cause it.
     Unfit,
 }
 

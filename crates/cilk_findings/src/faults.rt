@@ -1,4 +1,4 @@
-//! Why a fault stops a run, and where.
+//! The report on a fault: where it stops a run and why.
 
 use crate::case::Case;
 use crate::fault::CaseFault;
@@ -16,14 +16,15 @@ use cilk_types::fault::Fault;
 use cilk_types::limits::MAX_EVENTS;
 use std::alloc::{AllocError, Global};
 
-// The most printed numbers that are told.
+// The most printed numbers that a report shows.
 const TOLD: usize = 20;
 
-// The depth from which a recursion is told to be one, also where it has fewer than half of the frames.
+// A recursion deeper than this is reported even where it has less than half of the frames.
 const DEEP: usize = 1000;
 
-/// What stands behind the line of a fault of a run: where it stands, what was divided or indexed, the way from there up to `main`, how
-/// far the run came, and what to write instead. A fault has to stop the case's run.
+/// Returns the report that follows the line of a fault: its place, the values that were divided or
+/// used as an index, the path up to `main`, how far the run came, and a hint. A fault has to stop
+/// the case's run; otherwise the error is [`CaseFault::Unfit`].
 pub fn of_fault(case: &Case<'_>) -> Result<String, CaseFault> {
     let run = Run::of(case)?;
     let (Some(fault), Some(stop)) = (run.fault, run.replay.stop) else {
@@ -50,7 +51,6 @@ fn push_fault(
     push_line(report, "hint", cure.as_str())
 }
 
-// The place of the fault, with its number and title.
 fn push_head(
     case: &Case<'_>,
     run: &Run,
@@ -72,7 +72,7 @@ fn push_head(
     push_place(case, report, at, what.as_str())
 }
 
-// What was divided, indexed or asked for, or which limit the run met.
+// The values that cause the fault, or the limit that the run met.
 fn reason(case: &Case<'_>, run: &Run, fault: Fault, stop: &StopNote) -> Result<String, AllocError> {
     let alloc = case.alloc;
     let StopNote { left, right, .. } = *stop;
@@ -105,7 +105,7 @@ fn reason(case: &Case<'_>, run: &Run, fault: Fault, stop: &StopNote) -> Result<S
     }
 }
 
-// An array by its first cell, and the index that it hasn't.
+// An array, given by its first cell, and an index outside it.
 fn outside(case: &Case<'_>, first: i64, index: i64) -> Result<String, AllocError> {
     let alloc = case.alloc;
     let Ok(first) = usize::try_from(first) else {
@@ -147,7 +147,7 @@ fn reached(alloc: Global, run: &Run) -> Result<String, AllocError> {
     format!(in alloc; "{events} event{one}, {ticks} tick{two}, {frames} frame{three}")
 }
 
-// How far the run came, and what it printed.
+// How far the run came, and the numbers that it printed.
 fn so_far(case: &Case<'_>, run: &Run) -> Result<String, AllocError> {
     let alloc = case.alloc;
     let mut text = reached(alloc, run)?;
@@ -169,7 +169,7 @@ fn so_far(case: &Case<'_>, run: &Run) -> Result<String, AllocError> {
     Ok(text)
 }
 
-// What to write instead.
+// The hint.
 fn cure(
     case: &Case<'_>,
     run: &Run,

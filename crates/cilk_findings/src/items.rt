@@ -7,7 +7,8 @@ use cilk_syntax::tree::{GlobalVariable, Item, Name, Parameter, Stmt, Tree};
 use std::alloc::{AllocError, Global};
 use std::mem;
 
-/// What the names of a text are, and where its instructions stand. The tokens are those of the tree's text.
+/// Maps a text: its names, and the place of each instruction. The tokens have to be those of the
+/// tree's text.
 pub fn map_of(alloc: Global, tree: &Tree, tokens: &[Token]) -> Result<TextMap, AllocError> {
     let text = tree.text.as_slice();
     let headings = headings_of(alloc, text, tree.items.as_slice())?;
@@ -47,7 +48,7 @@ pub fn map_of(alloc: Global, tree: &Tree, tokens: &[Token]) -> Result<TextMap, A
     Ok(map)
 }
 
-// The functions of a text, by their names.
+// The functions of a text, in order.
 fn headings_of<'a>(
     alloc: Global,
     text: &'a [u8],
@@ -67,7 +68,8 @@ fn headings_of<'a>(
     Ok(headings)
 }
 
-// The variables of a line behind so many cells, and how many cells there are behind them.
+// Adds the variables of a line, which has `cells` cells before it. Returns the count of cells after
+// it.
 fn push_globals(
     globals: &mut Vec<GlobalName>,
     cells: usize,
@@ -90,7 +92,7 @@ fn push_globals(
 }
 
 impl Walker<'_> {
-    // A function: its words, its reducers, its statements, and what it ends with.
+    // A function: its parameters, its reducers, its statements, and the instructions at its end.
     fn function_map(
         &mut self,
         name: Name,

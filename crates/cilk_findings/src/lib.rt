@@ -1,39 +1,33 @@
-//! What is found of a program's run, in words and with places of its text: where and why a fault stops it, what its frames and cells are
-//! called, and what the run takes. The crate above, `cilk_races`, tells its races.
+//! Explains one run of a program in words and with places of its text: the fault that stops it, the
+//! names of its frames and cells, and its work, span and parallelism.
 //!
-//! Whoever asks has a program text and its input; the run is made once more, and gone over by its events (`cilk_findings`). So a
-//! run of which nothing is asked pays nothing for it.
+//! The runtime and the checker know a run by numbers: an event by its position, a cell or frame by
+//! its number. This crate leads back to the text. [`case::Case::of`] reads the program and its
+//! input, and [`items::map_of`] notes for each instruction the byte of the token that it is made
+//! from. [`runs::Run::of`] then makes the serial run once more, and [`replay::follow`] walks over
+//! the instructions with the run's events as the answers. It notes for each event its frame and
+//! instruction, and for each frame its parent. Nothing is recorded while a program runs, so a run
+//! that nobody asks about pays nothing. Results are meaningful only if tree, tokens, code and
+//! events come from the same text. The crate `cilk_races` explains races on top of this one.
+//!
+//! | Call | Result |
+//! |---|---|
+//! | [`faults::of_fault`] | why and where a fault stops the run, and a hint |
+//! | [`totals::measure`] | work, span, frames and strands of the serial run |
+//! | [`shares::shares`] | the same for groups of frames, as those of one function |
+//! | [`profile::profile`] | the number of events at each step of the span |
+//! | [`drawing::profile_of`], [`drawing::tree_of_run`] | pictures as SVG and for Graphviz |
+//! | [`naming::accessed`] | the name of the variable, element or reducer of an event |
+//! | [`partings::parted_at`] | where a `cilk_sync` would separate a spawn from later code |
+//!
+//! Work is the number of events of a run. Span is the length of its longest chain of events in
+//! which each comes before the next under every schedule, so no number of workers needs fewer
+//! steps. Their quotient is the parallelism (Frigo, Leiserson and Randall 1998, section 1).
 //!
 //! ```text
 //! let case = Case::of(alloc, "sum.c", text, input)?;
-//! of_fault(&case)?     // "sum.c:4:16: error 202: an index outside its array\n    s = s + a[i];\n ..."
-//! ```
-//!
-//! Where the steps of a run stand in the text of its program, and what the text calls the cells that they touch.
-//!
-//! A run is told by numbers: an event by its position, a cell and a frame by their numbers. This crate leads back from them to
-//! the text. [`items::map_of`] goes over a tree and its tokens in the order in which instructions are made of them, and notes
-//! for each instruction the byte of the token that it comes from. [`replay::follow`] goes over the instructions once more, with the events
-//! of the run as the answers, and notes for each event its frame and its instruction, for each frame where it was invoked, and
-//! where a fault stands. Both take nothing from a run that isn't asked about.
-//!
-//! ```text
-//! let map = map_of(alloc, &tree, tokens)?;
-//! let replay = follow(alloc, &map, &program, &code, &input, events)?;
-//! replay.place(&map, position)        // the byte of the token that made the event
-//! ```
-//!
-//! What is told is right where the tree, the code and the events are of one text; else it is something or other.
-//!
-//! What a run takes: its work and its span, its frames and strands, and how much of it could run at one time.
-//!
-//! [`totals::measure`] makes a program's serial run and counts it. Work is how many events the run makes. Span is the greatest number of events
-//! of which each comes before the next whatever the schedule, so no number of workers takes fewer steps. Their quotient
-//! is the run's parallelism (Frigo, Leiserson and Randall 1998, section 1). [`shares::shares`] says what groups of frames take,
-//! as those of one function, [`profile::profile`] how many events stand at each step of the span, and [`dot::dot`] draws the tree of a small run.
-//!
-//! ```text
-//! let (totals, trace) = measure(alloc, &program, &input)?;    // of fib(10): work 3007, say, and span 121
+//! of_fault(&case)?     // "sum.c:4:16: error 202: an index outside its array\n    s = s + a[i];\n"
+//! let (totals, trace) = measure(alloc, &case.program, &case.input)?;
 //! ```
 #![tactic(auto)]
 

@@ -1,11 +1,11 @@
-//! What a text calls things, and where the instructions of its bodies stand.
+//! The names in a text, and the places of its instructions.
 
 use cilk_program::program::Body;
 use cilk_syntax::tree::Name;
 use cilk_types::invocation::Invocation;
 use std::alloc::Global;
 
-/// A call or spawn of the text: the function's number, and whether a variable takes its result.
+/// A call or spawn in the text: the function's number, and whether a variable takes its result.
 #[derive(Clone, Copy)]
 pub struct CallSpot {
     pub how: Invocation,
@@ -13,15 +13,15 @@ pub struct CallSpot {
     pub takes: bool,
 }
 
-/// Where an instruction stands: the byte of its token, and the call that it makes, if it makes one.
+/// The place of an instruction: the byte of its token, and the call that it makes, if any.
 #[derive(Clone, Copy)]
 pub struct Spot {
     pub at: usize,
     pub call: Option<CallSpot>,
 }
 
-/// A function, or the body of a `cilk_for`: its name, which for a loop is the word `cilk_for`; the names of its frame's cells and of its
-/// own reducers, in order; and its instructions' places, in order.
+/// A function, or the body of a `cilk_for`, whose name is the word `cilk_for`. Holds the names of
+/// its frame's cells and of its own reducers, and the places of its instructions, each in order.
 #[derive(Drop)]
 pub struct BodyMap {
     pub name: Name,
@@ -31,7 +31,7 @@ pub struct BodyMap {
 }
 
 impl BodyMap {
-    /// A body of which nothing is known but its name.
+    /// Creates a map that holds only the body's name.
     pub fn new(alloc: Global, name: Name) -> BodyMap {
         BodyMap {
             name,
@@ -42,7 +42,7 @@ impl BodyMap {
     }
 }
 
-/// A global variable, or an array with its length: the first of its cells.
+/// A global variable, or an array with its length, and its first cell.
 #[derive(Clone, Copy)]
 pub struct GlobalName {
     pub name: Name,
@@ -50,7 +50,7 @@ pub struct GlobalName {
     pub length: Option<usize>,
 }
 
-/// What the names of a text are, each list in order: globals and global reducers, functions and loops.
+/// The names of a text: globals, global reducers, functions and loops, each in order.
 pub struct TextMap {
     pub globals: Vec<GlobalName>,
     pub reducers: Vec<Name>,
@@ -58,7 +58,7 @@ pub struct TextMap {
     pub loops: Vec<BodyMap>,
 }
 
-// A function of its own, so that a proof follows one call where a map is dropped.
+// Written out, so that a proof follows one call where a map is dropped.
 impl Drop for TextMap {
     fn drop(self) {
         let TextMap {
@@ -71,7 +71,7 @@ impl Drop for TextMap {
 }
 
 impl TextMap {
-    /// A body's map, if there is such a body.
+    /// Returns the map of a body, if the text has that body.
     pub fn body(&self, body: Body) -> Option<&BodyMap> {
         match body {
             Body::Function(number) => self.functions.get(number as usize),
@@ -79,7 +79,7 @@ impl TextMap {
         }
     }
 
-    /// The global that has this cell.
+    /// Returns the last global whose first cell isn't after this cell.
     pub fn global(&self, cell: usize) -> Option<GlobalName> {
         let mut found = None;
         for global in &self.globals {
@@ -90,7 +90,7 @@ impl TextMap {
         found
     }
 
-    /// The array whose first cell this is.
+    /// Returns the array with this first cell.
     pub fn array(&self, first: usize) -> Option<GlobalName> {
         for global in &self.globals {
             if global.first == first && global.length.is_some() {

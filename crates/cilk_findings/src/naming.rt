@@ -1,4 +1,4 @@
-//! What a text calls the cells and reducers of a run.
+//! The names in the text of a run's cells, reducers and functions.
 
 use crate::case::Case;
 use crate::map::{BodyMap, GlobalName};
@@ -9,7 +9,7 @@ use cilk_syntax::tree::Name;
 use cilk_types::event::{Event, Instance};
 use std::alloc::AllocError;
 
-/// The bytes of a name.
+/// Returns a name's bytes as text.
 pub fn word(case: &Case<'_>, name: Name) -> Result<String, AllocError> {
     let bytes = match case.text.get(name.at..name.end) {
         Some(bytes) => bytes,
@@ -18,7 +18,7 @@ pub fn word(case: &Case<'_>, name: Name) -> Result<String, AllocError> {
     Ok(String::from_utf8_lossy(case.alloc, bytes)?)
 }
 
-/// What a function, or the function in which a loop's turns run, is called.
+/// Returns the name of the function that a frame runs, or in which its loop is.
 pub fn function_of(case: &Case<'_>, run: &Run, frame: usize) -> Result<String, AllocError> {
     let mut at = frame;
     for _level in 0..run.replay.frames.len() {
@@ -33,7 +33,7 @@ pub fn function_of(case: &Case<'_>, run: &Run, frame: usize) -> Result<String, A
     Ok(String::new(case.alloc))
 }
 
-/// What a body is called.
+/// Returns the name of a body; `cilk_for` for a loop.
 pub fn body_name(case: &Case<'_>, body: Body) -> Result<String, AllocError> {
     match case.map.body(body) {
         Some(map) => word(case, map.name),
@@ -41,7 +41,8 @@ pub fn body_name(case: &Case<'_>, body: Body) -> Result<String, AllocError> {
     }
 }
 
-/// What an event accesses: a variable, an element or a reducer; nothing for another event.
+/// Returns the name of the variable, element or reducer that an event accesses. It is empty for
+/// other events.
 pub fn accessed(case: &Case<'_>, run: &Run, event: &Event) -> Result<String, AllocError> {
     match *event {
         Event::Read { cell, .. } | Event::Write { cell, .. } => of_cell(case, run, cell as usize),
@@ -53,7 +54,6 @@ pub fn accessed(case: &Case<'_>, run: &Run, event: &Event) -> Result<String, All
     }
 }
 
-// A cell of the globals, or of a frame.
 fn of_cell(case: &Case<'_>, run: &Run, cell: usize) -> Result<String, AllocError> {
     if cell < case.program.globals.len() {
         return of_global(case, cell);
@@ -101,7 +101,7 @@ fn of_global(case: &Case<'_>, cell: usize) -> Result<String, AllocError> {
     }
 }
 
-// The first frame counts the global reducers ahead of its own.
+// The first frame numbers the global reducers before its own.
 fn of_instance(case: &Case<'_>, run: &Run, instance: Instance) -> Result<String, AllocError> {
     let alloc = case.alloc;
     match reducer_name(case, run, instance) {
@@ -114,7 +114,7 @@ fn of_instance(case: &Case<'_>, run: &Run, instance: Instance) -> Result<String,
     }
 }
 
-/// The name by which a reducer is declared.
+/// Returns the name with which a reducer is declared.
 pub fn reducer_name(case: &Case<'_>, run: &Run, instance: Instance) -> Option<Name> {
     let place = (instance.place as usize).checked_sub(1)?;
     let frame = (instance.frame as usize).checked_sub(1)?;

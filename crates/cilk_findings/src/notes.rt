@@ -1,11 +1,11 @@
-//! Places of a case's text, and lines of a report.
+//! Places in a case's text, and lines of a report.
 
 use crate::case::Case;
 use cilk_messages::excerpt::push_excerpt;
 use cilk_messages::place::{Location, locate};
 use std::alloc::AllocError;
 
-/// `FILE:LINE:COLUMN` of a byte.
+/// Returns `FILE:LINE:COLUMN` of a byte.
 pub fn place_of(case: &Case<'_>, at: usize) -> Result<String, AllocError> {
     let alloc = case.alloc;
     let file = case.file;
@@ -13,7 +13,7 @@ pub fn place_of(case: &Case<'_>, at: usize) -> Result<String, AllocError> {
     format!(in alloc; "{file}:{line}:{column}")
 }
 
-/// A line of this kind that tells of a byte, and the text there.
+/// Adds a line about a byte of the text, and an excerpt of the text there.
 pub fn push_place(
     case: &Case<'_>,
     report: &mut String,
@@ -27,7 +27,7 @@ pub fn push_place(
     push_excerpt(case.alloc, report, case.text, at)
 }
 
-/// A line that begins with a word.
+/// Adds a line `WHAT: TEXT`, but nothing for an empty text.
 pub fn push_line(report: &mut String, what: &str, text: &str) -> Result<(), AllocError> {
     if text.is_empty() {
         return Ok(());
@@ -38,7 +38,7 @@ pub fn push_line(report: &mut String, what: &str, text: &str) -> Result<(), Allo
     report.push('\n')
 }
 
-/// The ending of a word that is counted: none of one thing.
+/// Returns the plural ending of a counted word.
 pub fn plural(is_one: bool) -> &'static str {
     if is_one { "" } else { "s" }
 }

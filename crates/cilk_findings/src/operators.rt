@@ -1,10 +1,10 @@
-//! What operators give on words, as `cilk_frames` computes it.
+//! The values of operators, as `cilk_frames` computes them.
 
 use cilk_program::syntax::Operator;
 use cilk_types::compound::Compound;
 use cilk_types::word;
 
-/// The operator's value, or none for a division by 0.
+/// Returns the operator's value, or `None` for a division by 0.
 pub fn apply(operator: Operator, left: i64, right: i64) -> Option<i64> {
     match operator {
         Operator::Add => Some(word::add(left, right)),
@@ -21,7 +21,7 @@ pub fn apply(operator: Operator, left: i64, right: i64) -> Option<i64> {
     }
 }
 
-/// What `+=`, `-=` and `*=` give.
+/// Returns the value of `+=`, `-=` or `*=`.
 pub fn change(operator: Compound, left: i64, right: i64) -> i64 {
     match operator {
         Compound::Add => word::add(left, right),
@@ -30,7 +30,7 @@ pub fn change(operator: Compound, left: i64, right: i64) -> i64 {
     }
 }
 
-/// 1 where it holds, else 0.
+/// Returns 1 for true and 0 for false.
 pub fn number(holds: bool) -> i64 {
     if holds { 1 } else { 0 }
 }

@@ -1,4 +1,4 @@
-//! Where a sync can be written that parts a spawn from what comes later.
+//! Places for a `cilk_sync` that separates a spawn from later code.
 
 use crate::case::Case;
 use crate::notes::place_of;
@@ -6,22 +6,24 @@ use cilk_messages::tokens::Tokens;
 use cilk_syntax::token::Kind;
 use std::alloc::AllocError;
 
-/// Where a sync parts a spawn from what comes later, by a byte.
+/// Where a sync separates a spawn from later code, by a byte of the text.
 #[derive(Clone, Copy, PartialEq, Eq)]
 enum Parting {
-    /// Ahead of the statement that begins there.
+    /// Before the statement that begins there.
     Ahead(usize),
-    /// Ahead of the statement that begins there, which is the body of a loop, or a part of an `if`, without braces.
+    /// Before the statement that begins there, which is the body of a loop or a branch of an `if`,
+    /// without braces.
     Within(usize),
-    /// Ahead of the brace that ends a loop's body there.
+    /// Before the brace that ends a loop's body there.
     AtEnd(usize),
-    /// Behind the statement that begins there, and is a loop's body without braces.
+    /// After the statement that begins there, which is a loop's body without braces.
     Behind(usize),
-    /// Ahead of the name there, in the middle of a declaration.
+    /// Before the name there, in the middle of a declaration.
     Between(usize),
 }
 
-/// Where a sync parts the spawn at one byte from what stands at another and comes later, in words.
+/// Says in words where a `cilk_sync` separates the spawn at byte `spawn` from the later code at
+/// byte `at`.
 pub fn parted_at(case: &Case<'_>, spawn: usize, at: usize) -> Result<String, AllocError> {
     let alloc = case.alloc;
     let tokens = Tokens::new(alloc, case.text)?;
@@ -47,7 +49,7 @@ pub fn parted_at(case: &Case<'_>, spawn: usize, at: usize) -> Result<String, All
     }
 }
 
-// The same by tokens.
+// The place, by numbers of tokens.
 fn parting_of(tokens: &Tokens<'_>, spawn: usize, access: usize) -> Parting {
     let first = statement_of(tokens, access);
     if is_repeated(tokens, first, access) && stands_in(tokens, first, spawn) {
@@ -61,7 +63,8 @@ fn parting_of(tokens: &Tokens<'_>, spawn: usize, access: usize) -> Parting {
     ahead(tokens, first, spawn)
 }
 
-// The first token of the innermost statement that a token stands in. A head belongs to its loop or condition, what follows it doesn't.
+// The first token of the innermost statement around a token. The head of a loop or condition
+// belongs to that loop or condition; the body is a statement of its own.
 fn statement_of(tokens: &Tokens<'_>, number: usize) -> usize {
     let mut first: usize = 0;
     let mut depth: usize = 0;
@@ -97,7 +100,7 @@ fn has_head(kind: Option<Kind>) -> bool {
     )
 }
 
-// The token behind a statement.
+// The token after a statement.
 fn end_of(tokens: &Tokens<'_>, first: usize) -> usize {
     let mut depth: usize = 0;
     for number in first..tokens.count() {
@@ -115,12 +118,12 @@ fn end_of(tokens: &Tokens<'_>, first: usize) -> usize {
     tokens.count()
 }
 
-/// Whether a token stands in the statement that begins at another one.
+/// Returns whether a token is in the statement that begins with token `first`.
 pub fn stands_in(tokens: &Tokens<'_>, first: usize, number: usize) -> bool {
     first <= number && number < end_of(tokens, first)
 }
 
-/// The innermost `while` or `for` in which a token stands.
+/// Returns the first token of the innermost `while` or `for` around a token.
 pub fn loop_round(tokens: &Tokens<'_>, number: usize) -> Option<usize> {
     let mut found = None;
     for first in 0..number {
@@ -133,7 +136,7 @@ pub fn loop_round(tokens: &Tokens<'_>, number: usize) -> Option<usize> {
     found
 }
 
-// Whether a token stands in a loop's head where that is come to again behind each turn.
+// Whether a token is in the part of a loop's head that runs again after each turn.
 fn is_repeated(tokens: &Tokens<'_>, first: usize, number: usize) -> bool {
     let mut parts: usize = 0;
     for earlier in first..number {
@@ -160,7 +163,7 @@ fn at_end(tokens: &Tokens<'_>, first: usize) -> Parting {
     }
 }
 
-/// The token behind the head of a loop, or behind a condition.
+/// Returns the token after the head of a loop or condition.
 pub fn behind_head(tokens: &Tokens<'_>, first: usize) -> usize {
     let mut depth: usize = 0;
     for number in first..tokens.count() {
@@ -174,7 +177,7 @@ pub fn behind_head(tokens: &Tokens<'_>, first: usize) -> usize {
     tokens.count()
 }
 
-// The name behind the last comma of a declaration that a token stands in.
+// The name after the last comma of the declaration around a token.
 fn declared_at(tokens: &Tokens<'_>, first: usize, number: usize) -> Option<usize> {
     if !matches!(tokens.kind(first), Some(Kind::Int)) {
         return None;
@@ -192,7 +195,8 @@ fn declared_at(tokens: &Tokens<'_>, first: usize, number: usize) -> Option<usize
     name
 }
 
-// Ahead of a statement, or of the one whose body it is without braces, where the spawn isn't in that one as well.
+// Before a statement. Where the statement is a body without braces and the spawn is outside of its
+// loop or condition, before that one.
 fn ahead(tokens: &Tokens<'_>, first: usize, spawn: usize) -> Parting {
     let mut start = first;
     for _level in 0..tokens.count() {
@@ -208,7 +212,7 @@ fn ahead(tokens: &Tokens<'_>, first: usize, spawn: usize) -> Parting {
     }
 }
 
-// The loop or condition whose head ends ahead of a token.
+// The loop or condition whose head ends just before a token.
 fn headed(tokens: &Tokens<'_>, number: usize) -> Option<usize> {
     if !matches!(tokens.kind_back(number, 1), Some(Kind::Close)) {
         return None;

@@ -1,4 +1,4 @@
-//! The way from a frame up to the one with which the run began.
+//! The path from a frame up to the first frame.
 
 use crate::case::Case;
 use crate::map::BodyMap;
@@ -10,17 +10,18 @@ use cilk_program::program::Body;
 use cilk_types::invocation::Invocation;
 use std::alloc::{AllocError, Global};
 
-// How many frames of a long way are told, next to where it begins and where it ends.
+// The frames that a report shows at the lower and the upper end of a long path.
 const NEAR: usize = 8;
 
 const FAR: usize = 4;
 
-/// Whether a frame halves the turns of its loop.
+/// Returns whether a frame halves the turns of its loop.
 pub fn halves(note: &FrameNote) -> bool {
     matches!(note.body, Body::Loop(_)) && note.high.saturating_sub(note.low) > 1
 }
 
-/// The frames from one up to another, without the other, and without those that only halve turns above it.
+/// Returns the frames from `frame` up to `top`, without `top`. Frames above `frame` that only halve
+/// turns are left out.
 pub fn chain(
     alloc: Global,
     run: &Run,
@@ -47,7 +48,7 @@ pub fn chain(
     Ok(chain)
 }
 
-/// A line for each of these frames: what it runs, and where it was invoked.
+/// Adds a line for each frame: the function or turns that it runs, and where it was invoked.
 pub fn push_path(
     case: &Case<'_>,
     run: &Run,
@@ -109,7 +110,7 @@ fn push_function(
     report.push_str(place_of(case, invoked_at(case, run, note))?.as_str())
 }
 
-/// Where the text invokes a frame.
+/// Returns the byte of the text at which a frame is invoked.
 pub fn invoked_at(case: &Case<'_>, run: &Run, note: &FrameNote) -> usize {
     let step = StepNote {
         frame: note.parent,
@@ -133,7 +134,7 @@ fn push_turns(case: &Case<'_>, report: &mut String, note: &FrameNote) -> Result<
     report.push_str(format!(in alloc; "{turns} of the `cilk_for` at {place}")?.as_str())
 }
 
-/// The turn of a frame, or its turns, by the loop's variable.
+/// Returns the turn or turns of a frame, by the loop's variable.
 pub fn turns_of(case: &Case<'_>, note: &FrameNote) -> Result<String, AllocError> {
     let alloc = case.alloc;
     let variable = match case.map.body(note.body) {

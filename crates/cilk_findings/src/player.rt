@@ -1,4 +1,4 @@
-//! The instructions of a run, one after the other, with its events as the answers.
+//! A walk over the instructions of a run, with the run's events as the answers.
 
 use crate::map::{CallSpot, TextMap};
 use crate::operators::{apply, change, number};
@@ -15,8 +15,8 @@ use cilk_types::limits::MAX_TICKS;
 use cilk_types::word;
 use std::alloc::{AllocError, Global};
 
-/// A frame that goes on or waits: its number, its next instruction among all of the code, the first one of its body, its
-/// turns, and whether it gives a result.
+/// A running or waiting frame: its number, its next instruction and the first one of its body among
+/// all of the code, its turns, and whether its parent takes a result.
 #[derive(Clone, Copy)]
 struct Seat {
     frame: usize,
@@ -26,7 +26,7 @@ struct Seat {
     takes: bool,
 }
 
-/// A run that is gone over.
+/// The state of the walk.
 #[derive(Drop)]
 pub struct Player<'a> {
     map: &'a TextMap,
@@ -43,7 +43,7 @@ pub struct Player<'a> {
     cells: usize,
 }
 
-// Where no turns are.
+// The turns of a function's frame.
 const NO_TURNS: LoopPart = LoopPart {
     number: 0,
     up: 0,
@@ -52,7 +52,7 @@ const NO_TURNS: LoopPart = LoopPart {
 };
 
 impl<'a> Player<'a> {
-    /// A run before its first event.
+    /// Creates a walk before the first event.
     pub fn new(
         alloc: Global,
         map: &'a TextMap,
@@ -88,7 +88,7 @@ impl<'a> Player<'a> {
         }
     }
 
-    /// The first frame.
+    /// Begins the first frame.
     pub fn open(&mut self) -> Result<(), AllocError> {
         let main = self.program.main;
         self.replay.frames.push(FrameNote {
@@ -107,7 +107,7 @@ impl<'a> Player<'a> {
         self.note_begin()
     }
 
-    // How many cells a function's frame has.
+    // The number of cells of a function's frame.
     fn cells_of(&self, function: u32) -> usize {
         match self.program.functions.get(function as usize) {
             Some(function) => function.cells as usize,
@@ -115,7 +115,7 @@ impl<'a> Player<'a> {
         }
     }
 
-    // How many a frame of turns has.
+    // The number of cells of a frame of turns.
     fn cells_of_turns(&self, part: LoopPart) -> usize {
         match self.program.loops.get(part.number as usize) {
             Some(body) if has_one(part) => body.cells as usize,
@@ -123,14 +123,14 @@ impl<'a> Player<'a> {
         }
     }
 
-    /// The notes.
+    /// Returns the notes.
     pub fn into_replay(self, stop: Option<StopNote>) -> Replay {
         let mut replay = self.replay;
         replay.stop = stop;
         replay
     }
 
-    /// Where the run stands.
+    /// Returns the current step and operands.
     pub fn stop(&self) -> StopNote {
         StopNote {
             step: self.step(),
@@ -139,7 +139,7 @@ impl<'a> Player<'a> {
         }
     }
 
-    // The frame and the instruction at hand.
+    // The current frame and instruction.
     fn step(&self) -> StepNote {
         StepNote {
             frame: self.seat.frame,
@@ -147,7 +147,7 @@ impl<'a> Player<'a> {
         }
     }
 
-    // The event at hand, if one is left, which the instruction makes.
+    // The next event, noted as made by the current instruction.
     fn event(&mut self) -> Result<Option<Event>, AllocError> {
         let Some(event) = self.events.get(self.replay.steps.len()) else {
             return Ok(None);
@@ -157,24 +157,24 @@ impl<'a> Player<'a> {
         Ok(Some(*event))
     }
 
-    // A frame's first event.
+    // Notes a frame's first event.
     fn note_begin(&mut self) -> Result<(), AllocError> {
         self.event()?;
         Ok(())
     }
 
-    // An operand leaves.
+    // Pops an operand.
     fn pop(&mut self) -> i64 {
         self.operands.pop().unwrap_or(0)
     }
 
-    // On behind so many instructions.
+    // Continues after the next `count` instructions.
     fn skip(&mut self, count: usize) -> Result<Moved, AllocError> {
         self.seat.place = self.seat.place.saturating_add(count).saturating_add(1);
         Ok(Moved::On)
     }
 
-    // A tick, if one is left.
+    // Counts a tick. False if none is left.
     fn tick(&mut self) -> bool {
         if self.replay.ticks >= MAX_TICKS {
             return false;
@@ -183,7 +183,7 @@ impl<'a> Player<'a> {
         true
     }
 
-    // A value that takes a tick.
+    // Pushes a value, for a tick.
     fn give(&mut self, word: i64) -> Result<Moved, AllocError> {
         if !self.tick() {
             return Ok(Moved::Stops);
@@ -191,13 +191,13 @@ impl<'a> Player<'a> {
         self.put(word)
     }
 
-    // A value that takes none.
+    // Pushes a value without a tick.
     fn put(&mut self, word: i64) -> Result<Moved, AllocError> {
         self.operands.push(word)?;
         self.skip(0)
     }
 
-    // A value that an event gives.
+    // Pushes the value of the next event.
     fn ask(&mut self) -> Result<Moved, AllocError> {
         match self.event()? {
             Some(Event::Read { value, .. } | Event::Value { value, .. }) => self.put(value),
@@ -206,7 +206,7 @@ impl<'a> Player<'a> {
         }
     }
 
-    // The same, behind a tick.
+    // Counts a tick, then pushes the value of the next event.
     fn load(&mut self) -> Result<Moved, AllocError> {
         if !self.tick() {
             return Ok(Moved::Stops);
@@ -214,7 +214,7 @@ impl<'a> Player<'a> {
         self.ask()
     }
 
-    // An event that gives nothing.
+    // Passes an event without a value.
     fn tell(&mut self) -> Result<Moved, AllocError> {
         match self.event()? {
             Some(
@@ -231,14 +231,14 @@ impl<'a> Player<'a> {
         }
     }
 
-    // Whether an array has this index, which is noted.
+    // Whether an array has this index. Both are noted for the report.
     fn has(&mut self, array: Array, index: i64) -> bool {
         self.left = i64::from(array.first);
         self.right = index;
         index >= 0 && index < i64::from(array.length)
     }
 
-    /// The next instruction.
+    /// Runs the next instruction.
     pub fn advance(&mut self) -> Result<Moved, AllocError> {
         let Some(instr) = self.code.instrs().get(self.seat.place) else {
             return Ok(Moved::Lost);
@@ -259,7 +259,7 @@ impl<'a> Player<'a> {
         }
     }
 
-    // An instruction that is a frame's own.
+    // An instruction without an event.
     fn compute(&mut self, instr: Instr) -> Result<Moved, AllocError> {
         match instr {
             Instr::Push(word) => self.give(word),
@@ -305,7 +305,7 @@ impl<'a> Player<'a> {
         }
     }
 
-    // A value that there may not be.
+    // Pushes a value, or stops where there is none.
     fn checked(&mut self, word: Option<i64>) -> Result<Moved, AllocError> {
         match word {
             Some(word) => self.give(word),
@@ -419,14 +419,14 @@ impl<'a> Player<'a> {
         self.begin(Body::Function(function), how, NO_TURNS, first, cells, takes)
     }
 
-    // What the text calls here.
+    // The call in the text at the current instruction.
     fn called(&self) -> Option<CallSpot> {
         let step = self.step();
         let spot = self.replay.spot(self.map, step)?;
         spot.call
     }
 
-    // A frame begins, where its event is left.
+    // Begins a frame, if its event is the next one.
     fn begin(
         &mut self,
         body: Body,
@@ -469,7 +469,7 @@ impl<'a> Player<'a> {
         Ok(Moved::On)
     }
 
-    // The frame ends, and the one that waits for it goes on.
+    // Ends the frame. The frame that waits for it continues.
     fn end(&mut self) -> Result<Moved, AllocError> {
         let at = self.replay.steps.len();
         match self.event()? {

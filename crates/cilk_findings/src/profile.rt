@@ -1,12 +1,12 @@
-//! How much of a run could be done at each step, with workers enough.
+//! The number of events at each step of a run's span.
 
 use cilk_types::event::Event;
 use cilk_types::trace::Trace;
 use std::alloc::{AllocError, Global};
 use std::mem;
 
-/// A frame that waits or goes on: the longest chain of events up to its last one, and up to the ends of the children that it
-/// spawned in its block.
+/// A running or waiting frame: the longest chain of events up to its last one, and up to the ends
+/// of the children that it spawned in its sync block.
 #[derive(Clone, Copy)]
 struct Depth {
     own: usize,
@@ -14,7 +14,7 @@ struct Depth {
     is_spawned: bool,
 }
 
-/// The events so far: how many stand at each step.
+/// The number of events at each step so far.
 #[derive(Drop)]
 struct Steps {
     steps: Vec<u32>,
@@ -22,8 +22,9 @@ struct Steps {
     depth: Depth,
 }
 
-/// How many of a run's events stand at each step of its span: those up to which the longest chain has so many events. With workers
-/// enough all of one step could be made at one time. Cost and memory: linear in the events.
+/// Returns for each step of the span the number of events there. The step of an event is the length
+/// of the longest chain up to it, so with enough workers all events of a step can be made at the
+/// same time. Cost and memory: linear in the events.
 pub fn profile(alloc: Global, trace: &Trace) -> Result<Vec<u32>, AllocError> {
     let mut profile = Steps {
         steps: Vec::new(alloc),
@@ -41,7 +42,6 @@ pub fn profile(alloc: Global, trace: &Trace) -> Result<Vec<u32>, AllocError> {
 }
 
 impl Steps {
-    // The next event.
     fn meet(&mut self, event: &Event) -> Result<(), AllocError> {
         if let Event::Sync = event {
             self.depth.own = self.depth.own.max(self.depth.spawned);
@@ -59,7 +59,7 @@ impl Steps {
         }
     }
 
-    // One event more at the next step of the frame.
+    // Counts an event at the frame's next step.
     fn count(&mut self) -> Result<(), AllocError> {
         let step = self.depth.own;
         if step >= self.steps.len() {
@@ -83,7 +83,7 @@ impl Steps {
         Ok(())
     }
 
-    // What follows a called child comes behind it, and what follows a spawned one beside it.
+    // Code after a call follows the child; code after a spawn runs beside it.
     fn leave(&mut self) {
         let child = self.depth;
         if let Some(parent) = self.waiting.pop() {

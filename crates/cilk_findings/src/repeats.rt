@@ -1,4 +1,4 @@
-//! A `cilk_for` that a loop round it begins again and again.
+//! A `cilk_for` that a loop around it begins again and again.
 
 use crate::case::Case;
 use crate::notes::place_of;
@@ -10,7 +10,8 @@ use cilk_messages::tokens::Tokens;
 use cilk_program::program::Body;
 use std::alloc::AllocError;
 
-/// What is said where a run has too many frames at a `cilk_for` that another loop has begun more than once.
+/// Returns a hint for a run with too many frames at a `cilk_for` which a loop around it has begun
+/// at least twice.
 pub fn of_repeated(
     case: &Case<'_>,
     run: &Run,
@@ -42,7 +43,7 @@ pub fn of_repeated(
     )?))
 }
 
-// The `cilk_for` at which a step stands: of which it parts the turns, which it begins, or whose turn makes it.
+// The `cilk_for` of a step, whether the step halves its turns, begins it or belongs to a turn.
 fn loop_at(case: &Case<'_>, run: &Run, step: StepNote) -> Option<usize> {
     let note = run.replay.frames.get(step.frame)?;
     let own = match note.body {
@@ -61,7 +62,7 @@ fn loop_at(case: &Case<'_>, run: &Run, step: StepNote) -> Option<usize> {
     own
 }
 
-// How often a run has begun a `cilk_for`: its frames whose parents aren't of the same one.
+// How often a run has begun a `cilk_for`: its frames whose parents aren't of that loop.
 fn times_of(run: &Run, number: usize) -> usize {
     let mut times: usize = 0;
     for note in &run.replay.frames {

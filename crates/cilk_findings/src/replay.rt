@@ -1,4 +1,4 @@
-//! A run made once more along its events, with a note of where each step stands.
+//! A second walk over a run along its events, which notes the place of each step.
 
 use crate::map::{BodyMap, Spot, TextMap};
 use crate::player::Player;
@@ -12,12 +12,13 @@ use std::alloc::{AllocError, Global};
 /// A frame of the run. Frames, events and instructions count from 0 here.
 #[derive(Clone, Copy)]
 pub struct FrameNote {
-    /// What it runs, and, of a loop, its turns from `low` up to but without `high`.
+    /// The body that it runs. The turns of a loop are from `low` up to but without `high`.
     pub body: Body,
     pub low: i64,
     pub high: i64,
     pub how: Invocation,
-    /// The frame that invoked it, with the instruction and the event by which it did; its own for the first frame.
+    /// The frame that invoked it, with the instruction and the event of the invocation. The first
+    /// frame is its own parent.
     pub parent: usize,
     pub instruction: usize,
     pub begun: usize,
@@ -34,7 +35,7 @@ pub struct StepNote {
     pub instruction: usize,
 }
 
-/// Where a run stops without an end, and the last two operands there, the right one second.
+/// The step at which a run stops without an end, and the last two operands there.
 #[derive(Clone, Copy)]
 pub struct StopNote {
     pub step: StepNote,
@@ -42,7 +43,8 @@ pub struct StopNote {
     pub right: i64,
 }
 
-/// The notes of a run: each frame's, each event's, the ticks that it took, and where it stops, if it doesn't end.
+/// The notes of a run: its frames, the step of each event, its ticks, and where it stops, if it
+/// doesn't end.
 #[derive(Drop)]
 pub struct Replay {
     pub frames: Vec<FrameNote>,
@@ -51,7 +53,7 @@ pub struct Replay {
     pub stop: Option<StopNote>,
 }
 
-/// Goes over a run whose events these are. None where they don't follow from the code.
+/// Walks over the run with these events. Returns `None` where they don't follow from the code.
 pub fn follow(
     alloc: Global,
     map: &TextMap,
@@ -79,35 +81,35 @@ pub fn follow(
 // More instructions than a run within its limits can make.
 const MAX_MOVES: u64 = 1_000_000_000;
 
-/// What came of an instruction.
+/// The result of an instruction.
 #[derive(Clone, Copy, PartialEq, Eq)]
 pub enum Moved {
-    /// The run goes on.
+    /// The run continues.
     On,
     /// The first frame has ended.
     Over,
-    /// The run can't go on, or no event is left.
+    /// The run can't continue, or no event is left.
     Stops,
-    /// The event at hand isn't what the instruction asks for.
+    /// The next event isn't one of this instruction.
     Lost,
 }
 
 impl Replay {
-    /// A body's instruction where a step was made, as the text has it.
+    /// Returns the place in the text of a step's instruction.
     pub fn spot(&self, map: &TextMap, step: StepNote) -> Option<Spot> {
         let frame = self.frames.get(step.frame)?;
         let body: &BodyMap = map.body(frame.body)?;
         body.spots.get(step.instruction).copied()
     }
 
-    /// The byte of the text from which an event comes.
+    /// Returns the byte of the text from which an event comes.
     pub fn place(&self, map: &TextMap, event: usize) -> Option<usize> {
         let step = self.steps.get(event)?;
         let spot = self.spot(map, *step)?;
         Some(spot.at)
     }
 
-    /// The frame that has a cell, and which of its cells that is.
+    /// Returns the frame that has a cell, and the cell's number within that frame.
     pub fn owner(&self, cell: usize) -> Option<(usize, usize)> {
         let mut found = None;
         let mut number: usize = 0;

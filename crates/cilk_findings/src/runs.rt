@@ -1,4 +1,4 @@
-//! The run of a case, with its notes.
+//! The serial run of a case, with its notes.
 
 ghost use Rattle.cilk_lower.specs.Behaves.{Behaves};
 ghost use Rattle.cilk_program.specs.Sources.{source};
@@ -14,7 +14,7 @@ use cilk_types::event::Event;
 use cilk_types::fault::Fault;
 use cilk_types::trace::Trace;
 
-/// A run: its code, its events, the fault that stops it, if one does, and its notes.
+/// A run: its code, its events, the fault that stops it, if any, and its notes.
 pub struct Run {
     code: Code,
     pub trace: Trace,
@@ -22,7 +22,7 @@ pub struct Run {
     pub replay: Replay,
 }
 
-// A function of its own, so that a proof follows one call where a run is dropped.
+// Written out, so that a proof follows one call where a run is dropped.
 impl Drop for Run {
     fn drop(self) {
         let Run {
@@ -35,7 +35,7 @@ impl Drop for Run {
 }
 
 impl Run {
-    /// The run of a case.
+    /// Makes the serial run of a case and its notes.
     pub fn of(case: &Case<'_>) -> Result<Run, CaseFault> {
         let code = lower(case.alloc, &case.program)?;
         let Made {
@@ -51,7 +51,7 @@ impl Run {
         })
     }
 
-    /// Whether an event, counted from 0, is a child's result.
+    /// Returns whether an event, counted from 0, is a child's result.
     pub fn gives_result(&self, index: usize) -> bool {
         let Some(StepNote { frame, instruction }) = self.replay.steps.get(index).copied() else {
             return false;
@@ -72,13 +72,12 @@ impl Run {
         )
     }
 
-    /// An event, counted from 0.
+    /// Returns an event, counted from 0.
     pub fn event(&self, index: usize) -> Option<Event> {
         self.trace.as_slice().get(index).copied()
     }
 }
 
-// A run's events, the fault that stops it, and its notes.
 #[derive(Drop)]
 struct Made {
     trace: Trace,
@@ -94,7 +93,7 @@ fn run_code(case: &Case<'_>, code: &Code) -> Result<Made, CaseFault>
     noted(case, code, serial.into_trace(), fault)
 }
 
-// Notes that don't fit the run's events are none.
+// Fails where the notes don't fit the run.
 fn noted(
     case: &Case<'_>,
     code: &Code,

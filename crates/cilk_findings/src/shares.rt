@@ -1,13 +1,14 @@
-//! What groups of a run's frames take, as the frames of one function.
+//! Work and span of groups of a run's frames, as the frames of one function.
 
 use cilk_types::event::Event;
 use cilk_types::trace::Trace;
 use std::alloc::{AllocError, Global};
 use std::mem;
 
-/// What the frames of a group take. Strands and events are those that these frames make themselves. Work is how many events are made
-/// from the begin to the end of one of them, by whatever frames, each counted once. Span is the greatest number of events in a chain from the
-/// begin to the end of one of them.
+/// The measures of a group of frames. Strands and events are those that the frames make themselves.
+/// Work is the number of events between the begin and the end of one of the frames, whichever frame
+/// makes them, each counted once. Span is the length of the longest chain of events from the begin
+/// to the end of one of the frames.
 #[derive(Clone, Copy, PartialEq, Eq)]
 pub struct Share {
     pub frames: u64,
@@ -18,7 +19,7 @@ pub struct Share {
 }
 
 impl Share {
-    /// Of no frames.
+    /// The measures of no frames.
     pub const NONE: Share = Share {
         frames: 0,
         strands: 0,
@@ -28,15 +29,16 @@ impl Share {
     };
 }
 
-/// A group: its share so far, and how many of its frames have begun and not ended.
+/// A group: its measures so far, and the number of its open frames.
 #[derive(Clone, Copy)]
 struct Group {
     share: Share,
     open: u64,
 }
 
-/// A frame that waits or goes on: its group, how many events were made since it began, and how many stand in the longest chain of
-/// these up to its last one, and up to the ends of the children that it spawned in its block.
+/// A running or waiting frame: its group, the number of events since it began, and the longest
+/// chain of these up to its last one, and up to the ends of the children that it spawned in its
+/// sync block.
 #[derive(Clone, Copy)]
 struct Seat {
     group: usize,
@@ -46,7 +48,6 @@ struct Seat {
     is_spawned: bool,
 }
 
-/// The events so far.
 #[derive(Drop)]
 struct Counting<'a> {
     members: &'a [usize],
@@ -56,8 +57,9 @@ struct Counting<'a> {
     seat: Seat,
 }
 
-/// What each of so many groups of a run's frames takes. `members` has the group of each frame, in the order in which they begin; frames past its end,
-/// and of a group past the last one, count for none. Cost and memory: linear in the events and groups.
+/// Returns the measures of `count` groups of a run's frames. `members` has the group of each frame,
+/// in the order in which the frames begin. A frame past its end, or with a group from `count` on,
+/// isn't counted. Cost and memory: linear in the events and groups.
 pub fn shares(
     alloc: Global,
     trace: &Trace,
@@ -76,7 +78,7 @@ pub fn shares(
 }
 
 impl<'a> Counting<'a> {
-    // Where the first frame is to begin.
+    // The state before the first event.
     fn new(alloc: Global, members: &'a [usize], count: usize) -> Result<Counting<'a>, AllocError> {
         let none = Group {
             share: Share::NONE,
@@ -95,7 +97,6 @@ impl<'a> Counting<'a> {
         Ok(counting)
     }
 
-    // The next event.
     fn meet(&mut self, event: &Event) -> Result<(), AllocError> {
         if let Event::Sync = event {
             self.seat.chain = self.seat.chain.max(self.seat.spawned);
@@ -113,7 +114,7 @@ impl<'a> Counting<'a> {
         }
     }
 
-    // One event more of the frame.
+    // Counts an event of the current frame.
     fn count(&mut self, event: &Event) {
         self.seat.work = self.seat.work.saturating_add(1);
         self.seat.chain = self.seat.chain.saturating_add(1);
@@ -142,8 +143,8 @@ impl<'a> Counting<'a> {
         Ok(())
     }
 
-    // The frame ends: the events since it began are the group's, unless an outer frame of it counts them. What follows a called child
-    // comes behind it, and what follows a spawned one beside it.
+    // Ends the frame. Its events are added to the group's work unless an outer frame of the group
+    // counts them. Code after a call follows the child; code after a spawn runs beside it.
     fn leave(&mut self) {
         let child = self.seat;
         if let Some(group) = self.groups.get_mut(child.group) {
@@ -156,13 +157,11 @@ impl<'a> Counting<'a> {
 }
 
 impl Group {
-    // One of its frames begins.
     fn begin(&mut self) {
         self.share.frames = self.share.frames.saturating_add(1);
         self.open = self.open.saturating_add(1);
     }
 
-    // One of its frames makes an event.
     fn count(&mut self, begins_strand: bool) {
         self.share.events = self.share.events.saturating_add(1);
         if begins_strand {
@@ -170,7 +169,6 @@ impl Group {
         }
     }
 
-    // One of its frames ends.
     fn end(&mut self, frame: &Seat) {
         self.open = self.open.saturating_sub(1);
         if self.open == 0 {
@@ -181,7 +179,6 @@ impl Group {
 }
 
 impl Seat {
-    // A frame that begins.
     fn new(group: usize, is_spawned: bool) -> Seat {
         Seat {
             group,
@@ -192,7 +189,7 @@ impl Seat {
         }
     }
 
-    // A frame behind the end of its child.
+    // A frame after the end of its child.
     fn behind(self, child: &Seat) -> Seat {
         let upto = self.chain.saturating_add(child.chain);
         let mut parent = self;
@@ -206,7 +203,6 @@ impl Seat {
     }
 }
 
-// Whether a strand begins with this event.
 fn begins_strand(event: &Event) -> bool {
     matches!(
         event,

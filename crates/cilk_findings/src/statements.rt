@@ -1,4 +1,4 @@
-//! The instructions of statements.
+//! The places of the instructions of statements.
 
 use crate::map::BodyMap;
 use crate::walker::Walker;
@@ -10,7 +10,7 @@ use std::alloc::AllocError;
 use std::mem;
 
 impl Walker<'_> {
-    /// Statements, one after the other.
+    /// Walks over statements in order.
     #[cycle(statements)]
     pub fn row(&mut self, row: &[Stmt]) -> Result<(), AllocError> {
         for tree in row {
@@ -82,7 +82,7 @@ impl Walker<'_> {
         }
     }
 
-    // A statement of one line that takes no other and declares nothing.
+    // A statement of one line without an inner statement or a declaration.
     fn simple(&mut self, tree: &Stmt) -> Result<(), AllocError> {
         match tree {
             Stmt::Assign(assignment) => {
@@ -109,7 +109,6 @@ impl Walker<'_> {
         Ok(())
     }
 
-    // The variables of a declaration.
     fn declaration(&mut self, locals: &[Local]) -> Result<(), AllocError> {
         let at = self.take();
         self.put(at)?;
@@ -146,7 +145,7 @@ impl Walker<'_> {
         self.put(reducer.name.at)
     }
 
-    // `WORD (TEST)`, and the jump behind it. The place of the word is the result.
+    // `WORD (TEST)`, and the jump after it. Returns the place of the word.
     fn test(&mut self, test: &Expr) -> Result<usize, AllocError> {
         let at = self.take();
         self.put(at)?;
@@ -157,7 +156,7 @@ impl Walker<'_> {
         Ok(at)
     }
 
-    // `for (BEGINNING;`. The place of the word is the result.
+    // `for (BEGINNING;`. Returns the place of the word.
     fn head(&mut self, beginning: &Option<Beginning>) -> Result<usize, AllocError> {
         let at = self.take();
         self.put(at)?;
@@ -181,7 +180,7 @@ impl Walker<'_> {
         Ok(at)
     }
 
-    // `TEST;`, and the jump behind it.
+    // `TEST;`, and the jump after it.
     fn turn_test(&mut self, at: usize, test: &Option<Box<Expr>>) -> Result<(), AllocError> {
         if let Some(test) = test {
             self.expression(test)?;
@@ -201,8 +200,8 @@ impl Walker<'_> {
         Ok(())
     }
 
-    // The head of a `cilk_for`, and what a frame of its turns begins with. The body around it is the result, with the
-    // loop's number and place.
+    // The head of a `cilk_for`, and the first instructions of a frame of its turns. Returns the
+    // body around it, with the loop's number.
     fn enter(&mut self, bounds: &Bounds) -> Result<(BodyMap, usize), AllocError> {
         let at = self.take();
         self.put(at)?;
@@ -225,7 +224,7 @@ impl Walker<'_> {
         Ok((outside, number))
     }
 
-    // What such a frame ends with, and how it halves its turns.
+    // The last instructions of such a frame, which also halve its turns.
     fn leave(&mut self, outside: (BodyMap, usize)) -> Result<(), AllocError> {
         let (body, number) = outside;
         let at = self.body.name.at;

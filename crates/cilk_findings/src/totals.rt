@@ -1,4 +1,4 @@
-//! The totals of a run.
+//! Work and span of a run.
 
 ghost use Rattle.std.specs.Prelude.{IfOk, IfErr};
 ghost use Rattle.cilk_findings.specs.Measures.{AreMeasures, AreTotals};
@@ -16,7 +16,7 @@ use cilk_types::input::Input;
 use cilk_types::trace::Trace;
 use std::alloc::{AllocError, Global};
 
-/// The work and the span of a run, in events, and how many frames and strands it has.
+/// The work and the span of a run, in events, and its numbers of frames and strands.
 #[derive(Clone, Copy, PartialEq, Eq)]
 pub struct Totals {
     pub work: usize,
@@ -25,7 +25,8 @@ pub struct Totals {
     pub strands: usize,
 }
 
-/// The totals of a program's serial run on an input, and its events. Cost: that of the run; memory: linear in its events.
+/// Runs a program serially and returns its totals and events. Cost: that of the run; memory: linear
+/// in its events.
 pub fn measure(alloc: Global, program: &Program, input: &Input) -> Result<(Totals, Trace), RunFault>
     ensures measures { IfOk result (λ r. AreMeasures (source program.now) input.now r.0 r.1) }
     ensures fault { IfErr result (λ e. IsRunFault (source program.now) input.now e) }
@@ -35,7 +36,7 @@ pub fn measure(alloc: Global, program: &Program, input: &Input) -> Result<(Total
     Ok((totals, trace))
 }
 
-/// The totals of a run's events.
+/// Returns the totals of a run's events.
 pub fn totals_of(alloc: Global, trace: &Trace) -> Result<Totals, AllocError>
     ensures { IfOk result (λ t. AreTotals trace.now t) }
 {

@@ -5,14 +5,14 @@ use cilk_syntax::token::{Kind, Token};
 use cilk_syntax::tree::Name;
 use std::alloc::{AllocError, Global};
 
-/// What a function is called, and which of its parameters are reducers.
+/// A function's name, and which of its parameters are reducers.
 #[derive(Drop)]
 pub struct Heading<'a> {
     pub word: &'a [u8],
     pub reducers: Vec<bool>,
 }
 
-/// A walk: the next token, the body that is gone over, and the loops so far.
+/// A walk: the next token, the current body, and the loops so far.
 #[derive(Drop)]
 pub struct Walker<'a> {
     pub alloc: Global,
@@ -24,7 +24,7 @@ pub struct Walker<'a> {
     pub loops: Vec<BodyMap>,
 }
 
-/// The bytes of a name.
+/// Returns the bytes of a name.
 pub fn word_of(text: &[u8], name: Name) -> &[u8] {
     match text.get(name.at..name.end) {
         Some(word) => word,
@@ -33,7 +33,7 @@ pub fn word_of(text: &[u8], name: Name) -> &[u8] {
 }
 
 impl Walker<'_> {
-    /// What the next token is.
+    /// Returns the kind of the next token.
     pub fn kind(&self) -> Option<Kind> {
         match self.tokens.get(self.next) {
             Some(token) => Some(token.kind),
@@ -41,7 +41,7 @@ impl Walker<'_> {
         }
     }
 
-    /// Where the next token stands; behind the last one the text ends.
+    /// Returns the place of the next token, or the text's length after the last one.
     pub fn here(&self) -> usize {
         match self.tokens.get(self.next) {
             Some(token) => token.at,
@@ -49,19 +49,19 @@ impl Walker<'_> {
         }
     }
 
-    /// Passes a token, and gives its place.
+    /// Passes a token and returns its place.
     pub fn take(&mut self) -> usize {
         let at = self.here();
         self.next = self.next.saturating_add(1);
         at
     }
 
-    /// Passes so many tokens.
+    /// Passes `count` tokens.
     pub fn pass(&mut self, count: usize) {
         self.next = self.next.saturating_add(count);
     }
 
-    /// Passes the tokens up to the first semicolon or opening brace, and that one.
+    /// Passes all tokens through the first semicolon or opening brace.
     pub fn pass_line(&mut self) {
         for _token in 0..self.tokens.len() {
             match self.kind() {
@@ -72,7 +72,7 @@ impl Walker<'_> {
         self.pass(1);
     }
 
-    /// Passes the tokens up to the first closing parenthesis, and that one.
+    /// Passes all tokens through the first closing parenthesis.
     pub fn pass_close(&mut self) {
         for _token in 0..self.tokens.len() {
             match self.kind() {
@@ -83,13 +83,13 @@ impl Walker<'_> {
         self.pass(1);
     }
 
-    /// An instruction that comes from the token at a place.
+    /// Adds an instruction that comes from the token at byte `at`.
     pub fn put(&mut self, at: usize) -> Result<(), AllocError> {
         self.body.spots.push(Spot { at, call: None })?;
         Ok(())
     }
 
-    /// Several of them.
+    /// Adds `count` instructions.
     pub fn put_times(&mut self, at: usize, count: usize) -> Result<(), AllocError> {
         for _instruction in 0..count {
             self.put(at)?;
@@ -97,7 +97,7 @@ impl Walker<'_> {
         Ok(())
     }
 
-    /// A call, and the instruction that goes on behind it.
+    /// Adds a call, and the instruction with which the frame continues after it.
     pub fn put_call(&mut self, at: usize, call: CallSpot) -> Result<(), AllocError> {
         self.body.spots.push(Spot {
             at,
@@ -106,7 +106,7 @@ impl Walker<'_> {
         self.put(at)
     }
 
-    /// The number of the function with a name.
+    /// Returns the number of the function with a name.
     pub fn function(&self, name: Name) -> Option<usize> {
         let word = word_of(self.text, name);
         let mut number: usize = 0;
@@ -119,7 +119,7 @@ impl Walker<'_> {
         None
     }
 
-    /// Whether a function's parameter is a reducer.
+    /// Returns whether a function's parameter is a reducer.
     pub fn is_reducer(&self, function: usize, parameter: usize) -> bool {
         match self.headings.get(function) {
             Some(heading) => match heading.reducers.get(parameter) {

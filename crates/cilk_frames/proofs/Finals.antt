@@ -1,6 +1,6 @@
 -- The last values of global reducers.
 --
--- - `finals_next`, `finals_same`: one value more; by other views of the same values.
+-- - `finals_next`, `finals_same`: one more value; for other views with the same values.
 use Rattle.std.proofs.Common.{◌≡◌, ℕ, suc, ◌+◌, ◌<◌, ◌&&◌, cond, List, [], ◌∷◌, ◌++◌, length, take, get_or, Option, None, refl, sym, ap, ◌∙◌, arith, length-take}
 use Rattle.std.proofs.lemmas.List.{take_more}
 use Rattle.cilk_types.specs.declared.event.Instance.{Instance}

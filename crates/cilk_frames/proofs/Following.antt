@@ -1,4 +1,4 @@
--- A cursor goes on following a behaviour.
+-- A cursor continues to follow a behaviour.
 use Rattle.std.proofs.Common.{◌≡◌, ◌≢◌, ℕ, zero, suc, ◌+◌, ◌-◌, ◌≤◌, ℤ, pos, Bool, true, false, List, [], ◌∷◌, ◌++◌, length, refl, sym, ap, ◌∙◌, subst, arith, append_assoc, if◌then◌else◌}
 use Rattle.std.specs.Prelude.{slice_get, nat_lt}
 use Rattle.std.proofs.lemmas.Bool.{ltb-true}
@@ -33,7 +33,7 @@ room_for : (owed : Owed) (stack : List ℤ) (room : ℕ) (a : ℤ) (go : List �
 room_for Nothing stack room a go k h = tt
 room_for Word stack room a go k h = ltb-true (length stack) room (passed (nat_lt (length stack) room) (go (a ∷ stack)) k h)
 
--- a cursor that follows a behaviour has room for what it is owed
+-- a cursor that follows a behaviour has room for a word that it is owed
 pub has_room : (code : CodeView) (inputs : List ℤ) (c : CursorView) → Runs code inputs c → HasRoom c
 has_room code inputs c r = let f = r.1.by (pos 0) [] 0 in room_for c.owed c.stack c.room (pos 0) _ _ f.1
 
@@ -48,7 +48,8 @@ heard Word Done code inputs c n answers l k fits h = absurd fits
 heard Word (Value v) code inputs c n answers l k fits h =
     passed_on (nat_lt (length c.stack) c.room) (exec (setting_at inputs code c) n c.place (v ∷ c.stack) c.held answers l) k h
 
--- what the loop of a step keeps: from where the cursor is, the machine asks what the behaviour says after the answer
+-- The invariant of a step's loop: from the cursor on, the machine makes the next request of the
+-- behaviour after the answer.
 pub record Loop (code : CodeView) (inputs : List ℤ) (c0 : CursorView) (answer : Answer) (left0 : ℕ) (c : CursorView) (left : ℕ) : Type 0 where
   pub less : left ≤ left0
   pub on : (b : Behaviour) → Follows code inputs c0 b → (answers : List ℤ) (l : ℕ) → (n : ℕ) × (runs_at code inputs c n answers l ≡ Reaches (b (word_in answer ∷ answers) (l + (left0 - left))))
@@ -62,7 +63,7 @@ loop_begins code inputs c0 answer left0 fits = record {
       (h.0, heard c0.owed answer code inputs c0 h.0 answers l _ fits h.1 ∙ ap (λ n. Reaches (b (word_in answer ∷ answers) n)) e);
 }
 
--- a run that reaches an ask begins with a move
+-- a run that reaches a request begins with a move
 moves : (m : Setting) (n place : ℕ) (stack : List ℤ) (held : ℤ) (answers : List ℤ) (left : ℕ) (k : OpenAsk) → exec m n place stack held answers left ≡ Reaches k → (n' : ℕ) × (going m.room (move m (slice_get m.code.instrs place) place stack held left) answers (exec m n') ≡ Reaches k)
 moves m zero place stack held answers left k h = cc
 moves m (suc n) place stack held answers left k h = (n, h)
@@ -106,7 +107,7 @@ module _ (code : CodeView) (inputs : List ℤ) (c0 : CursorView) (answer : Answe
   owes_on : (x : Move) → here left ≡ x → OwesAnswer x
   owes_on x is = subst OwesAnswer is ((straight m c.place c.stack c.held (slice_get code.instrs c.place)).owes left)
 
-  -- what a move asks is what the behaviour asks
+  -- the request of a move is that of the behaviour
   asked : Loop code inputs c0 answer left0 c left → (x : Move) → here left ≡ x → (k : OpenAsk) → ((go : Next) → going c.room x [] go ≡ Reaches k) → (b : Behaviour) → Follows code inputs c0 b → b (word_in answer ∷ []) left0 ≡ k
   asked loop x is k reaches b f =
       let h = loop.on b f [] left in
@@ -167,7 +168,7 @@ stands_on code inputs c answer left k c' left' steps p callee history took h =
       };
     }
 
--- a cursor at the beginning
+-- a cursor at its beginning
 pub stands_first : (p : Source) (code : CodeView) (inputs : List ℤ) (callee : Callee) → Behaves p code → CalleeIsFit p callee → Stands code inputs p callee (first_of code callee) [] 0
 stands_first p code inputs callee h fit = record {
   by = λ a answers left.
@@ -180,6 +181,6 @@ stands_first p code inputs callee h fit = record {
 pub stands_as : (p : Source) (code : CodeView) (inputs : List ℤ) (callee : Callee) (c x : CursorView) → c ≡ x → x ≡ first_of code callee → Behaves p code → CalleeIsFit p callee → Stands code inputs p callee c [] 0
 stands_as p code inputs callee c x e same h fit = subst (λ (c : CursorView). Stands code inputs p callee c [] 0) (sym (e ∙ same)) (stands_first p code inputs callee h fit)
 
--- the root's frame is always fit
+-- the root is always a valid callee
 pub root_stands : (p : Source) (code : CodeView) (inputs : List ℤ) → Behaves p code → Stands code inputs p Root (first_of code Root) [] 0
 root_stands p code inputs h = stands_first p code inputs Root h tt

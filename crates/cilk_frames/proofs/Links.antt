@@ -1,6 +1,11 @@
--- What static links lead to: `links_on` and `links_nowhere`, one link further; `outer_gives`, what stands so many links up;
--- `home_cell`, `home_own`, `home_given` and `no_cell`, `no_own`, `no_given`, what a place means there; `instances_more` and `small_at` for
--- lists of reducers; `links_more`, links in a list that has more; `sees_function`, `sees_turns`, `sees_root`, what a new frame sees.
+-- Where static links lead.
+-- `links_on`, `links_nowhere`                  one link further
+-- `outer_gives`                                the frame n links up
+-- `home_cell`, `home_own`, `home_given`        the meaning of a place there
+-- `no_cell`, `no_own`, `no_given`              its meaning if there is no such frame
+-- `instances_more`, `small_at`                 lists of reducers
+-- `links_more`                                 links in a longer list
+-- `sees_function`, `sees_turns`, `sees_root`   the scope of a new frame
 use Rattle.std.proofs.Common.{◌≡◌, ℕ, zero, suc, ◌+◌, ◌-◌, ◌<◌, ◌≤◌, List, [], ◌∷◌, ◌++◌, length, take, drop, get_or, slice_get, unwrap_or, Option, Some, None, refl, sym, ap, ◌∙◌, subst, arith, Bor, MatchOption}
 use Rattle.std.proofs.lemmas.List.{take_more, map-append}
 use Rattle.cilk_types.specs.declared.event.Instance.{Instance}
@@ -55,7 +60,7 @@ module _ {C : Type 0} (frames : List (Activation C)) where
   is_none : (xs : Scope ℕ Instance) → xs ≡ [] → LinksTo frames None xs
   is_none xs e = subst (λ xs. LinksTo frames None xs) (sym e) tt
 
-  -- where no link leads on
+  -- where no link leads further
   pub links_nowhere : (scope : Scope ℕ Instance) (c up : ℕ) → c ≤ up → LinksTo frames None (drop c scope) → LinksTo frames None (drop up scope)
   links_nowhere scope c up low h =
       let e : up - c + c ≡ up = omega (arith, low) in
@@ -74,7 +79,7 @@ module _ {C : Type 0} (frames : List (Activation C)) where
       let same : h.0 ≡ a = some_is h.0 a (sym h.1 ∙ e) in
       (ap Some h.2 ∙ ap (λ (a : Activation C). Some (home_at a)) same, subst (λ (a : Activation C). a.first < 65536) same h.3)
 
-  -- what stands so many links up
+  -- the frame n links up
   pub outer_gives : (scope : Scope ℕ Instance) (up n : ℕ) (o : Option (Bor (Activation C))) → LinksTo frames (Some n) (drop up scope) → MatchOption o (slice_get frames n ≡ None) (λ (f : Bor (Activation C)). slice_get frames n ≡ Some f.now)
       → MatchOption o (slice_get scope up ≡ None) (λ (f : Bor (Activation C)). (slice_get scope up ≡ Some (home_at f.now)) × (f.now.first < 65536))
   outer_gives scope up n None h at = links_past n (drop up scope) h at
@@ -103,7 +108,7 @@ module _ (scope : Scope ℕ Instance) (up : ℕ) (h : slice_get scope up ≡ Non
   pub no_given : (n : ℕ) → instance_in global_reducer scope (reducers.Given up n) ≡ global_reducer n
   no_given n = ap (λ o. at_home o (global_reducer n) (λ h. unwrap_or (slice_get h.given n) (global_reducer n))) h
 
--- one reducer more
+-- one more reducer
 pub instances_more : (scope : Scope ℕ Instance) (rs : List Reducer) (n : ℕ) (d : Reducer) (list list' : List Instance) (i : Instance) → n < length rs
     → list ≡ instances_in global_reducer scope (take n rs) → list' ≡ list ++ i ∷ [] → i ≡ instance_in global_reducer scope (get_or rs n d).place → list' ≡ instances_in global_reducer scope (take (n + 1) rs)
 instances_more scope rs n d list list' i low e e' same =
@@ -116,7 +121,7 @@ small_at [] n d h low = absurd (omega (arith, low))
 small_at (r ∷ rs) zero d h low = h.0
 small_at (r ∷ rs) (suc n) d h low = small_at rs n d h.1 (omega (arith, low))
 
--- a list that has at least what another has
+-- a list that extends another
 abbrev pub Holds : {A : Type 0} → List A → List A → Type 0
 Holds {A} some more = (n : ℕ) (x : A) → slice_get some n ≡ Some x → slice_get more n ≡ Some x
 
@@ -131,7 +136,7 @@ module _ {C : Type 0} where
   pub sees_more : (frames more : List (Activation C)) (a : Activation C) (scope : Scope ℕ Instance) → Holds frames more → HasScope frames a scope → HasScope more a scope
   sees_more frames more a scope holds h = record { outer = h.outer; scope_is = h.scope_is; low = h.low; links = links_more frames more a.outer h.outer holds h.links }
 
-  -- a frame whose body stands in no other
+  -- a frame whose body is in no other
   sees_alone : (more : List (Activation C)) (a : Activation C) (number base first : ℕ) (given : List Instance) → a.number ≡ number → a.base ≡ base → a.first ≡ first → a.given.items ≡ given → a.outer ≡ None → first < 65536
       → HasScope more a (record { cells = λ n. base + n; own = λ n. record { frame = number; place = first + n }; given = given } ∷ [])
   sees_alone more a number base first given e1 e2 e3 e4 e5 low = record {

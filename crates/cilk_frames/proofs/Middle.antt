@@ -5,11 +5,11 @@ use Rattle.std.proofs.lemmas.Int.{ints, to_z-of_z, quot-rem, rem_below, quot_fit
 use mir.Syntax.{w128}
 use Rattle.cilk_program.specs.Behaviour.{middle}
 
--- a number as 128 bits hold it
+-- a number that fits in 128 bits
 abbrev wide : ℤ → ℤ
 wide z = to_z w128 (of_z w128 z)
 
--- a number as a word holds it
+-- a number that fits in a word
 abbrev word : ℤ → ℤ
 word z = to_z w64 (of_z w64 z)
 

@@ -1,4 +1,4 @@
--- An instruction does the same whatever the ticks, if they are enough.
+-- An instruction does the same with any ticks, if they are enough.
 use Rattle.std.proofs.Common.{◌≡◌, ℕ, zero, suc, ◌+◌, ◌-◌, ◌≤◌, ℤ, pos, Bool, true, false, List, [], ◌∷◌, length, Option, Some, None, refl, ap, ◌∙◌, arith, if◌then◌else◌}
 use Rattle.std.specs.Prelude.{nat_lt, neg_ℤ, int_lt, ◌+ℤ◌, slice_get}
 use Rattle.cilk_types.specs.Input.{input_at, input_count}
@@ -19,7 +19,7 @@ use Rattle.cilk_lower.specs.declared.code.Site.{Site}
 use Rattle.cilk_lower.specs.Machine.{Setting, Move, Goes, Waits, Stops, Stuck, move, ticked, on_top, on_two, on_none, on_words, on_some, or_stops, has_one, invoked, loop_called, first_half, second_half}
 use Rattle.cilk_frames.specs.Following.{HasAnswer, owed_for}
 
--- the machine goes on or waits, so that other instructions follow
+-- the machine continues or waits, so that other instructions follow
 abbrev pub IsOnward : Move → Type 0
 IsOnward (Goes p s h l) = Unit {0}
 IsOnward (Waits k o p s h l) = Unit {0}
@@ -40,20 +40,20 @@ with_left (Waits k o p s h l) n = Waits k o p s h n
 with_left (Stops k l) n = Stops k n
 with_left Stuck n = Stuck
 
--- a last ask has no answer, any other is owed what its answer brings
+-- a last request has no answer; any other is owed what its answer pushes
 abbrev pub OwesAnswer : Move → Type 0
 OwesAnswer (Goes p s h l) = Unit {0}
 OwesAnswer (Waits k o p s h l) = o ≡ owed_for k
 OwesAnswer (Stops k l) = HasAnswer k → ⊥
 OwesAnswer Stuck = Unit {0}
 
--- a move that takes no tick
+-- a move that uses no tick
 record Flat (g : ℕ → Move) : Type 0 where
   owes : (l : ℕ) → OwesAnswer (g l)
   keeps : (l : ℕ) → left_of (g l) ≡ l
   same : (l l' : ℕ) → IsOnward (g l) → g l' ≡ with_left (g l) l'
 
--- the same whatever the ticks, if they are enough
+-- the same with any ticks, if they are enough
 pub record Straight (g : ℕ → Move) : Type 0 where
   pub owes : (l : ℕ) → OwesAnswer (g l)
   pub less : (l : ℕ) → left_of (g l) ≤ l
@@ -136,20 +136,20 @@ straight_words zero words stack g h = h words stack
 straight_words (suc n) words [] g h = straight_stuck
 straight_words (suc n) words (x ∷ stack) g h = straight_words n (x ∷ words) stack g h
 
--- a word onto the stack, where there is room
+-- pushes a word, if there is room
 straight_give : (room p : ℕ) (v : ℤ) (s : List ℤ) (h : ℤ) → Straight (λ l. if nat_lt (length s) room then ticked l (Goes p (v ∷ s) h) else Stuck)
 straight_give room p v s h = straight_if (nat_lt (length s) room) (λ l. ticked l (Goes p (v ∷ s) h)) (λ l. Stuck) (straight_then_goes p (v ∷ s) h) straight_stuck
 
 module _ (m : Setting) (place : ℕ) (stack : List ℤ) (held : ℤ) where
-  -- the operand on top becomes another, by a tick
+  -- replaces the operand on top, for one tick
   straight_change : (f : ℤ → ℤ) → Straight (λ l. on_top stack (λ v rest. ticked l (Goes (place + 1) (f v ∷ rest) held)))
   straight_change f = straight_top stack (λ v rest l. ticked l (Goes (place + 1) (f v ∷ rest) held)) (λ v rest. straight_then_goes (place + 1) (f v ∷ rest) held)
 
-  -- the operand on top goes into an ask
+  -- the operand on top becomes part of a request
   straight_send : (k : ℤ → Ask) → ((v : ℤ) → Nothing ≡ owed_for (k v)) → Straight (λ l. on_top stack (λ v rest. Waits (k v) Nothing (place + 1) rest held l))
   straight_send k e = straight_top stack (λ v rest. Waits (k v) Nothing (place + 1) rest held) (λ v rest. straight_waits (k v) Nothing (place + 1) rest held (e v))
 
-  -- a loop's frame asks for a child of its own
+  -- a loop's frame requests a child of its own loop
   straight_half : (k : LoopPart → Ask) → ((l : LoopPart) → Nothing ≡ owed_for (k l)) → Straight (λ n. on_some m.given.part (λ l. on_none stack (Waits (k l) Nothing (place + 1) [] held n)))
   straight_half k e =
       straight_some m.given.part (λ l n. on_none stack (Waits (k l) Nothing (place + 1) [] held n))

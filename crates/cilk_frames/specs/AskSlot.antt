@@ -1,4 +1,4 @@
--- What a frame asks for, where the invocation of a function is kept apart.
+-- Requests, with the invocation of a function stored apart.
 use Rattle.std.specs.Prelude.{ℤ, List, [], Option, Some, None}
 use Rattle.cilk_program.specs.declared.ask.Ask.{Ask}
 use Rattle.cilk_program.specs.declared.ask.Ask.TheVariants as asks
@@ -8,7 +8,7 @@ use Rattle.cilk_types.specs.declared.invocation.Invocation.{Invocation}
 use Rattle.cilk_frames.specs.declared.small_ask.SmallAsk.{SmallAsk}
 use Rattle.cilk_frames.specs.declared.small_ask.SmallAsk.TheVariants as brief
 
--- an ask in full
+-- a small request as a request
 abbrev pub in_full : SmallAsk → Ask
 in_full brief.Begin = asks.Begin
 in_full (brief.Read x) = asks.Read x
@@ -25,12 +25,12 @@ in_full (brief.Result v) = asks.Result v
 in_full (brief.End v) = asks.End v
 in_full (brief.Fault f) = asks.Fault f
 
--- the ask of these parts: where there is no brief one, a function is invoked
+-- the request that these parts make: without a small one, a function is invoked
 abbrev pub ask_of : Option SmallAsk → Invocation → FunctionCall → Ask
 ask_of (Some b) how call = in_full b
 ask_of None how call = asks.Invoke how (callees.Function call)
 
--- a function is invoked
+-- the request invokes a function
 abbrev pub IsFunctionCall : Ask → Type 0
 IsFunctionCall (asks.Invoke how (callees.Function call)) = Unit {0}
 IsFunctionCall k = ⊥

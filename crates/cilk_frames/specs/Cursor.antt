@@ -1,4 +1,4 @@
--- Where a frame stands in its code.
+-- The state of a frame in its code.
 use Rattle.std.specs.Prelude.{ℕ, ℤ, pos, List, []}
 use Rattle.cilk_program.specs.declared.ask.Callee.{Callee}
 use Rattle.cilk_lower.specs.declared.code.EntryPoint.{EntryPoint}
@@ -7,8 +7,8 @@ use Rattle.cilk_lower.specs.declared.code.Owed.TheVariants.{Nothing}
 use Rattle.cilk_lower.specs.Code.{CodeView, entry_of}
 use Rattle.cilk_lower.specs.Machine.{Given, given_of}
 
--- what the frame is given, the next instruction's place, what the answer to the last ask brings, the operands with their top
--- first, the room for them, and the result that a `return` has left
+-- What the frame was given, the place of the next instruction, what the answer to the last request
+-- pushes, the operands with the top first, the room for them, and the result so far.
 pub record CursorView : Type 0 where
   pub given : Given
   pub place : ℕ
@@ -17,10 +17,10 @@ pub record CursorView : Type 0 where
   pub room : ℕ
   pub held : ℤ
 
--- a frame that is given this, before it begins at an entry
+-- a frame with these arguments, before it begins at an entry point
 abbrev pub begins_at : EntryPoint → Given → CursorView
 begins_at e given = record { given = given; place = e.place; owed = Nothing; stack = []; room = e.room; held = pos 0 }
 
--- the frame of a callee
+-- the frame of a callee before it begins
 abbrev pub first_of : CodeView → Callee → CursorView
 first_of code callee = begins_at (entry_of code callee) (given_of callee)

@@ -1,4 +1,4 @@
--- The outcome of a run, by its cells and its views.
+-- The outcome of a run, given its cells and views.
 use Rattle.std.specs.Prelude.{◌≡◌, ◌&&◌, ℕ, suc, false, cond, ℤ, List, [], ◌∷◌, length, take, Option, Some, None}
 use Rattle.std.specs.Option.{option_map}
 use Rattle.cilk_types.specs.declared.event.Instance.{Instance}
@@ -16,22 +16,22 @@ use Rattle.cilk_hypermap.specs.declared.hypermap.Hypermap.{Hypermap}
 use Rattle.cilk_lower.specs.declared.layout.Layout.{Layout}
 use Rattle.cilk_program.specs.SerialRun.{global_reducer}
 
--- the values of all other reducers are as they were
+-- the values of all other reducers are unchanged
 abbrev pub KeepsOthers : Hypermap → Hypermap → Instance → Type 0
 KeepsOthers old new i = (k : MonoidKind) (j : Instance) → same_instance i j ≡ false → value_in new k j ≡ value_in old k j
 
--- the numbers of a list, if it is one
+-- the numbers of a list, if the value is one
 abbrev pub numbers_in : Option Final → List ℤ
 numbers_in None = []
 numbers_in (Some (finals.Number z)) = []
 numbers_in (Some (finals.List zs)) = zs
 
--- the last values of the global reducers with these monoids, from one on
+-- the last values of the global reducers with these monoids, from the n-th on
 abbrev pub finals_of : Hypermap → ℕ → List MonoidKind → List Final
 finals_of h n [] = []
 finals_of h n (k ∷ ks) = final_of (value_in h k (global_reducer n)) ∷ finals_of h (suc n) ks
 
--- what is left by these cells and views
+-- the outcome of a run with these cells and views
 abbrev pub outcome_of : Layout → List ℤ → Hypermap → ℤ → Outcome
 outcome_of l cells views value = record {
   result = value;

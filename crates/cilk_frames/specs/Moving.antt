@@ -1,4 +1,4 @@
--- What the code does for one instruction.
+-- The meaning of one executed instruction.
 use Rattle.std.specs.Prelude.{◌≡◌, ℕ, suc, ◌+◌, ◌-◌, ◌*◌, ◌<◌, Bool, true, false, if◌then◌else◌, ℤ, List, [], ◌∷◌, length, slice_get}
 use Rattle.cilk_program.specs.declared.ask.Ask.{Ask}
 use Rattle.cilk_lower.specs.declared.code.Instr.{Instr}
@@ -17,11 +17,11 @@ use Rattle.cilk_frames.specs.Following.{setting_at}
 abbrev pub move_at : CodeView → List ℤ → CursorView → ℕ → Move
 move_at code inputs c left = move (setting_at inputs code c) (slice_get code.instrs c.place) c.place c.stack c.held left
 
--- the invocation at a call site, whose words still stand on the stack
+-- the invocation at a call site, whose words are still on the stack
 abbrev pub invoking : CodeView → ℕ → CursorView → ℕ → Move
 invoking code number c left = on_some (slice_get code.sites number) (λ s. on_words s.words [] c.stack (λ words rest. on_none rest (Waits (invoked s words) c.owed c.place [] c.held left)))
 
--- what the code says of one instruction, and what it then asked
+-- the machine's move that an executed instruction and its request represent
 abbrev pub moved : CodeView → Moved → Ask → CursorView → ℕ → Move
 moved code did.Goes k c left = Goes c.place c.stack c.held left
 moved code did.Waits k c left = Waits k c.owed c.place c.stack c.held left
@@ -38,11 +38,12 @@ abbrev pub TakesTick : ℕ → Bool → ℕ → Type 0
 TakesTick left true left' = left ≡ suc left'
 TakesTick left false left' = (left ≡ 0) × (left' ≡ 0)
 
--- falls with each instruction: the ticks that are left, then the instructions up to one that takes a tick
+-- A measure that decreases with each instruction: first the ticks left, then the instructions up to
+-- one that uses a tick.
 abbrev pub effort : List Instr → ℕ → ℕ → ℕ
 effort code place left = left * (length code + 2) + (if ticks (slice_get code place) then 0 else length code + 1 - place)
 
--- room for a word that is owed
+-- there is room for a word that is owed
 abbrev pub RoomFor : Owed → List ℤ → ℕ → Type 0
 RoomFor Nothing stack room = Unit {0}
 RoomFor Word stack room = length stack < room
@@ -50,7 +51,7 @@ RoomFor Word stack room = length stack < room
 abbrev pub HasRoom : CursorView → Type 0
 HasRoom c = RoomFor c.owed c.stack c.room
 
--- the cursor once the answer came
+-- the cursor after an answer
 abbrev pub told : CursorView → Answer → CursorView
 told c Done = c
 told c (Value v) = record c { stack = v ∷ c.stack }

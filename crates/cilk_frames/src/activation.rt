@@ -1,10 +1,12 @@
-//! Where a frame's cells and reducers lie.
+//! The activation record of a frame.
 
 use cilk_types::event::{Cell, FrameNo, Instance};
 
-/// A frame: what its owner keeps of it, as its cursor; its number, its first cell, the place of its own first reducer,
-/// and the reducers that it was given; where the frame stands that its body stands in, for the frame of a loop's
-/// turns; the cell that its result goes to; and the function whose reducers it creates.
+/// The activation record of a frame. `cursor` is whatever its owner keeps for the frame. `base` is
+/// its first cell, `first` the place of its first own reducer, and `given` the reducers that it was
+/// given. `outer` is the static link of a loop's frame: the index of the frame around its body.
+/// `result` is the cell that receives its result, and `creator` the function whose reducers it
+/// creates.
 #[derive(Drop)]
 pub struct Activation<C> {
     pub cursor: C,

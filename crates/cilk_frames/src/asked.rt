@@ -1,4 +1,4 @@
-//! What a frame asked for last, kept in its place.
+//! A slot for a frame's last request.
 
 ghost use Rattle.std.specs.Prelude.{◌≡◌, ◌≤◌, [], length, ℤ, List, MatchOption, None, Some};
 ghost use Rattle.cilk_program.specs.declared.ask.Ask.TheVariants.{Begin, Invoke};
@@ -14,11 +14,11 @@ use cilk_program::given::{References, Words};
 use cilk_types::invocation::Invocation;
 use std::marker::Model;
 
-/// What a frame asked for last. Most of an `Ask` is room for what a function is given, which would be moved with each step;
-/// here it stays where it is, and is written where a function is invoked.
+/// The last request of a frame. Most of an `Ask` is room for a function's arguments, and would be
+/// copied at each step. Here it stays in one place, and is written only when a function is invoked.
 #[derive(Drop)]
 pub struct AskSlot {
-    // None where a function is invoked.
+    // None if a function is invoked.
     brief: Option<SmallAsk>,
     how: Invocation,
     call: FunctionCall,
@@ -34,7 +34,7 @@ impl Model for AskSlot {
 }
 
 impl AskSlot {
-    /// That a frame begins.
+    /// Returns a slot that holds the request `Begin`.
     pub fn new() -> AskSlot
         ensures { result ≡ Begin }
     {
@@ -50,14 +50,14 @@ impl AskSlot {
         }
     }
 
-    /// The ask but for the invocation of a function.
+    /// Returns the request, unless it invokes a function.
     pub fn brief(&self) -> Option<&SmallAsk>
         ensures { MatchOption result (IsFunctionCall self.now) (λ b. self.now ≡ in_full b.now) }
     {
         self.brief.as_ref()
     }
 
-    /// Whether a function is called or spawned, and which, with what it is given.
+    /// Returns the call or spawn of a function, with its arguments. The request must be one.
     pub fn invocation(&self) -> (Invocation, &FunctionCall)
         requires { IsFunctionCall self.now }
         ensures { self.now ≡ Invoke result.0 (callees.Function result.1.now) }
@@ -65,7 +65,7 @@ impl AskSlot {
         (self.how, &self.call)
     }
 
-    /// The ask.
+    /// Returns the request by value.
     pub fn in_full(&self) -> Ask
         ensures { result ≡ self.now }
     {
@@ -75,14 +75,15 @@ impl AskSlot {
         }
     }
 
-    /// An ask that is no invocation of a function.
+    /// Stores a request that doesn't invoke a function.
     pub fn put(&mut self, brief: SmallAsk)
         ensures { self.new ≡ in_full brief }
     {
         self.brief = Some(brief);
     }
 
-    // The invocation of a call site's function with the words on top of a frame's operands.
+    // Stores the invocation of a call site's function, with the words popped from a frame's
+    // operands.
     pub(crate) fn invoke(&mut self, site: &Site, cursor: &mut Cursor)
         requires few { site.now.words ≤ 16 }
         requires there { site.now.words ≤ length cursor.old.stack }
@@ -103,7 +104,7 @@ impl AskSlot {
     }
 }
 
-// The frame of a function that is given the same.
+// Returns a copy of a call as a callee.
 fn function(call: &FunctionCall) -> Callee
     ensures { result ≡ callees.Function call.now }
 {

@@ -1,4 +1,4 @@
-//! Frames as they begin.
+//! Makes the activations of frames that begin.
 
 ghost use Rattle.std.specs.Prelude.{◌≡◌, ◌==◌, if◌then◌else◌, ◌+◌, ◌<◌, ◌≤◌, ◌∷◌, [], ℕ, List, None, Some, length, slice_get, IfOk};
 ghost use Rattle.std.specs.Option.{option_map};
@@ -17,7 +17,8 @@ use cilk_program::syntax::Place;
 use cilk_types::event::{Cell, FrameNo};
 use std::alloc::{AllocError, Global};
 
-/// The root's frame, above so many global cells and global reducers; `main` is the number of the main function.
+/// Returns the root's activation, given the numbers of global cells and global reducers. `main` is
+/// the index of the main function.
 pub fn root<C>(alloc: Global, cursor: C, globals: u32, reducers: u32, main: u32) -> Activation<C>
     requires { reducers < 65535 }
     ensures sees { (p : Source) (frames : List (Activation C)) → globals ≡ length p.openings → reducers ≡ length p.reducers → HasScope frames result (home_of p callees.Root 1 globals [] ∷ []) }
@@ -42,7 +43,8 @@ pub fn root<C>(alloc: Global, cursor: C, globals: u32, reducers: u32, main: u32)
     }
 }
 
-/// The frame of a function that the frame `top` calls or spawns, with this number and these cells.
+/// Returns the activation of a function that the frame `top` calls or spawns. `base` is its first
+/// cell.
 pub fn function<C: Drop>(
     alloc: Global,
     cursor: C,
@@ -76,7 +78,7 @@ pub fn function<C: Drop>(
     })
 }
 
-// The cell that a result goes to.
+// The cell that receives the result, if any.
 fn result_cell<C>(
     frames: &[Activation<C>],
     top: &Activation<C>,
@@ -91,8 +93,8 @@ fn result_cell<C>(
     }
 }
 
-/// The frame of some turns of a loop that the frame `top` calls or spawns, with this number and these cells. `here` is
-/// where the frame `top` stands in the list once this one runs.
+/// Returns the activation of some turns of a loop that the frame `top` calls or spawns. `base` is
+/// its first cell, and `here` the index of `top` in the list of frames once the new frame runs.
 pub fn turns<C>(
     alloc: Global,
     cursor: C,

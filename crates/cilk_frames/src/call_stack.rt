@@ -1,4 +1,4 @@
-//! The frames of a run in which each frame waits for the one that it called or spawned.
+//! A running frame and the frames that wait for it.
 
 ghost use Rattle.std.specs.Prelude.{◌≡◌, ◌<◌, ◌^◌, ◌∷◌, ◌++◌, [], ℕ, true, false, length, OnErr, OnOk};
 ghost use Rattle.cilk_types.specs.declared.event.Instance.{Instance};
@@ -13,7 +13,8 @@ use cilk_types::event::{Cell, Instance};
 use std::alloc::{AllocError, Global};
 use std::mem;
 
-/// The frame that runs, and those that wait below it, from the bottom up.
+/// A stack of frames. `top` runs, and each frame in `below` waits for the next one, from the bottom
+/// up.
 #[derive(Drop)]
 pub struct CallStack<C> {
     pub top: Activation<C>,
@@ -21,7 +22,7 @@ pub struct CallStack<C> {
 }
 
 impl<C> CallStack<C> {
-    /// One frame alone.
+    /// Makes a stack of one frame.
     pub fn new(alloc: Global, top: Activation<C>) -> Self
         ensures top { result.top ≡ top }
         ensures below { result.below.items ≡ [] }
@@ -32,14 +33,14 @@ impl<C> CallStack<C> {
         }
     }
 
-    /// How many frames wait.
+    /// Returns the number of frames that wait.
     pub fn depth(&self) -> usize
         ensures { result ≡ length self.now.below.items }
     {
         self.below.len()
     }
 
-    /// The cell that a place means to the frame that runs.
+    /// Returns the cell that a place means to the running frame.
     #[inline(always)]
     pub fn cell(&self, place: Place) -> Cell
         requires { (scope : Scope ℕ Instance) × HasScope self.now.below.items self.now.top scope × (cell_in itself scope place < 2 ^ 32) }
@@ -48,7 +49,7 @@ impl<C> CallStack<C> {
         cell(self.below.as_slice(), &self.top, place)
     }
 
-    /// The reducer that a place means to the frame that runs.
+    /// Returns the reducer that a place means to the running frame.
     #[inline(always)]
     pub fn reducer(&self, place: ReducerPlace) -> Instance
         requires sees { (scope : Scope ℕ Instance) × HasScope self.now.below.items self.now.top scope }
@@ -58,8 +59,8 @@ impl<C> CallStack<C> {
         instance(self.below.as_slice(), &self.top, place)
     }
 
-    /// Another frame runs, and the one that ran waits for it. Where memory is refused, the frames are as they were, and
-    /// the new one is dropped.
+    /// Makes `frame` the running frame, which the previous one waits for. If memory is refused, the
+    /// frames are unchanged, and the new one is dropped.
     pub fn push(&mut self, frame: Activation<C>) -> Result<(), AllocError>
     where
         C: Drop,
@@ -72,8 +73,8 @@ impl<C> CallStack<C> {
         Ok(())
     }
 
-    /// The frame that runs is dropped and the uppermost one that waits goes on; or there is none, and nothing is
-    /// changed.
+    /// Drops the running frame, and continues the topmost frame that waits. Returns false and
+    /// changes nothing if none waits.
     pub fn pop(&mut self) -> bool
     where
         C: Drop,

@@ -1,4 +1,4 @@
-//! Where a frame stands in its code.
+//! The state of a frame in its code.
 
 ghost use Rattle.std.specs.Prelude.{◌≡◌, ◌≢◌, ◌+◌, ◌-◌, ◌<◌, ◌≤◌, ◌^◌, ◌∷◌, length, slice_get, ℤ, List, [], IfOk, IfSome, IsSome, MatchOption, None, Some};
 ghost use Rattle.cilk_program.specs.Syntax.{Source};
@@ -17,17 +17,17 @@ use cilk_program::given::Words;
 use std::alloc::{AllocError, Global};
 use std::marker::Model;
 
-/// The answer to what a frame asked for.
+/// The answer to a frame's request.
 #[derive(Clone, Copy, Debug)]
 pub enum Answer {
-    /// The event was made. This is the answer to each ask but `Read` and `Value`.
+    /// The event was made. This is the answer to each request except `Read` and `Value`.
     Done,
     /// The value that was read, or the number of a view.
     Value(i64),
 }
 
-/// Where a frame stands: what it was given, the next instruction, the operands, what it is owed, and the result that it
-/// holds.
+/// A frame between two steps: its arguments, the place of the next instruction, its operands,
+/// whether it is owed a word, and its result so far.
 #[derive(Drop)]
 pub struct Cursor {
     part: Option<LoopPart>,
@@ -47,7 +47,7 @@ impl Model for Cursor {
 }
 
 impl Cursor {
-    /// The root's frame before it begins. It takes the memory that the frame's operands need.
+    /// Returns the root's frame before it begins. Allocates room for its words and operands.
     #[tactic(auto, using(crate::proofs::Following::root_stands))]
     pub fn root(alloc: Global, code: &Code) -> Result<Cursor, AllocError>
         ensures stands { IfOk result (λ c. (p : Source) (inputs : List ℤ) → Behaves p code.now → Stands code.now inputs p Callee.Root c [] 0) }
@@ -56,7 +56,8 @@ impl Cursor {
         Cursor::first(alloc, code.entry(&Callee::Root), &[], None, false)
     }
 
-    /// The frame that an invocation asks for, before it begins. It takes the memory that the frame's operands need.
+    /// Returns the frame that an invocation requests, before it begins. Allocates room for its
+    /// words and operands.
     pub fn new(alloc: Global, code: &Code, ask: &Ask) -> Result<Cursor, AllocError>
         requires { IsSome (child_of ask.now) }
         ensures stands { IfOk result (λ c. IfSome (child_of ask.now) (λ callee. (p : Source) (inputs : List ℤ) → Behaves p code.now → CalleeIsFit p callee → Stands code.now inputs p callee c [] 0)) }
@@ -69,7 +70,8 @@ impl Cursor {
         }
     }
 
-    /// The frame of a function that is called with these words, before it begins.
+    /// Returns the frame of a called function before it begins. Allocates room for its words and
+    /// operands.
     pub fn function(alloc: Global, code: &Code, call: &FunctionCall) -> Result<Cursor, AllocError>
         ensures stands { IfOk result (λ c. (p : Source) (inputs : List ℤ) → Behaves p code.now → CalleeIsFit p (Callee.Function call.now) → Stands code.now inputs p (Callee.Function call.now) c [] 0) }
         ensures owes { IfOk result (λ c. c.owed ≡ owed_for Begin) }
@@ -84,7 +86,7 @@ impl Cursor {
         )
     }
 
-    /// The frame of these turns of a loop, before it begins.
+    /// Returns the frame of some turns of a loop before it begins. Allocates room for its operands.
     pub fn turns(alloc: Global, code: &Code, part: &LoopPart) -> Result<Cursor, AllocError>
         ensures stands { IfOk result (λ c. (p : Source) (inputs : List ℤ) → Behaves p code.now → CalleeIsFit p (Callee.Loop part.now) → Stands code.now inputs p (Callee.Loop part.now) c [] 0) }
         ensures owes { IfOk result (λ c. c.owed ≡ owed_for Begin) }
@@ -92,7 +94,6 @@ impl Cursor {
         Cursor::first(alloc, code.loop_entry(part.number), &[], Some(*part), false)
     }
 
-    // A frame before it begins.
     fn first(
         alloc: Global,
         entry: EntryPoint,
@@ -113,14 +114,14 @@ impl Cursor {
         })
     }
 
-    // The next instruction's place.
+    // The place of the next instruction.
     pub(crate) fn place(&self) -> usize
         ensures { result ≡ self.now.place }
     {
         self.place
     }
 
-    // The result that is held.
+    // The frame's result so far.
     pub(crate) fn held(&self) -> i64
         ensures { result ≡ self.now.held }
     {
@@ -150,7 +151,7 @@ impl Cursor {
         self.takes
     }
 
-    // The answer comes.
+    // Takes an answer, and pushes its value if it has one.
     pub(crate) fn receive(&mut self, answer: Answer)
         requires fits { Fits self.old.owed answer }
         requires room { HasRoom self.old }
@@ -162,7 +163,6 @@ impl Cursor {
         }
     }
 
-    // A word onto the top.
     pub(crate) fn push(&mut self, word: i64)
         requires { length self.old.stack < self.old.room }
         ensures { self.new ≡ record self.old { stack = word ∷ self.old.stack } }
@@ -170,7 +170,6 @@ impl Cursor {
         self.operands.push(word);
     }
 
-    // The word on top leaves.
     pub(crate) fn pop(&mut self) -> i64
         requires { self.old.stack ≢ [] }
         ensures stack { self.old.stack ≡ result ∷ self.new.stack }
@@ -183,7 +182,7 @@ impl Cursor {
         self.operands.pop()
     }
 
-    // So many words leave, the uppermost as the last, and replace those of a list.
+    // Pops `count` operands into `words`, in the order of their pushes.
     pub(crate) fn gather(&mut self, count: usize, words: &mut Words)
         requires few { count ≤ 16 }
         requires there { count ≤ length self.old.stack }
@@ -197,21 +196,21 @@ impl Cursor {
         self.operands.gather(count, words);
     }
 
-    // No operand waits where one would leave the machine stuck.
+    // For the proof only: the stack is empty, because any operand would leave the machine stuck.
     #[tactic(auto, using(crate::proofs::Given::none_there))]
     pub(crate) fn no_operand_waits(&self)
         requires { (x : ℤ) (rest : List ℤ) → self.now.stack ≢ (x ∷ rest) }
         ensures { self.now.stack ≡ [] }
     {}
 
-    // A result is held.
+    // Keeps a word as the frame's result.
     pub(crate) fn hold(&mut self, word: i64)
         ensures { self.new ≡ record self.old { held = word } }
     {
         self.held = word;
     }
 
-    // On behind so many instructions.
+    // Continues after skipping `count` instructions.
     pub(crate) fn skip(&mut self, count: usize)
         requires { self.old.place + 1 + count < 2 ^ 64 }
         ensures { self.new ≡ record self.old { place = self.old.place + 1 + count } }
@@ -219,7 +218,7 @@ impl Cursor {
         self.place += 1 + count;
     }
 
-    // On to the next instruction.
+    // Continues with the next instruction.
     pub(crate) fn next(&mut self)
         requires { self.old.place + 1 < 2 ^ 64 }
         ensures { self.new ≡ record self.old { place = self.old.place + 1 } }
@@ -227,7 +226,7 @@ impl Cursor {
         self.place += 1;
     }
 
-    // On behind the next instruction.
+    // Continues after skipping the next instruction.
     pub(crate) fn pass_next(&mut self)
         requires { self.old.place + 2 < 2 ^ 64 }
         ensures { self.new ≡ record self.old { place = self.old.place + 2 } }
@@ -235,7 +234,7 @@ impl Cursor {
         self.place += 2;
     }
 
-    // Back by so many instructions.
+    // Goes back `count` instructions.
     pub(crate) fn go_back(&mut self, count: usize)
         requires { count ≤ self.old.place }
         ensures { self.new ≡ record self.old { place = self.old.place - count } }
@@ -243,7 +242,7 @@ impl Cursor {
         self.place -= count;
     }
 
-    // On to the next instruction, which waits for an answer.
+    // Continues with the next instruction once the answer has come.
     pub(crate) fn wait(&mut self, owed: Owed)
         requires { self.old.place + 1 < 2 ^ 64 }
         ensures { self.new ≡ record self.old { place = self.old.place + 1; owed = owed } }
@@ -253,7 +252,7 @@ impl Cursor {
     }
 }
 
-// What the frame runs that an ask begins, if it begins one.
+// The callee of an invocation; none for other requests.
 fn invoked(ask: &Ask) -> Option<&Callee>
     ensures { MatchOption result (child_of ask.now ≡ None) (λ callee. child_of ask.now ≡ Some callee.now) }
 {

@@ -1,4 +1,4 @@
-//! The turns of a parallel loop, which a frame halves until it has one.
+//! Halves the turns of a parallel loop, until a frame has one.
 
 ghost use Rattle.std.specs.Prelude.{◌≡◌};
 ghost use Rattle.cilk_program.specs.Behaviour.{middle};
@@ -6,7 +6,7 @@ ghost use Rattle.cilk_program.specs.Behaviour.{middle};
 pub use cilk_lower::layout::has_one;
 use cilk_program::ask::LoopPart;
 
-/// The first half of the turns, for a frame below this one.
+/// Returns the first half of the turns, for a child of their frame.
 pub fn first_half(part: LoopPart) -> LoopPart
     ensures { result ≡ record { number = part.number; up = 1; low = part.low; high = middle part.low part.high } }
 {
@@ -18,7 +18,7 @@ pub fn first_half(part: LoopPart) -> LoopPart
     }
 }
 
-/// The second half of the turns, for a frame below this one.
+/// Returns the second half of the turns, for a child of their frame.
 pub fn second_half(part: LoopPart) -> LoopPart
     ensures { result ≡ record { number = part.number; up = 1; low = middle part.low part.high; high = part.high } }
 {
@@ -30,7 +30,7 @@ pub fn second_half(part: LoopPart) -> LoopPart
     }
 }
 
-// Where the turns between two bounds are halved.
+// The bound at which the turns are halved. The distance of the bounds may exceed a word.
 fn middle(low: i64, high: i64) -> i64
     ensures { result ≡ middle low high }
 {

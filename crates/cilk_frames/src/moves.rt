@@ -1,4 +1,4 @@
-//! What single instructions do to a frame's cursor.
+//! The effect of single instructions on a frame's cursor.
 
 ghost use Rattle.std.specs.Prelude.{◌≡◌, ◌≢◌, ◌+◌, ◌<◌, ◌≤◌, ◌^◌, ◌∷◌, [], if◌then◌else◌, int_lt, length, suc, ℕ};
 ghost use Rattle.cilk_types.specs.declared.fault.Fault.TheVariants.{IndexOutside};
@@ -21,8 +21,8 @@ use cilk_program::syntax::{Array, Place};
 use cilk_types::fault::Fault;
 use cilk_types::invocation::Invocation;
 
-/// What an instruction did: it went on, it asked and waits for the answer, it asked for the last time, or it invokes
-/// the function of a call site, whose words still stand on the stack.
+/// The effect of an instruction: it continues, makes a request and waits, makes the last request,
+/// or invokes the function of a call site, whose words are still on the stack.
 #[derive(Clone, Copy)]
 pub enum Moved {
     Goes,
@@ -31,7 +31,7 @@ pub enum Moved {
     Invokes(usize),
 }
 
-/// On to the next instruction, which waits for the answer to an ask.
+/// Makes a request, and continues with the next instruction after the answer.
 pub fn wait(cursor: &mut Cursor, ask: SmallAsk, owed: Owed, asked: &mut AskSlot) -> Moved
     requires { cursor.old.place < 2 ^ 63 }
     ensures moved { result ≡ Moved.Waits }
@@ -43,7 +43,7 @@ pub fn wait(cursor: &mut Cursor, ask: SmallAsk, owed: Owed, asked: &mut AskSlot)
     Moved::Waits
 }
 
-/// The last ask.
+/// Makes the last request.
 pub fn stop(ask: SmallAsk, asked: &mut AskSlot) -> Moved
     ensures moved { result ≡ Moved.Stops }
     ensures asked { asked.new ≡ in_full ask }
@@ -52,7 +52,7 @@ pub fn stop(ask: SmallAsk, asked: &mut AskSlot) -> Moved
     Moved::Stops
 }
 
-/// A value that takes no tick goes onto the stack.
+/// Pushes a value without a tick.
 pub fn put(cursor: &mut Cursor, word: i64) -> Moved
     requires room { length cursor.old.stack < cursor.old.room }
     requires small { cursor.old.place < 2 ^ 63 }
@@ -64,7 +64,7 @@ pub fn put(cursor: &mut Cursor, word: i64) -> Moved
     Moved::Goes
 }
 
-/// A statement begins.
+/// Begins a statement, for one tick.
 pub fn tick(cursor: &mut Cursor, left: &mut u32, asked: &mut AskSlot) -> Moved
     requires { cursor.old.place < 2 ^ 63 }
     ensures moves { (code : CodeView) → ticked left.old (Goes (cursor.old.place + 1) cursor.old.stack cursor.old.held)
@@ -80,7 +80,7 @@ pub fn tick(cursor: &mut Cursor, left: &mut u32, asked: &mut AskSlot) -> Moved
     Moved::Goes
 }
 
-/// A value is asked for, which takes its tick first.
+/// Requests a value, for one tick.
 pub fn load(cursor: &mut Cursor, ask: SmallAsk, left: &mut u32, asked: &mut AskSlot) -> Moved
     requires { cursor.old.place < 2 ^ 63 }
     ensures moves { (code : CodeView) → ticked left.old
@@ -96,7 +96,7 @@ pub fn load(cursor: &mut Cursor, ask: SmallAsk, left: &mut u32, asked: &mut AskS
     wait(cursor, ask, Owed::Word, asked)
 }
 
-/// An array's element is asked for, once its index is checked.
+/// Checks an index and requests that element of an array, for one tick.
 pub fn load_element(cursor: &mut Cursor, array: Array, left: &mut u32, asked: &mut AskSlot) -> Moved
     requires index { cursor.old.stack ≢ [] }
     requires array { array.first + array.length ≤ 2 ^ 32 }
@@ -116,7 +116,7 @@ pub fn load_element(cursor: &mut Cursor, array: Array, left: &mut u32, asked: &m
     }
 }
 
-/// An array's element is asked for by an index that stays on the stack.
+/// Checks an index and requests that element of an array. The index stays on the stack.
 pub fn fetch_element(cursor: &mut Cursor, array: Array, asked: &mut AskSlot) -> Moved
     requires index { cursor.old.stack ≢ [] }
     requires array { array.first + array.length ≤ 2 ^ 32 }
@@ -136,7 +136,7 @@ pub fn fetch_element(cursor: &mut Cursor, array: Array, asked: &mut AskSlot) -> 
     }
 }
 
-/// A word goes into a cell.
+/// Requests the write of a word to a cell.
 pub fn store(cursor: &mut Cursor, place: Place, word: i64, asked: &mut AskSlot) -> Moved
     requires { cursor.old.place < 2 ^ 63 }
     ensures moved { result ≡ Moved.Waits }
@@ -146,7 +146,7 @@ pub fn store(cursor: &mut Cursor, place: Place, word: i64, asked: &mut AskSlot) 
     wait(cursor, SmallAsk::Write(place, word), Owed::Nothing, asked)
 }
 
-/// A word goes into an array's element, once its index is checked.
+/// Checks an index and requests the write of a word to that element of an array.
 pub fn store_element(cursor: &mut Cursor, array: Array, asked: &mut AskSlot) -> Moved
     requires operands { on_two cursor.old.stack (λ i v rest. Goes 0 rest v 0) ≢ Stuck }
     requires array { array.first + array.length ≤ 2 ^ 32 }
@@ -166,7 +166,7 @@ pub fn store_element(cursor: &mut Cursor, array: Array, asked: &mut AskSlot) -> 
     }
 }
 
-/// A parallel loop's frame is called where the loop has turns; else the `resume` behind the call is passed.
+/// Calls the frame of a parallel loop. If the loop has no turns, skips the `Resume` after the call.
 pub fn call_loop(cursor: &mut Cursor, number: u32, asked: &mut AskSlot) -> Moved
     requires operands { on_two cursor.old.stack (λ low high rest. on_none rest (Goes 0 [] low 0)) ≢ Stuck }
     requires small { cursor.old.place < 2 ^ 63 }
@@ -194,7 +194,7 @@ pub fn call_loop(cursor: &mut Cursor, number: u32, asked: &mut AskSlot) -> Moved
     Moved::Goes
 }
 
-/// The frame of some turns of a loop is invoked.
+/// Invokes the frame of some turns of a loop.
 pub fn invoke_turns(
     cursor: &mut Cursor,
     how: Invocation,
@@ -209,7 +209,7 @@ pub fn invoke_turns(
     wait(cursor, SmallAsk::Turns(how, turns), Owed::Nothing, asked)
 }
 
-/// On behind so many instructions where it says so, else to the next one.
+/// Skips `count` instructions if `skips` is true. Continues after them or with the next one.
 pub fn skip_if(cursor: &mut Cursor, skips: bool, count: usize) -> Moved
     requires { cursor.old.place + 1 + count < 2 ^ 64 }
     ensures moved { result ≡ Moved.Goes }
@@ -224,7 +224,7 @@ pub fn skip_if(cursor: &mut Cursor, skips: bool, count: usize) -> Moved
     Moved::Goes
 }
 
-/// The result that is held goes to the caller, if it takes one.
+/// Gives the frame's result to the caller, if the caller takes one.
 pub fn give_result(cursor: &mut Cursor, asked: &mut AskSlot) -> Moved
     requires { cursor.old.place < 2 ^ 63 }
     ensures moves { (code : CodeView) (left : ℕ) → (if cursor.old.given.takes
@@ -243,7 +243,7 @@ pub fn give_result(cursor: &mut Cursor, asked: &mut AskSlot) -> Moved
     Moved::Goes
 }
 
-/// A value takes its tick and goes onto the stack.
+/// Pushes a value, for one tick.
 #[inline(always)]
 pub fn give(cursor: &mut Cursor, word: i64, left: &mut u32, asked: &mut AskSlot) -> Moved
     requires room { length cursor.old.stack < cursor.old.room }
@@ -261,7 +261,7 @@ pub fn give(cursor: &mut Cursor, word: i64, left: &mut u32, asked: &mut AskSlot)
     put(cursor, word)
 }
 
-/// A value that passed its check takes its tick and goes onto the stack.
+/// Pushes a value that has passed its check, for one tick. Stops by `fault` if there is none.
 pub fn give_checked(
     cursor: &mut Cursor,
     word: Option<i64>,
@@ -284,7 +284,7 @@ pub fn give_checked(
     }
 }
 
-// One tick less, if one is left.
+// Uses one tick. Returns false if none is left.
 fn take_tick(left: &mut u32) -> bool
     ensures { TakesTick left.old result left.new }
 {

@@ -1,4 +1,4 @@
-//! The words of a frame, which take memory once.
+//! The words of a frame, allocated once.
 
 ghost use Rattle.std.specs.Prelude.{◌≡◌, ◌≢◌, ◌<◌, ◌≤◌, ◌∷◌, [], length, slice_get, List, ℤ, IfOk, None, Some};
 ghost use Rattle.cilk_lower.specs.Machine.{Move, on_words};
@@ -10,7 +10,7 @@ use std::marker::Model;
 /// The words that a frame was given, and its operands: a stack of at most `room` words.
 #[derive(Drop)]
 pub struct Operands {
-    // First the words that were given, then the room for the stack, which is filled from its end.
+    // First the given words, then the room for the stack, which is filled from the end.
     items: Vec<i64>,
     given: usize,
     start: usize,
@@ -28,7 +28,7 @@ impl Model for Operands {
 }
 
 impl Operands {
-    /// These words are given, and no others are there yet, with room for so many.
+    /// Allocates an empty stack with room for `room` operands, and copies the given words.
     pub fn new(alloc: Global, room: usize, words: &[i64]) -> Result<Operands, AllocError>
         ensures { IfOk result (λ o. o ≡ record { words = words.now; stack = []; room = room }) }
     {
@@ -44,7 +44,7 @@ impl Operands {
         })
     }
 
-    /// A word that was given.
+    /// Returns a given word.
     pub fn word(&self, number: usize) -> i64
         requires { slice_get self.now.words number ≢ None }
         ensures { slice_get self.now.words number ≡ Some result }
@@ -53,7 +53,7 @@ impl Operands {
         words[number]
     }
 
-    /// A word onto the top.
+    /// Pushes a word.
     pub fn push(&mut self, word: i64)
         requires { length self.old.stack < self.old.room }
         ensures { self.new ≡ record self.old { stack = word ∷ self.old.stack } }
@@ -62,7 +62,7 @@ impl Operands {
         self.items[self.start] = word;
     }
 
-    /// The word on top leaves.
+    /// Pops a word.
     pub fn pop(&mut self) -> i64
         requires { self.old.stack ≢ [] }
         ensures stack { self.old.stack ≡ result ∷ self.new.stack }
@@ -75,7 +75,7 @@ impl Operands {
         word
     }
 
-    /// So many words leave, the uppermost as the last, and replace those of a list.
+    /// Pops `count` words into `words`, in the order of their pushes.
     #[tactic(auto, using(crate::proofs::Given::words_more))]
     pub fn gather(&mut self, count: usize, words: &mut Words)
         requires few { count ≤ 16 }

@@ -1,4 +1,4 @@
-//! What operators give on words.
+//! The values of operators on words.
 
 ghost use Rattle.std.specs.Prelude.{◌≡◌, ◌+◌, ◌^◌, ◌≤◌};
 ghost use Rattle.cilk_program.specs.Operators.{apply, change, is_zero, truth, truth_of};
@@ -8,7 +8,7 @@ use cilk_program::syntax::{Array, Operator, Place};
 use cilk_types::compound::Compound;
 use cilk_types::word;
 
-/// The operator's value, or none for a division by 0.
+/// Returns the value of an operator, or none for a division by 0.
 pub fn apply(operator: Operator, x: i64, y: i64) -> Option<i64>
     ensures { result ≡ apply operator x y }
 {
@@ -27,7 +27,7 @@ pub fn apply(operator: Operator, x: i64, y: i64) -> Option<i64>
     }
 }
 
-/// What `+=`, `-=` and `*=` give.
+/// Returns the value of `+=`, `-=` or `*=`.
 pub fn change(operator: Compound, x: i64, y: i64) -> i64
     ensures { result ≡ change operator x y }
 {
@@ -38,28 +38,28 @@ pub fn change(operator: Compound, x: i64, y: i64) -> i64
     }
 }
 
-/// 1 where it holds, else 0.
+/// Returns 1 for true, 0 for false.
 pub fn truth_of(holds: bool) -> i64
     ensures { result ≡ truth_of holds }
 {
     if holds { 1 } else { 0 }
 }
 
-/// 0 for 0, else 1.
+/// Returns 0 for 0, else 1.
 pub fn truth(word: i64) -> i64
     ensures { result ≡ truth word }
 {
     if word == 0 { 0 } else { 1 }
 }
 
-/// 1 for 0, else 0.
+/// Returns 1 for 0, else 0.
 pub fn negation(word: i64) -> i64
     ensures { result ≡ truth_of (is_zero word) }
 {
     if word == 0 { 1 } else { 0 }
 }
 
-/// The element of an array at an index, if there is one.
+/// Returns the element of an array at an index, or none outside the array.
 pub fn element(array: Array, index: i64) -> Option<Place>
     requires { array.first + array.length ≤ 2 ^ 32 }
     ensures { result ≡ element array index }

@@ -1,4 +1,4 @@
-//! The outcome of a run that has ended, by its cells and its views.
+//! The outcome of a run that has ended.
 
 ghost use Rattle.std.specs.Prelude.{◌≡◌, ◌+◌, ◌≤◌, length, IfOk, OnOk};
 ghost use Rattle.std.specs.Option.{option_map};
@@ -17,7 +17,8 @@ use cilk_types::outcome::{Final, Outcome};
 use cilk_types::sequence::Sequence;
 use std::alloc::{AllocError, Global};
 
-/// The outcome, by the cells and the views, which lose those that it takes.
+/// Returns the outcome of a run, given its final cells and views. The printed numbers and the
+/// global reducers' values are taken out of `views`.
 pub fn outcome(
     alloc: Global,
     layout: &Layout,
@@ -40,7 +41,7 @@ pub fn outcome(
     })
 }
 
-// The numbers that were printed.
+// The printed numbers.
 fn printed(alloc: Global, views: &mut Hypermap) -> Sequence<i64>
     ensures value { result ≡ numbers_in (option_map final_of (view_in views.old MonoidKind.Append output)) }
     ensures others { KeepsOthers views.old views.new output }
@@ -72,7 +73,7 @@ fn finals(
     Ok(list)
 }
 
-// The value that a reducer leaves.
+// The last value of a reducer, taken out of its view.
 fn last(
     alloc: Global,
     views: &mut Hypermap,
@@ -89,7 +90,7 @@ fn last(
     Ok(value)
 }
 
-/// The same outcome.
+/// Returns a copy of an outcome.
 pub fn copied(alloc: Global, outcome: &Outcome) -> Result<Outcome, AllocError>
     ensures { IfOk result (λ o. o ≡ outcome.now) }
 {
@@ -104,7 +105,6 @@ pub fn copied(alloc: Global, outcome: &Outcome) -> Result<Outcome, AllocError>
     })
 }
 
-// The same values.
 fn copied_values(alloc: Global, values: &[Final]) -> Result<Vec<Final>, AllocError>
     ensures { IfOk result (λ list. list.items ≡ values.now) }
 {
@@ -115,7 +115,6 @@ fn copied_values(alloc: Global, values: &[Final]) -> Result<Vec<Final>, AllocErr
     Ok(list)
 }
 
-// The same value.
 fn copied_value(alloc: Global, value: &Final) -> Result<Final, AllocError>
     ensures { IfOk result (λ v. v ≡ value.now) }
 {

@@ -1,4 +1,4 @@
-//! What the places that a frame names mean. Each call takes as many steps as the place has static links.
+//! Finds the cells and reducers that a frame names. Each lookup costs one step per static link.
 
 ghost use Rattle.std.specs.Prelude.{◌≡◌, ◌+◌, ◌<◌, ◌^◌, ℕ, None, Some, drop, slice_get, unwrap_or, IfOk, MatchOption};
 ghost use Rattle.cilk_types.specs.declared.event.Instance.{Instance};
@@ -11,7 +11,7 @@ use cilk_program::syntax::{Place, Reducer, ReducerPlace};
 use cilk_types::event::{Cell, Instance};
 use std::alloc::{AllocError, Global};
 
-/// The cell that a place means to a frame.
+/// Returns the cell that a place means to the frame `top`.
 #[inline(always)]
 pub fn cell<C>(frames: &[Activation<C>], top: &Activation<C>, place: Place) -> Cell
     requires { (scope : Scope ℕ Instance) × HasScope frames.now top.now scope × (cell_in itself scope place < 2 ^ 32) }
@@ -27,7 +27,7 @@ pub fn cell<C>(frames: &[Activation<C>], top: &Activation<C>, place: Place) -> C
     }
 }
 
-/// The reducer that a place means to a frame.
+/// Returns the reducer that a place means to the frame `top`.
 #[inline(always)]
 pub fn instance<C>(frames: &[Activation<C>], top: &Activation<C>, place: ReducerPlace) -> Instance
     requires sees { (scope : Scope ℕ Instance) × HasScope frames.now top.now scope }
@@ -49,7 +49,7 @@ pub fn instance<C>(frames: &[Activation<C>], top: &Activation<C>, place: Reducer
     }
 }
 
-/// The reducers that several places mean to a frame.
+/// Returns the reducers that several places mean to the frame `top`.
 pub fn instances<C>(
     alloc: Global,
     frames: &[Activation<C>],
@@ -79,7 +79,7 @@ fn global(number: u32) -> Instance
     }
 }
 
-// A reducer that a frame created itself.
+// A reducer that a frame created.
 fn own<C>(frame: &Activation<C>, number: u32) -> Instance
     requires small { number < 65536 }
     requires low { frame.now.first < 65536 }
@@ -102,7 +102,7 @@ fn given<C>(frame: &Activation<C>, number: u32) -> Instance
     }
 }
 
-// The frame so many static links up, if there is one.
+// The frame that is `up` static links up, if there is one.
 fn outer<'a, C>(
     frames: &'a [Activation<C>],
     top: &Activation<C>,
@@ -115,7 +115,7 @@ fn outer<'a, C>(
     at(frames, place)
 }
 
-// Where it stands.
+// Its index in the list.
 fn outer_place<C>(frames: &[Activation<C>], top: &Activation<C>, up: u32) -> Option<usize>
     requires { 0 < up }
     ensures { (scope : Scope ℕ Instance) → HasScope frames.now top.now scope → LinksTo frames.now result (drop up scope) }

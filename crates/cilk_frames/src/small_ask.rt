@@ -1,4 +1,4 @@
-//! Asks that are small.
+//! Requests without arguments of a function.
 
 ghost use Rattle.std.specs.Prelude.{◌≡◌};
 ghost use Rattle.cilk_frames.specs.AskSlot.{in_full};
@@ -8,7 +8,7 @@ use cilk_program::syntax::{Place, Reducer};
 use cilk_types::fault::Fault;
 use cilk_types::invocation::Invocation;
 
-/// What a frame asks for, but for the invocation of a function: see [`Ask`].
+/// A request other than the invocation of a function. See [`Ask`].
 #[derive(Clone, Copy)]
 pub enum SmallAsk {
     Begin,
@@ -19,7 +19,7 @@ pub enum SmallAsk {
     Set(Reducer, i64),
     Value(Reducer),
     Print(i64),
-    /// The frame of some turns of a loop is invoked.
+    /// Begins the frame of some turns of a loop.
     Turns(Invocation, LoopPart),
     Resume,
     Sync,
@@ -29,7 +29,7 @@ pub enum SmallAsk {
 }
 
 impl SmallAsk {
-    /// The ask.
+    /// Returns the request as an [`Ask`].
     pub fn in_full(self) -> Ask
         ensures { result ≡ in_full self }
     {

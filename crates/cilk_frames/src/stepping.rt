@@ -1,4 +1,4 @@
-//! From one ask of a frame to the next.
+//! Runs a frame from one request to the next.
 
 ghost use Rattle.std.specs.Prelude.{◌≡◌, ◌≢◌, ◌<◌, ℕ, ℤ, List};
 ghost use Rattle.cilk_program.specs.Syntax.{Source};
@@ -24,9 +24,11 @@ use cilk_types::input::Input;
 use cilk_types::invocation::Invocation;
 use cilk_types::word;
 
-/// Goes on from the answer to the next thing that the frame asks for. `left` is the ticks that the run has left: the
-/// step takes those that the frame's statements and expressions take meanwhile. It takes no memory and always ends.
-/// This is the plain form; who runs many frames keeps one ask and uses [`step_into`].
+/// Runs a frame from an answer to its next request, which it returns. `left` is the run's remaining
+/// ticks, and the step subtracts those that the frame uses. It allocates nothing and always ends.
+///
+/// It returns the request by value. A caller that runs many frames keeps one slot for requests and
+/// uses [`step_into`].
 pub fn step(code: &Code, input: &Input, cursor: &mut Cursor, answer: Answer, left: &mut u32) -> Ask
     requires runs { Runs code.now input.now cursor.old }
     requires fits { Fits cursor.old.owed answer }
@@ -38,7 +40,7 @@ pub fn step(code: &Code, input: &Input, cursor: &mut Cursor, answer: Answer, lef
     asked.in_full()
 }
 
-/// The step of [`step`], which leaves what the frame asks for in a place of the caller's.
+/// Runs a frame as [`step`] does, but stores the request in the caller's slot.
 #[inline(always)]
 pub fn step_into(
     code: &Code,
@@ -53,13 +55,13 @@ pub fn step_into(
     ensures follows { Steps code.now input.now cursor.old answer left.old asked.new cursor.new left.new }
     ensures stands { (p : Source) (callee : Callee) (history : List ℤ) (took : ℕ) → Stands code.now input.now p callee cursor.old history took → GoesOn code.now input.now cursor.old answer left.old asked.new cursor.new left.new p callee history took }
 {
-    // A number of its own, so that it stays in a register.
+    // A local copy, so that it stays in a register.
     let mut ticks = *left;
     go_on(code, input, cursor, answer, &mut ticks, asked);
     *left = ticks;
 }
 
-// The step of `step_into`, instruction by instruction.
+// Executes instructions until one makes a request.
 #[inline(always)]
 fn go_on(
     code: &Code,
@@ -86,7 +88,7 @@ fn go_on(
     }
 }
 
-// One instruction.
+// Executes one instruction.
 #[inline(always)]
 #[tactic(auto, using(crate::proofs::Effort::effort_back))]
 fn exec_instr(
@@ -220,7 +222,7 @@ fn exec_instr(
     }
 }
 
-// The invocation of a call site's function, with the words that stand on the stack.
+// Stores the invocation of a call site's function, and pops its words.
 #[tactic(auto, using(crate::proofs::Given::words_there))]
 fn invoke(code: &Code, cursor: &mut Cursor, number: usize, asked: &mut AskSlot)
     requires { (left : ℕ) × (invoking code.now number cursor.old left ≢ Stuck) }

@@ -1,7 +1,8 @@
--- Activations that are alike: what one sees the other does.
+-- Alike activations see the same.
 --
 -- - `alike_on_top`: the frame on top;
--- - `alike_length`, `alike_none`, `alike_more`, `alike_split`: those that wait: as many, none, one more, and the uppermost.
+-- - `alike_length`, `alike_none`, `alike_more`, `alike_split`: the suspended frames: their number,
+--   none, one more, and the uppermost.
 use Rattle.std.proofs.Common.{◌≡◌, ℕ, zero, suc, ◌+◌, ◌<◌, List, [], ◌∷◌, ◌++◌, length, slice_get, Option, Some, None, refl, sym, ap, ◌∙◌, subst}
 use Rattle.cilk_types.specs.declared.event.Instance.{Instance}
 use Rattle.cilk_program.specs.Scopes.{Scope}

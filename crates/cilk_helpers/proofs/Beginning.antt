@@ -1,8 +1,9 @@
 -- A frame begins in a run that is retold.
 --
--- - `alike_with`: an activation that has a run's cursor;
--- - `allowed`, `fits`, `may`, `few`: there is room for the frame, what it runs is there, and it can be numbered;
--- - `tells_begin`: the run goes on in it; `as_many`: where its parent stands;
+-- - `alike_with`: an activation with a run's cursor;
+-- - `allowed`, `fits`, `may`, `few`: the limits allow the frame, its callee is there, and it can be
+--   numbered;
+-- - `tells_begin`: the run continues in it; `as_many`: the depth of its parent;
 -- - `tells_first`: the root's frame.
 use Rattle.std.proofs.Common.{◌≡◌, suc, ◌<◌, ◌≤◌, ℤ, List, [], ◌∷◌, ◌++◌, length, map, reverse, Some, None, refl, sym, ap, ◌∙◌, subst, arith}
 use Rattle.std.specs.Prelude.{IsTrue}
@@ -63,7 +64,7 @@ module _ (code : CodeView) (p : Source) (inputs : List ℤ) (t : Retelling) (wel
   pub allowed : ((m : Memory) → Shows t.state m → crowded p callee m ≡ None) → IsAllowed p (let r = run in r.state) (let r = run in r.ask)
   allowed free = λ m h. subst (λ (k : Ask). refused p m k ≡ None) (sym is) (free m (subst (λ (s : State). Shows s m) x.state h))
 
-  -- what it runs is there
+  -- its callee is there
   pub fits : CalleeIsFit p callee
   fits = fits_callee code p inputs run how callee well going is
 
@@ -108,7 +109,7 @@ module _ (code : CodeView) (p : Source) (inputs : List ℤ) (t : Retelling) (wel
         begins = subst (λ (k : Ask). BeginsNext p inputs t.state.events.items (child_of k)) asked (tells_begins code p inputs t x);
       }
 
--- as many frames wait
+-- the number of suspended frames is the same
 pub as_many : (code : CodeView) (p : Source) (inputs : List ℤ) (t : Retelling) → (x : Tells code p inputs t) → length (waiting (let r = x.run in r.frames)) ≡ length t.frames.below.items
 as_many code p inputs t x =
     let r = x.run in

@@ -1,7 +1,7 @@
 -- The frames of a run that is retold, as its events are made.
 --
 -- - `cells_fit`: the cells of a frame that begins can be counted;
--- - `noted_begun`, `noted_same`: one event more, which begins a frame or none;
+-- - `noted_begun`, `noted_same`: one more event, which begins a frame or none;
 -- - `noted_last`: the last event; all frames are noted then.
 use Rattle.std.proofs.Common.{◌≡◌, ℕ, ◌+◌, ◌<◌, ℤ, List, [], ◌∷◌, ◌++◌, Some, None, refl, sym, ap, ◌∙◌, subst, arith}
 use Rattle.cilk_types.specs.declared.event.Event.{Event}

@@ -1,5 +1,6 @@
--- A serial run is retold, event by event: `retold_inner`, an event after which the frame goes on; `retold_child`, a frame that begins;
--- `retold_return`, one that ends above another; `retold_end`, the first frame's end; `runs_are_retold`, the law.
+-- A serial run is retold, event by event: `retold_inner`, an event after which the frame continues;
+-- `retold_child`, a frame that begins; `retold_return`, one that ends above another; `retold_end`,
+-- the first frame's end; `runs_are_retold`, the law.
 use Rattle.std.proofs.Common.{◌≡◌, ℕ, ◌+◌, ◌-◌, ◌≤◌, ℤ, List, [], ◌∷◌, sym, ap, ◌∙◌, subst, arith}
 use Rattle.std.specs.Prelude.{IsTrue}
 use Rattle.cilk_types.specs.declared.invocation.Invocation.{Invocation}
@@ -37,7 +38,7 @@ all_fewer_left code inputs left left' (a ∷ list) (x ∷ all) low h =
     let enough = one.enough in
     (record { enough = omega (arith, low, enough); notes = one.notes }, all_fewer_left code inputs left left' list all low h.1)
 
--- what a note says of the run: a step of the frame that takes these ticks from those that the run has left
+-- a note as a step of the run: its ticks are taken from those that the run has left
 record Taken (code : CodeView) (p : Source) (inputs : List ℤ) (left : ℕ) (a : Activation) (n : NoteView) (ns : List NoteView) (left' : ℕ) : Type 0 where
   cursor : CursorView
   on : (callee : Callee) (history : List ℤ) (took : ℕ) → Stands code inputs p callee a.cursor history took → GoesOn code inputs a.cursor n.told left n.ask cursor left' p callee history took
@@ -62,7 +63,7 @@ taken code p inputs left mine a n ns left' h t =
       low = omega (arith, spent);
     }
 
--- ---- an event after which the frame goes on
+-- ---- an event after which the frame continues
 
 retold_inner : (code : CodeView) (p : Source) (inputs : List ℤ) (r : Running) (s' : State) (mine : ℕ) (n : NoteView) (ns : List NoteView) (below : List Held) (left' : ℕ)
     → (h : Retold code p inputs r (held mine (n ∷ ns)) below) → IsAllowed p r.state r.ask → IsInner r.ask
@@ -81,7 +82,7 @@ retold_inner code p inputs r s' mine n ns below left' h allowed inner told t =
       },
     )
 
--- ---- a frame begins, of which there is a replay
+-- ---- a frame with a replay begins
 
 retold_child : (code : CodeView) (p : Source) (inputs : List ℤ) (r : Running) (s' : State) (frames : Frames) (how : Invocation) (callee : Callee) (own : Held) (child : List NoteView) (below : List Held)
     → IsTrue (is_well_named p) → (h : Retold code p inputs r own below) → IsAllowed p r.state r.ask
@@ -101,7 +102,7 @@ retold_child code p inputs r s' frames how callee own child below well h allowed
 
 -- ---- a frame ends
 
--- the one that waits goes on
+-- the suspended parent continues
 retold_return : (code : CodeView) (p : Source) (inputs : List ℤ) (r : Running) (s' : State) (v : ℤ) (frames : Frames) (own : Held) (mine : ℕ) (n : NoteView) (ns : List NoteView) (below : List Held) (left' : ℕ)
     → (h : Retold code p inputs r own (held mine (n ∷ ns) ∷ below)) → IsAllowed p r.state r.ask → r.ask ≡ asks.End v → Closed p r s'
     → waiting r.frames ≡ frames.top ∷ waiting frames → n.told ≡ Done → IsTaken r.left mine n left'

@@ -1,7 +1,8 @@
--- What a frame is told as its notes are made.
+-- The answers that a frame receives as its notes are made.
 --
--- - `told_more`: one note more;
--- - `first_left`, `words_left`, `after_word`, `after_none`: the words that are left, first by their place, and after one more note.
+-- - `told_more`: one more note;
+-- - `first_left`, `words_left`, `after_word`, `after_none`: the remaining words, by place and after
+--   one more note.
 use Rattle.std.proofs.Common.{◌≡◌, ℕ, zero, suc, ℤ, List, [], ◌∷◌, ◌++◌, Bool, true, false, if◌then◌else◌, Option, Some, option_map, drop, slice_get, refl, sym, ap, ◌∙◌}
 use Rattle.cilk_program.specs.declared.ask.Ask.{Ask}
 use Rattle.cilk_program.specs.declared.ask.Ask.TheVariants as asks
@@ -19,13 +20,13 @@ told_more words next [] words' next' n h is =
 told_more words next (m ∷ ns) words' next' n h is =
     (h.0, told_more (words_after (owed_for m.ask) words) (answer_with m.ask (slice_get words 0)) ns words' next' n h.1 is)
 
--- the first word that is left
+-- the first remaining word
 pub first_left : (n : ℕ) (words : List ℤ) → slice_get (drop n words) 0 ≡ slice_get words n
 first_left zero words = refl
 first_left (suc n) [] = refl
 first_left (suc n) (w ∷ words) = first_left n words
 
--- of the words from this place on, after one that may be there
+-- the words from a place on, after one that may be there
 past : (n : ℕ) (words : List ℤ) (told : Option Answer) → told ≡ option_map (λ (w : ℤ). Value w) (slice_get words n)
     → drop 1 (drop n words) ≡ (if tells_word told then drop (suc n) words else drop n words)
 past zero [] told is = sym (ap (λ (o : Option Answer). if tells_word o then [] else []) is)

@@ -1,8 +1,8 @@
--- What holds of all elements of a list.
+-- Properties of all elements of a list.
 --
--- - `rest_of`, `one_of`: of a list whose last one is taken out;
--- - `picked`: of those that are picked;
--- - `changed`: where one is changed.
+-- - `rest_of`, `one_of`: after the last element is taken out;
+-- - `picked`: for the elements that are picked;
+-- - `changed`: after one element is changed.
 use Rattle.std.proofs.Common.{◌≡◌, ℕ, Bool, List, [], ◌∷◌, ◌++◌, set, sym, subst}
 use Rattle.std.specs.Prelude.{All}
 use Rattle.std.specs.List.{items_where_true}

@@ -1,7 +1,7 @@
 -- Notes that are made one after the other.
 --
 -- - `Goes`, `are_notes`, `goes_on`: a frame goes from one cursor to another, and one ask further;
--- - `answered`, `of_some`: an answer that there is brings what the frame is owed.
+-- - `answered`, `of_some`: an answer brings what the frame is owed.
 use Rattle.std.proofs.Common.{◌≡◌, ℕ, ◌-◌, ℤ, List, [], ◌∷◌, ◌++◌, Option, Some, None, IfSome, refl, sym, subst}
 use Rattle.cilk_program.specs.declared.ask.Ask.{Ask}
 use Rattle.cilk_program.specs.declared.ask.Ask.TheVariants as asks
@@ -13,7 +13,7 @@ use Rattle.cilk_frames.specs.Following.{Fits, HasAnswer, Runs, Steps, owed_for, 
 use Rattle.cilk_helpers.specs.Asked.{NoteView, answer_with}
 use Rattle.cilk_helpers.specs.Notes.{AreNotes}
 
--- the frame goes so from one cursor to another
+-- the frame goes from one cursor to another by these notes
 abbrev pub Goes : CodeView → List ℤ → CursorView → ℕ → List NoteView → CursorView → ℕ → Type 0
 Goes code inputs c left [] c' left' = (c' ≡ c) × (left' ≡ left)
 Goes code inputs c left (n ∷ ns) c' left' = (d : CursorView) × Steps code inputs c n.told left n.ask d n.left × Goes code inputs d n.left ns c' left'
@@ -35,7 +35,7 @@ runs_on : (code : CodeView) (inputs : List ℤ) (c : CursorView) (told : Answer)
     → Steps code inputs c told left k d left' → Runs code inputs c → HasAnswer k → Runs code inputs d
 runs_on code inputs c told left k d left' step runs has = (rest runs.0 (word_in told) (left - left'), step.follows runs.0 runs.1 has)
 
--- what an answer brings is owed
+-- an answer brings what is owed
 fits : (k : Ask) (word : Option ℤ) → IfSome (answer_with k word) (λ a. HasAnswer k × Fits (owed_for k) a)
 fits asks.Begin word = (tt, tt)
 fits (asks.Read x) None = tt

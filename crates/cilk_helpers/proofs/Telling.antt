@@ -1,8 +1,8 @@
 -- The code of a run that is retold.
 --
--- - `tells_there`: what the frame on top sees, and that what it asks for is there;
--- - `tells_begins`: what the next event begins;
--- - `tells_inner`: an event after which the frame goes on;
+-- - `tells_there`: the values that the frame on top sees, and the target of its request;
+-- - `tells_begins`: the frame that the next event begins;
+-- - `tells_inner`: an event after which the frame continues;
 -- - `dressed`: the frames with the cursors of a run;
 -- - `tells_last`, `tells_return`: a frame ends.
 use Rattle.std.proofs.Common.{◌≡◌, ℕ, ◌+◌, ◌-◌, ◌≤◌, ℤ, List, [], ◌∷◌, ◌++◌, length, map, reverse, Option, None, refl, sym, ap, ◌∙◌, subst}
@@ -42,7 +42,7 @@ use Rattle.cilk_helpers.specs.Telling.{AllAlike, Closes, HasRoom, IsAlike, Tells
 use Rattle.cilk_helpers.proofs.Alike.{alike_length, alike_none, alike_on_top, alike_split}
 use Rattle.cilk_helpers.proofs.Goings.{runs_are_retold}
 
--- the frame that runs
+-- the current frame
 pub record There (p : Source) (t : Retelling) : Type 0 where
   pub frame : Frame
   pub on_top : IsOnTop t.frames frame
@@ -61,14 +61,14 @@ tells_there code p inputs t well x =
       few = subst (λ (s : State). length s.cells.items ≤ MAX_CELLS) x.state (subst (λ n. n ≤ MAX_CELLS) g.shows.cells g.small);
     }
 
--- what the next event begins
+-- the frame that the next event begins
 pub tells_begins : (code : CodeView) (p : Source) (inputs : List ℤ) (t : Retelling) → Tells code p inputs t → BeginsNext p inputs t.state.events.items (child_of (ask_in t.asked))
 tells_begins code p inputs t x =
     let r = x.run in
     subst (λ (k : Ask). BeginsNext p inputs t.state.events.items (child_of k)) x.ask
     (subst (λ (s : State). BeginsNext p inputs s.events.items (child_of r.ask)) x.state (begins_next code p inputs r x.retold.going))
 
--- an ask after which the frame goes on begins no frame
+-- an ask after which the frame continues begins no frame
 inner_begins : (k : Ask) → IsInner k → child_of k ≡ None
 inner_begins asks.Begin h = refl
 inner_begins (asks.Read x) h = refl
@@ -88,7 +88,7 @@ inner_begins (asks.Fault f) h = refl
 pub other_cursor : {C D : Type 0} (a : activations.Activation C) (b : activations.Activation D) (c : C) (d : D) → IsAlike a b → IsAlike (record a { cursor = c }) (record b { cursor = d })
 other_cursor a b c d s = record { number = s.number; base = s.base; first = s.first; given = s.given; outer = s.outer; result = s.result; creator = s.creator }
 
--- what was taken with a note
+-- the parts of a note that was taken
 pub record Took (answer : Answer) (left : ℕ) (rest rest' : Rest) (taken : Taken) : Type 0 where
   pub note : NoteView
   pub notes : List NoteView
@@ -163,7 +163,7 @@ allowed_end : (code : CodeView) (p : Source) (inputs : List ℤ) (t : Retelling)
 allowed_end code p inputs t v x room is = λ m h.
     subst (λ (k : Ask). refused p m k ≡ None) (sym (x.ask ∙ is)) (room m (subst (λ (s : State). Shows s m) x.state h))
 
--- what an end begins
+-- an end begins no frame
 ends_none : (code : CodeView) (p : Source) (inputs : List ℤ) (t : Retelling) (v : ℤ) → Tells code p inputs t → ask_in t.asked ≡ asks.End v → BeginsNext p inputs t.state.events.items None
 ends_none code p inputs t v x is = subst (λ (k : Ask). BeginsNext p inputs t.state.events.items (child_of k)) is (tells_begins code p inputs t x)
 

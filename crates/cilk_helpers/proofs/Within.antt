@@ -1,4 +1,5 @@
--- `within`: a step with fewer ticks. What a frame asks for with some to spare it asks for without them.
+-- `within`: a step with fewer ticks. A frame makes the same ask without the ticks that it doesn't
+-- need.
 use Rattle.std.proofs.Common.{◌≡◌, ◌+◌, ◌-◌, ◌≤◌, [], ◌∷◌, ◌++◌, sym, ap, ◌∙◌, subst, arith}
 use Rattle.cilk_program.specs.Behaviour.{frame_asks}
 use Rattle.cilk_program.proofs.Ticking.{runs_short}

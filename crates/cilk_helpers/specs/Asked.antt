@@ -1,4 +1,4 @@
--- What a note keeps.
+-- The contents of a note.
 use Rattle.std.specs.Prelude.{ℕ, ℤ, ◌≤◌, Bool, true, false, length, Option, Some, None, option_map}
 use Rattle.cilk_program.specs.declared.ask.Ask.{Ask}
 use Rattle.cilk_program.specs.declared.ask.Ask.TheVariants as asks
@@ -14,21 +14,21 @@ use Rattle.cilk_helpers.specs.declared.note.Given.{Given}
 use Rattle.cilk_helpers.specs.declared.note.Parts.{Parts}
 use Rattle.cilk_helpers.specs.declared.note.Parts.TheVariants as parts
 
--- the call of a function
+-- the call in a request
 abbrev pub call_in : Given → FunctionCall
 call_in g = record { function = g.function; words = g.words.items; reducers = g.reducers.items; result = g.result }
 
--- the ask
+-- the request as an ask
 abbrev pub ask_in : Asked → Ask
 ask_in (asked.SmallAsk b) = in_full b
 ask_in (asked.Function how given) = asks.Invoke how (callees.Function (call_in given.value))
 
--- the answer, if it is a word or none
+-- the answer of a flag and a word
 abbrev pub answer_of : Bool → ℤ → Answer
 answer_of true word = Value word
 answer_of false word = Done
 
--- what callers see of a note: what a frame is told, what it asks for then, and how many ticks are left to it
+-- the view of a note: the answer that a frame receives, its next ask, and the ticks left to it
 pub record NoteView : Type 0 where
   pub told : Answer
   pub ask : Ask
@@ -38,14 +38,14 @@ abbrev pub note_of : Parts → NoteView
 note_of (parts.SmallAsk is_word left word brief) = record { told = answer_of is_word word; ask = in_full brief; left = left }
 note_of (parts.Function is_word how left word given) = record { told = answer_of is_word word; ask = asks.Invoke how (callees.Function (call_in given.value)); left = left }
 
--- no function runs that is given no more than a function can be
+-- the callee is none, or a call with more arguments than a function can have
 abbrev pub IsTooMuch : Option Callee → Type 0
 IsTooMuch None = Unit {0}
 IsTooMuch (Some callees.Root) = ⊥
 IsTooMuch (Some (callees.Function call)) = (length call.words ≤ 16) × (length call.reducers ≤ 16) → ⊥
 IsTooMuch (Some (callees.Loop part)) = ⊥
 
--- the answer to an ask, if it has one, and if the word is there that it brings
+-- the answer to an ask; none after an end or a fault, and none if its word is absent
 abbrev pub answer_with : Ask → Option ℤ → Option Answer
 answer_with asks.Begin word = Some Done
 answer_with (asks.Read x) word = option_map (λ w. Value w) word

@@ -1,4 +1,4 @@
--- What frames ask for that are replayed by themselves.
+-- The notes of frames that are replayed independently.
 use Rattle.std.specs.Prelude.{◌≡◌, ℕ, ◌+◌, ◌<◌, ◌≤◌, ℤ, List, [], ◌∷◌, Bool, true, false, Option, Some, None, drop, length, slice_get}
 use Rattle.cilk_types.specs.declared.limits.TheConstants.{MAX_TICKS}
 use Rattle.cilk_program.specs.declared.ask.Ask.{Ask}
@@ -16,28 +16,31 @@ use Rattle.cilk_frames.specs.Cursor.{CursorView}
 use Rattle.cilk_frames.specs.Following.{GoesOn, Stands, Steps, owed_for}
 use Rattle.cilk_helpers.specs.Asked.{NoteView, answer_with}
 
--- A frame at this cursor, with so many ticks left to it, asks so, one note after the other, where it is told so.
+-- A frame at this cursor, with these ticks left, makes the asks of the notes if it receives their
+-- answers.
 abbrev pub AreNotes : CodeView → List ℤ → CursorView → ℕ → List NoteView → Type 0
 AreNotes code inputs c left [] = Unit {0}
 AreNotes code inputs c left (n ∷ ns) = (d : CursorView) × Steps code inputs c n.told left n.ask d n.left × AreNotes code inputs d n.left ns
 
--- the words that are left where an answer brings what is owed
+-- the remaining words after an answer that brings what is owed
 abbrev pub words_after : Owed → List ℤ → List ℤ
 words_after Nothing words = words
 words_after Word words = drop 1 words
 
--- In these notes a frame is told first what comes next, and then what its asks are answered by the words; these are left then, and this comes next.
+-- The first note has the answer `next`, and each later one has the answer to the ask before, taken
+-- from the words. `words'` remain at the end, and `next'` is the answer after the last note.
 abbrev pub AreTold : List ℤ → Option Answer → List NoteView → List ℤ → Option Answer → Type 0
 AreTold words next [] words' next' = (words' ≡ words) × (next' ≡ next)
 AreTold words next (n ∷ ns) words' next' = (next ≡ Some n.told) × AreTold (words_after (owed_for n.ask) words) (answer_with n.ask (slice_get words 0)) ns words' next'
 
--- a word is told
+-- the answer is a word
 abbrev pub tells_word : Option Answer → Bool
 tells_word None = false
 tells_word (Some Done) = false
 tells_word (Some (Value w)) = true
 
--- Notes of a frame from its beginning on, where it is told these words: so many, or fewer where the next has no answer.
+-- Notes of a frame from its beginning that reads these words: `most` notes, or fewer if the last
+-- has no answer.
 pub record GoAsFar (words : List ℤ) (most : ℕ) (ns : List NoteView) : Type 0 where
   pub words' : List ℤ
   pub next : Option Answer
@@ -45,14 +48,14 @@ pub record GoAsFar (words : List ℤ) (most : ℕ) (ns : List NoteView) : Type 0
   pub few : length ns ≤ most
   pub whole : length ns < most → next ≡ None
 
--- These are notes of a frame of this callee from its beginning on, with all ticks of a run for itself.
+-- These are notes of a frame of this callee from its beginning, with all ticks of a run.
 pub record IsReplay (code : CodeView) (p : Source) (inputs : List ℤ) (callee : Callee) (ns : List NoteView) : Type 0 where
   pub cursor : CursorView
   pub stands : CalleeIsFit p callee → Stands code inputs p callee cursor [] 0
   pub owes : cursor.owed ≡ owed_for Begin
   pub notes : AreNotes code inputs cursor MAX_TICKS ns
 
--- What a frame asks for with some ticks to spare it asks for without them.
+-- A frame makes the same ask without the ticks that it doesn't need.
 abbrev pub NotesAreWithinFewerTicks : Type 0
 NotesAreWithinFewerTicks =
     (code : CodeView) (p : Source) (inputs : List ℤ) (c d : CursorView) (told : Answer) (k : Ask) (left left' spare : ℕ)

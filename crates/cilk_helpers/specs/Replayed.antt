@@ -1,4 +1,4 @@
--- What helpers replay.
+-- The frames that helpers replay.
 use Rattle.std.specs.Prelude.{ℤ, List, All, IfOk, Result}
 use Rattle.std.specs.declared.alloc.AllocError.{AllocError}
 use Rattle.std.specs.Prelude.{Vec}
@@ -11,18 +11,18 @@ use Rattle.cilk_helpers.specs.declared.replayed.Due.{Due}
 use Rattle.cilk_helpers.specs.declared.replayed.Replayed.{Replayed}
 use Rattle.cilk_helpers.specs.declared.rounds.Share.{Share}
 
--- its notes are of a frame of its callee
+-- the notes are those of a frame of its callee
 abbrev pub IsReplayed : CodeView → Source → List ℤ → Replayed → Type 0
 IsReplayed code p inputs r = IsKept code p inputs r.replay
 
--- what it is to run is there
+-- the program has the callee of the frame
 abbrev pub IsFitting : Source → Due → Type 0
 IsFitting p d = CalleeIsFit p d.callee
 
--- what a helper has to do in a round is there
+-- the program has the callees of a share
 abbrev pub AreFitting : Source → Share → Type 0
 AreFitting p s = All (IsFitting p) s.frames.items
 
--- what a helper gives, if it has memory
+-- the result of a helper, unless memory runs out
 abbrev pub AreReplayed : CodeView → Source → List ℤ → Result (Vec Replayed Global) AllocError → Type 0
 AreReplayed code p inputs r = IfOk r (λ list. All (IsReplayed code p inputs) list.items)

@@ -1,4 +1,4 @@
--- What the code of a run that is retold stands for.
+-- The run that the state of the code represents.
 use Rattle.std.specs.Prelude.{◌≡◌, ◌-◌, ℤ, List, [], ◌∷◌, ◌++◌, reverse, map, Option, None}
 use Rattle.cilk_types.specs.declared.event.Event.TheVariants as events
 use Rattle.cilk_monoid.specs.Ranges.{same_instance}
@@ -26,7 +26,7 @@ use Rattle.cilk_helpers.specs.declared.rest.Rest.{Rest}
 use Rattle.cilk_helpers.specs.declared.retelling.Retelling.{Retelling}
 use Rattle.cilk_helpers.specs.Retold.{Held, Retold}
 
--- two activations are alike in all but what their owners keep of them
+-- two activations that are equal apart from their cursors
 pub record IsAlike {C D : Type 0} (a : activations.Activation C) (b : activations.Activation D) : Type 0 where
   pub number : a.number ≡ b.number
   pub base : a.base ≡ b.base
@@ -52,11 +52,11 @@ held_of r = record { mine = r.left; notes = reverse r.notes.items }
 abbrev pub held_in : activations.Activation Rest → Held
 held_in a = held_of a.cursor
 
--- of those that wait, the uppermost first
+-- of the suspended frames, the uppermost first
 abbrev pub held_below : call_stacks.CallStack Rest → List Held
 held_below frames = map held_in (reverse frames.below.items)
 
--- the code retells a run, whose frames' cursors it doesn't have
+-- the code retells some run; it doesn't have the cursors of the run's frames
 pub record Tells (code : CodeView) (p : Source) (inputs : List ℤ) (t : Retelling) : Type 0 where
   pub run : Running
   pub state : run.state ≡ t.state
@@ -65,36 +65,38 @@ pub record Tells (code : CodeView) (p : Source) (inputs : List ℤ) (t : Retelli
   pub alike : AreAlike t.frames run.frames
   pub retold : Retold code p inputs run (held_of t.frames.top.cursor) (held_below t.frames)
 
--- one event more, which begins a frame of this callee, or none, and the run goes on
+-- one more event, which begins a frame of this callee, or none; the run continues
 pub record TellsMore (code : CodeView) (p : Source) (inputs : List ℤ) (t : Retelling) (begun : Option Callee) (t' : Retelling) : Type 0 where
   pub tells : Tells code p inputs t'
   pub longer : IsLonger t.state t'.state
   pub begins : BeginsNext p inputs t.state.events.items begun
 
--- one event more, which is the last: the run has ended with this result
+-- one more event, the last: the run has ended with this result
 pub record TellsLast (p : Source) (inputs : List ℤ) (t : Retelling) (v : ℤ) (t' : Retelling) : Type 0 where
   pub ended : HasEnded p inputs t'.state v
   pub longer : IsLonger t.state t'.state
   pub begins : BeginsNext p inputs t.state.events.items None
 
--- what comes of what a frame asks for: an event is made and the run goes on; nothing is changed yet; or it isn't retold any further
+-- The result of a request: an event is made and the run continues; a frame is to begin or to end
+-- and nothing has changed yet; or the run isn't retold any further.
 abbrev pub Comes : CodeView → Source → List ℤ → Retelling → Gone → Retelling → Type 0
 Comes code p inputs t Made t' = TellsMore code p inputs t None t'
 Comes code p inputs t (Turns how part) t' = (t' ≡ t) × (ask_in t.asked ≡ asks.Invoke how (callees.Loop part))
 Comes code p inputs t (Ends v) t' = (t' ≡ t) × (ask_in t.asked ≡ asks.End v)
 Comes code p inputs t Departs t' = Unit {0}
 
--- no fault stands in place of one more event
+-- the limits allow one more event
 abbrev pub HasRoom : State → Type 0
 HasRoom s = (m : Memory) → Shows s m → full m ≡ None
 
--- how a frame's end goes: the one that waits goes on; none waits, and the run has left this state; or it isn't retold any further
+-- The result of a frame's end: its parent continues; or it was the last frame and the run has
+-- ended; or the run isn't retold any further.
 abbrev pub Parts : CodeView → Source → List ℤ → Retelling → ℤ → Parting → Retelling → Type 0
 Parts code p inputs t v GoesOn t' = TellsMore code p inputs t None t'
 Parts code p inputs t v WasLast t' = TellsLast p inputs t v t'
 Parts code p inputs t v Leaves t' = Unit {0}
 
--- what an end leaves of the store: one event more, and the frame's own reducers retired
+-- the store after a frame's end: one more event, and the frame's own reducers retired
 pub record Closes (p : Source) (t : Retelling) (s' : State) : Type 0 where
   pub events : s'.events.items ≡ t.state.events.items ++ events.End ∷ []
   pub cleared : (m : Memory) → Shows t.state m

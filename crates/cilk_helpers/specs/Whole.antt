@@ -1,4 +1,4 @@
--- A whole run that is retold.
+-- A whole run, retold.
 use Rattle.std.specs.Prelude.{◌≡◌, ℤ, List, Some, None, reverse}
 use Rattle.cilk_program.specs.declared.ask.Callee.{Callee}
 use Rattle.cilk_program.specs.Syntax.{Source}
@@ -15,7 +15,7 @@ use Rattle.cilk_helpers.specs.Telling.{TellsMore, TellsLast}
 abbrev pub IsKept : CodeView → Source → List ℤ → Replay → Type 0
 IsKept code p inputs r = IsReplay code p inputs r.callee (reverse r.notes.items)
 
--- what a step comes to
+-- the result of a step
 abbrev pub Retells : CodeView → Source → List ℤ → Retelling → Step → Retelling → Type 0
 Retells code p inputs t GoesOn t' = TellsMore code p inputs t None t'
 Retells code p inputs t (Begins own) t' = (callee : Callee) × (own ≡ own_of p code.layout callee) × TellsMore code p inputs t (Some callee) t'

@@ -1,4 +1,4 @@
-//! Whether two frames run the same.
+//! Compares the callees of frames.
 
 ghost use Rattle.std.specs.Prelude.{◌≡◌, IsTrue};
 ghost use Rattle.cilk_helpers.specs.Asked.{call_in};
@@ -7,7 +7,7 @@ use crate::note::Given;
 use cilk_program::ask::{Callee, FunctionCall, LoopPart};
 use cilk_program::syntax::{Place, Reducer};
 
-/// Whether what was asked for is this call of a function.
+/// Returns whether the requested call is this call of a function.
 pub fn is_call(given: &Given, call: &FunctionCall) -> bool
     ensures { IsTrue result → call_in given.now ≡ call.now }
 {
@@ -23,7 +23,6 @@ pub fn is_call(given: &Given, call: &FunctionCall) -> bool
     same_place(given.result, call.result)
 }
 
-// Whether the words are the same.
 fn same_words(one: &[i64], other: &[i64]) -> bool
     ensures { IsTrue result → one.now ≡ other.now }
 {
@@ -44,7 +43,6 @@ fn same_reducer(one: Reducer, other: Reducer) -> bool
     one == other
 }
 
-// Whether the reducers are the same.
 fn same_reducers(one: &[Reducer], other: &[Reducer]) -> bool
     ensures { IsTrue result → one.now ≡ other.now }
 {
@@ -69,7 +67,6 @@ fn same_place(one: Option<Place>, other: Option<Place>) -> bool
     }
 }
 
-// Whether two parts of loops are one.
 fn same_part(one: &LoopPart, other: &LoopPart) -> bool
     ensures { IsTrue result → one.now ≡ other.now }
 {
@@ -79,7 +76,7 @@ fn same_part(one: &LoopPart, other: &LoopPart) -> bool
         && one.high == other.high
 }
 
-/// Whether a callee is this part of a loop.
+/// Returns whether a callee is this part of a loop.
 pub fn is_part(one: &LoopPart, callee: &Callee) -> bool
     ensures { IsTrue result → callee.now ≡ Callee.Loop one.now }
 {

@@ -1,4 +1,4 @@
-//! Rounds, from one depth of invocation to the next.
+//! Replays frames in rounds, one for each depth of invocation.
 
 ghost use Rattle.std.specs.Prelude.{◌≡◌, ◌<◌, ◌≤◌, ℤ, List, All, IfOk, vec_len};
 ghost use Rattle.cilk_program.specs.Sources.{source};
@@ -23,7 +23,7 @@ use cilk_types::limits::MAX_TICKS;
 use std::alloc::{AllocError, Global};
 use std::thread::Threads;
 
-// What no frame runs: its replay stands for one that wasn't made.
+// A part of a loop that no frame runs. It marks a replay that wasn't made.
 const NOTHING: LoopPart = LoopPart {
     number: 0,
     up: 0,
@@ -31,7 +31,7 @@ const NOTHING: LoopPart = LoopPart {
     high: 0,
 };
 
-// No frame is replayed yet.
+// The replays before any frame is replayed.
 fn blanks(alloc: Global, count: usize) -> Result<Vec<Replay>, AllocError>
     ensures { (code : CodeView) (p : Source) (inputs : List ℤ) → IfOk result (λ list. All (IsKept code p inputs) list.items) }
 {
@@ -45,7 +45,7 @@ fn blanks(alloc: Global, count: usize) -> Result<Vec<Replay>, AllocError>
     Ok(list)
 }
 
-// What is listed of a frame; of one that isn't, that it has no event.
+// The hint of a frame. A frame that isn't listed has no event.
 fn hint_of(hints: &Hints, frame: FrameNo) -> FrameHint {
     match hints.frames.get(place_of(frame)) {
         Some(hint) => *hint,
@@ -53,7 +53,7 @@ fn hint_of(hints: &Hints, frame: FrameNo) -> FrameHint {
     }
 }
 
-// A listed frame is due that runs this, if it is there.
+// Adds a frame with this callee to those that are due, if the program has the callee.
 fn add(
     program: &Program,
     hints: &Hints,
@@ -73,7 +73,7 @@ fn add(
     Ok(())
 }
 
-// The listed children of a frame are due, each with what its replay asks for in the same order.
+// Adds the listed children of a frame. Their callees are those of its replay, in the same order.
 fn add_children(
     program: &Program,
     hints: &Hints,
@@ -94,7 +94,7 @@ fn add_children(
     Ok(())
 }
 
-// The first round's frame, if one is listed.
+// The frame of the first round, if any frame is listed.
 fn first(alloc: Global, program: &Program, hints: &Hints) -> Result<Vec<Due>, AllocError>
     ensures { IfOk result (λ dues. All (IsFitting (source program.now)) dues.items) }
 {
@@ -105,7 +105,7 @@ fn first(alloc: Global, program: &Program, hints: &Hints) -> Result<Vec<Due>, Al
     Ok(dues)
 }
 
-// The frames of the next round, the least first, after these were replayed.
+// The frames of the next round, the least first: the children of those just replayed.
 fn following(
     alloc: Global,
     program: &Program,
@@ -125,7 +125,6 @@ fn following(
     Ok(dues)
 }
 
-// The numbers of the frames that are due.
 fn numbers(alloc: Global, dues: &[Due]) -> Result<Vec<FrameNo>, AllocError> {
     let mut list = Vec::with_capacity(alloc, dues.len())?;
     'each: for due in dues {
@@ -134,7 +133,7 @@ fn numbers(alloc: Global, dues: &[Due]) -> Result<Vec<FrameNo>, AllocError> {
     Ok(list)
 }
 
-// A share with no frame for each of so many helpers.
+// An empty share for each helper.
 fn empty(alloc: Global, helpers: u32, spent: u32) -> Result<Vec<Share>, AllocError>
     requires { helpers ≤ 16 }
     ensures count { IfOk result (λ shares. vec_len shares ≡ helpers) }
@@ -151,7 +150,8 @@ fn empty(alloc: Global, helpers: u32, spent: u32) -> Result<Vec<Share>, AllocErr
     Ok(shares)
 }
 
-// Deals a round's frames, the least first, to so many helpers. One that gets none has no share.
+// Deals the frames of a round, the least first, to the helpers. A helper without frames has no
+// share.
 fn dealt(alloc: Global, dues: Vec<Due>, helpers: u32, spent: u32) -> Result<Vec<Share>, AllocError>
     requires some { 0 < helpers }
     requires most { helpers ≤ 16 }
@@ -168,7 +168,7 @@ fn dealt(alloc: Global, dues: Vec<Due>, helpers: u32, spent: u32) -> Result<Vec<
     Ok(shares)
 }
 
-// How many ticks the frames of a round took.
+// How many ticks the frames of a round cost.
 fn ticks_of(round: &[Result<Vec<Replayed>, AllocError>]) -> u32 {
     let mut ticks: u32 = 0;
     for share in round {
@@ -181,7 +181,6 @@ fn ticks_of(round: &[Result<Vec<Replayed>, AllocError>]) -> u32 {
     ticks
 }
 
-// Keeps a frame's replay at the frame's place.
 fn put(replays: &mut [Replay], replayed: Replayed)
     ensures { (code : CodeView) (p : Source) (inputs : List ℤ) → All (IsKept code p inputs) replays.old → IsReplayed code p inputs replayed → All (IsKept code p inputs) replays.new }
 {
@@ -192,7 +191,6 @@ fn put(replays: &mut [Replay], replayed: Replayed)
     }
 }
 
-// Keeps the replays of a share.
 fn keep_share(replays: &mut [Replay], share: Vec<Replayed>)
     ensures { (code : CodeView) (p : Source) (inputs : List ℤ) → All (IsKept code p inputs) replays.old → All (IsReplayed code p inputs) share.items → All (IsKept code p inputs) replays.new }
 {
@@ -203,7 +201,7 @@ fn keep_share(replays: &mut [Replay], share: Vec<Replayed>)
     }
 }
 
-// Keeps the replays of a round.
+// Keeps the replays of a round, each at its frame's place.
 fn keep(
     replays: &mut [Replay],
     round: Vec<Result<Vec<Replayed>, AllocError>>,
@@ -218,11 +216,12 @@ fn keep(
     Ok(())
 }
 
-/// The replays of all listed frames, the last one first, by so many helpers: in rounds, all frames of one depth of
-/// invocation in each. Frame K belongs to helper 1 + (K - 1) % helpers, who takes his frames in ascending order. In
-/// the place of a frame that none of the replays asks for, or that isn't there, stands the replay of nothing. No frame
-/// begins after those that were replayed took more ticks in all than a run may, so whatever is listed, a helper makes
-/// no more ticks than three runs.
+/// Replays all listed frames and returns their replays, the last frame first.
+///
+/// A round has all frames of one depth of invocation. Frame K belongs to helper 1 + (K - 1) %
+/// helpers, which replays its frames in ascending order. A frame that no replay invokes has an
+/// empty replay. No frame begins once the replayed ones cost more ticks than a run may. So whatever
+/// the hints say, a helper makes at most the ticks of three runs.
 pub fn replays<R: Threads + Sync, W: Watch + Sync>(
     rt: &R,
     alloc: Global,

@@ -1,5 +1,5 @@
-//! What a certificate's text tells of its frames. Nothing of it is believed: who replays frames by it learns what
-//! they ask for where they are told so.
+//! Hints about the frames of a run, read from a certificate's text. They may be wrong: a replay by
+//! them shows only what a frame does if it reads these values.
 
 ghost use Rattle.std.specs.Prelude.{◌≡◌, ◌<◌, ◌≤◌, ◌+◌, OnOk, Ok, Err, length, true};
 ghost use Rattle.cilk_cert_text.specs.Readers.{room_of};
@@ -9,7 +9,7 @@ use cilk_cert_text::reader::LineReader;
 use cilk_checker::source::{PullFault, Source};
 use std::alloc::{AllocError, Global};
 
-// Reads a piece of the text, and says whether all its lines are a certificate's and fit.
+// Reads a piece of the text. False if a line isn't a certificate's or doesn't fit those before it.
 fn read(reader: &mut LineReader, listing: &mut Listing, piece: &[u8]) -> Result<bool, AllocError>
     ensures { result ≡ Ok true → room_of reader.new + length piece.now ≤ room_of reader.old }
 {
@@ -28,10 +28,10 @@ fn read(reader: &mut LineReader, listing: &mut Listing, piece: &[u8]) -> Result<
     Ok(true)
 }
 
-// Large, since a file is opened anew for each pull.
+// The bytes of a pull. Large, since a file is opened anew for each pull.
 const PIECE: usize = 32_768;
 
-// Reads the whole text of a source, and pulls no more once a line doesn't fit.
+// Reads the text of a source, up to the first line that doesn't fit.
 fn read_all<S: Source>(listing: &mut Listing, source: &mut S) -> Result<(), PullFault>
     requires { S.failed source.old < 18446744073709551615 }
     ensures counted { result ≡ Err PullFault.Device → S.failed source.old < S.failed source.new }
@@ -54,9 +54,10 @@ fn read_all<S: Source>(listing: &mut Listing, source: &mut S) -> Result<(), Pull
     }
 }
 
-/// What the text of a source lists of its frames, up to the first line that isn't one of a certificate, or doesn't
-/// fit those before; nothing is pulled after it. Cost: linear in the text; memory: linear in the frames and the
-/// values that are read.
+/// Reads the hints about frames from a source.
+///
+/// Reading stops at the first line that isn't a certificate's or doesn't fit those before it. Cost:
+/// linear in the text; memory: linear in the frames and in the values that are read.
 pub fn hints<S: Source>(alloc: Global, source: &mut S) -> Result<Hints, PullFault>
     requires { S.failed source.old < 18446744073709551615 }
     ensures counted { result ≡ Err PullFault.Device → S.failed source.old < S.failed source.new }

@@ -1,4 +1,4 @@
-//! The texts of program and input, judged.
+//! Judges the texts of program and input.
 
 ghost use Rattle.std.specs.Prelude.{ℕ, List, Option, IfErr, IfOk};
 ghost use Rattle.cilk_parser.specs.Inputs.{IsInput};
@@ -14,7 +14,7 @@ use cilk_program::program::Program;
 use cilk_types::input::Input;
 use std::alloc::Global;
 
-/// The program that a text means, or its first fault.
+/// Returns the program that a text means, or its first fault.
 pub fn meaning(alloc: Global, text: &[u8]) -> Result<Program, Refusal>
     ensures meant { IfOk result (λ p. IsProgramText text.now (meant_by p)) }
     ensures fault { IfErr result (λ r. (input : List ℕ) (known : Option (List ℕ))
@@ -28,7 +28,7 @@ pub fn meaning(alloc: Global, text: &[u8]) -> Result<Program, Refusal>
     }
 }
 
-/// The numbers of an input text, or its first fault; the program is judged before.
+/// Returns the numbers of an input text, or its first fault. The program was judged before.
 pub fn numbers(alloc: Global, text: &[u8]) -> Result<Input, Refusal>
     ensures numbers { IfOk result (λ ns. IsInput text.now ns) }
     ensures fault { IfErr result (λ r. (program : List ℕ) (m : Meant) (known : Option (List ℕ))

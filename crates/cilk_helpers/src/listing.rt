@@ -1,4 +1,4 @@
-//! What a certificate lists of its frames.
+//! Collects the hints about frames from a certificate's lines.
 
 ghost use Rattle.std.specs.Prelude.{◌≡◌, ◌<◌, ◌+◌};
 
@@ -7,10 +7,10 @@ use cilk_types::event::FrameNo;
 use cilk_types::limits::MAX_FRAMES;
 use std::alloc::{AllocError, Global};
 
-/// What is listed of a frame.
+/// The hint about a frame.
 #[derive(Clone, Copy, Debug)]
 pub struct FrameHint {
-    /// Where its words begin among those of all frames, and how many they are.
+    /// The index of its first word among those of all frames, and how many it has.
     pub first: u32,
     pub words: u32,
     /// How many events it has after its `begin`.
@@ -21,7 +21,7 @@ pub struct FrameHint {
 }
 
 impl FrameHint {
-    /// A frame of which nothing is listed.
+    /// The hint of a frame that isn't listed.
     pub const EMPTY: FrameHint = FrameHint {
         first: 0,
         words: 0,
@@ -31,36 +31,39 @@ impl FrameHint {
     };
 }
 
-/// What is listed of the frames of a run: the words that they are told, those of each frame one after the other, and
-/// each frame at its number less 1. 28 bytes a frame, and 8 a word.
+/// The hints about all frames of a run.
+///
+/// `words` has the values that frames read, those of each frame together. The hint of a frame is at
+/// its number less 1. 28 bytes a frame, and 8 a word.
 #[derive(Drop)]
 pub struct Hints {
     pub words: Vec<i64>,
     pub frames: Vec<FrameHint>,
 }
 
-/// A frame's place in a list of all frames, which count from 1. For 0 it is a place that no list has.
+/// Returns the index of a frame in a list of all frames, which count from 1. No list has the index
+/// of 0.
 pub fn place_of(number: FrameNo) -> usize
     ensures { 0 < number → result + 1 ≡ number }
 {
     number.wrapping_sub(1) as usize
 }
 
-// A word, and the frame that is told it.
+// A word, and the frame that reads it.
 #[derive(Clone, Copy)]
 struct Told {
     frame: FrameNo,
     word: i64,
 }
 
-// A frame that has begun and not ended, and the last of its children so far.
+// A frame that has begun and not ended, and its last child so far.
 #[derive(Clone, Copy)]
 struct Open {
     frame: FrameNo,
     last: Option<FrameNo>,
 }
 
-/// What is listed so far. The innermost frame that is open is the last one.
+/// The hints so far. The innermost open frame is the last one of `open`.
 #[derive(Drop)]
 pub struct Listing {
     told: Vec<Told>,
@@ -69,7 +72,7 @@ pub struct Listing {
 }
 
 impl Listing {
-    /// Nothing is listed yet.
+    /// Returns an empty listing.
     pub fn new(alloc: Global) -> Listing {
         Listing {
             told: Vec::new(alloc),
@@ -78,7 +81,7 @@ impl Listing {
         }
     }
 
-    /// Takes a line, and says whether it fits the lines before.
+    /// Takes a line, and returns whether it fits the lines before it.
     pub fn meet(&mut self, line: Line) -> Result<bool, AllocError> {
         let Line::Event(entry) = line else {
             return Ok(true);
@@ -96,7 +99,7 @@ impl Listing {
         }
     }
 
-    // The next frame begins, inside the innermost open one.
+    // Begins the next frame, inside the innermost open one.
     fn begin(&mut self, frame: FrameNo) -> Result<bool, AllocError> {
         if frame > MAX_FRAMES || place_of(frame) != self.frames.len() {
             return Ok(false);
@@ -109,7 +112,7 @@ impl Listing {
         Ok(true)
     }
 
-    // The innermost open frame has one more child, if one is open.
+    // Gives the innermost open frame one more child. False if no frame is open.
     fn link(&mut self, child: FrameNo) -> bool {
         let Some(parent) = self.open.last_mut() else {
             return false;
@@ -130,7 +133,7 @@ impl Listing {
         true
     }
 
-    // The innermost open frame is told a word.
+    // Notes a word that the innermost open frame reads.
     fn tell(&mut self, word: i64) -> Result<bool, AllocError> {
         if let Some(open) = self.open.last() {
             self.told.push(Told {
@@ -141,7 +144,8 @@ impl Listing {
         Ok(self.count(1))
     }
 
-    // The innermost open frame, if one is open, has one more event, and is told so many more words.
+    // Counts one more event and `words` more words of the innermost open frame. False if none is
+    // open.
     fn count(&mut self, words: u32) -> bool {
         let Some(open) = self.open.last() else {
             return false;
@@ -153,7 +157,7 @@ impl Listing {
         true
     }
 
-    /// Parts the words by frame.
+    /// Returns the hints, with the words of each frame together.
     pub fn parted(self, alloc: Global) -> Result<Hints, AllocError> {
         let Listing {
             told,

@@ -1,4 +1,4 @@
-//! The check of a certificate whose frames are replayed by several helpers.
+//! The check of a certificate with several helpers.
 
 ghost use Rattle.std.specs.Prelude.{◌≡◌, ◌<◌, ◌≤◌, Some, IfOk, IfErr};
 ghost use Rattle.cilk_program.specs.Sources.{source as source_of};
@@ -26,12 +26,13 @@ use cilk_types::trace::Trace;
 use std::alloc::{AllocError, Global};
 use std::thread::Threads;
 
-/// The most helpers that there may be.
+/// The greatest number of helpers.
 pub const MAX_HELPERS: u32 = 16;
 
-/// The end of the program's serial run on this input, and the events up to it, by so many helpers in threads of their
-/// own, each of whom replays some of the frames that the hints tell of. Whatever the hints say, it is the serial run;
-/// where they are wrong it is made without them.
+/// Makes the serial run of a program with helpers, and returns how the run ends, with its events.
+///
+/// Each helper replays some of the listed frames, in a thread of its own. The result is the serial
+/// run whatever the hints say: if they are wrong, the run is made without them.
 pub fn run_many<H: Threads + Sync, W: Watch + Sync>(
     rt: &H,
     alloc: Global,
@@ -54,7 +55,7 @@ pub fn run_many<H: Threads + Sync, W: Watch + Sync>(
     run_to_end(alloc, program, input)
 }
 
-// The same by what a certificate's text lists.
+// The same, with the hints in a certificate's text.
 fn listed_run<H: Threads + Sync, W: Watch + Sync>(
     rt: &H,
     alloc: Global,
@@ -79,7 +80,7 @@ fn listed_run<H: Threads + Sync, W: Watch + Sync>(
     }
 }
 
-// Checks a certificate against the texts of program and input, as `check_from` does.
+// Checks a certificate as `check_from` does.
 fn checked<H: Threads + Sync, W: Watch + Sync>(
     rt: &H,
     alloc: Global,
@@ -105,7 +106,9 @@ fn checked<H: Threads + Sync, W: Watch + Sync>(
     check_end(alloc, meant, numbers, run.0, run.1, &mut source)
 }
 
-/// Checks a certificate against the texts of program and input, as `check` does, by so many helpers, 1 to 16.
+/// Checks a certificate against the texts of program and input, with 1 to 16 helpers.
+///
+/// The verdict is that of `cilk_checker::texts::check`.
 pub fn check_many<H: Threads + Sync, W: Watch + Sync>(
     rt: &H,
     alloc: Global,

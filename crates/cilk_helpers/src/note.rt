@@ -1,4 +1,4 @@
-//! What is noted of a frame that is replayed.
+//! Notes: the steps of a replayed frame.
 
 ghost use Rattle.std.specs.Prelude.{◌≡◌, ◌≤◌, length, IfOk, MatchOption, Some, option_map};
 ghost use Rattle.cilk_frames.specs.Following.{child_of};
@@ -15,7 +15,8 @@ use cilk_types::invocation::Invocation;
 use std::alloc::{AllocError, Global};
 use std::marker::Model;
 
-/// A call of a function, as a [`FunctionCall`] is, but in no more memory than its words and reducers take.
+/// A call of a function, like [`FunctionCall`], in only the memory that its words and reducers
+/// need.
 #[derive(Drop)]
 pub struct Given {
     pub function: u32,
@@ -24,7 +25,7 @@ pub struct Given {
     pub result: Option<Place>,
 }
 
-/// What a frame asks for.
+/// A frame's request.
 #[derive(Drop)]
 pub enum Asked {
     SmallAsk(SmallAsk),
@@ -32,16 +33,17 @@ pub enum Asked {
     Function(Invocation, Box<Given>),
 }
 
-// A note's parts, in an order in which they fill 48 bytes: whether a word is told, and which, what is asked for, and
-// the ticks.
+// The parts of a note, in an order in which they fill 48 bytes: whether the answer is a word, and
+// which one, the request, and the ticks left.
 #[derive(Drop)]
 pub enum Parts {
     SmallAsk(bool, u32, i64, SmallAsk),
     Function(bool, Invocation, u32, i64, Box<Given>),
 }
 
-/// What a frame is told, what it asks for then, and how many ticks are left to it. It takes 48 bytes, and where a
-/// function is invoked what that is given.
+/// One step of a replayed frame: the answer that it receives, its next request, and the ticks left.
+///
+/// A note has 48 bytes; one that invokes a function has the arguments besides.
 #[derive(Drop)]
 pub struct Note {
     parts: Parts,
@@ -56,7 +58,7 @@ impl Model for Note {
 }
 
 impl Note {
-    /// A note of these.
+    /// Makes a note.
     #[inline(always)]
     pub fn new(told: Answer, asked: Asked, left: u32) -> Note
         ensures { result ≡ record { told = told; ask = ask_in asked; left = left } }
@@ -69,7 +71,7 @@ impl Note {
         Note { parts }
     }
 
-    /// What was told, what is asked for then, and how many ticks are left.
+    /// Returns the answer, the request and the ticks left.
     #[inline(always)]
     pub fn into_parts(self) -> (Answer, Asked, u32)
         ensures told { result.0 ≡ self.told }
@@ -87,7 +89,7 @@ impl Note {
         }
     }
 
-    /// How many ticks are left.
+    /// Returns the ticks left to the frame.
     pub fn left(&self) -> u32
         ensures { result ≡ self.now.left }
     {
@@ -97,8 +99,8 @@ impl Note {
         }
     }
 
-    /// What the frame runs that the ask begins, if it begins one; where a function is given more than it can take,
-    /// none.
+    /// Returns the callee of the frame that the request begins, if it begins one. `None` also for a
+    /// call with more arguments than a function can have.
     pub fn child(&self) -> Option<Callee>
         ensures { MatchOption result (IsTooMuch (child_of self.now.ask)) (λ callee. child_of self.now.ask ≡ Some callee) }
     {
@@ -114,7 +116,7 @@ impl Note {
 }
 
 impl Asked {
-    /// What is asked for in a slot.
+    /// Returns the request in a slot.
     pub fn of(alloc: Global, slot: &AskSlot) -> Result<Asked, AllocError>
         ensures { IfOk result (λ asked. ask_in asked ≡ slot.now) }
     {
@@ -127,7 +129,8 @@ impl Asked {
         }
     }
 
-    /// The answer to an ask, if it has one, and if the word is there that it brings.
+    /// Returns the answer to the request: none after a frame's end or fault, and none if the answer
+    /// is a word and `word` is absent.
     pub fn answer(&self, word: Option<i64>) -> Option<Answer>
         ensures { result ≡ answer_with (ask_in self.now) word }
     {
@@ -142,7 +145,7 @@ impl Asked {
     }
 }
 
-// Whether an answer is a word, and which.
+// An answer as a flag and a word.
 #[inline(always)]
 fn coded(answer: Answer) -> (bool, i64)
     ensures { answer_of result.0 result.1 ≡ answer }
@@ -153,7 +156,7 @@ fn coded(answer: Answer) -> (bool, i64)
     }
 }
 
-// The answer.
+// The answer of a flag and a word.
 #[inline(always)]
 fn answer(is_word: bool, word: i64) -> Answer
     ensures { result ≡ answer_of is_word word }
@@ -165,7 +168,6 @@ fn answer(is_word: bool, word: i64) -> Answer
     }
 }
 
-// The answer that is a word.
 fn valued(word: Option<i64>) -> Option<Answer>
     ensures { result ≡ option_map (λ w. Value w) word }
 {
@@ -175,7 +177,7 @@ fn valued(word: Option<i64>) -> Option<Answer>
     }
 }
 
-// The same call, in as much memory as it takes.
+// The same call, in only the memory that it needs.
 fn boxed(alloc: Global, call: &FunctionCall) -> Result<Box<Given>, AllocError>
     ensures { IfOk result (λ given. call_in given.value ≡ call.now) }
 {
@@ -188,7 +190,7 @@ fn boxed(alloc: Global, call: &FunctionCall) -> Result<Box<Given>, AllocError>
     Ok(Box::new(alloc, given)?)
 }
 
-// The same call, if there is room for what is given.
+// The same call, if its arguments are no more than a function can have.
 fn call(given: &Given) -> Option<FunctionCall>
     ensures { MatchOption result (IsTooMuch (Some (Callee.Function (call_in given.now)))) (λ call. call ≡ call_in given.now) }
 {
@@ -203,7 +205,6 @@ fn call(given: &Given) -> Option<FunctionCall>
     })
 }
 
-// The same words.
 fn words(list: &[i64]) -> Words
     requires { length list.now ≤ 16 }
     ensures { result ≡ list.now }
@@ -217,7 +218,6 @@ fn words(list: &[i64]) -> Words
     words
 }
 
-// The same reducers.
 fn references(list: &[Reducer]) -> References
     requires { length list.now ≤ 16 }
     ensures { result ≡ list.now }

@@ -18,14 +18,13 @@ use cilk_types::input::Input;
 use cilk_types::limits::MAX_TICKS;
 use std::alloc::{AllocError, Global};
 
-// The word at a place.
 fn word_at(words: &[i64], place: u32) -> Option<i64>
     ensures { result ≡ slice_get words.now place }
 {
     words.get(place as usize).copied()
 }
 
-// Whether a word is told.
+// Whether an answer is a word.
 fn is_word(answer: Option<Answer>) -> bool
     ensures { result ≡ tells_word answer }
 {
@@ -35,8 +34,10 @@ fn is_word(answer: Option<Answer>) -> bool
     }
 }
 
-/// What a frame asks for from its beginning on, where it is told these words: at most so many asks, up to its end,
-/// its fault or the first word that isn't there. It takes the memory of so many notes at once.
+/// Replays a frame from its beginning with these words as the values that it reads.
+///
+/// The result has at most `most` notes. It ends at the frame's end, at its fault, or where a word
+/// is missing. Memory for `most` notes is allocated at once.
 pub fn replay(
     alloc: Global,
     code: &Code,

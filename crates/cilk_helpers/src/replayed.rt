@@ -1,4 +1,4 @@
-//! One frame that is due, and its replay.
+//! A frame that is to be replayed, and its replay.
 
 ghost use Rattle.std.specs.Prelude.{◌≡◌, [], ℤ, List, IfOk};
 ghost use Rattle.cilk_program.specs.Inside.{CalleeIsFit};
@@ -20,7 +20,7 @@ use cilk_types::input::Input;
 use cilk_types::limits::MAX_TICKS;
 use std::alloc::{AllocError, Global};
 
-/// A frame that is due: what it runs, and what is listed of it.
+/// A frame that is to be replayed: its callee, and its hint.
 #[derive(Drop)]
 pub struct Due {
     pub frame: FrameNo,
@@ -28,7 +28,7 @@ pub struct Due {
     pub hint: FrameHint,
 }
 
-/// A frame that was replayed, and how many ticks it took.
+/// A replayed frame, and how many ticks it cost.
 #[derive(Drop)]
 pub struct Replayed {
     pub frame: FrameNo,
@@ -36,7 +36,7 @@ pub struct Replayed {
     pub ticks: u32,
 }
 
-// The frame of a callee before it begins.
+// The cursor of a callee's frame before it begins.
 fn begun(alloc: Global, code: &Code, callee: &Callee) -> Result<Cursor, AllocError>
     ensures stands { IfOk result (λ c. (p : Source) (inputs : List ℤ) → Behaves p code.now → CalleeIsFit p callee.now → Stands code.now inputs p callee.now c [] 0) }
     ensures owes { IfOk result (λ c. c.owed ≡ owed_for Begin) }
@@ -48,7 +48,7 @@ fn begun(alloc: Global, code: &Code, callee: &Callee) -> Result<Cursor, AllocErr
     }
 }
 
-// The words of a frame, or none where there are fewer.
+// The words of a frame, or none if the list is too short.
 fn words_of<'a>(words: &'a [i64], hint: &FrameHint) -> &'a [i64] {
     let first = hint.first as usize;
     match words.get(first..first + hint.words as usize) {
@@ -57,7 +57,7 @@ fn words_of<'a>(words: &'a [i64], hint: &FrameHint) -> &'a [i64] {
     }
 }
 
-// How many ticks a frame took up to the last of its notes.
+// The ticks that a frame cost up to its last note.
 fn taken(notes: &[Note]) -> u32 {
     match notes.last() {
         Some(note) => MAX_TICKS.saturating_sub(note.left()),
@@ -65,7 +65,7 @@ fn taken(notes: &[Note]) -> u32 {
     }
 }
 
-/// Replays a frame that is due.
+/// Replays a frame by its hint.
 pub fn replay_due(
     alloc: Global,
     code: &Code,

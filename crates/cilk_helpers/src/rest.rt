@@ -1,4 +1,4 @@
-//! What is left of a frame's notes.
+//! The remaining notes of a frame.
 
 ghost use Rattle.std.specs.Prelude.{◌≡◌, ◌+◌, ◌-◌, ◌≤◌, ◌∷◌, ◌↔◌, IsTrue, IfSome, List};
 ghost use Rattle.cilk_program.specs.Ticks.{IsWithin};
@@ -10,21 +10,20 @@ use crate::note::{Asked, Note};
 use cilk_frames::cursor::Answer;
 use cilk_frames::small_ask::SmallAsk;
 
-/// The notes that are left of a frame, the next one last, and the ticks that it has left by itself.
+/// The remaining notes of a frame, the next one last, and the ticks left to its replay.
 #[derive(Drop)]
 pub struct Rest {
     pub notes: Vec<Note>,
     pub left: u32,
 }
 
-/// What is taken with a note: what the frame asks for then, and the ticks that are left to the run.
+/// The frame's next request, and the ticks left to the run after it.
 #[derive(Drop)]
 pub struct Taken {
     pub asked: Asked,
     pub left: u32,
 }
 
-// Whether two answers are one.
 fn same(told: Answer, answer: Answer) -> bool
     ensures { IsTrue result ↔ (told ≡ answer) }
 {
@@ -35,7 +34,7 @@ fn same(told: Answer, answer: Answer) -> bool
     }
 }
 
-// Whether an ask is no fault.
+// Whether a request isn't a fault.
 fn goes_on(asked: &Asked) -> bool
     ensures { IsTrue result → IsWithin (ask_in asked.now) }
 {
@@ -46,8 +45,8 @@ fn goes_on(asked: &Asked) -> bool
 }
 
 impl Rest {
-    /// Takes the next note, where it was told this answer, asks for no fault, and takes no more ticks than so many.
-    /// Else nothing is known of the frame any more.
+    /// Takes the next note, if its answer is this one, its request is no fault, and it costs at
+    /// most `left` ticks. On `None` the frame can't be used any more.
     #[inline(always)]
     pub fn take(&mut self, answer: Answer, left: u32) -> Option<Taken>
         ensures { IfSome result (λ t. (n : NoteView) × (ns : List NoteView) × (held_of self.old ≡ held self.old.left (n ∷ ns)) × (held_of self.new ≡ held n.left ns)

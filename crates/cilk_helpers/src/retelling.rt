@@ -1,4 +1,4 @@
-//! A run that is retold.
+//! The state of a run that is retold.
 
 ghost use Rattle.std.specs.Prelude.{◌≡◌, ◌≤◌, ℤ, List, [], IsTrue, IfOk, Some, length, reverse, true};
 ghost use Rattle.cilk_lower.specs.Behaves.{Behaves};
@@ -32,8 +32,8 @@ use cilk_types::invocation::Invocation;
 use cilk_types::limits::MAX_TICKS;
 use std::alloc::{AllocError, Global};
 
-/// The store, the frame that runs and those that wait, each with what is left of its notes, what the one that runs
-/// asks for, and the ticks that are left to the run.
+/// The store, the frames with their remaining notes, the current frame's request, and the ticks
+/// left to the run.
 #[derive(Drop)]
 pub struct Retelling {
     pub state: State,
@@ -42,27 +42,27 @@ pub struct Retelling {
     pub left: u32,
 }
 
-/// What comes of what the frame on top asks for.
+/// The result of the request of the frame on top.
 #[derive(Clone, Copy)]
 pub enum Gone {
-    /// Its event is made, and the run goes on.
+    /// Its event is made, and the run continues.
     Made,
-    /// The frame of these turns of a loop begins.
+    /// A frame of these turns of a loop is to begin.
     Turns(Invocation, LoopPart),
-    /// The frame ends with this result.
+    /// The frame is to end with this result.
     Ends(i64),
-    /// The frame was told otherwise, or can't go on: the run isn't retold.
+    /// The frame's replay had another answer, or it can't continue: the run isn't retold.
     Departs,
 }
 
-/// How a frame's end goes.
+/// The result of a frame's end.
 #[derive(Clone, Copy)]
 pub enum Parting {
-    /// The frame that waits goes on.
+    /// The suspended parent continues.
     GoesOn,
-    /// No frame waits: the run has ended.
+    /// It was the last frame: the run has ended.
     WasLast,
-    /// The frame that waits was told otherwise: the run isn't retold.
+    /// The parent's replay had another answer: the run isn't retold.
     Leaves,
 }
 
@@ -73,7 +73,8 @@ fn few(program: &Program)
 {}
 
 impl Retelling {
-    /// The root's frame, of which these notes are, the next one last, before it begins; with room for so many events.
+    /// Returns the state before the root's frame begins. `notes` are those of the root, the next
+    /// one last; `events` is the number of events to allocate.
     pub fn new(
         alloc: Global,
         program: &Program,
@@ -108,7 +109,8 @@ impl Retelling {
         })
     }
 
-    /// Makes the event of a small ask, if the frame goes on at once, and goes on to what it asks for then.
+    /// Makes the event of a small ask, if the frame continues at once, and steps to its next
+    /// request.
     pub fn go_on(&mut self, alloc: Global, brief: SmallAsk) -> Result<Gone, AllocError>
         requires asked { ask_in self.old.asked ≡ in_full brief }
         requires room { HasRoom self.old.state }
@@ -132,7 +134,7 @@ impl Retelling {
         }
     }
 
-    /// Ends the frame on top with this result, and the one that waits for it goes on to what it asks for then.
+    /// Ends the frame on top with this result, and steps its parent to its next request.
     pub fn end(&mut self, program: &Program, value: i64) -> Result<Parting, AllocError>
         requires ends { ask_in self.old.asked ≡ End value }
         requires room { HasRoom self.old.state }
@@ -154,8 +156,8 @@ impl Retelling {
         Ok(Parting::GoesOn)
     }
 
-    /// The frame of some turns of a loop begins, which the frame on top asks for, and of which these notes are, the
-    /// next one last; if there may be one more frame with its cells.
+    /// Begins the frame of some turns of a loop, which the frame on top has requested. `notes` are
+    /// its notes, the next one last. False if the limits allow no more frame with its cells.
     pub fn begin_turns(
         &mut self,
         alloc: Global,
@@ -188,8 +190,8 @@ impl Retelling {
         Ok(true)
     }
 
-    /// The frame of a function begins, which the frame on top asks for, and of which these notes are, the next one
-    /// last; if there may be one more frame with its cells.
+    /// Begins the frame of a function, which the frame on top has requested. `notes` are its notes,
+    /// the next one last. False if the limits allow no more frame with its cells.
     pub fn begin_function(
         &mut self,
         alloc: Global,
@@ -222,7 +224,7 @@ impl Retelling {
         Ok(true)
     }
 
-    /// The store alone.
+    /// Returns the store and drops the rest.
     pub fn into_state(self) -> State
         ensures { result ≡ self.state }
     {

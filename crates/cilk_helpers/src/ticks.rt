@@ -2,8 +2,10 @@
 
 ghost use Rattle.cilk_helpers.specs.Notes.{NotesAreWithinFewerTicks};
 
-/// What a frame asks for with all ticks of a run for itself it asks for with those that other frames leave it, where
-/// it takes no more.
+/// A frame makes the same requests with fewer ticks, as long as they are enough.
+///
+/// So a replay may have all ticks of a run, and its notes hold with the ticks that other frames
+/// leave.
 pub fn notes_are_within_fewer_ticks()
     ensures { NotesAreWithinFewerTicks }
 {}

@@ -1,4 +1,4 @@
-//! A whole run that is retold.
+//! Retells a whole run.
 
 ghost use Rattle.std.specs.Prelude.{◌≡◌, [], All, IfOk, IfSome};
 ghost use Rattle.cilk_lower.specs.Behaves.{Behaves};
@@ -27,19 +27,19 @@ use cilk_types::limits::MAX_EVENTS;
 use cilk_types::trace::Trace;
 use std::alloc::{AllocError, Global};
 
-/// A frame that was replayed: what it runs, and its notes, the next one last.
+/// The replay of a frame: its callee, and its notes, the next one last.
 #[derive(Drop)]
 pub struct Replay {
     pub callee: Callee,
     pub notes: Vec<Note>,
 }
 
-/// What a step of a run that is retold comes to.
+/// The result of a step of a run that is retold.
 #[derive(Clone, Copy)]
 pub enum Step {
-    /// An event that begins no frame, and the run goes on.
+    /// An event that begins no frame; the run continues.
     GoesOn,
-    /// An event that begins a frame, which has this, and the run goes on.
+    /// An event that begins a frame with this body and these cells; the run continues.
     Begins(Own),
     /// The last event: the main function has ended with this result.
     Ends(i64),
@@ -47,7 +47,7 @@ pub enum Step {
     Departs,
 }
 
-// The replay of the next frame.
+// The replay of the next frame. The other arguments are for the contract.
 fn next(code: &Code, program: &Program, input: &Input, replays: &mut Vec<Replay>) -> Option<Replay>
     requires { All (IsKept code.now (source program.now) input.now) replays.old.items }
     ensures rest { All (IsKept code.now (source program.now) input.now) replays.new.items }
@@ -59,7 +59,7 @@ fn next(code: &Code, program: &Program, input: &Input, replays: &mut Vec<Replay>
     replays.pop()
 }
 
-// The frame of the function begins that the frame on top asks for, if this is its replay.
+// Begins the frame of the requested function, if this is its replay.
 fn begin_function(
     alloc: Global,
     program: &Program,
@@ -93,7 +93,7 @@ fn begin_function(
     })
 }
 
-// The frame of these turns begins, for which the frame on top asks, if this is its replay.
+// Begins the frame of the requested turns, if this is its replay.
 fn begin_turns(
     alloc: Global,
     program: &Program,
@@ -122,7 +122,7 @@ fn begin_turns(
     })
 }
 
-// The frame on top ends with this result.
+// Ends the frame on top with this result.
 fn end(
     program: &Program,
     code: &Code,
@@ -144,7 +144,7 @@ fn end(
     }
 }
 
-// The next event of a run that is retold.
+// Makes the next event.
 fn make_event(
     alloc: Global,
     program: &Program,
@@ -178,7 +178,7 @@ fn make_event(
     }
 }
 
-// How many events are noted, if a run may make as many.
+// How many events are noted, at most as many as a run may make.
 fn noted(replays: &[Replay]) -> usize {
     let mut count: usize = 0;
     'each: for number in 0..replays.len() {
@@ -187,7 +187,7 @@ fn noted(replays: &[Replay]) -> usize {
     count.min(MAX_EVENTS as usize)
 }
 
-// The root's frame begins, by the first replay.
+// Begins the root's frame by the first replay.
 fn begin(
     alloc: Global,
     program: &Program,
@@ -212,9 +212,10 @@ fn begin(
     }
 }
 
-/// The serial run of a program on an input, retold from the replays of its frames, the last one first: what it
-/// leaves, its frames and its events; or None where a frame was told otherwise, a replay is missing, or the run
-/// doesn't end by itself within its limits.
+/// Retells the serial run of a program from the replays of its frames, the last frame first.
+///
+/// Returns the outcome, the frames and the events. `None` if a replay is missing or had another
+/// answer than the run, or if the run doesn't end without a fault.
 pub fn retell(
     alloc: Global,
     program: &Program,

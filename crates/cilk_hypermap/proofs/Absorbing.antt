@@ -14,7 +14,8 @@ merged_step : (S : MonoidStructure ViewValue) (l l' r r' : Option ViewValue) (b 
 merged_step S None l' r r' b h p q e = absurd (true≢false (sym h))
 merged_step S (Some a) l' r r' b h p q e = (λ i. merged S (q i) (e i)) ∙ sym (ap (merged S (Some a)) p)
 
--- l and r are the maps before, l' and r' those after, and b is the view that was at k on the right
+-- l and r are the maps before the step, l' and r' those after it, and b is the view at k on the
+-- right
 module _ {X : Type 0} (S : MonoidStructure ViewValue) (value : X → ViewValue) (reserved : X → ℕ) (l l' r r' : Instance → Option X) (k : Instance) (b : X)
     (taken : (q : Instance) → r' q ≡ cond (same_instance k q) None (r q)) (found : r k ≡ Some b)
     (multiplied : (j : Instance) → option_map value (l' j) ≡ cond (same_instance k j) (Some (S.combine (or_unit S (option_map value (l k))) (value b))) (option_map value (l j)))

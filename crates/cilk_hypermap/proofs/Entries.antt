@@ -25,7 +25,7 @@ every_key {X} P (e ∷ es) all q h =
     by true p rest found = subst P (sym (same_from_true q e.0 p)) (all 0 e.0 (omega arith) refl)
     by false p rest found = rest found
 
--- what isn't found in a list is looked for behind it
+-- a key that isn't found in a list is searched after it
 pub lookup-append_none : {X : Type 0} (test : Instance → Bool) (es fs : List (Instance × X)) → lookup test es ≡ None → lookup test (es ++ fs) ≡ lookup test fs
 lookup-append_none test [] fs h = refl
 lookup-append_none {X} test (e ∷ es) fs h = by (test e.0) (lookup-append_none test es fs) h
@@ -38,7 +38,7 @@ lookup-append_none {X} test (e ∷ es) fs h = by (test e.0) (lookup-append_none 
 pub lookup_last : {X : Type 0} (es : List (Instance × X)) (k : Instance) (v : X) → lookup (same_instance k) es ≡ None → lookup (same_instance k) (es ++ (k, v) ∷ []) ≡ Some v
 lookup_last es k v h = lookup-append_none (same_instance k) es ((k, v) ∷ []) h ∙ ap (λ b. cond b (Some v) None) (same_self k)
 
--- what holds of the keys at the places so far, and of the next one, holds of those up to it
+-- a fact of the keys at the first places and of the next one, for all of them
 pub each_so_far : (ks : List Instance) (i : ℕ) (key : Instance) (P : Instance → Type 0) → slice_get ks i ≡ Some key → P key
     → ((k : ℕ) (q : Instance) → k < i → slice_get ks k ≡ Some q → P q) → (k : ℕ) (q : Instance) → k < i + 1 → slice_get ks k ≡ Some q → P q
 each_so_far ks i key P place here before k q below at =
@@ -50,7 +50,7 @@ pub is_some-option_map : {X Y : Type 0} (f : X → Y) (o : Option X) → is_some
 is_some-option_map f None = refl
 is_some-option_map f (Some x) = refl
 
--- the entry that leaves the end of a map was found by its key
+-- the entry popped from the end of a map was found by its key
 pub found_last : {X : Type 0} (es fs : List (Instance × X)) (k : Instance) (v : X) → es ≡ fs ++ (k, v) ∷ [] → lookup (same_instance k) fs ≡ cond (same_instance k k) None (lookup (same_instance k) es) → lookup (same_instance k) es ≡ Some v
 found_last es fs k v e gone =
     ap (lookup (same_instance k)) e ∙ lookup_last fs k v (gone ∙ ap (λ b. cond b None (lookup (same_instance k) es)) (same_self k))

@@ -5,7 +5,7 @@ use Rattle.cilk_monoid.specs.Laws.{MonoidStructure, IsLawful}
 use Rattle.cilk_monoid.specs.Values.{ViewValue}
 use Rattle.cilk_hypermap.specs.Views.{merged, or_unit}
 
--- the view after is that before, or the unit where there was none and one is needed
+-- the view is that of before, or the unit where there was none and one is needed
 abbrev pub FillsOne : ViewValue → Type 0 → Option ViewValue → Option ViewValue → Type 0
 FillsOne unit Need f g = (g ≡ f) ⊎ ((f ≡ None) × (g ≡ Some unit) × Need)
 

@@ -35,7 +35,7 @@ view_in_member h Affine j = members_by_type (IsMember Affine) (structure_of Affi
 pub values_kept : (old new : Hypermap) (k : MonoidKind) (Need : Instance → Type 0) → ((j : Instance) → FillsOne (structure_of k).unit (Need j) (view_in old k j) (view_in new k j)) → (j : Instance) → value_in new k j ≡ value_in old k j
 values_kept old new k Need h j = keeps_value (structure_of k) (IsMember k) (lawful k) (view_in old k j) (view_in new k j) (h j)
 
--- l and r before room was made, l' and r' after, with nothing in `none`
+-- l and r before room was reserved, l' and r' after, with nothing in `none`
 module _ (l l' r r' none new : Hypermap) (k : MonoidKind)
     (views : (j : Instance) → view_in new k j ≡ merged (structure_of k) (view_in l' k j) (view_in r' k j)) (empty : (j : Instance) → view_in none k j ≡ None)
     (left : (j : Instance) → FillsOne (structure_of k).unit (IsSome (view_in r k j) ⊎ IsSome (view_in none k j)) (view_in l k j) (view_in l' k j))
@@ -46,7 +46,7 @@ module _ (l l' r r' none new : Hypermap) (k : MonoidKind)
   pub two_values : (j : Instance) → value_in new k j ≡ (structure_of k).combine (value_in l k j) (value_in r k j)
   two_values j = ap (or_unit (structure_of k)) (two_views j) ∙ or_unit-merged (structure_of k) (IsMember k) (lawful k) (view_in l k j) (view_in r k j) (view_in_member l k j) (view_in_member r k j)
 
--- l and m before room was made, l' and m' after; `one` is the product of these two
+-- l and m before room was reserved, l' and m' after; `one` is the product of these two
 module _ (l l' m m' r one new : Hypermap) (k : MonoidKind)
     (first : (j : Instance) → view_in one k j ≡ merged (structure_of k) (view_in l' k j) (view_in m' k j))
     (second : (j : Instance) → view_in new k j ≡ merged (structure_of k) (view_in one k j) (view_in r k j))
@@ -66,7 +66,7 @@ module _ (l l' m m' r one new : Hypermap) (k : MonoidKind)
       ∙ or_unit-merged S (IsMember k) (lawful k) (merged S (view_in l k j) (view_in m k j)) (view_in r k j) (merged_member S (IsMember k) (lawful k) (view_in l k j) (view_in m k j) hl hm) (view_in_member r k j)
       ∙ ap (λ x. S.combine x (value_in r k j)) (or_unit-merged S (IsMember k) (lawful k) (view_in l k j) (view_in m k j) hl hm)
 
--- what is on the right is in the product of the other two, where it is in the left one
+-- an instance on the right is in the product of the other two, if it is in the left one
 pub present_in_product : (l m r one : Hypermap) (k : MonoidKind) → ((j : Instance) → view_in one k j ≡ merged (structure_of k) (view_in l k j) (view_in m k j)) → ((j : Instance) → IsSome (view_in r k j) → IsSome (view_in l k j))
     → (j : Instance) → IsSome (view_in r k j) → IsSome (view_in one k j)
 present_in_product l m r one k first there j h =

@@ -1,4 +1,4 @@
--- What one write does to a map, seen as a function from instances.
+-- The effect of one write on a map, seen as a function from instances.
 use Rattle.std.proofs.Common.{◌≡◌, ℕ, ◌≤◌, Bool, true, false, cond, Option, Some, None, Result, Ok, Err, OnErr, ◌⊎◌, inl, inr, sym, ap, ◌∙◌, refl, subst, arith}
 use Rattle.std.specs.Option.{option_map, unwrap_or}
 use Rattle.std.proofs.lemmas.Bool.{cond-true, cond-false}
@@ -7,7 +7,7 @@ use Rattle.cilk_monoid.specs.Ranges.{same_instance}
 use Rattle.cilk_monoid.specs.Values.{ViewValue}
 use Rattle.cilk_monoid.proofs.RangeLaws.{same_from_true}
 
--- what follows on an `Err`
+-- the consequences of an `Err`
 pub on_err : {T E : Type 0} {P Q : Type 0} (r : Result T E) → (P → Q) → OnErr r P → OnErr r Q
 on_err (Ok x) f h = tt
 on_err (Err e) f h = f h
@@ -35,7 +35,7 @@ module _ {X : Type 0} (f g : Instance → Option X) (i : Instance) (w : X) (writ
           ap (option_map value) (here j p) ∙ ap Some same ∙ sym (ap (option_map value) old)
       by false p = ap (option_map value) (there j p)
 
-  -- over a view with no more room, it takes no room away
+  -- over a view with no more room, no room is lost
   pub more_room : (reserved : X → ℕ) (v : X) → f i ≡ Some v → reserved v ≤ reserved w → (j : Instance) → unwrap_or (option_map reserved (f j)) 0 ≤ unwrap_or (option_map reserved (g j)) 0
   more_room reserved v at more j = by (same_instance i j) refl
     where
@@ -46,7 +46,7 @@ module _ {X : Type 0} (f g : Instance → Option X) (i : Instance) (w : X) (writ
           (subst (λ (b : Option X). reserved v ≤ unwrap_or (option_map reserved b) 0) (sym (here j p)) more)
       by false p = subst (λ (b : Option X). unwrap_or (option_map reserved (f j)) 0 ≤ unwrap_or (option_map reserved b) 0) (sym (there j p)) (omega arith)
 
-  -- where there was none, the unit stands at i and nothing else has changed
+  -- where there was none, i has the unit now and nothing else has changed
   pub fills_in : (value : X → ViewValue) (unit : ViewValue) → f i ≡ None → value w ≡ unit → (j : Instance)
       → (option_map value (g j) ≡ option_map value (f j)) ⊎ ((option_map value (f j) ≡ None) × (option_map value (g j) ≡ Some unit) × (i ≡ j))
   fills_in value unit at same j = by (same_instance i j) refl
@@ -57,7 +57,7 @@ module _ {X : Type 0} (f g : Instance → Option X) (i : Instance) (w : X) (writ
           inr (ap (option_map value) (subst (λ (q : Instance). f q ≡ None) e at), ap (option_map value) (here j p) ∙ ap Some same, e)
       by false p = inl (ap (option_map value) (there j p))
 
-  -- where there was none, no room is taken away
+  -- where there was none, no room is lost
   pub new_room : (reserved : X → ℕ) → f i ≡ None → (j : Instance) → unwrap_or (option_map reserved (f j)) 0 ≤ unwrap_or (option_map reserved (g j)) 0
   new_room reserved at j = by (same_instance i j) refl
     where

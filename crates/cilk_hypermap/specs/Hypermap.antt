@@ -1,5 +1,5 @@
--- What the contracts of `Hypermap` cite: a finite map from kinds and instances to the values of their views (hypermaps: Frigo, Halpern,
--- Leiserson and Lewin-Berlin 2009).
+-- The definitions in the contracts of `Hypermap`: a finite map from kinds and instances to the
+-- values of their views (hypermaps: Frigo, Halpern, Leiserson and Lewin-Berlin 2009).
 use Rattle.std.specs.Prelude.{◌≡◌, Bool, true, false, cond, ◌&&◌, Option, Some, None, ◌⊎◌}
 use Rattle.cilk_types.specs.declared.event.Instance.{Instance}
 use Rattle.cilk_monoid.specs.declared.kind.MonoidKind.{MonoidKind}
@@ -11,11 +11,11 @@ use Rattle.cilk_monoid.specs.Views.{number_value, list_value, affine_value, list
 use Rattle.cilk_hypermap.specs.declared.hypermap.Hypermap.{Hypermap}
 use Rattle.cilk_hypermap.specs.Views.{or_unit, view_at, HasRoom, Fits, Loses}
 
--- a fact of each kind
+-- P holds of each kind of monoid
 abbrev pub EachKind : (MonoidKind → Type 0) → Type 0
 EachKind P = P Add × P Least × P Greatest × P Append × P Affine
 
--- the value of the view of the instance of the kind, if there is one
+-- the value of the instance's view of this kind, if there is one
 abbrev pub view_in : Hypermap → MonoidKind → Instance → Option ViewValue
 view_in h Add i = view_at number_value h.sums i
 view_in h Least i = view_at number_value h.least i
@@ -23,32 +23,32 @@ view_in h Greatest i = view_at number_value h.greatest i
 view_in h Append i = view_at list_value h.lists i
 view_in h Affine i = view_at affine_value h.maps i
 
--- the value of the view, where none counts as the unit
+-- the value of the view, where an absent view counts as the unit
 abbrev pub value_in : Hypermap → MonoidKind → Instance → ViewValue
 value_in h k i = or_unit (structure_of k) (view_in h k i)
 
--- the view of the instance of the kind has become w, and the others are as they were
+-- the instance's view of this kind is w now, and the others are unchanged
 abbrev pub ChangesIn : Hypermap → Hypermap → MonoidKind → Instance → Option ViewValue → Type 0
 ChangesIn old new k i w = EachKind (λ k'. (j : Instance) → view_in new k' j ≡ cond (same_kind k k' && same_instance i j) w (view_in old k' j))
 
--- all views are as they were
+-- all views are unchanged
 abbrev pub KeepsAll : Hypermap → Hypermap → Type 0
 KeepsAll old new = EachKind (λ k. (j : Instance) → view_in new k j ≡ view_in old k j)
 
--- the values are as they were, an absent view counting as the unit
+-- the values are unchanged, where an absent view counts as the unit
 abbrev pub KeepsAllValues : Hypermap → Hypermap → Type 0
 KeepsAllValues old new = EachKind (λ k. (j : Instance) → value_in new k j ≡ value_in old k j)
 
--- the instance has no view of any kind, and the others are as they were
+-- the instance has no view of any kind now, and the others are unchanged
 abbrev pub Retires : Hypermap → Hypermap → Instance → Type 0
 Retires old new i = EachKind (λ k. (j : Instance) → view_in new k j ≡ cond (same_instance i j) None (view_in old k j))
 
--- the views are as they were, but that the unit stands at some instances that had none and are needed
+-- the views are unchanged, except that some needed instances without a view now have the unit
 abbrev pub FillsAll : (MonoidKind → Instance → Type 0) → Hypermap → Hypermap → Type 0
 FillsAll IsNeeded old new = EachKind (λ k. (j : Instance) → (view_in new k j ≡ view_in old k j)
     ⊎ ((view_in old k j ≡ None) × (view_in new k j ≡ Some (structure_of k).unit) × IsNeeded k j))
 
--- `left` has the room for the views of `middle` and `right`, of each kind
+-- `left` has room for the views of `middle` and `right`, of each kind
 abbrev pub HasRoomForAll : Hypermap → Hypermap → Hypermap → Type 0
 HasRoomForAll left middle right = HasRoom (structure_of Add) number_value (λ _. unlimited) left.sums middle.sums right.sums
     × HasRoom (structure_of Least) number_value (λ _. unlimited) left.least middle.least right.least
@@ -64,7 +64,7 @@ FitsAll left right = Fits (structure_of Add) number_value (λ _. unlimited) left
     × Fits (structure_of Append) list_value list_room left.lists right.lists
     × Fits (structure_of Affine) affine_value (λ _. unlimited) left.maps right.maps
 
--- `new` has the room of `left` but for the sizes of the views of `right`, of each kind
+-- `new` has the room of `left`, less at most the sizes of the views of `right`, of each kind
 abbrev pub LosesAtMost : Hypermap → Hypermap → Hypermap → Type 0
 LosesAtMost left right new = Loses (structure_of Add) number_value (λ _. unlimited) left.sums right.sums new.sums
     × Loses (structure_of Least) number_value (λ _. unlimited) left.least right.least new.least

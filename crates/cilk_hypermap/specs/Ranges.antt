@@ -7,7 +7,8 @@ use Rattle.cilk_monoid.specs.Ranges.{ReducerEvent, HaveWords, Mentions, Resets, 
 use Rattle.cilk_hypermap.specs.declared.hypermap.Hypermap.{Hypermap}
 use Rattle.cilk_hypermap.specs.Hypermap.{value_in}
 
--- each reducer's view is that of the range, where an absent view counts as the unit; `kinds` says which monoid each reducer has
+-- each reducer's view is that of the range, where an absent view counts as the unit; `kinds` gives
+-- each reducer's monoid
 abbrev pub ShowsRange : (Instance → MonoidKind) → Hypermap → List ReducerEvent → Type 0
 ShowsRange kinds h es = (i : Instance) → value_in h (kinds i) i ≡ view_of (structure_of (kinds i)) i es
 
@@ -15,7 +16,7 @@ ShowsRange kinds h es = (i : Instance) → value_in h (kinds i) i ≡ view_of (s
 abbrev pub ResetsNone : List ReducerEvent → List ReducerEvent → Type 0
 ResetsNone left right = (i : Instance) → Mentions i left → ¬ (Resets i right)
 
--- where the two hypermaps show two adjoining ranges, the third shows the joined one
+-- if the two hypermaps show two adjoining ranges, the third shows the joined range
 abbrev pub JoinsRanges : Hypermap → Hypermap → Hypermap → Type 0
 JoinsRanges l r h = (kinds : Instance → MonoidKind) (left right : List ReducerEvent) → HaveWords left → HaveWords right → ResetsNone left right
     → ShowsRange kinds l left → ShowsRange kinds r right → ShowsRange kinds h (left ++ right)

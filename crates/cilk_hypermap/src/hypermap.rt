@@ -21,10 +21,11 @@ use cilk_types::outcome::Final;
 use cilk_types::sequence::Sequence;
 use std::alloc::{AllocError, Global};
 
-/// The views of each monoid that programs name, by the reducer instance that each belongs to.
+/// The views of each monoid that programs name, by reducer instance.
 ///
-/// Contracts see a finite map from kinds and instances to the values of their views (`view_in`). The ordered output is the
-/// view of [`Instance::OUTPUT`] among the lists. What is refused for want of memory leaves all views as they were.
+/// Contracts see a finite map from kinds and instances to the values of their views (`view_in`).
+/// The ordered output is the view of [`Instance::OUTPUT`] among the lists. When a call runs out of
+/// memory, no view changes its value.
 pub struct Hypermap {
     sums: Views<Add>,
     least: Views<Least>,
@@ -33,7 +34,7 @@ pub struct Hypermap {
     maps: Views<Affine>,
 }
 
-// A function of its own, so that a proof follows one call where a hypermap is dropped.
+// A separate function, so that a proof follows one call where a hypermap is dropped.
 impl Drop for Hypermap {
     fn drop(self) {
         let Hypermap {
@@ -47,7 +48,7 @@ impl Drop for Hypermap {
 }
 
 impl Hypermap {
-    /// No views.
+    /// Returns a hypermap without views.
     pub fn new(alloc: Global) -> Self
         ensures { EachKind (λ k. (i : Instance) → view_in result k i ≡ None) }
     {
@@ -60,7 +61,7 @@ impl Hypermap {
         }
     }
 
-    /// Puts the unit at the instance.
+    /// Sets the instance's view to the unit of its monoid.
     pub fn create(
         &mut self,
         alloc: Global,
@@ -79,7 +80,7 @@ impl Hypermap {
         }
     }
 
-    /// Puts the view of the number alone at the instance.
+    /// Sets the instance's view to that of the single number `x`.
     pub fn set(
         &mut self,
         alloc: Global,
@@ -99,7 +100,7 @@ impl Hypermap {
         }
     }
 
-    /// Multiplies the instance's view with that of one update from the right. Where there is none it begins with the unit.
+    /// Multiplies the instance's view by `x` from the right. An absent view counts as the unit.
     pub fn update(
         &mut self,
         alloc: Global,
@@ -120,7 +121,7 @@ impl Hypermap {
         }
     }
 
-    /// The number of the instance's view. Where there is none, the unit is put there first.
+    /// Returns the number of the instance's view. If there is no view, the unit is put there first.
     pub fn value(
         &mut self,
         alloc: Global,
@@ -150,7 +151,7 @@ impl Hypermap {
         self.lists.print(alloc, x)
     }
 
-    /// Takes the view of the instance out, of whichever kind it is.
+    /// Drops the view of the instance, of whichever kind it is.
     pub fn retire(&mut self, instance: Instance)
         ensures { Retires self.old self.new instance }
     {
@@ -161,8 +162,8 @@ impl Hypermap {
         self.maps.retire(instance);
     }
 
-    /// Takes the view of the instance out as the value that it leaves when the run ends, if there is one. It takes no memory,
-    /// and a list is moved.
+    /// Moves the view of the instance out as its reducer's last value, if there is a view. It
+    /// allocates nothing: a list is moved.
     pub fn take(&mut self, instance: Instance, kind: MonoidKind) -> Option<Final>
         ensures value { result ≡ option_map final_of (view_in self.old kind instance) }
         ensures views { ChangesIn self.old self.new kind instance None }
@@ -183,7 +184,7 @@ impl Hypermap {
         }
     }
 
-    // Multiplies each view, which has the room, with that of `right`.
+    // Multiplies each view by that of `right`. There is room for each product.
     fn absorb(&mut self, alloc: Global, right: Self)
         requires present { EachKind (λ k. (j : Instance) → IsSome (view_in right k j) → IsSome (view_in self.old k j)) }
         requires room { FitsAll self.old right }
@@ -204,8 +205,9 @@ impl Hypermap {
         self.maps.absorb(alloc, maps);
     }
 
-    /// Makes room, so that the three merge without memory. No view changes its value; where a later one has a view and an
-    /// earlier one has none, it puts the unit there. It costs the instances of `middle` and `right`.
+    /// Reserves the memory with which [`Hypermap::merge3`] can't fail. No view changes its value;
+    /// the unit is put where a later hypermap has a view and an earlier one has none. Cost: linear
+    /// in the instances of `middle` and `right`.
     pub fn room(
         alloc: Global,
         left: &mut Self,
@@ -229,15 +231,16 @@ impl Hypermap {
         Views::room(alloc, &mut left.maps, &mut middle.maps, &right.maps)
     }
 
-    /// Multiplies the views of each instance, the left one first, where an absent view counts as the unit. It costs its right
-    /// side: no view is cloned. A refused merge gives both back with the same values.
+    /// Multiplies the views of each instance, left by right, where an absent view counts as the
+    /// unit. Cost: linear in the right side; no view is cloned. If memory runs out, both come back
+    /// with the same values.
     pub fn merge(alloc: Global, mut left: Self, mut right: Self) -> Result<Self, (Self, Self)>
         ensures views { IfOk result (λ h. EachKind (λ k. (j : Instance) → view_in h k j ≡ merged (structure_of k) (view_in left k j) (view_in right k j))) }
         ensures values { IfOk result (λ h. EachKind (λ k. (j : Instance) → value_in h k j
             ≡ (structure_of k).combine (value_in left k j) (value_in right k j))) }
         ensures err { IfErr result (λ p. KeepsAllValues left p.0 × KeepsAllValues right p.1) }
 
-        // Pieces of a run may be merged where the right one resets nothing that the left one mentions.
+        // Pieces of a run may be merged if the right one resets nothing that the left one mentions.
         ensures ranges { IfOk result (JoinsRanges left right) }
     {
         let none = Hypermap::new(alloc);
@@ -250,8 +253,9 @@ impl Hypermap {
         }
     }
 
-    /// Multiplies the views of each instance, from left to right, where an absent view counts as the unit. After
-    /// [`Hypermap::room`] it takes no memory and succeeds. A refused merge gives all back with the same values.
+    /// Multiplies the views of each instance, from left to right, where an absent view counts as
+    /// the unit. After [`Hypermap::room`] it allocates nothing and succeeds. If memory runs out,
+    /// all three come back with the same values.
     pub fn merge3(
         alloc: Global,
         mut left: Self,
@@ -278,7 +282,7 @@ impl Hypermap {
     }
 }
 
-// The number of a view as a last value.
+// The number of a view, as a last value.
 fn number(view: Option<NumberView>) -> Option<Final>
     ensures { result ≡ option_map final_of (option_map number_value view) }
 {

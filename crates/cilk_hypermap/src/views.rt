@@ -1,7 +1,7 @@
 //! The views of one monoid.
 //!
-//! A merge makes room in the left map first, for each view of the right one, and then moves the right views over: the
-//! first step may be refused, and the second can't fail.
+//! A merge has two steps. The first reserves room in the left map for each view of the right one,
+//! and may run out of memory. The second moves the right views over, and can't fail.
 
 ghost use Rattle.std.specs.Prelude.{◌≡◌, ◌+◌, ◌<◌, ◌≤◌, ◌^◌, ℕ, if◌then◌else◌, cond, Option, None, Some, IsSome, IsOk, OnOk, OnErr, IfOk, IfErr, ◌⊎◌};
 ghost use Rattle.std.specs.Option.{option_map};
@@ -15,16 +15,16 @@ use indexmap::IndexMap;
 use std::alloc::{AllocError, Global};
 use std::mem;
 
-/// The views of one monoid, by the reducer instance that each belongs to.
+/// The views of one monoid, by reducer instance.
 ///
-/// Contracts see a finite map from instances to the values of their views (`view_at`), and beside it how much each view
-/// has reserved (`room_at`). A look-up costs one hash. What is refused for want of memory leaves all views as they
-/// were.
+/// Contracts see a finite map from instances to the values of their views (`view_at`), and how much
+/// room each view has reserved (`room_at`). A look-up costs one hash. When a call runs out of
+/// memory, no view changes its value.
 pub struct Views<M: Monoid> {
     views: IndexMap<Instance, M::View>,
 }
 
-// A function of its own, so that a proof follows one call where views are dropped.
+// A separate function, so that a proof follows one call where views are dropped.
 impl<M: Monoid> Drop for Views<M> {
     fn drop(self) {
         let Views { views: _views } = self;
@@ -32,7 +32,7 @@ impl<M: Monoid> Drop for Views<M> {
 }
 
 impl<M: Monoid> Views<M> {
-    /// No views.
+    /// Returns a map without views.
     pub fn new(alloc: Global) -> Self
         ensures { (i : Instance) → view_at M.value result i ≡ None }
     {
@@ -50,7 +50,7 @@ impl<M: Monoid> Views<M> {
         Ok(())
     }
 
-    /// Puts the unit at the instance.
+    /// Sets the instance's view to the unit.
     pub fn create(&mut self, alloc: Global, instance: Instance) -> Result<(), AllocError>
         ensures ok { OnOk result (ChangesAt M.value self.old self.new instance (Some M.structure.unit)) }
         ensures err { OnErr result (KeepsViews M.value self.old self.new) }
@@ -58,7 +58,7 @@ impl<M: Monoid> Views<M> {
         self.put(instance, M::unit(alloc))
     }
 
-    /// Puts the view of the number alone at the instance.
+    /// Sets the instance's view to that of the single number `x`.
     pub fn set(&mut self, alloc: Global, instance: Instance, x: i64) -> Result<(), AllocError>
         ensures ok { OnOk result (ChangesAt M.value self.old self.new instance (Some (M.structure.single x))) }
         ensures err { OnErr result (KeepsViews M.value self.old self.new) }
@@ -66,8 +66,7 @@ impl<M: Monoid> Views<M> {
         self.put(instance, M::single(alloc, x)?)
     }
 
-    /// Multiplies the instance's view with that of one update from the right. Where there is none it begins with the
-    /// unit.
+    /// Multiplies the instance's view by `x` from the right. An absent view counts as the unit.
     pub fn update(&mut self, alloc: Global, instance: Instance, x: i64) -> Result<(), AllocError>
         ensures ok { OnOk result (ChangesAt M.value self.old self.new instance (Some (M.structure.combine
             (value_at M.structure M.value self.old instance) (M.structure.single x)))) }
@@ -81,7 +80,7 @@ impl<M: Monoid> Views<M> {
         self.put(instance, view)
     }
 
-    /// The number of the instance's view. Where there is none, the unit is put there first.
+    /// Returns the number of the instance's view. If there is no view, the unit is put there first.
     pub fn value(&mut self, alloc: Global, instance: Instance) -> Result<i64, AllocError>
         ensures number { IfOk result (λ n. n ≡ M.structure.number (value_at M.structure M.value self.old instance)) }
         ensures ok { OnOk result (ChangesAt M.value self.old self.new instance (Some
@@ -106,7 +105,7 @@ impl<M: Monoid> Views<M> {
         self.update(alloc, Instance::OUTPUT, x)
     }
 
-    /// Takes the instance's view out, if there is one.
+    /// Removes and returns the instance's view, if there is one.
     pub fn retire(&mut self, instance: Instance) -> Option<M::View>
         ensures view { option_map M.value result ≡ view_at M.value self.old instance }
         ensures views { ChangesAt M.value self.old self.new instance None }
@@ -114,8 +113,8 @@ impl<M: Monoid> Views<M> {
         self.views.swap_remove(&instance)
     }
 
-    // Makes room at the instance for right sides of together at most this size. Where there is no view, it puts the
-    // unit there.
+    // Reserves room at the instance for right sides of at most this size together. Where there is
+    // no view, it puts the unit there.
     fn reserve(&mut self, alloc: Global, instance: Instance, size: usize) -> Result<(), AllocError>
         ensures views { FillsIn M.structure M.value (λ j. instance ≡ j) self.old self.new }
         ensures kept { (j : Instance) → room_at M.reserved self.old j ≤ room_at M.reserved self.new j }
@@ -133,7 +132,7 @@ impl<M: Monoid> Views<M> {
         Ok(())
     }
 
-    // Multiplies the instance's view, which has the room, with a view from the right.
+    // Multiplies the instance's view by a view from the right. There is room for the product.
     fn multiply(&mut self, alloc: Global, instance: Instance, right: M::View)
         requires present { IsSome (view_at M.value self.old instance) }
         requires room { M.structure.size (M.value right) ≤ room_at M.reserved self.old instance }
@@ -176,7 +175,7 @@ impl<M: Monoid> Views<M> {
         Ok(())
     }
 
-    // Makes room for the views of `middle` and of `right`, wherever `middle` has one.
+    // Reserves room for the views of `middle` and of `right`, wherever `middle` has one.
     fn fit(&mut self, alloc: Global, middle: &Self, right: &Self) -> Result<(), AllocError>
         ensures views { FillsIn M.structure M.value (λ j. IsSome (view_at M.value middle.now j)) self.old self.new }
         ensures present { OnOk result ((j : Instance) → IsSome (view_at M.value middle.now j)
@@ -196,7 +195,7 @@ impl<M: Monoid> Views<M> {
         Ok(())
     }
 
-    // Multiplies each view, which has the room, with that of `right`.
+    // Multiplies each view by that of `right`. There is room for each product.
     pub(crate) fn absorb(&mut self, alloc: Global, mut right: Self)
         requires present { (j : Instance) → IsSome (view_at M.value right j) → IsSome (view_at M.value self.old j) }
         requires room { (j : Instance) → size_at M.structure M.value right j ≤ room_at M.reserved self.old j }
@@ -210,8 +209,9 @@ impl<M: Monoid> Views<M> {
         }
     }
 
-    /// Makes room, so that the three merge without memory. No view changes its value; where a later one has a view and
-    /// an earlier one has none, it puts the unit there. It costs the instances of `middle` and `right`.
+    /// Reserves the memory with which [`Views::merge3`] can't fail. No view changes its value; the
+    /// unit is put where a later map has a view and an earlier one has none. Cost: linear in the
+    /// instances of `middle` and `right`.
     pub fn room(
         alloc: Global,
         left: &mut Self,
@@ -228,8 +228,9 @@ impl<M: Monoid> Views<M> {
         left.fit(alloc, middle, right)
     }
 
-    /// Multiplies the views of each instance, the left one first, where an absent view counts as the unit. It costs
-    /// its right side: no view is cloned. A refused merge gives both back with the same values.
+    /// Multiplies the views of each instance, left by right, where an absent view counts as the
+    /// unit. Cost: linear in the right side; no view is cloned. If memory runs out, both come back
+    /// with the same values.
     pub fn merge(alloc: Global, mut left: Self, mut right: Self) -> Result<Self, (Self, Self)>
         ensures views { IfOk result (λ m. (j : Instance) → view_at M.value m j
             ≡ merged M.structure (view_at M.value left j) (view_at M.value right j)) }
@@ -248,8 +249,9 @@ impl<M: Monoid> Views<M> {
         }
     }
 
-    /// Multiplies the views of each instance, from left to right, where an absent view counts as the unit. After
-    /// [`Views::room`] it takes no memory and succeeds. A refused merge gives all back with the same values.
+    /// Multiplies the views of each instance, from left to right, where an absent view counts as
+    /// the unit. After [`Views::room`] it allocates nothing and succeeds. If memory runs out, all
+    /// three come back with the same values.
     pub fn merge3(
         alloc: Global,
         mut left: Self,

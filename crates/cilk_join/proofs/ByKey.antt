@@ -1,7 +1,8 @@
 -- Keys that ascend, and pieces by ascending key.
 --
 -- - `all_stand`, `from_stand`, `in_both`, `in_left`, `in_right`: keys of a list;
--- - `dropped_stands`, `dropped_other`, `dropped_gone`, `dropped_rises`, `rises_snoc`: of keys that ascend, less one, and one more;
+-- - `dropped_stands`, `dropped_other`, `dropped_gone`, `dropped_rises`, `rises_snoc`: of keys that
+--   ascend, less one, and one more;
 -- - `stands_sorted`, `sorted`, `keys_increase`: pieces by key.
 use Rattle.std.proofs.Common.{◌≡◌, ◌<◌, ◌≤◌, ◌⊎◌, inl, inr, ⊎_elim, ℕ, nat_eq, eq-eqb, eqb-true, Bool, true, false, List, [], ◌∷◌, ◌++◌, map, refl, sym, ap, ap₂, ◌∙◌, subst, arith}
 use Rattle.std.specs.List.{AllByRecursion, filter}

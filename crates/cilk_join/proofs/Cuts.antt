@@ -1,7 +1,8 @@
 -- Pieces by key, and the row that they give, cut at keys.
 --
 -- - `between_is`, `cut_beside`: the product of a piece and those beside it;
--- - `below_all`, `above_none`, `below_none`, `above_all`, `below_less`, `above_more`, ..: pieces below a key, and above it;
+-- - `below_all`, `above_none`, `below_none`, `above_all`, `below_less`, `above_more`, ..: pieces
+--   below a key, and above it;
 -- - `keys_cut`, `placed_cut`: a piece comes to its place in the row as it does among the pieces;
 -- - `parts_are_few`: the runs of any row.
 use Rattle.std.proofs.Common.{◌≡◌, ◌<◌, ◌≤◌, ◌+◌, ◌⊎◌, inl, inr, ⊎_elim, ℕ, suc, nat_eq, nat_lt, eq-eqb, eqb-true, Bool, true, false, List, [], ◌∷◌, ◌++◌, map, length, Option, Some, None, refl, sym, ap, ap₂, ◌∙◌, subst, arith, if◌then◌else◌}
@@ -196,7 +197,7 @@ dropped k (j ∷ js) = if nat_eq j k then js else j ∷ dropped k js
 abbrev runs_ahead : Option Product → Product → Row Product → Row Product
 runs_ahead left x r = row (Some (between left x r.run)) r.waits
 
--- pieces below all keys, ahead of the others
+-- pieces below all keys, before the others
 cut_beside : (xs : List Piece) (p : Piece) (ks : List ℕ) (ys : List Piece) → AllBelow p.key xs → AllByRecursion (λ j. p.key < j) ks
     → runs_ahead (run_over xs) (product p.views) (cut ks ys) ≡ cut ks (xs ++ p ∷ ys)
 cut_beside xs p [] ys low high = ap (λ r. row r []) (between_is xs p ys)
@@ -207,7 +208,7 @@ cut_beside xs p (k ∷ ks) ys low high =
     let above_is : above k (xs ++ p ∷ ys) ≡ above k ys = above_append k xs (p ∷ ys) ∙ ap₂ (λ xs ys. xs ++ ys) (above_none k xs low') (above_less_one k p ys (omega (arith, h))) in
     ap₂ (λ r ps. ahead r k (cut ks ps)) (between_is xs p (below k ys) ∙ ap run_over (sym below_is)) (sym above_is)
 
--- a key that is among these, or behind all of them and all pieces
+-- a key that is among these, or after all of them and all pieces
 abbrev pub Comes : ℕ → List ℕ → List Piece → Type 0
 Comes k [] ps = AllBelow k ps
 Comes k (j ∷ js) ps = (j ≡ k) ⊎ ((j < k) × Comes k js (above j ps))

@@ -1,7 +1,9 @@
--- What holds of a join after every history.
+-- The invariant of a join, after every history.
 --
--- - `Holds`: its row is that of the pieces that have arrived, and its keys are those of what was stolen and has arrived;
--- - `opens`, `steals`, `arrives`: of an opening join, and after a steal and an arrival; `holds`: after every history;
+-- - `Holds`: its row is that of the pieces that have arrived, and its keys are those of what was
+--   stolen and has arrived;
+-- - `opens`, `steals`, `arrives`: of an opening join, and after a steal and an arrival; `holds`:
+--   after every history;
 -- - `all_arrived`, `answers`: where it passes, and with what.
 use Rattle.std.proofs.Common.{◌≡◌, ◌<◌, ◌≤◌, ◌⊎◌, inl, inr, ⊎_elim, ℕ, suc, nat_eq, nat_lt, eq-eqb, eqb-true, Bool, true, false, List, [], ◌∷◌, ◌++◌, Option, Some, None, refl, sym, ap, ap₂, ◌∙◌, subst, arith, append_assoc, if◌then◌else◌}
 use Rattle.std.proofs.lemmas.Bool.{ltb-true, ltb-false}
@@ -20,7 +22,7 @@ waits_of j = let r = j.row in r.waits
 abbrev pub keys_in : JoinView → List ℕ
 keys_in j = keys (waits_of j)
 
--- these were stolen at the join, these pieces have arrived, and the sync's own is such
+-- these keys were stolen at the join, these pieces have arrived, and this one is the sync's own
 pub record Holds (j : JoinView) (stolen : List ℕ) (ps : List Piece) (Own : Piece → Type 0) : Type 0 where
   pub row_is : j.row ≡ cut (keys_in j) (by_key ps)
   pub rises : Rises (keys_in j)

@@ -1,4 +1,4 @@
--- A piece comes to its place by few writes.
+-- An arrival, by the writes of the code.
 --
 -- - `placed_put`, `put_back`, `placed_some`: of rows over any type with an operation and a unit;
 -- - `settled`, `unsettled`, `passes_some`: of a whole arrival.
@@ -28,7 +28,7 @@ module _ {V : Type 0} (unit : V) (times : V → V → V) where
   abbrev pub PutsBack : Option V → List (Wait V) → ℕ → Type 0
   PutsBack run ws k = restored (cleared run ws (place_of ws k)) (place_of ws k) (run_at run ws (place_of ws k)) (right_of run ws (place_of ws k)) ≡ row run ws
 
-  -- behind one more awaited key
+  -- after one more awaited key
   puts_step : (run : Option V) (w : Wait V) (ws : List (Wait V)) (k : ℕ) (x : V) (b : Bool) → nat_eq w.key k ≡ b → PutsAt w.run ws k x → PutsAt run (w ∷ ws) k x
   puts_step run w ws k x true e h = rw e refl
   puts_step run w ws k x false e h = rw e (ap (ahead run w.key) h)

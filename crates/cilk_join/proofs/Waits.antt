@@ -1,6 +1,7 @@
 -- The code's list, and the row that it shows.
 --
--- - `map_without`, `without_past`, `run_before`, `set_before`, `run_past`, `with_past`: reads and writes by places;
+-- - `map_without`, `without_past`, `run_before`, `set_before`, `run_past`, `with_past`: reads and
+--   writes by places;
 -- - `low_step`, `awaited_there`, `there_awaited`: the place of an awaited key.
 use Rattle.std.proofs.Common.{◌≡◌, ◌<◌, ◌≤◌, inl, inr, ⊎_elim, ℕ, zero, suc, nat_eq, eq-eqb, eqb-true, Bool, true, false, List, [], ◌∷◌, ◌++◌, map, length, take, drop, slice_index_or, slice_set, Option, None, refl, sym, ap, ◌∙◌, arith}
 use Rattle.cilk_hypermap.specs.declared.hypermap.Hypermap.{Hypermap}

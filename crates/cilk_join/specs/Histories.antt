@@ -1,4 +1,5 @@
--- The histories of a join: continuations are stolen and pieces arrive, in any order that is allowed, and the row that the pieces give by ascending key.
+-- The histories of a join: continuations are stolen and pieces arrive, in any allowed order; and
+-- the row that the pieces give by ascending key.
 use Rattle.std.specs.Prelude.{◌≡◌, ℕ, nat_lt, Bool, true, ◌⊎◌, List, [], ◌∷◌, ◌++◌, map, Option, Some, None}
 use Rattle.std.specs.List.{filter}
 use Rattle.cilk_monoid.specs.Kinds.{structure_of}
@@ -11,24 +12,25 @@ use Rattle.cilk_join.specs.Joins.{JoinView, opening, IsOpen, MayArrive, stolen_a
 use Rattle.cilk_join.specs.Products.{Product, product}
 use Rattle.cilk_join.specs.Rows.{Row, row, ahead, keys, Stands}
 
--- a child's piece, with the child's key, or the sync's own
+-- a child's piece with the child's key, or the sync's own
 pub record Piece : Type 0 where
   pub key : ℕ
   pub views : Hypermap
 
--- the continuation beside the child of a key is stolen, or a piece arrives: the sync's own, where it is the last
+-- the continuation of the child with this key is stolen, or a piece arrives; the last one is the
+-- sync's own
 pub data JoinStep : Type 0 where
   Steals : (key : ℕ) → JoinStep
   Arrives : (piece : Piece) (last : Bool) → JoinStep
 
--- ---- steps from an opening join on, the latest of which stands first
+-- ---- steps from an opening join on, the latest step first
 
 abbrev pub joined : List JoinStep → JoinView
 joined [] = opening
 joined (Steals k ∷ steps) = stolen_at (joined steps) k
 joined (Arrives p last ∷ steps) = arrived_at (joined steps) p.key last (product p.views)
 
--- each was allowed where it was made
+-- each step is allowed when it is made
 abbrev pub IsHistory : List JoinStep → Type 0
 IsHistory [] = Unit {0}
 IsHistory (Steals k ∷ steps) = IsHistory steps × IsOpen (joined steps) k
@@ -57,7 +59,7 @@ IsOwn [] p = ⊥
 IsOwn (Steals k ∷ steps) p = IsOwn steps p
 IsOwn (Arrives q last ∷ steps) p = ((q ≡ p) × (last ≡ true)) ⊎ IsOwn steps p
 
--- the sync's own piece has arrived, and that of each stolen child
+-- the sync's own piece and that of each stolen child have arrived
 abbrev pub HaveAllArrived : List JoinStep → Type 0
 HaveAllArrived steps = ((p : Piece) × IsOwn steps p) × ((k : ℕ) → Stands (stolen_keys steps) k → Stands (keys_of (pieces_in steps)) k)
 
@@ -69,7 +71,7 @@ below k ps = filter (λ p. nat_lt p.key k) ps
 abbrev pub above : ℕ → List Piece → List Piece
 above k ps = filter (λ p. nat_lt k p.key) ps
 
--- each piece comes behind those of lower keys, and ahead of those of higher ones
+-- pieces in ascending order of their keys
 abbrev pub by_key : List Piece → List Piece
 by_key [] = []
 by_key (p ∷ ps) = below p.key (by_key ps) ++ p ∷ above p.key (by_key ps)
@@ -78,17 +80,17 @@ by_key (p ∷ ps) = below p.key (by_key ps) ++ p ∷ above p.key (by_key ps)
 abbrev pub product_of : List Piece → Product
 product_of ps k i = monoid.product (structure_of k) (map (λ p. value_in p.views k i) ps)
 
--- the run that they make, if there are any
+-- the run of these pieces, if there are any
 abbrev pub run_over : List Piece → Option Product
 run_over [] = None
 run_over (p ∷ ps) = Some (product_of (p ∷ ps))
 
--- pieces cut at keys: a run of those below the first key, and so on between each key and the next
+-- pieces cut at keys: a run of those below the first key, and one between each key and the next
 abbrev pub cut : List ℕ → List Piece → Row Product
 cut [] ps = row (run_over ps) []
 cut (k ∷ ks) ps = ahead (run_over (below k ps)) k (cut ks (above k ps))
 
--- what the last arrival of these steps comes to
+-- the answer to the last arrival of these steps
 abbrev pub IsAnswer : List JoinStep → Arrival → Type 0
 IsAnswer steps Waits = ¬ (HaveAllArrived steps)
 IsAnswer steps (Passes h) = HaveAllArrived steps × (product h ≡ product_of (by_key (pieces_in steps)))

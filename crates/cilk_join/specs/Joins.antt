@@ -1,11 +1,13 @@
--- What waits at a sync block: the awaited keys, and the product of each run of arrived keys with no awaited key between.
+-- The state of a join: the awaited keys, and the product of each run of arrived keys with no
+-- awaited key between.
 use Rattle.std.specs.Prelude.{◌≡◌, ◌<◌, ◌≤◌, ℕ, nat_eq, nat_lt, Bool, true, false, ◌⊎◌, if◌then◌else◌, [], ◌∷◌, ◌++◌, Option, Some, None}
 use Rattle.cilk_join.specs.declared.join.Arrival.{Arrival}
 use Rattle.cilk_join.specs.declared.join.Arrival.TheVariants.{Waits, Passes}
 use Rattle.cilk_join.specs.Rows.{Row, row, wait, keys, Stands, placed, is_empty, parts_of, place_of, run_at, with_run, without}
 use Rattle.cilk_join.specs.Products.{Product, product, nothing, times}
 
--- The row; the greatest key that was stolen, and the greatest that has arrived, 0 where there is none; and whether the sync's own piece has arrived.
+-- The row; the greatest stolen key and the greatest arrived key, 0 where there is none; and whether
+-- the sync's own piece has arrived.
 pub record JoinView : Type 0 where
   pub row : Row Product
   pub stolen : ℕ
@@ -15,11 +17,12 @@ pub record JoinView : Type 0 where
 abbrev pub opening : JoinView
 opening = record { row = row None []; stolen = 0; arrived = 0; closed = false }
 
--- k is above every key that was stolen or has arrived, and the sync's piece hasn't arrived
+-- k is above every stolen and every arrived key, and the sync's piece hasn't arrived
 abbrev pub IsFresh : JoinView → ℕ → Type 0
 IsFresh j k = (j.closed ≡ false) × (j.stolen < k) × (j.arrived < k)
 
--- k may be stolen: it is above every key that was stolen and every other that has arrived, and the sync's piece hasn't arrived
+-- k may be stolen: it is above every stolen key and every other arrived key, and the sync's piece
+-- hasn't arrived
 abbrev pub IsOpen : JoinView → ℕ → Type 0
 IsOpen j k = (j.closed ≡ false) × (j.stolen < k) × (j.arrived ≤ k)
 
@@ -27,35 +30,35 @@ IsOpen j k = (j.closed ≡ false) × (j.stolen < k) × (j.arrived ≤ k)
 abbrev pub IsAwaited : JoinView → ℕ → Type 0
 IsAwaited j k = let r = j.row in Stands (keys r.waits) k
 
--- a key may arrive: an awaited one, for a child, or a fresh one
+-- a key may arrive: an awaited key, for a child, or a fresh one
 abbrev pub MayArrive : JoinView → ℕ → Bool → Type 0
 MayArrive j k last = ((last ≡ false) × IsAwaited j k) ⊎ IsFresh j k
 
--- after k was stolen: it is awaited, unless it has arrived
+-- the state after k is stolen: k is awaited, unless it has arrived
 abbrev pub stolen_at : JoinView → ℕ → JoinView
 stolen_at j k = let r = j.row in record j { row = row r.run (r.waits ++ (if nat_eq j.arrived k then [] else wait k None ∷ [])); stolen = k }
 
--- a piece of this key is counted as arrived
+-- a piece with this key is counted as arrived
 abbrev pub noted : JoinView → ℕ → Bool → JoinView
 noted j k last = record j { arrived = if nat_lt j.arrived k then k else j.arrived; closed = if last then true else j.closed }
 
--- the row after a piece
+-- the row after a piece has come to its place
 abbrev pub arrived_row : JoinView → ℕ → Product → Row Product
 arrived_row j k x = let r = j.row in placed nothing times r.run r.waits k x
 
--- after a piece has come to its place
+-- the state after a piece has arrived
 abbrev pub arrived_at : JoinView → ℕ → Bool → Product → JoinView
 arrived_at j k last x = noted (record j { row = arrived_row j k x }) k last
 
--- a key is awaited
+-- whether a key is awaited
 abbrev pub has_awaited : JoinView → Bool
 has_awaited j = let r = j.row in if is_empty r.waits then false else true
 
--- the sync's piece is there, and no key is awaited
+-- whether the sync's piece is there and no key is awaited
 abbrev pub passes : JoinView → Bool
 passes j = if j.closed then (let r = j.row in is_empty r.waits) else false
 
--- the one run that is left is moved out
+-- the state after the one remaining run is moved out
 abbrev pub passed : JoinView → JoinView
 passed j = record j { row = row None [] }
 
@@ -66,7 +69,7 @@ Answers j (Passes h) j' = (passes j ≡ true) × (let r = j.row in r.run ≡ Som
 
 -- ---- by places
 
--- how many runs of arrived keys are kept
+-- the number of runs of arrived keys
 abbrev pub parts_in : JoinView → ℕ
 parts_in j = parts_of j.row
 

@@ -1,12 +1,14 @@
--- A row of awaited keys, with the runs of arrived keys between them, over any type with an operation and a unit.
+-- A row of awaited keys, with the runs of arrived keys between them, for any type with an operation
+-- and a unit.
 use Rattle.std.specs.Prelude.{◌≡◌, ◌+◌, ℕ, zero, suc, nat_eq, Bool, true, false, ◌⊎◌, if◌then◌else◌, List, [], ◌∷◌, Option, Some, None}
 
--- a stolen child that hasn't arrived, and the product of the run between it and the next awaited key, if an arrived key lies there
+-- a stolen child that hasn't arrived, and the product of the run between it and the next awaited
+-- key, if a key has arrived there
 pub record Wait (V : Type 0) : Type 0 where
   pub key : ℕ
   pub run : Option V
 
--- the run ahead of the first awaited key, and the awaited keys in ascending order
+-- the run before the first awaited key, and the awaited keys in ascending order
 pub record Row (V : Type 0) : Type 0 where
   pub run : Option V
   pub waits : List (Wait V)
@@ -17,7 +19,7 @@ row run waits = record { run = run; waits = waits }
 abbrev pub wait : {V : Type 0} → ℕ → Option V → Wait V
 wait key run = record { key = key; run = run }
 
--- a run ahead of a row, with an awaited key between
+-- a run before a row, with an awaited key between
 abbrev pub ahead : {V : Type 0} → Option V → ℕ → Row V → Row V
 ahead run key r = row run (wait key r.run ∷ r.waits)
 
@@ -30,7 +32,8 @@ module _ {V : Type 0} (unit : V) (times : V → V → V) where
   abbrev pub between : Option V → V → Option V → V
   between left x right = times (times (or_unit left) x) (or_unit right)
 
-  -- A piece comes to its place, and makes one run of those beside it: in place of its key where that is awaited, and else behind all.
+  -- A piece comes to its place and makes one run with its neighbours. Its place is that of its key
+  -- if the key is awaited, and else the end.
   abbrev pub placed : Option V → List (Wait V) → ℕ → V → Row V
   placed run [] k x = row (Some (between run x None)) []
   placed run (w ∷ ws) k x = if nat_eq w.key k then row (Some (between run x w.run)) ws else ahead run w.key (placed w.run ws k x)
@@ -53,7 +56,7 @@ abbrev pub count : {V : Type 0} → Option V → ℕ
 count None = 0
 count (Some p) = 1
 
--- how many runs there are
+-- the number of runs after the awaited keys
 abbrev pub runs_in : {V : Type 0} → List (Wait V) → ℕ
 runs_in [] = 0
 runs_in (w ∷ ws) = count w.run + runs_in ws
@@ -61,7 +64,7 @@ runs_in (w ∷ ws) = count w.run + runs_in ws
 abbrev pub parts_of : {V : Type 0} → Row V → ℕ
 parts_of r = count r.run + runs_in r.waits
 
--- ---- by places: run 0 is ahead of the first awaited key, run n + 1 follows the one at place n
+-- ---- by places: run 0 is before the first awaited key, run n + 1 follows the one at place n
 
 abbrev pub place_of : {V : Type 0} → List (Wait V) → ℕ → ℕ
 place_of [] k = 0
@@ -77,7 +80,7 @@ with_run run ws zero x = row x ws
 with_run run [] (suc n) x = row run []
 with_run run (w ∷ ws) (suc n) x = ahead run w.key (with_run w.run ws n x)
 
--- without the awaited key at a place and the run after it
+-- the list without the awaited key at a place and the run after it
 abbrev pub without : {V : Type 0} → List (Wait V) → ℕ → List (Wait V)
 without [] n = []
 without (w ∷ ws) zero = ws

@@ -1,4 +1,4 @@
--- What the code's join shows.
+-- The view of the code's join.
 use Rattle.std.specs.Prelude.{map}
 use Rattle.cilk_join.specs.declared.join.Awaited.{Awaited}
 use Rattle.cilk_join.specs.declared.join.Join.{Join}

@@ -1,6 +1,7 @@
 //! The join of a sync block.
 //!
-//! A key is the ordinal of a spawned child, or one more than all of them for the piece of the frame itself, which arrives last.
+//! A key is the ordinal of a spawned child. The frame's own piece has a greater key than all
+//! children, and arrives last.
 
 ghost use Rattle.std.specs.Prelude.{◌≡◌, ◌≤◌, length, IfOk, IfErr, OnOk, OnErr, Some, true};
 ghost use Rattle.cilk_join.specs.Products.{Product, product, run_of};
@@ -12,23 +13,25 @@ use cilk_hypermap::hypermap::Hypermap;
 use std::alloc::{AllocError, Global};
 use std::mem;
 
-/// What an arrival comes to.
+/// The outcome of an arrival.
 #[derive(Drop)]
 pub enum Arrival {
-    /// The sync's piece or a stolen child is still to come.
+    /// The sync's own piece or that of a stolen child is still to come.
     Waits,
-    /// All have arrived: their views, merged by ascending key.
+    /// All pieces have arrived. These are their views, merged by ascending key.
     Passes(Hypermap),
 }
 
-// A stolen child that hasn't arrived, and the run of arrived keys right after it.
+// A stolen child whose piece hasn't arrived, and the run of arrived keys right after it.
 #[derive(Drop)]
 pub struct Awaited {
     key: u32,
     after: Option<Hypermap>,
 }
 
-/// The pieces that wait at a sync block: the run of arrived keys ahead of the first awaited one, and the awaited keys in ascending
+/// The pieces that wait at a sync block, merged into runs.
+///
+/// It has the run of arrived keys before the first awaited one, and the awaited keys in ascending
 /// order, each with the run after it.
 #[derive(Drop)]
 pub struct Join {
@@ -40,7 +43,7 @@ pub struct Join {
 }
 
 impl Join {
-    /// Nothing was stolen, and nothing has arrived.
+    /// Returns a join at which nothing was stolen and nothing has arrived.
     pub fn new(alloc: Global) -> Join
         ensures { shown result ≡ opening }
     {
@@ -53,21 +56,22 @@ impl Join {
         }
     }
 
-    /// Whether the key is above every key that was stolen or has arrived, as long as the sync's piece hasn't.
+    /// Returns whether the key is above every stolen and every arrived key, and the sync's own
+    /// piece hasn't arrived.
     pub fn fresh(&self, key: u32) -> bool
         ensures { (result ≡ true → IsFresh (shown self.now) key) × (IsFresh (shown self.now) key → result ≡ true) }
     {
         !self.closed && self.stolen < key && self.arrived < key
     }
 
-    /// Whether the key may be stolen.
+    /// Returns whether the continuation of the child with this key may be stolen.
     pub fn open(&self, key: u32) -> bool
         ensures { (result ≡ true → IsOpen (shown self.now) key) × (IsOpen (shown self.now) key → result ≡ true) }
     {
         !self.closed && self.stolen < key && self.arrived <= key
     }
 
-    /// Whether the piece of the stolen child with this key is still to come.
+    /// Returns whether the piece of the stolen child with this key is still to come.
     pub fn awaits(&self, key: u32) -> bool
         ensures { (result ≡ true → IsAwaited (shown self.now) key) × (IsAwaited (shown self.now) key → result ≡ true) }
     {
@@ -75,15 +79,15 @@ impl Join {
         self.place(key) < awaited.len()
     }
 
-    /// Whether a stolen child is still to come.
+    /// Returns whether the piece of a stolen child is still to come.
     pub fn waits(&self) -> bool
         ensures { result ≡ has_awaited (shown self.now) }
     {
         !self.awaited.is_empty()
     }
 
-    /// The number of runs of arrived keys, which is the number of pieces kept: at most one more than the keys awaited
-    /// ([`crate::laws::rows_are_of_pieces`]).
+    /// Returns the number of runs of arrived keys, which is the number of hypermaps kept: at most
+    /// the number of awaited keys plus one ([`crate::laws::rows_are_of_pieces`]).
     pub fn parts(&self) -> usize
         ensures { result ≡ parts_in (shown self.now) }
     {
@@ -96,8 +100,8 @@ impl Join {
         count
     }
 
-    /// The continuation beside child `key` was taken by a thief, so the child's piece is awaited, unless it has arrived. A
-    /// refused growth changes nothing.
+    /// Records that a thief took the continuation of child `key`: the child's piece is awaited,
+    /// unless it has arrived. If memory runs out, nothing changes.
     pub fn steal(&mut self, key: u32) -> Result<(), AllocError>
         requires { IsOpen (shown self.old) key }
         ensures ok { OnOk result (shown self.new ≡ stolen_at (shown self.old) key) }
@@ -110,7 +114,7 @@ impl Join {
         Ok(())
     }
 
-    // The place of an awaited key; behind all where it isn't awaited.
+    // The place of an awaited key; the number of awaited keys if it isn't awaited.
     fn place(&self, key: u32) -> usize
         ensures place { result ≡ place_in (shown self.now) key }
         ensures low { result ≤ length self.now.awaited.items }
@@ -123,7 +127,7 @@ impl Join {
         self.awaited.len()
     }
 
-    // Another run at a place, if it is there; the one that was there comes out.
+    // Puts another run at a place, if there is such a place, and returns the run that was there.
     fn replace(&mut self, place: usize, run: Option<Hypermap>) -> Option<Hypermap>
         ensures out { run_of result ≡ run_in (shown self.old) place }
         ensures len { length self.new.awaited.items ≡ length self.old.awaited.items }
@@ -138,7 +142,7 @@ impl Join {
         }
     }
 
-    // The awaited key at a place is forgotten, with the run after it.
+    // Forgets the awaited key at a place, with the run after it.
     fn forget(&mut self, place: usize)
         ensures { shown self.new ≡ forgotten (shown self.old) place }
     {
@@ -147,7 +151,7 @@ impl Join {
         }
     }
 
-    // A piece of this key has come.
+    // Notes that a piece with this key has arrived.
     fn note(&mut self, key: u32, last: bool)
         ensures { shown self.new ≡ noted (shown self.old) key last }
     {
@@ -159,7 +163,7 @@ impl Join {
         }
     }
 
-    // The block passes, once its own piece is there and no key is awaited.
+    // The block passes once its own piece is there and no key is awaited.
     fn answer(&mut self) -> Arrival
         requires { passes (shown self.old) ≡ true → (p : Product) × (run_in (shown self.old) 0 ≡ Some p) }
         ensures { Answers (shown self.old) result (shown self.new) }
@@ -173,10 +177,13 @@ impl Join {
         }
     }
 
-    /// A piece arrives: a child's at its end, or the sync's own, which is the last. It is merged at once with the runs beside it,
-    /// left first, and across no awaited key. Where memory is refused, the piece comes back with the same values and nothing
-    /// changes. Whatever the order of steals and arrivals, the block passes exactly where the sync's piece and that of each
-    /// stolen child have arrived, with the product by ascending key ([`crate::laws::passes_with_all`]).
+    /// Takes in a piece: a child's at its end, or the sync's own, which is the last.
+    ///
+    /// The piece is merged at once with its neighbours, left first, up to the next awaited key on
+    /// either side. Whatever the order of steals and arrivals, the block passes exactly when the
+    /// sync's piece and that of each stolen child have arrived, with the product by ascending key
+    /// ([`crate::laws::passes_with_all`]). If memory runs out, the piece comes back with the same
+    /// values and nothing changes.
     pub fn arrive(
         &mut self,
         alloc: Global,

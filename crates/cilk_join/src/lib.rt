@@ -1,19 +1,31 @@
-//! Joins: what waits at a sync block whose continuations were stolen.
+//! The join of a sync block: it collects the reducer views of stolen children and merges them in
+//! order.
 //!
-//! Where a thief takes the continuation beside a spawned child, the child's piece of reducer views waits at the sync block for
-//! the pieces on its left, since views are multiplied in serial order (Frigo, Halpern, Leiserson and Lewin-Berlin 2009). A
-//! [`join::Join`] keeps the products of the runs of pieces that have arrived with no awaited one between, so that each piece is
-//! merged as early as it can be: under N workers fewer than N keys of a block are awaited at once.
+//! When a thief steals the continuation of a spawn, the spawned child and its parent run in
+//! parallel, each with views of its own. At the `sync` their views must be multiplied in serial
+//! order, whatever the order in which they arrive (Frigo, Halpern, Leiserson and Lewin-Berlin
+//! 2009). A [`join::Join`] is the meeting point. Each spawned child has a key, its ordinal in the
+//! block; the frame's own piece has the greatest key and arrives last. An arrival is merged at once
+//! with its neighbours, up to the next key that is still awaited, so at most one hypermap is kept
+//! per awaited key, plus one.
+//!
+//! | Call | Does |
+//! |---|---|
+//! | [`join::Join::steal`] | records that the continuation of child `key` was stolen |
+//! | [`join::Join::arrive`] | merges a piece; answers whether the block waits or passes |
+//! | [`join::Join::open`] | whether the continuation of child `key` may be stolen |
+//! | [`join::Join::fresh`], [`join::Join::awaits`] | whether a piece with this key may arrive |
+//! | [`laws`] | what holds after every sequence of steals and arrivals |
 //!
 //! ```text
 //! if join.open(key) {
-//!     join.steal(key)?;                       // a thief goes on beside child `key`
+//!     join.steal(key)?;                       // a thief runs the continuation of child `key`
 //! }
 //! ..
 //! match join.arrive(alloc, key, last, views) {
 //!     Ok(Arrival::Waits) => ..,               // another piece is still to come
-//!     Ok(Arrival::Passes(views)) => ..,       // the whole block's, in serial order
-//!     Err(views) => ..,                       // no memory: the piece comes back
+//!     Ok(Arrival::Passes(views)) => ..,       // the views of the whole block, in serial order
+//!     Err(views) => ..,                       // out of memory: the piece comes back
 //! }
 //! ```
 #![tactic(auto)]

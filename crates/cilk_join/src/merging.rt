@@ -6,7 +6,7 @@ ghost use Rattle.cilk_join.specs.Products.{between, product, run_of};
 use cilk_hypermap::hypermap::Hypermap;
 use std::alloc::Global;
 
-/// A piece, and the runs beside it, where there are any.
+/// A piece, and the runs on its two sides, if there are any.
 #[derive(Drop)]
 pub struct Parts {
     pub left: Option<Hypermap>,
@@ -14,7 +14,8 @@ pub struct Parts {
     pub right: Option<Hypermap>,
 }
 
-/// The product of the three, from left to right. A refused merge gives them back with the same values.
+/// Returns the product of the three, from left to right. If memory runs out, they come back with
+/// the same values.
 #[tactic(auto, using(crate::proofs::Products::of_left, crate::proofs::Products::of_right, crate::proofs::Products::of_three, crate::proofs::Products::alone, crate::proofs::Products::kept, crate::proofs::Products::kept_run))]
 pub fn merge(alloc: Global, parts: Parts) -> Result<Hypermap, Parts>
     ensures ok { IfOk result (λ h. product h ≡ between (run_of parts.left) (product parts.piece) (run_of parts.right)) }

@@ -43,7 +43,7 @@ walk_all t ns e few =
     let f = walk t 1 [] [] (omega (arith, p, q, few)) in
     rw e (subst (λ (l : List Node). numbers_from l (1 ∷ []) ≡ hebrews t 1 ++ []) (append-nil (preorder t)) f ∙ append-nil (hebrews t 1))
 
--- Where the walk stands: so many nodes are behind it.
+-- The state of the walk after n nodes.
 pub record Walked (ns : List Node) (i count : ℕ) (numbers starts : List ℕ) : Type 0 where
   pub numbered : numbers ++ numbers_from (drop i ns) starts ≡ numbers_from ns (1 ∷ [])
   pub few : count ≤ i
@@ -72,7 +72,7 @@ no : (P : Type 0) (a b : Bool) → a ≡ b → (P → ⊥) → IsTrue (not (beq 
 no P a true e p = ((λ h. absurd (let q : IsTrue (not (beq true true)) = rw e at h in cc q)), λ h. absurd (p h))
 no P a false e p = ((λ h. absurd (let q : IsTrue (not (beq false false)) = rw e at h in cc q)), λ h. absurd (p h))
 
--- two comparisons tell whether two strands are parallel
+-- two comparisons decide whether two strands are parallel
 pub told : (t : Tree) (xs : List ℕ) (u v x y : ℕ) → xs ≡ hebrews t 1 → 1 ≤ u → u ≤ length xs → 1 ≤ v → v ≤ length xs → x ≡ get_or xs (u - 1) 0 → y ≡ get_or xs (v - 1) 0
     → IsTrue (not (beq (ltb u v) (ltb x y))) ↔ Parallel t 1 u v
 told t xs u v x y e p p' q q' f g =

@@ -1,9 +1,10 @@
--- One walk over a tree's nodes in preorder, with a stack of first numbers.
+-- One walk over a tree's nodes in preorder, with a stack of the subtrees' first numbers.
 use Rattle.std.specs.Prelude.{ℕ, ◌+◌, ◌-◌, ◌^◌, min, List, [], ◌∷◌}
 use Rattle.cilk_tree.specs.declared.tree.Node.{Node}
 use Rattle.cilk_tree.specs.declared.tree.Node.TheVariants.{Strand, Series, Parallel}
 
--- the Hebrew numbers of the leaves among these nodes, where these are the first numbers of the subtrees that they make up
+-- the Hebrew numbers of the leaves among these nodes, given the first numbers of the subtrees that
+-- the nodes make up
 abbrev pub numbers_from : List Node → List ℕ → List ℕ
 numbers_from [] hs = []
 numbers_from (n ∷ ns) [] = []

@@ -1,15 +1,26 @@
-//! Labels that tell whether two strands of a run are parallel.
+//! Labels of strands, by which two comparisons tell whether two strands of a run may run in
+//! parallel.
 //!
-//! Strands have two numbers: that of the serial order, and the Hebrew number, for which the tree is walked with the right
-//! part of a P node before its left part. Two strands are parallel exactly where the two orders disagree, so two
-//! comparisons answer the question (Bender, Fineman, Gilbert and Leiserson 2004, "On-the-fly maintenance of
-//! series-parallel relationships in fork-join multithreaded programs", section 2).
+//! Each strand has two numbers. The first is its place in serial order. The second is its Hebrew
+//! number: its place when the series-parallel tree is walked with the right part of each P node
+//! before the left part, and the left part of each S node before the right. At an S node both walks
+//! agree, and at a P node they disagree. So two strands are parallel exactly where the two orders
+//! disagree. (Bender, Fineman, Gilbert and Leiserson 2004, "On-the-fly maintenance of
+//! series-parallel relationships in fork-join multithreaded programs", section 2. There the two
+//! orders are kept while the program runs; here the tree is known, and the numbers are plain
+//! integers.)
 //!
-//! [`label`] numbers all strands in one pass over the tree's nodes. A [`Labels`] answers without memory.
+//! - [`label`] numbers all strands in one pass over the nodes of the tree.
+//! - [`Labels::parallel`] tells whether two strands are parallel, in constant time and without
+//!   allocating.
+//! - [`Labels::hebrew`] is the Hebrew number of a strand. Among the earlier strands, those parallel
+//!   to a strand are the ones with a greater Hebrew number, so a race detector can keep the
+//!   greatest alone.
 //!
 //! ```text
+//! let tree = tree_of(alloc, &trace)?;
 //! let labels = label(alloc, &tree)?;
-//! labels.parallel(2, 4)                      // may strands 2 and 4 run at one time?
+//! labels.parallel(2, 4)                      // may strands 2 and 4 run in parallel?
 //! ```
 #![tactic(auto)]
 
@@ -43,14 +54,14 @@ impl Model for Labels {
 }
 
 impl Labels {
-    /// How many strands there are.
+    /// Returns the number of strands.
     pub fn count(&self) -> u32
         ensures { result ≡ length self.now }
     {
         self.numbers.len() as u32
     }
 
-    /// The Hebrew number of a strand.
+    /// Returns the Hebrew number of a strand.
     pub fn hebrew(&self, strand: StrandNo) -> u32
         requires first { 1 ≤ strand }
         requires last { strand ≤ length self.now }
@@ -59,7 +70,7 @@ impl Labels {
         self.numbers[strand as usize - 1]
     }
 
-    /// Whether two strands may run at one time.
+    /// Tells whether two strands may run in parallel.
     pub fn parallel(&self, one: StrandNo, other: StrandNo) -> bool
         requires one_first { 1 ≤ one }
         requires one_last { one ≤ length self.now }
@@ -73,7 +84,7 @@ impl Labels {
     }
 }
 
-/// The labels of a tree. Cost and memory: linear in the strands.
+/// Numbers the strands of a tree. Cost and memory: linear in the strands.
 pub fn label(alloc: Global, tree: &SpTree) -> Result<Labels, AllocError>
     ensures { IfOk result (λ l. (t : Tree) → tree.now ≡ preorder t → l ≡ hebrews t 1) }
 {
@@ -86,7 +97,7 @@ pub fn label(alloc: Global, tree: &SpTree) -> Result<Labels, AllocError>
     Ok(Labels { numbers })
 }
 
-// Goes into a node, whose first number is on top of those that wait.
+// Visits a node, whose first number is on top of the stack.
 fn visit(node: &Node, starts: &mut Stack<u32>, numbers: &mut Vec<u32>) -> Result<(), AllocError>
     ensures numbered { IfOk result (λ _. (rest : List Node) → numbers.new.items ++ numbers_from rest starts.new ≡ numbers.old.items ++ numbers_from (node.now ∷ rest) starts.old) }
     ensures grows { IfOk result (λ _. vec_len numbers.new ≤ vec_len numbers.old + 1) }

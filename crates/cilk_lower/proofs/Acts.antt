@@ -1,4 +1,4 @@
--- The machine asks what the statements ask that its instructions were made from.
+-- The machine makes the requests of the statements that its instructions were made from.
 use Rattle.std.proofs.Common.{◌≡◌, ℕ, suc, ◌+◌, ◌-◌, ◌<◌, ◌≤◌, ℤ, pos, ◌+ℤ◌, Bool, true, false, List, [], ◌∷◌, ◌++◌, length, Option, Some, None, refl, ap, subst, arith, length-append, if◌then◌else◌}
 use Rattle.std.specs.Prelude.{int_lt}
 use Rattle.cilk_types.specs.Word.{word_of}
@@ -48,7 +48,7 @@ module _ (m : Setting) where
       checked_acts m pc (pc + 1) (v ∷ i ∷ []) [] answers left (instrs.StoreElement arr) IndexOutside (element arr i) (λ x. Waits (asks.Write x v) Free (pc + 1) [] (pos 0) left) _ at refl
       (λ x e. last_asks m pc (v ∷ i ∷ []) [] answers left (instrs.StoreElement arr) (asks.Write x v) at (ap (λ o. or_stops IndexOutside o left (λ x. Waits (asks.Write x v) Free (pc + 1) [] (pos 0) left)) e))
 
-  -- an element's old value comes above its index
+  -- an element's old value is pushed above its index
   fetch_acts : (arr : Array) (i : ℤ) (pc pc' : ℕ) (answers : List ℤ) (left : ℕ) (h : Place → ℤ → List ℤ → ℕ → Got Flow) → 1 < m.room → Stands m pc (instrs.FetchElement arr) →
       ((x : Place) (old : ℤ) (a : List ℤ) (l : ℕ) → element arr i ≡ Some x → Acts m (pc + 1) (old ∷ i ∷ []) [] a l pc' (h x old a l)) →
       Acts m pc (i ∷ []) [] answers left pc' (or_fault IndexOutside (element arr i) answers left >>= λ x answers left. ask (asks.Read x) answers left >>= h x)

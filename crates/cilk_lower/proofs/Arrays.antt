@@ -1,4 +1,4 @@
--- The arrays that the code of a well named body names have numbers for all their cells.
+-- The arrays that the code of a well-named body names have numbers for all their cells.
 use Rattle.std.proofs.Common.{◌≡◌, ℕ, zero, suc, ◌+◌, ◌^◌, ◌≤◌, Bool, true, false, ◌&&◌, IsTrue, List, [], ◌∷◌, ◌++◌, length, Some, None, refl, subst, arith}
 use Rattle.std.specs.Prelude.{slice_get, nat_lt, not}
 use Rattle.cilk_monoid.specs.declared.kind.MonoidKind.{MonoidKind}
@@ -17,7 +17,7 @@ fits_there [] place i h e = cc
 fits_there (j ∷ code) zero i h e = let same : j ≡ i = cc in subst ArrayFits same h.0
 fits_there (j ∷ code) (suc place) i h e = fits_there code place i h.1 e
 
--- one code behind another
+-- one code after another
 pub both_fit : (a b : List Instr) → ArraysFit a → ArraysFit b → ArraysFit (a ++ b)
 both_fit [] b h k = k
 both_fit (i ∷ a) b h k = (h.0, both_fit a b h.1 k)

@@ -18,7 +18,7 @@ use Rattle.cilk_lower.specs.Bodies.{HasAt}
 use Rattle.cilk_lower.proofs.Places.{has_front, has_back}
 use Rattle.cilk_lower.proofs.Values.{expr_does}
 
--- values above what lies there, the last one uppermost
+-- values above the operands there, the last one on top
 abbrev pub onto : List ℤ → List ℤ → List ℤ
 onto [] stack = stack
 onto (v ∷ vs) stack = onto vs (v ∷ stack)
@@ -27,12 +27,12 @@ append_none : (l : List ℤ) → l ++ [] ≡ l
 append_none [] = refl
 append_none (x ∷ l) = ap (λ k. x ∷ k) (append_none l)
 
--- they are taken off again
+-- they are popped again
 taken : (vs words stack : List ℤ) (j n : ℕ) (go : List ℤ → List ℤ → Move) → n ≡ length vs + j → on_words n words (onto vs stack) go ≡ on_words j (vs ++ words) stack go
 taken [] words stack j n go e = let same : n ≡ j = omega arith in ap (λ k. on_words k words stack go) same
 taken (v ∷ vs) words stack j n go e = let same : n ≡ length vs + suc j = omega arith in taken vs words (v ∷ stack) (suc j) n go same
 
--- so many values come onto the stack, or an ask comes first
+-- n values are pushed, or a request comes first
 abbrev DoesAll : Setting → ℕ → List ℤ → List ℤ → ℕ → ℕ → ℕ → Got (List ℤ) → Type 0
 DoesAll m pc stack answers left pc' n (Gives vs a l) = Leads m pc stack answers left pc' (onto vs stack) a l × (length vs ≡ n)
 DoesAll m pc stack answers left pc' n (Asks k) = Comes m pc stack answers left k

@@ -1,4 +1,4 @@
--- No operand waits where a strand ends, instruction by instruction: `is_clear`.
+-- The operand stack is empty where a strand ends, instruction by instruction: `is_clear`.
 use Rattle.std.proofs.Common.{ℕ, zero, suc, ◌+◌, ℤ, Bool, true, false, List, [], ◌∷◌, length, Option, Some, None, refl, if◌then◌else◌}
 use Rattle.std.specs.Prelude.{nat_lt, neg_ℤ, int_lt, ◌+ℤ◌, slice_get}
 use Rattle.cilk_types.specs.Input.{input_at, input_count}
@@ -52,20 +52,20 @@ clear_if : (t : Bool) (a b : Move) → IsClear a → IsClear b → IsClear (if t
 clear_if true a b x y = x
 clear_if false a b x y = y
 
--- a word onto the stack, where there is room
+-- pushes a word, if there is room
 clear_give : (room p : ℕ) (v : ℤ) (s : List ℤ) (h : ℤ) (left : ℕ) → IsClear (if nat_lt (length s) room then ticked left (Goes p (v ∷ s) h) else Stuck)
 clear_give room p v s h left = clear_if (nat_lt (length s) room) (ticked left (Goes p (v ∷ s) h)) Stuck (clear_ticked left (Goes p (v ∷ s) h) (λ l. tt)) tt
 
 module _ (m : Setting) (place : ℕ) (stack : List ℤ) (held : ℤ) (left : ℕ) where
-  -- the operand on top becomes another, by a tick
+  -- replaces the operand on top, for one tick
   clear_change : (f : ℤ → ℤ) → IsClear (on_top stack (λ v rest. ticked left (Goes (place + 1) (f v ∷ rest) held)))
   clear_change f = clear_top stack (λ v rest. ticked left (Goes (place + 1) (f v ∷ rest) held)) (λ v rest. clear_ticked left (Goes (place + 1) (f v ∷ rest) held) (λ l. tt))
 
-  -- the operand on top goes into an ask, after which the strand goes on
+  -- the operand on top becomes part of a request, after which the strand continues
   clear_send : (k : ℤ → Ask) → ((v : ℤ) → EndsStrand (k v) → ⊥) → IsClear (on_top stack (λ v rest. Waits (k v) Nothing (place + 1) rest held left))
   clear_send k on = clear_top stack (λ v rest. Waits (k v) Nothing (place + 1) rest held left) (λ v rest e. absurd (on v e))
 
-  -- a loop's frame asks for a child of its own
+  -- a loop's frame requests a child of its own loop
   clear_half : (k : LoopPart → Ask) → IsClear (on_some m.given.part (λ l. on_none stack (Waits (k l) Nothing (place + 1) [] held left)))
   clear_half k = clear_some m.given.part (λ l. on_none stack (Waits (k l) Nothing (place + 1) [] held left)) (λ l. clear_none stack (Waits (k l) Nothing (place + 1) [] held left) (λ e. refl))
 

@@ -50,7 +50,7 @@ functions_grow is is' ss ss' es fs g = each_weaker (FunctionAt is ss) (FunctionA
 pub loops_grow : (is is' : List Instr) (ss ss' : List Site) (es : List EntryPoint) (ls : List declared_loops.Loop) → Grows is ss is' ss' → EachAt (LoopAt is ss) es ls → EachAt (LoopAt is' ss') es ls
 loops_grow is is' ss ss' es ls g = each_weaker (LoopAt is ss) (LoopAt is' ss') (λ e l. let l = loop l in body_grows is is' ss ss' e (λ k. loop_code k l) l.body g) es ls
 
--- what one more body brings
+-- the effect of one more body
 pub record Next (is : List Instr) (ss : List Site) (is' : List Instr) (ss' : List Site) (e : EntryPoint) (code : ℕ → List Instr) (body : Statements) : Type 0 where
   pub sound : IsSound is' ss'
   pub grows : Grows is ss is' ss'
@@ -82,7 +82,7 @@ function_next is is' ss ss' e f old named fits ei es place room = next is is' ss
 pub loop_next : (is is' : List Instr) (ss ss' : List Site) (e : EntryPoint) (l : Loop) → IsSound is ss → ((k : ℕ) → ArraysFit (loop_code k l)) → SitesFit (all_sites l.body) → is' ≡ is ++ loop_code (length ss) l → ss' ≡ ss ++ all_sites l.body → e.place ≡ length is → e.room ≡ deepest_of_all l.body → Next is ss is' ss' e (λ k. loop_code k l) l.body
 loop_next is is' ss ss' e l old named fits ei es place room = next is is' ss ss' e (λ k. loop_code k l) l.body (loop_jumps is (length ss) l old.jumps) old.arrays (named (length ss)) old.sites_fit fits ei es place room
 
--- the global reducers stand ahead of the main function
+-- the global reducers are created before the main function
 pub globals_sound : (is : List Instr) (ss : List Site) (kinds : List MonoidKind) → is ≡ creates_code reducers.Global 0 kinds → ss ≡ [] → IsSound is ss
 globals_sound is ss kinds e none =
     let empty : JumpsLand [] = λ place i at. cc in

@@ -1,4 +1,4 @@
--- How statements end, and what follows them.
+-- How statements end, and their continuations.
 use Rattle.std.proofs.Common.{◌≡◌, ℕ, suc, ◌+◌, ◌≤◌, ℤ, pos, Bool, true, false, List, [], ◌∷◌, ◌++◌, length, Option, Some, None, refl, ap, ◌∙◌, subst, arith, length-append, if◌then◌else◌}
 use Rattle.cilk_types.specs.declared.fault.Fault.{Fault}
 use Rattle.cilk_program.specs.declared.ask.Ask.{Ask}
@@ -18,7 +18,7 @@ use Rattle.cilk_lower.proofs.Leads.{moves, Stands, Comes, Acts, comes_one, comes
 use Rattle.cilk_lower.proofs.Places.{has_front, has_back}
 use Rattle.cilk_lower.proofs.Values.{expr_does}
 
--- it goes on, or asks for the last time, but doesn't return
+-- it continues or makes the last request, but doesn't return
 abbrev pub Plain : Got Flow → Type 0
 Plain (Gives None a l) = Unit {0}
 Plain (Gives (Some v) a l) = ⊥
@@ -38,7 +38,7 @@ module _ (m : Setting) where
   follow_acts pc pc1 pc' stack answers left (Gives (Some v) a l) h r s = r
   follow_acts pc pc1 pc' stack answers left (Gives None a l) h r s = then_acts m pc pc1 pc' stack stack stack answers a left l (h a l) r (s a l)
 
-  -- what doesn't return, and then something
+  -- a part that doesn't return, and then another
   pub plain_acts : (pc pc1 pc' : ℕ) (answers : List ℤ) (left : ℕ) (g : Got Flow) (h : List ℤ → ℕ → Got Flow) → Acts m pc [] [] answers left pc1 g → Plain g → ((a : List ℤ) (l : ℕ) → Acts m pc1 [] [] a l pc' (h a l)) → Acts m pc [] [] answers left pc' (g >>= λ _. h)
   plain_acts pc pc1 pc' answers left (Asks k) h r plain s = r
   plain_acts pc pc1 pc' answers left (Gives (Some v) a l) h r plain s = absurd plain
@@ -49,18 +49,18 @@ module _ (m : Setting) where
   plain_comes pc pc1 answers left (Gives (Some v) a l) h r plain s = absurd plain
   plain_comes pc pc1 answers left (Gives None a l) h r plain s = comes_on m pc pc1 [] [] answers a left l _ r (s a l)
 
-  -- a check, and then something
+  -- a check, and then another part
   pub checked_acts : {A : Type 0} (pc pc' : ℕ) (from stack answers : List ℤ) (left : ℕ) (i : Instr) (f : Fault) (o : Option A) (go : A → Move) (h : A → List ℤ → ℕ → Got Flow) → Stands m pc i → moves m i pc from left ≡ or_stops f o left go →
       ((x : A) → o ≡ Some x → Acts m pc from stack answers left pc' (h x answers left)) → Acts m pc from stack answers left pc' (or_fault f o answers left >>= h)
   checked_acts pc pc' from stack answers left i f None go h at e r = comes_one m pc from answers left i _ _ at e
   checked_acts pc pc' from stack answers left i f (Some x) go h at e r = r x refl
 
-  -- an ask whose answer brings nothing ends a statement
+  -- a request whose answer pushes nothing ends a statement
   pub last_asks : (pc : ℕ) (from stack answers : List ℤ) (left : ℕ) (i : Instr) (k : Ask) → Stands m pc i → moves m i pc from left ≡ Waits k Nothing (pc + 1) stack (pos 0) left → Acts m pc from stack answers left (pc + 1) (ask k answers left >>= λ _. Gives None)
   last_asks pc from stack [] left i k at e = comes_ask m pc from left i k Nothing (pc + 1) stack left at e
   last_asks pc from stack (a ∷ answers) left i k at e = leads_done m pc from a answers left i k (pc + 1) stack left at e
 
-  -- a child, and then the frame goes on
+  -- a child, and then the frame continues
   pub invokes_acts : (pc : ℕ) (from answers : List ℤ) (left : ℕ) (i : Instr) (how : Invocation) (callee : Callee) → Stands m pc i → Stands m (pc + 1) instrs.Resume → moves m i pc from left ≡ Waits (asks.Invoke how callee) Nothing (pc + 1) [] (pos 0) left → Acts m pc from [] answers left (pc + 1 + 1) (invokes how callee answers left)
   invokes_acts pc from [] left i how callee at next e = comes_ask m pc from left i (asks.Invoke how callee) Nothing (pc + 1) [] left at e
   invokes_acts pc from (a ∷ answers) left i how callee at next e =
@@ -79,7 +79,7 @@ module _ (m : Setting) where
       subst (λ n. Acts m pc [] [] answers left n (value m.inputs e answers left >>= h)) len
       (value_acts m pc p1 (p1 + 1) [] [] answers left (value m.inputs e answers left) h (expr_does m e pc [] answers left room (has_front m.code.instrs pc ce (i ∷ []) has)) (λ v a l. r p1 v a l at))
 
-  -- What a frame ends with. It holds its result by then, so these runs begin with a result of their own.
+  -- The end of a frame. The frame has its result by then, so these runs begin with any result.
   abbrev ComesHolding : ℕ → ℤ → List ℤ → ℕ → OpenAsk → Type 0
   ComesHolding pc held answers left k = (j : ℕ) × (exec m j pc [] held answers left ≡ Reaches k)
 
@@ -105,7 +105,7 @@ module _ (m : Setting) where
       let r = given_comes m.given.takes (pc + 1) held answers left refl has.1.0 has.1.1.0 in
       (suc r.0, step_on pc held (a ∷ answers) left instrs.Sync has.0 r.0 ∙ r.1)
 
-  -- a result is held, and then the frame ends
+  -- a result is kept, and then the frame ends
   pub hold_comes : (pc : ℕ) (v : ℤ) (answers : List ℤ) (left : ℕ) → Stands m pc instrs.SetResult → HasAt m.code.instrs (pc + 1) ends → Comes m pc (v ∷ []) answers left (ended (finishes m.given.takes (Some v) answers left))
   hold_comes pc v answers left at has =
       let r = ends_comes v (pc + 1) answers left has in

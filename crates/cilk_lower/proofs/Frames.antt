@@ -1,4 +1,4 @@
--- The machine asks what a frame asks whose body its instructions were made from.
+-- The machine makes the requests of the frame whose body its instructions were made from.
 use Rattle.std.proofs.Common.{◌≡◌, ℕ, suc, ◌+◌, ◌≤◌, ℤ, pos, Bool, true, false, List, [], ◌∷◌, ◌++◌, length, refl, sym, ap, ◌∙◌, subst, arith, length-append, append_assoc, if◌then◌else◌}
 use Rattle.std.specs.Prelude.{slice_get}
 use Rattle.cilk_monoid.specs.declared.kind.MonoidKind.{MonoidKind}
@@ -25,12 +25,12 @@ use Rattle.cilk_lower.specs.Bodies.{HasAt}
 use Rattle.cilk_lower.proofs.Places.{has_front, has_back, get_seam}
 
 module _ (m : Setting) where
-  -- an ask whose answer brings nothing, and then the rest of the frame
+  -- a request whose answer pushes nothing, and then the rest of the frame
   done_comes : (pc : ℕ) (from stack answers : List ℤ) (left : ℕ) (i : Instr) (k : Ask) (h : ℤ → List ℤ → ℕ → Got ℤ) → Stands m pc i → moves m i pc from left ≡ Waits k Nothing (pc + 1) stack (pos 0) left → ((v : ℤ) (a : List ℤ) (l : ℕ) → Comes m (pc + 1) stack a l (ended (h v a l))) → Comes m pc from answers left (ended (ask k answers left >>= h))
   done_comes pc from stack [] left i k h at e r = comes_ask m pc from left i k Nothing (pc + 1) stack left at e
   done_comes pc from stack (a ∷ answers) left i k h at e r = comes_on m pc (pc + 1) from stack (a ∷ answers) answers left left _ (leads_done m pc from a answers left i k (pc + 1) stack left at e) (r a answers left)
 
-  -- the words that a function is given, from one of them on
+  -- the words that a function is given, from the n-th on
   words_come : (vs front : List ℤ) (n pc : ℕ) (answers : List ℤ) (left : ℕ) (h : List ℤ → ℕ → Got ℤ) → m.given.words ≡ front ++ vs → n ≡ length front → HasAt m.code.instrs pc (words_code n (length vs)) →
       ((a : List ℤ) (l : ℕ) → Comes m (pc + length (words_code n (length vs))) [] a l (ended (h a l))) → Comes m pc [] answers left (ended (writes_words n vs answers left >>= λ _. h))
   words_come [] front n pc answers left h e at has r = let same : pc + 0 ≡ pc = omega arith in subst (λ p. Comes m p [] answers left (ended (h answers left))) same (r answers left)
@@ -47,7 +47,7 @@ module _ (m : Setting) where
       (ap (λ o. on_some o (λ v. Waits (asks.Write (places.Local 0 n) v) Nothing (pc + 1) [] (pos 0) left)) (ap (λ ws. slice_get ws n) e ∙ ap (λ k. slice_get (front ++ v ∷ vs) k) at ∙ get_seam front v vs)))
       (words_come vs (front ++ v ∷ []) (suc n) (pc + 1) answers left h whole count has.1 (λ a l. subst (λ p. Comes m p [] a l (ended (h a l))) len (r a l)))
 
-  -- reducers begin
+  -- reducers are created
   creates_come : (place : ℕ → ReducerPlace) (ks : List MonoidKind) (n pc : ℕ) (answers : List ℤ) (left : ℕ) (h : List ℤ → ℕ → Got ℤ) → HasAt m.code.instrs pc (creates_code place n ks) →
       ((a : List ℤ) (l : ℕ) → Comes m (pc + length (creates_code place n ks)) [] a l (ended (h a l))) → Comes m pc [] answers left (ended (creates place n ks answers left >>= λ _. h))
   creates_come place [] n pc answers left h has r = let same : pc + 0 ≡ pc = omega arith in subst (λ p. Comes m p [] answers left (ended (h answers left))) same (r answers left)

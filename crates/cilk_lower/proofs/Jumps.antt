@@ -1,4 +1,4 @@
--- The jumps of a body land within its code, those back at an instruction that takes a tick.
+-- The jumps of a body land within its code, and jumps back land at an instruction that uses a tick.
 use Rattle.std.proofs.Common.{◌≡◌, inl, inr, ℕ, zero, suc, ◌+◌, ◌-◌, ◌≤◌, true, pos, List, [], ◌∷◌, ◌++◌, length, Option, Some, None, refl, sym, ap, ◌∙◌, subst, arith, length-append}
 use Rattle.std.specs.Prelude.{slice_get}
 use Rattle.cilk_monoid.specs.declared.kind.MonoidKind.{MonoidKind}
@@ -27,7 +27,7 @@ lands_at code pc (x ∷ is) (suc k) i h at =
     let e : pc + 1 + k ≡ pc + suc k = omega arith in
     subst (λ n. Lands code n i) e (lands_at code (pc + 1) is k i h.1 at)
 
--- an expression begins with an instruction that takes a tick
+-- an expression begins with an instruction that uses a tick
 first_ticks : (code : List Instr) (e : Expression) (pc : ℕ) → HasAt code pc (expr_code e) → ticks (slice_get code pc) ≡ true
 first_ticks code (Number n) pc has = ap ticks has.0
 first_ticks code (Variable x) pc has = ap ticks has.0
@@ -94,7 +94,7 @@ module _ (code : List Instr) where
       let l2 = length-append cb (instrs.Truth ∷ []) in
       both_land pc ca _ (expr_lands a pc (omega arith)) (omega arith, (tt, (omega arith, both_land p3 cb _ (expr_lands b p3 (omega arith)) (tt, tt))))
 
-  -- an expression, and what follows
+  -- an expression, and the following code
   value_lands : (e : Expression) (pc : ℕ) (rest : List Instr) → pc + length (expr_code e ++ rest) ≤ length code → AllLand code (pc + length (expr_code e)) rest → AllLand code pc (expr_code e ++ rest)
   value_lands e pc rest fits h = let l = length-append (expr_code e) rest in both_land pc (expr_code e) rest (expr_lands e pc (omega arith)) h
 
@@ -102,7 +102,7 @@ module _ (code : List Instr) where
   exprs_land [] pc fits = tt
   exprs_land (e ∷ es) pc fits = let l = length-append (expr_code e) (exprs_code es) in value_lands e pc (exprs_code es) fits (exprs_land es (pc + length (expr_code e)) (omega arith))
 
-  -- a target's index, and what follows
+  -- a target's index, and the following code
   index_lands : (t : Target) (pc : ℕ) (rest : List Instr) → pc + length (index_code t ++ rest) ≤ length code → AllLand code (pc + length (index_code t)) rest → AllLand code pc (index_code t ++ rest)
   index_lands (ToVariable x) pc rest fits h = let e : pc + 0 ≡ pc = omega arith in subst (λ n. AllLand code n rest) e h
   index_lands (ToElement a e) pc rest fits h = value_lands e pc rest fits h
@@ -133,7 +133,7 @@ module _ (code : List Instr) where
       let l = length-append cd (declarations_code k1 ds) in
       both_land pc cd _ (declares_lands k d pc (omega arith)) (all_declare_lands k1 ds (pc + length cd) (omega arith))
 
-  -- turns, whose body begins with an instruction that takes a tick
+  -- turns, whose body begins with an instruction that uses a tick
   turns_land : (test : Option Expression) (turn : List Instr) (pc : ℕ) → HasAt code pc (turns_code test turn) → pc + length (turns_code test turn) ≤ length code →
       ((p : ℕ) → HasAt code p turn → ticks (slice_get code p) ≡ true) → ((p : ℕ) → HasAt code p turn → p + length turn ≤ length code → AllLand code p turn) → AllLand code pc (turns_code test turn)
   turns_land None turn pc has fits first lands =
@@ -254,7 +254,7 @@ module _ (code : List Instr) where
       let jump : pc + 1 + (length cb + 4) ≤ length code = omega arith in
       (jump, (tt, both_land p2 cb _ (all_land l.body k p2 (has_front code p2 cb _ has.1.1) (omega arith)) (tt, (tt, (tt, (tt, (tt, (tt, (tt, (tt, (tt, (tt, tt))))))))))))
 
--- more code behind it changes nothing
+-- more code after it changes nothing
 lands_more : (code more : List Instr) (place : ℕ) (i : Instr) → Lands code place i → Lands (code ++ more) place i
 lands_more code more place (instrs.CallLoop n) h = omega (arith, h, length-append code more)
 lands_more code more place (instrs.JumpIfZero n) h = omega (arith, h, length-append code more)

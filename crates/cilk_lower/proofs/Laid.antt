@@ -1,5 +1,6 @@
--- The layout of a program: `function_frame_is` and `loop_cells_are`, what the layout's lists have at a number; `lays_out`, the layout as
--- a whole.
+-- The layout of a program.
+-- `function_frame_is`, `loop_cells_are`   the items of the layout's lists
+-- `lays_out`                              the layout as a whole
 use Rattle.std.proofs.Common.{◌≡◌, ℕ, zero, suc, ℤ, pos, ◌-ℤ◌, int_eq, if◌then◌else◌, map, List, [], ◌∷◌, refl, ap, ◌∙◌}
 use Rattle.std.specs.Prelude.{slice_get, unwrap_or}
 use Rattle.cilk_program.specs.declared.ask.Callee.{Callee}
@@ -15,7 +16,7 @@ use Rattle.cilk_lower.specs.declared.layout.Layout.{Layout}
 use Rattle.cilk_lower.specs.Layout.{LaysOut, bare, cells_in, frame_of, function_frame, reducers_in}
 use Rattle.cilk_lower.specs.Plain.{is_plain}
 
--- what a list has at a number, if it stands for another
+-- an item of a mapped list
 found : {A B C : Type 0} (f : B → C) (g : A → B) (xs : List A) (k : ℕ) (d : B) → unwrap_or (slice_get (map (λ x. f (g x)) xs) k) (f d) ≡ f (unwrap_or (slice_get (map g xs) k) d)
 found f g [] k d = refl
 found f g (x ∷ xs) zero d = refl

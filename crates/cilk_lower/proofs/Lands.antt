@@ -1,4 +1,4 @@
--- What is known of the instruction at a place.
+-- Facts about the instruction at a place.
 use Rattle.std.proofs.Common.{◌≡◌, ℕ, List, Some}
 use Rattle.std.specs.Prelude.{slice_get}
 use Rattle.cilk_lower.specs.declared.code.Instr.{Instr}

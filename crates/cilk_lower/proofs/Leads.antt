@@ -1,4 +1,4 @@
--- Stretches of code, one after another. Until a `return` a frame holds 0 for its result.
+-- Stretches of code, one after another. A frame has 0 as its result until a `return`.
 use Rattle.std.proofs.Common.{◌≡◌, ℕ, zero, suc, ◌+◌, ◌<◌, ◌≤◌, ℤ, pos, Bool, true, false, List, [], ◌∷◌, length, Option, Some, None, refl, ap, ◌∙◌, arith, if◌then◌else◌}
 use Rattle.std.specs.Prelude.{slice_get, nat_lt}
 use Rattle.std.proofs.lemmas.Bool.{lt-ltb}
@@ -25,16 +25,16 @@ Stands m pc i = slice_get m.code.instrs pc ≡ Some i
 pub record Leads (m : Setting) (pc : ℕ) (stack answers : List ℤ) (left : ℕ) (pc' : ℕ) (stack' answers' : List ℤ) (left' : ℕ) : Type 0 where
   pub by : (k : ℕ) → (j : ℕ) × (k ≤ j) × (runs m j pc stack answers left ≡ runs m k pc' stack' answers' left')
 
--- the machine comes to an ask that has no answer yet
+-- the machine reaches a request that has no answer yet
 abbrev pub Comes : Setting → ℕ → List ℤ → List ℤ → ℕ → OpenAsk → Type 0
 Comes m pc stack answers left k = (j : ℕ) × (runs m j pc stack answers left ≡ Reaches k)
 
--- what a stretch of code does, from a stack to another one with a value on it: the value, or the same ask
+-- The effect of a stretch of code on a stack: it pushes the value, or makes the same request.
 abbrev pub Does : Setting → ℕ → List ℤ → List ℤ → List ℤ → ℕ → ℕ → Got ℤ → Type 0
 Does m pc from stack answers left pc' (Gives v answers' left') = Leads m pc from answers left pc' (v ∷ stack) answers' left'
 Does m pc from stack answers left pc' (Asks k) = Comes m pc from answers left k
 
--- the same of a statement: it goes on, or ends the frame with a value
+-- the same of a statement: it continues, or ends the frame with a value
 abbrev pub Acts : Setting → ℕ → List ℤ → List ℤ → List ℤ → ℕ → ℕ → Got Flow → Type 0
 Acts m pc from stack answers left pc' (Gives None answers' left') = Leads m pc from answers left pc' stack answers' left'
 Acts m pc from stack answers left pc' (Gives (Some v) answers' left') = Comes m pc from answers left (ended (finishes m.given.takes (Some v) answers' left'))
@@ -47,7 +47,7 @@ module _ (m : Setting) where
   pub one : (pc : ℕ) (stack answers : List ℤ) (left : ℕ) (i : Instr) → Stands m pc i → (k : ℕ) → runs m (suc k) pc stack answers left ≡ going m.room (moves m i pc stack left) answers (exec m k)
   one pc stack answers left i h k = ap (λ o. going m.room (move m o pc stack (pos 0) left) answers (exec m k)) h
 
-  -- one instruction that goes on whatever the answers
+  -- an instruction that continues for any answers
   pub leads_one : (pc : ℕ) (stack answers : List ℤ) (left : ℕ) (i : Instr) (pc' : ℕ) (stack' : List ℤ) (left' : ℕ) → Stands m pc i → moves m i pc stack left ≡ Goes pc' stack' (pos 0) left' → Leads m pc stack answers left pc' stack' answers left'
   leads_one pc stack answers left i pc' stack' left' h e = record { by = λ k. (suc k, omega arith, one pc stack answers left i h k ∙ ap (λ x. going m.room x answers (exec m k)) e) }
 
@@ -57,7 +57,8 @@ module _ (m : Setting) where
   pub comes_one : (pc : ℕ) (stack answers : List ℤ) (left : ℕ) (i : Instr) (k : Ask) (left' : ℕ) → Stands m pc i → moves m i pc stack left ≡ Stops k left' → Comes m pc stack answers left (asks_for k left')
   comes_one pc stack answers left i k left' h e = (1, one pc stack answers left i h 0 ∙ ap (λ x. going m.room x answers (exec m 0)) e)
 
-  -- one that asks: without an answer, with one that brings nothing, and with one that brings a word
+  -- an instruction with a request: without an answer, with one that pushes nothing, and with one
+  -- that pushes a word
   pub comes_ask : (pc : ℕ) (from : List ℤ) (left : ℕ) (i : Instr) (k : Ask) (owed : Owed) (pc' : ℕ) (stack : List ℤ) (left' : ℕ) → Stands m pc i → moves m i pc from left ≡ Waits k owed pc' stack (pos 0) left' → Comes m pc from [] left (asks_for k left')
   comes_ask pc from left i k owed pc' stack left' h e = (1, one pc from [] left i h 0 ∙ ap (λ x. going m.room x [] (exec m 0)) e)
 
@@ -84,23 +85,23 @@ module _ (m : Setting) where
   then_acts pc pc1 pc' stack s s1 a a1 l l1 (Gives (Some v) a2 l2) f r = comes_on pc pc1 s s1 a a1 l l1 _ f r
   then_acts pc pc1 pc' stack s s1 a a1 l l1 (Asks k) f r = comes_on pc pc1 s s1 a a1 l l1 k f r
 
-  -- an instruction that takes a tick and leaves a value
+  -- an instruction that uses a tick and pushes a value
   pub ticked_does : (pc : ℕ) (from stack answers : List ℤ) (left : ℕ) (i : Instr) (v : ℤ) → Stands m pc i → moves m i pc from left ≡ ticked left (Goes (pc + 1) (v ∷ stack) (pos 0)) → Does m pc from stack answers left (pc + 1) (tick_gives v answers left)
   ticked_does pc from stack answers zero i v h e = comes_one pc from answers zero i _ _ h e
   ticked_does pc from stack answers (suc left) i v h e = leads_one pc from answers (suc left) i _ _ _ h e
 
-  -- one that checks what it got before its tick
+  -- one that checks its operands before its tick
   pub checked_does : (pc : ℕ) (from stack answers : List ℤ) (left : ℕ) (i : Instr) (f : Fault) (o : Option ℤ) → Stands m pc i → moves m i pc from left ≡ or_stops f o left (λ v. ticked left (Goes (pc + 1) (v ∷ stack) (pos 0))) → Does m pc from stack answers left (pc + 1) (or_fault f o answers left >>= tick_gives)
   checked_does pc from stack answers left i f None h e = comes_one pc from answers left i _ _ h e
   checked_does pc from stack answers left i f (Some v) h e = ticked_does pc from stack answers left i v h e
 
-  -- one that asks for a value after its tick
+  -- one that requests a value after its tick
   pub asked_does : (pc : ℕ) (from stack answers : List ℤ) (left : ℕ) (i : Instr) (k : Ask) → Stands m pc i → moves m i pc from left ≡ ticked left (Waits k Word (pc + 1) stack (pos 0)) → length stack < m.room → Does m pc from stack answers left (pc + 1) (tick answers left >>= λ _. ask k)
   asked_does pc from stack answers zero i k h e fits = comes_one pc from answers zero i _ _ h e
   asked_does pc from stack [] (suc left) i k h e fits = comes_ask pc from (suc left) i k Word (pc + 1) stack left h e
   asked_does pc from stack (a ∷ answers) (suc left) i k h e fits = leads_word pc from a answers (suc left) i k (pc + 1) stack left h e fits
 
-  -- a value above what lies there, and then a stretch that begins with it on top
+  -- a value above the operands there, and then a stretch that begins with it on top
   pub value_does : (pc pc1 pc' : ℕ) (from stack answers : List ℤ) (left : ℕ) (g : Got ℤ) (h : ℤ → List ℤ → ℕ → Got ℤ) → Does m pc from from answers left pc1 g → ((v : ℤ) (a : List ℤ) (l : ℕ) → Does m pc1 (v ∷ from) stack a l pc' (h v a l)) → Does m pc from stack answers left pc' (g >>= h)
   value_does pc pc1 pc' from stack answers left (Asks k) h r s = r
   value_does pc pc1 pc' from stack answers left (Gives v a l) h r s = then_does pc pc1 pc' stack from (v ∷ from) answers a left l (h v a l) r (s v a l)
@@ -114,18 +115,18 @@ module _ (m : Setting) where
   tick_acts pc pc' stack answers zero h at r = comes_one pc stack answers zero instrs.Tick _ _ at refl
   tick_acts pc pc' stack answers (suc left) h at r = then_acts pc (pc + 1) pc' stack stack stack answers answers (suc left) left (h answers left) (leads_one pc stack answers (suc left) instrs.Tick _ _ _ at refl) (r answers left)
 
-  -- an instruction that asks for a word without a tick
+  -- an instruction that requests a word without a tick
   pub word_acts : (pc pc' : ℕ) (from rest stack answers : List ℤ) (left : ℕ) (i : Instr) (k : Ask) (h : ℤ → List ℤ → ℕ → Got Flow) → Stands m pc i → moves m i pc from left ≡ Waits k Word (pc + 1) rest (pos 0) left → length rest < m.room →
       ((v : ℤ) (a : List ℤ) (l : ℕ) → Acts m (pc + 1) (v ∷ rest) stack a l pc' (h v a l)) → Acts m pc from stack answers left pc' (ask k answers left >>= h)
   word_acts pc pc' from rest stack [] left i k h at e fits r = comes_ask pc from left i k Word (pc + 1) rest left at e
   word_acts pc pc' from rest stack (a ∷ answers) left i k h at e fits r =
       then_acts pc (pc + 1) pc' stack from (a ∷ rest) (a ∷ answers) answers left left (h a answers left) (leads_word pc from a answers left i k (pc + 1) rest left at e fits) (r a answers left)
 
-  -- one that neither asks nor takes a tick
+  -- one without request and tick
   pub quiet_acts : (pc pc1 pc' : ℕ) (from s1 stack answers : List ℤ) (left : ℕ) (i : Instr) (g : Got Flow) → Stands m pc i → moves m i pc from left ≡ Goes pc1 s1 (pos 0) left → Acts m pc1 s1 stack answers left pc' g → Acts m pc from stack answers left pc' g
   quiet_acts pc pc1 pc' from s1 stack answers left i g at e r = then_acts pc pc1 pc' stack from s1 answers answers left left g (leads_one pc from answers left i pc1 s1 left at e) r
 
-  -- a jump behind a stretch
+  -- a jump over a stretch
   pub jump_does : (pc pc1 n : ℕ) (from stack answers : List ℤ) (left : ℕ) (g : Got ℤ) → Stands m pc1 (instrs.Jump n) → Does m pc from stack answers left pc1 g → Does m pc from stack answers left (pc1 + 1 + n) g
   jump_does pc pc1 n from stack answers left (Asks k) at r = r
   jump_does pc pc1 n from stack answers left (Gives v a l) at r = leads_on pc pc1 (pc1 + 1 + n) from (v ∷ stack) (v ∷ stack) answers a a left l l r (leads_one pc1 (v ∷ stack) a l (instrs.Jump n) _ _ _ at refl)

@@ -1,4 +1,4 @@
--- In a program whose names mean something each function is given as much as it takes.
+-- In a well-named program, each function is given the arguments that it takes.
 use Rattle.std.proofs.Common.{◌≡◌, inl, inr, ℕ, zero, suc, ◌+◌, ◌<◌, ◌≤◌, ℤ, Bool, true, false, not, ◌&&◌, IsTrue, List, [], ◌∷◌, ◌++◌, length, Some, refl, sym, ap, ◌∙◌, subst, arith}
 use Rattle.std.specs.Prelude.{slice_get, unwrap_or, nat_lt, nat_eq}
 use Rattle.std.proofs.lemmas.Bool.{ltb-true, ltb-false, eqb-true}
@@ -54,7 +54,7 @@ same_length [] (k ∷ ks) h = cc
 same_length (r ∷ rs) [] h = cc
 same_length (r ∷ rs) (k ∷ ks) h = omega (arith, same_length rs ks (second (same_kind r.kind k) _ h))
 
--- what a function takes, wherever it stands in the list
+-- the parameters of a function, anywhere in the list
 takes_few : (p : Source) (n : ℕ) (fs : List Function) → IsTrue (functions_are_named p n fs) → (k : ℕ) (f : Function) → slice_get fs k ≡ Some f → (m : ℕ) × IsTrue (function_is_named p m f)
 takes_few p n [] h k f e = cc
 takes_few p n (g ∷ fs) h zero f e = let same : g ≡ f = cc in (n, subst (λ f. IsTrue (function_is_named p n f)) same (first (function_is_named p n g) _ h))
@@ -72,7 +72,7 @@ get_there [] k low = absurd (omega arith)
 get_there (x ∷ xs) zero low = (x, refl)
 get_there (x ∷ xs) (suc k) low = get_there xs k (omega arith)
 
--- a loop, wherever it stands in the list
+-- a loop, anywhere in the list
 loop_named : (p : Source) (n : ℕ) (ls : List Loop) → IsTrue (loops_are_named p n ls) → (k : ℕ) (l : Loop) → slice_get ls k ≡ Some l → (m : ℕ) × IsTrue (loop_is_named p m l)
 loop_named p n [] h k l e = cc
 loop_named p n (m ∷ ls) h zero l e = let same : m ≡ l = cc in (n, subst (λ l. IsTrue (loop_is_named p n l)) same (first (loop_is_named p n m) _ h))
@@ -181,7 +181,7 @@ module _ (p : Source) (named : IsTrue (functions_are_named p 0 p.functions)) whe
   loop_sites_fit : (n : ℕ) (l : Loop) → IsTrue (loop_is_named p n l) → SitesFit (all_sites l.body)
   loop_sites_fit n l h = row_fits (bodies.Loop n) l.body (loop_body p n l h)
 
--- what follows for the parts of a program
+-- consequences for the parts of a program
 pub record Fitting (globals : List ℤ) (reducers : List GlobalReducer) (fs : List declared_functions.Function) (ls : List declared_loops.Loop) (main : ℕ) : Type 0 where
   pub few_reducers : length reducers ≤ 64
   pub main_here : main < length fs

@@ -1,11 +1,11 @@
--- The machine comes to one ask, however many instructions it is allowed.
+-- The machine reaches at most one request, for any bound on its instructions.
 use Rattle.std.proofs.Common.{◌≡◌, ℕ, zero, suc, ◌+◌, ℤ, Bool, true, false, List, [], ◌∷◌, length, subst, arith, if◌then◌else◌}
 use Rattle.std.specs.Prelude.{slice_get, nat_lt}
 use Rattle.cilk_program.specs.Behaviour.{OpenAsk}
 use Rattle.cilk_lower.specs.declared.code.Owed.TheVariants.{Nothing, Word}
 use Rattle.cilk_lower.specs.Machine.{Setting, Move, Goes, Waits, Stops, Stuck, move, MachineRun, Reaches, Fails, Next, going, exec}
 
--- what reaches an ask in one way reaches it in the other too
+-- if both runs reach a request, it is the same
 abbrev Carries : Next → Next → OpenAsk → Type 0
 Carries f g k = (place : ℕ) (stack : List ℤ) (held : ℤ) (answers : List ℤ) (left : ℕ) → f place stack held answers left ≡ Reaches k → g place stack held answers left ≡ Reaches k
 

@@ -1,4 +1,5 @@
--- A jump is written again once what it passes stands behind it. Each lemma follows the code of `lower` from a list to the next.
+-- A jump is patched once the code that it skips has been appended. Each lemma follows the code of
+-- `lower` from a list to the next.
 use Rattle.std.proofs.Common.{◌≡◌, ℕ, ◌+◌, ◌-◌, ◌<◌, List, pos, [], ◌∷◌, ◌++◌, length, Option, Some, None, sym, ap, ◌∙◌, arith, append_assoc, length-append}
 use Rattle.std.specs.Prelude.{slice_set}
 use Rattle.std.proofs.Math.Seq.{set-append_seam}
@@ -10,7 +11,7 @@ use Rattle.cilk_lower.specs.Turns.{test_code, exit_of, exits, turned}
 use Rattle.cilk_lower.proofs.Lists.{append_none}
 use Rattle.cilk_lower.specs.Code.{expr_code, turns_code, ends, halves_code, if_code, if_else_code, and_code, or_code}
 
--- a jump, and what stands behind it
+-- a jump, and the code after it
 jumped : (c1 c2 c3 a : List Instr) (x : Instr) → c2 ≡ c1 ++ x ∷ [] → c3 ≡ c2 ++ a → c3 ≡ c1 ++ x ∷ a
 jumped c1 c2 c3 a x e2 e3 = e3 ∙ ap (λ l. l ++ a) e2 ∙ append_assoc c1 (x ∷ []) a
 

@@ -1,4 +1,4 @@
--- Items that stand at a place of a list: instructions in the code, call sites in their table.
+-- Items at a place of a list: instructions in the code, call sites in their table.
 use Rattle.std.proofs.Common.{◌≡◌, ◌⊎◌, inl, inr, ℕ, zero, suc, ◌+◌, List, [], ◌∷◌, ◌++◌, length, Some, refl, subst, arith, append_assoc, length-append}
 use Rattle.std.specs.Prelude.{slice_get}
 use Rattle.cilk_lower.specs.Bodies.{HasAt}
@@ -24,7 +24,7 @@ has_rest front (i ∷ rest) =
     let len : length (front ++ i ∷ []) ≡ length front + 1 = omega (arith, length-append front (i ∷ [])) in
     (get_seam front i rest, subst (λ c. HasAt c (length front + 1) rest) same (subst (λ n. HasAt ((front ++ i ∷ []) ++ rest) n rest) len (has_rest (front ++ i ∷ []) rest)))
 
--- what stands in a list is there with more behind it
+-- an item of a list is still there after an append
 pub get_more : {A : Type 0} (list more : List A) (n : ℕ) (i : A) → slice_get list n ≡ Some i → slice_get (list ++ more) n ≡ Some i
 get_more [] more n i e = cc
 get_more (x ∷ list) more zero i e = e
@@ -34,7 +34,7 @@ pub has_more : {A : Type 0} (list more : List A) (pc : ℕ) (is : List A) → Ha
 has_more list more pc [] h = tt
 has_more list more pc (i ∷ is) h = (get_more list more pc i h.0, has_more list more (pc + 1) is h.1)
 
--- and what stands in a list with more behind it stands in either of the two
+-- an item of an appended list is in one of the two parts
 pub get_split : {A : Type 0} (list more : List A) (n : ℕ) (i : A) → slice_get (list ++ more) n ≡ Some i → (slice_get list n ≡ Some i) ⊎ ((k : ℕ) × (n ≡ length list + k) × (slice_get more k ≡ Some i))
 get_split [] more n i e = inr (n, omega arith, e)
 get_split (x ∷ list) more zero i e = inl e

@@ -1,4 +1,4 @@
--- The list of a block's statements, as a loop goes over it.
+-- The list of a block's statements, as a loop iterates over it.
 use Rattle.std.proofs.Common.{◌≡◌, Option, ℕ, zero, suc, ◌+◌, ◌<◌, max, map, List, [], ◌∷◌, ◌++◌, length, get_or, take, drop, refl, sym, ap, ◌∙◌, subst, rules, Vec, arith, append_assoc, length-append}
 use Rattle.std.proofs.lemmas.List.{take_more, length-take, take-append-drop}
 use Rattle.std.specs.declared.alloc.Global.{Global}
@@ -216,7 +216,7 @@ stmt_some k (trees.Update r e) = omega arith
 stmt_some k (trees.Set r e) = omega arith
 stmt_some k (trees.Return e) = omega arith
 
--- how a statement is put together
+-- the parts of a statement
 pub block_code : (base c1 c2 : List Instr) (k : ℕ) (row : Statements) → c1 ≡ base ++ Tick ∷ [] → c2 ≡ c1 ++ all_code k row → c2 ≡ base ++ stmt_code k (trees.Block row)
 block_code base c1 c2 k row e1 e2 = e2 ∙ ap (λ l. l ++ all_code k row) e1 ∙ append_assoc base (Tick ∷ []) (all_code k row)
 
@@ -229,7 +229,7 @@ two_sites ss ss1 ss2 a b e1 e2 = e2 ∙ ap (λ l. l ++ b) e1 ∙ append_assoc ss
 pub three_sites : (ss ss1 ss2 ss3 a b d : List Site) → ss1 ≡ ss ++ a → ss2 ≡ ss1 ++ b → ss3 ≡ ss2 ++ d → ss3 ≡ ss ++ (a ++ (b ++ d))
 three_sites ss ss1 ss2 ss3 a b d e1 e2 e3 = two_sites ss ss1 ss3 a (b ++ d) e1 (two_sites ss1 ss2 ss3 b d e2 e3)
 
--- the code of a `for` whose parts were counted as they came
+-- the code of a `for` whose parts were counted in order
 pub for_code : (ss ss1 ss2 : List Site) (row step : Statements) (test : Option Expression) (s : Statement) → ss1 ≡ ss ++ all_sites row → ss2 ≡ ss1 ++ stmt_sites s →
     (Tick ∷ (all_code (length ss) row ++ turns_code test (stmt_code (length ss1) s ++ all_code (length ss2) step))) ≡ stmt_code (length ss) (trees.For row test step s)
 for_code ss ss1 ss2 row step test s e1 e2 =
@@ -241,7 +241,7 @@ for_code ss ss1 ss2 row step test s e1 e2 =
 pub row_code : (c c' : List Instr) (ss ss' : List Site) (row : Statements) (t : Statement) → ss' ≡ ss ++ all_sites row → c' ≡ c ++ stmt_code (length ss') t → c' ≡ c ++ stmt_code (length ss + length (all_sites row)) t
 row_code c c' ss ss' row t es e = let count : length ss' ≡ length ss + length (all_sites row) = ap length es ∙ length-append ss (all_sites row) in e ∙ ap (λ n. c ++ stmt_code n t) count
 
--- a `for` by what its references lead to
+-- a `for`, through its references
 pub meant : (f : Stmt) (v w : Vec Stmt Global) (test : _) (b : _) (row step : List Stmt) (body : Stmt) → f ≡ stmts.For v test w b → row ≡ v.items → step ≡ w.items → body ≡ b.value → statement f ≡ trees.For (statements row) (optional test) (statements step) (statement body)
 meant f v w test b row step body is er es eb =
     ap statement is ∙ for_is v w test b

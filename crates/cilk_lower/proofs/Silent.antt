@@ -1,5 +1,8 @@
--- Programs without reducers and without a `print`, as loops over their lists find out: `all_false`, `all_done` for any test of each item;
--- `of_map` where the items stand for others; `row_is`, `block_silent`, `for_silent` for rows of statements; `both` and `neither` for three tests.
+-- Programs without reducers and without a `print`, as loops over their lists find out.
+-- `all_false`, `all_done`                  for any test of each item
+-- `of_map`                                 for a mapped list
+-- `row_is`, `block_silent`, `for_silent`   for statements in order
+-- `both`, `neither`                        for three tests
 use Rattle.std.proofs.Common.{◌≡◌, ℕ, zero, suc, ◌<◌, ◌≤◌, Bool, true, false, ◌&&◌, map, List, [], ◌∷◌, length, get_or, take, refl, sym, ap, ◌∙◌, arith, Vec}
 use Rattle.std.specs.List.{list_all}
 use Rattle.std.proofs.lemmas.List.{take_all}

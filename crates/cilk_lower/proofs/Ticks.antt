@@ -1,4 +1,4 @@
--- A value takes a tick at least, a statement too, and neither gives any back.
+-- A value uses at least one tick, and so does a statement. Neither gives any back.
 use Rattle.std.proofs.Common.{ℕ, zero, suc, ◌<◌, ◌≤◌, ℤ, pos, ◌+ℤ◌, neg_ℤ, Bool, true, false, List, [], ◌∷◌, Option, Some, None, arith, if◌then◌else◌}
 use Rattle.std.specs.Prelude.{int_lt}
 use Rattle.cilk_types.specs.Input.{input_at, input_count}
@@ -13,7 +13,7 @@ use Rattle.cilk_program.specs.Syntax.{Expression, Number, Variable, Element, Neg
 use Rattle.cilk_program.specs.Operators.{is_zero, truth, truth_of, apply, change}
 use Rattle.cilk_program.specs.Behaviour.{Got, Gives, Asks, ◌>>=◌, tick, ask, tick_gives, or_fault, value, values, index_of, Flow, unless_returned, invokes, invokes_function, declares, all_declare, condition, turns, parallel_turns, return_value, does, all_do}
 
--- what is left is less, or at most the same
+-- the ticks left are fewer, or at most the same
 abbrev pub Takes : {A : Type 0} → ℕ → Got A → Type 0
 Takes l (Gives v a l') = l' < l
 Takes l (Asks k) = Unit {0}
@@ -65,11 +65,11 @@ keeps_if : {A : Type 0} (t : Bool) (l : ℕ) (x y : Got A) → Keeps l x → Kee
 keeps_if true l x y h k = h
 keeps_if false l x y h k = k
 
--- an ask, then something
+-- a request, then another part
 asked_keeps : {A : Type 0} (k : Ask) (f : ℤ → List ℤ → ℕ → Got A) → ((v : ℤ) (a : List ℤ) (l : ℕ) → Keeps l (f v a l)) → (a : List ℤ) (l : ℕ) → Keeps l (ask k a l >>= f)
 asked_keeps k f h a l = keeps_then l (ask k a l) f (ask_keeps k a l) h
 
--- a check, then something
+-- a check, then another part
 checked_keeps : {A B : Type 0} (x : Fault) (o : Option A) (f : A → List ℤ → ℕ → Got B) → ((v : A) (a : List ℤ) (l : ℕ) → Keeps l (f v a l)) → (a : List ℤ) (l : ℕ) → Keeps l (or_fault x o a l >>= f)
 checked_keeps x o f h a l = keeps_then l (or_fault x o a l) f (or_fault_keeps x o a l) h
 
@@ -94,7 +94,7 @@ value_takes inputs (Value r) a l = takes_then l (tick a l) _ (tick_takes a l) (�
 value_takes inputs (Input e) a l = takes_then l (value inputs e a l) _ (value_takes inputs e a l) (λ x. checked_keeps InputOutside (input_at inputs x) tick_gives tick_gives_keeps)
 value_takes inputs InputCount a l = tick_gives_takes (input_count inputs) a l
 
--- a value, then something
+-- a value, then another part
 valued_keeps : {A : Type 0} (inputs : List ℤ) (e : Expression) (f : ℤ → List ℤ → ℕ → Got A) → ((v : ℤ) (a : List ℤ) (l : ℕ) → Keeps l (f v a l)) → (a : List ℤ) (l : ℕ) → Keeps l (value inputs e a l >>= f)
 valued_keeps inputs e f h a l = keeps_then l (value inputs e a l) f (takes_keeps l _ (value_takes inputs e a l)) h
 
@@ -103,7 +103,7 @@ values_keeps inputs [] a l = omega arith
 values_keeps inputs (e ∷ es) a l =
     valued_keeps inputs e (λ v a l. values inputs es a l >>= λ vs. Gives (v ∷ vs)) (λ v a l. keeps_then l (values inputs es a l) _ (values_keeps inputs es a l) (λ vs a l. omega arith)) a l
 
--- a target's index, then something
+-- a target's index, then another part
 indexed_keeps : {A : Type 0} (inputs : List ℤ) (t : Target) (f : ℤ → List ℤ → ℕ → Got A) → ((v : ℤ) (a : List ℤ) (l : ℕ) → Keeps l (f v a l)) → (a : List ℤ) (l : ℕ) → Keeps l (index_of inputs t a l >>= f)
 indexed_keeps inputs (ToVariable x) f h a l = h (pos 0) a l
 indexed_keeps inputs (ToElement arr e) f h a l = valued_keeps inputs e f h a l
@@ -111,7 +111,7 @@ indexed_keeps inputs (ToElement arr e) f h a l = valued_keeps inputs e f h a l
 none_keeps : (a : List ℤ) (l : ℕ) → Keeps {A = Flow} l (Gives None a l)
 none_keeps a l = omega arith
 
--- the last ask of a statement
+-- the last request of a statement
 last_keeps : (k : Ask) (a : List ℤ) (l : ℕ) → Keeps {A = Flow} l (ask k a l >>= λ _. Gives None)
 last_keeps k a l = asked_keeps {A = Flow} k (λ _. Gives None) (λ _. none_keeps) a l
 
@@ -152,7 +152,7 @@ return_keeps : (inputs : List ℤ) (e : Option Expression) (a : List ℤ) (l : �
 return_keeps inputs None a l = omega arith
 return_keeps inputs (Some e) a l = valued_keeps inputs e _ (λ v a l. omega arith) a l
 
--- a tick, then something
+-- a tick, then another part
 ticked_takes : (f : List ℤ → ℕ → Got Flow) → ((a : List ℤ) (l : ℕ) → Keeps l (f a l)) → (a : List ℤ) (l : ℕ) → Takes l (tick a l >>= λ _. f)
 ticked_takes f h a l = takes_then l (tick a l) _ (tick_takes a l) (λ _ a l. h a l)
 

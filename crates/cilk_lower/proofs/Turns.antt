@@ -7,12 +7,13 @@ use Rattle.cilk_lower.specs.Machine.{Setting}
 use Rattle.cilk_lower.proofs.Leads.{Stands, Leads, Does, Acts, leads_one, stays, then_acts, choose_acts}
 use Rattle.cilk_lower.proofs.Ticks.{Takes, Keeps}
 
--- a turn begins at `top`, its body at `here`, its step at `after`; behind that the code goes back, and the loop ends at `out`
+-- A turn begins at `top`, its body at `here`, its step at `after`. After the step the code goes
+-- back, and the loop ends at `out`.
 module _ (m : Setting) (top here after end out d : ℕ) (test : List ℤ → ℕ → Got ℤ) (body step : List ℤ → ℕ → Got Flow)
     (bodies : (a : List ℤ) (l : ℕ) → Acts m here [] [] a l after (body a l)) (takes : (a : List ℤ) (l : ℕ) → Takes l (body a l))
     (steps : (a : List ℤ) (l : ℕ) → Acts m after [] [] a l end (step a l)) (keeps : (a : List ℤ) (l : ℕ) → Keeps l (step a l))
     (backs : Stands m end (instrs.JumpBack d)) (there : end - d ≡ top) where
-  -- the turns from here on do what so many turns do
+  -- the turns from here on do the same as n turns
   abbrev Again : ℕ → Type 0
   Again k = (a : List ℤ) (l : ℕ) → l < k → Acts m top [] [] a l out (turns k test body step a l)
 
@@ -51,7 +52,7 @@ module _ (m : Setting) (top here after end out d : ℕ) (test : List ℤ → ℕ
         (subst (λ p. Acts m p [] [] a l out turn) begins (body_acts k again a l (omega arith) (body a l) (bodies a l) (takes a l)))
         (subst (λ p. Leads m p [] a l out [] a l) leaves (stays m out [] a l)))
 
-    -- the turns are as many as ticks are left and one more: so they never run out first
+    -- there is one more turn than ticks are left, so turns never run out first
     pub turns_act : (k : ℕ) → Again k
     turns_act zero answers left low = absurd (omega arith)
     turns_act (suc k) answers left low = turn_acts k (turns_act k) answers left low (test answers left) (tests answers left) (kept answers left)

@@ -1,4 +1,5 @@
--- The machine asks what the expression asks that its instructions were made from, and comes to its value.
+-- The machine makes the requests of the expression that its instructions were made from, and pushes
+-- its value.
 use Rattle.std.proofs.Common.{◌≡◌, ℕ, suc, ◌+◌, ◌<◌, ◌≤◌, ℤ, pos, neg_ℤ, List, [], ◌∷◌, ◌++◌, length, Option, Some, None, refl, ap, subst, arith, length-append}
 use Rattle.cilk_types.specs.Input.{input_at, input_count}
 use Rattle.cilk_types.specs.Word.{word_of}
@@ -32,7 +33,7 @@ depth_some (Value r) = omega arith
 depth_some (Input e) = depth_some e
 depth_some InputCount = omega arith
 
--- an operand takes an instruction at least
+-- an operand needs at least one instruction
 pub depth_short : (e : Expression) → depth e ≤ length (expr_code e)
 depth_short (Number n) = omega arith
 depth_short (Variable x) = omega arith

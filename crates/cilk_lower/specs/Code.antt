@@ -1,4 +1,4 @@
--- The instructions of statements and bodies.
+-- The code of statements and bodies.
 use Rattle.std.specs.Prelude.{◌≡◌, ◌+◌, ◌-◌, ◌^◌, ◌≤◌, ℕ, zero, suc, pos, Bool, true, false, IsTrue, List, [], ◌∷◌, ◌++◌, length, Option, Some, None, slice_get, unwrap_or}
 use Rattle.cilk_monoid.specs.declared.kind.MonoidKind.{MonoidKind}
 use Rattle.cilk_program.specs.declared.ask.Callee.{Callee}
@@ -13,8 +13,8 @@ use Rattle.cilk_lower.specs.declared.code.Instr.TheVariants as instrs
 use Rattle.cilk_lower.specs.declared.code.Site.{Site}
 use Rattle.cilk_lower.specs.declared.layout.Layout.{Layout}
 
--- the instructions of all bodies, the call sites, where the frames of the root, of the functions and of the loops begin, and
--- what frames have
+-- The instructions of all bodies, the call sites, the entry points of the root, the functions and
+-- the loops, and the layout of frames.
 pub record CodeView : Type 0 where
   pub instrs : List Instr
   pub sites : List Site
@@ -23,7 +23,7 @@ pub record CodeView : Type 0 where
   pub loops : List EntryPoint
   pub layout : Layout
 
--- where the frame of a callee begins
+-- the entry point of a callee's frame
 abbrev pub entry_of : CodeView → Callee → EntryPoint
 entry_of c callees.Root = c.root
 entry_of c (callees.Function call) = unwrap_or (slice_get c.functions call.function) c.root
@@ -48,31 +48,31 @@ expr_code (Value r) = instrs.Value r ∷ []
 expr_code (Input e) = expr_code e ++ instrs.Input ∷ []
 expr_code InputCount = instrs.InputCount ∷ []
 
--- several expressions, one after the other
+-- the code of several expressions, in order
 abbrev pub exprs_code : List Expression → List Instr
 exprs_code [] = []
 exprs_code (e ∷ es) = expr_code e ++ exprs_code es
 
--- the index of a target, where it has one
+-- the code of a target's index, if there is one
 abbrev pub index_code : Target → List Instr
 index_code (ToVariable x) = []
 index_code (ToElement a e) = expr_code e
 
--- a target's old value; its index stays on the stack
+-- loads a target's old value; its index stays on the stack
 abbrev pub fetch : Target → Instr
 fetch (ToVariable x) = instrs.LoadUncounted x
 fetch (ToElement a e) = instrs.FetchElement a
 
--- a target's new value, above its index
+-- stores a target's new value, which is above its index
 abbrev pub store : Target → Instr
 store (ToVariable x) = instrs.Store x
 store (ToElement a e) = instrs.StoreElement a
 
--- a call site
+-- the call site of a call or spawn
 abbrev pub site : Invoke → Site
 site i = record { how = i.how; function = i.function; words = length i.arguments; reducers = i.reducers; result = i.result }
 
--- an invocation, whose call site has this number
+-- the code of a call or spawn, with the index of its call site
 abbrev pub invoke_code : ℕ → Invoke → List Instr
 invoke_code k i = exprs_code i.arguments ++ (instrs.Invoke k ∷ (instrs.Resume ∷ []))
 
@@ -109,7 +109,7 @@ abbrev mutual
   all_sites Nothing = []
   all_sites (Then s row) = stmt_sites s ++ all_sites row
 
--- one variable of a declaration; call sites are counted from this number on
+-- the code of one variable of a declaration, whose call sites are numbered from k
 abbrev pub declaration_code : ℕ → Declaration → List Instr
 declaration_code k (Zero n) = instrs.Zero n ∷ []
 declaration_code k (Opening n e) = expr_code e ++ instrs.Store (places.Local 0 n) ∷ []
@@ -125,12 +125,12 @@ if_code test a = test ++ (instrs.JumpIfZero (length a) ∷ a)
 abbrev pub if_else_code : List Instr → List Instr → List Instr → List Instr
 if_else_code test a b = test ++ (instrs.JumpIfZero (length a + 1) ∷ (a ++ (instrs.Jump (length b) ∷ b)))
 
--- turns with a condition; a turn is a body and a step
+-- a loop with a condition; a turn is the body and the step
 abbrev pub while_code : List Instr → List Instr → List Instr
 while_code test turn =
     test ++ (instrs.JumpIfZero (length turn + 1) ∷ (turn ++ instrs.JumpBack (length test + 1 + length turn) ∷ []))
 
--- turns without one
+-- a loop without a condition
 abbrev pub forever_code : List Instr → List Instr
 forever_code turn = turn ++ instrs.JumpBack (length turn) ∷ []
 
@@ -138,7 +138,7 @@ abbrev pub turns_code : Option Expression → List Instr → List Instr
 turns_code None turn = forever_code turn
 turns_code (Some e) turn = while_code (expr_code e) turn
 
--- what a frame ends with
+-- the end of a frame
 abbrev pub ends : List Instr
 ends = instrs.Sync ∷ (instrs.GiveResult ∷ (instrs.End ∷ []))
 
@@ -147,7 +147,7 @@ return_code None = ends
 return_code (Some e) = expr_code e ++ (instrs.SetResult ∷ ends)
 
 abbrev mutual
-  -- a statement; call sites are counted from this number on
+  -- the code of a statement, whose call sites are numbered from k
   pub stmt_code : ℕ → Statement → List Instr
   stmt_code k Empty = instrs.Tick ∷ []
   stmt_code k (Block row) = instrs.Tick ∷ all_code k row
@@ -172,12 +172,12 @@ abbrev mutual
   all_code k Nothing = []
   all_code k (Then s row) = stmt_code k s ++ all_code (k + length (stmt_sites s)) row
 
--- so many of a frame's words, from this one on, go to its cells
+-- writes `count` of a frame's words to its cells, from the n-th on
 abbrev pub words_code : ℕ → ℕ → List Instr
 words_code n zero = []
 words_code n (suc count) = instrs.Word n ∷ words_code (suc n) count
 
--- reducers with these monoids begin
+-- creates reducers with these monoids
 abbrev pub creates_code : (ℕ → ReducerPlace) → ℕ → List MonoidKind → List Instr
 creates_code place n [] = []
 creates_code place n (k ∷ ks) = instrs.Create (record { place = place n; kind = k }) ∷ creates_code place (suc n) ks
@@ -185,14 +185,14 @@ creates_code place n (k ∷ ks) = instrs.Create (record { place = place n; kind 
 abbrev pub function_code : ℕ → Function → List Instr
 function_code k f = words_code 0 f.words ++ (creates_code (reducers.Own 0) 0 f.reducers ++ (all_code k f.body ++ ends))
 
--- what a frame with several turns does
+-- the code of a frame with several turns
 abbrev pub halves_code : List Instr
 halves_code = instrs.SpawnHalf ∷ (instrs.Resume ∷ (instrs.CallHalf ∷ (instrs.Resume ∷ ends)))
 
 abbrev pub loop_code : ℕ → Loop → List Instr
 loop_code k l = instrs.SkipUnlessOne (length (all_code k l.body) + 4) ∷ (instrs.Turn ∷ (all_code k l.body ++ (ends ++ halves_code)))
 
--- an instruction that takes a tick
+-- whether an instruction uses a tick
 abbrev pub ticks : Option Instr → Bool
 ticks None = false
 ticks (Some instrs.Tick) = true
@@ -233,7 +233,7 @@ ticks (Some instrs.Sync) = false
 ticks (Some instrs.GiveResult) = false
 ticks (Some instrs.End) = false
 
--- A jump stays within the code, and a jump back leads to an instruction that takes a tick.
+-- A jump stays within the code, and a jump back leads to an instruction that uses a tick.
 abbrev pub Lands : List Instr → ℕ → Instr → Type 0
 Lands code place (instrs.CallLoop n) = place + 2 ≤ length code
 Lands code place (instrs.JumpIfZero n) = place + 1 + n ≤ length code
@@ -245,7 +245,7 @@ Lands code place _ = Unit {0}
 abbrev pub JumpsLand : List Instr → Type 0
 JumpsLand code = (place : ℕ) (i : Instr) → slice_get code place ≡ Some i → Lands code place i
 
--- the cells of an instruction's array have numbers
+-- the cells of an instruction's array fit in 32 bits
 abbrev pub ArrayFits : Instr → Type 0
 ArrayFits (instrs.LoadElement a) = a.first + a.length ≤ 2 ^ 32
 ArrayFits (instrs.FetchElement a) = a.first + a.length ≤ 2 ^ 32
@@ -256,7 +256,7 @@ abbrev pub ArraysFit : List Instr → Type 0
 ArraysFit [] = Unit {0}
 ArraysFit (i ∷ code) = ArrayFits i × ArraysFit code
 
--- a function is given at most 16 words, and at most 16 reducers
+-- a call site has at most 16 words and at most 16 reducers
 pub record SiteFits (s : Site) : Type 0 where
   pub words : s.words ≤ 16
   pub reducers : length s.reducers ≤ 16

@@ -1,4 +1,5 @@
--- What a run needs of a program beside its instructions: how it opens, and what each frame has.
+-- Data of a program for its runs, apart from instructions: opening values, and the contents of
+-- frames.
 use Rattle.std.specs.Prelude.{◌≡◌, ℕ, pos, ◌-ℤ◌, if◌then◌else◌, List, [], slice_get, unwrap_or}
 use Rattle.std.specs.Ordering.{int_eq}
 use Rattle.cilk_monoid.specs.declared.kind.MonoidKind.{MonoidKind}
@@ -14,26 +15,26 @@ use Rattle.cilk_lower.specs.Plain.{is_plain}
 abbrev pub frame_of : Function → FrameLayout
 frame_of f = record { cells = f.cells; reducers = f.reducers }
 
--- a frame with nothing of its own
+-- a frame without cells and reducers
 abbrev pub bare : FrameLayout
 bare = record { cells = 0; reducers = [] }
 
 abbrev pub function_frame : Layout → ℕ → FrameLayout
 function_frame l k = unwrap_or (slice_get l.functions k) bare
 
--- the cells of a callee's frame; one that halves the turns of a loop has none
+-- the number of cells of a callee's frame; a frame that halves the turns of a loop has none
 abbrev pub cells_in : Layout → Callee → ℕ
 cells_in l callees.Root = let f = function_frame l l.main in f.cells
 cells_in l (callees.Function c) = let f = function_frame l c.function in f.cells
 cells_in l (callees.Loop part) = if int_eq (part.high -ℤ part.low) (pos 1) then unwrap_or (slice_get l.loops part.number) 0 else 0
 
--- the monoids of the reducers that a callee's frame creates for itself, and retires
+-- the monoids of the reducers that a callee's frame declares, and retires when it ends
 abbrev pub reducers_in : Layout → Callee → List MonoidKind
 reducers_in l callees.Root = let f = function_frame l l.main in f.reducers
 reducers_in l (callees.Function c) = let f = function_frame l c.function in f.reducers
 reducers_in l (callees.Loop part) = []
 
--- the layout of a program
+-- the layout agrees with the program
 pub record LaysOut (p : Source) (l : Layout) : Type 0 where
   pub openings : l.openings ≡ p.openings
   pub reducers : l.reducers ≡ p.reducers

@@ -1,4 +1,4 @@
--- What the machine does with a program's instructions (a machine with a stack of operands: McCarthy and Painter 1967).
+-- The stack machine that runs a program's instructions (McCarthy and Painter 1967).
 use Rattle.std.specs.Prelude.{ℕ, zero, suc, ◌+◌, ◌-◌, ℤ, pos, ◌+ℤ◌, ◌-ℤ◌, neg_ℤ, int_lt, Bool, false, if◌then◌else◌, List, [], ◌∷◌, Option, Some, None, slice_get, length, nat_lt}
 use Rattle.std.specs.Option.{is_some}
 use Rattle.std.specs.Ordering.{int_eq}
@@ -23,8 +23,8 @@ use Rattle.cilk_lower.specs.declared.code.Owed.TheVariants.{Nothing, Word}
 use Rattle.cilk_lower.specs.declared.code.Site.{Site}
 use Rattle.cilk_lower.specs.Code.{CodeView, entry_of}
 
--- what a frame uses of what it runs: the words that it is given, its turns if it runs a loop, and whether its caller takes
--- the result
+-- The data of a frame's callee that the machine uses: the words that it is given, its turns if it
+-- runs a loop, and whether its caller takes the result.
 pub record Given : Type 0 where
   pub words : List ℤ
   pub part : Option LoopPart
@@ -35,15 +35,17 @@ given_of callees.Root = record { words = []; part = None; takes = false }
 given_of (callees.Function c) = record { words = c.words; part = None; takes = is_some c.result }
 given_of (callees.Loop l) = record { words = []; part = Some l; takes = false }
 
--- what stays the same while a frame runs: the input, the program's code, what the frame is given, and the room for its operands
+-- The constants of a frame: the input, the program's code, its given data, and its room for
+-- operands.
 pub record Setting : Type 0 where
   pub inputs : List ℤ
   pub code : CodeView
   pub given : Given
   pub room : ℕ
 
--- What one instruction does: the machine goes on, waits for an answer to an ask, asks for the last time, or is stuck. Its
--- state is the next instruction's place, the operands with their top first, and the result that a `return` has left.
+-- The effect of one instruction: the machine continues, waits for the answer to a request, makes
+-- its last request, or is stuck. Its state is the place of the next instruction, the operands with
+-- the top first, and the result that a `return` has kept.
 pub data Move : Type 0 where
   Goes : (place : ℕ) (stack : List ℤ) (held : ℤ) (left : ℕ) → Move
   Waits : (ask : Ask) (owed : Owed) (place : ℕ) (stack : List ℤ) (held : ℤ) (left : ℕ) → Move
@@ -63,12 +65,12 @@ on_two [] go = Stuck
 on_two (y ∷ []) go = Stuck
 on_two (y ∷ x ∷ stack) go = go x y stack
 
--- no operand waits while a child runs, or while the frame waits for its children
+-- the operand stack is empty while a child runs, and while the frame waits for its children
 abbrev pub on_none : List ℤ → Move → Move
 on_none [] go = go
 on_none (x ∷ stack) go = Stuck
 
--- so many from the top, the uppermost last, ahead of these
+-- pops n words, and puts them before `words` in the order of their pushes
 abbrev pub on_words : ℕ → List ℤ → List ℤ → (List ℤ → List ℤ → Move) → Move
 on_words zero words stack go = go words stack
 on_words (suc n) words [] go = Stuck
@@ -78,12 +80,12 @@ abbrev pub on_some : {A : Type 0} → Option A → (A → Move) → Move
 on_some None go = Stuck
 on_some (Some x) go = go x
 
--- a check
+-- a check, with a fault if it fails
 abbrev pub or_stops : {A : Type 0} → Fault → Option A → ℕ → (A → Move) → Move
 or_stops f None left go = Stops (asks.Fault f) left
 or_stops f (Some x) left go = go x
 
--- a call site with its words
+-- the request of a call site with these words
 abbrev pub invoked : Site → List ℤ → Ask
 invoked s words = asks.Invoke s.how (callees.Function (record { function = s.function; words = words; reducers = s.reducers; result = s.result }))
 
@@ -93,7 +95,7 @@ loop_called n low high = asks.Invoke Call (callees.Loop (record { number = n; up
 abbrev pub has_one : LoopPart → Bool
 has_one l = int_eq (l.high -ℤ l.low) (pos 1)
 
--- the halves of a loop's turns
+-- the two halves of a loop's turns
 abbrev pub first_half : LoopPart → Ask
 first_half l = asks.Invoke Spawn (part l l.low (middle l.low l.high))
 
@@ -158,17 +160,17 @@ module _ (m : Setting) where
       if m.given.takes then Waits (asks.Result held) Nothing (place + 1) stack held left else Goes (place + 1) stack held left
   move (Some instrs.End) place stack held left = Stops (asks.End held) left
 
--- what a run of the machine comes to: an ask without an answer, no more steps allowed, or stuck
+-- the result of a run of the machine: a request without an answer, no more steps allowed, or stuck
 pub data MachineRun : Type 0 where
   Reaches : (asked : OpenAsk) → MachineRun
   Unfinished : MachineRun
   Fails : MachineRun
 
--- a place, a stack, the result that is held, the answers to come and the ticks left
+-- a place, a stack, the kept result, the answers to come and the ticks left
 abbrev pub Next : Type 0
 Next = ℕ → List ℤ → ℤ → List ℤ → ℕ → MachineRun
 
--- goes on once the answer came
+-- continues after an answer
 abbrev pub received : ℕ → Owed → ℤ → List ℤ → (List ℤ → MachineRun) → MachineRun
 received room Nothing a stack go = go stack
 received room Word a stack go = if nat_lt (length stack) room then go (a ∷ stack) else Fails
@@ -183,15 +185,15 @@ going room (Waits k owed place stack held left) answers next = waiting room k ow
 going room (Stops k left) answers next = Reaches (asks_for k left)
 going room Stuck answers next = Fails
 
--- at most so many instructions
+-- runs at most n instructions
 abbrev pub exec : Setting → ℕ → Next
 exec m zero place stack held answers left = Unfinished
 exec m (suc n) place stack held answers left = going m.room (move m (slice_get m.code.instrs place) place stack held left) answers (exec m n)
 
--- a frame of a callee
+-- the constants of a callee's frame
 abbrev pub setting : List ℤ → CodeView → Callee → Setting
 setting inputs c callee = record { inputs = inputs; code = c; given = given_of callee; room = (entry_of c callee).room }
 
--- it begins with no operand, and with 0 for its result
+-- a frame begins without operands, and with 0 as its result
 abbrev pub exec_frame : List ℤ → CodeView → Callee → ℕ → List ℤ → ℕ → MachineRun
 exec_frame inputs c callee n answers left = exec (setting inputs c callee) n (entry_of c callee).place [] (pos 0) answers left

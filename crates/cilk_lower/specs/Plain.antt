@@ -4,7 +4,8 @@ use Rattle.std.specs.List.{list_all}
 use Rattle.cilk_program.specs.Syntax.{Statement, Empty, Block, Declare, Assign, Change, Step, Invokes, Sync, If, IfElse, For, ParallelFor, Print, Update, Set, Return, Statements, Nothing, Then, Function, Loop, Source}
 
 abbrev mutual
-  -- A statement without a `print`. It may change a reducer: a program that has none has no such statement, since its names are there.
+  -- A statement without a `print`. It may update a reducer. In a well-named program without
+  -- reducers no statement does, since there is none to name.
   pub is_silent : Statement → Bool
   is_silent Empty = true
   is_silent (Block row) = row_is_silent row
@@ -27,13 +28,13 @@ abbrev mutual
   row_is_silent Nothing = true
   row_is_silent (Then s row) = is_silent s && row_is_silent row
 
--- it neither takes nor creates a reducer, and its body prints nothing
+-- the function has no reducer parameters, declares no reducers, and prints nothing
 abbrev pub function_is_plain : Function → Bool
 function_is_plain f = (length f.given == 0) && ((length f.reducers == 0) && row_is_silent f.body)
 
 abbrev pub loop_is_plain : Loop → Bool
 loop_is_plain l = row_is_silent l.body
 
--- no reducer, and no `print`
+-- the program has no reducer and no `print`
 abbrev pub is_plain : Source → Bool
 is_plain p = (length p.reducers == 0) && (list_all function_is_plain p.functions && list_all loop_is_plain p.loops)

@@ -1,9 +1,9 @@
--- How many operands code has on its stack at most.
+-- The maximum number of operands on the stack of a body.
 use Rattle.std.specs.Prelude.{◌≡◌, ℕ, ◌+◌, max, List, [], ◌∷◌, map, Option, Some, None}
 use Rattle.cilk_program.specs.Syntax.{Expression, Number, Variable, Element, Negate, Not, Binary, And, Or, Value, Input, InputCount, Target, ToVariable, ToElement, Declaration, Zero, Opening, Invoking, Statement, Empty, Block, Declare, Assign, Change, Step, Invokes, Sync, If, IfElse, For, ParallelFor, Print, Update, Set, Return, Statements, Nothing, Then, Source, main_of}
 use Rattle.cilk_lower.specs.Code.{CodeView}
 
--- while an expression is evaluated, its value included; a left operand waits below the right one
+-- the operands of an expression, its value included; the left operand stays below the right one
 abbrev pub depth : Expression → ℕ
 depth (Number n) = 1
 depth (Variable x) = 1
@@ -21,12 +21,12 @@ abbrev pub optional_depth : Option Expression → ℕ
 optional_depth None = 0
 optional_depth (Some e) = depth e
 
--- of several, each above the values of those before it
+-- the operands of several expressions, each above the values of those before it
 abbrev pub depths : List Expression → ℕ
 depths [] = 0
 depths (e ∷ es) = max (depth e) (depths es + 1)
 
--- a target's index, where it has one, and how many operands that leaves
+-- the operands of a target's index, if there is one
 abbrev pub index_depth : Target → ℕ
 index_depth (ToVariable x) = 0
 index_depth (ToElement a e) = depth e
@@ -45,7 +45,7 @@ declarations_depth [] = 0
 declarations_depth (d ∷ ds) = max (declaration_depth d) (declarations_depth ds)
 
 abbrev mutual
-  -- over the expressions of a statement
+  -- the maximum over the expressions of a statement
   pub deepest : Statement → ℕ
   deepest Empty = 0
   deepest (Block row) = deepest_of_all row
@@ -68,7 +68,7 @@ abbrev mutual
   deepest_of_all Nothing = 0
   deepest_of_all (Then s row) = max (deepest s) (deepest_of_all row)
 
--- each frame has room for what its body needs, and no more
+-- each frame has exactly the room that its body needs
 pub record RoomsFit (p : Source) (c : CodeView) : Type 0 where
   pub root : let f = main_of p in c.root.room ≡ deepest_of_all f.body
   pub functions : map (λ e. e.room) c.functions ≡ map (λ f. deepest_of_all f.body) p.functions

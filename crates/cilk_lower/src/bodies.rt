@@ -1,4 +1,4 @@
-//! The instructions of all functions and loops, body after body.
+//! Emits the bodies of all functions and loops, one after the other.
 
 ghost use Rattle.std.specs.Prelude.{◌≡◌, ◌≤◌, map, ◌++◌, length, IfOk, OnOk, Some, slice_get};
 ghost use Rattle.cilk_lower.specs.Bodies.{EachAt, EachFits, FunctionAt, FunctionFits, Grows, IsSound, LoopAt, LoopFits};
@@ -14,7 +14,8 @@ use cilk_program::program::{Function, GlobalReducer, Loop};
 use cilk_program::syntax::ReducerPlace;
 use std::alloc::{AllocError, Global};
 
-/// The functions in order. The main function stands in the code already, at this entry.
+/// Emits the functions in order, and returns their entry points. The code has the main function
+/// already, at `entry`.
 pub fn emit_functions(
     alloc: Global,
     out: &mut Emitter,
@@ -42,7 +43,7 @@ pub fn emit_functions(
     Ok(entries)
 }
 
-/// The bodies of the loops in order.
+/// Emits the bodies of the loops in order, and returns their entry points.
 pub fn emit_loops(
     alloc: Global,
     out: &mut Emitter,
@@ -62,7 +63,7 @@ pub fn emit_loops(
     Ok(entries)
 }
 
-/// The global reducers begin.
+/// Appends the instructions that create the global reducers.
 pub fn put_globals(code: &mut Vec<Instr>, reducers: &[GlobalReducer]) -> Result<(), AllocError>
     requires { length reducers.now ≤ 64 }
     ensures { OnOk result (code.new.items ≡ code.old.items ++ creates_code ReducerPlace.Global 0 (map (λ r. r.kind) reducers.now)) }
@@ -74,7 +75,7 @@ pub fn put_globals(code: &mut Vec<Instr>, reducers: &[GlobalReducer]) -> Result<
     Ok(())
 }
 
-/// A frame's words go to its first cells.
+/// Appends the instructions that write a frame's words to its first cells.
 pub fn put_words(code: &mut Vec<Instr>, count: u32) -> Result<(), AllocError>
     ensures { OnOk result (code.new.items ≡ code.old.items ++ words_code 0 count) }
 {
@@ -84,7 +85,7 @@ pub fn put_words(code: &mut Vec<Instr>, count: u32) -> Result<(), AllocError>
     Ok(())
 }
 
-/// A frame's own reducers begin.
+/// Appends the instructions that create a frame's own reducers.
 pub fn put_own(code: &mut Vec<Instr>, kinds: &[MonoidKind]) -> Result<(), AllocError>
     requires { length kinds.now ≤ 64 }
     ensures { OnOk result (code.new.items ≡ code.old.items ++ creates_code (ReducerPlace.Own 0) 0 kinds.now) }

@@ -1,4 +1,4 @@
-//! The instructions of all bodies.
+//! The code of a program: its instructions, call sites and entry points.
 
 ghost use Rattle.std.specs.Prelude.{◌≡◌, ◌≢◌, ◌<◌, ◌≤◌, ◌^◌, slice_get, unwrap_or, length, None, Some};
 ghost use Rattle.cilk_lower.specs.Code.{ArraysFit, JumpsLand, Lands, ArrayFits, SitesFit, entry_of};
@@ -11,101 +11,104 @@ use cilk_types::compound::Compound;
 use cilk_types::invocation::Invocation;
 use std::marker::Model;
 
-/// One instruction. It makes at most one event and takes at most one tick. A jump says how many instructions it passes.
+/// An instruction. It makes at most one request. It uses one tick if it is `Tick`, `Push`, `Load`,
+/// `LoadElement`, `Negate`, `Not`, `Apply`, `Truth`, `Value`, `Input` or `InputCount`, and none
+/// otherwise. A forward jump gives the number of instructions that it skips.
 #[derive(Clone, Copy)]
 pub enum Instr {
-    /// A statement begins: a tick.
+    /// Begins a statement.
     Tick,
-    /// A number onto the stack.
+    /// Pushes a number.
     Push(i64),
-    /// A tick, and the value at a place onto the stack.
+    /// Pushes the value at a place.
     Load(Place),
-    /// A tick, and the value of the element whose index is the top in place of it.
+    /// Replaces the index on top by the value of that element.
     LoadElement(Array),
-    /// The value at a place onto the stack, without a tick.
+    /// Pushes the value at a place, without a tick.
     LoadUncounted(Place),
-    /// The value of the element whose index is the top above it, without a tick.
+    /// Pushes the value of the element whose index is on top, and keeps the index. Uses no tick.
     FetchElement(Array),
-    /// The top of the stack to a place.
+    /// Pops a value into a place.
     Store(Place),
-    /// The top of the stack to the element whose index lies below it.
+    /// Pops a value and the index below it, and writes the value to that element.
     StoreElement(Array),
-    /// 0 to a cell of the frame.
+    /// Writes 0 to a cell of the frame.
     Zero(u32),
-    /// An old value and another one above it combined, without a tick.
+    /// Replaces an old value and the value above it by their combination, without a tick.
     Combine(Compound),
-    /// A number is added to the top, without a tick.
+    /// Adds a number to the top, without a tick.
     AddNumber(i64),
-    /// The opposite of the top.
+    /// Negates the top.
     Negate,
-    /// 1 for a top of 0, else 0.
+    /// Replaces the top by 1 if it is 0, else by 0.
     Not,
-    /// An operator on the two on top, the right one uppermost.
+    /// Applies an operator to the two topmost values. The right operand is on top.
     Apply(Operator),
-    /// 0 for a top of 0, else 1.
+    /// Replaces the top by 0 if it is 0, else by 1.
     Truth,
-    /// A tick, and the number of a reducer's view onto the stack.
+    /// Pushes the number of a reducer's view.
     Value(Reducer),
-    /// The input number at the place that the top says.
+    /// Replaces the index on top by that input number.
     Input,
-    /// How many input numbers there are.
+    /// Pushes the count of input numbers.
     InputCount,
-    /// The top is printed.
+    /// Pops a value and prints it.
     Print,
-    /// A reducer begins with its monoid's unit.
+    /// Creates a reducer, whose view is its monoid's unit.
     Create(Reducer),
-    /// A reducer's view is multiplied by the top from the right.
+    /// Pops a value, and combines a reducer's view with it on the right.
     Update(Reducer),
-    /// A reducer's view becomes that of the top alone.
+    /// Pops a value, and replaces a reducer's view by that of this value alone.
     Set(Reducer),
-    /// The word with this number that the frame was given, to the cell with this number.
+    /// Writes the frame's n-th word to its n-th cell.
     Word(u32),
-    /// The frame's one turn to the loop's variable.
+    /// Writes the frame's single turn to the loop's variable.
     Turn,
-    /// The call or spawn of the call site with this number, whose words are on the stack.
+    /// Calls or spawns by the n-th call site, with the words on the stack.
     Invoke(usize),
-    /// The frame of all turns of a loop between the two bounds on the stack. Without any turn it goes on behind `Resume`.
+    /// Calls the frame of all turns of a loop between the two bounds on the stack. If there are
+    /// none, continues after the `Resume` that follows.
     CallLoop(u32),
-    /// The first half of the frame's turns is spawned.
+    /// Spawns the first half of the frame's turns.
     SpawnHalf,
-    /// The second half of the frame's turns is called.
+    /// Calls the second half of the frame's turns.
     CallHalf,
-    /// The frame goes on after an invocation.
+    /// Resumes the frame after a child.
     Resume,
-    /// Goes on behind so many instructions where the top is 0.
+    /// Pops a value, and skips n instructions if it is 0.
     JumpIfZero(usize),
-    /// Goes on behind so many instructions where the frame has several turns.
+    /// Skips n instructions if the frame has several turns.
     SkipUnlessOne(usize),
-    /// Goes on behind so many instructions.
+    /// Skips n instructions.
     Jump(usize),
-    /// Goes back by so many instructions.
+    /// Goes back n instructions.
     JumpBack(usize),
-    /// The top is held for the frame's result.
+    /// Pops a value, and keeps it as the frame's result.
     SetResult,
-    /// The frame waits for the children that it spawned.
+    /// Waits for the children that the frame spawned.
     Sync,
-    /// The result goes to the caller's variable, where it takes one.
+    /// Writes the result to the caller's variable, if the caller takes one.
     GiveResult,
-    /// The frame ends with its result.
+    /// Ends the frame with its result.
     End,
 }
 
-/// What the answer to an ask brings onto the stack of the frame that asked.
+/// Whether the answer to a request is pushed onto the frame's stack.
 #[derive(Clone, Copy)]
 pub enum Owed {
     Nothing,
     Word,
 }
 
-/// Where the frame of a body begins, and the room that it needs for operands.
+/// The place where a body's frame begins, and its room for operands.
 #[derive(Clone, Copy)]
 pub struct EntryPoint {
     pub place: usize,
     pub room: usize,
 }
 
-/// A call site: a call or spawn, the function, how many words lie on the stack for it, the reducers that it is given, and the
-/// variable that takes the result.
+/// A call site: call or spawn, the function's index, how many words on the stack are its arguments,
+/// the reducers that it is given, and the variable that receives the result.
 #[derive(Drop)]
 pub struct Site {
     pub how: Invocation,
@@ -115,7 +118,8 @@ pub struct Site {
     pub result: Option<Place>,
 }
 
-/// The instructions of all bodies, the call sites, where bodies begin, and what frames have.
+/// The code of a program. Each jump stays within the instructions, each array's cells fit in `u32`,
+/// and each call site has at most 16 words and 16 reducers.
 pub struct Code {
     instrs: Vec<Instr>,
     sites: Vec<Site>,
@@ -125,7 +129,7 @@ pub struct Code {
     layout: Layout,
 }
 
-// A function of its own, so that a proof follows one call where a code is dropped.
+// A separate function, so that a proof follows one call where a code is dropped.
 impl Drop for Code {
     fn drop(self) {
         let Code {
@@ -150,7 +154,7 @@ impl Model for Code {
 }
 
 impl Code {
-    /// The code of these parts.
+    /// Makes a code of its parts.
     pub fn new(
         instrs: Vec<Instr>,
         sites: Vec<Site>,
@@ -174,21 +178,21 @@ impl Code {
         }
     }
 
-    /// How the program opens, and what each frame has.
+    /// Returns the program's opening values, and the cells and reducers of each frame.
     pub fn layout(&self) -> &Layout
         ensures { result.now ≡ self.now.layout }
     {
         &self.layout
     }
 
-    /// Whether the program has neither a reducer nor a `print`.
+    /// Returns whether the program has neither a reducer nor a `print`.
     pub fn plain(&self) -> bool
         ensures { result ≡ self.now.layout.plain }
     {
         self.layout.plain
     }
 
-    /// Where the frame of a callee begins.
+    /// Returns the entry point of a callee's frame.
     pub fn entry(&self, callee: &Callee) -> EntryPoint
         ensures { result ≡ entry_of self.now callee.now }
     {
@@ -199,35 +203,36 @@ impl Code {
         }
     }
 
-    /// Where the frame of a function begins.
+    /// Returns the entry point of a function's frame, or the root's if there is no such function.
     pub fn function_entry(&self, number: u32) -> EntryPoint
         ensures { result ≡ unwrap_or (slice_get self.now.functions number) self.now.root }
     {
         entry_at(&self.functions, number, self.root)
     }
 
-    /// Where the frame of a loop's turns begins.
+    /// Returns the entry point of a loop's frames, or the root's if there is no such loop.
     pub fn loop_entry(&self, number: u32) -> EntryPoint
         ensures { result ≡ unwrap_or (slice_get self.now.loops number) self.now.root }
     {
         entry_at(&self.loops, number, self.root)
     }
 
-    /// How many instructions there are.
+    /// Returns the number of instructions.
     pub fn len(&self) -> usize
         ensures { result ≡ length self.now.instrs }
     {
         self.instrs.len()
     }
 
-    /// The instructions in order.
+    /// Returns the instructions in order.
     pub fn instrs(&self) -> &[Instr]
         ensures { result.now ≡ self.now.instrs }
     {
         &self.instrs
     }
 
-    /// The instruction at a place of [`Code::instrs`], which a run of many instructions asks for once.
+    /// Returns the instruction at a place. The caller passes [`Code::instrs`], so that it fetches
+    /// the slice only once for many instructions.
     #[tactic(auto, using(crate::proofs::Lands::lands_there, crate::proofs::Arrays::fits_there))]
     pub fn at<'a>(&self, instrs: &'a [Instr], place: usize) -> &'a Instr
         requires instrs { instrs.now ≡ self.now.instrs }
@@ -238,12 +243,12 @@ impl Code {
         ensures small { place < 2 ^ 63 }
         ensures fits { length self.now.instrs < 2 ^ 63 }
     {
-        // For the proof alone: what all instructions keep is known of the field.
+        // For the proof only: the borrow brings in the invariant of the instructions.
         let _ = &self.instrs;
         there(instrs, place)
     }
 
-    /// The call site with a number.
+    /// Returns the call site with this index.
     pub fn site(&self, number: usize) -> &Site
         requires { slice_get self.now.sites number ≢ None }
         ensures value { slice_get self.now.sites number ≡ Some result.now }

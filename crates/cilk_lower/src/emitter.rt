@@ -1,4 +1,4 @@
-//! The instructions and call sites of statements and bodies.
+//! Emits statements and bodies, with their call sites.
 
 ghost use Rattle.std.specs.Prelude.{◌≡◌, ◌≤◌, max, map, [], ◌∷◌, ◌++◌, length, IfOk, OnOk};
 ghost use Rattle.cilk_lower.specs.declared.code.Instr.{Instr};
@@ -23,7 +23,7 @@ use cilk_program::program::{Function, Loop};
 use cilk_program::syntax::{Declaration, Invoke, Place, Reducer, Stmt};
 use std::alloc::AllocError;
 
-/// The instructions and call sites so far, and the room that the body at hand needs.
+/// The instructions and call sites so far, and the room that the current body needs.
 #[derive(Drop)]
 pub struct Emitter {
     pub instrs: Vec<Instr>,
@@ -32,7 +32,7 @@ pub struct Emitter {
 }
 
 impl Emitter {
-    /// A function: its words, its reducers, its body.
+    /// Emits a function: its words, its reducers and its body.
     pub fn emit_function(&mut self, f: &Function) -> Result<EntryPoint, AllocError>
         requires { FunctionFits f.now }
         ensures code { OnOk result (self.new.instrs.items ≡ self.old.instrs.items ++ function_code (length self.old.sites.items) (function f.now)) }
@@ -52,7 +52,8 @@ impl Emitter {
         })
     }
 
-    /// The body of a `cilk_for`: a frame with one turn runs it, a frame with several halves them.
+    /// Emits the body of a `cilk_for`. A frame with one turn runs it, and a frame with several
+    /// turns halves them.
     pub fn emit_loop(&mut self, l: &Loop) -> Result<EntryPoint, AllocError>
         requires { LoopFits l.now }
         ensures code { OnOk result (self.new.instrs.items ≡ self.old.instrs.items ++ loop_code (length self.old.sites.items) (loop l.now)) }
@@ -138,7 +139,7 @@ impl Emitter {
         }
     }
 
-    // The variables of a declaration, one after the other.
+    // The variables of a declaration, in order.
     fn emit_declarations(&mut self, row: &[Declaration]) -> Result<(), AllocError>
         requires { SitesFit (declarations_sites (map declaration row.now)) }
         ensures code { OnOk result (self.new.instrs.items ≡ self.old.instrs.items ++ (Instr.Tick ∷ declarations_code (length self.old.sites.items) (map declaration row.now))) }
@@ -168,7 +169,7 @@ impl Emitter {
         }
     }
 
-    // A call or spawn that is a statement of its own.
+    // A call or spawn that is a whole statement.
     fn emit_statement_invoke(&mut self, call: &Invoke) -> Result<(), AllocError>
         requires { SitesFit (site (invoke call.now) ∷ []) }
         ensures code { OnOk result (self.new.instrs.items ≡ self.old.instrs.items ++ (Instr.Tick ∷ invoke_code (length self.old.sites.items) (invoke call.now))) }
@@ -179,7 +180,7 @@ impl Emitter {
         self.emit_invoke(call)
     }
 
-    // The arguments of a call or spawn, and then its call site.
+    // The arguments of a call or spawn, and its call site.
     fn emit_invoke(&mut self, call: &Invoke) -> Result<(), AllocError>
         requires { SitesFit (site (invoke call.now) ∷ []) }
         ensures code { OnOk result (self.new.instrs.items ≡ self.old.instrs.items ++ invoke_code (length self.old.sites.items) (invoke call.now)) }
@@ -194,7 +195,6 @@ impl Emitter {
     }
 }
 
-// The call site of a call or spawn.
 fn site_of(call: &Invoke) -> Site
     requires { length call.now.reducers.items ≤ 16 }
     ensures { result ≡ site (invoke call.now) }
@@ -208,7 +208,7 @@ fn site_of(call: &Invoke) -> Site
     }
 }
 
-// The reducers of a call or spawn, the last one put first.
+// The reducers are inserted at the front, so the last one comes first.
 fn references(reducers: &[Reducer]) -> References
     requires { length reducers.now ≤ 16 }
     ensures { result ≡ reducers.now }

@@ -1,4 +1,4 @@
-//! The instructions of expressions.
+//! Emits expressions. `room` is raised to the number of operands that they need.
 
 ghost use Rattle.std.specs.Prelude.{◌≡◌, ◌+◌, ◌<◌, ◌^◌, max, map, [], ◌∷◌, ◌++◌, length, IfOk, OnOk};
 ghost use Rattle.cilk_lower.specs.declared.code.Instr.{Instr};
@@ -11,7 +11,7 @@ use crate::put::{begin, begin_or, end_and, end_or, put, put_jump, put_operand};
 use cilk_program::syntax::Expr;
 use std::alloc::AllocError;
 
-/// A statement's tick, and then its expression.
+/// Emits a statement's tick and its expression.
 pub fn emit_begun(code: &mut Vec<Instr>, room: &mut usize, e: &Expr) -> Result<(), AllocError>
     ensures code { OnOk result (code.new.items ≡ code.old.items ++ (Instr.Tick ∷ expr_code (expression e.now))) }
     ensures room { OnOk result (room.new ≡ max room.old (depth (expression e.now))) }
@@ -20,7 +20,7 @@ pub fn emit_begun(code: &mut Vec<Instr>, room: &mut usize, e: &Expr) -> Result<(
     emit_value(code, room, e)
 }
 
-/// Several expressions, each above the values of those before it.
+/// Emits several expressions, each above the values of those before it.
 pub fn emit_values(code: &mut Vec<Instr>, room: &mut usize, row: &[Expr]) -> Result<(), AllocError>
     ensures code { OnOk result (code.new.items ≡ code.old.items ++ exprs_code (map expression row.now)) }
     ensures room { OnOk result (room.new ≡ max room.old (depths (map expression row.now))) }
@@ -31,7 +31,7 @@ pub fn emit_values(code: &mut Vec<Instr>, room: &mut usize, row: &[Expr]) -> Res
     Ok(())
 }
 
-/// An expression, with room for its operands.
+/// Emits an expression without other operands below it.
 pub fn emit_value(code: &mut Vec<Instr>, room: &mut usize, e: &Expr) -> Result<(), AllocError>
     ensures code { OnOk result (code.new.items ≡ code.old.items ++ expr_code (expression e.now)) }
     ensures room { OnOk result (room.new ≡ max room.old (depth (expression e.now))) }
@@ -39,7 +39,7 @@ pub fn emit_value(code: &mut Vec<Instr>, room: &mut usize, e: &Expr) -> Result<(
     emit_above(code, room, 0, e)
 }
 
-/// An expression, with room for its operands above so many others.
+/// Emits an expression above `below` other operands.
 pub fn emit_above(
     code: &mut Vec<Instr>,
     room: &mut usize,
@@ -55,7 +55,7 @@ pub fn emit_above(
     Ok(())
 }
 
-// An expression, and how many operands it has on the stack at most.
+// Emits an expression, and returns the maximum number of its operands on the stack.
 #[cycle(expressions)]
 fn emit_expr(code: &mut Vec<Instr>, e: &Expr) -> Result<usize, AllocError>
     ensures code { OnOk result (code.new.items ≡ code.old.items ++ expr_code (expression e.now)) }
@@ -93,7 +93,7 @@ fn emit_expr(code: &mut Vec<Instr>, e: &Expr) -> Result<usize, AllocError>
     }
 }
 
-// An operand, and then the instruction that takes it.
+// Emits an operand and the instruction that takes it.
 #[cycle(expressions)]
 fn emit_unary(code: &mut Vec<Instr>, e: &Expr, last: Instr) -> Result<usize, AllocError>
     ensures code { OnOk result (code.new.items ≡ code.old.items ++ (expr_code (expression e.now) ++ last ∷ [])) }

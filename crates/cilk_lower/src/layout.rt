@@ -1,4 +1,5 @@
-//! What a run needs of a program beside its instructions: how it opens, and what each frame has.
+//! Data of a program for its runs, apart from instructions: opening values, and the contents of
+//! frames.
 
 ghost use Rattle.std.specs.Prelude.{◌≡◌, pos, ◌-ℤ◌, map, slice_get, unwrap_or, IfOk};
 ghost use Rattle.std.specs.Ordering.{int_eq};
@@ -14,16 +15,16 @@ use cilk_program::program::{Function, GlobalReducer, Loop, Program};
 use cilk_types::sequence::Sequence;
 use std::alloc::{AllocError, Global};
 
-/// What the frame of a function has: how many cells, and the monoids of the reducers that it creates for itself, in
-/// order.
+/// The frame of a function: the number of its cells, and the monoids of the reducers that it
+/// declares, in order.
 #[derive(Drop)]
 pub struct FrameLayout {
     pub cells: u32,
     pub reducers: Sequence<MonoidKind>,
 }
 
-/// The opening values of the global cells, the monoids of the global reducers, the number of the main function, the
-/// frame of each function, how many cells the frame of one turn of each loop has, and whether there is neither a
+/// The layout of a program. `openings` has the opening values of the global cells, and `loops` the
+/// number of cells of one turn's frame for each loop. `plain` means that the program has neither a
 /// reducer nor a `print`.
 pub struct Layout {
     pub openings: Sequence<i64>,
@@ -34,7 +35,7 @@ pub struct Layout {
     pub plain: bool,
 }
 
-// A function of its own, so that a proof follows one call where a layout is dropped.
+// A separate function, so that a proof follows one call where a layout is dropped.
 impl Drop for Layout {
     fn drop(self) {
         let Layout {
@@ -49,7 +50,7 @@ impl Drop for Layout {
 }
 
 impl Layout {
-    /// How many cells the frame of a callee has.
+    /// Returns the number of cells of a callee's frame.
     pub fn cells(&self, callee: &Callee) -> u32
         ensures { result ≡ cells_in self.now callee.now }
     {
@@ -60,7 +61,7 @@ impl Layout {
         }
     }
 
-    /// How many cells the frame of a function has.
+    /// Returns the number of cells of a function's frame.
     pub fn function_cells(&self, number: u32) -> u32
         ensures { let f = function_frame self.now number in result ≡ f.cells }
     {
@@ -70,7 +71,7 @@ impl Layout {
         }
     }
 
-    /// How many cells the frame of some turns of a loop has: none where there are several.
+    /// Returns the number of cells of a frame of a loop's turns, which is 0 if it has several.
     pub fn part_cells(&self, part: &LoopPart) -> u32
         ensures { result ≡ cells_in self.now (callees.Loop part.now) }
     {
@@ -81,7 +82,6 @@ impl Layout {
         }
     }
 
-    // How many cells the frame of one turn has.
     fn turn_cells(&self, number: u32) -> u32
         ensures { result ≡ unwrap_or (slice_get self.now.loops number) 0 }
     {
@@ -91,7 +91,8 @@ impl Layout {
         }
     }
 
-    /// The monoids of the reducers that the frame of a function creates for itself, and retires with its end.
+    /// Returns the monoids of the reducers that a function's frame creates, and retires when it
+    /// ends.
     pub fn function_reducers(&self, number: u32) -> &[MonoidKind]
         ensures { let f = function_frame self.now number in result.now ≡ f.reducers }
     {
@@ -102,14 +103,15 @@ impl Layout {
     }
 }
 
-/// Whether a frame has one turn of its loop. The bounds may be so far apart that their distance is no word.
+/// Returns whether a part of a loop is a single turn. The distance of the bounds may exceed a word.
 pub fn has_one(part: LoopPart) -> bool
     ensures { result ≡ int_eq (part.high -ℤ part.low) (pos 1) }
 {
     i128::from(part.high) - i128::from(part.low) == 1
 }
 
-/// The layout of a program. The only error is a want of memory. The time is linear in the program.
+/// Makes the layout of a program. The only error is out of memory. The time is linear in the
+/// program.
 pub fn lay_out(alloc: Global, program: &Program) -> Result<Layout, AllocError>
     ensures { IfOk result (λ layout. LaysOut (source program.now) layout) }
 {
@@ -123,7 +125,6 @@ pub fn lay_out(alloc: Global, program: &Program) -> Result<Layout, AllocError>
     })
 }
 
-// The monoids of the global reducers.
 fn global_kinds(
     alloc: Global,
     reducers: &[GlobalReducer],
@@ -137,7 +138,6 @@ fn global_kinds(
     Ok(Sequence::new(kinds))
 }
 
-// The frame of each function.
 fn function_frames(
     alloc: Global,
     functions: &[Function],
@@ -160,7 +160,6 @@ fn frame_of(alloc: Global, f: &Function) -> Result<FrameLayout, AllocError>
     })
 }
 
-// How many cells the frame of one turn of each loop has.
 fn loop_cells(alloc: Global, loops: &[Loop]) -> Result<Sequence<u32>, AllocError>
     ensures { IfOk result (λ list. list ≡ map (λ l. l.cells) loops.now) }
 {

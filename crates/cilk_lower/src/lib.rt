@@ -1,8 +1,11 @@
-//! From a program whose names are resolved to the instructions of its bodies.
+//! A compiler from resolved Cilk programs to code for a stack machine.
 //!
-//! A frame has to stop at each of its asks and go on once the answer came, which a recursion over the syntax tree can't.
-//! So each body becomes code for a machine with a stack of operands (McCarthy and Painter 1967), of which each instruction
-//! takes at most one tick and makes at most one ask. This is the code of `while (x < 3) x = x + 1;`:
+//! A frame must stop at each of its requests and continue once it has the answer. A recursion over
+//! the syntax tree can't stop in the middle. So each body becomes code for a machine with a stack
+//! of operands (McCarthy and Painter 1967), and the state of a frame is a place in the code, a few
+//! operands and its result. Each instruction uses at most one tick and makes at most one request.
+//!
+//! The code of `while (x < 3) x = x + 1;`:
 //!
 //! ```text
 //!  0 Tick            6 Load x
@@ -13,13 +16,20 @@
 //!  5 Tick
 //! ```
 //!
-//! The bodies of all functions and loops stand in one list, each at an [`code::EntryPoint`]. A call or spawn names a
-//! [`code::Site`], which says what is called and what it is given. A loop's frame runs its body where it has one turn, and
-//! else spawns the first half of its turns and calls the second.
+//! The bodies of all functions and loops are in one list, each from its [`code::EntryPoint`] on. A
+//! call or spawn refers to a [`code::Site`] for its function and arguments. The frame of a
+//! `cilk_for` runs the body if it has one turn. Otherwise it spawns the first half of its turns and
+//! calls the second.
 //!
-//! [`lower::lower`] makes the code. Its contract is the law that ties code to meaning: whatever a frame runs, and whatever the
-//! inputs, the answers so far and the ticks, the machine (`specs/Machine`) asks next what the program's frame asks
-//! (`specs/Behaves`). [`laws`] has what is true of all code.
+//! | Item | Purpose |
+//! |---|---|
+//! | [`lower::lower`] | compiles a program, in linear time |
+//! | [`code::Code`], [`code::Instr`] | the code; one instruction |
+//! | [`layout::Layout`] | opening values, and the cells and reducers of each frame |
+//! | [`laws`] | what is true of all code |
+//!
+//! The contract of `lower` ties code to meaning: for any callee, input, answers and ticks, the
+//! machine (`specs/Machine`) makes the same next request as the program's frame (`specs/Behaves`).
 #![tactic(auto)]
 
 mod bodies;

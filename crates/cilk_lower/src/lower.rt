@@ -1,4 +1,4 @@
-//! From a program to its code.
+//! Compiles a program.
 
 ghost use Rattle.std.specs.Prelude.{IfOk};
 ghost use Rattle.cilk_lower.specs.Behaves.{Behaves};
@@ -13,12 +13,12 @@ use crate::layout::lay_out;
 use cilk_program::program::Program;
 use std::alloc::{AllocError, Global};
 
-/// The code of a program: each of its frames asks what the program's frame asks, and has room for what its deepest expression
-/// needs. Beside it stand the program's opening values, its global reducers, and the cells and reducers of each frame.
+/// Compiles a program. Each frame of the code makes the requests of the program's frame, and has
+/// room for exactly as many operands as its body needs.
 ///
-/// The main function stands once, behind the instructions with which the global reducers begin: the root's frame begins ahead
-/// of them, and a frame that another function calls begins behind them. The only error is a want of memory. The time is
-/// linear in the program.
+/// The main function is emitted once, after the instructions that create the global reducers. The
+/// root's frame begins before those instructions, and a frame of main that another function calls
+/// begins after them. The only error is out of memory. The time is linear in the program.
 pub fn lower(alloc: Global, program: &Program) -> Result<Code, AllocError>
     ensures asks { IfOk result (λ code. Behaves (source program.now) code) }
     ensures rooms { IfOk result (λ code. RoomsFit (source program.now) code) }

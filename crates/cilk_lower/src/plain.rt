@@ -1,4 +1,4 @@
-//! Whether a program has neither a reducer nor a `print`.
+//! Recognizes programs without a reducer and without a `print`.
 
 ghost use Rattle.std.specs.Prelude.{◌≡◌, map};
 ghost use Rattle.std.specs.List.{list_all};
@@ -9,7 +9,8 @@ ghost use Rattle.cilk_program.specs.Sources.{source};
 use cilk_program::program::{Function, Loop, Program};
 use cilk_program::syntax::Stmt;
 
-/// Whether it has neither a reducer nor a `print`. The time is linear in the program.
+/// Returns whether a program has neither a reducer nor a `print`. The time is linear in the
+/// program.
 pub fn is_plain(program: &Program) -> bool
     ensures { result ≡ is_plain (source program.now) }
 {

@@ -1,6 +1,7 @@
-//! Instructions that are put behind the code so far.
+//! Appends instructions to the code.
 //!
-//! A jump forward is written with 0 first, and again once all that it passes stands behind it.
+//! A forward jump is first written with distance 0, and patched when the instructions that it skips
+//! have been appended.
 
 ghost use Rattle.std.specs.Prelude.{◌≡◌, ◌+◌, ◌-◌, ◌<◌, pos, [], ◌∷◌, ◌++◌, length, IfOk, IfSome, OnOk, slice_set};
 ghost use Rattle.cilk_lower.specs.declared.code.Instr.{Instr};
@@ -12,14 +13,14 @@ use cilk_monoid::kind::MonoidKind;
 use cilk_program::syntax::{Reducer, ReducerPlace};
 use std::alloc::AllocError;
 
-/// A statement's tick.
+/// Appends a statement's tick.
 pub fn begin(code: &mut Vec<Instr>) -> Result<(), AllocError>
     ensures { OnOk result (code.new.items ≡ code.old.items ++ Instr.Tick ∷ []) }
 {
     put(code, Instr::Tick)
 }
 
-/// A reducer begins with its monoid's unit.
+/// Appends the creation of a reducer.
 pub fn put_create(
     code: &mut Vec<Instr>,
     place: ReducerPlace,
@@ -30,7 +31,7 @@ pub fn put_create(
     put(code, Instr::Create(Reducer { place, kind }))
 }
 
-/// What a frame ends with.
+/// Appends the end of a frame: it waits for its children, gives its result and ends.
 pub fn put_ends(code: &mut Vec<Instr>) -> Result<(), AllocError>
     ensures { OnOk result (code.new.items ≡ code.old.items ++ ends) }
 {
@@ -39,7 +40,8 @@ pub fn put_ends(code: &mut Vec<Instr>) -> Result<(), AllocError>
     put(code, Instr::End)
 }
 
-/// What a frame with several turns does: it spawns the first half and calls the second.
+/// Appends the code of a frame with several turns, which spawns the first half and calls the
+/// second.
 pub fn put_halves(code: &mut Vec<Instr>) -> Result<(), AllocError>
     ensures { OnOk result (code.new.items ≡ code.old.items ++ halves_code) }
 {
@@ -50,7 +52,8 @@ pub fn put_halves(code: &mut Vec<Instr>) -> Result<(), AllocError>
     put_ends(code)
 }
 
-/// Behind the right side of `&&`: its truth, or 0 where the left side was 0.
+/// Appends the end of `&&` after its right side: the truth of that side, or 0 if the left side was
+/// 0.
 #[tactic(auto, using(crate::proofs::Patch::and_ends))]
 pub fn end_and(code: &mut Vec<Instr>, skip: usize) -> Result<(), AllocError>
     requires { skip < length code.old.items }
@@ -62,7 +65,8 @@ pub fn end_and(code: &mut Vec<Instr>, skip: usize) -> Result<(), AllocError>
     put(code, Instr::Push(0))
 }
 
-/// Between the sides of `||`: 1 where the left side wasn't 0, and then a jump behind the right side, whose place is the result.
+/// Appends the middle of `||`: 1 if the left side wasn't 0, and then a jump over the right side.
+/// Returns the place of that jump.
 pub fn begin_or(code: &mut Vec<Instr>) -> Result<usize, AllocError>
     ensures code { OnOk result (code.new.items ≡ code.old.items ++ (Instr.JumpIfZero 2 ∷ (Instr.Push (pos 1) ∷ (Instr.Jump 0 ∷ [])))) }
     ensures place { IfOk result (λ n. n ≡ length code.old.items + 2) }
@@ -72,7 +76,7 @@ pub fn begin_or(code: &mut Vec<Instr>) -> Result<usize, AllocError>
     put_jump(code, Instr::Jump(0))
 }
 
-/// Behind the right side of `||`: its truth.
+/// Appends the end of `||` after its right side: the truth of that side.
 #[tactic(auto, using(crate::proofs::Patch::or_ends))]
 pub fn end_or(code: &mut Vec<Instr>, jump: usize) -> Result<(), AllocError>
     requires { jump < length code.old.items }
@@ -83,7 +87,8 @@ pub fn end_or(code: &mut Vec<Instr>, jump: usize) -> Result<(), AllocError>
     Ok(())
 }
 
-/// Between the branches of a choice: a jump behind the second, whose place is the result. The test at `skip` passes it too.
+/// Appends a jump over the second branch of a choice, and returns its place. Patches the test at
+/// `skip`, which jumps to the second branch.
 pub fn begin_else(code: &mut Vec<Instr>, skip: usize) -> Result<usize, AllocError>
     requires { skip < length code.old.items }
     ensures code { OnOk result (code.new.items ≡ slice_set (code.old.items ++ Instr.Jump 0 ∷ []) skip (Instr.JumpIfZero (length code.old.items - skip))) }
@@ -94,7 +99,8 @@ pub fn begin_else(code: &mut Vec<Instr>, skip: usize) -> Result<usize, AllocErro
     Ok(jump)
 }
 
-/// Behind a turn: back to its start. Where the turns have a condition, its test passes all of them.
+/// Appends the jump from the end of a turn back to its start. Patches the test at `exit`, if there
+/// is one, which leaves the loop.
 pub fn end_turn(code: &mut Vec<Instr>, start: usize, exit: Option<usize>) -> Result<(), AllocError>
     requires start { start < length code.old.items }
     requires exit { IfSome exit (λ n. n < length code.old.items) }
@@ -107,7 +113,7 @@ pub fn end_turn(code: &mut Vec<Instr>, start: usize, exit: Option<usize>) -> Res
     Ok(())
 }
 
-/// A jump back to a place.
+/// Appends a jump back to a place.
 fn go_back(code: &mut Vec<Instr>, start: usize) -> Result<(), AllocError>
     requires { start < length code.old.items }
     ensures { OnOk result (code.new.items ≡ code.old.items ++ Instr.JumpBack (length code.old.items - start) ∷ []) }
@@ -116,7 +122,7 @@ fn go_back(code: &mut Vec<Instr>, start: usize) -> Result<(), AllocError>
     put(code, Instr::JumpBack(end - start))
 }
 
-/// The test at the place passes all that stands behind it.
+/// Patches the test at a place, which then skips all instructions after it.
 pub fn pass_if_zero(code: &mut Vec<Instr>, place: usize)
     requires { place < length code.old.items }
     ensures { code.new.items ≡ slice_set code.old.items place (Instr.JumpIfZero (length code.old.items - place - 1)) }
@@ -124,7 +130,7 @@ pub fn pass_if_zero(code: &mut Vec<Instr>, place: usize)
     code[place] = Instr::JumpIfZero(code.len() - place - 1);
 }
 
-/// The test for one turn at the place passes all that stands behind it.
+/// Patches the test for one turn at a place, which then skips all instructions after it.
 pub fn pass_unless_one(code: &mut Vec<Instr>, place: usize)
     requires { place < length code.old.items }
     ensures { code.new.items ≡ slice_set code.old.items place (Instr.SkipUnlessOne (length code.old.items - place - 1)) }
@@ -132,7 +138,7 @@ pub fn pass_unless_one(code: &mut Vec<Instr>, place: usize)
     code[place] = Instr::SkipUnlessOne(code.len() - place - 1);
 }
 
-/// The jump at the place passes all that stands behind it.
+/// Patches the jump at a place, which then skips all instructions after it.
 pub fn pass(code: &mut Vec<Instr>, place: usize)
     requires { place < length code.old.items }
     ensures { code.new.items ≡ slice_set code.old.items place (Instr.Jump (length code.old.items - place - 1)) }
@@ -140,7 +146,7 @@ pub fn pass(code: &mut Vec<Instr>, place: usize)
     code[place] = Instr::Jump(code.len() - place - 1);
 }
 
-/// One more instruction, and its place.
+/// Appends an instruction, and returns its place.
 pub fn put_jump(code: &mut Vec<Instr>, instr: Instr) -> Result<usize, AllocError>
     ensures code { OnOk result (code.new.items ≡ code.old.items ++ instr ∷ []) }
     ensures place { IfOk result (λ n. n ≡ length code.old.items) }
@@ -150,7 +156,7 @@ pub fn put_jump(code: &mut Vec<Instr>, instr: Instr) -> Result<usize, AllocError
     Ok(place)
 }
 
-/// One more instruction, which brings an operand.
+/// Appends an instruction that pushes one operand, and returns 1.
 pub fn put_operand(code: &mut Vec<Instr>, instr: Instr) -> Result<usize, AllocError>
     ensures code { OnOk result (code.new.items ≡ code.old.items ++ instr ∷ []) }
     ensures depth { IfOk result (λ d. d ≡ 1) }
@@ -159,7 +165,7 @@ pub fn put_operand(code: &mut Vec<Instr>, instr: Instr) -> Result<usize, AllocEr
     Ok(1)
 }
 
-/// One more instruction.
+/// Appends an instruction.
 pub fn put(code: &mut Vec<Instr>, instr: Instr) -> Result<(), AllocError>
     ensures { OnOk result (code.new.items ≡ code.old.items ++ instr ∷ []) }
 {

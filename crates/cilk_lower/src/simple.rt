@@ -1,4 +1,4 @@
-//! The instructions of the statements that hold no other statement.
+//! Emits the statements that contain no other statement.
 
 ghost use Rattle.std.specs.Prelude.{◌≡◌, ◌+◌, max, [], ◌∷◌, ◌++◌, length, IfOk, OnOk};
 ghost use Rattle.cilk_lower.specs.declared.code.Instr.{Instr};
@@ -14,7 +14,7 @@ use cilk_program::syntax::{Expr, Target};
 use cilk_types::compound::Compound;
 use std::alloc::AllocError;
 
-/// A statement's tick, then its expression, and then the instruction that takes the value.
+/// Emits a statement's tick, its expression, and the instruction that takes the value.
 pub fn emit_last(
     code: &mut Vec<Instr>,
     room: &mut usize,
@@ -28,7 +28,8 @@ pub fn emit_last(
     put(code, last)
 }
 
-/// A statement's tick, then a test, and then a jump that doesn't yet say what it passes, whose place is the result.
+/// Emits a statement's tick, a test and a conditional jump, and returns the jump's place. The
+/// jump's distance is set later.
 pub fn emit_choice(
     code: &mut Vec<Instr>,
     room: &mut usize,
@@ -42,8 +43,8 @@ pub fn emit_choice(
     put_jump(code, Instr::JumpIfZero(0))
 }
 
-/// The condition of the turns of a `for`, where it has one, and then a jump that doesn't yet say what it passes, whose place
-/// is the result.
+/// Emits the condition of a `for`, if there is one, with a conditional jump, and returns the jump's
+/// place. The jump's distance is set later.
 pub fn emit_test(
     code: &mut Vec<Instr>,
     room: &mut usize,
@@ -63,7 +64,7 @@ pub fn emit_test(
     }
 }
 
-/// A `sync`.
+/// Emits a `sync`.
 pub fn emit_sync(code: &mut Vec<Instr>) -> Result<(), AllocError>
     ensures { OnOk result (code.new.items ≡ code.old.items ++ (Instr.Tick ∷ (Instr.Sync ∷ []))) }
 {
@@ -71,7 +72,7 @@ pub fn emit_sync(code: &mut Vec<Instr>) -> Result<(), AllocError>
     put(code, Instr::Sync)
 }
 
-/// A new value for a target.
+/// Emits an assignment.
 #[tactic(auto, using(crate::proofs::Lists::assigned))]
 pub fn emit_assign(
     code: &mut Vec<Instr>,
@@ -88,7 +89,7 @@ pub fn emit_assign(
     put(code, store_to(to))
 }
 
-/// A target's old value, combined with another one.
+/// Emits a compound assignment.
 #[tactic(auto, using(crate::proofs::Lists::changed))]
 pub fn emit_change(
     code: &mut Vec<Instr>,
@@ -108,7 +109,7 @@ pub fn emit_change(
     put(code, store_to(to))
 }
 
-/// A target's old value, and a number more.
+/// Emits the addition of a number to a target.
 pub fn emit_step(
     code: &mut Vec<Instr>,
     room: &mut usize,
@@ -126,7 +127,7 @@ pub fn emit_step(
     put(code, store_to(to))
 }
 
-/// The two bounds of a parallel loop, and then the frame of all its turns.
+/// Emits a parallel loop: its two bounds, and the call of the frame of all its turns.
 #[tactic(auto, using(crate::proofs::Lists::called))]
 pub fn emit_parallel(
     code: &mut Vec<Instr>,
@@ -144,7 +145,7 @@ pub fn emit_parallel(
     put(code, Instr::Resume)
 }
 
-/// A `return`. Its value, where it has one, is held until the frame's children have ended.
+/// Emits a `return`. Its value, if any, is kept until the frame's children have ended.
 #[tactic(auto, using(crate::proofs::Lists::returned_value))]
 pub fn emit_return(
     code: &mut Vec<Instr>,
@@ -167,7 +168,7 @@ pub fn emit_return(
     }
 }
 
-// A target's index, where it has one, and how many operands that leaves on the stack.
+// Emits a target's index, if there is one, and returns how many operands that puts on the stack.
 fn emit_index(code: &mut Vec<Instr>, room: &mut usize, to: &Target) -> Result<usize, AllocError>
     ensures code { OnOk result (code.new.items ≡ code.old.items ++ index_code (target to.now)) }
     ensures room { OnOk result (room.new ≡ max room.old (index_depth (target to.now))) }
@@ -182,7 +183,7 @@ fn emit_index(code: &mut Vec<Instr>, room: &mut usize, to: &Target) -> Result<us
     }
 }
 
-// The instruction that brings a target's old value.
+// The instruction that loads a target's old value.
 fn fetch_from(to: &Target) -> Instr
     ensures { result ≡ fetch (target to.now) }
 {
@@ -192,7 +193,7 @@ fn fetch_from(to: &Target) -> Instr
     }
 }
 
-// The instruction that takes a target's new value.
+// The instruction that stores a target's new value.
 fn store_to(to: &Target) -> Instr
     ensures { result ≡ store (target to.now) }
 {

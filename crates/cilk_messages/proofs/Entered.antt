@@ -1,4 +1,4 @@
--- From clap's matches to what is asked for.
+-- From clap's matches to orders.
 use Rattle.std.proofs.Common.{◌≡◌, ℕ, List, [], ◌∷◌, Option, Some, None, option_map, option_and_then, refl, sym, ap, ap₂, ◌∙◌, subst, codes, true, false, length, inl, inr, arith, rules}
 use Rattle.std.specs.Prelude.{if◌then◌else◌, ◌||◌, Result, Ok, Err, IfOk}
 use Rattle.std.specs.Borrow.{Bor}
@@ -37,12 +37,12 @@ some_paths f o i p h e k =
     ap (option_map (λ (program : Text). (program, first_of (codes "input") (rows_of f)))) some
     ∙ ap (λ (x : Option Text). Some (p.now, x)) input
 
--- what is asked for by the paths that were found
+-- the order of the paths that were found
 pub asked_by : (order : Text × Option Text → Requested) (rows : List Row) (o o' : Option (Bor Text × Option (Bor Text)))
     → option_map paths_view o ≡ paths_in rows → o ≡ o' → option_map order (option_map paths_view o') ≡ option_map order (paths_in rows)
 asked_by order rows o o' h e = ap (option_map order) (ap (option_map paths_view) (sym e) ∙ h)
 
--- what is asked of the certificate of these paths
+-- the order with a certificate and these paths
 abbrev pub asked_of : List Row → Option Text → Option Requested
 asked_of rows path = option_and_then (λ certificate. option_map (λ paths. Check paths.0 certificate paths.1) (paths_in rows)) path
 
@@ -71,7 +71,7 @@ pub some_script : (f : Found) (o : Option (Bor Text)) (s : Bor Text) → option_
 some_script f o s h e =
     ap (option_and_then (script_with (rows_of f))) (sym (first_value-rows f (codes "script")) ∙ sym h ∙ ap (option_map (λ (s : Bor Text). s.now)) e)
 
--- what is asked of a script, of these paths, with this many workers
+-- the order with a script, these paths and this many workers
 abbrev pub played_by : Text → Option ℕ → Text × Option Text → Option Requested
 played_by script workers paths = option_map (λ count. Play paths.0 script count paths.1) workers
 
@@ -81,7 +81,7 @@ pub no_script_paths : (rows : List Row) (script : Text) (o : Option (Bor Text ×
 no_script_paths rows script o h e =
     ap (option_and_then (played_by script (workers_in (first_of (codes "workers") rows)))) (sym h ∙ ap (option_map paths_view) e)
 
--- a script with a program, and with so many workers
+-- a script with a program and a number of workers
 pub some_script_paths : (f : Found) (script : Text) (o : Option (Bor Text × Option (Bor Text))) (p : Bor Text × Option (Bor Text)) (word : Option (Bor Text))
     (workers workers' : Option ℕ) → option_map paths_view o ≡ paths_in (rows_of f) → o ≡ Some p
     → option_map (λ s. s.now) word ≡ first_value f (codes "workers") → workers ≡ workers_in (option_map (λ s. s.now) word) → workers ≡ workers'
@@ -148,6 +148,6 @@ order_of_refused c (w ∷ words) e shape some kinds (Usage text) r =
 pub order_found : (o : Option Order) (p : Order) (words : List Text) → order_in words ≡ option_map order_view o → o ≡ Some p → order_in words ≡ Some (order_view p)
 order_found o p words h e = h ∙ ap (option_map order_view) e
 
--- nothing is asked for
+-- there is no order
 pub order_lost : (o : Option Order) (words : List Text) → order_in words ≡ option_map order_view o → o ≡ None → order_in words ≡ None
 order_lost o words h e = h ∙ ap (option_map order_view) e

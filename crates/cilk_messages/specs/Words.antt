@@ -1,4 +1,4 @@
--- What the words of a command line ask for, by clap's own account of how a simple command matches words.
+-- The orders that command lines give, by clap's own model of how a simple command matches words.
 use Rattle.std.specs.Prelude.{◌≡◌, ◌≢◌, ◌∷◌, [], ℕ, nat_le, ◌&&◌, List, Option, Some, None, map, codes, true, false, if◌then◌else◌, option_map, option_and_then}
 use Rattle.std.specs.Str.{bytes_eq}
 use Rattle.std.specs.Borrow.{Bor}
@@ -23,17 +23,17 @@ use Rattle.cilk_messages.specs.declared.words.WordsFault.TheVariants.{Usage, Mem
 abbrev pub texts : List (Bor Text) → List Text
 texts words = map (λ w. w.now) words
 
--- where a program text comes from
+-- the origin of a program text
 pub data Origin : Type 0 where
   Standard : Origin
   File : (path : Text) → Origin
 
--- what is asked for; a command without an input file has the empty input
+-- an order; without an input file the input is empty
 pub data Requested : Type 0 where
   Run : (program : Origin) (input : Option Text) → Requested
   Certify : (program : Text) (input : Option Text) → Requested
   Check : (program certificate : Text) (input : Option Text) → Requested
-  -- with so many workers
+  -- with this many workers
   Play : (program script : Text) (workers : ℕ) (input : Option Text) → Requested
 
 abbrev pub origin_view : code.Origin → Origin
@@ -79,7 +79,7 @@ script_app = with_rule (with_rule (new_app (codes "play")) program_rule) script_
 abbrev pub play_app : App
 play_app = with_rule (with_rule script_app workers_rule) input_rule
 
--- a program of commands, none of which it has yet
+-- the program without commands
 abbrev pub empty_app : App
 empty_app = on_top (λ s. record s { no_binary_name = true; subcommand_required = true }) (new_app (codes "cilk"))
 
@@ -97,41 +97,41 @@ HasShape c a = (app_of c ≡ a) × ((out-Command c).has_globals ≡ false)
 abbrev pub paths_view : Bor Text × Option (Bor Text) → Text × Option Text
 paths_view paths = (paths.0.now, option_map (λ path. path.now) paths.1)
 
--- the paths of the program and of the input that these matches name
+-- the paths of the program and of the input in these matches
 abbrev pub paths_in : List Row → Option (Text × Option Text)
 paths_in rows = option_map (λ program. (program, first_of (codes "input") rows)) (first_of (codes "program") rows)
 
--- `run` with these matches
+-- the order of `run` with these matches
 abbrev pub run_with : List Row → Option Requested
 run_with rows = option_map (λ paths. Run (File paths.0) paths.1) (paths_in rows)
 
--- `certify` with these matches
+-- the order of `certify` with these matches
 abbrev pub certify_with : List Row → Option Requested
 certify_with rows = option_map (λ paths. Certify paths.0 paths.1) (paths_in rows)
 
--- `check` with these matches
+-- the order of `check` with these matches
 abbrev pub check_with : List Row → Option Requested
 check_with rows =
     option_and_then (λ certificate. option_map (λ paths. Check paths.0 certificate paths.1) (paths_in rows))
     (first_of (codes "certificate") rows)
 
--- how many workers a word names: plain digits, from 1 to 64
+-- the number of workers that digits name, from 1 to 64
 abbrev pub worker_count : Text → Option ℕ
 worker_count digits =
     if all_digits digits && (nat_le 1 (value_of digits) && nat_le (value_of digits) MAX_WORKERS) then Some (value_of digits) else None
 
--- where no word names them, there are two
+-- the number of workers; two if no word names it
 abbrev pub workers_in : Option Text → Option ℕ
 workers_in None = Some WORKERS
 workers_in (Some digits) = worker_count digits
 
--- `play` of a script with these matches
+-- the order of `play` with this script and these matches
 abbrev pub script_with : List Row → Text → Option Requested
 script_with rows script =
     option_and_then (λ paths. option_map (λ workers. Play paths.0 script workers paths.1) (workers_in (first_of (codes "workers") rows)))
     (paths_in rows)
 
--- `play` with these matches
+-- the order of `play` with these matches
 abbrev pub play_with : List Row → Option Requested
 play_with rows = option_and_then (script_with rows) (first_of (codes "script") rows)
 
@@ -142,11 +142,12 @@ named p =
     else (if bytes_eq p.0 (codes "check") then check_with p.1
     else (if bytes_eq p.0 (codes "play") then play_with p.1 else None)))
 
--- what the subcommand with its matches asks for
+-- the order of a subcommand with its matches
 abbrev pub order_by : Option (Text × List Row) → Option Requested
 order_by entered = option_and_then named entered
 
--- what the words after the program's own name ask for: nothing where clap finds a fault in them, or help is asked for
+-- the order of the words after the program's own name; none if clap finds a fault in them or shows
+-- help
 unfoldable pub order_in : List Text → Option Requested
 order_in [] = Some (Run Standard None)
 order_in (w ∷ words) = if is_empty (fault_of cilk_app (w ∷ words)) then order_by (subcommand_of cilk_app (w ∷ words)) else None
@@ -156,7 +157,7 @@ abbrev pub IsRefusal : ErrorKind → WordsFault → Type 0
 IsRefusal k (Usage text) = k ≢ OutOfMemory
 IsRefusal k Memory = Unit {0}
 
--- the words ask for nothing, or memory ran out
+-- the words are no order, or memory ran out
 abbrev pub IsWordsFault : List Text → WordsFault → Type 0
 IsWordsFault words (Usage text) = order_in words ≡ None
 IsWordsFault words Memory = Unit {0}

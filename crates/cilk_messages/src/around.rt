@@ -1,8 +1,8 @@
-//! The words of a text round a place.
+//! The words of a text around a place.
 
 use crate::place::between;
 
-// Whether a byte may stand in a name or number.
+// Whether a byte can be in a name or a number.
 fn is_word(byte: u8) -> bool {
     byte.is_ascii_alphanumeric() || byte == b'_'
 }
@@ -11,7 +11,7 @@ fn is_blank(byte: u8) -> bool {
     byte == b' ' || (byte >= b'\t' && byte <= b'\r')
 }
 
-/// The byte at a place; 0 where there is none.
+/// Returns the byte at a place, 0 after the end.
 pub fn byte_at(text: &[u8], at: usize) -> u8 {
     match text.get(at) {
         Some(byte) => *byte,
@@ -19,7 +19,7 @@ pub fn byte_at(text: &[u8], at: usize) -> u8 {
     }
 }
 
-/// The word that begins at a place: a name or number, or a single mark.
+/// Returns the word that begins at a place: a name, a number, or a single mark.
 pub fn word_at(text: &[u8], at: usize) -> &[u8] {
     if !is_word(byte_at(text, at)) {
         return between(text, at, at.saturating_add(1));
@@ -34,7 +34,7 @@ pub fn word_at(text: &[u8], at: usize) -> &[u8] {
     between(text, at, upto)
 }
 
-/// Where the word before a place begins, if there is one.
+/// Returns where the word before a place begins, if there is one.
 pub fn before(text: &[u8], at: usize) -> Option<usize> {
     let mut first = None;
     for back in 0..at {
@@ -51,7 +51,7 @@ pub fn before(text: &[u8], at: usize) -> Option<usize> {
     first
 }
 
-/// The word before a place; empty where there is none.
+/// Returns the word before a place, empty if there is none.
 pub fn word_before(text: &[u8], at: usize) -> &[u8] {
     match before(text, at) {
         Some(place) => word_at(text, place),
@@ -59,7 +59,7 @@ pub fn word_before(text: &[u8], at: usize) -> &[u8] {
     }
 }
 
-/// Where the first word from a place on begins, or the text ends.
+/// Returns where the first word from a place on begins, or the end of the text.
 pub fn word_after(text: &[u8], at: usize) -> usize {
     for place in at..text.len() {
         if !is_blank(text[place]) {
@@ -69,7 +69,7 @@ pub fn word_after(text: &[u8], at: usize) -> usize {
     text.len()
 }
 
-/// Whether a word is a number.
+/// Returns whether a word is a number.
 pub fn is_number(word: &[u8]) -> bool {
     match word.first() {
         Some(byte) => byte.is_ascii_digit(),
@@ -77,7 +77,7 @@ pub fn is_number(word: &[u8]) -> bool {
     }
 }
 
-/// Whether a word is a name.
+/// Returns whether a word is a name.
 pub fn is_name(word: &[u8]) -> bool {
     match word.first() {
         Some(byte) => byte.is_ascii_alphabetic() || *byte == b'_',

@@ -1,4 +1,4 @@
-//! Why a place is refused, with the name or token that stands there.
+//! The reason for a refusal, with the name or token at the place.
 
 use crate::around::word_at;
 use crate::misuses::{is_argument, is_in_cilk_for, wants_reducer};
@@ -8,8 +8,10 @@ use crate::tokens::{Declared, Main, Tokens};
 use cilk_syntax::token::Kind;
 use std::alloc::{AllocError, Global};
 
-/// What stands at the place of a fault, and what was wanted there: a line without its end, and nothing where the number says
-/// it all. `wanted` are the words for what the grammar has there.
+/// Describes the token at the place of a fault, and what was expected there.
+///
+/// The result is a line without its end, empty if the number says it all. `wanted` describes what
+/// the grammar expects there.
 pub fn at_hand(
     alloc: Global,
     tokens: &Tokens<'_>,
@@ -54,7 +56,7 @@ fn unexpected(alloc: Global, name: &str, wanted: &str) -> Result<String, AllocEr
     Ok(text)
 }
 
-// Where else the name is declared.
+// The place of the name's other declaration.
 fn declared_twice(
     alloc: Global,
     tokens: &Tokens<'_>,
@@ -70,7 +72,7 @@ fn declared_twice(
     }
 }
 
-// How many arguments a function takes, and how many it is given.
+// How many parameters a function has, and how many arguments it is given.
 fn miscounted(
     alloc: Global,
     tokens: &Tokens<'_>,
@@ -94,7 +96,7 @@ fn miscounted(
     }
 }
 
-// What the name is, and what is done with it.
+// The kind of the name, and its wrong use.
 fn mistaken(
     alloc: Global,
     tokens: &Tokens<'_>,
@@ -117,7 +119,7 @@ fn mistaken(
     format!(in alloc; "`{name}` {wrong}")
 }
 
-// Another name than that of a loop's variable in its head.
+// A name in a loop's head that isn't the loop's variable.
 fn in_head(
     alloc: Global,
     tokens: &Tokens<'_>,
@@ -133,7 +135,7 @@ fn in_head(
     format!(in alloc; "found `{name}`, where `{variable}`, this `cilk_for`'s variable, is wanted")
 }
 
-// What is wrong with the use of a name that is declared as this.
+// The mistake in using a name that is declared as this.
 fn misused(tokens: &Tokens<'_>, token: usize, declared: Declared) -> &'static str {
     match (declared, tokens.kind_behind(token)) {
         (Declared::Reducer, Some(Kind::Open)) => "is a reducer, and can't be called",
@@ -157,7 +159,7 @@ fn misused(tokens: &Tokens<'_>, token: usize, declared: Declared) -> &'static st
     }
 }
 
-// Why no `main` is the right one.
+// Why the text has no right `main`.
 fn without_main(alloc: Global, tokens: &Tokens<'_>) -> Result<String, AllocError> {
     let why = match tokens.main() {
         Main::Void => "`main` is a `void` function, and an `int` one is wanted",

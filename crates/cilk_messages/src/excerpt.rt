@@ -1,13 +1,13 @@
-//! The line that a fault stands in, with a mark below its place.
+//! The line of a fault, with a mark below its place.
 
 use crate::place::{between, line_at};
 use std::alloc::{AllocError, Global};
 use unicode_width::UnicodeWidthChar;
 
-/// The most bytes of a line that are shown ahead of a place, and from it on.
+/// The most bytes of a line that are shown before a place, and from it on.
 const SHOWN: usize = 120;
 
-/// Shows the line that a byte stands in, and a mark below that byte. A long line is cut.
+/// Appends the line of a byte, and a mark below that byte. A long line is cut.
 pub fn push_excerpt(
     alloc: Global,
     report: &mut String,
@@ -28,7 +28,7 @@ pub fn push_excerpt(
     report.push_str("^\n")
 }
 
-// As many columns of blanks as a text takes; a tab stays one.
+// Blanks as wide as a text. A tab remains a tab.
 fn push_blanks(report: &mut String, ahead: &str) -> Result<(), AllocError> {
     for symbol in ahead.chars() {
         if symbol == '\t' {
@@ -47,7 +47,7 @@ fn push_spaces(report: &mut String, count: usize) -> Result<(), AllocError> {
     Ok(())
 }
 
-// Where the shown part of a line begins: at its first byte, or where a character begins within reach.
+// Where the shown part of a line begins: at its first byte, or at a character near enough.
 fn cut_before(text: &[u8], first: usize, at: usize) -> usize {
     if at.saturating_sub(first) <= SHOWN {
         return first;
@@ -60,7 +60,7 @@ fn cut_before(text: &[u8], first: usize, at: usize) -> usize {
     at
 }
 
-// Where it ends: at the line's end, or where a character begins past the reach.
+// Where the shown part ends: at the line's end, or at the first character too far away.
 fn cut_behind(text: &[u8], at: usize, end: usize) -> usize {
     for place in at.saturating_add(SHOWN)..end {
         if begins_character(text, place) {

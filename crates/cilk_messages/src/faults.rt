@@ -1,8 +1,8 @@
-//! The faults of a program, of an input and of a run.
+//! The numbers for faults of a program, an input and a run.
 
 use crate::reasons::{Example, Reason};
 
-/// What the tokens of a program text can have.
+/// Faults of the tokens of a program text.
 pub fn text_token(number: u16) -> Option<Reason> {
     let reason = match number {
         101 => Reason {
@@ -37,7 +37,7 @@ pub fn text_token(number: u16) -> Option<Reason> {
     Some(reason)
 }
 
-/// What the sizes of a program text can have.
+/// Program texts past a limit.
 pub fn text_limit(number: u16) -> Option<Reason> {
     let reason = match number {
         104 => Reason {
@@ -72,7 +72,7 @@ pub fn text_limit(number: u16) -> Option<Reason> {
     Some(reason)
 }
 
-/// What names can have that are declared and used.
+/// Faults of declared and used names.
 pub fn name_known(number: u16) -> Option<Reason> {
     let reason = match number {
         111 => Reason {
@@ -107,7 +107,7 @@ pub fn name_known(number: u16) -> Option<Reason> {
     Some(reason)
 }
 
-/// What names can have by their kinds.
+/// Names of the wrong kind.
 pub fn name_kind(number: u16) -> Option<Reason> {
     let reason = match number {
         114 => Reason {
@@ -133,7 +133,7 @@ pub fn name_kind(number: u16) -> Option<Reason> {
     Some(reason)
 }
 
-/// What the rules of loops, reducers and limits forbid.
+/// Violations of the rules of loops, reducers and limits.
 pub fn loop_rule(number: u16) -> Option<Reason> {
     let reason = match number {
         116 => Reason {
@@ -179,7 +179,7 @@ pub fn loop_rule(number: u16) -> Option<Reason> {
     Some(reason)
 }
 
-/// What an input text can have.
+/// Faults of an input text.
 pub fn input_text(number: u16) -> Option<Reason> {
     let reason = match number {
         121 => Reason {
@@ -205,7 +205,7 @@ pub fn input_text(number: u16) -> Option<Reason> {
     Some(reason)
 }
 
-/// Why an operation stops a run.
+/// Operations that stop a run.
 pub fn run_operation(number: u16) -> Option<Reason> {
     let reason = match number {
         201 => Reason {
@@ -240,7 +240,7 @@ pub fn run_operation(number: u16) -> Option<Reason> {
     Some(reason)
 }
 
-/// Which limit stops a run.
+/// Limits that stop a run.
 pub fn run_limit(number: u16) -> Option<Reason> {
     let reason = match number {
         204 => Reason {

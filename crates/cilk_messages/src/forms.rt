@@ -1,4 +1,4 @@
-//! What to write in place of a token that no text of the language has where it stands.
+//! Hints for a token that the grammar doesn't allow at its place.
 
 use crate::hints::Hint;
 use crate::report::Wanted;
@@ -15,7 +15,7 @@ use crate::uses::of_use;
 use crate::vocabulary::{cast_to, is_type_word, number_named, other_word, word_of_c};
 use cilk_syntax::token::Kind;
 
-/// What to write in place of a token that is refused.
+/// Returns what to write in place of a refused token.
 pub fn no_form<'a>(tokens: &Tokens<'a>, number: usize, wanted: &Wanted<'_>) -> Option<Hint<'a>> {
     let site = Site::new(tokens, number);
     if is_in_head_of_main(tokens, number) {
@@ -43,7 +43,7 @@ pub fn no_form<'a>(tokens: &Tokens<'a>, number: usize, wanted: &Wanted<'_>) -> O
     Some(Hint::Advice(cure))
 }
 
-// Where a reducer, a length or a first value is declared.
+// In the declaration of a reducer, a length or a first value.
 fn of_declaration(site: &Site<'_, '_>) -> Option<&'static str> {
     let Site {
         tokens,
@@ -66,7 +66,7 @@ fn of_declaration(site: &Site<'_, '_>) -> Option<&'static str> {
     None
 }
 
-// What a global can open with in place of a name or an expression.
+// A global's first value in place of a name or an expression.
 fn first_value(word: &[u8]) -> &'static str {
     match word {
         b"INT_MIN" | b"LONG_MIN" | b"LLONG_MIN" | b"INT64_MIN" =>
@@ -77,7 +77,8 @@ fn first_value(word: &[u8]) -> &'static str {
     }
 }
 
-// Words of C, as the token itself, ahead of it, or ahead of the parentheses that end or begin there.
+// Words of C: the token itself, the one before it, or the one before the parentheses that end or
+// begin there.
 fn of_words(site: &Site<'_, '_>) -> Option<&'static str> {
     let Site {
         tokens,
@@ -110,7 +111,7 @@ fn of_words(site: &Site<'_, '_>) -> Option<&'static str> {
     }
 }
 
-// A structure that is declared: an array for each member, but for the views of reducers.
+// The declaration of a structure: an array for each member, except for the views of reducers.
 fn of_structure(site: &Site<'_, '_>) -> Option<&'static str> {
     let is_one = match site.word {
         b"typedef" => site.behind() == b"struct".as_slice(),
@@ -123,7 +124,7 @@ fn of_structure(site: &Site<'_, '_>) -> Option<&'static str> {
     }
 }
 
-// Whether a reducer's type is declared at a token.
+// Whether a token declares a reducer's type.
 fn is_viewed(site: &Site<'_, '_>) -> bool {
     let Site { tokens, .. } = *site;
     for number in 1..tokens.count() {
@@ -139,7 +140,7 @@ fn is_viewed(site: &Site<'_, '_>) -> bool {
     false
 }
 
-// Whether the type that is declared at a token has this name, ahead of its members or behind them.
+// Whether the type declared at a token has this name, before its members or after them.
 fn declares_type(site: &Site<'_, '_>, name: &[u8]) -> bool {
     let Site { tokens, number, .. } = *site;
     let mut depth: usize = 0;
@@ -155,7 +156,7 @@ fn declares_type(site: &Site<'_, '_>, name: &[u8]) -> bool {
     false
 }
 
-// The `sizeof` that is ahead of a token, or of the parentheses that end or begin there.
+// The `sizeof` before a token, or before the parentheses that end or begin there.
 fn size_at(site: &Site<'_, '_>) -> Option<usize> {
     let Site { tokens, number, .. } = *site;
     let named = match closed_head(tokens, number) {
@@ -169,7 +170,7 @@ fn size_at(site: &Site<'_, '_>) -> Option<usize> {
     named.filter(|named| tokens.word(*named) == b"sizeof".as_slice())
 }
 
-// What stands for the size of an array, or of a type.
+// The advice for the size of an array or of a type.
 fn size_of(tokens: &Tokens<'_>, named: usize) -> &'static str {
     if is_type_word(tokens.word(named.saturating_add(2))) {
         BYTES

@@ -1,7 +1,11 @@
-//! What a fault means, in words for people: where it stands in a text, why it is one, and what to write in its place.
+//! The messages of the tool: explanations of faults and refusals, and the words of the command
+//! line.
 //!
-//! The lines that the tool writes by themselves name a fault by its number and a byte. This crate turns these into a line and a
-//! column, the line itself with a mark below the place, the reason, and a hint where a common cause is met:
+//! The tool's own lines name a fault by its number and a byte of the text. This crate turns them
+//! into a line and a column, the line of source with a mark below the place, the reason, and a hint
+//! if the mistake is a common one. Hints are found by looking at the tokens around the place. They
+//! know C, C++, Cilk Plus and OpenCilk, since most mistakes are constructs of those that this
+//! language lacks.
 //!
 //! ```text
 //! fib.c:9:12: error 103: no text of the language goes on like this
@@ -10,16 +14,24 @@
 //! hint: a call stands alone or as the whole right side of an assignment: `x = f(a);`
 //! ```
 //!
-//! Nothing here judges a text: the places come from whoever did.
+//! Nothing here judges a text: the parser or the checker has found the place.
 //!
-//! The words of a command line, and what they ask for: `run`, `certify`, `check` and `play`.
+//! | Call | Result |
+//! |---|---|
+//! | [`report::of_text`] | the message after the line of a fault in a text |
+//! | [`report::of_line`] | the message after a refusal of a certificate, or a fault of a run |
+//! | [`report::of_script`] | the message after a refused script |
+//! | [`report::of_number`], [`report::of_all`] | the text of `explain` |
+//! | [`reasons::reason_of`] | the meaning of a number, with an example and a cure |
+//! | [`words::read`] | the command line as an order: `run`, `certify`, `check` or `play` |
 //!
 //! ```text
 //! match read(alloc, &["run", "fib.c"])? {
 //!     Order::Run { program: Origin::File(path), input: None } => ..
 //! ```
 //!
-//! [`words::read`] reads them by `clap`; its contract says which words are which order, by clap's own account of a simple command.
+//! [`words::read`] uses `clap`. Its contract says which words are which order, in terms of clap's
+//! model of simple commands.
 #![tactic(auto)]
 
 mod around;

@@ -1,10 +1,10 @@
-//! What to write in place of bytes with which no token begins.
+//! Hints for bytes that begin no token.
 
 use crate::around::{before, byte_at, is_name, is_number, word_after, word_at, word_before};
 use crate::place::line_at;
 use crate::sentences::{BITS, FRACTIONS, INPUT, LIBRARY, PRINT, REDUCER, STRUCTURES, VIEW_MEMBERS};
 
-/// A byte over 127.
+/// Returns the advice for a byte above 127.
 pub fn odd_byte(text: &[u8], at: usize) -> &'static str {
     if at == 0 && text.starts_with(b"\xEF\xBB\xBF") {
         "the file begins with a byte order mark: save it without one"
@@ -13,7 +13,7 @@ pub fn odd_byte(text: &[u8], at: usize) -> &'static str {
     }
 }
 
-/// No token begins with this.
+/// Returns the advice for a word or mark that begins no token.
 pub fn no_token(text: &[u8], at: usize) -> Option<&'static str> {
     match word_at(text, at) {
         b"\"" => Some(no_string(text, at)),
@@ -37,7 +37,7 @@ const CHOICE: &str = "there is no `? :`: write `if` and `else`";
 
 const LINE_END: &str = "`print` ends each line itself: leave this away";
 
-// The word ahead of the parenthesis that is ahead of a place.
+// The word before the parenthesis before a place.
 fn called(text: &[u8], at: usize) -> &[u8] {
     match before(text, at) {
         Some(open) if byte_at(text, open) == b'(' => word_before(text, open),
@@ -45,7 +45,7 @@ fn called(text: &[u8], at: usize) -> &[u8] {
     }
 }
 
-// What stands for a string: what is read, or what is printed.
+// The advice for a string: a read or a print.
 fn no_string(text: &[u8], at: usize) -> &'static str {
     let is_line_end = text.get(at..).unwrap_or(&[]).starts_with(b"\"\\n\"");
     match called(text, at) {
@@ -55,7 +55,7 @@ fn no_string(text: &[u8], at: usize) -> &'static str {
     }
 }
 
-// What stands for a character: its number, but for a line's end that is printed.
+// The advice for a character: its number. A printed line end needs nothing.
 fn no_character(text: &[u8], at: usize) -> &'static str {
     let is_line_end = text.get(at..).unwrap_or(&[]).starts_with(b"'\\n'");
     match called(text, at) {
@@ -86,7 +86,7 @@ fn no_directive(text: &[u8], at: usize) -> &'static str {
 const DEFINITION: &str =
     "there is no preprocessor: a global `int n = 8;` can stand for `#define N 8`";
 
-// A colon: of a name of C++, of a `switch`, of a label, or of another loop's head.
+// A colon: in a name of C++, in a `switch`, after a label, or in the head of another loop.
 fn no_colon(text: &[u8], at: usize) -> &'static str {
     let ahead = word_before(text, at);
     let behind = at.saturating_add(1);
@@ -102,7 +102,7 @@ fn no_colon(text: &[u8], at: usize) -> &'static str {
     }
 }
 
-// What stands for a name of C++'s library.
+// The advice for a name of C++'s library.
 fn of_std(name: &[u8]) -> &'static str {
     match name {
         b"cout" | b"endl" => PRINT,
@@ -120,7 +120,7 @@ fn is_case(text: &[u8], at: usize) -> bool {
     is_default || word_before(text, ahead) == b"case".as_slice()
 }
 
-// Whether a colon ends a label: a name that begins its line, or stands behind a statement.
+// Whether a colon ends a label: a name that begins its line or follows a statement.
 fn is_label(text: &[u8], at: usize) -> bool {
     let Some(name) = before(text, at) else {
         return false;
@@ -137,7 +137,7 @@ fn is_label(text: &[u8], at: usize) -> bool {
     }
 }
 
-// A `&` behind an operand takes bits, and else an address.
+// A `&` after an operand is of bits; otherwise it takes an address.
 fn no_ampersand(text: &[u8], at: usize) -> &'static str {
     match word_before(text, at) {
         b")" | b"]" => BITS,
@@ -147,7 +147,7 @@ fn no_ampersand(text: &[u8], at: usize) -> &'static str {
     }
 }
 
-// A point: of a fraction, of a member of a reducer's view, or of another structure.
+// A point: in a fraction, before a member of a reducer's view, or of another structure.
 fn no_point(text: &[u8], at: usize) -> &'static str {
     let ahead = word_before(text, at);
     let is_digit = byte_at(text, at.saturating_add(1)).is_ascii_digit();
@@ -160,7 +160,7 @@ fn no_point(text: &[u8], at: usize) -> &'static str {
     }
 }
 
-// Whether a point stands behind the view of a reducer, as OpenCilk's first reducers have it.
+// Whether a point follows the view of a reducer, as in OpenCilk's first reducers.
 fn is_view(text: &[u8], at: usize) -> bool {
     let Some(front) = text.get(..at) else {
         return false;
@@ -188,7 +188,7 @@ fn is_reducer(text: &[u8], name: &[u8]) -> bool {
     false
 }
 
-// The word behind the first parenthesis that closes, where one does nearby.
+// The word after the first closing parenthesis, if there is one nearby.
 fn named_behind(text: &[u8]) -> &[u8] {
     for (place, byte) in text.iter().enumerate().take(128) {
         if *byte == b')' {
@@ -198,7 +198,7 @@ fn named_behind(text: &[u8]) -> &[u8] {
     &[]
 }
 
-// A number of C that is none here.
+// A number of C that isn't one here.
 fn no_number(word: &[u8]) -> &'static str {
     match word {
         [b'0', b'x' | b'X', ..] => "write the number with decimal digits",

@@ -1,4 +1,4 @@
-//! What to write in place of a name of another kind, of a declaration past a limit, and of a number that is too great.
+//! Hints for names of the wrong kind, declarations past a limit, and numbers that are too great.
 
 use crate::around::word_before;
 use crate::sentences::{ARRAY_PARAMETER, ARRAYS, HEAD, REDUCER_ARRAY};
@@ -6,7 +6,7 @@ use crate::sites::{head_kind, head_of};
 use crate::tokens::{Declared, Tokens};
 use cilk_syntax::token::Kind;
 
-/// A number that has no 64 bits with a sign.
+/// Returns the advice for a number that isn't a signed 64-bit one.
 pub fn too_great(text: &[u8], at: usize) -> &'static str {
     match word_before(text, at) {
         b"-" =>
@@ -16,7 +16,7 @@ pub fn too_great(text: &[u8], at: usize) -> &'static str {
     }
 }
 
-/// A name that stands for another kind of thing than its place wants.
+/// Returns the advice for a name of another kind than its place needs.
 pub fn wrong_kind(tokens: &Tokens<'_>, number: usize) -> Option<&'static str> {
     let behind = tokens.kind_behind(number);
     if let Some(Kind::Return) = tokens.kind(number) {
@@ -42,12 +42,12 @@ pub fn wrong_kind(tokens: &Tokens<'_>, number: usize) -> Option<&'static str> {
     }
 }
 
-/// Whether a token stands in the head of a `cilk_for`.
+/// Returns whether a token is in the head of a `cilk_for`.
 pub fn is_in_cilk_for(tokens: &Tokens<'_>, number: usize) -> bool {
     matches!(head_kind(tokens, number), Some(Kind::CilkFor))
 }
 
-/// Whether a token is the first word behind `update(`, `set(` or `value(`.
+/// Returns whether a token is the first word after `update(`, `set(` or `value(`.
 pub fn wants_reducer(tokens: &Tokens<'_>, number: usize) -> bool {
     matches!(
         tokens.kind_back(number, 2),
@@ -55,7 +55,7 @@ pub fn wants_reducer(tokens: &Tokens<'_>, number: usize) -> bool {
     )
 }
 
-/// Whether a token begins an argument of a function.
+/// Returns whether a token begins an argument of a function.
 pub fn is_argument(tokens: &Tokens<'_>, number: usize) -> bool {
     let begins = matches!(tokens.kind_back(number, 1), Some(Kind::Open | Kind::Comma));
     match head_of(tokens, number) {
@@ -67,7 +67,7 @@ pub fn is_argument(tokens: &Tokens<'_>, number: usize) -> bool {
 const REDUCER_ARGUMENT: &str =
     "an argument for a reducer is the bare name of a reducer of the same monoid";
 
-// A reducer as a variable, an array, a function or an argument.
+// A reducer used as a variable, an array, a function or an argument.
 fn of_reducer(behind: Option<Kind>, is_argument: bool) -> &'static str {
     match behind {
         Some(Kind::PlusAssign | Kind::MinusAssign | Kind::StarAssign) => UPDATE,
@@ -102,7 +102,7 @@ fn of_variable(behind: Option<Kind>) -> &'static str {
     }
 }
 
-/// A declaration past a limit.
+/// Returns the advice for a declaration past a limit.
 pub fn past_limit(tokens: &Tokens<'_>, number: usize) -> Option<&'static str> {
     match tokens.declared(number) {
         Some(Declared::Array) if tokens.word(number.saturating_add(2)) == b"0".as_slice() => {

@@ -1,6 +1,6 @@
-//! Where a byte of a text stands, as editors count.
+//! Lines and columns of a text, as editors count them.
 
-/// A line and a column of a text, both from 1. A column is a character of UTF-8.
+/// A line and a column of a text, both from 1. Columns count characters of UTF-8.
 #[derive(Clone, Copy, PartialEq, Eq, Debug)]
 pub struct Location {
     pub line: usize,
@@ -8,14 +8,14 @@ pub struct Location {
 }
 
 impl Location {
-    // Where the next byte stands.
+    // The location after this byte.
     fn behind(self, byte: u8) -> Location {
         match byte {
             b'\n' => Location {
                 line: self.line.saturating_add(1),
                 column: 1,
             },
-            // the later bytes of one character
+            // a later byte of a character
             0x80..=0xBF => self,
             _ => Location {
                 line: self.line,
@@ -25,7 +25,7 @@ impl Location {
     }
 }
 
-/// Where the byte at a place stands, counted from 0. The place behind the last byte is where the text ends.
+/// Returns the location of a byte, counted from 0. The place after the last byte is the end.
 pub fn locate(text: &[u8], at: usize) -> Location {
     let mut location = Location { line: 1, column: 1 };
     for byte in text.iter().take(at) {
@@ -34,7 +34,7 @@ pub fn locate(text: &[u8], at: usize) -> Location {
     location
 }
 
-/// The line that a byte stands in, without its end, and the place of its first byte.
+/// Returns the line of a byte, without its end, and the place of its first byte.
 pub fn line_at(text: &[u8], at: usize) -> (&[u8], usize) {
     let mut first = 0;
     for (place, byte) in text.iter().enumerate() {
@@ -48,7 +48,7 @@ pub fn line_at(text: &[u8], at: usize) -> (&[u8], usize) {
     (between(text, first, text.len()), first)
 }
 
-/// The bytes of a text from one place up to another; none where there are no such.
+/// Returns the bytes from one place up to another, empty if the text doesn't have them.
 pub fn between(text: &[u8], from: usize, upto: usize) -> &[u8] {
     match text.get(from..upto) {
         Some(part) => part,

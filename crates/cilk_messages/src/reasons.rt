@@ -1,4 +1,4 @@
-//! Each number that the tool refuses by: its meaning in a few words, a text that provokes it, and the cure.
+//! The numbers of the tool: the meaning of each, a text that provokes it, and the cure.
 
 use crate::faults::{
     input_text, loop_rule, name_kind, name_known, run_limit, run_operation, text_limit, text_token,
@@ -7,10 +7,10 @@ use crate::refusals::{
     certificate_event, certificate_frame, certificate_line, certified_run, parallel_run,
 };
 
-/// What provokes a number.
+/// An example that provokes a number.
 #[derive(Clone, Copy, Debug)]
 pub enum Example {
-    /// A whole program text, without input; for a refusal, with the certificate of its own run.
+    /// A whole program text, without input. For a refusal, with the certificate of its own run.
     Program(&'static str),
     /// An edit of the certificate of `examples/race.c`.
     Edit(&'static str),
@@ -18,21 +18,20 @@ pub enum Example {
     Words(&'static str),
 }
 
-/// What a number means.
+/// The meaning of a number.
 #[derive(Clone, Copy, Debug)]
 pub struct Reason {
     pub number: u16,
-    /// What is wrong, in a few words.
+    /// The mistake in a few words.
     pub title: &'static str,
-    /// What that means, in a sentence or two.
+    /// The mistake in a sentence or two.
     pub meaning: &'static str,
-    /// The line by which the tool refuses the example.
+    /// The line that the tool writes for the example.
     pub line: &'static str,
-    /// What provokes it.
     pub example: Example,
-    /// How the places of such a line are read.
+    /// How to read the places in such a line.
     pub place: &'static str,
-    /// What to write in its place.
+    /// The advice: the text to write instead.
     pub cure: &'static str,
 }
 
@@ -42,7 +41,10 @@ pub const NUMBERS: [u16; 36] = [
     203, 204, 205, 206, 301, 302, 303, 304, 305, 306, 307, 308, 309, 310, 311, 312, 502,
 ];
 
-/// What a number means, if it is one of the tool's. (Functions, and no table: the loader of a program would have to move each text of one.)
+/// Returns the meaning of a number, if it is one of the tool's.
+///
+/// The meanings are in functions rather than a table, whose texts the loader would have to
+/// relocate.
 pub fn reason_of(number: u16) -> Option<Reason> {
     match number {
         101..=103 => text_token(number),

@@ -1,8 +1,8 @@
-//! Why a certificate is refused.
+//! The numbers for refusals of a certificate.
 
 use crate::reasons::{Example, Reason};
 
-/// What a line of a certificate can have.
+/// Refusals of a line.
 pub fn certificate_line(number: u16) -> Option<Reason> {
     let reason = match number {
         301 => Reason {
@@ -37,7 +37,7 @@ pub fn certificate_line(number: u16) -> Option<Reason> {
     Some(reason)
 }
 
-/// What its frames and strands can have.
+/// Refusals of frames and strands.
 pub fn certificate_frame(number: u16) -> Option<Reason> {
     let reason = match number {
         304 => Reason {
@@ -72,7 +72,7 @@ pub fn certificate_frame(number: u16) -> Option<Reason> {
     Some(reason)
 }
 
-/// What its classes, sources and result can have.
+/// Refusals of classes, sources and the result.
 pub fn certificate_event(number: u16) -> Option<Reason> {
     let reason = match number {
         307 => Reason {
@@ -107,7 +107,7 @@ pub fn certificate_event(number: u16) -> Option<Reason> {
     Some(reason)
 }
 
-/// What an accepted run can have on another input.
+/// Refusals of a parallel run on another input.
 pub fn parallel_run(number: u16) -> Option<Reason> {
     let reason = match number {
         502 => Reason {
@@ -126,7 +126,7 @@ pub fn parallel_run(number: u16) -> Option<Reason> {
     Some(reason)
 }
 
-/// What the run can have that it lists.
+/// Refusals because of the certified run itself.
 pub fn certified_run(number: u16) -> Option<Reason> {
     let reason = match number {
         310 => Reason {

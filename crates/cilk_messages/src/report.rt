@@ -1,4 +1,4 @@
-//! The text of an explanation.
+//! The texts of explanations.
 
 use crate::at_hand::at_hand;
 use crate::excerpt::push_excerpt;
@@ -8,7 +8,7 @@ use crate::reasons::{Example, NUMBERS, Reason, reason_of};
 use crate::tokens::Tokens;
 use std::alloc::{AllocError, Global};
 
-/// A place of a text that is refused.
+/// A refused place of a text.
 #[derive(Clone, Copy, Debug)]
 pub struct Finding<'a> {
     /// The name of the file.
@@ -20,16 +20,16 @@ pub struct Finding<'a> {
     pub at: usize,
 }
 
-/// What the grammar has where a token is refused.
+/// The expectation of the grammar at a refused token.
 #[derive(Clone, Copy, Debug)]
 pub struct Wanted<'a> {
-    /// In words; empty where that isn't known.
+    /// In words; empty if it isn't known.
     pub words: &'a str,
-    /// Whether a semicolon is among it.
+    /// Whether a semicolon is one of the expected tokens.
     pub semicolon: bool,
 }
 
-/// What `explain NUMBER` writes; nothing where the tool has no such number.
+/// Returns the text of `explain NUMBER`, or `None` if the tool has no such number.
 pub fn of_number(alloc: Global, number: u16) -> Result<Option<String>, AllocError> {
     match reason_of(number) {
         Some(reason) => Ok(Some(of_reason(alloc, &reason)?)),
@@ -68,7 +68,7 @@ fn of_reason(alloc: Global, reason: &Reason) -> Result<String, AllocError> {
     )
 }
 
-/// What `explain` writes: each number with its title.
+/// Returns the text of `explain`: each number with its title.
 pub fn of_all(alloc: Global) -> Result<String, AllocError> {
     let mut text = String::new(alloc);
     for number in NUMBERS {
@@ -79,8 +79,8 @@ pub fn of_all(alloc: Global) -> Result<String, AllocError> {
     Ok(text)
 }
 
-/// What stands behind the line of a fault of a text: its line and column, the line with a mark below the place, what stands
-/// there, and a hint.
+/// Returns the message after the line of a fault of a text: its line and column, the source line
+/// with a mark below the place, the token there, and a hint.
 pub fn of_text(
     alloc: Global,
     finding: &Finding<'_>,
@@ -105,7 +105,7 @@ pub fn of_text(
     Ok(report)
 }
 
-// The place behind the last byte of a text that isn't blank.
+// The place after the last byte that isn't blank.
 fn end_of(text: &[u8]) -> usize {
     let mut end = 0;
     for (place, byte) in text.iter().enumerate() {
@@ -116,7 +116,7 @@ fn end_of(text: &[u8]) -> usize {
     end
 }
 
-/// What stands behind the line of a refusal that isn't of a byte: of a line, an event or a run.
+/// Returns the message after a refusal whose place isn't a byte: a line, an event or a run.
 pub fn of_line(
     alloc: Global,
     file: &str,
@@ -143,7 +143,7 @@ pub fn of_line(
     Ok(report)
 }
 
-/// What stands behind the line of a script that is refused.
+/// Returns the message after a refused script.
 pub fn of_script(alloc: Global, file: &str, line: usize) -> Result<String, AllocError> {
     let mut report = format!(in alloc;
         "{file}:{line}:1: error: no line of a script, or too many choices\n"
@@ -166,7 +166,7 @@ fn title_of(number: u16) -> &'static str {
     }
 }
 
-// A line of the report, where there is something to say.
+// A line of the report, if there is something to say.
 fn push_line(report: &mut String, what: &str, text: &str) -> Result<(), AllocError> {
     if text.is_empty() {
         return Ok(());
@@ -177,7 +177,7 @@ fn push_line(report: &mut String, what: &str, text: &str) -> Result<(), AllocErr
     report.push('\n')
 }
 
-// What to write in place of what is refused.
+// The hint, or the general cure.
 fn advice(
     alloc: Global,
     tokens: &Tokens<'_>,

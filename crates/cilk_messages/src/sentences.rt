@@ -1,4 +1,4 @@
-//! What is said in more than one case.
+//! Sentences that are used in more than one case.
 
 pub const REDUCER: &str =
     "a reducer is declared with its monoid alone, `int cilk_reducer(add) r;`: add, min, max, append or affine";

@@ -1,9 +1,9 @@
-//! A token that is refused, and what stands round it.
+//! A refused token and its neighbours.
 
 use crate::tokens::Tokens;
 use cilk_syntax::token::Kind;
 
-/// A token that is refused, with its bytes and those of the token ahead of it.
+/// A refused token, with its bytes and those of the token before it.
 #[derive(Clone, Copy)]
 pub struct Site<'t, 'a> {
     pub tokens: &'t Tokens<'a>,
@@ -13,7 +13,7 @@ pub struct Site<'t, 'a> {
 }
 
 impl<'t, 'a> Site<'t, 'a> {
-    /// The token with this number.
+    /// Returns the site of the token with this number.
     pub fn new(tokens: &'t Tokens<'a>, number: usize) -> Site<'t, 'a> {
         let ahead = match number.checked_sub(1) {
             Some(earlier) => tokens.word(earlier),
@@ -27,17 +27,17 @@ impl<'t, 'a> Site<'t, 'a> {
         }
     }
 
-    /// What the token ahead is.
+    /// Returns the kind of the token before.
     pub fn kind_ahead(&self) -> Option<Kind> {
         self.tokens.kind_back(self.number, 1)
     }
 
-    /// What the token behind is.
+    /// Returns the kind of the token after.
     pub fn kind_behind(&self) -> Option<Kind> {
         self.tokens.kind_behind(self.number)
     }
 
-    /// The bytes of the token behind.
+    /// Returns the bytes of the token after.
     pub fn behind(&self) -> &'a [u8] {
         self.tokens.word(self.number.saturating_add(1))
     }

@@ -1,10 +1,11 @@
-//! Where a token stands: in which parentheses, head, block or declaration.
+//! The surroundings of a token: parentheses, head, block or declaration.
 
 use crate::tokens::{Declared, Tokens};
 use crate::vocabulary::is_type_word;
 use cilk_syntax::token::Kind;
 
-/// The parenthesis that is open at a token, in its own statement; of one that closes, the one that it closes.
+/// Returns the parenthesis that is open at a token, in its own statement. For a closing
+/// parenthesis, the one that it closes.
 pub fn enclosing(tokens: &Tokens<'_>, number: usize) -> Option<usize> {
     let mut depth: usize = 0;
     for back in 1..number.saturating_add(1) {
@@ -19,17 +20,17 @@ pub fn enclosing(tokens: &Tokens<'_>, number: usize) -> Option<usize> {
     None
 }
 
-/// The token ahead of the parentheses that a token stands in.
+/// Returns the token before the parentheses around a token.
 pub fn head_of(tokens: &Tokens<'_>, number: usize) -> Option<usize> {
     enclosing(tokens, number)?.checked_sub(1)
 }
 
-/// What the token ahead of the parentheses is that a token stands in.
+/// Returns the kind of the token before the parentheses around a token.
 pub fn head_kind(tokens: &Tokens<'_>, number: usize) -> Option<Kind> {
     tokens.kind(head_of(tokens, number)?)
 }
 
-/// The token ahead of the parentheses that end ahead of a token.
+/// Returns the token before the parentheses that end just before a token.
 pub fn closed_head(tokens: &Tokens<'_>, number: usize) -> Option<usize> {
     let ahead = number.checked_sub(1)?;
     match tokens.kind(ahead) {
@@ -38,7 +39,7 @@ pub fn closed_head(tokens: &Tokens<'_>, number: usize) -> Option<usize> {
     }
 }
 
-/// Whether a token stands between the parentheses behind a function's name, where that is declared.
+/// Returns whether a token is in the parameter list of a function's declaration.
 pub fn is_in_head_of_function(tokens: &Tokens<'_>, number: usize) -> bool {
     match head_of(tokens, number) {
         Some(named) => matches!(tokens.declared(named), Some(Declared::Function { .. })),
@@ -46,7 +47,7 @@ pub fn is_in_head_of_function(tokens: &Tokens<'_>, number: usize) -> bool {
     }
 }
 
-/// Whether that function is `main`.
+/// Returns whether a token is in the parameter list of `main`.
 pub fn is_in_head_of_main(tokens: &Tokens<'_>, number: usize) -> bool {
     match head_of(tokens, number) {
         Some(named) => {
@@ -56,13 +57,14 @@ pub fn is_in_head_of_main(tokens: &Tokens<'_>, number: usize) -> bool {
     }
 }
 
-/// Whether a token stands where a reducer is declared: at the marks of its monoid, or behind its name.
+/// Returns whether a token is in a reducer's declaration: at the marks of its monoid, or after its
+/// name.
 pub fn is_in_reducer(tokens: &Tokens<'_>, number: usize) -> bool {
     matches!(head_kind(tokens, number), Some(Kind::CilkReducer))
         || matches!(tokens.kind_back(number, 5), Some(Kind::CilkReducer))
 }
 
-/// Whether a token stands in no function's body.
+/// Returns whether a token is outside of all function bodies.
 pub fn is_global(tokens: &Tokens<'_>, number: usize) -> bool {
     let mut depth: usize = 0;
     for earlier in 0..number {
@@ -75,7 +77,7 @@ pub fn is_global(tokens: &Tokens<'_>, number: usize) -> bool {
     depth == 0
 }
 
-/// Whether a statement or an item could begin with a token.
+/// Returns whether a statement or an item could begin with a token.
 pub fn begins(tokens: &Tokens<'_>, number: usize) -> bool {
     matches!(
         tokens.kind_back(number, 1),
@@ -83,7 +85,7 @@ pub fn begins(tokens: &Tokens<'_>, number: usize) -> bool {
     ) || is_condition(tokens, closed_head(tokens, number))
 }
 
-// Whether a token is the word ahead of a condition, or of a loop's head.
+// Whether a token is the word before a condition or a loop's head.
 fn is_condition(tokens: &Tokens<'_>, named: Option<usize>) -> bool {
     match named {
         Some(named) => matches!(
@@ -94,7 +96,7 @@ fn is_condition(tokens: &Tokens<'_>, named: Option<usize>) -> bool {
     }
 }
 
-/// Whether a token stands in the length of an array that is declared.
+/// Returns whether a token is in the length of an array's declaration.
 pub fn is_in_length(tokens: &Tokens<'_>, number: usize) -> bool {
     for back in 1..number.saturating_add(1) {
         match tokens.kind_back(number, back) {
@@ -111,7 +113,7 @@ pub fn is_in_length(tokens: &Tokens<'_>, number: usize) -> bool {
     false
 }
 
-/// Whether a token stands in the first value of a global.
+/// Returns whether a token is in the first value of a global.
 pub fn is_in_first_value(tokens: &Tokens<'_>, number: usize) -> bool {
     for back in 1..number.saturating_add(1) {
         match tokens.kind_back(number, back) {
@@ -128,7 +130,7 @@ pub fn is_in_first_value(tokens: &Tokens<'_>, number: usize) -> bool {
     false
 }
 
-/// The first token of the type that stands between parentheses at a token or ahead of it, as a cast.
+/// Returns the first token of the type of a cast whose parentheses are at a token or before it.
 pub fn cast_at(tokens: &Tokens<'_>, number: usize) -> Option<usize> {
     let ahead = number.checked_sub(1)?;
     let open = match tokens.kind(ahead) {
@@ -149,7 +151,7 @@ pub fn cast_at(tokens: &Tokens<'_>, number: usize) -> Option<usize> {
     }
 }
 
-/// Whether the bracket or parenthesis that is open at a token is a bracket.
+/// Returns whether the innermost bracket or parenthesis that is open at a token is a bracket.
 pub fn is_in_brackets(tokens: &Tokens<'_>, number: usize) -> bool {
     let mut depth: usize = 0;
     for back in 1..number.saturating_add(1) {

@@ -1,20 +1,20 @@
-//! The tokens of a text, and what its names are declared as.
+//! The tokens of a text, and the declarations of its names.
 //!
-//! What is told here is right for texts that parse; of others it is what stands nearest.
+//! The results are right for texts that parse. For others they are a best guess.
 
 use crate::place::between;
 use cilk_syntax::lexer::{LexFault, lex};
 use cilk_syntax::token::{Kind, Token};
 use std::alloc::{AllocError, Global};
 
-/// The tokens of a text, in order. A text that isn't one of tokens has none.
+/// The tokens of a text, in order. A text with a lexical error has none.
 #[derive(Drop)]
 pub struct Tokens<'a> {
     pub text: &'a [u8],
     tokens: Vec<Token>,
 }
 
-/// What a name is declared as.
+/// The kind that a name is declared as.
 #[derive(Clone, Copy, PartialEq, Eq)]
 pub enum Declared {
     Variable,
@@ -24,7 +24,7 @@ pub enum Declared {
     Function { has_result: bool, parameters: usize },
 }
 
-/// What a text has by the name `main`.
+/// The `main` of a text.
 #[derive(Clone, Copy, PartialEq, Eq)]
 pub enum Main {
     /// No function.
@@ -36,7 +36,7 @@ pub enum Main {
 }
 
 impl<'a> Tokens<'a> {
-    /// The tokens of a text.
+    /// Reads the tokens of a text.
     pub fn new(alloc: Global, text: &'a [u8]) -> Result<Tokens<'a>, AllocError> {
         let tokens = match lex(alloc, text) {
             Ok(tokens) => tokens,
@@ -46,12 +46,12 @@ impl<'a> Tokens<'a> {
         Ok(Tokens { text, tokens })
     }
 
-    /// How many there are.
+    /// Returns the number of tokens.
     pub fn count(&self) -> usize {
         self.tokens.len()
     }
 
-    /// What the token with this number is, from 0.
+    /// Returns the kind of the token with this number, from 0.
     pub fn kind(&self, number: usize) -> Option<Kind> {
         match self.tokens.get(number) {
             Some(token) => Some(token.kind),
@@ -59,7 +59,7 @@ impl<'a> Tokens<'a> {
         }
     }
 
-    /// Its bytes; none where there is no such token.
+    /// Returns the bytes of a token, empty if there is no such token.
     pub fn word(&self, number: usize) -> &'a [u8] {
         match self.tokens.get(number) {
             Some(token) => between(self.text, token.at, token.end),
@@ -67,7 +67,7 @@ impl<'a> Tokens<'a> {
         }
     }
 
-    /// Where it begins, or the text ends.
+    /// Returns where a token begins, or the end of the text if there is no such token.
     pub fn place(&self, number: usize) -> usize {
         match self.tokens.get(number) {
             Some(token) => token.at,
@@ -75,7 +75,7 @@ impl<'a> Tokens<'a> {
         }
     }
 
-    /// The number of the first token that begins at a place or behind it.
+    /// Returns the number of the first token that begins at a place or after it.
     pub fn number_at(&self, place: usize) -> usize {
         let mut number: usize = 0;
         for token in &self.tokens {
@@ -87,12 +87,12 @@ impl<'a> Tokens<'a> {
         number
     }
 
-    /// What the token behind one is.
+    /// Returns the kind of the token after this one.
     pub fn kind_behind(&self, number: usize) -> Option<Kind> {
         self.kind(number.saturating_add(1))
     }
 
-    /// What the token so many ahead of one is.
+    /// Returns the kind of the token `back` tokens before this one.
     pub fn kind_back(&self, number: usize, back: usize) -> Option<Kind> {
         match number.checked_sub(back) {
             Some(earlier) => self.kind(earlier),
@@ -100,7 +100,7 @@ impl<'a> Tokens<'a> {
         }
     }
 
-    /// What this token declares, if it is a name that is declared here.
+    /// Returns the kind that this token declares, if it is a name in its declaration.
     pub fn declared(&self, number: usize) -> Option<Declared> {
         if !matches!(self.kind(number), Some(Kind::Name)) {
             return None;
@@ -118,7 +118,7 @@ impl<'a> Tokens<'a> {
         }
     }
 
-    /// What the first function `main` of the text is.
+    /// Returns the kind of the first function `main`.
     pub fn main(&self) -> Main {
         for token in 0..self.count() {
             if self.word(token) == b"main".as_slice() {
@@ -137,7 +137,7 @@ impl<'a> Tokens<'a> {
         Main::Absent
     }
 
-    // What a name is declared as, by the token behind it.
+    // The kind that a name is declared as, by the token after it.
     fn declared_as(&self, number: usize, has_result: bool) -> Declared {
         match self.kind_behind(number) {
             Some(Kind::Open) => Declared::Function {
@@ -149,7 +149,7 @@ impl<'a> Tokens<'a> {
         }
     }
 
-    // Whether the comma ahead of a name goes on with the declaration of variables.
+    // Whether the comma before a name continues a declaration of variables.
     fn continues_declaration(&self, number: usize) -> bool {
         let mut depth: usize = 0;
         for back in 1..number {
@@ -167,7 +167,7 @@ impl<'a> Tokens<'a> {
         matches!(self.kind(0), Some(Kind::Int))
     }
 
-    /// How many parts, between commas, stand in the parentheses behind a token.
+    /// Returns the number of parts, separated by commas, in the parentheses after a token.
     pub fn parts_behind(&self, number: usize) -> usize {
         let first = number.saturating_add(2);
         let mut depth: usize = 0;
@@ -190,13 +190,14 @@ impl<'a> Tokens<'a> {
         parts
     }
 
-    // Whether nothing stands there, or `void` alone.
+    // Whether the range is empty or only `void`.
     fn is_empty_between(&self, first: usize, end: usize) -> bool {
         first == end
             || (first.saturating_add(1) == end && matches!(self.kind(first), Some(Kind::Void)))
     }
 
-    /// The declaration of a token's name: the last one ahead of it whose block isn't closed yet, or a function behind it.
+    /// Returns the declaration of a token's name: the last one before it whose block isn't closed
+    /// yet, or a function after it.
     pub fn declaration_of(&self, number: usize) -> Option<(usize, Declared)> {
         let name = self.word(number);
         let mut closed: usize = 0;
@@ -216,7 +217,7 @@ impl<'a> Tokens<'a> {
         self.function_behind(number, name)
     }
 
-    // What this token declares, if that has this name.
+    // The kind that this token declares, if it has this name.
     fn declared_by_name(&self, number: usize, name: &[u8]) -> Option<Declared> {
         if self.word(number) == name {
             self.declared(number)
@@ -225,7 +226,7 @@ impl<'a> Tokens<'a> {
         }
     }
 
-    // A function that is declared behind a token.
+    // A function that is declared after a token.
     fn function_behind(&self, number: usize, name: &[u8]) -> Option<(usize, Declared)> {
         for later in number..self.count() {
             if let Some(declared) = self.declared_by_name(later, name) {

@@ -1,4 +1,4 @@
-//! Marks that may be missing ahead of a token that is refused.
+//! Marks that may be missing before a refused token.
 
 use crate::hints::Hint;
 use crate::place::locate;
@@ -7,8 +7,8 @@ use crate::sites::{closed_head, enclosing, is_in_brackets};
 use crate::tokens::Tokens;
 use cilk_syntax::token::Kind;
 
-/// A mark that may be missing ahead of a token: one that ends what is there, where the grammar has that mark and what follows could go on
-/// behind it.
+/// Returns a closing mark that may be missing before a token: the grammar allows it there, and the
+/// rest could follow it.
 pub fn missing_mark<'a>(
     tokens: &Tokens<'a>,
     number: usize,
@@ -27,7 +27,8 @@ pub fn missing_mark<'a>(
     }
 }
 
-/// What is said of a function without its body, of a mark that closes nothing, and of a text that ends too early.
+/// Returns the advice for a function without a body, a mark that closes nothing, and a text that
+/// ends too early.
 pub fn unpaired(tokens: &Tokens<'_>, number: usize, wanted: &Wanted<'_>) -> Option<&'static str> {
     if wanted.words == "`{`" {
         return Some("a function's body stands between `{` and `}`");
@@ -41,7 +42,7 @@ pub fn unpaired(tokens: &Tokens<'_>, number: usize, wanted: &Wanted<'_>) -> Opti
     }
 }
 
-// Whether the token ahead stands on an earlier line.
+// Whether the token before is on an earlier line.
 fn is_on_later_line(tokens: &Tokens<'_>, number: usize) -> bool {
     match number.checked_sub(1) {
         Some(ahead) => {
@@ -52,7 +53,7 @@ fn is_on_later_line(tokens: &Tokens<'_>, number: usize) -> bool {
     }
 }
 
-// A mark that is missing between a token and the one ahead of it.
+// A mark that is missing between a token and the one before it.
 fn missing<'a>(tokens: &Tokens<'a>, number: usize, mark: &'static str) -> Option<Hint<'a>> {
     let ahead = number.checked_sub(1)?;
     if is_on_later_line(tokens, number) || tokens.kind(number).is_none() {
@@ -64,7 +65,7 @@ fn missing<'a>(tokens: &Tokens<'a>, number: usize, mark: &'static str) -> Option
     }
 }
 
-// Whether the token ahead could be the last one of a statement but for its semicolon.
+// Whether the token before could be the last one of a statement before its semicolon.
 fn ends_statement(tokens: &Tokens<'_>, number: usize) -> bool {
     match tokens.kind_back(number, 1) {
         Some(Kind::Close) => match closed_head(tokens, number) {
@@ -84,7 +85,8 @@ fn ends_statement(tokens: &Tokens<'_>, number: usize) -> bool {
     }
 }
 
-// Whether a token ahead of parentheses makes a statement with them: no condition, and no function that the text doesn't have.
+// Whether a token and the parentheses after it make a statement: a call of a function that the text
+// has, and no condition.
 fn is_called(tokens: &Tokens<'_>, named: usize) -> bool {
     match tokens.kind(named) {
         Some(Kind::If | Kind::While | Kind::For | Kind::CilkFor) => false,
@@ -93,7 +95,8 @@ fn is_called(tokens: &Tokens<'_>, named: usize) -> bool {
     }
 }
 
-// Whether a statement could begin with a token, or a block end; a name alone, or a spawn, begins one on a line of its own.
+// Whether a statement could begin, or a block end, with a token. A name or a spawn must be on a new
+// line.
 fn follows(tokens: &Tokens<'_>, number: usize, has_line: bool) -> bool {
     match tokens.kind(number) {
         None | Some(Kind::CloseBrace) => true,
@@ -126,7 +129,7 @@ fn begins_statement(kind: Kind) -> bool {
     )
 }
 
-// Whether what stands at a token could come behind a parenthesis that closes.
+// Whether a token could follow a closing parenthesis.
 fn follows_parenthesis(tokens: &Tokens<'_>, number: usize, has_line: bool) -> bool {
     match tokens.kind(number) {
         Some(Kind::Semicolon | Kind::OpenBrace) => true,
@@ -134,8 +137,8 @@ fn follows_parenthesis(tokens: &Tokens<'_>, number: usize, has_line: bool) -> bo
     }
 }
 
-// Whether what stands at a token could come behind a bracket that closes: the end of a part round it, or an assignment, where no
-// bracket closes later.
+// Whether a token could follow a closing bracket: the end of the surrounding part, or an assignment
+// if no bracket closes later.
 fn is_behind_index(tokens: &Tokens<'_>, number: usize) -> bool {
     match tokens.kind(number) {
         Some(Kind::Close | Kind::Semicolon | Kind::OpenBrace) => is_in_brackets(tokens, number),

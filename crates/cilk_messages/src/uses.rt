@@ -1,4 +1,4 @@
-//! Tokens that a statement, a call, a head or an item has no place for.
+//! Hints for tokens that don't belong in a statement, a call, a head or an item.
 
 use crate::around::is_name;
 use crate::sentences::{
@@ -12,7 +12,7 @@ use crate::sites::{
 use crate::tokens::{Declared, Tokens};
 use cilk_syntax::token::Kind;
 
-/// What is said of a token that a statement, a call, a head or an item has no place for.
+/// Returns the advice for a token that doesn't belong in a statement, a call, a head or an item.
 pub fn of_use(site: &Site<'_, '_>) -> Option<&'static str> {
     behind_reserved(site)
         .or_else(|| as_reserved(site))
@@ -27,7 +27,7 @@ pub fn of_use(site: &Site<'_, '_>) -> Option<&'static str> {
         .or_else(|| of_token(site))
 }
 
-// A token behind a reserved word that something else has to follow.
+// A token after a reserved word that needs another one.
 fn behind_reserved(site: &Site<'_, '_>) -> Option<&'static str> {
     let kind = site.tokens.kind(site.number);
     match (site.kind_ahead()?, kind) {
@@ -45,7 +45,7 @@ fn behind_reserved(site: &Site<'_, '_>) -> Option<&'static str> {
     }
 }
 
-// A reserved word where a name could stand, or a statement.
+// A reserved word in place of a name or a statement.
 fn as_reserved(site: &Site<'_, '_>) -> Option<&'static str> {
     let kind = site.tokens.kind(site.number)?;
     let is_declared = matches!(
@@ -67,7 +67,7 @@ fn as_reserved(site: &Site<'_, '_>) -> Option<&'static str> {
     }
 }
 
-// A token between the parentheses behind `print`, `value`, `update` or `set`.
+// A token in the parentheses of `print`, `value`, `update` or `set`.
 fn in_arguments(site: &Site<'_, '_>) -> Option<&'static str> {
     let is_first = matches!(site.kind_ahead(), Some(Kind::Open));
     let is_second = matches!(site.tokens.kind_back(site.number, 2), Some(Kind::Open));
@@ -81,7 +81,7 @@ fn in_arguments(site: &Site<'_, '_>) -> Option<&'static str> {
     }
 }
 
-// A call inside an expression, as its first thing or behind something; or a function inside another one.
+// A call inside an expression, at its beginning or later; or a function inside another one.
 fn of_call(site: &Site<'_, '_>) -> Option<&'static str> {
     let Site {
         tokens,
@@ -173,7 +173,7 @@ fn of_star(site: &Site<'_, '_>) -> Option<&'static str> {
     }
 }
 
-// Whether memory is asked for between a token and the next semicolon.
+// Whether memory is allocated between a token and the next semicolon.
 fn takes_memory(tokens: &Tokens<'_>, number: usize) -> bool {
     for later in number..tokens.count() {
         match tokens.word(later) {
@@ -185,7 +185,7 @@ fn takes_memory(tokens: &Tokens<'_>, number: usize) -> bool {
     false
 }
 
-// A bracket, or what stands at one.
+// A bracket, or a token next to one.
 fn of_brackets(site: &Site<'_, '_>) -> Option<&'static str> {
     let Site {
         tokens,
@@ -204,7 +204,7 @@ fn of_brackets(site: &Site<'_, '_>) -> Option<&'static str> {
     }
 }
 
-// Two tokens that never stand so in the language, and often do in C.
+// Two tokens that never follow each other in the language, and often do in C.
 fn of_pair(site: &Site<'_, '_>) -> Option<&'static str> {
     let has_assign = matches!(site.kind_behind(), Some(Kind::Assign));
     match (site.ahead, site.word, site.behind()) {
@@ -220,7 +220,7 @@ fn of_pair(site: &Site<'_, '_>) -> Option<&'static str> {
     }
 }
 
-// Whether the head of a function ends ahead of a token.
+// Whether the head of a function ends before a token.
 fn is_prototype(site: &Site<'_, '_>) -> bool {
     match closed_head(site.tokens, site.number) {
         Some(named) => matches!(site.tokens.declared(named), Some(Declared::Function { .. })),
@@ -257,7 +257,7 @@ fn of_item(site: &Site<'_, '_>) -> Option<&'static str> {
     }
 }
 
-// A token at the beginning of a statement, or the one behind it.
+// A token at the beginning of a statement, or the one after it.
 fn of_statement(site: &Site<'_, '_>) -> Option<&'static str> {
     let Site { tokens, number, .. } = *site;
     let is_second = begins(tokens, number.checked_sub(1)?);
@@ -269,7 +269,7 @@ fn of_statement(site: &Site<'_, '_>) -> Option<&'static str> {
     }
 }
 
-// A token that is met at a wrong place.
+// A token at a wrong place.
 fn of_token(site: &Site<'_, '_>) -> Option<&'static str> {
     let head = head_kind(site.tokens, site.number);
     match site.word {

@@ -1,14 +1,14 @@
-//! Words of C and OpenCilk that are none here, and what stands for each.
+//! Words of C and OpenCilk that the language lacks, and what to write for each.
 
 use crate::sentences::{
     CAST, INPUT, LIBRARY, LINE_AWAY, MEMORY, NO_CLOCK, NO_LENGTH, ONE_TYPE, PRINT, REDUCER,
     REDUCER_USE, STRUCTURES,
 };
 
-// Words of other languages, and what is said of each.
+// Words of other languages, separated by blanks, and the advice for them.
 type Row = (&'static str, &'static str);
 
-// What a table says of a word.
+// The advice of a table for a word.
 fn said_of(table: &[Row], word: &[u8]) -> Option<&'static str> {
     for row in table {
         let (words, said) = *row;
@@ -29,12 +29,12 @@ const ALIASES: [Row; 5] = [
     ("fi If IF", "if"),
 ];
 
-/// The reserved word by which one says what another language has this word for.
+/// Returns the reserved word that does the same as this word of another language.
 pub fn alias(word: &[u8]) -> Option<&'static str> {
     said_of(&ALIASES, word)
 }
 
-/// The cure of a word that is none here, whatever it stands for.
+/// Returns the cure for any word that the language lacks.
 pub fn word_of_c(word: &[u8]) -> Option<&'static str> {
     match other_word(word) {
         None => library_word(word),
@@ -42,7 +42,8 @@ pub fn word_of_c(word: &[u8]) -> Option<&'static str> {
     }
 }
 
-/// The cure of another type, of a word of OpenCilk's reducers, or of one that stands ahead of a declaration or a statement.
+/// Returns the cure for another type, a word of OpenCilk's reducers, or a word before a declaration
+/// or a statement.
 pub fn other_word(word: &[u8]) -> Option<&'static str> {
     match other_type(word) {
         None => said_of(&KEYWORDS, word),
@@ -50,7 +51,7 @@ pub fn other_word(word: &[u8]) -> Option<&'static str> {
     }
 }
 
-/// The cure of a number or function of C's headers.
+/// Returns the cure for a constant or a function of C's headers.
 pub fn library_word(word: &[u8]) -> Option<&'static str> {
     match number_named(word) {
         None => said_of(&FUNCTIONS, word),
@@ -63,7 +64,7 @@ const AHEAD: [Row; 2] = [
     ("typedef enum REDUCER_VIEW", ""),
 ];
 
-/// Whether a word is one of a type, or stands ahead of one.
+/// Returns whether a word belongs to a type or comes before one.
 pub fn is_type_word(word: &[u8]) -> bool {
     match said_of(&AHEAD, word) {
         Some(said) => !said.is_empty(),
@@ -71,14 +72,14 @@ pub fn is_type_word(word: &[u8]) -> bool {
     }
 }
 
-// Whether a word is one by which OpenCilk, or Cilk Plus, declares a reducer.
+// Whether OpenCilk or Cilk Plus declares reducers with this word.
 fn is_reducer_word(word: &[u8]) -> bool {
     word.starts_with(b"CILK_C_")
         || word.starts_with(b"cilk_reducer_")
         || word.starts_with(b"reducer_op")
 }
 
-/// What is said of a type ahead of an operand.
+/// Returns the advice for a cast to a type.
 pub fn cast_to(word: &[u8]) -> &'static str {
     match word {
         b"int" => "`int` is the only type, so nothing is cast: leave `(int)` away",
@@ -116,7 +117,7 @@ const TYPES: [Row; 11] = [
     ("REDUCER_VIEW", REDUCER_USE),
 ];
 
-// The cure of another type, or a word of OpenCilk's reducers.
+// The cure for another type, or a word of OpenCilk's reducers.
 fn other_type(word: &[u8]) -> Option<&'static str> {
     match said_of(&TYPES, word) {
         None if is_reducer_word(word) => Some(REDUCER),
@@ -124,7 +125,7 @@ fn other_type(word: &[u8]) -> Option<&'static str> {
     }
 }
 
-// Of words that stand ahead of a declaration or a statement, or of an operand.
+// Words before a declaration, a statement or an operand.
 const KEYWORDS: [Row; 15] = [
     (
         "static const inline register volatile then",
@@ -174,12 +175,12 @@ const NUMBERS: [Row; 7] = [
     ("NULL", "there are no pointers: -1 can stand for no index"),
 ];
 
-/// The number that a name of C's headers stands for.
+/// Returns the number for a constant of C's headers.
 pub fn number_named(word: &[u8]) -> Option<&'static str> {
     said_of(&NUMBERS, word)
 }
 
-// Of functions of C's library.
+// Functions of C's library.
 const FUNCTIONS: [Row; 9] = [
     ("printf fprintf puts putchar", PRINT),
     ("scanf getchar argv argc atoi", INPUT),

@@ -1,7 +1,7 @@
 //! The words of a command line.
 //!
-//! With no words a program text is read from standard input and run. Else the words are read by `clap`: a command and
-//! what it takes.
+//! Without words, a program text is read from standard input and run. Otherwise `clap` reads the
+//! words: a command and its arguments.
 
 ghost use Rattle.std.specs.Prelude.{◌≡◌, ℕ, option_map, IfOk, IfErr, Some};
 ghost use Rattle.clap.specs.Words.{App, found_of, kind_of, rows_of, subcommand_rows_of, with_subcommand};
@@ -12,16 +12,16 @@ use clap::error::ErrorKind;
 use clap::{Arg, ArgAction, ArgMatches, Command, Error};
 use std::alloc::{AllocError, Global};
 
-/// How many workers play a script where no word names them.
+/// The number of workers of a script, unless the words name another.
 pub const WORKERS: u32 = 2;
 
-/// The most workers that play a script.
+/// The greatest number of workers of a script.
 pub const MAX_WORKERS: u64 = 64;
 
-// What is said of words that clap matches and that still ask for nothing.
+// The message for words that clap matches though they are no order.
 const NO_ORDER: &str = "error: the number of workers is 1 to 64\n";
 
-// What clap says of each command.
+// The help texts of the commands.
 const RUN: &str = "Run a program serially";
 
 const CERTIFY: &str = "Write the certificate of a program's serial run";
@@ -30,7 +30,7 @@ const CHECK: &str = "Check a certificate, and whether the run that it is of has 
 
 const PLAY: &str = "Run a program in parallel, step by step, by a script";
 
-/// Where a program text comes from.
+/// The origin of a program text.
 #[derive(Clone, Copy, PartialEq, Eq)]
 pub enum Origin<'a> {
     /// Standard input.
@@ -39,7 +39,7 @@ pub enum Origin<'a> {
     File(&'a str),
 }
 
-/// What the words ask for.
+/// The order that the words give.
 #[derive(Clone, Copy)]
 pub enum Order<'a> {
     /// Run a program, on the input of a file or on the empty input.
@@ -58,7 +58,7 @@ pub enum Order<'a> {
         certificate: &'a str,
         input: Option<&'a str>,
     },
-    /// Play a script with so many workers, on the input of a file or on the empty input.
+    /// Play a script with this many workers, on the input of a file or on the empty input.
     Play {
         program: &'a str,
         script: &'a str,
@@ -67,10 +67,10 @@ pub enum Order<'a> {
     },
 }
 
-/// Why words are no order.
+/// The reason why words are no order.
 #[derive(Drop)]
 pub enum WordsFault {
-    /// They are no command, or ask for help: clap's own text.
+    /// A usage error, or a call for help: clap's own text.
     Usage(String),
     Memory,
 }
@@ -85,7 +85,7 @@ impl From<AllocError> for WordsFault {
     }
 }
 
-/// `NAME PROGRAM [--input FILE]`.
+// `NAME PROGRAM [--input FILE]`
 fn program_command<'a>(alloc: Global, name: &'a str) -> Result<Command<'a>, AllocError>
     ensures { IfOk result (λ c. HasShape c (program_app name.entry.now)) }
 {
@@ -98,7 +98,7 @@ fn program_command<'a>(alloc: Global, name: &'a str) -> Result<Command<'a>, Allo
         )
 }
 
-/// `check PROGRAM CERTIFICATE [--input FILE]`.
+// `check PROGRAM CERTIFICATE [--input FILE]`
 fn check_command<'a>(alloc: Global) -> Result<Command<'a>, AllocError>
     ensures { IfOk result (λ c. HasShape c check_app) }
 {
@@ -112,7 +112,7 @@ fn check_command<'a>(alloc: Global) -> Result<Command<'a>, AllocError>
         )
 }
 
-/// `play PROGRAM SCRIPT`.
+// `play PROGRAM SCRIPT`
 fn script_command<'a>(alloc: Global) -> Result<Command<'a>, AllocError>
     ensures { IfOk result (λ c. HasShape c script_app) }
 {
@@ -121,7 +121,7 @@ fn script_command<'a>(alloc: Global) -> Result<Command<'a>, AllocError>
         .arg(Arg::new(alloc, "script").required(true))
 }
 
-/// `play PROGRAM SCRIPT [--workers N] [--input FILE]`.
+// `play PROGRAM SCRIPT [--workers N] [--input FILE]`
 fn play_command<'a>(alloc: Global) -> Result<Command<'a>, AllocError>
     ensures { IfOk result (λ c. HasShape c play_app) }
 {
@@ -138,7 +138,9 @@ fn play_command<'a>(alloc: Global) -> Result<Command<'a>, AllocError>
         )
 }
 
-/// An app with one more command and what is said of it. Taking the command as it was made leaves one value to drop, here, where it failed.
+/// Adds a command with its help text.
+///
+/// It takes the command as a result, so that a failure leaves one value to drop here.
 pub fn with<'a>(
     app: Command<'a>,
     command: Result<Command<'a>, AllocError>,
@@ -150,7 +152,7 @@ pub fn with<'a>(
     app.subcommand(described)
 }
 
-/// The program, which has no command yet.
+/// Returns the program without commands.
 pub fn empty<'a>(alloc: Global) -> Result<Command<'a>, AllocError>
     ensures { IfOk result (λ c. HasShape c empty_app) }
 {
@@ -160,7 +162,7 @@ pub fn empty<'a>(alloc: Global) -> Result<Command<'a>, AllocError>
         .bin_name("cilk")
 }
 
-/// The commands, each a simple one.
+// The program with all commands.
 fn command<'a>(alloc: Global) -> Result<Command<'a>, AllocError>
     ensures { IfOk result (λ c. HasShape c cilk_app) }
 {
@@ -170,7 +172,7 @@ fn command<'a>(alloc: Global) -> Result<Command<'a>, AllocError>
     with(three, play_command(alloc), PLAY)
 }
 
-/// The paths of the program and of the input that the matches of a command name.
+// The paths of the program and of the input in a command's matches.
 fn paths<'a>(matches: &ArgMatches<'a>) -> Option<(&'a str, Option<&'a str>)>
     ensures { option_map paths_view result ≡ paths_in (rows_of (found_of matches.now)) }
 {
@@ -179,7 +181,7 @@ fn paths<'a>(matches: &ArgMatches<'a>) -> Option<(&'a str, Option<&'a str>)>
     Some((program, input))
 }
 
-/// What the matches of `run` ask for.
+// The order of `run` with these matches.
 fn run_order<'a>(run: &ArgMatches<'a>) -> Option<Order<'a>>
     ensures { option_map order_view result ≡ run_with (rows_of (found_of run.now)) }
 {
@@ -190,7 +192,7 @@ fn run_order<'a>(run: &ArgMatches<'a>) -> Option<Order<'a>>
     })
 }
 
-/// What the matches of `certify` ask for.
+// The order of `certify` with these matches.
 fn certify_order<'a>(certify: &ArgMatches<'a>) -> Option<Order<'a>>
     ensures { option_map order_view result ≡ certify_with (rows_of (found_of certify.now)) }
 {
@@ -198,7 +200,7 @@ fn certify_order<'a>(certify: &ArgMatches<'a>) -> Option<Order<'a>>
     Some(Order::Certify { program, input })
 }
 
-/// What the matches of `check` ask for.
+// The order of `check` with these matches.
 fn check_order<'a>(check: &ArgMatches<'a>) -> Option<Order<'a>>
     ensures { option_map order_view result ≡ check_with (rows_of (found_of check.now)) }
 {
@@ -211,7 +213,7 @@ fn check_order<'a>(check: &ArgMatches<'a>) -> Option<Order<'a>>
     })
 }
 
-/// How many workers digits name, if they name a number from 1 to 64.
+// The number that digits name, if it is from 1 to 64.
 fn worker_count(digits: &[u8]) -> Option<u32>
     ensures { result ≡ worker_count digits.now }
 {
@@ -224,7 +226,8 @@ fn worker_count(digits: &[u8]) -> Option<u32>
     }
 }
 
-/// How many workers there are, by the word that may name them.
+/// Returns the number of workers that a word names, the default without one, or `None` for a wrong
+/// one.
 pub fn workers_in(word: Option<&str>) -> Option<u32>
     ensures { result ≡ workers_in (option_map (λ w. w.now) word.entry) }
 {
@@ -234,7 +237,7 @@ pub fn workers_in(word: Option<&str>) -> Option<u32>
     }
 }
 
-/// What the matches of `play` ask for.
+// The order of `play` with these matches.
 fn play_order<'a>(play: &ArgMatches<'a>) -> Option<Order<'a>>
     ensures { option_map order_view result ≡ play_with (rows_of (found_of play.now)) }
 {
@@ -250,7 +253,7 @@ fn play_order<'a>(play: &ArgMatches<'a>) -> Option<Order<'a>>
     })
 }
 
-/// What the matches ask for.
+// The order of the matches.
 fn order_of<'a>(matches: &ArgMatches<'a>) -> Option<Order<'a>>
     ensures { option_map order_view result ≡ order_by (subcommand_rows_of matches.now) }
 {
@@ -263,7 +266,7 @@ fn order_of<'a>(matches: &ArgMatches<'a>) -> Option<Order<'a>>
     }
 }
 
-/// What is shown in place of an order.
+/// Returns the fault for an error of clap's.
 pub fn refusal(alloc: Global, error: &Error) -> WordsFault
     ensures { IsRefusal (kind_of error.now) result }
 {
@@ -276,7 +279,7 @@ pub fn refusal(alloc: Global, error: &Error) -> WordsFault
     }
 }
 
-/// Reads the words after the program's own name.
+/// Reads the words after the program's own name as an order.
 pub fn read<'a>(alloc: Global, words: &'a [&'a str]) -> Result<Order<'a>, WordsFault>
     ensures order { IfOk result (λ o. order_in (texts words.now) ≡ Some (order_view o)) }
     ensures fault { IfErr result (λ e. IsWordsFault (texts words.now) e) }

@@ -1,4 +1,4 @@
--- What the laws of a monoid give of products.
+-- Products in a lawful monoid.
 use Rattle.std.proofs.Common.{◌≡◌, List, [], ◌∷◌, ◌++◌, map, sym, ap, ◌∙◌, refl, subst}
 use Rattle.std.specs.List.{AllByRecursion}
 use Rattle.cilk_monoid.specs.Laws.{MonoidStructure, IsLawful}
@@ -15,7 +15,7 @@ module _ {V : Type 0} (M : MonoidStructure V) (IsMember : V → Type 0) (laws : 
       ap (M.combine v) (product-append vs ws h.1 k)
       ∙ sym (laws.associative v (product M vs) (product M ws) h.0 (product_member vs h.1) (product_member ws k))
 
-  -- two neighbours may be multiplied first
+  -- two neighbouring values may be multiplied first
   pub product-combine : (a b : V) (vs : List V) → IsMember a → IsMember b → AllByRecursion IsMember vs → product M (M.combine a b ∷ vs) ≡ product M (a ∷ b ∷ vs)
   product-combine a b vs h k l = laws.associative a b (product M vs) h k (product_member vs l)
 
@@ -41,7 +41,7 @@ module _ {V : Type 0} (M : MonoidStructure V) (IsMember : V → Type 0) (laws : 
   members_of value all [] = tt
   members_of value all (x ∷ xs) = (all x, members_of value all xs)
 
-  -- a product of values is that of each grouping of them
+  -- a product of views has the value of each grouping of them
   pub product-grouped : (v : V) (vs : List V) (g : Grouping V) → v ≡ product M vs → AllByRecursion IsMember vs → values_in g ≡ vs → v ≡ product_by M g
   product-grouped v vs g p h e =
       p ∙ ap (product M) (sym e) ∙ sym (product_by-product g (subst (AllByRecursion IsMember) (sym e) h))

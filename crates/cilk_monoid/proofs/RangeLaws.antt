@@ -1,4 +1,4 @@
--- What the laws of a monoid give of the views of ranges.
+-- Views of ranges in a lawful monoid.
 use Rattle.std.proofs.Common.{◌≡◌, Bool, true, false, cond, eqb, List, [], ◌∷◌, ◌++◌, ◌⊎◌, inl, inr, sym, ap, ◌∙◌, refl, subst, true≢false}
 use Rattle.std.proofs.lemmas.Bool.{and_parts, and_from, eqb-true, eq-eqb, cond-true, cond-false, false_from_ne_true}
 use Rattle.cilk_types.specs.declared.event.Instance.{Instance}
@@ -58,7 +58,7 @@ module _ {V : Type 0} (M : MonoidStructure V) (i : Instance) where
   pub view_of-push : (es : List ReducerEvent) (e : ReducerEvent) → view_of M i (es ++ e ∷ []) ≡ after_event M i e (view_of M i es)
   view_of-push es e = view_after-append es (e ∷ []) M.unit
 
-  -- ---- what an event that resets i leaves
+  -- ---- events that reset i
   reset_event : (e : ReducerEvent) (v : V) → same_instance (instance_of e) i ≡ true → IsReset e → after_event M i e v ≡ reset_view M e
   reset_event (Created j) v h r = cond-true (same_instance j i) M.unit v h
   reset_event (Updated j x) v h r = absurd r
@@ -107,7 +107,7 @@ module _ {V : Type 0} (M : MonoidStructure V) (i : Instance) where
     updates_member (SetTo j x ∷ es) w = updates_member es w.1
     updates_member (Retired j ∷ es) w = updates_member es w.1
 
-    -- ---- a range that doesn't reset i multiplies the view before it by the range's updates
+    -- ---- a range that doesn't reset i multiplies the view before it by its updates
     pub view_after-updates : (es : List ReducerEvent) (v : V) → IsMember v → HaveWords es → ¬ (Resets i es) → view_after M i es v ≡ M.combine v (product_of_updates M (updates_of i es))
     view_after-updates [] v h w r = sym (laws.right_neutral v h)
     view_after-updates (Created j ∷ es) v h w r =

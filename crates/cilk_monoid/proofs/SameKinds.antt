@@ -1,4 +1,4 @@
--- Kinds of monoids that are told to be the same.
+-- Equality of kinds of monoids.
 --   kind_itself  a kind is the same as itself
 --   same_kind-eq    kinds that are the same are equal
 use Rattle.std.proofs.Common.{◌≡◌, true, refl}

@@ -9,31 +9,31 @@ use Rattle.cilk_monoid.specs.declared.kind.MonoidKind.TheVariants.{Add, Least, G
 use Rattle.cilk_monoid.specs.Laws.{MonoidStructure}
 use Rattle.cilk_monoid.specs.Values.{ViewValue, Number, Elements, Map}
 
--- an operation on numbers, as one on views
+-- an operation on numbers, lifted to values of views
 abbrev pub on_numbers : (ℤ → ℤ → ℤ) → ViewValue → ViewValue → ViewValue
 on_numbers f (Number a) (Number b) = Number (f a b)
 on_numbers f (Number a) v = Number a
 on_numbers f u v = u
 
--- the left list, then the right one
+-- the left list followed by the right one
 abbrev pub appended : ViewValue → ViewValue → ViewValue
 appended (Elements xs) (Elements ys) = Elements (xs ++ ys)
 appended (Elements xs) v = Elements xs
 appended u v = u
 
--- the left map, then the right one, over words
+-- two maps on words composed, the left one first
 abbrev pub composed : ViewValue → ViewValue → ViewValue
 composed (Map a b) (Map c d) = Map (word_of (a *ℤ c)) (word_of (c *ℤ b +ℤ d))
 composed (Map a b) v = Map a b
 composed u v = u
 
--- the number of a view: itself, the length of a list, what a map makes of 0
+-- the number that a program reads: the number itself, the length of a list, or a map's value at 0
 abbrev pub number_of : ViewValue → ℤ
 number_of (Number z) = z
 number_of (Elements zs) = pos (length zs)
 number_of (Map a b) = b
 
--- the room that a view takes once it is appended
+-- the room that a value needs when it is appended
 abbrev pub size_of : ViewValue → ℕ
 size_of (Elements zs) = length zs
 size_of v = 0
@@ -61,7 +61,7 @@ abbrev pub IsMap : ViewValue → Type 0
 IsMap (Map a b) = IsWord a × IsWord b
 IsMap v = ⊥
 
--- the views of a kind
+-- the values of a kind's views
 abbrev pub IsMember : MonoidKind → ViewValue → Type 0
 IsMember Add v = IsNumber v
 IsMember Least v = IsNumber v
@@ -69,7 +69,7 @@ IsMember Greatest v = IsNumber v
 IsMember Append v = IsList v
 IsMember Affine v = IsMap v
 
--- whether two kinds are one
+-- whether two kinds are the same
 abbrev pub same_kind : MonoidKind → MonoidKind → Bool
 same_kind Add Add = true
 same_kind Least Least = true
@@ -78,7 +78,7 @@ same_kind Append Append = true
 same_kind Affine Affine = true
 same_kind j k = false
 
--- what a view leaves when the run ends: a list, or the number that a program reads
+-- the last value of a reducer when the run ends: a list, or the number that a program reads
 abbrev pub final_of : ViewValue → Final
 final_of (Number z) = final.Number z
 final_of (Elements zs) = final.List zs

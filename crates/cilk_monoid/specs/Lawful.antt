@@ -15,11 +15,11 @@ use Rattle.cilk_monoid.specs.Laws.{IsLawful}
 use Rattle.cilk_monoid.specs.Rings.{times_assoc, times-sum}
 use Rattle.cilk_monoid.specs.Values.{ViewValue, Number, Elements, Map}
 
--- a whole number that is small enough is a word
+-- an integer that is small enough is a word
 fits : {z : ℤ} → mag z < 2 ^ 63 → IsWord z
 fits h = record { sfits = h }
 
--- an operation on words with a neutral one
+-- an operation on words with a neutral element
 module _ (f : ℤ → ℤ → ℤ) (u : ℤ) (unit : IsWord u) (closed : (a b : ℤ) → IsWord a → IsWord b → IsWord (f a b)) (left : (z : ℤ) → IsWord z → f u z ≡ z) (right : (z : ℤ) → IsWord z → f z u ≡ z) (assoc : (a b c : ℤ) → f (f a b) c ≡ f a (f b c)) where
   number_combine : (a b : ViewValue) → IsNumber a → IsNumber b → IsNumber (on_numbers f a b)
   number_combine (Number a) (Number b) h k = closed a b h k
@@ -159,7 +159,7 @@ map_right (Elements zs) h = absurd h
 factor_assoc : (a b c : ℤ) → word_of (word_of (a *ℤ b) *ℤ c) ≡ word_of (a *ℤ word_of (b *ℤ c))
 factor_assoc a b c = int_wrap-mul_left w64 (a *ℤ b) c ∙ ap (int_wrap w64) (times_assoc a b c) ∙ sym (int_wrap-mul_right w64 a (b *ℤ c))
 
--- the offset of three maps: (a, b), then (c, d), then (e, f)
+-- the offset of three composed maps: (a, b), then (c, d), then (e, f)
 offset_assoc : (b c d e f : ℤ) → word_of (e *ℤ word_of (c *ℤ b +ℤ d) +ℤ f) ≡ word_of (word_of (c *ℤ e) *ℤ b +ℤ word_of (e *ℤ d +ℤ f))
 offset_assoc b c d e f =
     let left : word_of (e *ℤ word_of (c *ℤ b +ℤ d) +ℤ f) ≡ word_of (e *ℤ (c *ℤ b +ℤ d) +ℤ f) = int_wrap-add_same w64 _ _ f (int_wrap-mul_right w64 e (c *ℤ b +ℤ d)) in

@@ -1,8 +1,10 @@
--- Monoids of views, and their laws on a set of members (reducers: Frigo, Halpern, Leiserson and Lewin-Berlin 2009).
+-- Monoids of views, and their laws on a set of members (Frigo, Halpern, Leiserson and Lewin-Berlin
+-- 2009).
 use Rattle.std.specs.Prelude.{◌≡◌, ℕ, ℤ}
 use Rattle.cilk_types.specs.Word.{IsWord}
 
--- a monoid with what an update adds, the number that a program reads, and the room that a value takes in a product on its left
+-- a monoid, with the value of one update, the number that a program reads, and the room that a
+-- value needs as the right side of a product
 pub record MonoidStructure (V : Type 0) : Type 0 where
   pub unit : V
   pub combine : V → V → V
@@ -10,7 +12,8 @@ pub record MonoidStructure (V : Type 0) : Type 0 where
   pub number : V → ℤ
   pub size : V → ℕ
 
--- the members are closed under the operations, and a monoid: the unit is neutral on both sides, `combine` is associative
+-- the members are closed under the operations and form a monoid: the unit is neutral on both sides
+-- and `combine` is associative
 pub record IsLawful {V : Type 0} (M : MonoidStructure V) (IsMember : V → Type 0) : Type 0 where
   pub unit_member : IsMember M.unit
   pub single_member : (x : ℤ) → IsWord x → IsMember (M.single x)

@@ -1,4 +1,4 @@
--- The product of whole numbers is associative, and distributes over the sum.
+-- The product of integers is associative and distributes over the sum.
 use Rattle.std.specs.Prelude.{◌≡◌, ℤ, pos, ◌+ℤ◌, ◌-ℤ◌, ◌*ℤ◌}
 use Rattle.std.proofs.Common.{ap, sym, ◌∙◌, subst, arith}
 use Rattle.std.proofs.lemmas.Int.{ints}

@@ -1,4 +1,4 @@
--- What a reducer's view means, whatever its monoid.
+-- The value of a reducer's view, for all monoids.
 use Rattle.std.specs.Prelude.{ℤ, List}
 
 -- a number, a list of numbers, or the map y ↦ factor * y + offset

@@ -1,4 +1,4 @@
--- What the views of the five monoids mean, and their room.
+-- The values of the five monoids' views, and their room.
 use Rattle.std.specs.Prelude.{ℕ, ◌-◌, ◌^◌, vec_len, vec_capacity}
 use Rattle.cilk_monoid.specs.declared.view.NumberView.{NumberView}
 use Rattle.cilk_monoid.specs.declared.view.ListView.{ListView}
@@ -11,13 +11,13 @@ number_value v = Number v.number
 abbrev pub list_value : ListView → ViewValue
 list_value v = Elements v.items.items
 
--- how many more elements the list takes without memory
+-- the number of elements that can be appended without allocating
 abbrev pub list_room : ListView → ℕ
 list_room v = vec_capacity v.items - vec_len v.items
 
 abbrev pub affine_value : AffineView → ViewValue
 affine_value v = Map v.factor v.offset
 
--- the room of a view whose products take no memory: more than any size
+-- the room of a view whose products don't allocate: more than any size
 abbrev pub unlimited : ℕ
 unlimited = 2 ^ 64

@@ -1,4 +1,4 @@
-//! The monoid whose views are maps on words: `affine`.
+//! The monoid of affine maps on words: `affine`.
 
 ghost use Rattle.std.specs.Prelude.{◌≡◌};
 ghost use Rattle.cilk_monoid.specs.Kinds.{structure_of, composed, IsMember};
@@ -12,12 +12,13 @@ use crate::view::AffineView;
 use cilk_types::word;
 use std::alloc::{AllocError, Global};
 
-/// `affine`: maps on words, one after the other, the left one first. Its unit is the map that changes nothing, an update
-/// with x is `y -> 10 * y + x`, and its number is what the map makes of 0. It doesn't commute.
+/// `affine`: maps on words, composed so that the left one is applied first. The unit is the
+/// identity. An update with x is the map `y -> 10 * y + x`. The number is the map's value at 0. It
+/// doesn't commute.
 #[derive(Clone, Copy, PartialEq, Eq, Debug)]
 pub struct Affine;
 
-// The left map, then the right one.
+// The left map is applied first.
 fn compose(left: AffineView, right: AffineView) -> AffineView
     ensures { affine_value result ≡ composed (affine_value left) (affine_value right) }
 {

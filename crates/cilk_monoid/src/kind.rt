@@ -1,6 +1,6 @@
 //! The monoids that programs name.
 
-/// A monoid by its name in a program.
+/// A monoid, by its name in a program.
 #[derive(Clone, Copy, PartialEq, Eq, Hash, Debug)]
 pub enum MonoidKind {
     /// `add`: the sum of words, which wraps.
@@ -9,8 +9,8 @@ pub enum MonoidKind {
     Least,
     /// `max`: the greatest word.
     Greatest,
-    /// `append`: lists of words, one after the other.
+    /// `append`: lists of words, concatenated.
     Append,
-    /// `affine`: maps `y -> factor * y + offset`, one after the other.
+    /// `affine`: maps `y -> factor * y + offset`, composed with the left one first.
     Affine,
 }

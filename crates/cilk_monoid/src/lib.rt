@@ -1,14 +1,24 @@
-//! Monoids of reducers.
+//! The monoids of reducers, with proofs of their laws.
 //!
-//! A reducer is a variable that parallel strands update without a race, because each works on a view of its own (Frigo,
-//! Halpern, Leiserson and Lewin-Berlin 2009). Views are multiplied when strands join. The outcome is that of the serial run
-//! where the multiplication is a monoid: it is associative, and the unit, with which a new view begins, is neutral. The
-//! order of the factors is the serial order, so the multiplication need not commute.
+//! A reducer is a variable that parallel strands update without a race, because each works on a
+//! view of its own (Frigo, Halpern, Leiserson and Lewin-Berlin 2009). A new view begins as the
+//! unit, and views are multiplied when strands join. If the multiplication is associative and the
+//! unit is neutral, the product is the value of the serial run, however the run was scheduled. The
+//! factors keep serial order, so the multiplication need not commute.
 //!
-//! A [`monoid::Monoid`] proves its laws once, and code that is generic in it may rest on them. Programs name five:
-//! [`number::Add`], [`number::Least`] and [`number::Greatest`] of words, [`list::Append`] of lists and
-//! [`affine::Affine`] of maps ([`kind::MonoidKind`]). What the view of a range of a run's events is, and when adjoining
-//! ranges' views multiply to that of the joined range, are the laws of [`range`].
+//! Each [`monoid::Monoid`] proves these laws, so code that is generic in it can use them. Programs
+//! name five ([`kind::MonoidKind`]):
+//!
+//! | Name | Monoid | View |
+//! |---|---|---|
+//! | `add` | [`number::Add`] | a word; the sum wraps |
+//! | `min` | [`number::Least`] | a word |
+//! | `max` | [`number::Greatest`] | a word |
+//! | `append` | [`list::Append`] | a list of words |
+//! | `affine` | [`affine::Affine`] | a map `y -> factor * y + offset` on words |
+//!
+//! [`fold::fold_pieces`] multiplies a list of views. The laws in [`range`] say what view a range of
+//! a run's events gives, and when the views of two adjacent ranges multiply to the view of both.
 //!
 //! ```text
 //! let mut evens = Append::unit(alloc);

@@ -1,4 +1,4 @@
-//! The monoid whose views are lists: `append`.
+//! The monoid of lists: `append`.
 
 ghost use Rattle.cilk_monoid.specs.Kinds.{structure_of, IsMember};
 ghost use Rattle.cilk_monoid.specs.declared.kind.MonoidKind.{MonoidKind};
@@ -10,7 +10,8 @@ use crate::monoid::Monoid;
 use crate::view::ListView;
 use std::alloc::{AllocError, Global};
 
-/// `append`: lists of words, one after the other. Its unit is the empty list, and its number the length.
+/// `append`: lists of words, concatenated. The unit is the empty list, and the number is the
+/// length.
 #[derive(Clone, Copy, PartialEq, Eq, Debug)]
 pub struct Append;
 

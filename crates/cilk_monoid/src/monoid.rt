@@ -9,41 +9,43 @@ use std::fmt::Debug;
 
 /// A monoid over the views of a reducer.
 ///
-/// Contracts speak of a view's `value` and of the number of places that it has `reserved`. An implementation names the
-/// monoid of those values, its `structure`, and proves that it is `lawful` on the members and that each view is one.
+/// Contracts speak of a view's `value`, and of the room that it has `reserved` for products. An
+/// implementation names the monoid of the values, its `structure`. It proves that the members
+/// satisfy the laws (`lawful`) and that the value of each view is a member.
 ///
-/// What may take memory is passed the allocator and can be refused; then what it was lent has the value that it had, and
-/// what it consumed comes back.
+/// Calls that may allocate receive the allocator and fail if memory runs out. Then a borrowed view
+/// keeps its value, and consumed views are returned.
 pub trait Monoid: Drop {
-    /// A view, as a worker holds it while it runs.
+    /// A view, as a worker holds it during a run.
     type View: Drop + Debug;
 
     // The monoid of the views' values.
     ghost structure: { MonoidStructure ViewValue };
 
-    // The values that views have.
+    // The values that views may have.
     ghost IsMember: { ViewValue → Type 0 };
 
-    // What a view means.
+    // The value of a view.
     ghost value: { Self.View → ViewValue };
 
-    // How much may still be multiplied to a view from the right without memory.
+    // The total size of right sides that the view can be multiplied by without allocating.
     ghost reserved: { Self.View → ℕ };
 
-    /// The unit, which takes no memory.
+    /// Makes the unit, without allocating.
     fn unit(alloc: Global) -> Self::View
         ensures { value result ≡ structure.unit };
 
-    /// The view of one update.
+    /// Makes the view of one update.
     fn single(alloc: Global, x: i64) -> Result<Self::View, AllocError>
         ensures { IfOk result (λ v. value v ≡ structure.single x) };
 
-    /// Multiplies the view with that of one update from the right.
+    /// Multiplies the view from the right by the view of one update.
     fn update(alloc: Global, view: &mut Self::View, x: i64) -> Result<(), AllocError>
         ensures ok { OnOk result (value view.new ≡ structure.combine (value view.old) (structure.single x)) }
         ensures err { OnErr result (value view.new ≡ value view.old) };
 
-    /// The product, the left view first. It costs its right side.
+    /// Multiplies two views, the left one first. Costs a copy of the right side, and growth of the
+    /// left one if it has no room.
     fn combine(
         alloc: Global,
         left: Self::View,
@@ -52,20 +54,20 @@ pub trait Monoid: Drop {
         ensures ok { IfOk result (λ v. value v ≡ structure.combine (value left) (value right)) }
         ensures err { IfErr result (λ p. (value p.0 ≡ value left) × (value p.1 ≡ value right)) }
 
-        // It succeeds where the room serves, and uses up no more of it than the right side's size.
+        // It succeeds if enough room is reserved, and uses up at most the right side's size of it.
         ensures succeeds { structure.size (value right) ≤ reserved left → IsOk result }
         ensures room { IfOk result (λ v. reserved left ≤ reserved v + structure.size (value right)) };
 
-    /// The number that a program reads.
+    /// Returns the number that a program reads.
     fn number(view: &Self::View) -> i64
         ensures { result ≡ structure.number (value view.now) };
 
-    /// How much room the view takes on the right of a product.
+    /// Returns the room that the view needs as the right side of a product.
     fn size(view: &Self::View) -> usize
         ensures value { result ≡ structure.size (value view.now) }
         ensures small { result < 2 ^ 63 };
 
-    /// Makes room, so that products with right sides of together at most this size take no memory.
+    /// Reserves room: then products with right sides of at most this size in total don't allocate.
     fn room(alloc: Global, view: &mut Self::View, size: usize) -> Result<(), AllocError>
         ensures value { value view.new ≡ value view.old }
         ensures room { OnOk result (size ≤ reserved view.new) }
@@ -75,6 +77,6 @@ pub trait Monoid: Drop {
     // The members form a monoid.
     ghost lawful: { IsLawful structure IsMember };
 
-    // Each view is a member.
+    // The value of each view is a member.
     ghost members: { (v : Self.View) → IsMember (value v) };
 }

@@ -1,4 +1,4 @@
-//! The monoids whose views are words: `add`, `min` and `max`.
+//! The monoids of words: `add`, `min` and `max`.
 
 ghost use Rattle.cilk_monoid.specs.Kinds.{structure_of, IsMember};
 ghost use Rattle.cilk_monoid.specs.declared.kind.MonoidKind.{MonoidKind};
@@ -11,7 +11,7 @@ use crate::view::NumberView;
 use cilk_types::word;
 use std::alloc::{AllocError, Global};
 
-/// `add`: the sum of words, which wraps. Its unit is 0.
+/// `add`: the sum of two words, which wraps. The unit is 0.
 #[derive(Clone, Copy, PartialEq, Eq, Debug)]
 pub struct Add;
 
@@ -66,7 +66,7 @@ impl Monoid for Add {
     }
 }
 
-/// `min`: the least word. Its unit is the greatest word.
+/// `min`: the lesser of two words. The unit is the greatest word.
 #[derive(Clone, Copy, PartialEq, Eq, Debug)]
 pub struct Least;
 
@@ -121,7 +121,7 @@ impl Monoid for Least {
     }
 }
 
-/// `max`: the greatest word. Its unit is the least word.
+/// `max`: the greater of two words. The unit is the least word.
 #[derive(Clone, Copy, PartialEq, Eq, Debug)]
 pub struct Greatest;
 

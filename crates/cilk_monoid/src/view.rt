@@ -1,26 +1,25 @@
-//! Views: the values that a reducer's monoid multiplies, as a worker holds them while it runs.
-//!
-//! Each keeps in its type that its numbers are words.
+//! Views: the values that a reducer's monoid multiplies, as a worker holds them during a run. The
+//! types guarantee that their numbers are words.
 
 ghost use Rattle.std.specs.Prelude.{All};
 ghost use Rattle.std.proofs.Props.{props};
 ghost use Rattle.cilk_types.specs.Word.{IsWord};
 
-/// A view that is a word. Its products take no memory.
+/// A view that is a word. Its products don't allocate.
 #[derive(Clone, Copy, PartialEq, Eq, Debug)]
 pub struct NumberView {
     pub number: i64,
     ghost word: { IsWord number },
 }
 
-/// A view that is a list of words, with room for more behind them.
+/// A view that is a list of words, with room to append more.
 #[derive(Drop, Debug)]
 pub struct ListView {
     pub items: Vec<i64>,
     ghost words: { All IsWord items.items } by { Prim.hlevel props },
 }
 
-/// A view that is the map `y -> factor * y + offset` on words. Its products take no memory.
+/// A view that is the map `y -> factor * y + offset` on words. Its products don't allocate.
 #[derive(Clone, Copy, PartialEq, Eq, Debug)]
 pub struct AffineView {
     pub factor: i64,

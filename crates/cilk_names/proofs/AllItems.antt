@@ -1,4 +1,4 @@
--- A text's items, one after the other.
+-- The items of a text, in order.
 use Rattle.std.proofs.Common.{◌≡◌, ℕ, zero, suc, ◌+◌, ◌<◌, ◌≤◌, ℤ, pos, true, List, [], ◌∷◌, ◌++◌, length, drop, get_or, Option, refl, sym, ap, ◌∙◌, subst, append_assoc, add-one}
 use Rattle.std.proofs.lemmas.List.{append-nil, drop_all}
 use Rattle.std.proofs.Math.Seq.{drop-cons}
@@ -142,7 +142,7 @@ function_closed n c after now ps row e is f =
     let k : Keeps (opened n) after.names = subst (λ (m : Names). Keeps m after.names) e (subst (λ (a : Context). Keeps c.names a.names) (sym is) h) in
     f n.outer n.inner k.outer ∙ closed_names n after.names k.text k.signatures k.level
 
--- ahead of a function's parameters
+-- before a function's parameters
 function_begun : (k : Known) (returns : ReturnType) (x : Name) (number reducers loops : ℕ) (declared : Names) (begun : Context)
     → number ≡ k.functions → declared ≡ declare k.names x (meanings.Function number) → reducers ≡ k.reducers → loops ≡ k.loops
     → begun ≡ record { names = opened declared; frame = record { body = bodies.Function number; returns = returns; cells = 0; heading = true }; given = []; own = []; reducers = reducers; loops = loops }
@@ -155,7 +155,7 @@ function_begun k returns x number reducers loops declared begun n d r l b =
     ∙ ap (λ j. of (declare k.names x (meanings.Function k.functions)) k.functions j loops) r
     ∙ ap (λ h. of (declare k.names x (meanings.Function k.functions)) k.functions k.reducers h) l
 
--- behind its body
+-- after its body
 pub function_known : (k now : Known) (returns : ReturnType) (x : Name) (ps : List Parameter) (row : trees.Statements) (number reducers loops : ℕ) (declared : Names) (begun params after : Context)
     → number ≡ k.functions → declared ≡ declare k.names x (meanings.Function number) → reducers ≡ k.reducers → loops ≡ k.loops
     → begun ≡ record { names = opened declared; frame = record { body = bodies.Function number; returns = returns; cells = 0; heading = true }; given = []; own = []; reducers = reducers; loops = loops }
@@ -190,7 +190,7 @@ function_made k returns x ps row number reducers loops declared begun params aft
     ∙ ap (λ (y : Statements). let g : Function = record { words = params.frame.cells; given = (behind_row params row).given; cells = (behind_row params row).frame.cells; reducers = (behind_row params row).own; body = y } in g) e
     ∙ ap (λ (y : Context). function_of_body y row) (q ∙ ap (λ (y : Context). with_parameters y ps) (function_begun k returns x number reducers loops declared begun n d r l b))
 
--- ahead of the first item
+-- before the first item
 pub started : (k : Known) (text : List ℕ) (sigs : List Signature) (items : List Item)
     → k.names ≡ record { text = text; signatures = sigs; inner = functions_known text 0 items; outer = []; level = 0 } → sigs ≡ signatures_of text items
     → k.openings ≡ [] → k.shared ≡ [] → k.functions ≡ 0 → k.reducers ≡ 0 → k.loops ≡ 0 → k ≡ start text items

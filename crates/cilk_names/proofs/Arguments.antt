@@ -1,4 +1,4 @@
--- The arguments of a call, one after the other.
+-- The arguments of a call, in order.
 use Rattle.std.proofs.Common.{◌≡◌, ℕ, zero, suc, ◌+◌, ◌<◌, ◌≤◌, List, [], ◌∷◌, ◌++◌, length, drop, get_or, map, Option, unwrap_or, slice_get, refl, sym, ap, ◌∙◌, append_assoc, add-one}
 use Rattle.std.proofs.lemmas.List.{append-nil, drop_all}
 use Rattle.std.proofs.Math.Seq.{drop-cons}
@@ -34,7 +34,7 @@ rest_drop [] (suc i) = refl
 rest_drop (k ∷ ks) zero = refl
 rest_drop (k ∷ ks) (suc i) = rest_drop ks i
 
--- what is left, at one of them
+-- the arguments that are left, if there is one
 left_arguments : (list : List code.Argument) (i : ℕ) (a : code.Argument) → i < length list → a ≡ get_or list i a
     → arguments_of (drop i list) ≡ trees.argument a ∷ arguments_of (drop (suc i) list)
 left_arguments list i a h e = ap arguments_of (drop-cons list i a h ∙ ap (λ y. y ∷ drop (suc i) list) (sym e))
@@ -79,7 +79,7 @@ module _ (names : Names) (ks : List ParameterKind) (list : List code.Argument) (
       ∙ ap (λ x. before ++ reducers_of names (drop i ks) x) (sym (left_arguments list i a lt at))
       ∙ h)
 
--- past the last
+-- past the last argument
 left_none : (list : List code.Argument) (i : ℕ) → length list ≤ i → arguments_of (drop i list) ≡ []
 left_none list i h = ap arguments_of (drop_all i list h)
 

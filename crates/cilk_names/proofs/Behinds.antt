@@ -1,4 +1,4 @@
--- What a statement leaves as it is: the text, the functions, the scopes round it and the number of loop bodies.
+-- A statement keeps the text, the functions, the outer scopes and the number of loop bodies.
 use Rattle.std.proofs.Common.{◌≡◌, ℕ, ◌+◌, false, List, [], ◌∷◌, ◌++◌, Option, Some, None, refl, sym, ap, ◌∙◌, subst}
 use Rattle.cilk_syntax.specs.Trees as trees
 use Rattle.cilk_syntax.specs.declared.tree.Name.{Name}
@@ -9,7 +9,7 @@ use Rattle.cilk_names.specs.Faults.{again_faults}
 use Rattle.cilk_names.specs.declared.table.Meaning.TheVariants as meanings
 use Rattle.cilk_program.specs.declared.program.Body.TheVariants as bodies
 
--- the scope in which it stands alone may differ
+-- only the statement's own scope may differ
 pub record Keeps (old new : Names) : Type 0 where
   pub text : new.text ≡ old.text
   pub signatures : new.signatures ≡ old.signatures
@@ -58,18 +58,18 @@ keeps_row c trees.End = same c.names
 keeps_row c (trees.Then s row) =
     then c.names (behind (ahead c s) s).names (behind_row (behind (ahead c s) s) row).names (keeps (ahead c s) s) (keeps_row (behind (ahead c s) s) row)
 
--- what a closed scope leaves
+-- the names after a scope is closed
 pub closed_names : (n m : Names) → m.text ≡ n.text → m.signatures ≡ n.signatures → m.level ≡ n.level → record m { inner = n.inner; outer = n.outer } ≡ n
 closed_names n m t s l =
     ap (λ x. let r : Names = record { text = x; signatures = m.signatures; inner = n.inner; outer = n.outer; level = m.level } in r) t
     ∙ ap (λ x. let r : Names = record { text = n.text; signatures = x; inner = n.inner; outer = n.outer; level = m.level } in r) s
     ∙ ap (λ x. let r : Names = record { text = n.text; signatures = n.signatures; inner = n.inner; outer = n.outer; level = x } in r) l
 
--- What closing a scope does to a context.
+-- Closing a scope in a context.
 abbrev pub Closes : Context → Context → Type 0
 Closes after now = (outer : List Scope) (inner : Scope) → after.names.outer ≡ outer ++ inner ∷ [] → now ≡ record after { names = record after.names { inner = inner; outer = outer } }
 
--- behind a scope that is closed: the scopes round it were those of its context
+-- after a closed scope: the outer scopes are those of its context
 closed : (c after now : Context) → Keeps (inside c).names after.names → Closes after now → now ≡ behind_scope c after
 closed c after now k f =
     f c.names.outer c.names.inner k.outer
@@ -96,7 +96,7 @@ head_closed c d e after now b s p q r f =
     let k : Keeps (inside c).names after.names = subst (λ (a : Context). Keeps (inside c).names a.names) (sym is) (keeps_beginning (inside c) b) in
     closed c after now k f ∙ ap (behind_scope c) is
 
--- behind the body of a parallel loop
+-- after the body of a parallel loop
 pub loop_closed : (c d after now : Context) (x : Name) (s : trees.Statement) (level : ℕ) (frame : Frame) → d ≡ in_body c x → after ≡ behind_scope d (behind (inside d) s)
     → ((outer : List Scope) (inner : Scope) → after.names.outer ≡ outer ++ inner ∷ [] → now ≡ record after { names = record after.names { inner = inner; outer = outer; level = level }; frame = frame })
     → level ≡ c.names.level → frame ≡ c.frame
@@ -109,7 +109,7 @@ loop_closed c d after now x s level frame p q f l m =
     ∙ ap (λ (n : ℕ). record (behind_scope d' (behind (inside d') s)) { names = record d'.names { inner = c.names.inner; outer = c.names.outer; level = n }; frame = frame }) l
     ∙ ap (λ (g : Frame). record (behind_scope d' (behind (inside d') s)) { names = c.names; frame = g }) m
 
--- ahead of the body of a parallel loop
+-- before the body of a parallel loop
 pub entered : (c : Context) (x : Name) (t m : Names) (number level loops : ℕ) → t ≡ opened c.names → m ≡ declare (record t { level = level }) x (meanings.Turn level)
     → level ≡ c.names.level + 1 → number ≡ c.loops → loops ≡ c.loops + 1
     → record c { names = m; frame = record c.frame { body = bodies.Loop number; cells = 1; heading = false }; loops = loops } ≡ in_body c x

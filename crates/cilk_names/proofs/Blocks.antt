@@ -1,4 +1,4 @@
--- Lists of statements, as loops make them and as they stand in a block.
+-- Lists of statements, as the code's loops build them and as a block has them.
 use Rattle.std.proofs.Common.{◌≡◌, List, [], ◌∷◌, ◌++◌, Option, refl, ap, ◌∙◌, rules, Vec, Box}
 use Rattle.std.specs.declared.alloc.Global.{Global}
 use Rattle.cilk_syntax.specs.declared.tree.Stmt as code
@@ -10,7 +10,7 @@ use Rattle.cilk_program.specs.declared.syntax.Stmt.TheBlock as given
 use Rattle.cilk_program.specs.Programs as programs
 use Rattle.cilk_program.specs.Syntax.{Block, For, Statements, Nothing, Then}
 
--- a row in a tree is the list that it was made of
+-- a row of statements in a tree is the list that it was made from
 tree_row : (n : _) (row : code.Row_of-Stmt n) → trees.row_view row ≡ trees.statements (code.items-the_row-Stmt n row)
 tree_row _ code.end_of-Stmt = refl
 tree_row _ (code.more_of-Stmt s row) = ap (λ x. trees.Then (trees.statement s) x) (tree_row _ row)
@@ -37,7 +37,7 @@ for_is b e a s =
     ap (λ x. For x (programs.optional e) (programs.row_view (given.hidden-the_row-Stmt-0 a)) (programs.statement s.value)) (resolved_list b)
     ∙ ap (λ x. For (programs.statements b.items) (programs.optional e) x (programs.statement s.value)) (resolved_list a)
 
--- a list, and then a row
+-- a list followed by a row
 abbrev pub followed : List resolved.Stmt → Statements → Statements
 followed [] row = row
 followed (s ∷ list) row = Then (programs.statement s) (followed list row)

@@ -1,4 +1,4 @@
--- What a body resolves to names things that are there.
+-- The names in a resolved body refer to things that exist.
 use Rattle.std.proofs.Common.{◌≡◌, ℕ, zero, suc, ◌+◌, ◌-◌, ◌<◌, ◌≤◌, nat_lt, Bool, true, false, ◌&&◌, not, IsTrue, List, [], ◌∷◌, ◌++◌, length, drop, slice_get, Option, Some, None, unwrap_or, refl, sym, ap, ◌∙◌, subst, append_assoc, length-append, add-one, arith}
 use Rattle.std.proofs.lemmas.Bool.{ltb-true, lt-ltb, le-ltb, eq-eqb, and_from}
 use Rattle.cilk_monoid.specs.declared.kind.MonoidKind.{MonoidKind}
@@ -48,7 +48,7 @@ get_last (a ∷ xs) ys x = get_last xs ys x
 pub at_most_from : (n k : ℕ) → n ≤ k → at_most n k ≡ true
 at_most_from n k h = ap not (le-ltb k n h)
 
--- what a loop stands in
+-- the body that a loop is in
 abbrev loop_or : Option Loop → Body
 loop_or o = let l = unwrap_or o idle_loop in l.within
 
@@ -74,7 +74,7 @@ module _ (p : Source) where
 
 -- a body of the function with this level
 module _ (p : Source) (bottom : Level) where
-  -- a place of a body with these levels, the first of them its own
+  -- a place of a body with these levels, its own first
   pub record Stands (c : Context) (ls : List Level) (top : Level) : Type 0 where
     pub names : NamesFit p ls c.names
     pub signatures : SignaturesFit p c.names.signatures
@@ -85,7 +85,7 @@ module _ (p : Source) (bottom : Level) where
     pub first : slice_get ls 0 ≡ Some top
     pub last : slice_get ls c.names.level ≡ Some bottom
 
-  -- the program has at least what stands ahead
+  -- the program has at least the cells, reducers and loops so far
   pub record Ends (d : Context) (top : Level) : Type 0 where
     pub cells : d.frame.cells ≤ top.cells
     pub rest : List MonoidKind
@@ -191,7 +191,7 @@ module _ (p : Source) (bottom : Level) where
       stands_behind c (with_reducer c r) ls top h (grows c (trees.Statement.Reducer r) f) (keeps c (trees.Statement.Reducer r))
       (names_declare p ls c.names r.name (meanings.Reducer (homes.Own (length c.own)) (monoid_at c.names r)) h.names there)
 
-  -- behind a statement
+  -- after a statement
   stands_on : (c : Context) (s : trees.Statement) (r : Statement) (made : List Loop) (ls : List Level) (top : Level) → Stands c ls top → statement_faults c s ≡ [] → ResolvesStatement c s r made → Ends (behind c s) top
       → Stands (behind c s) ls top
   stands_on c (trees.Declare vs) r made ls top h f (ds, k, is, none) e = (locals_named c vs ds ls top h f k e).1
@@ -231,7 +231,7 @@ module _ (p : Source) (bottom : Level) where
     count = let e : length made ≡ 0 = ap length none in omega arith;
   }
 
-  -- a statement round another
+  -- a statement that contains another
   round : (c d d' : Context) (r r' : Statement) (s : Statement) (made : List Loop) → Named (inside c) d s made → d'.loops ≡ d.loops → r ≡ r' → IsTrue (statement_is_named p c.frame.body r') → Named c d' r made
   round c d d' r r' s made h same is k = record {
     statement = subst (λ x. IsTrue (statement_is_named p c.frame.body x)) (sym is) k;
@@ -251,7 +251,7 @@ module _ (p : Source) (bottom : Level) where
   locals_loops c [] = refl
   locals_loops c (v ∷ vs) = locals_loops (with_variable c v.name) vs
 
-  -- ahead of the body of a parallel loop
+  -- before the body of a parallel loop
   loop_stands : (c : Context) (x : Name) (s : trees.Statement) (l : Loop) (ls : List Level) (top : Level) → Stands c ls top
       → slice_get p.loops c.loops ≡ Some l → l.within ≡ c.frame.body → 0 < l.cells
       → Stands (inside (in_body c x)) (loop_level l ∷ ls) (loop_level l)

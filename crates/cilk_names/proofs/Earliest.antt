@@ -1,5 +1,5 @@
--- The earliest fault of a list, along its parts.
---   earliest_append   of two lists, one after the other
+-- The earliest fault of a list, from its parts.
+-- earliest_append   of two lists, appended
 use Rattle.std.proofs.Common.{◌≡◌, List, [], ◌∷◌, ◌++◌, Option, refl}
 use Rattle.cilk_names.specs.declared.kind.Misnaming.{Misnaming}
 use Rattle.cilk_names.specs.Faults.{earlier, earliest}

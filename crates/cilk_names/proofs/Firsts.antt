@@ -10,7 +10,7 @@ use Rattle.cilk_names.specs.Globals.{start, main_of}
 use Rattle.cilk_names.specs.Faults.{number_of, is_before, earliest}
 use Rattle.cilk_names.specs.Misnamings.{IsFirst, items_faults, or_no_main, faults_of}
 
--- by place, then number: an order of its own on numbers
+-- by place, then by number, as an order on numbers
 abbrev lower : ℕ → ℕ → ℕ → ℕ → Bool
 lower p n q m = nat_lt p q || (nat_eq p q && nat_lt n m)
 
@@ -28,7 +28,7 @@ lower_second fp fn gp gn hp hn a b = grind (arith, nat_tests)
 contains_head : {A : Type 0} (x : A) (xs : List A) → Contains (x ∷ xs) x
 contains_head x xs = Contains-append_left (x ∷ []) xs x (Contains-push [] x)
 
--- past the second of two
+-- past the second item
 contains_third : {A : Type 0} (x y z : A) (xs : List A) → Contains (x ∷ xs) z → Contains (x ∷ y ∷ xs) z
 contains_third x y z xs h = elim (Contains-append_cases (x ∷ []) xs z h) [
   | inl k ↦ Contains-append_left (x ∷ []) (y ∷ xs) z k
@@ -83,14 +83,14 @@ or_other main n [] f e = absurd cc
 or_other None n (g ∷ fs) f e = refl
 or_other (Some m) n (g ∷ fs) f e = refl
 
--- the first fault that the pass finds is the tree's first
+-- the first fault that the pass finds is the tree's first fault
 pub fault_is : (t : Tree) (first : Option Misnaming) (f : Misnaming) → first ≡ earliest None (items_faults (start t.text.items (program t)) (program t)) → first ≡ Some f → IsFirst f (faults_of t)
 fault_is t first f e is =
     let fs = items_faults (start t.text.items (program t)) (program t) in
     let k : earliest None fs ≡ Some f = sym e ∙ is in
     subst (IsFirst f) (sym (or_other (main_of t.text.items 0 (program t)) (length t.text.items) fs f k)) (earliest_first fs f k)
 
--- where it finds none, and no main function, that is the fault
+-- if the pass finds no fault and there is no main function, that is the fault
 pub no_main_is : (t : Tree) (first : Option Misnaming) (place : ℕ)
     → first ≡ earliest None (items_faults (start t.text.items (program t)) (program t)) → first ≡ None
     → main_of t.text.items 0 (program t) ≡ None → place ≡ length t.text.items
@@ -105,7 +105,7 @@ no_main_is t first place e is missing at =
     ∙ ap (λ (n : ℕ). let g : Misnaming = record { number = NoMain; place = n } in g ∷ []) (sym at) in
     subst (IsFirst f) (sym fs) (contains_head f [], All-cons (λ x. is_before x f ≡ false) f [] (lower_itself place 115) (λ k d lt. absurd (omega arith)))
 
--- where it finds none and there is a main function, nothing is wrong
+-- if the pass finds no fault and there is a main function, the tree has no fault
 pub right_is : (t : Tree) (first : Option Misnaming) (n : ℕ) → first ≡ earliest None (items_faults (start t.text.items (program t)) (program t)) → first ≡ None
     → main_of t.text.items 0 (program t) ≡ Some n → faults_of t ≡ []
 right_is t first n e is m =

@@ -1,4 +1,4 @@
--- What names mean is there in the program that is made.
+-- The meanings of names exist in the resolved program.
 use Rattle.std.proofs.Common.{◌≡◌, ℕ, suc, ◌+◌, ◌-◌, ◌<◌, ◌≤◌, nat_lt, nat_eq, Bool, true, false, ◌&&◌, if◌then◌else◌, IsTrue, List, [], ◌∷◌, length, slice_get, Option, Some, None, unwrap_or, option_map, bytes_eq, refl, sym, ap, ◌∙◌, subst, add-one, arith}
 use Rattle.std.specs.Option.{option_or}
 use Rattle.std.proofs.lemmas.Bool.{lt-ltb, eq-eqb, and_from}
@@ -34,7 +34,7 @@ use Rattle.cilk_names.specs.Resolution.{ResolvesExpression, ResolvesOptional, Re
 use Rattle.cilk_names.proofs.Tables.{found_last}
 use Rattle.cilk_monoid.proofs.SameKinds.{kind_itself}
 
--- operators name nothing by themselves
+-- operators contain no names of their own
 module _ (p : Source) (b : Body) where
   prefixed_named : (op : UnaryOperator) (e : Expression) → IsTrue (expression_is_named p b e) → IsTrue (expression_is_named p b (prefixed op e))
   prefixed_named unary.Negate e h = h
@@ -55,7 +55,7 @@ module _ (p : Source) (b : Body) where
   joined_named binary.Divide d e h = h
   joined_named binary.Remainder d e h = h
 
--- how many of these are words, and the monoids of the others
+-- the number of words among these, and the monoids of the others
 abbrev pub words_in : List ParameterKind → ℕ
 words_in [] = 0
 words_in (kinds.Word ∷ ks) = suc (words_in ks)
@@ -67,7 +67,7 @@ given_in (kinds.Word ∷ ks) = given_in ks
 given_in (kinds.Reducer k ∷ ks) = kind_or_sum k ∷ given_in ks
 
 module _ (p : Source) where
-  -- what a name means is there, as a body with these levels sees it
+  -- the meaning of a name exists, seen from a body with these levels
   abbrev pub MeaningFits : List Level → ℕ → Meaning → Type 0
   MeaningFits ls level (meanings.Global n) = IsTrue (nat_lt n (length p.openings))
   MeaningFits ls level (meanings.Array a) = IsTrue (at_most (a.first + a.length) (length p.openings))
@@ -78,11 +78,11 @@ module _ (p : Source) where
   MeaningFits ls level (meanings.Reducer (homes.Given n) k) = IsTrue (has_given (slice_get ls level) n (kind_or_sum k))
   MeaningFits ls level (meanings.Function n) = n < length p.functions
 
-  -- so is what each name means
+  -- the same for each name
   pub record NamesFit (ls : List Level) (names : Names) : Type 0 where
     pub fits : (q : List ℕ) (e : Binding) → found names q ≡ Some e → MeaningFits ls names.level e.meaning
 
-  -- the functions take what their signatures say
+  -- the functions match their signatures
   pub record SignaturesFit (sigs : List Signature) : Type 0 where
     pub words : (n : ℕ) → n < length p.functions → let f = function_at p n in let s = unwrap_or (slice_get sigs n) plain in f.words ≡ words_in s.parameters
     pub given : (n : ℕ) → n < length p.functions → let f = function_at p n in let s = unwrap_or (slice_get sigs n) plain in f.given ≡ given_in s.parameters
@@ -106,7 +106,7 @@ module _ (p : Source) where
   pub names_opened : (ls : List Level) (names : Names) → NamesFit ls names → NamesFit ls (opened names)
   names_opened ls names h = record { fits = λ q e f. h.fits q e (sym (found_last names.outer names.inner q) ∙ f) }
 
-  -- a loop body stands in one more
+  -- seen from a loop body one level deeper
   deeper : (l : Level) (ls : List Level) (level : ℕ) (m : Meaning) → MeaningFits ls level m → MeaningFits (l ∷ ls) (level + 1) m
   deeper l ls level (meanings.Global n) h = h
   deeper l ls level (meanings.Array a) h = h
@@ -124,7 +124,7 @@ module _ (p : Source) where
   pub names_deeper : (l : Level) (ls : List Level) (names : Names) → NamesFit ls names → NamesFit (l ∷ ls) (record (opened names) { level = names.level + 1 })
   names_deeper l ls names h = record { fits = λ q e f. deeper l ls names.level e.meaning (h.fits q e (sym (found_last names.outer names.inner q) ∙ f)) }
 
-  -- what a name is seen as
+  -- the result of a look-up
   seen_found : {A : Type 0} (f : Meaning → Option A) (o : Option Binding) (x : A) → seen f (option_map (λ (e : Binding). e.meaning) o) ≡ Some x → (e : Binding) × (o ≡ Some e) × (f e.meaning ≡ Some x)
   seen_found f None x h = absurd cc
   seen_found f (Some e) x h = (e, refl, h)

@@ -1,4 +1,4 @@
--- What is known of a text's functions, one item after the other.
+-- The known functions of a text, item by item.
 use Rattle.std.proofs.Common.{◌≡◌, ℕ, suc, ◌+◌, ◌<◌, ◌≤◌, Bool, true, false, if◌then◌else◌, List, [], ◌∷◌, length, drop, get_or, Option, Some, None, refl, sym, ap, ◌∙◌, subst, add-one, bytes_eq, arith}
 use Rattle.std.specs.Option.{is_some, option_or}
 use Rattle.std.proofs.Math.Path.{fun_ext}
@@ -24,7 +24,7 @@ left list i x h e = ap items_of (drop-cons list i x h ∙ ap (λ y. y ∷ drop (
 none : (list : List code.Item) (i : ℕ) → length list ≤ i → items_of (drop i list) ≡ []
 none list i h = ap items_of (drop_all i list h)
 
--- functions that are known: a name that is known already stays as it is
+-- known functions: a name that is known already keeps its meaning
 known_cases : (s : Scope) (name q : List ℕ) (e : Binding) (later : Option Binding) (b c : Bool) → is_some (s name) ≡ b → bytes_eq name q ≡ c
     → option_or ((if b then s else with_entry s name e) q) later ≡ option_or (s q) (if c then Some e else later)
 known_cases s name q e later true true h k = known_some (s q) (subst (λ (x : List ℕ). is_some (s x) ≡ true) (same_bytes name q k) h)
@@ -84,7 +84,7 @@ module _ (text : List ℕ) (list : List code.Item) (i : ℕ) (x : code.Item) (n 
   pub main_here : (b : Bool) → b ≡ is_main_item text (trees.item x) → b ≡ true → Some n ≡ main_of text 0 (items_of list)
   main_here b e f = ap (λ (c : Bool). if c then Some n else main_of text (functions_behind n (trees.item x)) (items_of (drop (suc i) list))) (sym f ∙ e) ∙ main_item
 
--- a table that knows one more function
+-- a table with one more known function
 pub known_names : (n m : Names) (x i : Scope) (text : List ℕ) (sigs : List Signature) → m ≡ record n { inner = x }
     → n ≡ record { text = text; signatures = sigs; inner = i; outer = []; level = 0 } → m ≡ record { text = text; signatures = sigs; inner = m.inner; outer = []; level = 0 }
 known_names n m x i text sigs e f =

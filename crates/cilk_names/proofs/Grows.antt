@@ -1,4 +1,5 @@
--- What statements add to a context: cells, reducers and loops are only ever added, within their limits where nothing is wrong.
+-- Statements only ever add cells, reducers and loops to a context, within their limits if there is
+-- no fault.
 use Rattle.std.proofs.Common.{◌≡◌, ℕ, ◌+◌, ◌<◌, ◌≤◌, nat_lt, Bool, true, false, if◌then◌else◌, List, [], ◌∷◌, ◌++◌, length, Option, Some, None, refl, sym, ap, ◌∙◌, append_assoc, length-append, arith}
 use Rattle.std.proofs.lemmas.List.{append-nil}
 use Rattle.std.proofs.lemmas.Bool.{ltb-true, lt-ltb}
@@ -13,7 +14,7 @@ use Rattle.cilk_names.specs.Faults.{unless, again_faults, monoid_faults}
 use Rattle.cilk_names.specs.Misnamings.{limit_faults, own_faults, expression_faults, head_faults, statement_faults, row_faults}
 use Rattle.cilk_names.proofs.Rights.{both_nil, unless_right, for_right}
 
--- one more is counted where there is room
+-- one more is counted if there is room
 pub counted_more : (limit n : ℕ) → n < limit → counted limit n ≡ n + 1
 counted_more limit n h = ap (λ b. if b then n + 1 else n) (lt-ltb n limit h)
 
@@ -120,11 +121,11 @@ grows_beginning c None = stays c c refl refl refl refl refl refl
 grows_beginning c (Some (trees.Declares x e)) = grows_variable c x
 grows_beginning c (Some (trees.Assigns a)) = stays c c refl refl refl refl refl refl
 
--- inside a scope, and behind it
+-- inside a scope, and after it
 pub grows_inside : (c d : Context) → Grows (inside c) d → Grows c (behind_scope c d)
 grows_inside c d h = record { body = h.body; cells = h.cells; most = h.most; more = h.more; own = h.own; given = h.given; reducers = h.reducers; within = h.within; count = h.count; loops = h.loops }
 
--- the body of a parallel loop, and behind it
+-- in the body of a parallel loop, and after it
 pub grows_loop : (c d : Context) (x : Name) → Grows (inside (in_body c x)) d → Grows c (behind_loop c d)
 grows_loop c d x h = record {
   body = refl;

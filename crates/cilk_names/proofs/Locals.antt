@@ -1,4 +1,4 @@
--- The variables of a declaration and the parameters of a function, one after the other.
+-- The variables of a declaration and the parameters of a function, in order.
 use Rattle.std.proofs.Common.{◌≡◌, ℕ, zero, suc, ◌+◌, ◌<◌, ◌≤◌, List, [], ◌∷◌, ◌++◌, length, drop, get_or, map, Option, refl, sym, ap, ◌∙◌, append_assoc, add-one, arith}
 use Rattle.std.proofs.lemmas.List.{append-nil, drop_all}
 use Rattle.std.proofs.Math.Seq.{drop-cons}
@@ -16,13 +16,13 @@ use Rattle.cilk_names.specs.Pass.{declarations_of}
 use Rattle.cilk_names.proofs.Earliest.{earliest_append}
 use Rattle.cilk_names.proofs.Tables.{map_append}
 
--- an element of a list, whatever stands for those past its end
+-- an element of a list, for each default past its end
 pub get_any : {A : Type 0} (list : List A) (i : ℕ) (d e : A) → i < length list → get_or list i d ≡ get_or list i e
 get_any [] i d e h = absurd (omega arith)
 get_any (x ∷ list) zero d e h = refl
 get_any (x ∷ list) (suc i) d e h = get_any list i d e (omega arith)
 
--- what is left, at one of them
+-- the variables that are left, if there is one
 left_locals : (list : List code.Local) (i : ℕ) (l : code.Local) → i < length list → l ≡ get_or list i l → locals_of (drop i list) ≡ trees.local l ∷ locals_of (drop (suc i) list)
 left_locals list i l h e = ap locals_of (drop-cons list i l h ∙ ap (λ y. y ∷ drop (suc i) list) (sym e))
 
@@ -63,7 +63,7 @@ module _ (start before now : Context) (list : List code.Local) (i : ℕ) (l : co
       ∙ ap (λ x. map declaration done ++ declarations_of before x) (sym (left_locals list i l lt at))
       ∙ h)
 
--- past the last
+-- past the last variable
 left_none : (list : List code.Local) (i : ℕ) → length list ≤ i → locals_of (drop i list) ≡ []
 left_none list i h = ap locals_of (drop_all i list h)
 

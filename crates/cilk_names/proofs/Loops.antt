@@ -1,4 +1,4 @@
--- The list of loops, in which a loop's place is taken ahead of those in its body.
+-- The list of loops. The place of a loop is reserved before those of the loops in its body.
 use Rattle.std.proofs.Common.{◌≡◌, ℕ, zero, suc, ◌+◌, ◌<◌, List, [], ◌∷◌, ◌++◌, length, map, slice_set, refl, sym, ap, ◌∙◌, length-append, arith}
 use Rattle.cilk_syntax.specs.declared.tree.Name.{Name}
 use Rattle.cilk_syntax.specs.Trees as trees
@@ -18,7 +18,7 @@ set_middle : {A : Type 0} (xs ys : List A) (p v : A) → slice_set ((xs ++ p ∷
 set_middle [] ys p v = refl
 set_middle (x ∷ xs) ys p v = ap (λ zs. x ∷ zs) (set_middle xs ys p v)
 
--- the place is there
+-- the place is in the list
 pub place_taken : (old entered after : List coded.Loop) (p : Loop) (more : List Loop) (n : ℕ)
     → map programs.loop entered ≡ map programs.loop old ++ p ∷ [] → map programs.loop after ≡ map programs.loop entered ++ more → n ≡ length old → n < length after
 place_taken old entered after p more n e f g =
@@ -26,7 +26,7 @@ place_taken old entered after p more n e f g =
     let b : length (map programs.loop entered) ≡ length old + 1 = ap length e ∙ length-append (map programs.loop old) (p ∷ []) ∙ ap (λ k. k + 1) (length_map programs.loop old) in
     omega arith
 
--- and the loop that takes it
+-- the loop is put in it
 pub loop_taken : (c d after : Context) (x : Name) (s : trees.Statement) (old entered scoped now : List coded.Loop) (p : Loop) (n : ℕ) (within : Body) (r : Statement)
     → d ≡ in_body c x → after ≡ behind_scope d (behind (inside d) s) → r ≡ statement_of (inside d) s → within ≡ c.frame.body
     → map programs.loop entered ≡ map programs.loop old ++ p ∷ [] → map programs.loop scoped ≡ map programs.loop entered ++ loops_of (inside d) s → n ≡ length old

@@ -1,4 +1,4 @@
--- A tree has one first fault of its names, or none: `one_fault`, `none_where_resolved`.
+-- A tree has at most one first fault: `one_fault`, `none_where_resolved`.
 use Rattle.std.proofs.Common.{◌≡◌, ℕ, false, ◌||◌, ◌&&◌, [], refl, subst, arith, nat_lt, nat_eq}
 use Rattle.std.proofs.lemmas.Bool.Decides.{nat_tests}
 use Rattle.cilk_syntax.specs.declared.tree.Tree.{Tree}
@@ -20,7 +20,7 @@ same_rank : (p n q m : ℕ) → (nat_lt p q || (nat_eq p q && nat_lt n m)) ≡ f
     → (nat_lt q p || (nat_eq q p && nat_lt m n)) ≡ false → n ≡ m
 same_rank p n q m a b = grind (arith, nat_tests)
 
--- the numbers tell the faults apart
+-- different kinds of faults have different numbers
 same_number : (n m : NameErrorKind) → number_of n ≡ number_of m → n ≡ m
 same_number numbers.Unknown numbers.Unknown e = refl
 same_number numbers.DeclaredTwice numbers.DeclaredTwice e = refl
@@ -33,7 +33,7 @@ same_number numbers.ReducerNotFirst numbers.ReducerNotFirst e = refl
 same_number numbers.OverLimit numbers.OverLimit e = refl
 same_number _ _ e = absurd (omega arith)
 
--- of two firsts of a list neither is before the other
+-- neither of two first faults is before the other
 pub one_fault : (t : Tree) (n m : NameErrorKind) (p q : ℕ) → IsNameFault (At n p) t → IsNameFault (At m q) t
     → (n ≡ m) × (p ≡ q)
 one_fault t n m p q h k =

@@ -1,4 +1,4 @@
--- A part of a tree resolves to nothing but what the pass makes of it.
+-- A part of a tree resolves only to the result of the pass.
 use Rattle.std.proofs.Common.{◌≡◌, ℕ, List, [], ◌∷◌, ◌++◌, Option, Some, None, pos, negsuc, sym, ap, ◌∙◌}
 use Rattle.std.specs.Option.{option_map, option_to_list}
 use Rattle.cilk_types.specs.declared.invocation.Invocation.{Invocation}

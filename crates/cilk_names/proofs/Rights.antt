@@ -1,4 +1,4 @@
--- Where nothing is wrong with its names, a part of a tree resolves to what the pass makes of it.
+-- A part of a tree without faults resolves to the result of the pass.
 use Rattle.std.proofs.Common.{◌≡◌, ℕ, nat_eq, Bool, true, false, not, ◌||◌, List, [], ◌∷◌, ◌++◌, length, Option, Some, None, pos, negsuc, refl, sym, ap, ◌∙◌, subst, arith}
 use Rattle.std.specs.Option.{is_some, option_map, option_to_list}
 use Rattle.std.proofs.lemmas.Bool.{eqb-true}
@@ -27,7 +27,7 @@ use Rattle.cilk_names.specs.Misnamings.{expression_faults, optional_faults, plac
 use Rattle.cilk_names.specs.Pass.{read_of, element_of, value_of, expression_of, optional_of, to_variable, to_element, target_of, or_empty, assignment_of, optional_row, bare_reducer, words_of, reducers_of, invoke_of, invoking, declaration_of, declarations_of, beginning_of, statement_of, row_of, loops_of, row_loops}
 use Rattle.cilk_names.specs.Resolution.{ResolvesExpression, ResolvesOptional, ResolvesPlace, ResolvesAssignment, ResolvesStep, ResolvesBare, ResolvesArguments, ResolvesCall, ResolvesInitializer, ResolvesLocals, ResolvesBeginning, ResolvesStatement, ResolvesRow}
 
--- two lists with nothing in them
+-- both lists are empty
 pub both_nil : {A : Type 0} (xs ys : List A) → xs ++ ys ≡ [] → (xs ≡ []) × (ys ≡ [])
 both_nil [] ys h = (refl, h)
 both_nil (x ∷ xs) ys h = absurd cc

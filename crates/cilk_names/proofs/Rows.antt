@@ -1,4 +1,4 @@
--- Statements one after the other, and loops in their list.
+-- Statements in order, and their loops in the list of loops.
 use Rattle.std.proofs.Common.{◌≡◌, ℕ, suc, ◌+◌, ◌<◌, ◌≤◌, List, [], ◌∷◌, ◌++◌, length, drop, get_or, Option, sym, ap, ◌∙◌, append_assoc, add-one}
 use Rattle.std.proofs.lemmas.List.{append-nil, drop_all}
 use Rattle.std.proofs.Math.Seq.{drop-cons}
@@ -15,7 +15,7 @@ use Rattle.cilk_names.specs.Pass.{statement_of, row_of, loops_of, row_loops}
 use Rattle.cilk_names.proofs.Earliest.{earliest_append}
 use Rattle.cilk_names.proofs.Blocks.{followed, followed_push, followed_nothing}
 
--- what is left, at one of them
+-- the statements that are left, if there is one
 left : (list : List code.Stmt) (i : ℕ) (s : code.Stmt) → i < length list → s ≡ get_or list i s → trees.statements (drop i list) ≡ trees.Then (trees.statement s) (trees.statements (drop (suc i) list))
 left list i s h e = ap trees.statements (drop-cons list i s h ∙ ap (λ y. y ∷ drop (suc i) list) (sym e))
 

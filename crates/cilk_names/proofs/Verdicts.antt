@@ -1,4 +1,4 @@
--- A tree resolves exactly where nothing is wrong with its names, and to one program.
+-- A tree resolves if and only if it has no fault, and then to one program.
 use Rattle.std.proofs.Common.{◌≡◌, ℕ, List, [], ◌∷◌, ◌++◌, length, map, Option, Some, None, refl, sym, ap, ◌∙◌}
 use Rattle.cilk_syntax.specs.declared.tree.Tree.{Tree}
 use Rattle.cilk_syntax.specs.Trees as trees
@@ -62,7 +62,7 @@ items_only k (trees.Function returns x ps body ∷ rest) fs ls (row, fs', first,
       all ∙ ap (λ y. y ++ second) p.1 ∙ ap (λ y. row_loops c body ++ y) q.1,
     )
 
--- nothing is wrong, and there is a main function
+-- there is no fault, so there is a main function
 right_parts : (main : Option ℕ) (place : ℕ) (fs : List Misnaming) → or_no_main main place fs ≡ [] → (fs ≡ []) × ((n : ℕ) × (main ≡ Some n))
 right_parts None place [] h = absurd cc
 right_parts (Some n) place [] h = (refl, (n, refl))
@@ -87,7 +87,7 @@ right_resolves t h = let m = (tree_parts t h).1 in (program_of t m.0, program_re
 pub resolves_right : (t : Tree) → ((s : Source) × Resolves t s) → faults_of t ≡ []
 resolves_right t (s, h) = h.right
 
--- what it resolves to is what the pass makes
+-- the program of a tree is the result of the pass
 pub resolves_only : (t : Tree) (s : Source) → Resolves t s → s ≡ program_of t s.main
 resolves_only t s h =
     let k = start t.text.items (program t) in

@@ -1,4 +1,4 @@
--- The program of a tree with nothing wrong is well named.
+-- The program of a tree without faults is well named.
 use Rattle.std.proofs.Common.{◌≡◌, ℕ, zero, suc, ◌+◌, ◌-◌, ◌<◌, ◌≤◌, ℤ, pos, negsuc, nat_lt, nat_eq, Bool, true, false, ◌&&◌, not, if◌then◌else◌, IsTrue, List, [], ◌∷◌, ◌++◌, length, drop, map, slice_get, Option, Some, None, unwrap_or, bytes_eq, refl, sym, ap, ◌∙◌, subst, append_assoc, length-append, arith}
 use Rattle.std.specs.Option.{option_or}
 use Rattle.std.proofs.lemmas.List.{append-nil}
@@ -141,7 +141,7 @@ module _ (p : Source) where
       ap (λ i. has_given (slice_get ls i) (length c.given) kind) zero_level ∙ ap (λ o. has_given o (length c.given) kind) at ∙ ap (λ o. is_kind o kind) here ∙ kind_itself kind in
       parameters_fit ls bottom c' ps rest (names_declare p ls c.names x.name (meanings.Reducer (homes.Given (length c.given)) (monoid_at c.names x)) h there) q.1 at zero_level e g
 
-  -- what a function sees of what stands between items
+  -- a function sees the meanings of names between items
   seen_inside : (l : Level) (level : ℕ) (m : Meaning) → MeaningFits p [] level m → MeaningFits p (l ∷ []) level m
   seen_inside l level (meanings.Global n) h = h
   seen_inside l level (meanings.Array a) h = h
@@ -164,7 +164,7 @@ module _ (p : Source) where
     within : k.reducers ≤ 64
     count : length k.shared ≤ k.reducers
 
-  -- the program has at least what stands ahead
+  -- the program has at least the cells, reducers and loops so far
   record Before (k : Known) : Type 0 where
     cells : List ℤ
     openings : p.openings ≡ k.openings ++ cells
@@ -188,7 +188,7 @@ module _ (p : Source) where
     count = count;
   }
 
-  -- a variable that there is room for
+  -- a variable within the limit
   room_right : (n : ℕ) (x : Name) → unless (not (globals_full n)) OverLimit x.at ≡ [] → n < 1000000
   room_right n x h = ltb-true n MAX_GLOBALS (double (nat_lt n MAX_GLOBALS) (unless_right (not (globals_full n)) OverLimit x.at h))
     where
@@ -222,7 +222,7 @@ module _ (p : Source) where
       between_declare k (behind_global k (globals.Array x z)) x (meanings.Array (record { first = n; length = m })) h refl (at_most_from (n + m) (length p.openings) (omega arith))
       (let most = cells_most n z h.most in omega arith) h.within h.count
 
-  -- what stood ahead still does
+  -- the same before a step, from after it
   before_global : (k : Known) (v : GlobalVariable) → Before (behind_global k v) → Before k
   before_global k (globals.Variable x i) b = record {
     cells = (if globals_full (length k.openings) then [] else opening_value i ∷ []) ++ b.cells;
@@ -284,7 +284,7 @@ module _ (p : Source) where
         loops = b.loops;
       }
 
-  -- a function: its body names things that are there, and it is within the limits
+  -- a function: the names in its body refer to things that exist, and it is within the limits
   record FunctionNamed (k : Known) (d : Known) (f : Function) (made : List Loop) : Type 0 where
     function : IsTrue (function_is_named p k.functions f)
     loops : IsTrue (loops_are_named p k.loops made)
@@ -455,7 +455,7 @@ module _ (p : Source) where
         between = o.between;
       }
 
--- signatures say what functions take
+-- the functions match their signatures
 record FunctionsFit (fs : List Function) (sigs : List Signature) : Type 0 where
   words : (n : ℕ) → n < length fs → let f = unwrap_or (slice_get fs n) idle in let s = unwrap_or (slice_get sigs n) plain in f.words ≡ words_in s.parameters
   given : (n : ℕ) → n < length fs → let f = unwrap_or (slice_get fs n) idle in let s = unwrap_or (slice_get sigs n) plain in f.given ≡ given_in s.parameters
@@ -501,7 +501,7 @@ functions_fit k text (trees.Function returns x ps body ∷ rest) fs made t f (ro
         given_more f fs s sigs g k zero lt = g
         given_more f fs s sigs g k (suc n) lt = k.given n (omega arith)
 
--- functions that are known are there
+-- known functions exist
 functions_there : (k : Known) (text : List ℕ) (m : ℕ) (items : List Item) (fs : List Function) (made : List Loop) (q : List ℕ) (e : Binding) → ResolvesItems k items fs made
     → functions_known text m items q ≡ Some e → (n : ℕ) × (e.meaning ≡ meanings.Function n) × (n < m + length fs)
 functions_there k text m [] fs made q e h is = absurd cc
@@ -517,7 +517,7 @@ functions_there k text m (trees.Function returns x ps body ∷ rest) fs made q e
     there_cases true f c next = let known : Binding = record { meaning = meanings.Function m; declared = false } in let same : known ≡ e = cc in (m, sym (ap (λ (y : Binding). y.meaning) same), omega arith)
     there_cases false f c next = let r = next f in (r.0, r.1, let lt = r.2 in omega arith)
 
--- the main function is there, and takes nothing
+-- the main function exists and has no parameters
 main_there : (k : Known) (text : List ℕ) (m n : ℕ) (items : List Item) (fs : List Function) (made : List Loop) → items_faults k items ≡ [] → ResolvesItems k items fs made → main_of text m items ≡ Some n
     → (i : ℕ) × (n ≡ m + i) × (i < length fs) × (let f = unwrap_or (slice_get fs i) idle in (f.words ≡ 0) × (f.given ≡ []))
 main_there k text m n [] fs made f h is = absurd cc
@@ -551,7 +551,7 @@ main_there k text m n (trees.Function returns x ps body ∷ rest) fs made f (row
     main_cases f true e h here next = let same : m ≡ n = cc in (0, omega arith, omega arith, here e)
     main_cases f false e h here next = let r = next h in (suc r.0, let y = r.1 in omega arith, let lt = r.2 in omega arith, r.3)
 
--- how many loops stand behind
+-- the number of loops after a statement
 locals_count : (c : Context) (ls : List trees.Local) → (behind_locals c ls).loops ≡ c.loops
 locals_count c [] = refl
 locals_count c (l ∷ ls) = locals_count (with_variable c l.name) ls
@@ -618,7 +618,7 @@ items_count k (trees.Function returns x ps body ∷ rest) =
     let z = length-append (row_loops c body) (items_loops d rest) in
     omega arith
 
--- ahead of the first item
+-- before the first item
 start_between : (t : Tree) (n : ℕ) → faults_of t ≡ [] → main_of t.text.items 0 (program t) ≡ Some n → Between (program_of t n) (start t.text.items (program t))
 start_between t n h m =
     let k = start t.text.items (program t) in
@@ -685,6 +685,6 @@ well_named t n h m =
     i.functions)
     i.loops
 
--- what a tree resolves to
+-- the program of a tree
 pub resolved_named : (t : Tree) (s : Source) → Resolves t s → IsTrue (is_well_named s)
 resolved_named t s h = subst (λ (x : Source). IsTrue (is_well_named x)) (sym (resolves_only t s h)) (well_named t s.main h.right h.main)

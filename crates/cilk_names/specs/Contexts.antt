@@ -1,4 +1,5 @@
--- What is known at each place of a text: in a body, ahead of its statements and behind them, and of its functions.
+-- The context at each place of a text: before and after the statements of a body, and of its
+-- functions.
 use Rattle.std.specs.Prelude.{ℕ, ◌+◌, nat_lt, Bool, false, if◌then◌else◌, List, [], ◌∷◌, ◌++◌, length, Option, Some, None, bytes_eq}
 use Rattle.cilk_monoid.specs.declared.kind.MonoidKind.{MonoidKind}
 use Rattle.cilk_syntax.specs.declared.tree.Name.{Name}
@@ -17,16 +18,17 @@ use Rattle.cilk_names.specs.declared.signature.ParameterKind.{ParameterKind}
 use Rattle.cilk_names.specs.declared.signature.ParameterKind.TheVariants as kinds
 use Rattle.cilk_names.specs.declared.signature.Signature.{Signature}
 
--- the scope of a parallel loop's variable, which is known in its body alone
+-- the scope of a parallel loop's variable, which is known only in the loop's body
 abbrev pub in_loop : Names → Name → Names
 in_loop names x = declare (record (opened names) { level = names.level + 1 }) x (meanings.Turn (names.level + 1))
 
--- one more of what a program may have so many of; past that no more are counted
+-- counts one more, but not past the limit
 abbrev pub counted : ℕ → ℕ → ℕ
 counted limit n = if nat_lt n limit then n + 1 else n
 
--- What is known at a place of a body: names, the frame of the body, the monoids of the reducers that the function was given and of its own
--- so far, and how many declarations of reducers and how many loops stand ahead in the text.
+-- The context at a place of a body: names, the frame, the monoids of the function's reducer
+-- parameters and of its own reducers so far, and the number of reducer declarations and of loops
+-- before it in the text.
 pub record Context : Type 0 where
   pub names : Names
   pub frame : Frame
@@ -39,11 +41,11 @@ pub record Context : Type 0 where
 abbrev pub inside : Context → Context
 inside c = record c { names = opened c.names; frame = record c.frame { heading = false } }
 
--- behind a scope names mean what they meant ahead of it
+-- after a scope, names mean what they meant before it
 abbrev pub behind_scope : Context → Context → Context
 behind_scope c after = record after { names = c.names }
 
--- a statement that declares no reducer ends those of its function
+-- a statement that declares no reducer ends the function's reducer declarations
 abbrev pub keeps_heading : trees.Statement → Bool → Bool
 keeps_heading (trees.Statement.Reducer r) heading = heading
 keeps_heading s heading = false
@@ -51,7 +53,7 @@ keeps_heading s heading = false
 abbrev pub ahead : Context → trees.Statement → Context
 ahead c s = record c { frame = record c.frame { heading = keeps_heading s c.frame.heading } }
 
--- a variable takes the frame's next cell
+-- a variable is in the frame's next cell
 abbrev pub with_variable : Context → Name → Context
 with_variable c x = record c {
   names = declare c.names x (meanings.Local c.names.level c.frame.cells);
@@ -74,7 +76,7 @@ behind_beginning c None = c
 behind_beginning c (Some (trees.Declares x e)) = with_variable c x
 behind_beginning c (Some (trees.Assigns a)) = c
 
--- in the body of a parallel loop, whose frame has the loop's variable first
+-- in the body of a parallel loop, whose frame has the loop's variable in cell 0
 abbrev pub in_body : Context → Name → Context
 in_body c x = record c {
   names = in_loop c.names x;
@@ -82,12 +84,12 @@ in_body c x = record c {
   loops = c.loops + 1;
 }
 
--- behind a parallel loop
+-- after a parallel loop
 abbrev pub behind_loop : Context → Context → Context
 behind_loop c after = record after { names = c.names; frame = c.frame }
 
 abbrev mutual
-  -- behind a statement; the statement under `if`, `else`, `while`, `for` and `cilk_for` is a scope
+  -- after a statement; the statement under `if`, `else`, `while`, `for` and `cilk_for` is a scope
   pub behind : Context → trees.Statement → Context
   behind c trees.Empty = c
   behind c (trees.Block row) = behind_scope c (behind_row (inside c) row)
@@ -111,7 +113,7 @@ abbrev mutual
   behind_row c trees.End = c
   behind_row c (trees.Then s row) = behind_row (behind (ahead c s) s) row
 
--- what a parameter takes
+-- the kind of a parameter
 abbrev pub kind_of : List ℕ → Parameter → ParameterKind
 kind_of text (parameters.Variable x) = kinds.Word
 kind_of text (parameters.Reducer r) = kinds.Reducer (monoid_of (bytes_of text r.monoid))
@@ -120,14 +122,15 @@ abbrev pub kinds_of : List ℕ → List Parameter → List ParameterKind
 kinds_of text [] = []
 kinds_of text (p ∷ ps) = kind_of text p ∷ kinds_of text ps
 
--- what the functions of these items take and return, in order
+-- the signatures of the functions of these items, in order
 abbrev pub signatures_of : List ℕ → List Item → List Signature
 signatures_of text [] = []
 signatures_of text (Globals vs ∷ rest) = signatures_of text rest
 signatures_of text (Item.Reducer r ∷ rest) = signatures_of text rest
 signatures_of text (Function returns name ps body ∷ rest) = record { returns = returns; parameters = kinds_of text ps } ∷ signatures_of text rest
 
--- the functions of these items, of which so many stand ahead: known, and not declared yet; of two of one name the first
+-- the functions of these items, numbered from n: known and not declared yet; of two with one name
+-- the first
 abbrev pub functions_known : List ℕ → ℕ → List Item → Scope
 functions_known text n [] name = None
 functions_known text n (Globals vs ∷ rest) name = functions_known text n rest name
@@ -151,7 +154,7 @@ with_item text s n (Globals vs) = s
 with_item text s n (Item.Reducer r) = s
 with_item text s n (Function returns x ps body) = with_function s (bytes_of text x) n
 
--- how many functions stand behind an item, where so many stand ahead
+-- the number of functions up to and including an item, with n before it
 abbrev pub functions_behind : ℕ → Item → ℕ
 functions_behind n (Globals vs) = n
 functions_behind n (Item.Reducer r) = n

@@ -1,4 +1,4 @@
--- What is wrong at a name, and which of two faults is the earlier.
+-- The faults of names, and their order.
 use Rattle.std.specs.Prelude.{ℕ, nat_lt, nat_eq, Bool, not, ◌&&◌, ◌||◌, if◌then◌else◌, List, [], ◌∷◌, ◌++◌, Option, Some, None}
 use Rattle.std.specs.Option.{is_some}
 use Rattle.cilk_syntax.specs.declared.tree.Name.{Name}
@@ -11,7 +11,7 @@ use Rattle.cilk_names.specs.declared.kind.Misnaming.{Misnaming}
 use Rattle.cilk_names.specs.Names.{Names, meaning, is_declared, monoid_at}
 use Rattle.cilk_names.specs.Sights.{place_of, is_turn, array_of, reducer_of, function_of}
 
--- the number that a fault is reported by
+-- the number by which a fault is reported
 abbrev pub number_of : NameErrorKind → ℕ
 number_of Unknown = 111
 number_of DeclaredTwice = 112
@@ -30,7 +30,7 @@ at number place = record { number = number; place = place } ∷ []
 abbrev pub unless : Bool → NameErrorKind → ℕ → List Misnaming
 unless right number place = if right then [] else at number place
 
--- a name has to be known, and of the right kind
+-- a name must be known and of the right kind
 abbrev pub name_faults : (Meaning → Bool) → Option Meaning → ℕ → List Misnaming
 name_faults right None place = at Unknown place
 name_faults right (Some m) place = unless (right m) WrongKind place
@@ -51,11 +51,11 @@ abbrev pub turn_faults : Option Meaning → ℕ → List Misnaming
 turn_faults None place = []
 turn_faults (Some m) place = unless (not (is_turn m)) LoopVariable place
 
--- a variable that is written isn't that of a parallel loop
+-- a written variable isn't that of a parallel loop
 abbrev pub written_faults : Names → Name → List Misnaming
 written_faults names x = variable_faults names x ++ turn_faults (meaning names x) x.at
 
--- a name is declared once in a scope
+-- a name is declared at most once in a scope
 abbrev pub again_faults : Names → Name → List Misnaming
 again_faults names x = unless (not (is_declared names.inner (bytes_of names.text x))) DeclaredTwice x.at
 
@@ -66,12 +66,12 @@ monoid_faults names r = unless (is_some (monoid_at names r)) Unknown r.monoid.at
 abbrev pub is_before : Misnaming → Misnaming → Bool
 is_before f g = nat_lt f.place g.place || (nat_eq f.place g.place && nat_lt (number_of f.number) (number_of g.number))
 
--- the earlier of two
+-- the earlier of two faults
 abbrev pub earlier : Option Misnaming → Misnaming → Option Misnaming
 earlier None f = Some f
 earlier (Some g) f = if is_before f g then Some f else Some g
 
--- the earliest of these and of one found before
+-- the earliest of these faults and one found before
 abbrev pub earliest : Option Misnaming → List Misnaming → Option Misnaming
 earliest first [] = first
 earliest first (f ∷ fs) = earliest (earlier first f) fs

@@ -1,4 +1,4 @@
--- What a text's items declare: global variables, global reducers and functions.
+-- The declarations of a text's items: global variables, global reducers and functions.
 use Rattle.std.specs.Prelude.{ℕ, zero, suc, ◌+◌, nat_lt, ℤ, pos, negsuc, Bool, true, false, not, if◌then◌else◌, List, [], ◌∷◌, ◌++◌, length, Option, Some, None, bytes_eq, codes}
 use Rattle.cilk_syntax.specs.declared.tree.Name.{Name}
 use Rattle.cilk_syntax.specs.declared.tree.GlobalVariable.{GlobalVariable}
@@ -15,8 +15,8 @@ use Rattle.cilk_names.specs.declared.table.Home.TheVariants as homes
 use Rattle.cilk_names.specs.Names.{Names, opened, declare, monoid_at, kind_or_sum}
 use Rattle.cilk_names.specs.Contexts.{Context, counted, behind_row, with_parameters, signatures_of, functions_known, functions_behind}
 
--- What is known at a place between items: names, the opening values of the global cells and the global reducers so far, and how many
--- functions, declarations of reducers and loops stand ahead.
+-- The context between items: names, the opening values of the global cells and the global reducers
+-- so far, and the number of functions, reducer declarations and loops so far.
 pub record Known : Type 0 where
   pub names : Names
   pub openings : List ℤ
@@ -25,7 +25,7 @@ pub record Known : Type 0 where
   pub reducers : ℕ
   pub loops : ℕ
 
--- nothing stands ahead; the functions of the text are known
+-- before the first item: the functions of the text are known
 abbrev pub start : List ℕ → List Item → Known
 start text items = record {
   names = record { text = text; signatures = signatures_of text items; inner = functions_known text 0 items; outer = []; level = 0 };
@@ -36,11 +36,12 @@ start text items = record {
   loops = 0;
 }
 
--- there is no room for one more cell
+-- there is no room for another cell
 abbrev pub globals_full : ℕ → Bool
 globals_full n = not (nat_lt n MAX_GLOBALS)
 
--- the elements of an array behind so many cells: none where the length is no array's, or there is no room
+-- the number of cells for an array after n cells: 0 if the length isn't positive or there is no
+-- room
 abbrev pub array_cells : ℕ → ℤ → ℕ
 array_cells n (pos k) = if nat_lt MAX_GLOBALS (n + k) then 0 else k
 array_cells n (negsuc k) = 0
@@ -49,7 +50,7 @@ abbrev pub zeros : ℕ → List ℤ
 zeros zero = []
 zeros (suc n) = pos 0 ∷ zeros n
 
--- behind a global variable or array, which takes the next cells
+-- after a global variable or array, which is in the next cells
 abbrev pub behind_global : Known → GlobalVariable → Known
 behind_global k (globals.Variable x i) = record k {
   names = declare k.names x (meanings.Global (length k.openings));
@@ -64,7 +65,7 @@ abbrev pub behind_line : Known → List GlobalVariable → Known
 behind_line k [] = k
 behind_line k (v ∷ vs) = behind_line (behind_global k v) vs
 
--- the body of the next function, whose parameters share its scope
+-- in the body of the next function, whose parameters are in its scope
 abbrev pub in_function : Known → ReturnType → Name → Context
 in_function k returns x = record {
   names = opened (declare k.names x (meanings.Function k.functions));
@@ -96,7 +97,7 @@ abbrev pub behind_items : Known → List Item → Known
 behind_items k [] = k
 behind_items k (i ∷ rest) = behind_items (behind_item k i) rest
 
--- the function that a program begins with
+-- the function is the main function
 abbrev pub is_main : List ℕ → ReturnType → Name → List Parameter → Bool
 is_main text Int x [] = bytes_eq (bytes_of text x) (codes "main")
 is_main text Int x (p ∷ ps) = false
@@ -107,7 +108,7 @@ is_main_item text (Globals vs) = false
 is_main_item text (Item.Reducer r) = false
 is_main_item text (Function returns x ps body) = is_main text returns x ps
 
--- the number of the first of these items' functions that is, where so many functions stand ahead
+-- the number of the first main function among these items, with n functions before them
 abbrev pub main_of : List ℕ → ℕ → List Item → Option ℕ
 main_of text n [] = None
 main_of text n (i ∷ rest) = if is_main_item text i then Some n else main_of text (functions_behind n i) rest

@@ -1,4 +1,4 @@
--- Where names go wrong, along the tree.
+-- The faults of a tree's names, in the order of the tree.
 use Rattle.std.specs.Prelude.{◌≡◌, ℕ, ◌+◌, nat_lt, nat_eq, Bool, true, false, not, ◌||◌, List, [], ◌∷◌, ◌++◌, Option, Some, None, length, All, Contains, bytes_eq}
 use Rattle.cilk_monoid.specs.declared.kind.MonoidKind.{MonoidKind}
 use Rattle.cilk_syntax.specs.declared.tree.Name.{Name}
@@ -56,7 +56,7 @@ abbrev pub optional_assignment_faults : Names → Option trees.Assignment → Li
 optional_assignment_faults names None = []
 optional_assignment_faults names (Some a) = assignment_faults names a
 
--- an argument for a reducer is the bare name of one, of the same monoid
+-- an argument for a reducer parameter must be the bare name of a reducer of the same monoid
 abbrev pub bare_faults : Names → Option MonoidKind → ℕ → Expression → Option Name → List Misnaming
 bare_faults names k place e None = at WrongKind place ++ expression_faults names e
 bare_faults names k place e (Some x) = name_faults (is_reducer_of k) (meaning names x) place
@@ -73,7 +73,7 @@ abbrev pub returns_word : ReturnType → Bool
 returns_word Int = true
 returns_word Void = false
 
--- a call has as many arguments as the function has parameters, and one whose result is taken returns one
+-- a call has an argument for each parameter, and its function returns a value if the result is used
 abbrev pub fit_faults : Option ℕ → Signature → Bool → trees.Call → List Misnaming
 fit_faults None s taken c = []
 fit_faults (Some n) s taken c = let f = s in unless (nat_eq (length c.arguments) (length f.parameters)) WrongCount c.name.at ++ unless (returns_word f.returns || not taken) WrongKind c.name.at
@@ -86,16 +86,16 @@ call_faults names taken c =
 abbrev pub limit_faults : ℕ → ℕ → Name → List Misnaming
 limit_faults limit n x = unless (nat_lt n limit) OverLimit x.at
 
--- a variable that is declared in a body
+-- a variable declared in a body
 abbrev pub declared_faults : Context → Name → List Misnaming
 declared_faults c x = again_faults c.names x ++ limit_faults MAX_CELLS c.frame.cells x
 
--- a reducer that is declared in a body
+-- a reducer declared in a body
 abbrev pub own_faults : Context → Reducer → List Misnaming
 own_faults c r =
     monoid_faults c.names r ++ again_faults c.names r.name ++ unless c.frame.heading ReducerNotFirst r.name.at ++ limit_faults MAX_REDUCERS c.reducers r.name
 
--- a declared name is known behind its declarator
+-- a declared name is known after its declarator
 abbrev pub initializer_faults : Names → trees.LocalInitializer → List Misnaming
 initializer_faults names trees.Absent = []
 initializer_faults names (trees.LocalInitializer.Value e) = expression_faults names e
@@ -113,7 +113,7 @@ beginning_faults c None = []
 beginning_faults c (Some (trees.Declares x e)) = declared_faults c x ++ expression_faults (with_variable c x).names e
 beginning_faults c (Some (trees.Assigns a)) = assignment_faults c.names a
 
--- the names in the head of a parallel loop are one
+-- the names in the head of a parallel loop are equal
 abbrev pub same_faults : Names → Name → Name → List Misnaming
 same_faults names x y = unless (bytes_eq (bytes_of names.text y) (bytes_of names.text x)) WrongKind y.at
 
@@ -126,7 +126,8 @@ gives_what_it_returns Int (Some e) = true
 gives_what_it_returns Void None = true
 gives_what_it_returns Void (Some e) = false
 
--- a function returns a value where it returns an `int`, and nothing else; a parallel loop's body doesn't return
+-- `return` has a value exactly if the function returns an `int`; a parallel loop's body doesn't
+-- return
 abbrev pub return_faults : Names → ReturnType → ℕ → Option Expression → List Misnaming
 return_faults names returns place e =
     unless (nat_eq names.level 0) ReturnInLoop place ++ unless (gives_what_it_returns returns e) WrongKind place ++ optional_faults names e
@@ -158,7 +159,7 @@ abbrev mutual
   row_faults c trees.End = []
   row_faults c (trees.Then s row) = statement_faults (ahead c s) s ++ row_faults (behind (ahead c s) s) row
 
--- a parameter, where so many stand ahead
+-- a parameter, within the limit
 abbrev pub parameter_faults : Context → Parameter → List Misnaming
 parameter_faults c (parameters.Variable x) = limit_faults MAX_PARAMETERS (c.frame.cells + length c.given) x ++ declared_faults c x
 parameter_faults c (parameters.Reducer r) = monoid_faults c.names r ++ limit_faults MAX_PARAMETERS (c.frame.cells + length c.given) r.name ++ again_faults c.names r.name
@@ -167,7 +168,7 @@ abbrev pub parameters_faults : Context → List Parameter → List Misnaming
 parameters_faults c [] = []
 parameters_faults c (p ∷ ps) = parameter_faults c p ++ parameters_faults (with_parameter c p) ps
 
--- an array has 1 to so many elements; one that there is no room for takes none
+-- an array has at least 1 element and fits in the global cells that are left
 abbrev pub global_faults : Known → GlobalVariable → List Misnaming
 global_faults k (globals.Variable x i) = again_faults k.names x ++ unless (not (globals_full (length k.openings))) OverLimit x.at
 global_faults k (globals.Array x n) = again_faults k.names x ++ unless (not (nat_eq (array_cells (length k.openings) n) 0)) OverLimit x.at
@@ -187,21 +188,21 @@ abbrev pub items_faults : Known → List Item → List Misnaming
 items_faults k [] = []
 items_faults k (i ∷ rest) = item_faults k i ++ items_faults (behind_item k i) rest
 
--- where nothing else is wrong, there has to be a main function
+-- there must be a main function; its absence is a fault only if there is no other
 abbrev pub or_no_main : Option ℕ → ℕ → List Misnaming → List Misnaming
 or_no_main None place [] = at NoMain place
 or_no_main (Some n) place [] = []
 or_no_main main place (f ∷ fs) = f ∷ fs
 
--- all that is wrong with the names of a tree
+-- all faults of the tree's names
 abbrev pub faults_of : Tree → List Misnaming
 faults_of t = or_no_main (main_of t.text.items 0 (program t)) (length t.text.items) (items_faults (start t.text.items (program t)) (program t))
 
--- among these, and none is before it
+-- one of these, and none is before it
 abbrev pub IsFirst : Misnaming → List Misnaming → Type 0
 IsFirst f fs = Contains fs f × All (λ g. is_before g f ≡ false) fs
 
--- the first that is wrong with the names of a tree; a want of memory says nothing of the tree
+-- the first fault of the tree's names; running out of memory says nothing about the tree
 abbrev pub IsNameFault : NameFault → Tree → Type 0
 IsNameFault faults.Memory t = Unit {0}
 IsNameFault (faults.At number place) t = IsFirst (record { number = number; place = place }) (faults_of t)

@@ -1,5 +1,5 @@
--- What names mean, by the rules of scopes: a function is known in the whole text, another name from its declaration on,
--- up to the end of its scope; an inner name hides an outer one.
+-- The meaning of names in lexical scopes. A function is known in the whole text, another name from
+-- its declaration to the end of its scope. An inner name hides an outer one.
 use Rattle.std.specs.Prelude.{ℕ, Bool, true, false, if◌then◌else◌, List, [], ◌∷◌, ◌++◌, Option, Some, None, option_map, unwrap_or, bytes_eq, codes}
 use Rattle.std.specs.Option.{is_some, option_map_or, option_or}
 use Rattle.cilk_monoid.specs.declared.kind.MonoidKind.{MonoidKind}
@@ -12,7 +12,7 @@ use Rattle.cilk_names.specs.declared.table.Meaning.TheVariants as meanings
 use Rattle.cilk_names.specs.declared.table.Binding.{Binding}
 use Rattle.cilk_names.specs.declared.signature.Signature.{Signature}
 
--- the monoid of a name
+-- the monoid with this name
 abbrev pub monoid_of : List ℕ → Option MonoidKind
 monoid_of name =
     if bytes_eq name (codes "add") then Some monoids.Add
@@ -21,12 +21,12 @@ monoid_of name =
     else (if bytes_eq name (codes "append") then Some monoids.Append
     else (if bytes_eq name (codes "affine") then Some monoids.Affine else None))))
 
--- what a scope says of a name: what it means, and whether its declaration stands ahead
+-- a scope: for each name its meaning, and whether it is declared already
 abbrev pub Scope : Type 0
 Scope = List ℕ → Option Binding
 
--- What names mean at a place of the text: by the scope in which it stands, and by those round it, outermost first. It stands in
--- so many bodies of parallel loops.
+-- The names at a place of the text: the innermost scope, the outer ones from the outermost in, and
+-- the number of enclosing bodies of parallel loops.
 pub record Names : Type 0 where
   pub text : List ℕ
   pub signatures : List Signature
@@ -52,7 +52,7 @@ is_declared s name = option_map_or (λ e. e.declared) (s name) false
 abbrev pub with_entry : Scope → List ℕ → Binding → Scope
 with_entry s name e q = if bytes_eq name q then Some e else s q
 
--- with one more declaration; the first of a name says what it means
+-- with another declaration; the first declaration of a name is the one that counts
 abbrev pub with_name : Scope → List ℕ → Meaning → Scope
 with_name s name m = if is_declared s name then s else with_entry s name (record { meaning = m; declared = true })
 
@@ -63,17 +63,17 @@ declare names x m = record names { inner = with_name names.inner (bytes_of names
 abbrev pub empty : Scope
 empty name = None
 
--- a scope of its own
+-- in a new scope
 abbrev pub opened : Names → Names
 opened names = record names { inner = empty; outer = names.outer ++ names.inner ∷ [] }
 
 abbrev pub monoid_at : Names → Reducer → Option MonoidKind
 monoid_at names r = monoid_of (bytes_of names.text r.monoid)
 
--- the kind of a reducer; one whose monoid is unknown counts as a sum
+-- the monoid of a reducer; an unknown one counts as a sum
 abbrev pub kind_or_sum : Option MonoidKind → MonoidKind
 kind_or_sum kind = unwrap_or kind monoids.Add
 
--- with a function that is known, unless its name is known already
+-- with a known function, unless its name is known already
 abbrev pub with_function : Scope → List ℕ → ℕ → Scope
 with_function s name n = if is_some (s name) then s else with_entry s name (record { meaning = meanings.Function n; declared = false })

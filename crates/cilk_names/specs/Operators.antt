@@ -1,4 +1,4 @@
--- What the operators of a tree resolve to.
+-- The operators of a tree, resolved.
 use Rattle.cilk_syntax.specs.declared.tree.UnaryOperator.{UnaryOperator}
 use Rattle.cilk_syntax.specs.declared.tree.UnaryOperator.TheVariants as unary
 use Rattle.cilk_syntax.specs.declared.tree.BinaryOperator.{BinaryOperator}
@@ -6,12 +6,12 @@ use Rattle.cilk_syntax.specs.declared.tree.BinaryOperator.TheVariants as binary
 use Rattle.cilk_program.specs.declared.syntax.Operator.TheVariants as operators
 use Rattle.cilk_program.specs.Syntax.{Expression, Negate, Not, Binary, And, Or}
 
--- an operator in front
+-- a unary operator
 abbrev pub prefixed : UnaryOperator → Expression → Expression
 prefixed unary.Negate e = Negate e
 prefixed unary.Not e = Not e
 
--- an operator between
+-- a binary operator
 abbrev pub joined : BinaryOperator → Expression → Expression → Expression
 joined binary.Or a b = Or a b
 joined binary.And a b = And a b

@@ -1,5 +1,5 @@
--- What one pass over a tree makes of it, wrong names too: a variable that isn't one reads as 0, and a statement whose name is wrong does
--- nothing. Where no name is wrong, that is the resolved program.
+-- The result of one pass over a tree, wrong names included: a wrong variable reads as 0, and a
+-- statement with a wrong name does nothing. If no name is wrong, this is the resolved program.
 use Rattle.std.specs.Prelude.{ℕ, pos, negsuc, List, [], ◌∷◌, ◌++◌, map, Option, Some, None, option_map}
 use Rattle.std.specs.Option.{option_to_list}
 use Rattle.cilk_syntax.specs.declared.tree.Name.{Name}
@@ -60,7 +60,7 @@ abbrev pub target_of : Names → trees.Lvalue → Option Target
 target_of names (trees.Lvalue.Variable x) = to_variable (variable names x)
 target_of names (trees.Lvalue.Element x e) = to_element (array names x) (expression_of names e)
 
--- a statement, if there is what it needs
+-- a statement, if its part exists
 abbrev pub or_empty : {A : Type 0} → Option A → (A → Statement) → Statement
 or_empty None f = Empty
 or_empty (Some x) f = f x
@@ -108,7 +108,7 @@ invoke_of names how c result =
     })
     (called names c.name)
 
--- a declaration of the cell of a number
+-- a declaration of a numbered cell
 abbrev pub invoking : ℕ → Option Invoke → Declaration
 invoking n None = Zero n
 invoking n (Some i) = Invoking i
@@ -162,7 +162,7 @@ loop_of c x s =
     record { within = c.frame.body; cells = after.frame.cells; body = Then (statement_of c' s) Nothing }
 
 abbrev mutual
-  -- the parallel loops of a statement, each ahead of those in its body
+  -- the parallel loops of a statement, each before those in its body
   pub loops_of : Context → trees.Statement → List Loop
   loops_of c trees.Empty = []
   loops_of c (trees.Block row) = row_loops (inside c) row

@@ -1,4 +1,5 @@
--- The program that a tree resolves to, by cases of its text: each name replaced by what it means there, groups gone.
+-- The program of a tree, case by case: each name is replaced by what it refers to there, and groups
+-- are dropped.
 use Rattle.std.specs.Prelude.{◌≡◌, ℕ, pos, negsuc, List, [], ◌∷◌, ◌++◌, map, Option, Some, None}
 use Rattle.cilk_syntax.specs.declared.tree.Name.{Name}
 use Rattle.cilk_syntax.specs.declared.tree.Tree.{Tree}
@@ -40,7 +41,7 @@ abbrev pub ResolvesOptional : Names → Option trees.Expression → Option Expre
 ResolvesOptional names None r = r ≡ None
 ResolvesOptional names (Some e) r = (e' : Expression) × ResolvesExpression names e e' × (r ≡ Some e')
 
--- what is written to
+-- the target of an assignment
 abbrev pub ResolvesPlace : Names → trees.Lvalue → Target → Type 0
 ResolvesPlace names (trees.Lvalue.Variable x) t = (p : Place) × (variable names x ≡ Some p) × (t ≡ ToVariable p)
 ResolvesPlace names (trees.Lvalue.Element x e) t = (a : Array) × (e' : Expression) × (array names x ≡ Some a) × ResolvesExpression names e e' × (t ≡ ToElement a e')
@@ -60,7 +61,7 @@ ResolvesStep names (Some a) r = (s : Statement) × ResolvesAssignment names a s 
 abbrev pub ResolvesBare : Names → trees.Expression → Reducer → Type 0
 ResolvesBare names e r = (x : Name) × (bare_name e ≡ Some x) × (reducer names x ≡ Some r)
 
--- the arguments of a call are words and reducers, as the function's parameters are
+-- the arguments of a call are words and reducers, matching the function's parameters
 abbrev pub ResolvesArguments : Names → List ParameterKind → List trees.Argument → List Expression → List Reducer → Type 0
 ResolvesArguments names [] [] ws rs = (ws ≡ []) × (rs ≡ [])
 ResolvesArguments names [] (a ∷ list) ws rs = ⊥
@@ -70,20 +71,20 @@ ResolvesArguments names (kinds.Word ∷ ks) (a ∷ list) ws rs =
 ResolvesArguments names (kinds.Reducer k ∷ ks) (a ∷ list) ws rs =
     (r : Reducer) × (rs' : List Reducer) × ResolvesBare names a.value r × (k ≡ Some r.kind) × ResolvesArguments names ks list ws rs' × (rs ≡ r ∷ rs')
 
--- a call of a function, whose result this variable takes
+-- a call of a function, with the variable for its result
 abbrev pub ResolvesCall : Names → Invocation → trees.Call → Option Place → Invoke → Type 0
 ResolvesCall names how c place i =
     (n : ℕ) × (ws : List Expression) × (rs : List Reducer) × (called names c.name ≡ Some n)
     × (let s = signature_of names (Some n) in ResolvesArguments names s.parameters c.arguments ws rs)
     × (i ≡ record { how = how; function = n; arguments = ws; reducers = rs; result = place })
 
--- what a declared variable opens with, in its cell
+-- the initializer of a declared variable, in its cell
 abbrev pub ResolvesInitializer : Names → ℕ → trees.LocalInitializer → Declaration → Type 0
 ResolvesInitializer names n trees.Absent d = d ≡ Zero n
 ResolvesInitializer names n (trees.LocalInitializer.Value e) d = (e' : Expression) × ResolvesExpression names e e' × (d ≡ Opening n e')
 ResolvesInitializer names n (trees.LocalInitializer.Invoke how c) d = (i : Invoke) × ResolvesCall names how c (Some (Local 0 n)) i × (d ≡ Invoking i)
 
--- a declared variable takes the next cell, and is known in its own initializer
+-- a declared variable is in the next cell, and is known in its own initializer
 abbrev pub ResolvesLocals : Context → List trees.Local → List Declaration → Type 0
 ResolvesLocals c [] ds = ds ≡ []
 ResolvesLocals c (l ∷ ls) ds =
@@ -97,7 +98,7 @@ ResolvesBeginning c (Some (trees.Declares x e)) r =
 ResolvesBeginning c (Some (trees.Assigns a)) r = (s : Statement) × ResolvesAssignment c.names a s × (r ≡ Then s Nothing)
 
 abbrev mutual
-  -- a statement of the tree resolves to a statement, and to the loops in it, each ahead of those in its body
+  -- a statement resolves to a statement, and to the loops in it, each before those in its body
   pub ResolvesStatement : Context → trees.Statement → Statement → List Loop → Type 0
   ResolvesStatement c trees.Empty r ls = (r ≡ Empty) × (ls ≡ [])
   ResolvesStatement c (trees.Block row) r ls = (row' : Statements) × ResolvesRow (inside c) row row' ls × (r ≡ Block row')
@@ -148,7 +149,8 @@ ResolvesItems k (Function returns x ps body ∷ rest) fs ls =
     fs ≡ record { words = c.frame.cells; given = after.given; cells = after.frame.cells; reducers = after.own; body = row } ∷ fs')
     × (ls ≡ first ++ second)
 
--- a tree whose names are right resolves to its global cells and reducers, its functions and loops, and the number of its main function
+-- a tree without faults resolves to its global cells and reducers, functions and loops, and the
+-- number of its main function
 pub record Resolves (t : Tree) (s : Source) : Type 0 where
   pub right : faults_of t ≡ []
   pub openings : let after = behind_items (start t.text.items (program t)) (program t) in s.openings ≡ after.openings

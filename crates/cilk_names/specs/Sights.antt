@@ -1,4 +1,4 @@
--- What a name is to a frame that stands in so many loop bodies: a variable, an array, a reducer, a function, or none of these.
+-- The meaning of a name, seen from a frame in a number of loop bodies.
 use Rattle.std.specs.Prelude.{ℕ, ◌-◌, Bool, true, false, [], Option, Some, None, slice_get, unwrap_or}
 use Rattle.cilk_monoid.specs.declared.kind.MonoidKind.{MonoidKind}
 use Rattle.cilk_monoid.specs.Kinds.{same_kind}
@@ -17,7 +17,7 @@ use Rattle.cilk_names.specs.declared.table.Home.TheVariants as homes
 use Rattle.cilk_names.specs.declared.signature.Signature.{Signature}
 use Rattle.cilk_names.specs.Names.{Names, meaning, kind_or_sum}
 
--- where a variable lies: so many static links up, as many as there are loop bodies between
+-- where a variable is: the number of static links up is the number of loop bodies between
 abbrev pub place_of : ℕ → Meaning → Option Place
 place_of level (meanings.Global n) = Some (places.Global n)
 place_of level (meanings.Array a) = None
@@ -43,7 +43,7 @@ array_of (meanings.Turn l) = None
 array_of (meanings.Reducer home kind) = None
 array_of (meanings.Function n) = None
 
--- the frame of a function has its reducers
+-- a function's frame holds its reducers
 abbrev pub reducer_place : ℕ → Home → ReducerPlace
 reducer_place level (homes.Global n) = reducers.Global n
 reducer_place level (homes.Own n) = reducers.Own level n
@@ -62,7 +62,7 @@ is_same (Some j) (Some k) = same_kind j k
 is_same (Some j) None = false
 is_same None k = false
 
--- a reducer of this monoid; none has an unknown one
+-- a reducer of this monoid; an unknown monoid equals none
 abbrev pub is_reducer_of : Option MonoidKind → Meaning → Bool
 is_reducer_of k (meanings.Global n) = false
 is_reducer_of k (meanings.Array a) = false
@@ -79,7 +79,7 @@ function_of (meanings.Turn l) = None
 function_of (meanings.Reducer home kind) = None
 function_of (meanings.Function n) = Some n
 
--- what a name means, seen so
+-- a look-up in the meaning of a name, if it is known
 abbrev pub seen : {A : Type 0} → (Meaning → Option A) → Option Meaning → Option A
 seen f None = None
 seen f (Some m) = f m
@@ -96,11 +96,11 @@ reducer names x = seen (reducer_of names.level) (meaning names x)
 abbrev pub called : Names → Name → Option ℕ
 called names x = seen function_of (meaning names x)
 
--- a function that takes nothing
+-- the signature of a function without parameters
 abbrev pub plain : Signature
 plain = record { returns = Int; parameters = [] }
 
--- what the function of a name takes and returns
+-- the signature of the function with a name
 abbrev pub signature_of : Names → Option ℕ → Signature
 signature_of names None = plain
 signature_of names (Some n) = unwrap_or (slice_get names.signatures n) plain

@@ -1,4 +1,4 @@
--- What the tables of the code stand for.
+-- The state of the code, as the definitions see it.
 use Rattle.std.specs.Prelude.{◌≡◌, ℕ, List, length, map, None}
 use Rattle.cilk_names.specs.Tables.{names_of}
 use Rattle.cilk_names.specs.declared.scene.Resolver.{Resolver}
@@ -11,11 +11,11 @@ use Rattle.cilk_names.specs.Pass.{items_functions, items_loops}
 use Rattle.cilk_syntax.specs.Trees.{Item}
 use Rattle.cilk_program.specs.Programs.{function, loop}
 
--- what is known at a place of a body
+-- the context at a place of a body
 abbrev pub context_of : Resolver → Context
 context_of s = record { names = names_of s.table; frame = s.frame; given = s.given.items; own = s.own.items; reducers = s.reducers; loops = length s.loops.items }
 
--- what is known at a place between items
+-- the context between items
 abbrev pub known_of : Pass → Known
 known_of p = record {
   names = names_of p.scene.table;
@@ -26,7 +26,7 @@ known_of p = record {
   loops = length p.scene.loops.items;
 }
 
--- what the pass over all items comes to
+-- the result of the pass over all items
 pub record Comes (p : Pass) (text : List ℕ) (items : List Item) : Type 0 where
   pub first : p.scene.first ≡ earliest None (items_faults (start text items) items)
   pub known : known_of p ≡ behind_items (start text items) items

@@ -1,4 +1,4 @@
-//! Calls with their names resolved.
+//! Resolving calls.
 
 ghost use Rattle.std.specs.Prelude.{◌≡◌, ◌||◌, not, OnOk, IfOk, map, ◌++◌, Some, option_map, slice_get, unwrap_or};
 ghost use Rattle.cilk_syntax.specs.Trees as trees;
@@ -23,14 +23,14 @@ use cilk_syntax::tree::{Argument, Name, ReturnType};
 use cilk_types::invocation::Invocation;
 use std::alloc::{AllocError, Global};
 
-/// The arguments of a call: its words and its reducers, each in order.
+/// The arguments of a call: the words and the reducers, each in order.
 #[derive(Drop)]
 struct Passed {
     words: Vec<Expr>,
     reducers: Vec<Reducer>,
 }
 
-/// The name that an argument is, if it is a bare name.
+/// Returns the name in an argument that is a bare name.
 fn bare_name(tree: &tree::Expr) -> Option<Name>
     ensures { result ≡ bare_name (trees.expression tree.now) }
 {
@@ -47,7 +47,7 @@ fn bare_name(tree: &tree::Expr) -> Option<Name>
     }
 }
 
-/// An argument for a reducer of a monoid. What is wrong is noted.
+/// Resolves an argument for a reducer parameter of this monoid, and notes faults.
 #[tactic(auto, using(crate::proofs::Earliest::earliest_append))]
 fn bare(
     alloc: Global,
@@ -72,7 +72,7 @@ fn bare(
 }
 
 impl Passed {
-    /// One more argument, for a parameter.
+    /// Adds an argument for a parameter.
     fn add(
         &mut self,
         alloc: Global,
@@ -102,7 +102,7 @@ impl Passed {
     }
 }
 
-/// What the parameter of a number takes; past the last a word.
+/// Returns the kind of the parameter at an index; past the last it is a word.
 fn kind_at(kinds: &[ParameterKind], index: usize) -> ParameterKind
     ensures { result ≡ unwrap_or (slice_get kinds.now index) Word }
 {
@@ -112,7 +112,8 @@ fn kind_at(kinds: &[ParameterKind], index: usize) -> ParameterKind
     }
 }
 
-/// The arguments for these parameters. What is wrong is noted; those past the last parameter count as words.
+/// Resolves the arguments for these parameters, and notes faults. Arguments past the last parameter
+/// count as words.
 fn arguments(
     alloc: Global,
     table: &Table,
@@ -135,7 +136,7 @@ fn arguments(
     Ok(found)
 }
 
-/// Whether a function gives a value, or none is taken.
+/// Tells whether the function returns a value, or none is needed.
 fn gives(returns: ReturnType, is_taken: bool) -> bool
     ensures { result ≡ (returns_word returns || not is_taken) }
 {
@@ -145,8 +146,8 @@ fn gives(returns: ReturnType, is_taken: bool) -> bool
     }
 }
 
-/// A call with its names resolved, or none where its function isn't one. What is wrong is noted: also a wrong count of
-/// arguments, and a result that is taken of a function without one.
+/// Resolves a call, or returns none if the name isn't a function. Notes faults, including a wrong
+/// number of arguments and a function without a result whose result is used.
 #[tactic(auto, using(crate::proofs::Earliest::earliest_append))]
 pub(crate) fn call(
     alloc: Global,
@@ -175,8 +176,8 @@ pub(crate) fn call(
     }))
 }
 
-/// The parameters of a call's function. A wrong count of arguments, and a result that is taken of a function without one, are
-/// noted.
+/// Returns the parameters of a call's function. Notes a wrong number of arguments, and a function
+/// without a result whose result is used.
 #[tactic(auto, using(crate::proofs::Earliest::earliest_append, crate::proofs::Arguments::length_arguments))]
 fn fit<'a>(
     table: &'a Table,

@@ -1,4 +1,4 @@
-//! Expressions and assignments with their names resolved.
+//! Resolving expressions and assignments.
 
 ghost use Rattle.std.specs.Prelude.{◌≡◌, OnOk, IfOk, option_map};
 ghost use Rattle.cilk_syntax.specs.Trees as trees;
@@ -18,7 +18,7 @@ use cilk_syntax::tree;
 use cilk_types::compound::Compound;
 use std::alloc::{AllocError, Global};
 
-/// A variable as an expression; where there is none, 0.
+/// Makes an expression that reads a variable, or 0 if there is none.
 fn read(place: Option<Place>) -> Expr
     ensures { expression result ≡ read_of place }
 {
@@ -28,7 +28,7 @@ fn read(place: Option<Place>) -> Expr
     }
 }
 
-/// An element of an array; where there is no array, 0.
+/// Makes an expression that reads an element of an array, or 0 if there is no array.
 fn element(array: Option<Array>, index: Box<Expr>) -> Expr
     ensures { expression result ≡ element_of array (expression index.value) }
 {
@@ -38,7 +38,7 @@ fn element(array: Option<Array>, index: Box<Expr>) -> Expr
     }
 }
 
-/// The value of a reducer; where there is none, 0.
+/// Makes an expression that reads a reducer's value, or 0 if there is no reducer.
 fn value(reducer: Option<Reducer>) -> Expr
     ensures { expression result ≡ value_of reducer }
 {
@@ -48,7 +48,7 @@ fn value(reducer: Option<Reducer>) -> Expr
     }
 }
 
-/// An expression as a part of another.
+/// Resolves an expression that is a part of another.
 #[cycle(expressions)]
 fn part(
     alloc: Global,
@@ -63,7 +63,7 @@ fn part(
     Ok(Box::new(alloc, resolved)?)
 }
 
-/// An expression with its names resolved. What is wrong is noted, and a wrong name reads as 0.
+/// Resolves an expression and notes faults. A wrong name reads as 0.
 #[cycle(expressions)]
 #[tactic(auto, using(crate::proofs::Earliest::earliest_append))]
 pub(crate) fn expression(
@@ -99,7 +99,7 @@ pub(crate) fn expression(
     }
 }
 
-/// An expression that may be absent.
+/// Resolves an expression that may be absent.
 pub(crate) fn optional(
     alloc: Global,
     table: &Table,
@@ -115,7 +115,7 @@ pub(crate) fn optional(
     }
 }
 
-/// What is written to, or none with a fault noted.
+/// Resolves the target of an assignment, or notes a fault and returns none.
 #[tactic(auto, using(crate::proofs::Earliest::earliest_append))]
 fn target(
     alloc: Global,
@@ -142,7 +142,7 @@ fn target(
     }
 }
 
-/// An assignment of a value; where there is no place, nothing.
+/// Makes an assignment of a value, or an empty statement if there is no target.
 fn assign(place: Option<Target>, value: Expr) -> Stmt
     ensures { statement result ≡ or_empty (option_map target place) (λ t. Assign t (expression value)) }
 {
@@ -152,7 +152,7 @@ fn assign(place: Option<Target>, value: Expr) -> Stmt
     }
 }
 
-/// A compound assignment of a value; where there is no place, nothing.
+/// Makes a compound assignment of a value, or an empty statement if there is no target.
 fn change(place: Option<Target>, operator: Compound, value: Expr) -> Stmt
     ensures { statement result ≡ or_empty (option_map target place) (λ t. Change t operator (expression value)) }
 {
@@ -162,7 +162,7 @@ fn change(place: Option<Target>, operator: Compound, value: Expr) -> Stmt
     }
 }
 
-/// An increment or a decrement; where there is no place, nothing.
+/// Makes an increment or a decrement, or an empty statement if there is no target.
 fn step(place: Option<Target>, by: i64) -> Stmt
     ensures { statement result ≡ or_empty (option_map target place) (λ t. Step t by) }
 {
@@ -172,7 +172,7 @@ fn step(place: Option<Target>, by: i64) -> Stmt
     }
 }
 
-/// An assignment with its names resolved. What is wrong is noted, and then nothing may be assigned.
+/// Resolves an assignment and notes faults. With a fault the result may be an empty statement.
 #[tactic(auto, using(crate::proofs::Earliest::earliest_append))]
 pub(crate) fn assignment(
     alloc: Global,

@@ -1,4 +1,4 @@
-//! Why the names of a program aren't resolved.
+//! The fault of a tree whose names don't resolve.
 
 ghost use Rattle.std.specs.Prelude.{◌≡◌};
 ghost use Rattle.cilk_names.specs.declared.fault.NameFault.TheVariants.{Memory};
@@ -7,7 +7,7 @@ pub use crate::kind::NameErrorKind;
 use std::alloc::{AllocError, AllocFailed};
 use thiserror::Error;
 
-/// Why names aren't resolved: memory ran out, or what is wrong at which byte, counted from 0.
+/// Why names don't resolve: out of memory, or a reason and the byte where it applies, from 0.
 #[derive(Debug, Drop, Error)]
 pub enum NameFault {
     #[error("no memory")]

@@ -1,4 +1,4 @@
-//! What is known of a text's functions ahead of its first item.
+//! The functions of a text, as known before its first item.
 
 ghost use Rattle.std.specs.Prelude.{◌≡◌, ◌<◌, ◌-◌, ◌^◌, [], ◌∷◌, ◌++◌, IfOk, OnOk};
 ghost use Rattle.cilk_syntax.specs.Trees as trees;
@@ -14,7 +14,7 @@ use cilk_syntax::tree::{Item, Name, Parameter, ReturnType};
 use cilk_types::sequence::Sequence;
 use std::alloc::{AllocError, Global};
 
-/// What a parameter takes.
+/// Returns the kind of a parameter.
 fn kind_of(text: &[u8], parameter: Parameter) -> ParameterKind
     ensures { result ≡ kind_of text.now parameter }
 {
@@ -26,7 +26,7 @@ fn kind_of(text: &[u8], parameter: Parameter) -> ParameterKind
     }
 }
 
-/// What parameters take, in order.
+/// Returns the kinds of parameters, in order.
 fn kinds_of(
     alloc: Global,
     text: &[u8],
@@ -41,7 +41,7 @@ fn kinds_of(
     Ok(Sequence::new(kinds))
 }
 
-/// Puts what an item's function takes and returns behind the others.
+/// Appends the signature of an item, if it is a function.
 fn push_signature(
     alloc: Global,
     text: &[u8],
@@ -63,7 +63,7 @@ fn push_signature(
     }
 }
 
-/// What the functions of a text take and return, in order.
+/// Returns the signatures of the functions of a text, in order.
 pub(crate) fn signatures_of(
     alloc: Global,
     text: &[u8],
@@ -78,7 +78,7 @@ pub(crate) fn signatures_of(
     Ok(signatures)
 }
 
-/// How many functions stand behind an item, where so many stand ahead.
+/// Returns the number of functions up to and including an item, given the number before it.
 fn functions_behind(count: usize, item: &Item) -> usize
     requires { count < 2 ^ 64 - 1 }
     ensures { result ≡ functions_behind count (trees.item item.now) }
@@ -89,8 +89,8 @@ fn functions_behind(count: usize, item: &Item) -> usize
     }
 }
 
-/// The names that are known ahead of the first item: the functions of the text, none of them declared yet. Of two with one
-/// name the first is known.
+/// Makes the table that holds before the first item: the functions of the text, none of them
+/// declared yet. If two have the same name, the first is known.
 pub(crate) fn known<'a>(
     alloc: Global,
     text: &'a [u8],
@@ -108,7 +108,7 @@ pub(crate) fn known<'a>(
     Ok(table)
 }
 
-/// Knows the function of an item by its number, if it is one.
+/// Enters the function of an item under its number, if the item is a function.
 fn know(table: &mut Table, item: &Item, number: usize) -> Result<(), AllocError>
     ensures names { OnOk result (names_of table.new ≡ (let n = names_of table.old in record n { inner = with_item n.text n.inner number (trees.item item.now) })) }
 {
@@ -121,7 +121,7 @@ fn know(table: &mut Table, item: &Item, number: usize) -> Result<(), AllocError>
     }
 }
 
-/// Whether a function is the one that a program begins with.
+/// Tells whether a function is the main function.
 fn is_main(text: &[u8], returns: ReturnType, name: Name, parameters: &[Parameter]) -> bool
     ensures { result ≡ is_main text.now returns name parameters.now }
 {
@@ -131,7 +131,7 @@ fn is_main(text: &[u8], returns: ReturnType, name: Name, parameters: &[Parameter
     }
 }
 
-/// Whether an item is that function.
+/// Tells whether an item is the main function.
 fn is_main_item(text: &[u8], item: &Item) -> bool
     ensures { result ≡ is_main_item text.now (trees.item item.now) }
 {
@@ -141,7 +141,7 @@ fn is_main_item(text: &[u8], item: &Item) -> bool
     }
 }
 
-/// The number of the function that a program begins with.
+/// Returns the number of the main function.
 pub(crate) fn main_of(text: &[u8], items: &[Item]) -> Option<usize>
     ensures { result ≡ main_of text.now 0 (trees.items_of items.now) }
 {

@@ -1,4 +1,4 @@
-//! A text's items: global variables, global reducers and functions.
+//! Resolving the items of a text: global variables, global reducers and functions.
 
 ghost use Rattle.std.specs.Prelude.{◌≡◌, List, [], ◌∷◌, ◌++◌, OnOk, IfOk, true, length, map};
 ghost use Rattle.cilk_syntax.specs.Trees as trees;
@@ -27,8 +27,8 @@ use cilk_types::word_list::WordList;
 use std::alloc::{AllocError, Global};
 use std::mem;
 
-/// What the pass over a text's items has made so far: what is known at the next item, the loops and the first fault so far,
-/// the opening values of the global cells, the global reducers and the functions.
+/// The state of the pass over a text's items: the context at the next item, the loops and the first
+/// fault so far, the opening values of the global cells, the global reducers and the functions.
 #[derive(Drop)]
 pub(crate) struct Pass<'a> {
     pub scene: Resolver<'a>,
@@ -37,7 +37,8 @@ pub(crate) struct Pass<'a> {
     pub functions: Vec<Function>,
 }
 
-/// The elements of an array behind so many cells: none where the length is no array's, or there is no room.
+/// Returns the number of cells for an array after `count` global cells: 0 if the length isn't
+/// positive, or if there is no room.
 fn array_cells(count: usize, length: i64) -> usize
     ensures { result ≡ array_cells count length }
 {
@@ -51,7 +52,7 @@ fn array_cells(count: usize, length: i64) -> usize
     }
 }
 
-/// Puts so many zeros behind the opening values.
+/// Appends `count` zeros to the opening values.
 fn push_zeros(openings: &mut WordList, count: usize) -> Result<(), AllocError>
     ensures { OnOk result (openings.new ≡ openings.old ++ zeros count) }
 {
@@ -71,7 +72,7 @@ impl Resolver<'_> {
         self.table.declare(name, meaning, &mut self.first)
     }
 
-    /// Notes that a limit is passed, unless this is within it.
+    /// Notes that a limit is exceeded, unless `is_within` holds.
     fn limit(&mut self, is_within: bool, place: usize)
         ensures faults { self.new.first ≡ earliest self.old.first (unless is_within OverLimit place) }
         ensures same { (self.new.table ≡ self.old.table) × (self.new.loops ≡ self.old.loops) × (self.new.reducers ≡ self.old.reducers) }
@@ -79,7 +80,7 @@ impl Resolver<'_> {
         note_unless(is_within, NameErrorKind::OverLimit, place, &mut self.first);
     }
 
-    /// Declares a reducer between items, whose number this is, and gives its monoid, if that is one.
+    /// Declares a global reducer with this number, and returns its monoid, if its name is known.
     #[tactic(auto, using(crate::proofs::Earliest::earliest_append))]
     fn shared(
         &mut self,
@@ -101,7 +102,7 @@ impl Resolver<'_> {
         Ok(kind)
     }
 
-    /// Enters a function, in whose scope its parameters stand.
+    /// Enters a function. Its parameters are in the scope of its body.
     fn begin(&mut self, alloc: Global, number: u32, returns: ReturnType) -> Result<(), AllocError>
         ensures context { OnOk result (context_of self.new ≡ record { names = opened (names_of self.old.table); frame = record { body = Body.Function number; returns = returns; cells = 0; heading = true }; given = []; own = []; reducers = self.old.reducers; loops = length self.old.loops.items }) }
         ensures same { OnOk result ((self.new.loops ≡ self.old.loops) × (self.new.first ≡ self.old.first)) }
@@ -118,7 +119,7 @@ impl Resolver<'_> {
         Ok(())
     }
 
-    /// Leaves a function, of which so many cells are its words.
+    /// Leaves a function that has `words` parameters that are words.
     fn end(&mut self, alloc: Global, words: u32, body: Vec<Stmt>) -> Function
         ensures names { (outer : List Scope) (inner : Scope) → (let n = names_of self.old.table in n.outer) ≡ outer ++ inner ∷ [] → names_of self.new.table ≡ record (names_of self.old.table) { inner = inner; outer = outer } }
         ensures same { (self.new.loops ≡ self.old.loops) × (self.new.first ≡ self.old.first) × (self.new.reducers ≡ self.old.reducers) }
@@ -138,7 +139,7 @@ impl Resolver<'_> {
 }
 
 impl Pass<'_> {
-    /// Declares a global variable or array, which takes the next cells.
+    /// Declares a global variable or array in the next cells.
     fn global(&mut self, variable: GlobalVariable) -> Result<(), AllocError>
         ensures known { OnOk result (known_of self.new ≡ behind_global (known_of self.old) variable) }
         ensures faults { OnOk result (self.new.scene.first ≡ earliest self.old.scene.first (global_faults (known_of self.old) variable)) }
@@ -150,7 +151,7 @@ impl Pass<'_> {
         }
     }
 
-    /// Declares a global variable, which takes the next cell.
+    /// Declares a global variable in the next cell.
     #[tactic(auto, using(crate::proofs::Earliest::earliest_append, crate::proofs::Lists::append_nothing))]
     fn word(&mut self, name: Name, initializer: Initializer) -> Result<(), AllocError>
         ensures known { OnOk result (known_of self.new ≡ behind_global (known_of self.old) (GlobalVariable.Variable name initializer)) }
@@ -170,7 +171,7 @@ impl Pass<'_> {
         Ok(())
     }
 
-    /// Declares a global array, whose elements take the next cells.
+    /// Declares a global array, whose elements are the next cells.
     #[tactic(auto, using(crate::proofs::Earliest::earliest_append))]
     fn array(&mut self, name: Name, length: i64) -> Result<(), AllocError>
         ensures known { OnOk result (known_of self.new ≡ behind_global (known_of self.old) (GlobalVariable.Array name length)) }
@@ -191,7 +192,7 @@ impl Pass<'_> {
         Ok(())
     }
 
-    /// Declares a line of them.
+    /// Declares a line of global variables.
     fn globals(&mut self, variables: &[GlobalVariable]) -> Result<(), AllocError>
         ensures known { OnOk result (known_of self.new ≡ behind_line (known_of self.old) variables.now) }
         ensures faults { OnOk result (self.new.scene.first ≡ earliest self.old.scene.first (line_faults (known_of self.old) variables.now)) }
@@ -223,7 +224,7 @@ impl Pass<'_> {
         Ok(())
     }
 
-    /// Declares a function, and resolves its body.
+    /// Declares a function and resolves its body.
     #[tactic(auto, using(crate::proofs::Earliest::earliest_append))]
     fn function(
         &mut self,
@@ -260,7 +261,7 @@ impl Pass<'_> {
         Ok(())
     }
 
-    /// One more item.
+    /// Resolves one more item.
     #[tactic(auto, using(crate::proofs::Lists::append_nothing))]
     fn item(&mut self, alloc: Global, item: &Item) -> Result<(), AllocError>
         ensures known { OnOk result (known_of self.new ≡ behind_item (known_of self.old) (trees.item item.now)) }
@@ -286,7 +287,7 @@ impl Pass<'_> {
         }
     }
 
-    /// All of them.
+    /// Resolves all items.
     pub fn items(&mut self, alloc: Global, items: &[Item]) -> Result<(), AllocError>
         ensures known { OnOk result (known_of self.new ≡ behind_items (known_of self.old) (trees.items_of items.now)) }
         ensures faults { OnOk result (self.new.scene.first ≡ earliest self.old.scene.first (items_faults (known_of self.old) (trees.items_of items.now))) }

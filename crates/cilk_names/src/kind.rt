@@ -1,11 +1,11 @@
-//! What is wrong at a name.
+//! The faults of names.
 
 ghost use Rattle.std.specs.Prelude.{◌≡◌};
 ghost use Rattle.cilk_names.specs.Faults.{number_of, earlier, is_before};
 
 use thiserror::Error;
 
-/// What is wrong at a name.
+/// The kind of a fault.
 #[derive(Clone, Copy, PartialEq, Eq, Debug, Error)]
 pub enum NameErrorKind {
     #[error("an unknown name")]
@@ -29,7 +29,7 @@ pub enum NameErrorKind {
 }
 
 impl NameErrorKind {
-    /// The number by which the fault is reported: 111 to 119.
+    /// Returns the number by which the fault is reported, 111 to 119.
     pub fn number(self) -> u16
         ensures { result ≡ number_of self }
     {
@@ -47,7 +47,7 @@ impl NameErrorKind {
     }
 }
 
-/// What is wrong, and at which byte of the text, counted from 0.
+/// A fault of a name: its kind, and the byte of the text where it is, from 0.
 #[derive(Clone, Copy, PartialEq, Eq)]
 pub struct Misnaming {
     pub number: NameErrorKind,
@@ -55,7 +55,7 @@ pub struct Misnaming {
 }
 
 impl Misnaming {
-    /// Whether it stands before another: by place, and at one place by number.
+    /// Tells whether it comes before another: by place, and at one place by number.
     pub fn is_before(self, other: Misnaming) -> bool
         ensures { result ≡ is_before self other }
     {
@@ -63,7 +63,7 @@ impl Misnaming {
             || (self.place == other.place && self.number.number() < other.number.number())
     }
 
-    /// Keeps the earlier of two: by place, and at one place by number.
+    /// Keeps the earlier of two faults: by place, and at one place by number.
     pub fn note(self, first: &mut Option<Misnaming>)
         ensures { first.new ≡ earlier first.old self }
     {

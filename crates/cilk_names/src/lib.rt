@@ -1,27 +1,31 @@
-//! From the tree of a program text to the program that it resolves to.
+//! Name resolution: from the syntax tree of a program text to a program in which each name is
+//! replaced by what it refers to.
 //!
-//! Names are replaced by what they mean, by the rules of scopes: a function is known in the whole text, another name from
-//! its declaration on, and an inner name hides an outer one. The relation between a tree and its program is defined in
-//! this crate's `specs/` (`Resolution`), and so is all that can be wrong with the names of a tree (`Misnamings`).
+//! Scopes are lexical. A function is known in the whole text. Any other name is known from its
+//! declaration to the end of its scope, and an inner name hides an outer one. Each function and
+//! each body of a `cilk_for` has a frame of its own, so a variable resolves to a global cell, or to
+//! a cell of the frame that is n static links up: one link for each loop body between its use and
+//! its declaration.
 //!
-//! A tree is gone over four times: what each function takes and returns is read, each function is known by its number, then
-//! all items are resolved from the first to the last, and at the end the main function is looked for.
+//! [`resolve::resolve`] reads the signatures of all functions, enters the functions in the
+//! outermost scope, resolves the items in order, and looks for `int main()`. It continues past a
+//! fault and keeps the first one: by place, and at one place the one with the lowest number.
+//!
+//! | Item | Meaning |
+//! |---|---|
+//! | [`resolve::resolve`] | Resolves a tree, or returns its first fault. |
+//! | [`kind::NameErrorKind`] | The kinds of faults, with numbers from 111 to 119. |
+//! | [`table::Table`] | The scopes at a place of the text. |
+//! | [`sights`] | Look-ups of variables, arrays, reducers and functions. |
+//! | [`limits`] | Limits on functions, parameters, cells and reducers. |
+//! | [`resolution`] | Laws: a tree without faults resolves to exactly one program. |
+//!
+//! `specs/Resolution.antt` defines which program a tree resolves to, case by case, and
+//! `specs/Misnamings.antt` all faults of a tree.
 //!
 //! ```text
 //! let tree = parse(alloc, b"int main(){return x;}")?;
 //! resolve(alloc, &tree)                      // Err(NameFault::At(NameErrorKind::Unknown, 18))
-//! ```
-//!
-//! The scopes of a program text: what a name means at a place of it, and what is wrong with a name.
-//!
-//! A [`table::Table`] holds the scopes in which a place stands. [`sights`] looks names up in it: each look-up gives what is
-//! wanted of a name, a variable, an array, a reducer or a function, or notes what is wrong. Of several faults the first by
-//! place is kept, and at one place the one with the lowest number.
-//!
-//! ```text
-//! let mut first = None;
-//! variable(&table, name, &mut first)         // Some(Place::Local(1, 0)): a variable of the loop body round this one
-//! first                                      // None: nothing is wrong
 //! ```
 #![tactic(auto)]
 

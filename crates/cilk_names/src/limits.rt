@@ -1,16 +1,16 @@
-//! How much of each thing a program may have.
+//! The limits of a program.
 
-/// Functions.
+/// Most functions of a program.
 pub const MAX_FUNCTIONS: usize = 1024;
 
-/// Parameters of a function.
+/// Most parameters of a function.
 pub const MAX_PARAMETERS: usize = 16;
 
-/// Cells of a function's or a loop body's frame.
+/// Most cells in the frame of a function or a loop body.
 pub const MAX_CELLS: u32 = 256;
 
-/// Declarations of reducers in a program, those of parameters not counted.
+/// Most declarations of reducers in a program, not counting parameters.
 pub const MAX_REDUCERS: u32 = 64;
 
-/// Global cells.
+/// Most global cells.
 pub const MAX_GLOBALS: usize = 1_000_000;

@@ -1,4 +1,4 @@
-//! Operators with their operands resolved.
+//! Operators on resolved operands.
 
 ghost use Rattle.std.specs.Prelude.{◌≡◌};
 ghost use Rattle.cilk_program.specs.Programs.{expression};
@@ -7,7 +7,7 @@ ghost use Rattle.cilk_names.specs.Operators.{prefixed, joined};
 use cilk_program::syntax::{Expr, Operator};
 use cilk_syntax::tree::{BinaryOperator, UnaryOperator};
 
-/// An operator in front of its operand.
+/// Applies a unary operator.
 pub fn in_front(operator: UnaryOperator, operand: Box<Expr>) -> Expr
     ensures { expression result ≡ prefixed operator (expression operand.value) }
 {
@@ -17,7 +17,7 @@ pub fn in_front(operator: UnaryOperator, operand: Box<Expr>) -> Expr
     }
 }
 
-/// An operator between its operands.
+/// Applies a binary operator.
 pub fn between(operator: BinaryOperator, left: Box<Expr>, right: Box<Expr>) -> Expr
     ensures { expression result ≡ joined operator (expression left.value) (expression right.value) }
 {

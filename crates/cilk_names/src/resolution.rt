@@ -1,4 +1,5 @@
-//! Laws of what a tree resolves to, and the limits by number.
+//! Laws of resolution, and the limits as numbers. Each function does nothing; its contract is the
+//! law.
 
 ghost use Rattle.std.specs.Prelude.{◌≡◌, ◌↔◌, ℕ, [], IsTrue};
 ghost use Rattle.cilk_syntax.specs.declared.tree.Tree.{Tree};
@@ -15,17 +16,18 @@ pub fn one_program()
     ensures { (t : Tree) (s s' : Source) → Resolves t s → Resolves t s' → s ≡ s' }
 {}
 
-/// A tree resolves to a program exactly where nothing is wrong with its names.
+/// A tree resolves to a program if and only if it has no fault.
 pub fn resolves_where_right()
     ensures { (t : Tree) → ((s : Source) × Resolves t s) ↔ (faults_of t ≡ []) }
 {}
 
-/// What a tree resolves to is well named: each name means something that is there, within the limits of a program.
+/// The program of a tree is well named: each name refers to something that exists, within the
+/// limits of a program.
 pub fn resolves_well_named()
     ensures { (t : Tree) (s : Source) → Resolves t s → IsTrue (is_well_named s) }
 {}
 
-/// A tree has at most one first fault of its names, and none where it resolves.
+/// A tree has at most one first fault, and none if it resolves.
 #[tactic(auto, using(crate::proofs::OneFault::one_fault, crate::proofs::OneFault::none_where_resolved))]
 pub fn one_fault()
     ensures one { (t : Tree) (n m : NameErrorKind) (p q : ℕ) → IsNameFault (faults.At n p) t → IsNameFault (faults.At m q) t
@@ -34,7 +36,7 @@ pub fn one_fault()
         → IsNameFault (faults.At n p) t → ⊥ }
 {}
 
-/// The limits of a program, by number: contracts elsewhere name the constants.
+/// The limits of a program as numbers, for contracts that name the constants.
 pub fn limits_are()
     ensures functions { MAX_FUNCTIONS ≡ 1024 }
     ensures parameters { MAX_PARAMETERS ≡ 16 }

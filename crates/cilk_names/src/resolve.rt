@@ -1,4 +1,4 @@
-//! From the tree of a text to the program that it resolves to, or to the first fault of its names.
+//! Resolving a whole tree.
 
 ghost use Rattle.std.specs.Prelude.{◌≡◌, IfOk, IfErr, IsTrue};
 ghost use Rattle.cilk_syntax.specs.Trees as trees;
@@ -19,7 +19,7 @@ use cilk_syntax::tree::{Item, ReturnType, Tree};
 use cilk_types::word_list::WordList;
 use std::alloc::{AllocError, Global};
 
-/// The whole pass.
+/// Passes over all items.
 fn pass_over<'a>(
     alloc: Global,
     text: &'a [u8],
@@ -52,9 +52,11 @@ fn pass_over<'a>(
     Ok(pass)
 }
 
-/// The program of a tree, or the first fault of its names by place, at one place by number; that there is no main
-/// function is a fault, at the text's end, where no other is. Takes time in proportion to the text and to the depth of its
-/// scopes, which stand at most some 130 deep in a text that was parsed.
+/// Resolves a tree to its program, or returns its first fault: by place, and at one place by
+/// number. A missing main function is reported at the end of the text, if there is no other fault.
+///
+/// The cost is proportional to the length of the text times the depth of its scopes, which are at
+/// most about 130 deep in a text that was parsed.
 pub fn resolve(alloc: Global, tree: &Tree) -> Result<Program, NameFault>
     ensures ok { IfOk result (λ p. Resolves tree.now (source p)) }
     ensures reducers { IfOk result (λ p. p.reducers.items ≡ shared_of tree.now) }

@@ -1,4 +1,4 @@
-//! What is known at a place of a body, and what declarations change.
+//! The context at a place of a body, and how declarations change it.
 
 ghost use Rattle.std.specs.Prelude.{◌≡◌, ◌+◌, nat_lt, [], ◌∷◌, OnOk, IfOk, Some, length, map};
 ghost use Rattle.cilk_syntax.specs.Trees as trees;
@@ -25,8 +25,8 @@ use cilk_syntax::tree;
 use cilk_syntax::tree::{Beginning, Local, LocalInitializer, Name, Parameter, ReturnType};
 use std::alloc::{AllocError, Global};
 
-/// The frame of a body: which body, what its function returns, how many cells it has so far, and whether only declarations
-/// of reducers stand ahead in the function's own block.
+/// The frame of a body: which body it is, the function's return type, the number of cells so far,
+/// and whether only reducer declarations come before in the function's own block.
 #[derive(Clone, Copy)]
 pub(crate) struct Frame {
     pub body: Body,
@@ -35,9 +35,9 @@ pub(crate) struct Frame {
     pub heading: bool,
 }
 
-/// What is known at a place of a body: what names mean, the frame of the body, the monoids of the reducers that the function
-/// was given and of its own so far, how many reducers stand declared ahead in the text, the loops so far, and the first
-/// fault so far.
+/// The state at a place of a body: the scopes, the frame, the monoids of the function's reducer
+/// parameters and of its own reducers so far, the number of reducers declared so far in the text,
+/// and the loops and the first fault so far.
 #[derive(Drop)]
 pub(crate) struct Resolver<'a> {
     pub table: Table<'a>,
@@ -49,14 +49,14 @@ pub(crate) struct Resolver<'a> {
     pub first: Option<Misnaming>,
 }
 
-/// One more of what there may be so many of; past that no more are counted.
+/// Counts one more, but not past the limit.
 pub(crate) fn counted(limit: u32, count: u32) -> u32
     ensures { result ≡ counted limit count }
 {
     if count < limit { count + 1 } else { count }
 }
 
-/// A count as a number of 32 bits. Past them is a want of memory.
+/// Converts a count to 32 bits. A count that doesn't fit is reported as out of memory.
 pub(crate) fn number_of(count: usize) -> Result<u32, AllocError>
     ensures { IfOk result (λ n. n ≡ count) }
 {
@@ -66,7 +66,7 @@ pub(crate) fn number_of(count: usize) -> Result<u32, AllocError>
     }
 }
 
-/// A row of one statement.
+/// Makes a row of one statement.
 pub(crate) fn row_of_one(alloc: Global, statement: Stmt) -> Result<Vec<Stmt>, AllocError>
     ensures { IfOk result (λ r. r.items ≡ statement ∷ []) }
 {
@@ -76,7 +76,7 @@ pub(crate) fn row_of_one(alloc: Global, statement: Stmt) -> Result<Vec<Stmt>, Al
 }
 
 impl Resolver<'_> {
-    /// Declares a variable, which takes the frame's next cell.
+    /// Declares a variable in the frame's next cell.
     #[tactic(auto, using(crate::proofs::Earliest::earliest_append))]
     pub fn variable(&mut self, name: Name) -> Result<(), AllocError>
         ensures context { OnOk result (context_of self.new ≡ with_variable (context_of self.old) name) }
@@ -98,7 +98,7 @@ impl Resolver<'_> {
         Ok(())
     }
 
-    /// Declares a reducer of the function's own.
+    /// Declares a reducer of the function.
     #[tactic(auto, using(crate::proofs::Earliest::earliest_append))]
     pub fn reducer(&mut self, reducer: tree::Reducer) -> Result<(), AllocError>
         ensures context { OnOk result (context_of self.new ≡ with_reducer (context_of self.old) reducer) }
@@ -124,7 +124,7 @@ impl Resolver<'_> {
         Ok(())
     }
 
-    /// What a declared variable opens with, in its cell of this number.
+    /// Resolves the initializer of a declared variable in the cell of this number.
     fn initializer(
         &mut self,
         alloc: Global,
@@ -154,7 +154,7 @@ impl Resolver<'_> {
         }
     }
 
-    /// A declared variable, which is known in its own initializer.
+    /// Resolves a declared variable, which is known in its own initializer.
     #[tactic(auto, using(crate::proofs::Earliest::earliest_append))]
     fn local(&mut self, alloc: Global, local: &Local) -> Result<Declaration, AllocError>
         ensures context { OnOk result (context_of self.new ≡ (let l = trees.local local.now in with_variable (context_of self.old) l.name)) }
@@ -167,7 +167,7 @@ impl Resolver<'_> {
         self.initializer(alloc, number, &local.initializer)
     }
 
-    /// The variables of a declaration, one after the other.
+    /// Resolves the variables of a declaration, in order.
     pub fn locals(
         &mut self,
         alloc: Global,
@@ -185,7 +185,7 @@ impl Resolver<'_> {
         Ok(declarations)
     }
 
-    /// A variable that the head of a `for` declares.
+    /// Resolves a variable that the head of a `for` declares.
     #[tactic(auto, using(crate::proofs::Earliest::earliest_append))]
     fn counter(&mut self, alloc: Global, name: Name, value: &tree::Expr) -> Result<Stmt, AllocError>
         ensures context { OnOk result (context_of self.new ≡ with_variable (context_of self.old) name) }
@@ -204,7 +204,7 @@ impl Resolver<'_> {
         Ok(Stmt::Declare(declarations))
     }
 
-    /// What the head of a `for` begins with: a row of one statement or of none.
+    /// Resolves the first part of the head of a `for`: a row of one statement or of none.
     pub fn beginning(
         &mut self,
         alloc: Global,
@@ -231,7 +231,7 @@ impl Resolver<'_> {
         }
     }
 
-    /// Declares a parameter: a word takes the frame's next cell.
+    /// Declares a parameter. A word is in the frame's next cell.
     #[tactic(auto, using(crate::proofs::Earliest::earliest_append))]
     fn parameter(&mut self, parameter: Parameter) -> Result<(), AllocError>
         ensures context { OnOk result (context_of self.new ≡ with_parameter (context_of self.old) parameter) }
@@ -262,7 +262,7 @@ impl Resolver<'_> {
         }
     }
 
-    /// Whether one more parameter is within the limit.
+    /// Tells whether one more parameter is within the limit.
     fn has_room(&self) -> bool
         ensures { result ≡ nat_lt (self.now.frame.cells + length self.now.given.items) MAX_PARAMETERS }
     {
@@ -270,7 +270,7 @@ impl Resolver<'_> {
         cells < MAX_PARAMETERS && self.given.len() < MAX_PARAMETERS - cells
     }
 
-    /// The parameters of a function.
+    /// Declares the parameters of a function.
     pub fn parameters(&mut self, parameters: &[Parameter]) -> Result<(), AllocError>
         ensures context { OnOk result (context_of self.new ≡ with_parameters (context_of self.old) parameters.now) }
         ensures faults { OnOk result (self.new.first ≡ earliest self.old.first (parameters_faults (context_of self.old) parameters.now)) }

@@ -1,4 +1,4 @@
-//! What a name is to a frame: a variable, an array, a reducer or a function.
+//! Look-ups: what a name refers to as a variable, an array, a reducer or a function.
 
 ghost use Rattle.std.specs.Prelude.{◌≡◌};
 ghost use Rattle.cilk_names.specs.Faults.{array_faults, earliest, function_faults, monoid_faults, name_faults, reducer_faults, unless, variable_faults, written_faults};
@@ -14,7 +14,7 @@ use cilk_syntax::tree;
 use cilk_syntax::tree::Name;
 
 impl Home {
-    /// Where the frame that stands in so many loop bodies finds the reducer.
+    /// Returns where the frame of a body in `level` loop bodies finds the reducer.
     fn place(self, level: u32) -> ReducerPlace
         ensures { result ≡ reducer_place level self }
     {
@@ -27,7 +27,7 @@ impl Home {
 }
 
 impl Meaning {
-    /// Where a variable lies, seen from so many loop bodies.
+    /// Returns where a variable is, seen from a body in `level` loop bodies.
     fn place(self, level: u32) -> Option<Place>
         ensures { result ≡ place_of level self }
     {
@@ -41,7 +41,7 @@ impl Meaning {
         }
     }
 
-    /// Whether it is the variable of a parallel loop.
+    /// Tells whether it is the variable of a parallel loop.
     fn is_turn(self) -> bool
         ensures { result ≡ is_turn self }
     {
@@ -55,7 +55,7 @@ impl Meaning {
         }
     }
 
-    /// An array.
+    /// Returns the array, if it is one.
     fn array(self) -> Option<Array>
         ensures { result ≡ array_of self }
     {
@@ -69,7 +69,8 @@ impl Meaning {
         }
     }
 
-    /// A reducer, seen from so many loop bodies. One whose monoid is unknown counts as a sum.
+    /// Returns the reducer, seen from a body in `level` loop bodies. A reducer with an unknown
+    /// monoid counts as a sum.
     fn reducer(self, level: u32) -> Option<Reducer>
         ensures { result ≡ reducer_of level self }
     {
@@ -86,7 +87,7 @@ impl Meaning {
         }
     }
 
-    /// Whether it is a reducer of this monoid; none has an unknown one.
+    /// Tells whether it is a reducer of this monoid; an unknown monoid equals none.
     fn is_reducer_of(self, kind: Option<MonoidKind>) -> bool
         ensures { result ≡ is_reducer_of kind self }
     {
@@ -100,7 +101,7 @@ impl Meaning {
         }
     }
 
-    /// A function, by its number.
+    /// Returns the number of the function, if it is one.
     fn function(self) -> Option<u32>
         ensures { result ≡ function_of self }
     {
@@ -115,7 +116,7 @@ impl Meaning {
     }
 }
 
-/// Whether two monoids are known, and one.
+/// Tells whether two monoids are known and equal.
 #[tactic(auto, using(cilk_monoid::proofs::SameKinds::kind_itself))]
 fn is_same(first: Option<MonoidKind>, second: Option<MonoidKind>) -> bool
     ensures { result ≡ is_same first second }
@@ -126,7 +127,7 @@ fn is_same(first: Option<MonoidKind>, second: Option<MonoidKind>) -> bool
     }
 }
 
-/// Notes a fault, unless this holds.
+/// Notes a fault unless `holds` is true.
 pub fn note_unless(holds: bool, number: NameErrorKind, place: usize, first: &mut Option<Misnaming>)
     ensures { first.new ≡ earliest first.old (unless holds number place) }
 {
@@ -135,7 +136,7 @@ pub fn note_unless(holds: bool, number: NameErrorKind, place: usize, first: &mut
     }
 }
 
-/// Notes a name that is unknown, or of which this doesn't hold.
+/// Notes a fault if a name is unknown or `holds` is false.
 fn note_name(meaning: Option<Meaning>, holds: bool, place: usize, first: &mut Option<Misnaming>)
     ensures { first.new ≡ earliest first.old (name_faults (λ _. holds) meaning place) }
 {
@@ -145,7 +146,7 @@ fn note_name(meaning: Option<Meaning>, holds: bool, place: usize, first: &mut Op
     }
 }
 
-/// Where a name's variable lies, or none with a fault noted.
+/// Looks up a variable, or notes a fault and returns none.
 pub fn variable(table: &Table, name: Name, first: &mut Option<Misnaming>) -> Option<Place>
     ensures place { result ≡ variable (names_of table.now) name }
     ensures faults { first.new ≡ earliest first.old (variable_faults (names_of table.now) name) }
@@ -159,7 +160,7 @@ pub fn variable(table: &Table, name: Name, first: &mut Option<Misnaming>) -> Opt
     place
 }
 
-/// Where a name's variable lies that is written: it isn't that of a parallel loop.
+/// Looks up a variable that is written, and notes a fault if it is that of a parallel loop.
 #[tactic(auto, using(crate::proofs::Earliest::earliest_append))]
 pub fn written(table: &Table, name: Name, first: &mut Option<Misnaming>) -> Option<Place>
     ensures place { result ≡ variable (names_of table.now) name }
@@ -173,7 +174,7 @@ pub fn written(table: &Table, name: Name, first: &mut Option<Misnaming>) -> Opti
     place
 }
 
-/// A name's array, or none with a fault noted.
+/// Looks up an array, or notes a fault and returns none.
 pub fn array(table: &Table, name: Name, first: &mut Option<Misnaming>) -> Option<Array>
     ensures array { result ≡ array (names_of table.now) name }
     ensures faults { first.new ≡ earliest first.old (array_faults (names_of table.now) name) }
@@ -187,7 +188,7 @@ pub fn array(table: &Table, name: Name, first: &mut Option<Misnaming>) -> Option
     array
 }
 
-/// A name's reducer, or none with a fault noted.
+/// Looks up a reducer, or notes a fault and returns none.
 pub fn reducer(table: &Table, name: Name, first: &mut Option<Misnaming>) -> Option<Reducer>
     ensures reducer { result ≡ reducer (names_of table.now) name }
     ensures faults { first.new ≡ earliest first.old (reducer_faults (names_of table.now) name) }
@@ -201,7 +202,7 @@ pub fn reducer(table: &Table, name: Name, first: &mut Option<Misnaming>) -> Opti
     reducer
 }
 
-/// The reducer of a name that is given where one of this monoid is taken, or none; a fault is noted at the place.
+/// Looks up a reducer that is passed to a parameter of this monoid, or notes a fault at the place.
 pub fn given(
     table: &Table,
     name: Name,
@@ -221,7 +222,7 @@ pub fn given(
     meaning.reducer(table.level)
 }
 
-/// The function that a name calls, or none with a fault noted.
+/// Looks up the function of a call, or notes a fault and returns none.
 pub fn function(table: &Table, name: Name, first: &mut Option<Misnaming>) -> Option<u32>
     ensures function { result ≡ called (names_of table.now) name }
     ensures faults { first.new ≡ earliest first.old (function_faults (names_of table.now) name) }
@@ -235,7 +236,7 @@ pub fn function(table: &Table, name: Name, first: &mut Option<Misnaming>) -> Opt
     function
 }
 
-/// The monoid of a declared reducer, or none with a fault noted.
+/// Looks up the monoid of a declared reducer, or notes a fault and returns none.
 pub fn monoid(
     table: &Table,
     reducer: tree::Reducer,
@@ -250,7 +251,7 @@ pub fn monoid(
     kind
 }
 
-/// The monoid of a name.
+/// Returns the monoid with this name.
 pub fn monoid_of(name: &[u8]) -> Option<MonoidKind>
     ensures { result ≡ monoid_of name.now }
 {

@@ -1,17 +1,18 @@
-//! What functions take and return.
+//! The signatures of functions.
 
 use cilk_monoid::kind::MonoidKind;
 use cilk_syntax::tree::ReturnType;
 use cilk_types::sequence::Sequence;
 
-/// What a parameter takes: a word, or a reducer of a monoid, if its name is one.
+/// The kind of a parameter: a word, or a reducer of a monoid, which is absent if the name isn't a
+/// monoid's.
 #[derive(Clone, Copy)]
 pub enum ParameterKind {
     Word,
     Reducer(Option<MonoidKind>),
 }
 
-/// What a function takes, in order, and what it returns.
+/// The signature of a function: its parameters in order, and its return type.
 #[derive(Drop)]
 pub struct Signature {
     pub returns: ReturnType,

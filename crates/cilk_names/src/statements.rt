@@ -1,4 +1,4 @@
-//! Statements with their names resolved.
+//! Resolving statements.
 
 ghost use Rattle.std.specs.Prelude.{◌≡◌, ◌<◌, List, [], ◌∷◌, ◌++◌, OnOk, IfOk, true, false, Some, None, length, map, option_map, slice_set};
 ghost use Rattle.cilk_syntax.specs.Trees as trees;
@@ -28,7 +28,7 @@ use cilk_syntax::tree::{Beginning, Bounds, Name, ReturnType};
 use cilk_types::invocation::Invocation;
 use std::alloc::{AllocError, Global};
 
-/// Whether a function's reducers may go on behind a statement.
+/// Tells whether reducers may still be declared after a statement.
 fn keeps_heading(tree: &tree::Stmt, heading: bool) -> bool
     ensures { result ≡ keeps_heading (trees.statement tree.now) heading }
 {
@@ -38,7 +38,7 @@ fn keeps_heading(tree: &tree::Stmt, heading: bool) -> bool
     }
 }
 
-/// Whether a `return` gives what its function returns.
+/// Tells whether a `return` has a value exactly if its function returns one.
 fn gives_what_it_returns(returns: ReturnType, value: &Option<Box<tree::Expr>>) -> bool
     ensures { result ≡ gives_what_it_returns returns (trees.optional value.now) }
 {
@@ -48,7 +48,7 @@ fn gives_what_it_returns(returns: ReturnType, value: &Option<Box<tree::Expr>>) -
     }
 }
 
-/// A `return` at a place of the text.
+/// Resolves a `return` at a place of the text.
 #[tactic(auto, using(crate::proofs::Earliest::earliest_append))]
 fn returned(
     alloc: Global,
@@ -68,7 +68,7 @@ fn returned(
     Ok(Stmt::Return(optional(alloc, table, value, first)?))
 }
 
-/// The step of a `for`, a row of one statement or of none.
+/// Resolves the step of a `for`: a row of one statement or of none.
 fn step(
     alloc: Global,
     table: &Table,
@@ -84,7 +84,7 @@ fn step(
     }
 }
 
-/// A call as a statement; where there is none, nothing.
+/// Makes a call statement, or an empty statement if there is no call.
 fn invoke(invoke: Option<Invoke>) -> Stmt
     ensures { statement result ≡ or_empty (option_map invoked invoke) Invokes }
 {
@@ -94,7 +94,7 @@ fn invoke(invoke: Option<Invoke>) -> Stmt
     }
 }
 
-/// A call that is a statement, and the variable that takes its result.
+/// Resolves a call statement, with the variable for its result.
 fn invoked(
     alloc: Global,
     table: &Table,
@@ -109,7 +109,7 @@ fn invoked(
     Ok(invoke(call))
 }
 
-/// A call whose result a variable takes.
+/// Resolves a call whose result is assigned to a variable.
 #[tactic(auto, using(crate::proofs::Earliest::earliest_append))]
 fn assigned(
     alloc: Global,
@@ -130,7 +130,7 @@ fn assigned(
     Ok(invoke(call))
 }
 
-/// An `update` of a reducer.
+/// Resolves an `update` of a reducer.
 #[tactic(auto, using(crate::proofs::Earliest::earliest_append))]
 fn update(
     alloc: Global,
@@ -154,7 +154,7 @@ fn update(
     }
 }
 
-/// A `set` of a reducer.
+/// Resolves a `set` of a reducer.
 #[tactic(auto, using(crate::proofs::Earliest::earliest_append))]
 fn set(
     alloc: Global,
@@ -178,21 +178,21 @@ fn set(
     }
 }
 
-/// A `for` of these parts.
+/// Makes a `for` of these parts.
 fn for_of(beginning: Vec<Stmt>, test: Option<Expr>, step: Vec<Stmt>, body: Box<Stmt>) -> Stmt
     ensures { statement result ≡ For (statements beginning.items) (optional test) (statements step.items) (statement body.value) }
 {
     Stmt::For(beginning, test, step, body)
 }
 
-/// A `while`, which is a `for` with a condition alone.
+/// Makes a `while`: a `for` with a condition alone.
 fn while_of(alloc: Global, test: Expr, body: Box<Stmt>) -> Stmt
     ensures { statement result ≡ For Nothing (Some (expression test)) Nothing (statement body.value) }
 {
     for_of(Vec::new(alloc), Some(test), Vec::new(alloc), body)
 }
 
-/// Two names of a head that have to be one.
+/// Notes a fault unless two names in a head are equal.
 fn same(table: &Table, name: Name, other: Name, first: &mut Option<Misnaming>)
     ensures { first.new ≡ earliest first.old (same_faults (names_of table.now) name other) }
 {
@@ -200,7 +200,7 @@ fn same(table: &Table, name: Name, other: Name, first: &mut Option<Misnaming>)
     note_unless(is_same, NameErrorKind::WrongKind, other.at, first);
 }
 
-/// The bounds of a `cilk_for`, which don't know its variable.
+/// Resolves the bounds of a `cilk_for`. Its variable isn't known in them.
 #[tactic(auto, using(crate::proofs::Earliest::earliest_append))]
 fn bounds(
     alloc: Global,
@@ -219,7 +219,8 @@ fn bounds(
     Ok((low, high))
 }
 
-/// What stands outside a parallel loop's body: the frame, in how many loop bodies it stands, and the loop's number.
+/// The context outside a parallel loop's body: the frame, the number of enclosing loop bodies, and
+/// the loop's number.
 #[derive(Clone, Copy)]
 struct Outside {
     frame: Frame,
@@ -228,7 +229,7 @@ struct Outside {
 }
 
 impl Resolver<'_> {
-    /// Opens a scope in which no reducer is declared.
+    /// Opens a scope in which no reducer may be declared.
     fn open(&mut self, alloc: Global) -> Result<(), AllocError>
         ensures context { OnOk result (context_of self.new ≡ inside (context_of self.old)) }
         ensures same { (self.new.loops ≡ self.old.loops) × (self.new.first ≡ self.old.first) }
@@ -237,7 +238,7 @@ impl Resolver<'_> {
         self.table.open(alloc)
     }
 
-    /// Ends a function's reducers at a statement that declares none.
+    /// Ends the function's reducer declarations at any other statement.
     fn reach(&mut self, tree: &tree::Stmt)
         ensures context { context_of self.new ≡ ahead (context_of self.old) (trees.statement tree.now) }
         ensures same { (self.new.loops ≡ self.old.loops) × (self.new.first ≡ self.old.first) }
@@ -253,7 +254,8 @@ impl Resolver<'_> {
         self.table.close();
     }
 
-    /// Enters the body of a parallel loop with this variable. Its place among the loops is taken.
+    /// Enters the body of a parallel loop with this variable, and reserves the loop's place in the
+    /// list of loops.
     fn enter(&mut self, alloc: Global, name: Name) -> Result<Outside, AllocError>
         ensures context { OnOk result (context_of self.new ≡ in_body (context_of self.old) name) }
         ensures first { OnOk result (self.new.first ≡ self.old.first) }
@@ -286,7 +288,7 @@ impl Resolver<'_> {
         Ok(outside)
     }
 
-    /// Leaves the body of a parallel loop, which takes its place among the loops.
+    /// Leaves the body of a parallel loop, and puts the loop in its reserved place.
     fn leave(&mut self, alloc: Global, outside: Outside, body: Box<Stmt>) -> Result<(), AllocError>
         requires { outside.number < length self.old.loops.items }
         ensures context { OnOk result ((outer : List Scope) (inner : Scope) → (let n = names_of self.old.table in n.outer) ≡ outer ++ inner ∷ [] → context_of self.new ≡ record (context_of self.old) { names = record (names_of self.old.table) { inner = inner; outer = outer; level = outside.level }; frame = outside.frame }) }
@@ -306,7 +308,7 @@ impl Resolver<'_> {
         Ok(())
     }
 
-    /// A `cilk_for`: its bounds, and then its body, which is a loop of the program.
+    /// Resolves a `cilk_for`: its bounds, and then its body, which becomes a loop of the program.
     #[cycle(statements)]
     #[tactic(auto, using(crate::proofs::Earliest::earliest_append))]
     fn parallel(
@@ -334,7 +336,7 @@ impl Resolver<'_> {
         Ok(Stmt::ParallelFor(low, high, outside.number))
     }
 
-    /// A `for`, whose head is a scope.
+    /// Resolves a `for`, whose head opens a scope.
     #[cycle(statements)]
     #[tactic(auto, using(crate::proofs::Earliest::earliest_append))]
     fn repeated(
@@ -368,7 +370,7 @@ impl Resolver<'_> {
         Ok(for_of(row, test, step, body))
     }
 
-    /// A statement in a scope of its own.
+    /// Resolves a statement in a scope of its own.
     #[cycle(statements)]
     fn scoped(&mut self, alloc: Global, tree: &tree::Stmt) -> Result<Box<Stmt>, AllocError>
         ensures context { OnOk result (context_of self.new
@@ -385,7 +387,7 @@ impl Resolver<'_> {
         Ok(boxed)
     }
 
-    /// A condition, and the statement under it in a scope of its own.
+    /// Resolves a condition, and the statement under it in a scope of its own.
     #[cycle(statements)]
     #[tactic(auto, using(crate::proofs::Earliest::earliest_append))]
     fn guarded(
@@ -410,7 +412,7 @@ impl Resolver<'_> {
         Ok((test, body))
     }
 
-    /// A statement with its names resolved. What is wrong is noted.
+    /// Resolves a statement and notes faults.
     #[cycle(statements)]
     #[tactic(auto, using(crate::proofs::Earliest::earliest_append, crate::proofs::Blocks::tree_block, crate::proofs::Blocks::block))]
     fn statement(&mut self, alloc: Global, tree: &tree::Stmt) -> Result<Stmt, AllocError>
@@ -470,7 +472,7 @@ impl Resolver<'_> {
         }
     }
 
-    /// A block, which is a scope.
+    /// Resolves a block in a scope of its own.
     #[cycle(statements)]
     #[tactic(auto, using(crate::proofs::Blocks::block))]
     fn block(&mut self, alloc: Global, list: &[tree::Stmt]) -> Result<Stmt, AllocError>
@@ -488,7 +490,7 @@ impl Resolver<'_> {
         Ok(Stmt::Block(row))
     }
 
-    /// Statements one after the other, with their names resolved. What is wrong is noted.
+    /// Resolves statements in order and notes faults.
     #[cycle(statements)]
     pub fn row(&mut self, alloc: Global, list: &[tree::Stmt]) -> Result<Vec<Stmt>, AllocError>
         ensures context { OnOk result (context_of self.new ≡ behind_row (context_of self.old) (trees.statements list.now)) }

@@ -1,4 +1,4 @@
-//! The table of a text's names.
+//! The table of the names at a place of a text.
 
 ghost use Rattle.std.specs.Prelude.{◌≡◌, List, [], ◌++◌, ◌∷◌, Some, OnOk};
 ghost use Rattle.cilk_syntax.specs.Trees.{bytes_of};
@@ -16,7 +16,8 @@ use std::alloc::{AllocError, Global};
 use std::collections::HashMap;
 use std::mem;
 
-/// Which reducer of a frame's function, or of the program: each counted from 0 in order of declaration.
+/// Where a reducer is declared: in the program, in a function, or as a parameter. Each kind is
+/// counted from 0 in order of declaration.
 #[derive(Clone, Copy)]
 pub enum Home {
     Global(u32),
@@ -24,29 +25,31 @@ pub enum Home {
     Given(u32),
 }
 
-/// What a name means. Global cells and functions are counted from 0 in order of declaration.
+/// The meaning of a name. Global cells and functions are counted from 0 in order of declaration.
 #[derive(Clone, Copy)]
 pub enum Meaning {
     Global(u32),
     Array(Array),
-    /// A variable of the body that stands in so many loop bodies, by its cell in that body's frame.
+    /// A variable: the number of loop bodies that its own body is in, and its cell in that body's
+    /// frame.
     Local(u32, u32),
-    /// The variable of the parallel loop whose body stands in so many loop bodies, itself counted.
+    /// The variable of a parallel loop: the number of loop bodies that its body is in, counting
+    /// itself.
     Turn(u32),
-    /// A reducer, and its monoid, if that is one.
+    /// A reducer, and its monoid, if the name is a monoid's.
     Reducer(Home, Option<MonoidKind>),
     Function(u32),
 }
 
-/// What a scope says of a name: what it means, and whether its declaration has been reached.
+/// An entry of a scope: the meaning of a name, and whether its declaration has been reached.
 #[derive(Clone, Copy)]
 pub struct Binding {
     pub meaning: Meaning,
     pub declared: bool,
 }
 
-/// What names mean at a place of the text: the scope in which it stands, those round it, outermost first, and in how many
-/// loop bodies it stands. Names are looked up by their bytes in the text.
+/// The scopes at a place of the text: the innermost, the outer ones from the outermost in, and the
+/// number of enclosing loop bodies. Names are looked up by their bytes in the text.
 #[derive(Drop)]
 pub struct Table<'a> {
     pub text: &'a [u8],
@@ -57,7 +60,7 @@ pub struct Table<'a> {
 }
 
 impl<'a> Table<'a> {
-    /// A scope with nothing in it, round which there is none, of a text whose functions take and return this.
+    /// Makes a table with one empty scope, for a text whose functions have these signatures.
     pub fn new(alloc: Global, text: &'a [u8], signatures: &'a [Signature]) -> Table<'a>
         ensures { names_of result ≡ record { text = text.now; signatures = signatures.now; inner = empty; outer = []; level = 0 } }
     {
@@ -70,7 +73,7 @@ impl<'a> Table<'a> {
         }
     }
 
-    /// What a scope or those round it say of these bytes.
+    /// Looks these bytes up, from the innermost scope out.
     fn find(&self, name: &[u8]) -> Option<Binding>
         ensures { result ≡ found (names_of self.now) name.now }
     {
@@ -87,7 +90,7 @@ impl<'a> Table<'a> {
         None
     }
 
-    /// What a name means.
+    /// Returns the meaning of a name.
     pub(crate) fn meaning(&self, name: Name) -> Option<Meaning>
         ensures { result ≡ meaning (names_of self.now) name }
     {
@@ -97,7 +100,7 @@ impl<'a> Table<'a> {
         }
     }
 
-    /// Whether a name is declared in the innermost scope.
+    /// Tells whether a name is declared in the innermost scope.
     fn is_declared(&self, name: Name) -> bool
         ensures { result ≡ is_declared (scope_of self.now.inner) (bytes_of self.now.text.now name) }
     {
@@ -107,7 +110,8 @@ impl<'a> Table<'a> {
         }
     }
 
-    /// Declares a name in the innermost scope. A second declaration is noted, and changes nothing.
+    /// Declares a name in the innermost scope. A second declaration is noted as a fault and changes
+    /// nothing.
     pub fn declare(
         &mut self,
         name: Name,
@@ -135,7 +139,7 @@ impl<'a> Table<'a> {
         Ok(())
     }
 
-    /// Knows a function by its number ahead of its declaration, unless its name is known already.
+    /// Enters a function under its number before its declaration, unless its name is known already.
     pub fn know(&mut self, name: Name, number: u32) -> Result<(), AllocError>
         ensures names { OnOk result (names_of self.new ≡ (let n = names_of self.old in record n { inner = with_function n.inner (bytes_of n.text name) number })) }
     {
@@ -152,7 +156,7 @@ impl<'a> Table<'a> {
         Ok(())
     }
 
-    /// Gives a name another entry in the innermost scope.
+    /// Replaces the entry of a name in the innermost scope.
     fn put(&mut self, name: Name, entry: Binding) -> Result<(), AllocError>
         ensures same { (self.new.text ≡ self.old.text) × (self.new.signatures ≡ self.old.signatures) × (self.new.outer ≡ self.old.outer) × (self.new.level ≡ self.old.level) }
         ensures updates { OnOk result (scope_of self.new.inner ≡ with_entry (scope_of self.old.inner) (bytes_of self.old.text.now name) entry) }
@@ -161,7 +165,7 @@ impl<'a> Table<'a> {
         Ok(())
     }
 
-    /// Opens a scope in the innermost one.
+    /// Opens a scope inside the innermost one.
     pub fn open(&mut self, alloc: Global) -> Result<(), AllocError>
         ensures names { OnOk result (names_of self.new ≡ opened (names_of self.old)) }
         ensures same { OnOk result ((self.new.text ≡ self.old.text) × (self.new.signatures ≡ self.old.signatures) × (self.new.level ≡ self.old.level)) }
@@ -181,7 +185,8 @@ impl<'a> Table<'a> {
     }
 }
 
-/// What a function returns, and what it takes; one that isn't there returns a number, and takes nothing.
+/// Returns the signature of a function. A function that doesn't exist returns an `int` and has no
+/// parameters.
 pub fn signature<'a>(table: &'a Table, function: u32) -> (ReturnType, &'a [ParameterKind])
     ensures returns { result.0 ≡ (let s = signature_of (names_of table.now) (Some function) in s.returns) }
     ensures kinds { result.1.now ≡ (let s = signature_of (names_of table.now) (Some function) in s.parameters) }
@@ -192,7 +197,7 @@ pub fn signature<'a>(table: &'a Table, function: u32) -> (ReturnType, &'a [Param
     }
 }
 
-/// The bytes of a name, as far as the text has them.
+/// Returns the bytes of a name, as far as the text has them.
 pub fn bytes_of<'a>(text: &'a [u8], name: Name) -> &'a [u8]
     ensures { result.now ≡ bytes_of text.now name }
 {

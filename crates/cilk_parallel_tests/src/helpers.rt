@@ -1,4 +1,4 @@
-//! A certificate that helpers check, whose file fails in one of the two readings.
+//! A certificate that helpers check, while its file fails in one of the two readings.
 
 ghost use Rattle.std.specs.Prelude.{◌≡◌};
 
@@ -15,7 +15,7 @@ const FIB: &str =
     "#include <cilk/cilk.h>\nint fib(int n) { if (n < 2) { return n; } int x; int y; x = cilk_spawn fib(n - 1); y \
     = fib(n - 2); cilk_sync; return x + y; } int main() { int r; r = fib(10); return r; }";
 
-/// A folder in which each part after so many fails.
+/// A folder in which each part after the first `parts` fails.
 #[derive(Drop)]
 struct Failing<'a> {
     folder: Folder<'a>,
@@ -23,7 +23,7 @@ struct Failing<'a> {
 }
 
 impl<'a> Failing<'a> {
-    /// A folder with the program and this certificate, of which nothing was read yet.
+    /// Creates a folder with the program and this certificate.
     fn new(certificate: &'a [u8], parts: u64) -> Failing<'a>
         ensures { result.folder.failures ≡ 0 }
     {
@@ -59,7 +59,7 @@ impl Files for Failing<'_> {
     }
 }
 
-// A call with these words, where the certificate's file fails after so many parts.
+// Makes a call whose reads of the certificate's file fail after `parts` parts.
 fn served<H: Threads + Wait + Sync>(
     rt: &H,
     alloc: Global,

@@ -1,4 +1,5 @@
-//! What `threads` shows of programs, on their own inputs and on others, and of certificates that are refused.
+//! The replies of `threads` to programs on their own inputs and on others, and to certificates that
+//! are refused.
 
 use cilk_report::KeptFiles;
 use cilk_served::served::{Broken, Ended, Folder};
@@ -11,7 +12,7 @@ use std::thread;
 use std::thread::Threads;
 use std::time::{Clock, Duration};
 
-/// A program, the numbers of its certificate's run, and those of the file `script`, which `--on` may name.
+/// A program, the numbers of its certificate's run, and those of the file `script`, for `--on`.
 #[derive(Clone, Copy)]
 struct Texts {
     program: &'static str,
@@ -19,10 +20,11 @@ struct Texts {
     other: &'static str,
 }
 
-/// The words behind `threads program certificate --input input`, and the status, standard output and standard error.
+/// The words after `threads program certificate --input input`, and the expected status and output
+/// streams.
 type Case = (&'static [&'static str], u8, &'static str, &'static str);
 
-/// A call of the tool over these texts and a certificate, and what it is to show.
+/// A call of the tool over these texts and a certificate, and its expected reply.
 #[derive(Clone, Copy)]
 struct Call<'a> {
     texts: &'a Texts,
@@ -33,10 +35,10 @@ struct Call<'a> {
     err: &'a str,
 }
 
-// How many seconds a call is waited for.
+// The seconds to wait for a call.
 const PATIENCE: u64 = 30;
 
-/// The words of a call, and what it says of the first file that it can't read.
+/// The words of a call, and the message on the first file that it can't read.
 type Unread = (&'static [&'static str], &'static str);
 
 const FIB: Texts = Texts {
@@ -71,7 +73,7 @@ const OWN_SUMS: Texts = Texts {
     other: "",
 };
 
-// A sum that goes past the greatest number.
+// A sum beyond the greatest number.
 const GREAT_SUM: Texts = Texts {
     program: "int cilk_reducer(add) s; void u(int k) { update(s, k); } \
         int main() { cilk_spawn u(9223372036854775807); cilk_spawn u(1); cilk_spawn u(1); cilk_sync; \
@@ -80,7 +82,7 @@ const GREAT_SUM: Texts = Texts {
     other: "",
 };
 
-// Spawned calls that are given a list of their caller's.
+// Spawned calls that get a list of their caller.
 const PUT: Texts = Texts {
     program: "void put(int cilk_reducer(append) l, int x) { update(l, x); } \
         int main() { int cilk_reducer(append) a; cilk_spawn put(a, 1); cilk_spawn put(a, 2); cilk_sync; \
@@ -128,7 +130,7 @@ const TURNS: &str =
 const NO_CREW: &str =
     "error: the number of workers is 1 to 64\n\nhint: `cilk help threads` describes `threads` and its options\n";
 
-// A call of the tool with these words, over these texts and a certificate.
+// Makes a call of the tool over these texts and a certificate.
 fn served<H: Threads + Wait + Sync>(
     rt: &H,
     alloc: Global,
@@ -173,7 +175,7 @@ fn certified<H: Abort + Threads + Wait + Sync>(rt: &H, alloc: Global, texts: &Te
     made.out
 }
 
-// The words of `threads` with these behind them.
+// The words of `threads` with these after them.
 fn words_with(alloc: Global, more: &[&'static str]) -> Result<Vec<&'static str>, AllocError> {
     let first = ["threads", "program", "certificate", "--input", "input"];
     let mut words = Vec::from_slice(alloc, first.as_slice())?;
@@ -181,7 +183,7 @@ fn words_with(alloc: Global, more: &[&'static str]) -> Result<Vec<&'static str>,
     Ok(words)
 }
 
-// Makes the call, and tells when it has ended.
+// Makes the call and compares its reply, then reports its end.
 fn shows_and_tells<H: Abort + Threads + Wait + Sync>(
     rt: &H,
     alloc: Global,
@@ -198,7 +200,7 @@ fn shows_and_tells<H: Abort + Threads + Wait + Sync>(
     assert!(rt; ended.send(rt, true).is_ok());
 }
 
-// Ends the test where the call doesn't end.
+// Fails the test if the call doesn't end in time.
 fn awaits<H: Abort + Wait + Clock>(rt: &H, ended: &Receiver<bool, Global>) {
     assert!(rt;
         ended
@@ -208,7 +210,7 @@ fn awaits<H: Abort + Wait + Clock>(rt: &H, ended: &Receiver<bool, Global>) {
     );
 }
 
-// The call shows what it is to show, in time.
+// Checks the reply of a call that has to end in time.
 fn shows<H: Abort + Threads + Wait + Clock + Sync>(rt: &H, alloc: Global, call: &Call<'_>) {
     let Ok((tell, hear)) = bounded(alloc, 1) else {
         panic!(rt; "no memory for a message");
@@ -220,7 +222,7 @@ fn shows<H: Abort + Threads + Wait + Clock + Sync>(rt: &H, alloc: Global, call: 
     );
 }
 
-// With each of the words the tool shows what it is to show of these texts.
+// Checks the replies to these texts with each of the word lists.
 fn all_show<H: Abort + Threads + Wait + Clock + Sync>(
     rt: &H,
     alloc: Global,
@@ -244,7 +246,7 @@ fn all_show<H: Abort + Threads + Wait + Clock + Sync>(
     }
 }
 
-// `run` shows this of the program, and `threads` too, by each of these numbers of workers.
+// Checks that `threads` shows what `run` shows, by each of these numbers of workers.
 fn runs_alike<H: Abort + Threads + Wait + Clock + Sync>(
     rt: &H,
     alloc: Global,

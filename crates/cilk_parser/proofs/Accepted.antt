@@ -1,4 +1,4 @@
--- Tokens that spell a tree are read to their end, and the trace tells what the tree's tokens are to the limits.
+-- Tokens that spell a tree are read to their end, and their flags are those of the tree.
 use Rattle.std.proofs.Common.{◌≡◌, ℕ, pos, ◌+◌, ◌≤◌, Bool, true, false, cond, List, [], ◌∷◌, inl, inr, Option, Some, None, refl, sym, ap, ◌∙◌, subst, arith}
 use Rattle.cilk_syntax.specs.declared.token.Kind.{Kind}
 use Rattle.cilk_syntax.specs.declared.token.Kind.TheVariants as kinds
@@ -47,7 +47,7 @@ low operators.Multiply = omega arith
 low operators.Divide = omega arith
 low operators.Remainder = omega arith
 
--- an operator goes on with its right side
+-- an operator continues with its right side
 operated : (op : BinaryOperator) (d : ℕ) (stack : List Symbol) (n : ℕ) → after (Tail d ∷ stack) n (mark_of op) ≡ Goes (is_many (n + 1)) (Operand d ∷ Tail d ∷ stack) (n + 1)
 operated operators.Or d stack n = refl
 operated operators.And d stack n = refl
@@ -70,7 +70,7 @@ counted ts stack n m past e h = ap (λ x. trace ts stack x) e ∙ h
 nothing : (ts rest : List Token) (stack : List Symbol) (more : Flags) → ts ≡ rest → trace rest stack 0 ≡ Some (more rest) → trace ts stack 0 ≡ Some (more ts)
 nothing ts rest stack more h k = subst (λ x. trace x stack 0 ≡ Some (more x)) (sym h) k
 
--- an expression as a part, where it is one, and with operators behind it
+-- an expression as a part, if it is one, and with operators after it
 abbrev PartReads : Expression → Type 0
 PartReads e = (ts rest : List Token) (d n m : ℕ) (stack : List Symbol) (more : Flags) → SpellsExpr e ts rest → 6 ≤ level_in e → m ≡ n + limits.operators e → Shut stack → trace rest stack m ≡ Some (more rest) → trace ts (Operand d ∷ stack) n ≡ Some (excess e d n more ts)
 
@@ -153,12 +153,12 @@ reads (Expression.Value v) = of_part (Expression.Value v) (omega arith) (value_r
 reads (Input e) = of_part (Input e) (omega arith) (input_reads e (reads e).whole)
 reads InputCount = of_part InputCount (omega arith) count_reads
 
--- an expression whose operators are counted apart
+-- an expression whose operators are counted separately
 whole_reads : (e : Expression) (ts rest : List Token) (d : ℕ) (stack : List Symbol) (more : Flags) → SpellsExpr e ts rest → Shut stack → ((m : ℕ) → trace rest (Tail d ∷ Anew ∷ stack) m ≡ Some (more rest)) → trace ts (Operand d ∷ Tail d ∷ Anew ∷ stack) 0 ≡ Some (excess e d 0 more ts)
 whole_reads e ts rest d stack more h s k =
     (reads e).whole ts rest d 0 (limits.operators e) (Anew ∷ stack) more h (omega arith) (λ n. s 0) (k (limits.operators e))
 
--- and the mark behind it
+-- and the mark after it
 ended_reads : (e : Expression) (ts ts1 rest : List Token) (d : ℕ) (stack : List Symbol) (more : Flags) → SpellsExpr e ts ts1 → Is kinds.Semicolon ts1 rest → trace rest stack 0 ≡ Some (more rest) → trace ts (Operand d ∷ Tail d ∷ Anew ∷ One marks.Semicolon ∷ stack) 0 ≡ Some (excess e d 0 (flag false more) ts)
 ended_reads e ts ts1 rest d stack more h is k =
     whole_reads e ts ts1 d (One marks.Semicolon ∷ stack) (flag false more) h (λ n. refl)
@@ -190,7 +190,7 @@ argument_reads : (a : Argument) (ts rest : List Token) (d : ℕ) (stack : List S
 argument_reads a ts rest d stack more h k =
     whole_reads a.value ts rest d (MoreArguments d ∷ stack) more h.4 (λ n. refl) (λ m. ends_argument rest d stack m (more rest) k)
 
--- what stands behind the parenthesis of a call
+-- the rest of a call after its opening parenthesis
 abbrev excess_listed : List Argument → ℕ → Flags → Flags
 excess_listed [] d more = flag false more
 excess_listed (a ∷ list) d more = excess a.value d 0 (excess_arguments list d (flag false more))
@@ -244,7 +244,7 @@ call_reads invocations.Spawn c ts ts1 rest d stack more h is k =
     (spawned_reads c h.0 ts1 d (One marks.Semicolon ∷ stack) (flag false more) h.2
     (goes kinds.Semicolon ts1 rest (One marks.Semicolon ∷ stack) stack 0 0 false more is refl k))
 
--- what reads the subscript of a place, reads it behind these symbols
+-- a form that reads the subscript of a place reads it before these symbols
 abbrev Behind : ℕ → List Symbol → List Symbol → Type 0
 Behind d stack behind = (us : List Token) (past : List Bool) → trace us (Subscript d ∷ stack) 0 ≡ Some past → trace us behind 0 ≡ Some past
 
@@ -269,7 +269,7 @@ where_isnt : (is : Kind → Bool) (first second : Flags) (kind : Kind) (ts rest 
 where_isnt is first second kind ts rest h e =
     ap (where_next is first second) h.1 ∙ (ap (λ b. cond b (first (h.0 ∷ rest)) (second (h.0 ∷ rest))) (ap is h.2 ∙ e) ∙ ap second (sym h.1))
 
--- an assignment begins in front of the symbols, and other symbols stand behind it
+-- an assignment begins before the symbols, and other symbols follow it
 record Begins (d : ℕ) (b : Bool) (front behind stack : List Symbol) : Type 0 where
   name : after front 0 kinds.Name ≡ Goes b behind 0
   more : after front 0 kinds.Increment ≡ Goes b (Named ∷ Subscript d ∷ stack) 0
@@ -373,7 +373,7 @@ tested_reads name e ts rest d stack more h k =
     (goes kinds.Less h.0 h.1 (One marks.Less ∷ Operand d ∷ Tail d ∷ Anew ∷ One marks.Semicolon ∷ stack) (Operand d ∷ Tail d ∷ Anew ∷ One marks.Semicolon ∷ stack) 0 0 false (excess e d 0 (flag false more)) h.3 refl
     (ended_reads e h.1 h.4.0 rest d stack more h.4.1 h.4.2 k))
 
--- the rest of a step, behind a name or an increment
+-- the rest of a step, after a name or an increment
 abbrev after_step : Flags → Flags
 after_step more = where_next is_sum (flag false (flag false more)) (flag false more)
 
@@ -395,7 +395,7 @@ unit_step_reads name ts rest stack more (inl h) k =
 unit_step_reads name ts rest stack more (inr h) k =
     goes kinds.Name ts h.0 (UnitStep ∷ stack) (UnitStepRest ∷ stack) 0 0 false (after_step more) (named name ts h.0 h.1) refl (unit_reads h.0 rest stack more h.2 k)
 
--- the tail of the head of a `cilk_for`
+-- the last part of the head of a `cilk_for`
 abbrev head_end : ℕ → List Symbol → List Symbol
 head_end d stack = Named ∷ One marks.Less ∷ Operand d ∷ Tail d ∷ Anew ∷ One marks.Semicolon ∷ UnitStep ∷ One marks.Close ∷ stack
 

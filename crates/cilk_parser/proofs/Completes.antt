@@ -1,5 +1,5 @@
--- What is expected can always be finished. The shortest tokens for each expected symbol do, where the list of symbols is
--- sound: behind a symbol that may stand for nothing no token comes that it would take.
+-- Expected symbols can always be completed. The shortest tokens for each symbol do, if the list of
+-- symbols is sound: after a symbol that may be empty there is no token that it would read.
 use Rattle.std.proofs.Common.{◌≡◌, ℕ, pos, ◌+◌, Bool, true, false, cond, List, [], ◌∷◌, Option, Some, None, refl, sym, ap, ◌∙◌, subst}
 use Rattle.std.specs.Ordering.{int_eq}
 use Rattle.cilk_syntax.specs.declared.token.Kind.{Kind}
@@ -80,7 +80,7 @@ abbrev NoType : Option Kind → Type 0
 NoType None = Unit {0}
 NoType (Some k) = is_type k ≡ false
 
--- what may follow a symbol that ends with one that can stand for nothing
+-- the tokens that may follow a symbol that ends with one that may be empty
 abbrev Follows : Symbol → Option Kind → Type 0
 Follows (Tail d) o = NoOperator o
 Follows (Source d) o = NoOperator o
@@ -341,7 +341,7 @@ kept_statements true k d stack n e s b =
 kept_statements false k d stack n e s b =
     subst (λ x. SoundAfter (chosen (cond x (followed (Statements d ∷ []) (move_statement d k)) Passes) stack n (after stack n k))) (sym e) b
 
--- each move leaves a sound list
+-- each move keeps the list sound
 pub kept : (stack : List Symbol) (n : ℕ) (k : Kind) → Sound stack → SoundAfter (after stack n k)
 kept [] n k s = tt
 kept (One mark ∷ stack) n k s = kept_one (fits mark k) stack n (after stack n k) s.1
@@ -381,7 +381,7 @@ kept (Parameter ∷ stack) n k s = kept_parameter k stack n (after stack n k) s.
 kept (MoreParameters ∷ stack) n k s = kept_more_parameters k stack n (after stack n k) s.1
 kept (Items ∷ stack) n k s = kept_items k stack n (after stack n k) s (kept stack n k s.1)
 
--- read to its end
+-- read to the end
 abbrev pub Reads : List Token → List Symbol → ℕ → Type 0
 Reads ts stack n = (past : List Bool) × (trace ts stack n ≡ Some past)
 
@@ -393,7 +393,7 @@ items_go _ stack n below h = refl
 along : (o o' : Option (List Bool)) → o ≡ o' → ((past : List Bool) × (o' ≡ Some past)) → (past : List Bool) × (o ≡ Some past)
 along o o' e h = (h.0, e ∙ h.1)
 
--- what follows passes a symbol that can stand for nothing
+-- the next token passes a symbol that may be empty
 pass_tail : (ts : List Token) (d : ℕ) (stack : List Symbol) (n : ℕ) → NoOperator (first_kind ts) → trace ts (Tail d ∷ stack) n ≡ trace ts stack n
 pass_tail [] d stack n h = refl
 pass_tail (t ∷ ts) d stack n h = ap (λ o. noted (chosen (move_tail d o) stack n (after stack n t.kind)) (trace ts)) h
@@ -411,7 +411,7 @@ pass_items : (ts : List Token) (stack : List Symbol) (n : ℕ) → NoType (first
 pass_items [] stack n h = refl
 pass_items (t ∷ ts) stack n h = ap (λ a. noted a (trace ts)) (items_go t.kind stack n (after stack n t.kind) h)
 
--- a token that is taken, in front of tokens that are read to their end
+-- a token that is read, before tokens that are read to their end
 taken : (b : Bool) (o : Option (List Bool)) → ((past : List Bool) × (o ≡ Some past)) → (past : List Bool) × (ahead b o ≡ Some past)
 taken b o h = (b ∷ h.0, ap (ahead b) h.1)
 

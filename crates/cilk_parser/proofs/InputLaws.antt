@@ -9,7 +9,7 @@ word_shorter : (t : Bool) (b : ℕ) (bs rest : List ℕ) → t ≡ true → leng
 word_shorter true b bs rest h k = k
 word_shorter false b bs rest h k = cc
 
--- a word takes a byte at least
+-- a word has at least one byte
 pub word_behind : (bytes : List ℕ) → starts_word bytes ≡ true → length (behind_word bytes) < length bytes
 word_behind [] h = cc
 word_behind (b ∷ bs) h = word_shorter (belongs Solid b) b bs (behind Solid bs) h (omega (arith, behind_shorter Solid bs))

@@ -1,5 +1,6 @@
--- Where reading stops, said in the grammar's words. Reading walks over the tokens in front of the stop; what is expected
--- behind them can be finished, and every text that begins with them is read the same way.
+-- Where reading stops, in terms of the grammar. Reading walks over the tokens before the stop. The
+-- symbols expected after them can be completed, and every text that begins with them is read in the
+-- same way.
 use Rattle.std.proofs.Common.{◌≡◌, ℕ, Bool, true, false, List, [], ◌∷◌, ◌++◌, Option, Some, None, refl, sym, ap, ◌∙◌, subst, append_assoc, append-nil, cond}
 use Rattle.cilk_syntax.specs.declared.token.Token.{Token}
 use Rattle.cilk_syntax.specs.Trees.{Item}
@@ -12,7 +13,7 @@ use Rattle.cilk_parser.proofs.Completes.{finish, Sound, SoundAfter, kept, Reads,
 use Rattle.cilk_parser.proofs.Spelled.{spelled}
 use Rattle.cilk_parser.proofs.Traces.{trace, noted, ended, ahead}
 
--- these tokens are taken one after the other, none of them past a limit
+-- these tokens are read in order, none of them past a limit
 abbrev Walk : List Token → List Symbol → ℕ → List Symbol → ℕ → Type 0
 Walk [] stack n stack' n' = (stack ≡ stack') × (n ≡ n')
 Walk (t ∷ used) stack n stack' n' = (s : List Symbol) × (m : ℕ) × (after stack n t.kind ≡ Goes false s m) × Walk used s m stack' n'
@@ -74,12 +75,12 @@ crosses : (ts rest : List Token) (stack : List Symbol) (n : ℕ) → run ts stac
 crosses [] rest stack n h = absurd (end_crosses stack rest h)
 crosses (t ∷ ts) rest stack n h = crosses_step (after stack n t.kind) t ts rest stack n refl (λ s m k. crosses ts rest s m k) h
 
--- what is expected behind a walk can be finished
+-- the symbols expected after a walk can be completed
 sound_behind : (used : List Token) (stack stack' : List Symbol) (n n' : ℕ) → Walk used stack n stack' n' → Sound stack → Sound stack'
 sound_behind [] stack stack' n n' w s = subst Sound w.0 s
 sound_behind (t ∷ used) stack stack' n n' w s = sound_behind used w.0 stack' w.1 n' w.3 (subst SoundAfter w.2 (kept stack n t.kind s))
 
--- reading goes on behind a walk
+-- reading continues after a walk
 read_on : (used w : List Token) (stack stack' : List Symbol) (n n' : ℕ) → Walk used stack n stack' n' → Reads w stack' n' → Reads (used ++ w) stack n
 read_on [] w stack stack' n n' k h = (h.0, ap (λ x. trace w x n) k.0 ∙ (ap (λ x. trace w stack' x) k.1 ∙ h.1))
 read_on (t ∷ used) w stack stack' n n' k h =
@@ -93,7 +94,7 @@ front : (b : Bool) (o : Option (List Bool)) (past : List Bool) → ahead b o ≡
 front b None past h = cc
 front b (Some more) past h = (more, refl, cc)
 
--- and each text that begins with the tokens of a walk is read by it
+-- a text that begins with the tokens of a walk is read by it
 abbrev ReadBack : List Token → List Token → List Symbol → ℕ → List Bool → Type 0
 ReadBack used w stack n past =
     (more : List Bool) × (trace w stack n ≡ Some more) × Within used past × (IsFirstPast [] more → IsFirstPast used past)
@@ -109,7 +110,7 @@ read_back (t ∷ used) w stack stack' n n' past k h =
 abbrev start : List Symbol
 start = Items ∷ []
 
--- a text that is read whole keeps the limits
+-- a text that is read to its end is within the limits
 whole_step : (a : After) (t : Token) (ts : List Token) (past : List Bool) → ((s : List Symbol) (m : ℕ) (more : List Bool) → run ts s m ≡ Whole → trace ts s m ≡ Some more → Within ts more) → settled a (run ts) (t ∷ ts) ≡ Whole → noted a (trace ts) ≡ Some past → Within (t ∷ ts) past
 whole_step (Goes true s m) t ts past go h k = cc
 whole_step (Goes false s m) t ts past go h k =
@@ -124,7 +125,7 @@ whole_within (t ∷ ts) stack n past h k = whole_step (after stack n t.kind) t t
 pub keeps : (p : List Item) (ts : List Token) → SpellsItems p ts [] → run ts start 0 ≡ Whole → Within ts (excess_items p ts)
 keeps p ts h k = whole_within ts start 0 (excess_items p ts) k (accepted p ts h)
 
--- tokens behind a walk that stops are in no text
+-- the tokens after a walk that stops are in no text
 none_goes : (used rest : List Token) (stack' : List Symbol) (n' : ℕ) → Walk used start 0 stack' n' → Stuck rest stack' n' → Refused used rest
 none_goes used [] stack' n' w stuck = λ p s.
     let whole : trace (used ++ []) start 0 ≡ Some (excess_items p used) = ap (λ x. trace x start 0) (append-nil used) ∙ accepted p used s in
@@ -144,7 +145,7 @@ begun used stack' n' w =
     let p = spelled (used ++ finish stack') r.0 r.1 in
     (finish stack', p.0, p.1)
 
--- a token that isn't expected, or the end, is the first that no text has there
+-- a token or an end that isn't expected is the first that no program has there
 pub refusal : (ts rest : List Token) → run ts start 0 ≡ Unexpected rest → (used : List Token) × IsRefusal ts used rest
 refusal ts rest h =
     let u = stops_at ts rest start 0 h in (
@@ -173,7 +174,8 @@ begun_past used x stack' s n' m k a =
     let p = spelled (used ++ x ∷ finish s) r.0 r.1 in
     (finish s, p.0, subst (λ y. SpellsItems p.0 y []) (sym (append_assoc used (x ∷ []) (finish s))) p.1)
 
--- a token at which reading goes past a limit is in the grammar, and the first in each text that goes past one
+-- a token at which reading passes a limit is in the grammar, and is the first past a limit in each
+-- program with it
 pub past_limit : (ts rest : List Token) → run ts start 0 ≡ PastLimit rest → (used : List Token) × (x : Token) × (more : List Token) × (rest ≡ x ∷ more) × IsPastLimit ts used x more
 past_limit ts rest h =
     let u = crosses ts rest start 0 h in (

@@ -1,8 +1,8 @@
--- A text has one first byte from which no token goes on, and none where it is tokens.
+-- A text has at most one first byte where no token fits, and none if it is tokens.
 --
--- `bad_sort`, `gap_sort`, `kind_sort`: what stands first in the bytes has the sort of the first byte. `stop_skip`,
--- `stop_cut`, `skip_cut`: so no two of a fault, a gap and a token stand there. `cut_once`: one list of tokens or one
--- fault.
+-- `bad_sort`, `gap_sort`, `kind_sort`: the first piece has the sort of the first byte. `stop_skip`,
+-- `stop_cut`, `skip_cut`: so the first piece isn't two of a fault, a gap and a token.
+-- `cut_once`: one list of tokens or one fault.
 use Rattle.std.proofs.Common.{◌≡◌, ◌≢◌, ℕ, ◌+◌, ◌<◌, ◌≤◌, Bool, true, false, cond, ◌||◌, ◌&&◌, ◌==◌, nat_lt, List, [], ◌∷◌, length, Option, Some, None, refl, sym, ap, ◌∙◌, subst, arith}
 use Rattle.std.proofs.lemmas.Bool.Decides.{nat_tests}
 use Rattle.cilk_syntax.specs.declared.token.Kind.{Kind}
@@ -157,7 +157,7 @@ same_sort x y e = cc
 tails : (b c : ℕ) (r s : List ℕ) → b ∷ r ≡ c ∷ s → r ≡ s
 tails b c r s e = cc
 
--- where no token begins, no slash stands
+-- where no token begins, there is no slash
 no_slash : {A : Type 0} (b : ℕ) (tail more bytes : List ℕ) → bytes ≡ b ∷ tail → BeginsNone b tail → bytes ≡ 47 ∷ more
     → A
 no_slash b tail more bytes e h k = absurd (h.3 kinds.Slash more refl (sym e ∙ k))
@@ -312,7 +312,7 @@ bad_kind bads.TooLarge (kinds.Number n) fresh bytes rest e h s =
 bad_kind bads.NoToken k fresh bytes rest e h s = no_token_kind k h.0 h.1 bytes rest e h.2 h.4 s
 bad_kind _ _ fresh bytes rest e h s = cc
 
--- what a fault of the bytes begins with
+-- the first piece of bytes that have a fault
 data Fault (total : ℕ) (fresh : Bool) (bytes : List ℕ) (bad : LexErrorKind) (place : ℕ) : Type 0 where
   Stop : IsBad fresh bad bytes → place + length bytes ≡ total → Fault total fresh bytes bad place
   Skip : (gap : Gap) (fresh' : Bool) (rest : List ℕ) → Passes gap fresh bytes fresh' rest

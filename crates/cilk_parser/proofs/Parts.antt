@@ -1,8 +1,9 @@
--- The parts of statements: the same tokens spell one of each.
+-- The parts of statements: the same tokens spell only one of each.
 --
--- `one_inside`, `one_ended`, `one_optional`: expressions with the marks round them. `one_called`, `one_invoked`: calls
--- and spawns. `one_assignment`: assignments, by their mark and what they take (`Form`). `no_invocation`,
--- `no_call_assigned`, `no_assignment_called`: an expression or an assignment is no call.
+-- `one_inside`, `one_ended`, `one_optional`: expressions with the marks around them. `one_called`,
+-- `one_invoked`: calls and spawns. `one_assignment`: assignments, by their mark and right side
+-- (`Form`). `no_invocation`, `no_call_assigned`, `no_assignment_called`: an expression or
+-- assignment isn't a call.
 use Rattle.std.proofs.Common.{◌≡◌, ◌≢◌, Bool, true, false, inl, inr, List, [], ◌∷◌, Option, Some, None, refl, sym, ap, ◌∙◌, subst}
 use Rattle.cilk_syntax.specs.declared.token.Kind.{Kind}
 use Rattle.cilk_syntax.specs.declared.token.Kind.TheVariants as kinds
@@ -100,7 +101,7 @@ one_called c d ts us r s p h k =
     let e = one_arguments c.arguments d.arguments h.1 k.1 r s b.1 h.4 k.4 in
     (same_called c d a.0 e.0, e.1)
 
--- what a call begins with
+-- the first token of a call
 abbrev pub Calls : List Token → Type 0
 Calls ts = (name : Name) × (ts1 ts2 : List Token) × IsName name ts ts1 × Is kinds.Open ts1 ts2
 
@@ -143,7 +144,7 @@ place_starts : (a : trees.Lvalue) (ts r : List Token) → SpellsLvalue a ts r �
 place_starts (trees.Lvalue.Variable m) ts r h = (r, is_name h)
 place_starts (trees.Lvalue.Element m e) ts r h = (h.0, is_name h.3)
 
--- an assignment by its mark, with the expression that it takes or none
+-- an assignment by its mark, with its right side or none
 abbrev made : Kind → trees.Lvalue → Option Expression → Assignment
 made kinds.Assign a (Some e) = Assignment.Set a e
 made kinds.PlusAssign a (Some e) = trees.Compound compounds.Add a e
@@ -191,7 +192,7 @@ form (trees.Increment a) ts r (inr h) = Back kinds.Increment a None h.0 r refl r
 form (trees.Decrement a) ts r (inl h) = Front kinds.Decrement a h.0 refl h.1 h.2 refl
 form (trees.Decrement a) ts r (inr h) = Back kinds.Decrement a None h.0 r refl refl h.1 h.2 refl refl
 
--- the other marks are none of assignments
+-- the other marks aren't those of assignments
 unlike : (k j : Kind) → is_mark k ≡ true → is_mark j ≡ false → k ≢ j
 unlike k j h i = λ e. (let x : true ≡ false = sym h ∙ (ap is_mark e ∙ i) in cc)
 
@@ -202,7 +203,7 @@ ends_no_bracket : (ts : List Token) → Ends ts → NotFirst kinds.OpenBracket t
 ends_no_bracket [] h = tt
 ends_no_bracket (t ∷ ts) h = λ e. (let x : ends kinds.OpenBracket ≡ true = ap ends (sym e) ∙ h in cc)
 
--- what closes an expression is of no other kind
+-- the mark that closes an expression is of no other kind
 pub no_end : {A : Type 0} {kind : Kind} {ts us r : List Token} → ts ≡ us → Ends ts → Is kind us r → ends kind ≡ false
     → A
 no_end {A} {kind} {ts} {us} {r} p h is n =
@@ -263,7 +264,7 @@ no_assignment {A} {kind} a ts us r s p h is n =
     let o = assignment_opens a ts r h in
     apart p o.2 is (λ e. (let x : true ≡ false = sym o.3 ∙ (ap opens e ∙ n) in cc))
 
--- behind a name that an assignment begins with comes its mark or a bracket
+-- after the name that an assignment begins with there is its mark or a bracket
 place_goes : {A : Type 0} (c : trees.Lvalue) (name : Name) (kind j : Kind) (ts us r s y z : List Token) → ts ≡ us
     → SpellsLvalue c ts r → Is j r y → IsName name us s → Is kind s z → kind ≢ kinds.OpenBracket
     → (j ≡ kind → r ≡ s → y ≡ z → A) → A

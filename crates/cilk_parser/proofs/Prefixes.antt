@@ -1,8 +1,9 @@
--- Where reading stops is one place: a list of tokens has at most one refusal or token past a limit, and none where it
--- spells a program within the limits.
+-- Reading stops at one place: tokens have at most one refusal or token past a limit, and none if
+-- they spell a program within the limits.
 --
--- `cuts`: two cuts of a list are the same, or one is later. `one_refusal`, `one_past`, `refused_or_past`: two stops are
--- one. `spelled_not_refused`, `within_not_past`: programs have none. `stops_once`: all of them.
+-- `cuts`: two cuts of a list are equal, or one is later. `one_refusal`, `one_past`,
+-- `refused_or_past`: two stops are equal. `spelled_not_refused`, `within_not_past`: programs have
+-- none. `stops_once`: all of them.
 use Rattle.std.proofs.Common.{◌≡◌, Bool, true, false, List, [], ◌∷◌, ◌++◌, refl, sym, ap, ◌∙◌, subst, append_assoc, append-nil}
 use Rattle.cilk_syntax.specs.declared.token.Token.{Token}
 use Rattle.cilk_syntax.specs.Trees.{Item}
@@ -12,7 +13,7 @@ use Rattle.cilk_parser.specs.Refused.{Begins, Refused, KeepsLimits, GoesPast, Is
 use Rattle.cilk_parser.specs.Answers.{StopsOnce}
 use Rattle.cilk_parser.proofs.Tokens.{heads}
 
--- two ways to cut one list in two
+-- two ways to split a list in two
 data Cuts (a b c d : List Token) : Type 0 where
   Same : a ≡ c → b ≡ d → Cuts a b c d
   Later : (x : Token) (m : List Token) → c ≡ a ++ x ∷ m → b ≡ x ∷ (m ++ d) → Cuts a b c d
@@ -37,7 +38,7 @@ begins_sooner used m x longer e h =
     ap (λ y. y ++ h.0) e ∙ (append_assoc used (x ∷ m) h.0 ∙ sym (append_assoc used (x ∷ []) (m ++ h.0))) in
     (m ++ h.0, h.1, subst (SpellsProgram h.1) f h.2)
 
--- a refused list of tokens goes on in no other way
+-- no program continues refused tokens
 refused_at : (used : List Token) (x : Token) (rest more : List Token) → rest ≡ x ∷ more → Refused used rest
     → Begins (used ++ x ∷ []) → ⊥
 refused_at used x rest more e r b =
@@ -97,7 +98,7 @@ one_past ts used x rest used' x' rest' h k = go (cuts used (x ∷ rest) used' (x
         let g = heads x' y rest' (m ++ x ∷ rest) f in
         absurd (past_later used' x' used x m (e ∙ ap (λ z. used' ++ z ∷ m) (sym g.0)) k.past h.begins h.past)
 
--- a refusal behind a token past a limit
+-- a refusal after a token past a limit
 refused_later : (used : List Token) (x : Token) (used' m : List Token) → used' ≡ used ++ x ∷ m → GoesPast used x
     → Begins used' → KeepsLimits used' → ⊥
 refused_later used x used' m e g b k =

@@ -1,8 +1,10 @@
--- A reader of expressions, one token at a time: the one tree of an expression's tokens is what it has read.
+-- A pushdown reader of expressions, one token at a time: the tree of an expression's tokens is what
+-- it has read.
 --
--- `reads`: reading the tokens of a tree makes that tree, whatever it stands in, where what follows leaves it alone
--- (`Stays`) and what stands before it lets it end there (`Fits`). `one_expression`: so up to a mark that ends it
--- (`Ends`) there is one. `no_expression`, `no_call`: with which tokens none begins.
+-- `reads`: reading the tokens of a tree gives that tree, in every context, if the tokens that
+-- follow don't extend it (`Stays`) and the tokens before it let it end there (`Fits`).
+-- `one_expression`: so there is only one tree up to a mark that ends it (`Ends`). `no_expression`,
+-- `no_call`: tokens that begin no expression.
 use Rattle.std.proofs.Common.{◌≡◌, ◌≢◌, ℕ, ◌+◌, ◌≤◌, Bool, true, false, cond, List, [], ◌∷◌, Option, Some, None, refl, sym, ap, ◌∙◌, subst, arith}
 use Rattle.std.proofs.Math.Dec.{leb}
 use Rattle.std.proofs.lemmas.Bool.{le-leb, leb-true}
@@ -18,7 +20,7 @@ use Rattle.cilk_syntax.specs.Trees.{Expression, Number, Group, Unary, Binary, In
 use Rattle.cilk_syntax.specs.Grammar.{Is, IsName, sign_of, mark_of, level, level_in, SpellsExpr}
 use Rattle.cilk_parser.proofs.Tokens.{name_at, is_named}
 
--- what an expression that is being read stands in
+-- the context of an expression that is being read
 pub data Frame : Type 0 where
   Between : (op : BinaryOperator) (left : Expression) → Frame
   Signed : (op : UnaryOperator) → Frame
@@ -26,7 +28,7 @@ pub data Frame : Type 0 where
   Indexing : (name : Name) → Frame
   Asking : Frame
 
--- what has been read of the part at hand
+-- the state of the current part
 pub data State : Type 0 where
   Wants : State
   Has : (e : Expression) → State
@@ -59,7 +61,7 @@ operator_of kinds.Slash = Some Divide
 operator_of kinds.Percent = Some Remainder
 operator_of _ = None
 
--- what comes next lets an operator have its right side
+-- the next token lets an operator have its right side
 abbrev pub tight : Option BinaryOperator → BinaryOperator → Bool
 tight None op = true
 tight (Some next) op = leb (level next) (level op)
@@ -163,17 +165,17 @@ goes_named {name} {ts} {rest} state to frames frames' is h =
     (h (name_at is.0))
     ∙ ap (λ n. reading rest (to n) frames') (is_named name is.0 is.3 is.4)
 
--- an operator that comes next is at most this tight
+-- the next operator is at most this tight
 abbrev pub Loose : ℕ → Option BinaryOperator → Type 0
 Loose l None = Unit {0}
 Loose l (Some op) = level op ≤ l
 
--- what follows an expression of this level leaves it alone
+-- the tokens after an expression of this level don't extend it
 abbrev pub Stays : ℕ → List Token → Type 0
 Stays l [] = Unit {0}
 Stays l (t ∷ ts) = (t.kind ≢ kinds.OpenBracket) × Loose l (operator_of t.kind)
 
--- and so does what stands in front of it
+-- the context lets an expression of this level end
 abbrev pub Fits : List Frame → ℕ → Type 0
 Fits [] l = Unit {0}
 Fits (Signed op ∷ frames) l = 6 ≤ l
@@ -211,7 +213,7 @@ sign_begins : (op : UnaryOperator) (name : Name) (frames : List Frame)
 sign_begins Negate name frames = refl
 sign_begins Not name frames = refl
 
--- a mark that is no operator and no bracket ends each expression
+-- a mark that isn't an operator or a bracket ends each expression
 stays_at : {kind : Kind} {ts rest : List Token} (l : ℕ) → Is kind ts rest → kind ≢ kinds.OpenBracket
     → operator_of kind ≡ None → Stays l ts
 stays_at {kind} {ts} {rest} l is n o =
@@ -227,7 +229,7 @@ stays_before {ts} {rest} op l is p =
           ∙ ap operator_of (sym is.2)) p,
     )
 
--- what stands in front of an expression waits for a tighter operator behind it
+-- the context of an expression waits for a tighter operator after it
 reduce_waits : (op : BinaryOperator) (e : Expression) (frames : List Frame) → Fits frames (level op)
     → reduce (Some op) e frames ≡ (e, frames)
 reduce_waits op e [] h = refl
@@ -278,7 +280,7 @@ operates op e frames h =
     ap (λ o. meets o (mark_of op) (reduce o e frames)) (operator_marked op)
     ∙ ap (λ x. Goes Wants (Between op x.0 ∷ x.1)) (reduce_waits op e frames h)
 
--- reading the tokens of an expression makes that expression
+-- reading the tokens of an expression gives that expression
 pub reads : (e : Expression) (ts rest : List Token) (frames : List Frame) → SpellsExpr e ts rest
     → Stays (level_in e) rest → Fits frames (level_in e) → reading ts Wants frames ≡ reading rest (Has e) frames
 reads (Number n) ts rest frames h s f = goes Wants (Has (Number n)) frames frames h (λ name. refl)
@@ -349,7 +351,7 @@ stays_ended l [] h = tt
 stays_ended l (t ∷ ts) h =
     stays_at {kind = t.kind} {ts = t ∷ ts} {rest = ts} l (t, refl, refl) (ends_stays t.kind h).0 (ends_stays t.kind h).1
 
--- an expression up to a mark that closes it is what is read
+-- an expression up to a mark that closes it is the one that is read
 pub read_of : (e : Expression) (ts rest : List Token) → SpellsExpr e ts rest → Ends rest
     → reading ts Wants [] ≡ Some (e, rest)
 read_of e ts rest h k = reads e ts rest [] h (stays_ended (level_in e) rest k) tt ∙ all_read e rest k
@@ -359,7 +361,7 @@ some_pair e f r s h =
     let p : ◌≡◌ {A = Expression × List Token} (e, r) (f, s) = cc in
     (ap (λ x. x.0) p, ap (λ x. x.1) p)
 
--- so there is one
+-- so there is only one
 pub one_expression : (e f : Expression) (ts us r s : List Token) → ts ≡ us → SpellsExpr e ts r → SpellsExpr f us s
     → Ends r → Ends s → (e ≡ f) × (r ≡ s)
 one_expression e f ts us r s p h k x y =
@@ -368,7 +370,7 @@ one_expression e f ts us r s p h k x y =
 none_some : {A : Type 0} (r : Expression × List Token) → ◌≡◌ {A = Read} None (Some r) → A
 none_some r h = cc
 
--- an expression begins with no other kind
+-- an expression doesn't begin with another kind
 pub no_expression : {A : Type 0} {kind : Kind} (e : Expression) (ts r us s : List Token) → ts ≡ us → SpellsExpr e ts r
     → Ends r → Is kind us s → ((name : Name) → begins kind name [] ≡ Fails) → A
 no_expression {A} {kind} e ts r us s p h x is f =

@@ -1,5 +1,6 @@
--- Tokens that are read to their end have a tree. Each expected symbol stands for a run of tokens, and a list of them for
--- one run after the other; a token's move is read back, from what is expected behind it to what was expected before.
+-- Tokens that are read to their end have a tree. Each expected symbol spells a sequence of tokens,
+-- and a list of symbols spells one sequence after the other. The move of a token is read backward:
+-- from the symbols that are expected after it to those before it.
 use Rattle.std.proofs.Common.{◌≡◌, ℕ, ℤ, pos, ◌+◌, ◌<◌, ◌≤◌, Bool, true, false, cond, List, [], ◌∷◌, ◌⊎◌, inl, inr, Option, Some, None, refl, sym, ap, ◌∙◌, subst, arith}
 use Rattle.std.specs.Ordering.{int_eq}
 use Rattle.std.proofs.lemmas.Bool.{cases_lt}
@@ -33,7 +34,7 @@ use Rattle.cilk_syntax.proofs.MarkLaws.{is_mark}
 use Rattle.cilk_parser.proofs.Accepted.{low}
 use Rattle.cilk_parser.proofs.Traces.{trace, noted, ended, ahead}
 
--- an expression with an operator and a part behind it
+-- an expression followed by an operator and a part
 abbrev Longer : Expression → BinaryOperator → List Token → List Token → Type 0
 Longer e op ts rest = (e' : Expression) × SpellsExpr e' ts rest × ((k : ℕ) → k ≤ level_in e → k ≤ level op → k ≤ level_in e')
 
@@ -57,18 +58,18 @@ longer (Expression.Value n) op u ts ts1 ts2 rest h is k m = on_top (Expression.V
 longer (Input e) op u ts ts1 ts2 rest h is k m = on_top (Input e) op u ts ts1 ts2 rest (omega (arith, low op)) h is k m
 longer InputCount op u ts ts1 ts2 rest h is k m = on_top InputCount op u ts ts1 ts2 rest (omega (arith, low op)) h is k m
 
--- whatever expression ends here, there is one that goes further
+-- each expression that ends here can be extended
 abbrev Extends : List Token → List Token → Type 0
 Extends ts rest = (e : Expression) (ts0 : List Token) → SpellsExpr e ts0 ts → (e' : Expression) × SpellsExpr e' ts0 rest
 
 abbrev Second : List Token → List Token → Type 0
 Second ts rest = (ts1 : List Token) × (s : Statement) × Is kinds.Else ts ts1 × SpellsStmt s ts1 rest
 
--- whatever name ends here, there is a part that goes further
+-- each name that ends here can be extended to a part
 abbrev NamesPart : List Token → List Token → Type 0
 NamesPart ts rest = (name : Name) (ts0 : List Token) → IsName name ts0 ts → (e : Expression) × SpellsExpr e ts0 rest × (6 ≤ level_in e)
 
--- so a statement, a place, what a variable takes
+-- the same for a statement, a place and a right side
 abbrev NamesStatement : List Token → List Token → Type 0
 NamesStatement ts rest = (name : Name) (ts0 : List Token) → IsName name ts0 ts → (s : Statement) × SpellsStmt s ts0 rest
 
@@ -78,7 +79,7 @@ NamesLvalue ts rest = (name : Name) (ts0 : List Token) → IsName name ts0 ts �
 abbrev NamesSource : List Token → List Token → Type 0
 NamesSource ts rest = (name : Name) (ts0 : List Token) → IsName name ts0 ts → (v : LocalInitializer) × SpellsSource v ts0 rest
 
--- whatever place ends here is assigned to
+-- each place that ends here is assigned to
 abbrev Assigns : List Token → List Token → Type 0
 Assigns ts rest = (p : trees.Lvalue) (ts0 : List Token) → SpellsLvalue p ts0 ts → (a : trees.Assignment) × SpellsAssignment a ts0 rest
 
@@ -89,14 +90,14 @@ DeclaresLocals ts rest = (ts0 : List Token) → Is kinds.Int ts0 ts → (s : Sta
 abbrev DeclaresItem : List Token → List Token → Type 0
 DeclaresItem ts rest = (ts0 : List Token) → Is kinds.Int ts0 ts → (i : trees.Item) × SpellsItem i ts0 rest
 
--- and so with a name behind it
+-- the same with a name after it
 abbrev Declares : List Token → List Token → Type 0
 Declares ts rest = (name : Name) (ts0 ts1 : List Token) → Is kinds.Int ts0 ts1 → IsName name ts1 ts → (i : trees.Item) × SpellsItem i ts0 rest
 
 abbrev NamesGlobal : List Token → List Token → Type 0
 NamesGlobal ts rest = (name : Name) → (v : GlobalVariable) × SpellsGlobal v name ts rest
 
--- more of a list, and what ends it
+-- more items of a list, and its end
 abbrev MoreArgumentsAndEnd : List Token → List Token → Type 0
 MoreArgumentsAndEnd ts rest = (list : List Argument) × (ts1 : List Token) × SpellsMoreArguments list ts ts1 × Is kinds.Close ts1 rest
 
@@ -109,7 +110,7 @@ MoreAndEnd ts rest = (list : List GlobalVariable) × (ts1 : List Token) × Spell
 abbrev MoreParametersAndEnd : List Token → List Token → Type 0
 MoreParametersAndEnd ts rest = (list : List declared_parameters.Parameter) × (ts1 : List Token) × SpellsMoreParameters list ts ts1 × Is kinds.Close ts1 rest
 
--- what the tokens before rest are, where the symbol stands for them
+-- the tokens before rest, spelled by the symbol
 abbrev Stands : Symbol → List Token → List Token → Type 0
 Stands (One mark) ts rest = Is (kind_of mark) ts rest
 Stands Named ts rest = Is kinds.Name ts rest
@@ -148,7 +149,7 @@ Stands expected.Parameter ts rest = (p : declared_parameters.Parameter) × Spell
 Stands MoreParameters ts rest = MoreParametersAndEnd ts rest
 Stands Items ts rest = (list : List trees.Item) × SpellsItems list ts rest
 
--- the symbols stand for the tokens, one after the other
+-- the symbols spell the tokens, one after the other
 abbrev Row : List Symbol → List Token → Type 0
 Row [] ts = ts ≡ []
 Row (s ∷ stack) ts = (rest : List Token) × Stands s ts rest × Row stack rest
@@ -251,7 +252,7 @@ back_tail t ts d stack n below kinds.Slash e pass h = operated operators.Divide 
 back_tail t ts d stack n below kinds.Percent e pass h = operated operators.Remainder t ts d stack e h
 back_tail t ts d stack n below _ e pass h = (t ∷ ts, (λ x ts0 k. (x, k)), pass h)
 
--- a whole expression, in front of more symbols
+-- a whole expression before more symbols
 whole : (d : ℕ) (stack : List Symbol) (ts : List Token) → Row (Operand d ∷ Tail d ∷ Anew ∷ stack) ts → (rest : List Token) × (e : Expression) × SpellsExpr e ts rest × Row stack rest
 whole d stack ts h =
     let w = h.2.1 h.1.0 ts h.1.1 in
@@ -316,7 +317,7 @@ unfolding SpellsCall
 called d stack ts h =
     (h.2.2.0, record { name = name_at h.1.0; arguments = h.2.2.1.0 }, (h.0, h.2.0, is_name ts h.0 h.1, h.2.1, h.2.2.1.1), h.2.2.2)
 
--- behind a name
+-- after a name
 named_call : (t : Token) (ts rest : List Token) (list : List Argument) → t.kind ≡ kinds.Open → SpellsArguments list ts rest → (name : Name) (ts0 : List Token) → IsName name ts0 (t ∷ ts) → (c : Call) × SpellsCall c ts0 rest
 unfolding SpellsCall
 named_call t ts rest list e h name ts0 is = (record { name = name; arguments = list }, (t ∷ ts, ts, is, (t, refl, e), h))
@@ -340,7 +341,7 @@ back_source t ts d stack n below kinds.InputCount e h = source_value d stack (t 
 back_source t ts d stack n below (kinds.Number v) e h = source_value d stack (t ∷ ts) (back_operand t ts d (Tail d ∷ Anew ∷ stack) n below (kinds.Number v) e h)
 back_source t ts d stack n below _ e h = absurd h
 
--- an element or a variable, with operators behind it
+-- an element or a variable, with operators after it
 part_source : (d : ℕ) (stack : List Symbol) (ts : List Token) → Row (Index d ∷ Tail d ∷ Anew ∷ stack) ts → Row (SourceRest d ∷ stack) ts
 part_source d stack ts h =
     (h.2.0, (λ name ts0 is. let x = h.1 name ts0 is in let y = h.2.1 x.0 ts0 x.1 in (LocalInitializer.Value y.0, y.1)), subst (λ z. Row stack z) (sym h.2.2.1) h.2.2.2)
@@ -408,7 +409,7 @@ back_assignment t ts d stack n below kinds.Decrement e h =
     (w.0, (trees.Decrement w.1, inl (ts, (t, refl, e), w.2)), w.3)
 back_assignment t ts d stack n below _ e h = absurd h
 
--- a variable takes a value or the result of a call
+-- a variable has a value or the result of a call
 taking : (v : LocalInitializer) (name : Name) (ts0 ts ts1 ts2 rest : List Token) → IsName name ts0 ts → Is kinds.Assign ts ts1 → SpellsSource v ts1 ts2 → Is kinds.Semicolon ts2 rest → (s : Statement) × SpellsStmt s ts0 rest
 taking trees.Absent name ts0 ts ts1 ts2 rest is a v c = absurd v
 taking (LocalInitializer.Value x) name ts0 ts ts1 ts2 rest is a v c = (trees.Assign (trees.Assignment.Set (trees.Lvalue.Variable name) x), (ts2, (ts, ts1, is, a, v), c))
@@ -605,7 +606,7 @@ back_initial t ts stack n below kinds.OpenBracket e pass h =
     (h.2.0, (λ name. (globals.Array name h.1.0, (ts, h.0, refl, (t, refl, e), h.1.1, h.2.1))), h.2.2)
 back_initial t ts stack n below _ e pass h = (t ∷ ts, (λ name. (globals.Variable name initializers.Absent, (refl, refl))), pass h)
 
--- behind a comma one more variable stands
+-- after a comma there is one more variable
 one_more : (t : Token) (ts : List Token) (stack : List Symbol) → t.kind ≡ kinds.Comma → Row (Named ∷ Initial ∷ Variables ∷ stack) ts → Row (Variables ∷ stack) (t ∷ ts)
 one_more t ts stack e h =
     let v = h.2.1 (name_at h.1.0) in
@@ -616,7 +617,7 @@ back_variables t ts stack n below kinds.Comma e h = one_more t ts stack e h
 back_variables t ts stack n below kinds.Semicolon e h = (ts, ([], t ∷ ts, refl, (t, refl, e)), h)
 back_variables t ts stack n below _ e h = absurd h
 
--- a line of variables behind the name of the first
+-- a line of variables after the name of the first
 lined : (stack : List Symbol) (ts : List Token) → Row (Initial ∷ Variables ∷ stack) ts → Row (Declared ∷ stack) ts
 unfolding SpellsLine
 lined stack ts h =
@@ -672,7 +673,7 @@ back_items t ts stack n below kinds.Void e pass h =
     (f.4.0, (trees.Function types.Void (name_at h.1.0) f.1 f.2 ∷ f.4.1.0, (f.0, (ts, h.0, h.2.0, (t, refl, e), is_name ts h.0 h.1, h.2.1, f.3), f.4.1.1)), f.4.2)
 back_items t ts stack n below _ e pass h = (t ∷ ts, ([], refl), pass h)
 
--- a token's move, read back
+-- a token's move, read backward
 back : (stack : List Symbol) (n : ℕ) (t : Token) (ts : List Token) → RowAfter (after stack n t.kind) ts → Row stack (t ∷ ts)
 back [] n t ts h = absurd h
 back (One mark ∷ stack) n t ts h = back_one t ts mark stack n (after stack n t.kind) (fits mark t.kind) refl h

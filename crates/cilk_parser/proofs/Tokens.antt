@@ -1,7 +1,8 @@
--- What the first tokens are, read twice.
+-- Two readings of the first tokens agree.
 --
--- `heads`: lists that are equal begin and go on in the same way. `same_is`, `same_name`, `same_at`: two readings of a
--- first token agree, and so do the tokens that follow. `apart`, `not_first`, `not_it`: two kinds don't stand first.
+-- `heads`: equal lists have equal heads and tails. `same_is`, `same_name`, `same_at`: two readings
+-- of a first token agree, and so do the tokens that follow. `apart`, `not_first`, `not_it`: the
+-- first token isn't of two kinds.
 use Rattle.std.proofs.Common.{◌≡◌, ◌≢◌, ℕ, List, ◌∷◌, sym, ap, ◌∙◌, subst}
 use Rattle.cilk_syntax.specs.declared.token.Kind.{Kind}
 use Rattle.cilk_syntax.specs.declared.token.Kind.TheVariants as kinds
@@ -13,7 +14,7 @@ use Rattle.cilk_syntax.specs.Stops.{NotFirst}
 pub heads : (t u : Token) (r s : List Token) → t ∷ r ≡ u ∷ s → (t ≡ u) × (r ≡ s)
 heads t u r s e = (cc, cc)
 
--- the same tokens begin with the same kind, and go on in the same way
+-- the kinds of the first token are equal, and so are the tokens that follow
 pub same_is : {j k : Kind} {ts us r s : List Token} → ts ≡ us → Is j ts r → Is k us s → (j ≡ k) × (r ≡ s)
 same_is {j} {k} {ts} {us} {r} {s} p h i =
     let e = heads h.0 i.0 r s (sym h.1 ∙ (p ∙ i.1)) in
@@ -45,11 +46,11 @@ is_name {n} {ts} {r} h = (h.0, h.1, h.2)
 pub is_at : {k : Kind} {n : ℕ} {ts r : List Token} → IsAt k n ts r → Is k ts r
 is_at {k} {n} {ts} {r} h = (h.0, h.1, h.2)
 
--- a token of this kind stands first
+-- the first token is of this kind
 abbrev pub Starts : Kind → List Token → Type 0
 Starts kind ts = (r : List Token) × Is kind ts r
 
--- two kinds don't stand first
+-- the first token isn't of two kinds
 pub apart : {A : Type 0} {j k : Kind} {ts us r s : List Token} → ts ≡ us → Is j ts r → Is k us s → (j ≡ k → A) → A
 apart p h i f = f (same_is p h i).0
 

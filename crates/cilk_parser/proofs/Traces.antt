@@ -1,5 +1,5 @@
--- What the tokens of a text are to the limits, read without stopping at one: for each token whether it goes past a
--- limit; nothing where a token is refused.
+-- The flags of tokens that are read without stopping at a limit: for each token whether it is past
+-- one; none for a token that is refused.
 use Rattle.std.proofs.Common.{◌≡◌, ◌≢◌, ℕ, Bool, false, cond, List, [], ◌∷◌, Option, Some, None, refl, sym, ap, ◌∙◌}
 use Rattle.cilk_syntax.specs.declared.token.Kind.{Kind}
 use Rattle.cilk_syntax.specs.declared.token.Kind.TheVariants as kinds
@@ -26,7 +26,7 @@ abbrev pub trace : List Token → List Symbol → ℕ → Option (List Bool)
 trace [] stack n = ended (at_end stack)
 trace (t ∷ ts) stack n = noted (after stack n t.kind) (trace ts)
 
--- a token of a known kind is taken
+-- a token of a known kind is read
 pub goes : (kind : Kind) (ts ts1 : List Token) (stack stack' : List Symbol) (n n' : ℕ) (b : Bool) (more : Flags) → Is kind ts ts1 → after stack n kind ≡ Goes b stack' n' → trace ts1 stack' n' ≡ Some (more ts1) → trace ts stack n ≡ Some (flag b more ts)
 goes kind ts ts1 stack stack' n n' b more is h k =
     ap (λ x. trace x stack n) is.1
@@ -40,7 +40,7 @@ none_some past h = cc
 abbrev pub Shut : List Symbol → Type 0
 Shut stack = (n : ℕ) → after stack n kinds.OpenBracket ≡ Fails
 
--- where a symbol that may stand for nothing is followed by one that reads on, it reads on too
+-- if a symbol that may be empty is followed by one that reads on, it reads on too
 index_kind : (k : Kind) (d : ℕ) (stack : List Symbol) (n : ℕ) (below : After) (go : List Symbol → ℕ → Option (List Bool)) (past : List Bool) → (k ≡ kinds.OpenBracket → below ≡ Fails) → noted below go ≡ Some past → noted (chosen (move_index d k) stack n below) go ≡ Some past
 index_kind kinds.OpenBracket d stack n below go past s h = none_some past (ap (λ a. noted a go) (sym (s refl)) ∙ h)
 index_kind _ d stack n below go past s h = h
@@ -57,7 +57,7 @@ pub no_subscript : (ts : List Token) (d : ℕ) (stack : List Symbol) (n : ℕ) (
 no_subscript [] d stack n past s h = h
 no_subscript (t ∷ ts) d stack n past s h = subscript_kind t.kind d stack n (after stack n t.kind) (trace ts) past (λ e. ap (after stack n) e ∙ s n) h
 
--- and a form that begins with its first token reads on as its parts do
+-- a form that begins with its first token reads on as its parts do
 value_kind : (k : Kind) (d : ℕ) (stack : List Symbol) (n : ℕ) (below below' : After) (go : List Symbol → ℕ → Option (List Bool)) (past : List Bool) → noted (chosen (move_operand d k) (Tail d ∷ Anew ∷ One Semicolon ∷ stack) n below) go ≡ Some past → noted (chosen (move_optional d k) stack n below') go ≡ Some past
 value_kind kinds.Semicolon d stack n below below' go past h = none_some past h
 value_kind kinds.Minus d stack n below below' go past h = h
@@ -233,7 +233,7 @@ source_kind kinds.InputCount d ts stack n below below' past s h = h
 source_kind (kinds.Number v) d ts stack n below below' past s h = h
 source_kind _ d ts stack n below below' past s h = none_some past h
 
--- an expression that a variable takes
+-- the right side of a variable
 pub takes_value : (ts : List Token) (d : ℕ) (stack : List Symbol) (n : ℕ) (past : List Bool) → NoCall stack → trace ts (Operand d ∷ Tail d ∷ Anew ∷ stack) n ≡ Some past → trace ts (Source d ∷ stack) n ≡ Some past
 takes_value [] d stack n past s h = none_some past h
 takes_value (t ∷ ts) d stack n past s h = source_kind t.kind d ts stack n _ _ past s h
@@ -251,7 +251,7 @@ after_name_kind kinds.Increment d ts stack n below below' past h = h
 after_name_kind kinds.Decrement d ts stack n below below' past h = h
 after_name_kind _ d ts stack n below below' past h = none_some past h
 
--- an assignment that a name begins
+-- an assignment that begins with a name
 pub assigns : (ts : List Token) (d : ℕ) (stack : List Symbol) (n : ℕ) (past : List Bool) → trace ts (Subscript d ∷ Operation d ∷ One Semicolon ∷ stack) n ≡ Some past → trace ts (AfterName d ∷ stack) n ≡ Some past
 assigns [] d stack n past h = none_some past h
 assigns (t ∷ ts) d stack n past h = after_name_kind t.kind d ts stack n _ _ past h
@@ -264,7 +264,7 @@ pub no_else : (ts : List Token) (d : ℕ) (stack : List Symbol) (n : ℕ) → No
 no_else [] d stack n h = refl
 no_else (t ∷ ts) d stack n h = ap (λ a. noted a (trace ts)) (else_kind t.kind d stack n (after stack n t.kind) h)
 
--- an expression ends in front of a comma or what closes it
+-- an expression ends before a comma or a closing mark
 local_ends : (k : Kind) (d : ℕ) (stack : List Symbol) (n : ℕ) (below : After) (go : List Symbol → ℕ → Option (List Bool)) (past : List Bool) → noted (chosen (move_locals d k) stack 0 below) go ≡ Some past → noted (chosen (move_tail d (level_of k)) (Anew ∷ Locals d ∷ stack) n (chosen (move_locals d k) stack 0 below)) go ≡ Some past
 local_ends kinds.Or d stack n below go past h = none_some past h
 local_ends kinds.And d stack n below go past h = none_some past h

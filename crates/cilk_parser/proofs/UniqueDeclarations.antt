@@ -1,7 +1,7 @@
--- Declarations and the heads of loops: the same tokens spell one of each.
+-- Declarations and the heads of loops: the same tokens spell only one of each.
 --
--- `one_line`: the local variables of a line. `one_reducer`: a declared reducer. `one_head`, `one_bounds`: the heads of
--- `for` and `cilk_for`. `one_update`: the parts of an `update` or `set`.
+-- `one_line`: the local variables of a line. `one_reducer`: a declared reducer. `one_head`,
+-- `one_bounds`: the heads of `for` and `cilk_for`. `one_update`: the parts of an `update` or `set`.
 use Rattle.std.proofs.Common.{◌≡◌, inl, inr, List, [], ◌∷◌, Option, Some, None, refl, sym, ap, ◌∙◌, subst}
 use Rattle.cilk_syntax.specs.declared.token.Kind.TheVariants as kinds
 use Rattle.cilk_syntax.specs.declared.token.Token.{Token}

@@ -1,6 +1,6 @@
--- An input text has one list of numbers, or one first fault, and not both.
+-- An input text has at most one list of numbers or one first fault, and not both.
 --
--- `one_list`, `one_fault`, `no_fault`: by what stands first in the bytes. `one_input`: all three.
+-- `one_list`, `one_fault`, `no_fault`: by the first piece of the bytes. `one_input`: all three.
 use Rattle.std.proofs.Common.{◌≡◌, ℕ, ℤ, ◌+◌, ◌<◌, ◌≤◌, true, false, List, [], ◌∷◌, length, Option, Some, None, refl, sym, ap, ◌∙◌, subst, arith}
 use Rattle.cilk_parser.specs.declared.fault.SyntaxErrorKind.{SyntaxErrorKind}
 use Rattle.cilk_parser.specs.declared.fault.SyntaxErrorKind.TheVariants.{BadNumber, TooManyNumbers}
@@ -35,7 +35,7 @@ empty_word : {A : Type 0} (bytes : List ℕ) → bytes ≡ [] → starts_word by
 empty_word bytes e h =
     let x : false ≡ true = ap starts_word (sym e) ∙ h in cc
 
--- what a list of numbers of the bytes begins with
+-- the first piece of bytes that hold a list of numbers
 data View (bytes : List ℕ) (ns : List ℤ) : Type 0 where
   Nothing : bytes ≡ [] → ns ≡ [] → View bytes ns
   Gapped : (rest : List ℕ) → IsGap bytes rest → Holds rest ns → View bytes ns
@@ -73,7 +73,7 @@ one_list bytes ns ms (Skipped {rest = r} g h) k =
 one_list bytes _ ms (Found {rest = r} {ns = more} n g h) k =
     number_step bytes r n more ms g (λ os j. one_list r more os h j) (view bytes ms k)
 
--- what a fault of the bytes begins with
+-- the first piece of bytes that have a fault
 data Fault (total count : ℕ) (bytes : List ℕ) (f : SyntaxErrorKind) (place : ℕ) : Type 0 where
   LexErrorKind : IsBadWord bytes → f ≡ BadNumber → place + length bytes ≡ total → Fault total count bytes f place
   Many : (n : ℤ) (rest : List ℕ) → IsNumber n bytes rest → count ≡ 65536 → f ≡ TooManyNumbers
@@ -137,7 +137,7 @@ one_fault total count bytes f g p q (Beyond {rest = r} n l c h) k =
     count_step total count bytes r n f g p q l c (λ o z j. one_fault total (count + 1) r f o p z h j)
     (fault total count bytes g q k)
 
--- numbers up to the end, and no more than may be, leave no fault
+-- numbers up to the end, within the limit, have no fault
 no_last : (total count : ℕ) (f : SyntaxErrorKind) (p : ℕ) → Fault total count [] f p → ⊥
 no_last total count f p (LexErrorKind v x y) = empty_word [] refl v.0
 no_last total count f p (Many m r l d x y) = empty_word [] refl l.0

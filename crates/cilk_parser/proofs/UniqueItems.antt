@@ -1,4 +1,4 @@
--- Items and programs: the same tokens spell one.
+-- Items and programs: the same tokens spell only one.
 --
 -- `one_item`: by pairs. `one_program`: a list of tokens spells at most one program.
 use Rattle.std.proofs.Common.{◌≡◌, ℤ, inl, inr, List, [], ◌∷◌, refl, sym, ap, ◌∙◌, subst}
@@ -39,7 +39,7 @@ one_literal (initializers.Negative m) (initializers.Number n) ts us r s p h k = 
 one_literal (initializers.Negative m) (initializers.Negative n) ts us r s p h k =
     let a = same_number (same_is p h.1 k.1).1 h.2 k.2 in (ap (λ x. initializers.Negative x) a.0, a.1)
 
--- a value behind `=`, or nothing
+-- a value after `=`, or nothing
 data Initial (i : Initializer) (ts r : List Token) : Type 0 where
   Bare : i ≡ initializers.Absent → ts ≡ r → Initial i ts r
   Set : (ts1 : List Token) → Is kinds.Assign ts ts1 → SpellsLiteral i ts1 r → Initial i ts r
@@ -125,7 +125,7 @@ variables_no_open : {A : Type 0} (m : Name) (l : List GlobalVariable) (ts us r s
 variables_no_open m [] ts us r s z p h c k = absurd h
 variables_no_open m (v ∷ l) ts us r s z p h c k = global_no_open v m ts us h.0 s p h.1 (more_end l h.0 r z h.2 c) k
 
--- a line of variables begins with no parenthesis
+-- a line of variables doesn't begin with a parenthesis
 line_no_open : {A : Type 0} (m : Name) (l : List GlobalVariable) (ts us r s : List Token) → ts ≡ us
     → SpellsLine m l ts r → Is kinds.Open us s → A
 unfolding SpellsLine

@@ -1,7 +1,7 @@
--- Statements: the same tokens spell one.
+-- Statements: the same tokens spell only one.
 --
--- `one_statement`, `one_row`: by pairs of trees that begin with the same token (`same_tag`). `one_body`: the body of a
--- function.
+-- `one_statement`, `one_row`: by pairs of trees that begin with the same token (`same_tag`).
+-- `one_body`: the body of a function.
 use Rattle.std.proofs.Common.{◌≡◌, ℕ, true, List, ◌∷◌, Option, Some, None, refl, sym, ap, ◌∙◌, subst}
 use Rattle.cilk_syntax.specs.declared.token.Kind.{Kind}
 use Rattle.cilk_syntax.specs.declared.token.Kind.TheVariants as kinds

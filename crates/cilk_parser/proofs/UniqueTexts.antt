@@ -1,7 +1,7 @@
--- A program text has one program, or one first fault, and not both.
+-- A program text has at most one program or one first fault, and not both.
 --
--- `why`: the reasons for which a text is refused. `one_why`: two are one. `no_why`: a text of a program has none.
--- `one_answer`: all three.
+-- `why`: the reasons why a text is refused. `one_why`: there is only one. `no_why`: there is none
+-- for the text of a program. `one_answer`: all three.
 use Rattle.std.proofs.Common.{◌≡◌, ℕ, ◌<◌, ◌≤◌, List, length, refl, sym, ap, ◌∙◌, subst, arith}
 use Rattle.cilk_syntax.specs.declared.token.Token.{Token}
 use Rattle.cilk_syntax.specs.declared.lexer.LexErrorKind.{LexErrorKind}

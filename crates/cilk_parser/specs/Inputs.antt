@@ -7,7 +7,7 @@ use Rattle.cilk_parser.specs.declared.fault.SyntaxErrorKind.TheVariants.{BadNumb
 use Rattle.cilk_parser.specs.declared.fault.TextFault.{TextFault}
 use Rattle.cilk_parser.specs.declared.fault.TextFault.TheVariants.{Memory, At}
 
--- a word is a longest run of bytes other than space, tab, LF and CR
+-- a word is a maximal run of bytes other than space, tab, LF and CR
 abbrev pub starts_word : List ℕ → Bool
 starts_word [] = false
 starts_word (b ∷ bytes) = belongs Solid b
@@ -22,38 +22,39 @@ abbrev pub are_digits : List ℕ → Bool
 are_digits [] = false
 are_digits (d ∷ ds) = all_digits (d ∷ ds)
 
--- the number that digits write, up to 2^63 - 1
+-- the number with these digits, up to 2^63 - 1
 abbrev pub positive : List ℕ → Option ℤ
 positive digits = if are_digits digits && nat_le (value_of digits) 9223372036854775807 then Some (pos (value_of digits)) else None
 
--- the number that digits behind a minus write, down to -2^63
+-- the negative of the number with these digits, down to -2^63
 abbrev pub negative : List ℕ → Option ℤ
 negative digits = if are_digits digits && nat_le (value_of digits) 9223372036854775808 then Some (neg_ℤ (pos (value_of digits))) else None
 
--- the number that a word writes: digits, with a plus, a minus or nothing in front
+-- the number that a word spells: digits, with a plus, a minus or nothing before them
 abbrev pub number_in : List ℕ → Option ℤ
 number_in [] = None
 number_in (b ∷ digits) = if b == 45 then negative digits else if b == 43 then positive digits else positive (b ∷ digits)
 
--- the first byte stands between words
+-- the first byte is between words
 abbrev pub IsGap : List ℕ → List ℕ → Type 0
 IsGap bytes rest = (b : ℕ) × (bytes ≡ b ∷ rest) × (belongs Solid b ≡ false)
 
--- the bytes before rest are a word that writes this number
+-- the bytes before rest are a word that spells this number
 abbrev pub IsNumber : ℤ → List ℕ → List ℕ → Type 0
 IsNumber n bytes rest = (starts_word bytes ≡ true) × (number_in (word_of bytes) ≡ Some n) × (rest ≡ behind_word bytes)
 
--- a word stands first that writes no number
+-- the first word spells no number
 abbrev pub IsBadWord : List ℕ → Type 0
 IsBadWord bytes = (starts_word bytes ≡ true) × (number_in (word_of bytes) ≡ None)
 
--- the bytes hold these numbers, one word after the other
+-- the bytes contain these numbers, one word each
 pub data Holds : List ℕ → List ℤ → Type 0 where
   Ended : Holds [] []
   Skipped : {bytes rest : List ℕ} {ns : List ℤ} → IsGap bytes rest → Holds rest ns → Holds bytes ns
   Found : {bytes rest : List ℕ} {ns : List ℤ} (n : ℤ) → IsNumber n bytes rest → Holds rest ns → Holds bytes (n ∷ ns)
 
--- Behind count numbers, the words before the place are numbers and not too many; total is the length of the whole text.
+-- After count numbers, the words before the place are numbers, and not too many. total is the
+-- length of the whole text.
 pub data Fails (total : ℕ) : ℕ → List ℕ → SyntaxErrorKind → ℕ → Type 0 where
   NoNumber : {count : ℕ} {bytes : List ℕ} {place : ℕ} → IsBadWord bytes → place + length bytes ≡ total → Fails total count bytes BadNumber place
   OneTooMany : {count : ℕ} {bytes rest : List ℕ} {place : ℕ} (n : ℤ) → IsNumber n bytes rest → count ≡ 65536 → place + length bytes ≡ total → Fails total count bytes TooManyNumbers place
@@ -65,7 +66,7 @@ pub record IsInput (bytes : List ℕ) (ns : List ℤ) : Type 0 where
   pub few : length ns ≤ 65536
   pub numbers : Holds bytes ns
 
--- the first word that isn't a number, or is one too many
+-- the place of the first word that isn't a number, or is one too many
 abbrev pub IsInputFault : TextFault → List ℕ → Type 0
 IsInputFault Memory bytes = Unit {0}
 IsInputFault (At n place) bytes = Fails (length bytes) 0 bytes n place

@@ -1,4 +1,4 @@
--- Which tokens begin a text, and which none; which keep the limits.
+-- Which tokens begin a program, which don't, and which are within the limits.
 use Rattle.std.specs.Prelude.{◌≡◌, List, [], ◌∷◌, ◌++◌}
 use Rattle.cilk_syntax.specs.declared.token.Token.{Token}
 use Rattle.cilk_syntax.specs.Trees.{Item}
@@ -9,12 +9,12 @@ use Rattle.cilk_syntax.specs.Limits.{Within, IsFirstPast, excess_items}
 abbrev pub Begins : List Token → Type 0
 Begins ts = (w : List Token) × (p : List Item) × SpellsProgram p (ts ++ w)
 
--- none goes on with the first of rest, or ends where it is empty
+-- no program continues used with the first token of rest, or ends there if rest is empty
 abbrev pub Refused : List Token → List Token → Type 0
 Refused used [] = (p : List Item) → SpellsProgram p used → ⊥
 Refused used (x ∷ rest) = Begins (used ++ x ∷ []) → ⊥
 
--- in each program that begins with them these tokens keep the limits
+-- in each program that begins with these tokens, they are within the limits
 abbrev pub KeepsLimits : List Token → Type 0
 KeepsLimits used = (w : List Token) (p : List Item) → SpellsProgram p (used ++ w) → Within used (excess_items p (used ++ w))
 
@@ -22,14 +22,14 @@ KeepsLimits used = (w : List Token) (p : List Item) → SpellsProgram p (used ++
 abbrev pub GoesPast : List Token → Token → Type 0
 GoesPast used x = (w : List Token) (p : List Item) → SpellsProgram p ((used ++ x ∷ []) ++ w) → IsFirstPast used (excess_items p ((used ++ x ∷ []) ++ w))
 
--- used is in the grammar and within the limits, and what follows isn't in the grammar
+-- used begins a program and is within the limits, and the token that follows isn't in the grammar
 pub record IsRefusal (ts used rest : List Token) : Type 0 where
   pub parts : ts ≡ used ++ rest
   pub begins : Begins used
   pub within : KeepsLimits used
   pub refused : Refused used rest
 
--- used and x are in the grammar, and x is the first past a limit
+-- used and x begin a program, and x is the first token past a limit
 pub record IsPastLimit (ts used : List Token) (x : Token) (rest : List Token) : Type 0 where
   pub parts : ts ≡ used ++ x ∷ rest
   pub begins : Begins (used ++ x ∷ [])

@@ -1,4 +1,4 @@
--- What a variable takes, without where it lies in memory.
+-- The right side of an assignment as plain data.
 use Rattle.cilk_parser.specs.declared.calls.Source as sources
 use Rattle.cilk_parser.specs.declared.calls.Source.TheVariants as variants
 use Rattle.cilk_syntax.specs.Trees.{LocalInitializer, expression, call}

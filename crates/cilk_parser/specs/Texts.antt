@@ -30,7 +30,7 @@ number_of bads.NotAscii = NotAscii
 number_of bads.TooLarge = TooLarge
 number_of _ = BadToken
 
--- the first of the tokens stands here, or the text ends
+-- the place of the first token, or of the end of the text
 abbrev pub place_of : ℕ → List Token → ℕ
 place_of end [] = end
 place_of end (t ∷ ts) = t.at
@@ -41,11 +41,11 @@ pub record IsText (bytes : List ℕ) (t : Tree) : Type 0 where
   pub text : t.text.items ≡ bytes
   pub tokens : (ts : List Token) × AreTokens bytes ts × SpellsProgram (program t) ts × Within ts (excess_items (program t) ts)
 
--- a fault of the tokens is the first by place
+-- a fault of the tokens is the first one
 abbrev pub LexicalFault : SyntaxErrorKind → List ℕ → ℕ → Type 0
 LexicalFault n bytes place = (bad : LexErrorKind) × (number_of bad ≡ n) × IsFirstFault bytes bad place
 
--- which fault it is, where the text isn't too long
+-- the fault of a text that isn't too long
 abbrev pub IsFault : SyntaxErrorKind → List ℕ → ℕ → Type 0
 IsFault Unexpected bytes place =
     (ts used rest : List Token) × AreTokens bytes ts × IsRefusal ts used rest × (place ≡ place_of (length bytes) rest)
@@ -56,7 +56,7 @@ IsFault BadNumber bytes place = ⊥
 IsFault TooManyNumbers bytes place = ⊥
 IsFault n bytes place = LexicalFault n bytes place
 
--- a text that is too long comes first, then one that isn't tokens; or memory ran out
+-- the length is tested first, then the tokens; or memory ran out
 abbrev pub IsTextFault : TextFault → List ℕ → Type 0
 IsTextFault Memory bytes = Unit {0}
 IsTextFault (At TooLong place) bytes = (262144 < length bytes) × (place ≡ 262144)

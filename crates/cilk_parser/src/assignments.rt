@@ -1,4 +1,4 @@
-//! From tokens to assignments.
+//! Reading assignments.
 
 ghost use Rattle.std.specs.Prelude.{◌≡◌, ◌<◌, ◌≤◌, List, ◌∷◌, IfOk, IfErr, length};
 ghost use Rattle.cilk_syntax.specs.Expected as expected;
@@ -15,7 +15,7 @@ use cilk_syntax::tree::{Assignment, Lvalue, Name};
 use cilk_types::compound::Compound;
 use std::alloc::Global;
 
-/// The place that begins with this name, from behind it.
+/// Reads the rest of a place that begins with this name.
 #[tactic(auto, using(cilk_syntax::proofs::Runs::no_subscript))]
 fn place<'a>(
     alloc: Global,
@@ -46,7 +46,7 @@ fn place<'a>(
     }
 }
 
-/// What is done to the place, from behind it.
+/// Reads the operation on a place, after the place.
 fn operation<'a>(
     alloc: Global,
     target: Lvalue,
@@ -92,7 +92,7 @@ fn operation<'a>(
     }
 }
 
-/// The assignment that begins with this name, from behind it.
+/// Reads the rest of an assignment that begins with this name.
 pub fn assigned<'a>(
     alloc: Global,
     name: Name,
@@ -111,7 +111,7 @@ pub fn assigned<'a>(
     operation(alloc, target, rest, depth)
 }
 
-/// A place.
+/// Reads a place.
 pub fn target<'a>(
     alloc: Global,
     tokens: &'a [Token],
@@ -129,7 +129,7 @@ pub fn target<'a>(
     place(alloc, name, rest, depth)
 }
 
-/// An assignment.
+/// Reads an assignment.
 pub fn assignment<'a>(
     alloc: Global,
     tokens: &'a [Token],

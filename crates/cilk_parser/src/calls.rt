@@ -1,4 +1,4 @@
-//! From tokens to calls.
+//! Reading calls.
 
 ghost use Rattle.std.specs.Prelude.{◌≡◌, ◌<◌, ◌≤◌, List, ◌∷◌, IfOk, IfErr, length};
 ghost use Rattle.cilk_syntax.specs.Expected;
@@ -18,14 +18,14 @@ use cilk_syntax::tree::{Argument, Call, Expr};
 use cilk_types::invocation::Invocation;
 use std::alloc::Global;
 
-/// What a variable takes: an expression, or a call.
+/// A right side: an expression, or a call.
 #[derive(Drop)]
 pub enum Source {
     Value(Box<Expr>),
     Invoke(Invocation, Call),
 }
 
-/// An argument of a call.
+/// Reads an argument of a call.
 fn argument<'a>(
     alloc: Global,
     tokens: &'a [Token],
@@ -49,7 +49,7 @@ fn argument<'a>(
     Ok((argument, rest))
 }
 
-/// One argument or more, up to what is no comma.
+/// Reads arguments, at least one, separated by commas.
 fn listed<'a>(
     alloc: Global,
     tokens: &'a [Token],
@@ -74,7 +74,7 @@ fn listed<'a>(
     Ok((list, rest))
 }
 
-/// The arguments of a call, and the parenthesis behind them.
+/// Reads the arguments of a call, and the closing parenthesis.
 #[tactic(auto, using(cilk_syntax::proofs::Runs::some_argument, cilk_syntax::proofs::Lists::spells_arguments))]
 pub fn arguments<'a>(
     alloc: Global,
@@ -104,7 +104,7 @@ pub fn arguments<'a>(
     }
 }
 
-/// A call.
+/// Reads a call.
 #[tactic(auto, unfolding(cilk_syntax::specs::Grammar::SpellsCall))]
 pub fn call<'a>(
     alloc: Global,
@@ -124,7 +124,7 @@ pub fn call<'a>(
     Ok((Call { name, arguments }, rest))
 }
 
-/// What a variable takes, from behind its `=`.
+/// Reads a right side, after its `=`.
 #[tactic(auto, using(cilk_syntax::proofs::Runs::called_source, cilk_syntax::proofs::Runs::plain_source))]
 pub fn right_side<'a>(
     alloc: Global,

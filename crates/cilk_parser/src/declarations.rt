@@ -1,4 +1,4 @@
-//! From tokens to what a function's body declares.
+//! Reading the declarations in a function's body.
 
 ghost use Rattle.std.specs.Prelude.{◌≡◌, ◌<◌, ◌≤◌, List, ◌∷◌, IfOk, IfErr, length};
 ghost use Rattle.cilk_syntax.specs.Expected.{Symbol, One, Named, Declaration, LocalInitial, Locals, run};
@@ -14,7 +14,7 @@ use cilk_syntax::token::{Kind, Token};
 use cilk_syntax::tree::{Local, LocalInitializer, Reducer, Stmt};
 use std::alloc::Global;
 
-/// A reducer, from behind its `cilk_reducer`.
+/// Reads a reducer, after its `cilk_reducer`.
 #[tactic(auto, unfolding(cilk_syntax::specs::Grammar::SpellsReducer))]
 pub fn reducer<'a>(tokens: &'a [Token]) -> Result<(Reducer, &'a [Token]), Stop<'a>>
     ensures tree { IfOk result (λ x. SpellsReducerRest x.0 tokens.now x.1.now) }
@@ -31,7 +31,7 @@ pub fn reducer<'a>(tokens: &'a [Token]) -> Result<(Reducer, &'a [Token]), Stop<'
     Ok((Reducer { monoid, name }, rest))
 }
 
-/// What stands behind the name of a local variable.
+/// Reads the initializer of a local variable, after its name.
 #[tactic(auto, using(cilk_syntax::proofs::Runs::no_source))]
 fn initializer<'a>(
     alloc: Global,
@@ -64,7 +64,7 @@ fn initializer<'a>(
     }
 }
 
-/// A local variable.
+/// Reads a local variable.
 #[tactic(auto, unfolding(cilk_syntax::specs::Grammar::SpellsLocal))]
 fn local<'a>(
     alloc: Global,
@@ -84,7 +84,7 @@ fn local<'a>(
     Ok((Local { name, initializer }, rest))
 }
 
-/// One local variable or more, up to what is no comma.
+/// Reads local variables, at least one, separated by commas.
 fn locals<'a>(
     alloc: Global,
     tokens: &'a [Token],
@@ -110,7 +110,7 @@ fn locals<'a>(
     Ok((list, rest))
 }
 
-/// Local variables up to the semicolon.
+/// Reads local variables, and the semicolon.
 #[tactic(auto, unfolding(cilk_syntax::specs::Grammar::SpellsLocalLine))]
 fn line<'a>(
     alloc: Global,
@@ -138,7 +138,7 @@ fn line<'a>(
     }
 }
 
-/// What the `int` of a statement declares, from behind it.
+/// Reads a declaration, after its `int`.
 #[tactic(auto, using(cilk_syntax::proofs::Runs::declares_locals))]
 pub fn declaration<'a>(
     alloc: Global,

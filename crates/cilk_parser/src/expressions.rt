@@ -1,7 +1,8 @@
-//! From tokens to expressions.
+//! Reading expressions.
 //!
-//! Each function takes the tokens that are left and gives those behind what it read. Its clauses say three things: what
-//! the tokens in between spell, that any list of expected symbols goes on behind them, and where reading stops.
+//! Each function receives the tokens that are left and returns those that follow what it read. Its
+//! contract says three things: what the tokens that it read spell, that every list of expected
+//! symbols continues after them, and where reading stops.
 
 ghost use Rattle.std.specs.Prelude.{◌≡◌, ◌+◌, ◌<◌, ◌≤◌, List, ◌∷◌, IfOk, IfErr, length};
 ghost use Rattle.cilk_syntax.specs.Expected.{Symbol, Named, Operand, Index, Tail, Anew, Optional, One, run, kind_of};
@@ -18,7 +19,7 @@ use cilk_syntax::token::{Kind, Token};
 use cilk_syntax::tree::{Expr, Name, UnaryOperator};
 use std::alloc::Global;
 
-/// The value of a reducer, from behind the `value`.
+/// Reads the value of a reducer, after `value`.
 fn reducer_value<'a>(
     alloc: Global,
     tokens: &'a [Token],
@@ -39,7 +40,7 @@ fn reducer_value<'a>(
     Ok((Box::new(alloc, Expr::Value(reducer))?, rest, operators))
 }
 
-/// How many inputs there are, from behind the `input_count`.
+/// Reads the number of inputs, after `input_count`.
 fn input_count<'a>(
     alloc: Global,
     tokens: &'a [Token],
@@ -59,7 +60,7 @@ fn input_count<'a>(
     Ok((Box::new(alloc, Expr::InputCount)?, rest, operators))
 }
 
-/// An expression with operators of this level and tighter ones.
+/// Reads an expression whose operators are of this level or tighter.
 #[cycle(expressions)]
 #[tactic(auto, using(cilk_syntax::proofs::Runs::tightest))]
 fn at_level<'a>(
@@ -97,7 +98,7 @@ fn at_level<'a>(
     Ok((left, rest, count))
 }
 
-/// A part of an expression with no operator between operands.
+/// Reads a part of an expression, without operators between operands.
 #[cycle(expressions)]
 fn operand<'a>(
     alloc: Global,
@@ -144,7 +145,7 @@ fn operand<'a>(
     }
 }
 
-/// A sign and its operand. The tokens behind the sign are `rest`.
+/// Reads a unary operator and its operand. `rest` are the tokens after the operator.
 #[cycle(expressions)]
 #[tactic(auto, using(cilk_syntax::proofs::Runs::takes_sign, cilk_syntax::proofs::Runs::signs_end))]
 fn signed<'a>(
@@ -174,7 +175,7 @@ fn signed<'a>(
     Ok((Box::new(alloc, Expr::Unary(operator, inner))?, rest, count))
 }
 
-/// An expression between parentheses, from behind the first.
+/// Reads an expression in parentheses, after the opening one.
 #[cycle(expressions)]
 fn group<'a>(
     alloc: Global,
@@ -197,7 +198,7 @@ fn group<'a>(
     Ok((Box::new(alloc, Expr::Group(inner))?, rest, count))
 }
 
-/// An input that is asked for by its place, from behind the `input`.
+/// Reads an input with its place, after `input`.
 #[cycle(expressions)]
 fn input<'a>(
     alloc: Global,
@@ -221,7 +222,7 @@ fn input<'a>(
     Ok((Box::new(alloc, Expr::Input(place))?, rest, count))
 }
 
-/// What a name stands for in an expression, from behind it: an element of an array, or a variable.
+/// Reads a variable or an element of an array, after its name.
 #[cycle(expressions)]
 #[tactic(auto, using(cilk_syntax::proofs::Runs::no_index))]
 fn behind_name<'a>(
@@ -263,7 +264,7 @@ fn behind_name<'a>(
     }
 }
 
-/// An expression within another one, and the mark that closes it.
+/// Reads an expression within another one, and the mark that closes it.
 #[cycle(expressions)]
 #[tactic(auto, using(cilk_syntax::proofs::Runs::tail_ends))]
 fn nested<'a>(
@@ -287,7 +288,7 @@ fn nested<'a>(
     Ok((inner, rest, count))
 }
 
-/// A whole expression, whose operators are counted from none.
+/// Reads a whole expression, whose operators are counted from 0.
 #[tactic(auto, using(cilk_syntax::proofs::Runs::ends_anew))]
 pub fn expr<'a>(
     alloc: Global,
@@ -305,7 +306,7 @@ pub fn expr<'a>(
     Ok((whole, rest))
 }
 
-/// An expression between parentheses.
+/// Reads an expression in parentheses.
 #[tactic(auto, unfolding(cilk_syntax::specs::Grammar::SpellsInside))]
 pub fn parenthesized<'a>(
     alloc: Global,
@@ -324,7 +325,7 @@ pub fn parenthesized<'a>(
     then_one(e, rest, Punct::Close)
 }
 
-/// An expression and the semicolon behind it.
+/// Reads an expression and a semicolon.
 pub fn ended<'a>(
     alloc: Global,
     tokens: &'a [Token],
@@ -341,7 +342,7 @@ pub fn ended<'a>(
     then_one(e, rest, Punct::Semicolon)
 }
 
-/// An expression and the semicolon behind it, or the semicolon alone.
+/// Reads an expression and a semicolon, or a semicolon alone.
 #[tactic(auto, using(cilk_syntax::proofs::Runs::some_value), unfolding(cilk_syntax::specs::Grammar::SpellsOptional))]
 pub fn optional<'a>(
     alloc: Global,

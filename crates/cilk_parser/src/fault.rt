@@ -1,4 +1,4 @@
-//! What is wrong with a program text or an input text.
+//! The faults of program texts and input texts.
 
 ghost use Rattle.std.specs.Prelude.{◌≡◌};
 ghost use Rattle.cilk_parser.specs.Texts;
@@ -7,7 +7,7 @@ ghost use Rattle.cilk_parser.specs.declared.fault.TextFault.TheVariants.{Memory}
 use std::alloc::{AllocError, AllocFailed};
 use thiserror::Error;
 
-/// What is wrong at a place of a text.
+/// The reason why a text is refused at a place.
 #[derive(Clone, Copy, Debug, Error)]
 pub enum SyntaxErrorKind {
     #[error("a byte over 127")]
@@ -29,7 +29,8 @@ pub enum SyntaxErrorKind {
 }
 
 impl SyntaxErrorKind {
-    /// The number by which the fault is reported: 101 to 106 in a program, 121 and 122 in an input.
+    /// Returns the number by which the fault is reported: 101 to 106 in a program text, 121 and 122
+    /// in an input text.
     pub fn number(self) -> u16
         ensures { result ≡ Texts.number self }
     {
@@ -46,7 +47,7 @@ impl SyntaxErrorKind {
     }
 }
 
-/// Why a text isn't read: memory ran out, or what is wrong at which byte, counted from 0.
+/// Why a text can't be read: out of memory, or a reason and the byte where it applies, from 0.
 #[derive(Debug, Drop, Error)]
 pub enum TextFault {
     #[error("no memory")]

@@ -12,7 +12,7 @@ use cilk_types::limits::MAX_INPUTS;
 use cilk_types::word_list::WordList;
 use std::alloc::Global;
 
-/// The number that digits write, up to 2^63 - 1.
+/// Returns the number with these digits, if it is at most 2^63 - 1.
 fn positive(digits: &[u8]) -> Option<i64>
     ensures { result ≡ Inputs.positive digits.now }
 {
@@ -25,7 +25,7 @@ fn positive(digits: &[u8]) -> Option<i64>
     }
 }
 
-/// The number that digits behind a minus write, down to -2^63.
+/// Returns the negative of the number with these digits, if it is at least -2^63.
 fn negative(digits: &[u8]) -> Option<i64>
     ensures { result ≡ Inputs.negative digits.now }
 {
@@ -39,7 +39,7 @@ fn negative(digits: &[u8]) -> Option<i64>
     }
 }
 
-/// The number that a word writes.
+/// Returns the number that a word spells.
 fn number_in(word: &[u8]) -> Option<i64>
     ensures { result ≡ number_in word.now }
 {
@@ -51,7 +51,7 @@ fn number_in(word: &[u8]) -> Option<i64>
     }
 }
 
-/// What the bytes of an input text begin with.
+/// The first piece of an input text; the slice is the rest.
 #[derive(Drop)]
 enum Front<'a> {
     Gap(&'a [u8]),
@@ -59,7 +59,7 @@ enum Front<'a> {
     LexErrorKind,
 }
 
-/// What the bytes begin with: a byte between words, a number, or a word that is none.
+/// Reads the first piece: a byte between words, a number, or a word that is no number.
 #[tactic(auto, using(crate::proofs::InputLaws::word_behind))]
 fn piece<'a>(first: u8, tail: &'a [u8], bytes: &'a [u8]) -> Front<'a>
     requires { bytes.now ≡ first ∷ tail.now }
@@ -75,8 +75,8 @@ fn piece<'a>(first: u8, tail: &'a [u8], bytes: &'a [u8]) -> Front<'a>
     }
 }
 
-/// The numbers of an input text, or its first fault by place: a word that is no number, or number 65,537.
-/// Linear in the text's length.
+/// Reads the numbers of an input text, or returns its first fault: a word that is no number, or the
+/// word of number 65,537. Linear in the text's length.
 pub fn parse_input(alloc: Global, text: &[u8]) -> Result<Input, TextFault>
     ensures numbers { IfOk result (λ ns. IsInput text.now ns) }
     ensures fault { IfErr result (λ e. IsInputFault e text.now) }

@@ -1,4 +1,4 @@
-//! From tokens to the items of a program.
+//! Reading the items of a program.
 
 ghost use Rattle.std.specs.Prelude.{◌≡◌, ℕ, ◌<◌, ◌≤◌, List, [], ◌∷◌, IfOk, IfErr, IfSome, IfNone, length};
 ghost use Rattle.cilk_syntax.specs.Expected as expected;
@@ -18,7 +18,7 @@ use cilk_syntax::token::{Kind, Token};
 use cilk_syntax::tree::{GlobalVariable, Initializer, Item, Name, Parameter, ReturnType, Stmt};
 use std::alloc::Global;
 
-/// What stands behind the `=` of a global variable.
+/// Reads the literal after the `=` of a global variable.
 fn literal<'a>(tokens: &'a [Token]) -> Result<(Initializer, &'a [Token]), Stop<'a>>
     ensures tree { IfOk result (λ x. SpellsLiteral x.0 tokens.now x.1.now) }
     ensures shorter { IfOk result (λ x. length x.1.now < length tokens.now) }
@@ -49,7 +49,7 @@ fn literal<'a>(tokens: &'a [Token]) -> Result<(Initializer, &'a [Token]), Stop<'
     }
 }
 
-/// What stands behind the name of a global variable.
+/// Reads the rest of a global variable, after its name.
 #[tactic(auto, using(cilk_syntax::proofs::Lists::spells_initial))]
 fn global<'a>(name: Name, tokens: &'a [Token]) -> Result<(GlobalVariable, &'a [Token]), Stop<'a>>
     ensures tree { IfOk result (λ x. SpellsGlobal x.0 name tokens.now x.1.now) }
@@ -85,7 +85,7 @@ fn global<'a>(name: Name, tokens: &'a [Token]) -> Result<(GlobalVariable, &'a [T
     }
 }
 
-/// Global variables, from behind the name of the first.
+/// Reads global variables, after the name of the first.
 fn variables<'a>(
     alloc: Global,
     first: Name,
@@ -111,7 +111,7 @@ fn variables<'a>(
     Ok((list, rest))
 }
 
-/// Global variables up to the semicolon, from behind the name of the first.
+/// Reads global variables and the semicolon, after the name of the first.
 #[tactic(auto, unfolding(cilk_syntax::specs::Grammar::SpellsLine))]
 fn line<'a>(
     alloc: Global,
@@ -138,7 +138,7 @@ fn line<'a>(
     }
 }
 
-/// A function's body.
+/// Reads the body of a function.
 #[tactic(auto, unfolding(cilk_syntax::specs::Grammar::SpellsBody))]
 fn body<'a>(alloc: Global, tokens: &'a [Token]) -> Result<(Vec<Stmt>, &'a [Token]), Stop<'a>>
     ensures tree { IfOk result (λ x. SpellsBody (trees.statements x.0.items) tokens.now x.1.now) }
@@ -154,7 +154,7 @@ fn body<'a>(alloc: Global, tokens: &'a [Token]) -> Result<(Vec<Stmt>, &'a [Token
     Ok((list, rest))
 }
 
-/// The parameters and the body of a function, from behind its first parenthesis.
+/// Reads the parameters and the body of a function, after the opening parenthesis.
 #[tactic(auto, unfolding(cilk_syntax::specs::Grammar::SpellsFunction))]
 fn function<'a>(
     alloc: Global,
@@ -172,7 +172,7 @@ fn function<'a>(
     Ok((list, body, rest))
 }
 
-/// What an `int` and a name declare, from behind the name.
+/// Reads the rest of an item that begins with `int` and a name.
 #[tactic(auto, using(cilk_syntax::proofs::Runs::declares_variables))]
 fn declared<'a>(
     alloc: Global,
@@ -204,7 +204,7 @@ fn declared<'a>(
     }
 }
 
-/// What an `int` declares, from behind it.
+/// Reads the rest of an item that begins with `int`.
 #[tactic(auto, using(cilk_syntax::proofs::Runs::declares_name))]
 fn declaration<'a>(alloc: Global, tokens: &'a [Token]) -> Result<(Item, &'a [Token]), Stop<'a>>
     ensures tree { IfOk result (λ x. SpellsTyped types.Int (trees.item x.0) tokens.now x.1.now) }
@@ -233,7 +233,7 @@ fn declaration<'a>(alloc: Global, tokens: &'a [Token]) -> Result<(Item, &'a [Tok
     }
 }
 
-/// A function that returns nothing, from behind its `void`.
+/// Reads a function that returns nothing, after its `void`.
 fn procedure<'a>(alloc: Global, tokens: &'a [Token]) -> Result<(Item, &'a [Token]), Stop<'a>>
     ensures tree { IfOk result (λ x. SpellsTyped types.Void (trees.item x.0) tokens.now x.1.now) }
     ensures shorter { IfOk result (λ x. length x.1.now < length tokens.now) }
@@ -248,7 +248,7 @@ fn procedure<'a>(alloc: Global, tokens: &'a [Token]) -> Result<(Item, &'a [Token
     Ok((Item::Function(ReturnType::Void, name, list, body), rest))
 }
 
-/// The type that an item begins with, and the tokens behind it.
+/// Reads the type that an item begins with.
 fn first_type<'a>(tokens: &'a [Token]) -> Option<(ReturnType, &'a [Token])>
     ensures found { IfSome result (λ x. Is (type_of x.0) tokens.now x.1.now) }
     ensures shorter { IfSome result (λ x. length x.1.now < length tokens.now) }
@@ -273,7 +273,7 @@ fn first_type<'a>(tokens: &'a [Token]) -> Option<(ReturnType, &'a [Token])>
     }
 }
 
-/// An item, from behind its type.
+/// Reads an item, after its type.
 fn item<'a>(
     alloc: Global,
     returns: ReturnType,
@@ -292,7 +292,7 @@ fn item<'a>(
     }
 }
 
-/// The items up to a token that begins none.
+/// Reads items up to a token that begins none.
 #[tactic(auto, using(cilk_syntax::proofs::Runs::items_end))]
 fn items<'a>(alloc: Global, tokens: &'a [Token]) -> Result<(Vec<Item>, &'a [Token]), Stop<'a>>
     ensures tree { IfOk result (λ x. SpellsItems (trees.items_of x.0.items) tokens.now x.1.now) }
@@ -309,7 +309,7 @@ fn items<'a>(alloc: Global, tokens: &'a [Token]) -> Result<(Vec<Item>, &'a [Toke
     Ok((list, rest))
 }
 
-/// The items of a program, all of its tokens.
+/// Reads the items of a program, which are all of its tokens.
 pub fn program<'a>(alloc: Global, tokens: &'a [Token]) -> Result<Vec<Item>, Stop<'a>>
     ensures tree { IfOk result (λ v. SpellsProgram (trees.items_of v.items) tokens.now) }
     ensures whole { IfOk result (λ v. run tokens.now (Items ∷ []) 0 ≡ Whole) }

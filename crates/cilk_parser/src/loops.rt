@@ -1,4 +1,4 @@
-//! From tokens to the heads of loops.
+//! Reading the heads of loops.
 
 ghost use Rattle.std.specs.Prelude.{◌≡◌, ◌<◌, ◌≤◌, List, ◌∷◌, IfOk, IfErr, length};
 ghost use Rattle.cilk_syntax.specs.Expected as expected;
@@ -23,7 +23,7 @@ pub struct Head {
     pub step: Option<Assignment>,
 }
 
-/// A variable with its value, and the semicolon behind it.
+/// Reads a variable with its value, and the semicolon.
 #[tactic(auto, unfolding(cilk_syntax::specs::Grammar::SpellsDefined))]
 fn defined<'a>(
     alloc: Global,
@@ -43,7 +43,7 @@ fn defined<'a>(
     Ok((variable, value, rest))
 }
 
-/// A variable with its bound, and the semicolon behind it.
+/// Reads a variable with its bound, and the semicolon.
 #[tactic(auto, unfolding(cilk_syntax::specs::Grammar::SpellsTested))]
 fn tested<'a>(
     alloc: Global,
@@ -63,7 +63,7 @@ fn tested<'a>(
     Ok((variable, bound, rest))
 }
 
-/// The tokens behind `++` or `+= 1`.
+/// Reads `++` or `+= 1`.
 fn unit<'a>(tokens: &'a [Token]) -> Result<&'a [Token], Stop<'a>>
     ensures tree { IfOk result (λ rest. SpellsUnit tokens.now rest.now) }
     ensures shorter { IfOk result (λ rest. length rest.now < length tokens.now) }
@@ -91,7 +91,7 @@ fn unit<'a>(tokens: &'a [Token]) -> Result<&'a [Token], Stop<'a>>
     }
 }
 
-/// The name that 1 is added to.
+/// Reads an increment by 1, and returns the name in it.
 #[tactic(auto, unfolding(cilk_syntax::specs::Grammar::SpellsUnitStep))]
 fn unit_step<'a>(tokens: &'a [Token]) -> Result<(Name, &'a [Token]), Stop<'a>>
     ensures tree { IfOk result (λ x. SpellsUnitStep x.0 tokens.now x.1.now) }
@@ -124,7 +124,7 @@ fn unit_step<'a>(tokens: &'a [Token]) -> Result<(Name, &'a [Token]), Stop<'a>>
     }
 }
 
-/// The head of a `cilk_for`.
+/// Reads the head of a `cilk_for`.
 #[tactic(auto, unfolding(cilk_syntax::specs::Grammar::SpellsBounds))]
 pub fn bounds<'a>(
     alloc: Global,
@@ -156,7 +156,7 @@ pub fn bounds<'a>(
     Ok((bounds, rest))
 }
 
-/// An assignment, and the mark behind it.
+/// Reads an assignment, and the mark after it.
 fn closed<'a>(
     alloc: Global,
     tokens: &'a [Token],
@@ -175,7 +175,7 @@ fn closed<'a>(
     then_one(assignment, rest, close)
 }
 
-/// The first part of the head of a `for`, and the semicolon behind it.
+/// Reads the first part of the head of a `for`, and the semicolon.
 #[tactic(auto, using(cilk_syntax::proofs::Runs::begins_assigning), unfolding(cilk_syntax::specs::Grammar::SpellsBeginning))]
 fn beginning<'a>(
     alloc: Global,
@@ -215,7 +215,7 @@ fn beginning<'a>(
     }
 }
 
-/// The last part of the head of a `for`, and the parenthesis behind it.
+/// Reads the last part of the head of a `for`, and the parenthesis.
 #[tactic(auto, using(cilk_syntax::proofs::Runs::steps_assigning), unfolding(cilk_syntax::specs::Grammar::SpellsStep))]
 fn step<'a>(
     alloc: Global,
@@ -245,7 +245,7 @@ fn step<'a>(
     }
 }
 
-/// The head of a `for`.
+/// Reads the head of a `for`.
 #[tactic(auto, unfolding(cilk_syntax::specs::Grammar::SpellsHead))]
 pub fn loop_head<'a>(
     alloc: Global,

@@ -1,4 +1,4 @@
-//! From tokens to the parameters of a function.
+//! Reading the parameters of a function.
 
 ghost use Rattle.std.specs.Prelude.{◌≡◌, ◌<◌, ◌≤◌, List, ◌∷◌, IfOk, IfErr, length};
 ghost use Rattle.cilk_syntax.specs.Expected as expected;
@@ -14,7 +14,7 @@ use cilk_syntax::token::{Kind, Token};
 use cilk_syntax::tree::{Name, Parameter};
 use std::alloc::Global;
 
-/// A parameter, from behind its `int`.
+/// Reads a parameter, after its `int`.
 fn parameter<'a>(tokens: &'a [Token]) -> Result<(Parameter, &'a [Token]), Stop<'a>>
     ensures tree { IfOk result (λ x. SpellsParameter x.0 tokens.now x.1.now) }
     ensures shorter { IfOk result (λ x. length x.1.now < length tokens.now) }
@@ -46,7 +46,7 @@ fn parameter<'a>(tokens: &'a [Token]) -> Result<(Parameter, &'a [Token]), Stop<'
     }
 }
 
-/// One parameter or more, from behind the first `int` up to what is no comma.
+/// Reads parameters, at least one, after the first `int`.
 fn listed<'a>(alloc: Global, tokens: &'a [Token]) -> Result<(Vec<Parameter>, &'a [Token]), Stop<'a>>
     ensures tree { IfOk result (λ x. SpellsListed x.0.items tokens.now x.1.now) }
     ensures shorter { IfOk result (λ x. length x.1.now < length tokens.now) }
@@ -68,7 +68,7 @@ fn listed<'a>(alloc: Global, tokens: &'a [Token]) -> Result<(Vec<Parameter>, &'a
     Ok((list, rest))
 }
 
-/// The parameters of a function, and the parenthesis behind them.
+/// Reads the parameters of a function, and the closing parenthesis.
 #[tactic(auto, using(cilk_syntax::proofs::Lists::spells_parameters))]
 pub fn parameters<'a>(
     alloc: Global,

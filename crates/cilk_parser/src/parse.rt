@@ -23,7 +23,7 @@ fn number_of(bad: LexErrorKind) -> SyntaxErrorKind
     }
 }
 
-/// The byte at which the first of the tokens stands, or the text ends.
+/// Returns the byte at which the first of the tokens begins, or the text ends.
 fn place_of(text: &[u8], rest: &[Token]) -> usize
     ensures { result ≡ place_of (length text.now) rest.now }
 {
@@ -33,11 +33,13 @@ fn place_of(text: &[u8], rest: &[Token]) -> usize
     }
 }
 
-/// The tree of a program text, or its first fault. Linear in the text's length.
+/// Reads a program text, and returns its tree or its first fault. Linear in the text's length.
 ///
-/// A text of more than [`MAX_TEXT`] bytes comes first. Next come bytes that aren't tokens, by place; then, by place, a
-/// token that no text of the grammar has there, and one that goes past a limit: it begins a statement or a part of an
-/// expression that stands in more than 64 others, or it is an operator behind 256 of its expression.
+/// A text of more than [`MAX_TEXT`] bytes is refused first. Next come bytes that aren't tokens, the
+/// first place first. Last come the tokens: the first token that no program of the grammar has
+/// there, or that is past a limit. A token is past a limit if it begins a statement or a part of an
+/// expression that is nested in more than 64 others, or if it is an operator after the first 256 of
+/// its expression.
 pub fn parse(alloc: Global, text: &[u8]) -> Result<Tree, TextFault>
     ensures tree { IfOk result (λ t. IsText text.now t) }
     ensures fault { IfErr result (λ e. IsTextFault e text.now) }

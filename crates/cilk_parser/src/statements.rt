@@ -1,4 +1,4 @@
-//! From tokens to statements.
+//! Reading statements.
 
 ghost use Rattle.std.specs.Prelude.{◌≡◌, ◌+◌, ◌<◌, ◌≤◌, false, List, ◌∷◌, IfOk, IfErr, length};
 ghost use Rattle.cilk_syntax.specs.Expected;
@@ -21,7 +21,7 @@ use cilk_syntax::tree::{Assignment, Call, Expr, Lvalue, Name, Stmt};
 use cilk_types::invocation::Invocation;
 use std::alloc::Global;
 
-/// A reducer's name and an expression between parentheses, and the semicolon behind them.
+/// Reads a reducer's name and an expression in parentheses, and the semicolon.
 #[tactic(auto, unfolding(cilk_syntax::specs::Grammar::SpellsUpdate))]
 fn update<'a>(
     alloc: Global,
@@ -44,7 +44,7 @@ fn update<'a>(
     Ok((reducer, value, rest))
 }
 
-/// A call of the function with this name, from behind its first parenthesis.
+/// Reads a call of the function with this name, after its opening parenthesis.
 fn called<'a>(
     alloc: Global,
     name: Name,
@@ -64,7 +64,7 @@ fn called<'a>(
     Ok((Stmt::Invoke(Invocation::Call, call), rest))
 }
 
-/// What a variable with this name takes, from behind its `=`.
+/// Reads the right side of an assignment to the variable with this name, after its `=`.
 fn taken<'a>(
     alloc: Global,
     name: Name,
@@ -90,7 +90,7 @@ fn taken<'a>(
     }
 }
 
-/// The statement that begins with this name, from behind it.
+/// Reads the rest of a statement that begins with this name.
 #[tactic(auto, using(cilk_syntax::proofs::Runs::assigns))]
 fn named<'a>(
     alloc: Global,
@@ -129,7 +129,7 @@ fn named<'a>(
     }
 }
 
-/// A place and the semicolon behind it.
+/// Reads a place and the semicolon.
 fn ended_target<'a>(
     alloc: Global,
     tokens: &'a [Token],
@@ -147,7 +147,7 @@ fn ended_target<'a>(
     then_one(place, rest, Punct::Semicolon)
 }
 
-/// A call that is spawned, from behind the `cilk_spawn`.
+/// Reads a spawned call, after its `cilk_spawn`.
 fn spawned<'a>(
     alloc: Global,
     tokens: &'a [Token],
@@ -165,7 +165,7 @@ fn spawned<'a>(
     then_one(spawned, rest, Punct::Semicolon)
 }
 
-/// What is printed, from behind the `print`.
+/// Reads a print, after its `print`.
 fn printed<'a>(
     alloc: Global,
     tokens: &'a [Token],
@@ -182,7 +182,7 @@ fn printed<'a>(
     then_one(Stmt::Print(value), rest, Punct::Semicolon)
 }
 
-/// A statement that stands in `depth` others and holds none.
+/// Reads a statement that contains no others and is nested in `depth` statements.
 fn simple<'a>(
     alloc: Global,
     tokens: &'a [Token],
@@ -240,7 +240,7 @@ fn simple<'a>(
     }
 }
 
-/// A statement that stands in `depth` others.
+/// Reads a statement that is nested in `depth` others.
 #[cycle(statements)]
 #[tactic(auto, using(cilk_syntax::proofs::Runs::holds_none))]
 fn statement<'a>(
@@ -279,7 +279,7 @@ fn statement<'a>(
     }
 }
 
-/// What follows a `while`.
+/// Reads the rest of a `while`.
 #[cycle(statements)]
 fn while_loop<'a>(
     alloc: Global,
@@ -299,7 +299,7 @@ fn while_loop<'a>(
     Ok((Stmt::While(test, Box::new(alloc, body)?), rest))
 }
 
-/// What follows a `cilk_for`.
+/// Reads the rest of a `cilk_for`.
 #[cycle(statements)]
 fn parallel_loop<'a>(
     alloc: Global,
@@ -321,7 +321,7 @@ fn parallel_loop<'a>(
     Ok((Stmt::ParallelFor(bounds, Box::new(alloc, body)?), rest))
 }
 
-/// What follows a `for`.
+/// Reads the rest of a `for`.
 #[cycle(statements)]
 fn for_loop<'a>(
     alloc: Global,
@@ -342,7 +342,7 @@ fn for_loop<'a>(
     Ok((Stmt::For(head.beginning, head.test, head.step, body), rest))
 }
 
-/// What follows an `if`, with the nearest `else`.
+/// Reads the rest of an `if`, with its `else` if one follows.
 #[cycle(statements)]
 fn choice<'a>(
     alloc: Global,
@@ -375,7 +375,7 @@ fn choice<'a>(
     }
 }
 
-/// The statements up to a token that begins none. Takes no stack for a long list.
+/// Reads statements up to a token that begins none. It loops, so a long list needs no more stack.
 #[cycle(statements)]
 #[tactic(auto, using(cilk_syntax::proofs::Lists::repeats, cilk_syntax::proofs::Lists::spells_push))]
 pub fn statements<'a>(

@@ -16,7 +16,7 @@ use Rattle.cilk_tree.proofs.Tied.{sizes, size-block, size-blocks, size-beside, m
 use Rattle.cilk_peers.specs.Frames.{IsInner, IsFrame, FramesKeepPeers}
 use Rattle.cilk_peers.proofs.Same.{SameIn, wide_left, wide_right, back}
 
--- ---- a tree whose first leaf, and one whose last leaf, has an event and stands under no P node
+-- ---- a tree whose first, and one whose last leaf has an event and is under no P node
 abbrev Opens : Tree → Type 0
 Opens (strand n) = 0 < n
 Opens (series a b) = Opens a
@@ -156,7 +156,7 @@ beside_alike_right : (k : Invocation) (a b : Tree) (o f p q : ℕ) → Alike b (
 beside_alike_right invocations.Call a b o f p q h = series_alike_right a b o f p q h
 beside_alike_right invocations.Spawn a b o f p q h = parallel_alike_right a b o f p q h
 
--- where what comes later begins
+-- where the later blocks begin
 moved : (t : Tree) (o o' f f' p q : ℕ) → o ≡ o' → f ≡ f' → Alike t o f p q → Alike t o' f' p q
 moved t o o' f f' p q x y h = subst (λ (k : ℕ). Alike t k f' p q) x (subst (λ (k : ℕ). Alike t o k p q) y h)
 
@@ -194,7 +194,7 @@ closes_block x h = by x.after h
     by None h = omega arith
     by (Some l) h = h
 
--- with nothing later the block is the frame's last
+-- with no later blocks this is the frame's last block
 abbrev ClosesRest : Option Tree → Option Tree → Type 0
 ClosesRest after None = ClosesIf after
 ClosesRest after (Some l) = Closes l
@@ -241,7 +241,8 @@ frame_alike u o f e h g =
     let c = long_marks u in
     ends_alike (tree u) o f e (opens_blocks (rest_of u)) (closes_blocks (rest_of u) (closes_rest u h)) (omega (arith, a, b, c, g))
 
--- The rest of a frame from position k on, whose strand at hand is leaf n: its block goes on at j, and the later blocks at l.
+-- The rest of a frame from position k, whose current strand is leaf n; its block continues at j,
+-- and the later blocks are at l.
 inner_alike : (r : Shape) (n k j l b e : ℕ) → IsSynced r → j ≡ k + (rest_of r).events → l ≡ j + sizes (rest_of r).after → IsInner r k b e
     → AlikeIf (rest_of r).after (suc n) j b e ⊎ AlikeIf (rest_of r).later (suc n + number (rest_of r).after) l b e
 inner_alike finish n k j l b e s f g h = absurd h

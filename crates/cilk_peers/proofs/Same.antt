@@ -15,7 +15,7 @@ length-class_numbers (strand n) c o = refl
 length-class_numbers (series a b) c o = let p = length-class_numbers a c o in let q = length-class_numbers b c (o + leaves a) in let l = length-append (class_numbers a c o) (class_numbers b c (o + leaves a)) in omega (arith, p, q, l)
 length-class_numbers (parallel a b) c o = let p = length-class_numbers a o o in let q = length-class_numbers b (o + leaves a) (o + leaves a) in let l = length-append (class_numbers a o o) (class_numbers b (o + leaves a) (o + leaves a)) in omega (arith, p, q, l)
 
--- the first leaf stands under no P node
+-- the first leaf is under no P node
 abbrev pub Leads : Tree → Type 0
 Leads (strand n) = Unit {0}
 Leads (series a b) = Leads a
@@ -36,7 +36,7 @@ class_left a b c d o u (p, q) = at_left (class_numbers a c o) (class_numbers b d
 class_right : (a b : Tree) (c d o u : ℕ) → Holds b (o + leaves a) u → at (class_numbers a c o ++ class_numbers b d (o + leaves a)) o u ≡ class_of b d (o + leaves a) u
 class_right a b c d o u (p, q) = at_right (class_numbers a c o) (class_numbers b d (o + leaves a)) o (leaves a) u (length-class_numbers a c o) p
 
--- a class is the one round the tree, or a leaf of the tree that doesn't lead
+-- a class is the one around the tree, or a leaf of the tree that isn't its first
 abbrev Inner : Tree → ℕ → ℕ → Type 0
 Inner t o k = (o ≤ k) × (k < o + leaves t) × (Leads t → o < k)
 
@@ -65,11 +65,11 @@ range (parallel a b) c o u s (p, q) =
       ])
     ]
 
--- the class round the tree is none of its inner classes
+-- the class around the tree is none of its inner classes
 abbrev Outside : Tree → ℕ → ℕ → Type 0
 Outside t c o = (c < o) ⊎ ((c ≡ o) × Leads t)
 
--- a leaf that has the class round the tree has no peer in the tree, any other has one
+-- a leaf with the class around the tree has no peer in the tree, any other has one
 abbrev Alone : Tree → ℕ → ℕ → ℕ → Type 0
 Alone t c o u =
     ((class_of t c o u ≡ c) × ((w : ℕ) → Parallel t o u w → ⊥))

@@ -40,7 +40,7 @@ walk_all t ns e few =
     let f = walk t 0 1 [] [] (omega (arith, p, q, few)) in
     rw e (subst (λ (l : List Node). classes_from l 1 (0 ∷ []) ≡ class_numbers t 0 1 ++ []) (append-nil (preorder t)) f ∙ append-nil (class_numbers t 0 1))
 
--- Where the walk stands: so many nodes are behind it.
+-- The state of the walk after n nodes.
 pub record Walked (ns : List Node) (i count : ℕ) (numbers waiting : List ℕ) : Type 0 where
   pub numbered : numbers ++ classes_from (drop i ns) (count + 1) waiting ≡ classes_from ns 1 (0 ∷ [])
   pub few : count ≤ i

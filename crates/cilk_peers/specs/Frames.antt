@@ -7,7 +7,8 @@ use Rattle.cilk_tree.specs.Races.{strand_at}
 use Rattle.cilk_tree.specs.Reach.{IsSynced}
 use Rattle.cilk_peers.specs.Peers.{SamePeers}
 
--- A frame that begins at position b and ends at position e, inside a frame whose events from position p on have this shape.
+-- A frame that begins at b and ends at e, inside a frame whose events from position p have this
+-- shape.
 abbrev pub IsInner : Shape → ℕ → ℕ → ℕ → Type 0
 IsInner finish p b e = ⊥
 IsInner (act r) p b e = IsInner r (suc p) b e
@@ -20,7 +21,7 @@ IsInner (child k u r) p b e =
 abbrev pub IsFrame : Shape → ℕ → ℕ → Type 0
 IsFrame s b e = ((b ≡ 1) × (e ≡ suc (length (marks s)))) ⊎ IsInner s 2 b e
 
--- A frame's last strand has the peers of its first.
+-- A frame's last strand has the same peers as its first.
 abbrev pub FramesKeepPeers : Type 0
 FramesKeepPeers = (s : Shape) (events : List Event) → Spells s events → IsSynced s → (b e : ℕ) → IsFrame s b e
     → SamePeers (tree s) (strand_at events b) (strand_at events e)

@@ -1,4 +1,5 @@
--- Peer sets of strands (Lee and Schardl 2015, "Efficiently detecting races in Cilk programs that use reducer hyperobjects"), and their classes.
+-- Peers of strands (Lee and Schardl 2015, "Efficiently detecting races in Cilk programs that use
+-- reducer hyperobjects"), and their classes.
 use Rattle.std.specs.Prelude.{ℕ, ◌+◌, ◌-◌, ◌↔◌, List, [], ◌∷◌, ◌++◌, slice_index}
 use Rattle.cilk_tree.specs.Tree.{Tree, strand, series, parallel, leaves}
 use Rattle.cilk_tree.specs.Parallel.{Parallel}
@@ -7,8 +8,8 @@ use Rattle.cilk_tree.specs.Parallel.{Parallel}
 abbrev pub SamePeers : Tree → ℕ → ℕ → Type 0
 SamePeers t u v = (w : ℕ) → Parallel t 1 u w ↔ Parallel t 1 v w
 
--- The leaves' classes in serial order, where leaves are counted from o on: the first leaf of the lowest child of a P node that holds
--- the leaf, and c where no such child does.
+-- The leaves' classes in serial order, where leaves are counted from o. A leaf's class is the first
+-- leaf of the lowest child of a P node that holds it, and c if there is no such child.
 abbrev pub class_numbers : Tree → ℕ → ℕ → List ℕ
 class_numbers (strand n) c o = c ∷ []
 class_numbers (series a b) c o = class_numbers a c o ++ class_numbers b c (o + leaves a)

@@ -7,8 +7,8 @@ use Rattle.cilk_tree.specs.Tree.{Tree}
 use Rattle.cilk_tree.specs.Races.{strand_at, event_at}
 use Rattle.cilk_peers.specs.Peers.{SamePeers}
 
--- A reducer-read: an event that makes or shows the view of the instance, its creation, a set or a value. An update only
--- multiplies a view, and a print is an update of the ordered output.
+-- A reducer-read: a creation, a set or a value, which makes or shows the instance's view. An update
+-- only multiplies a view, and a print is an update of the ordered output.
 abbrev pub ReadsReducer : Option Event → Instance → Type 0
 ReadsReducer (Some (Create j)) i = j ≡ i
 ReadsReducer (Some (Set j v)) i = j ≡ i
@@ -24,8 +24,8 @@ pub record IsViewRace (t : Tree) (events : List Event) (p q : ℕ) : Type 0 wher
   pub other : ReadsReducer (event_at events q) instance
   pub differ : SamePeers t (strand_at events p) (strand_at events q) → ⊥
 
--- The least position that an earlier reducer-read of its instance races with, and of those the first reducer-read of the instance.
--- In a serial run that is the instance's creation.
+-- The least position that an earlier reducer-read of its instance races with, and the first
+-- reducer-read of the instance. In a serial run that is the instance's creation.
 pub record IsFirstViewRace (t : Tree) (events : List Event) (p q : ℕ) : Type 0 where
   pub race : IsViewRace t events p q
   pub least : (p' q' : ℕ) → IsViewRace t events p' q' → q ≤ q'
@@ -46,7 +46,8 @@ pub record AreCreatedBeforeUse (events : List Event) : Type 0 where
   pub ahead : (q : ℕ) (i : Instance) → 1 ≤ q → UsesReducer (event_at events q) i → (p : ℕ) × (1 ≤ p) × (p < q) × (event_at events p ≡ Some (Create i))
   pub once : (p q : ℕ) (i : Instance) → 1 ≤ p → p < q → event_at events p ≡ Some (Create i) → event_at events q ≡ Some (Create i) → ⊥
 
--- The second is the least set or value whose strand has other peers than its reducer's creation, the first is that creation.
+-- The first position is a reducer's creation, and the second is the least set or value whose strand
+-- has other peers.
 pub record IsCreationAndUse (t : Tree) (events : List Event) (p q : ℕ) : Type 0 where
   pub instance : Instance
   pub created : event_at events p ≡ Some (Create instance)
@@ -55,6 +56,6 @@ pub record IsCreationAndUse (t : Tree) (events : List Event) (p q : ℕ) : Type 
   pub least : (p' q' : ℕ) (i : Instance) → 1 ≤ p' → 1 ≤ q' → event_at events p' ≡ Some (Create i) → UsesReducer (event_at events q') i
       → (SamePeers t (strand_at events p') (strand_at events q') → ⊥) → q ≤ q'
 
--- where reducers are created the first view-read race is that pair
+-- if reducers are created before use, the first view-read race is that pair
 abbrev pub FirstIsCreationAndUse : Type 0
 FirstIsCreationAndUse = (t : Tree) (events : List Event) → AreCreatedBeforeUse events → (p q : ℕ) → IsFirstViewRace t events p q → IsCreationAndUse t events p q

@@ -1,4 +1,4 @@
--- A small run, computed.
+-- The peer classes of a small run.
 use Rattle.std.specs.Prelude.{◌≡◌, [], ◌∷◌}
 use Rattle.cilk_tree.specs.Tree.{tree}
 use Rattle.cilk_tree.specs.Worked.{spawn_race}

@@ -1,4 +1,4 @@
-//! The classes of a run's strands.
+//! The peer classes of a run.
 
 ghost use Rattle.std.specs.Prelude.{◌≡◌, ◌↔◌, ◌≤◌, ◌-◌, ◌<◌, ◌^◌, IsTrue, length, slice_index};
 ghost use Rattle.cilk_tree.specs.Shape.{Shape};
@@ -25,7 +25,7 @@ impl Model for Classes {
 }
 
 impl Classes {
-    // The classes of these numbers.
+    // Makes the classes from their numbers.
     pub(crate) fn new(numbers: Vec<u32>) -> Classes
         requires { length numbers.items < 2 ^ 32 }
         ensures { result ≡ numbers.items }
@@ -33,14 +33,15 @@ impl Classes {
         Classes { numbers }
     }
 
-    /// How many strands there are.
+    /// Returns the number of strands.
     pub fn count(&self) -> u32
         ensures { result ≡ length self.now }
     {
         self.numbers.len() as u32
     }
 
-    /// The class of a strand.
+    /// Returns the class of a strand: the first strand of the lowest child of a P node that holds
+    /// it, or 0.
     pub fn class(&self, strand: StrandNo) -> u32
         requires first { 1 ≤ strand }
         requires last { strand ≤ length self.now }
@@ -49,7 +50,7 @@ impl Classes {
         self.numbers[strand as usize - 1]
     }
 
-    /// Whether two strands have the same peers.
+    /// Tells whether two strands have the same peers.
     pub fn same_peers(&self, one: StrandNo, other: StrandNo) -> bool
         requires one_first { 1 ≤ one }
         requires one_last { one ≤ length self.now }

@@ -1,15 +1,24 @@
 //! Peer classes: numbers that tell whether two strands of a run have the same peers.
 //!
-//! A strand's peers are the strands parallel to it. The view of a reducer that a strand sees does not depend on the
-//! schedule where it has the peers of the strand that made the view (Lee and Schardl 2015, section 2). Each child of a P
-//! node is a class of its own, but for what deeper P nodes hold: a strand's class is the first strand of the lowest child
-//! of a P node that holds it, and 0 where none does. Two strands have the same peers exactly where they are of one class.
+//! The peers of a strand are the strands parallel to it. The view of a reducer that a strand sees
+//! doesn't depend on the schedule if the strand has the same peers as the strand that made the
+//! view. Otherwise a steal may have given it a new, empty view: a view-read race (Lee and Schardl
+//! 2015, "Efficiently detecting races in Cilk programs that use reducer hyperobjects", section 2).
 //!
-//! [`walk::classes`] finds all classes in one pass over the tree's nodes. A [`class::Classes`] answers without memory.
+//! Comparing sets of peers would be slow, so each strand has a class. Each child of a P node is a
+//! class of its own, except for the parts inside deeper P nodes. The class of a strand is the first
+//! strand of the lowest child of a P node that holds it, and 0 if no P node does. Two strands have
+//! the same peers exactly where their classes are equal.
+//!
+//! - [`walk::classes`] finds all classes in one pass over the nodes of the tree.
+//! - [`class::Classes::same_peers`] compares two strands, in constant time and without allocating.
+//! - [`laws::frames_keep_peers`]: a frame's first and last strands have the same peers, if each
+//!   frame of the run syncs after it spawned.
 //!
 //! ```text
+//! let tree = tree_of(alloc, &trace)?;
 //! let classes = classes(alloc, &tree)?;
-//! classes.same_peers(1, 5)                   // are the same strands parallel to strand 1 and to strand 5?
+//! classes.same_peers(1, 5)                   // are the same strands parallel to strands 1 and 5?
 //! ```
 #![tactic(auto)]
 

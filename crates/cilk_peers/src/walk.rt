@@ -1,4 +1,4 @@
-//! The walk that finds all classes.
+//! The pass that finds all peer classes.
 
 ghost use Rattle.std.specs.Prelude.{◌≡◌, ◌+◌, ◌<◌, ◌≤◌, ◌^◌, ◌∷◌, ◌++◌, List, IfOk, vec_len};
 ghost use Rattle.cilk_tree.specs.Tree.{Tree, preorder};
@@ -11,7 +11,7 @@ use cilk_tree::tree::{Node, SpTree};
 use cilk_types::stack::Stack;
 use std::alloc::{AllocError, Global};
 
-/// The classes of a tree's strands. Cost and memory: linear in the strands.
+/// Returns the peer classes of a tree's strands. Cost and memory: linear in the strands.
 pub fn classes(alloc: Global, tree: &SpTree) -> Result<Classes, AllocError>
     ensures { IfOk result (λ c. (t : Tree) → tree.now ≡ preorder t → c ≡ class_numbers t 0 1) }
 {
@@ -24,7 +24,7 @@ pub fn classes(alloc: Global, tree: &SpTree) -> Result<Classes, AllocError>
     Ok(Classes::new(numbers))
 }
 
-// Goes into a node, whose class is on top of those that wait.
+// Visits a node, whose class is on top of the stack.
 fn visit(node: &Node, waiting: &mut Stack<u32>, numbers: &mut Vec<u32>) -> Result<(), AllocError>
     requires { vec_len numbers.old + 1 < 2 ^ 32 }
     ensures numbered { IfOk result (λ _. (rest : List Node) → numbers.new.items ++ classes_from rest (vec_len numbers.new + 1) waiting.new ≡ numbers.old.items ++ classes_from (node.now ∷ rest) (vec_len numbers.old + 1) waiting.old) }

@@ -1,8 +1,9 @@
 -- The block of each spawn of a serial run ends.
 --
 -- - `made_many`: each event of a run by names has a maker;
--- - `ahead`, `behind`: a frame with a `sync` ahead makes it, so behind each spawn its frame makes one;
--- - `first_sync`: of a frame's `sync`s behind a position one comes first;
+-- - `ahead`, `behind`: a frame that has yet to make a `sync` makes it, so after each spawn its
+--   frame makes one;
+-- - `first_sync`: of a frame's `sync`s after a position, one comes first;
 -- - `blocks_end`: so the block of each spawn of a serial run ends;
 -- - `have_continuations`: in the plan of an accepted run each spawn has one continuation.
 use Rattle.std.proofs.Common.{◌≡◌, ◌≢◌, ◌⊎◌, inl, inr, ⊎_elim, ℕ, zero, suc, ◌+◌, ◌-◌, ◌<◌, ◌≤◌, List, [], ◌∷◌, ◌++◌, map, length, get_or, Option, Some, None, slice_get, refl, sym, ap, ap₂, ◌∙◌, subst, arith, length-append}
@@ -46,7 +47,7 @@ record SyncOf (name : Name) (es : List Event) (ms : List Name) : Type 0 where
   sync : slice_get es place ≡ Some events.Sync
   made : slice_get ms place ≡ Some name
 
--- the maker of the event at i makes a `sync` behind it
+-- the maker of the event at i makes a `sync` after it
 record SyncBehind (es : List Event) (ms : List Name) (i : ℕ) : Type 0 where
   place : ℕ
   later : i < place

@@ -1,4 +1,4 @@
--- An accepted run has a plan: `has_plan`; how its cells open: `opened`, `opens_so`.
+-- An accepted run has a plan: `has_plan`; the opening values of its cells: `opened`, `opens_so`.
 use Rattle.std.proofs.Common.{◌≡◌, inl, inr, ℕ, zero, suc, ◌^◌, ◌≤◌, ◌-◌, ℤ, pos, IsTrue, List, [], ◌∷◌, ◌++◌, length, take, replicate, Some, slice_index_or, refl, sym, ap, ◌∙◌, subst, arith}
 use Rattle.std.proofs.lemmas.Bool.{cases_lt}
 use Rattle.std.proofs.lemmas.List.{get_or-replicate, get_or_past, length-replicate, take_all}

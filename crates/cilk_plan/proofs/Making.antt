@@ -1,4 +1,5 @@
--- The course of a plan on an input: `is_course`, `are_homes`. Its frames so far: `none_yet`, `one_more`, `all_there`.
+-- The course of a plan on an input: `is_course`, `are_homes`. The first n of its frames:
+-- `none_yet`, `one_more`, `all_there`.
 use Rattle.std.proofs.Common.{◌≡◌, ℕ, zero, suc, ◌+◌, ◌-◌, ℤ, List, [], ◌∷◌, ◌++◌, map, take, Option, Some, None, slice_get, option_map, refl, sym, ap, ◌∙◌, subst, arith}
 use Rattle.std.proofs.lemmas.List.{map-append}
 use Rattle.std.proofs.lemmas.Option.{slice_get-map}
@@ -75,7 +76,7 @@ take_past [] (suc k) is = refl
 take_past (x ∷ l) zero is = absurd (let z : Some x ≡ None = is in cc z)
 take_past (x ∷ l) (suc k) is = ap (λ (z : List PlannedFrame). x ∷ z) (take_past l k is)
 
--- what is at the next number
+-- the frame with the next number
 there : (fs : List PlannedFrame) (n : ℕ) → frame_numbered fs (n + 1) ≡ slice_get fs n
 there fs n = ap (frame_numbered fs) (let e : n + 1 ≡ suc n = omega arith in e)
 

@@ -1,8 +1,10 @@
 -- The cells that an accepted run names.
 --
--- - `end_last`, `end_none`: where the cells of frames end, by the last of them; `frames_end`: those of a run's frames;
+-- - `end_last`, `end_none`: where the cells of frames end, by the last frame; `frames_end`: those
+--   of a run's frames;
 -- - `none_named`, `one_named`, `both_named`: lists of events;
--- - `frame_below`, `globals_below`, `cell_below`: each cell of a run lies below what is counted at its end;
+-- - `frame_below`, `globals_below`, `cell_below`: each cell of a run is below the number of cells
+--   at its end;
 -- - `event_named`, `run_named`: so the events of a run by names name cells below it;
 -- - `run_holds`: and those of an accepted run name cells below the end of its frames.
 use Rattle.std.proofs.Common.{◌≡◌, ℕ, zero, suc, ◌+◌, ◌-◌, ◌<◌, ◌≤◌, List, [], ◌∷◌, ◌++◌, length, Some, None, slice_get, refl, sym, ap, ◌∙◌, subst, arith}
@@ -95,7 +97,7 @@ module _ (p : Source) where
   child_below (child how callee u r) n (suc k) path b is = child_below r (counts_after p u (entered p callee n)) k path b is
 
   module _ (r : Transcript) where
-    -- how many there are at the run's end
+    -- the number of cells at the run's end
     abbrev pub all_cells : ℕ
     all_cells = (counts_after p r (entered p Root (unbegun p))).cells
 
@@ -148,7 +150,7 @@ module _ (p : Source) where
 
 -- ---- of an accepted run
 
--- so many cells are the globals and all that the run names
+-- these cells are the globals and all that the run names
 pub record Holds (a : AcceptedRun) (n : ℕ) : Type 0 where
   pub globals : length (source a.program).openings ≤ n
   pub named : AllNamed n a.trace

@@ -1,4 +1,5 @@
--- Where blocks and strands lie: `sync_more`, `sync_there`; in a column `firsts_none`, `firsts_put`, `strand_there`.
+-- The positions of blocks and strands: `sync_more`, `sync_there`; in a column `firsts_none`,
+-- `firsts_put`, `strand_there`.
 use Rattle.std.proofs.Common.{◌≡◌, ◌⊎◌, inl, inr, ℕ, ◌+◌, ◌<◌, List, [], ◌∷◌, ◌++◌, slice_index_or, Option, Some, None, length, sym, subst, arith}
 use Rattle.std.proofs.lemmas.List.Elements.{All-push}
 use Rattle.std.proofs.lemmas.Option.{slice_get-get_or}
@@ -12,7 +13,7 @@ use Rattle.cilk_tree.specs.declared.blocks.Continuation.{Continuation}
 use Rattle.cilk_tree.specs.Blocks.{AreContinuations}
 use Rattle.cilk_tree.specs.PlanStrands.{AreFirsts, AreStarts, BeginsStrand}
 
--- one `sync` more
+-- with one more `sync`
 pub sync_more : (es : List Event) (at : ℕ) (old new : List ℕ) → new ≡ old ++ at ∷ [] → All (λ p. event_at es p ≡ Some events.Sync) old → event_at es at ≡ Some events.Sync → All (λ p. event_at es p ≡ Some events.Sync) new
 sync_more es at old new is all h = subst (All (λ p. event_at es p ≡ Some events.Sync)) (sym is) (All-push (λ p. event_at es p ≡ Some events.Sync) old at all h)
 
@@ -29,7 +30,7 @@ sync_there s column k c are is =
 pub firsts_none : (es : List Event) (column : List ℕ) → ((p : ℕ) → slice_index_or column p 0 ≡ 0) → AreFirsts es column
 firsts_none es column none p some = let z = none p in absurd (omega (arith, some, z))
 
--- one strand more
+-- with one more strand
 pub firsts_put : (es : List Event) (old new : List ℕ) (n at : ℕ) → AreFirsts es old → BeginsStrand es n at
     → ((p : ℕ) → ((p ≡ at) × (slice_index_or new p 0 ≡ n)) ⊎ (slice_index_or new p 0 ≡ slice_index_or old p 0)) → AreFirsts es new
 firsts_put es old new n at firsts begins put p some = by (put p)
@@ -38,6 +39,6 @@ firsts_put es old new n at firsts begins put p some = by (put p)
     by (inl h) = subst (λ (z : ℕ × ℕ). BeginsStrand es z.0 z.1) (λ i. (sym h.1 i, sym h.0 i)) begins
     by (inr h) = subst (λ (z : ℕ). BeginsStrand es z p) (sym h) (firsts p (subst (λ (z : ℕ). 0 < z) h some))
 
--- a strand begins where its start is
+-- a strand begins at its start
 pub strand_there : (es : List Event) (starts : List ℕ) (k : ℕ) → AreStarts es starts → k < length starts → BeginsStrand es (k + 1) (slice_index_or starts k 0)
 strand_there es starts k are less = (are k (slice_index_or starts k 0)).0 (slice_get-get_or starts k 0 less)

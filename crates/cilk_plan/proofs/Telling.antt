@@ -1,4 +1,5 @@
--- What an accepted program makes of its plan: `has_story`, `along_it`, `own_is_the_plan`. Of a result's value: `for_ok`.
+-- The event orders that an accepted program makes of its plan: `has_story`, `along_it`,
+-- `own_is_the_plan`. Of a result's value: `for_ok`.
 use Rattle.std.specs.declared.result.Result.{Result}
 use Rattle.std.specs.declared.result.Result.TheVariants.{Ok, Err}
 use Rattle.std.specs.Result.{IfOk}

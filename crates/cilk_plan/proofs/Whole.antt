@@ -1,4 +1,5 @@
--- What the plan of a program's run tells: `continuation_at`, `continuation_there`, `strand_at`, `syncs_told`, `strands_told`, `resumptions_told`.
+-- The answers of a program's plan: `continuation_at`, `continuation_there`, `strand_at`,
+-- `syncs_told`, `strands_told`, `resumptions_told`.
 use Rattle.std.proofs.Common.{◌≡◌, ◌↔◌, ℕ, ◌+◌, ◌-◌, ◌≤◌, List, Option, Some, None, IsSome, slice_get, slice_index_or, refl, sym, ap, ◌∙◌, subst, arith}
 use Rattle.std.specs.Prelude.{All}
 use Rattle.cilk_types.specs.declared.event.Event.{Event}

@@ -16,7 +16,7 @@ use Rattle.cilk_tree.specs.Blocks.{EndsBlockOf, IsContinuationOf}
 use Rattle.cilk_checker.specs.Determinate.{AcceptedRun, HasDeterminateRun}
 use Rattle.cilk_plan.specs.Plans.{IsPlanOf}
 
--- In the list of a serial run's events the block of each spawn ends with a `sync` of its frame.
+-- Among a serial run's events, the block of each spawn ends with a `sync` of its frame.
 abbrev pub BlocksOfSpawnsEnd : Type 0
 BlocksOfSpawnsEnd =
     (p : Source) (inputs : List ℤ) (r : Transcript) (es : List Event) (outcome : Outcome) → IsTrue (is_well_named p)
@@ -28,10 +28,10 @@ pub record HasContinuation (s : EventOrder) (k : ℕ) : Type 0 where
   pub is : IsContinuationOf s k continuation
   pub one : (c : Continuation) → IsContinuationOf s k c → c ≡ continuation
 
--- each spawn of a story has one
+-- each spawn of an event order has one continuation
 abbrev pub SpawnsHaveContinuations : EventOrder → Type 0
 SpawnsHaveContinuations s = (k : ℕ) → what s k ≡ spawn → HasContinuation s k
 
--- In the plan of an accepted run each spawn has one continuation.
+-- In the plan of an accepted run, each spawn has one continuation.
 abbrev pub PlansHaveContinuations : Type 0
 PlansHaveContinuations = (a : AcceptedRun) (s : EventOrder) → HasDeterminateRun a → IsPlanOf a s → IsOrderly s → SpawnsHaveContinuations s

@@ -10,18 +10,18 @@ use Rattle.cilk_checker.specs.Determinate.{AcceptedRun}
 use Rattle.cilk_checker.specs.declared.frames.PlannedFrame.{PlannedFrame}
 use Rattle.cilk_checker.specs.Frames.{frames_of}
 
--- along the yard's story, of the accepted run's program, on these inputs
+-- a course of the accepted run's program, along the yard's event order on these inputs
 pub record IsCourseOn (a : AcceptedRun) (y : YardValue) (input : List ℤ) (c : CourseValue) : Type 0 where
   pub yard : c.yard ≡ y
   pub program : c.program ≡ a.program
   pub own : c.own ≡ a.input
   pub inputs : c.inputs ≡ input
 
--- what a frame runs, and where its cells lie
+-- the body and cells of a frame
 abbrev pub home_in : PlannedFrame → FrameHome
 home_in f = record { body = f.body; block = record { first = f.first_cell; cells = f.cells } }
 
--- of the accepted run's frames
+-- these are the bodies and cells of the accepted run's frames
 abbrev pub AreHomesIn : AcceptedRun → List FrameHome → Type 0
 AreHomesIn a homes =
     (run : Transcript) → IsSerialRun (source a.program) a.input run a.trace (Leaves a.outcome) → homes ≡ map home_in (frames_of (source a.program) run)

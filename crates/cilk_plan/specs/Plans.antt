@@ -14,12 +14,12 @@ use Rattle.cilk_tree.specs.Runs.{IsAsked}
 use Rattle.cilk_tree.specs.Planned.{planned}
 use Rattle.cilk_replay.specs.EventOrders.{story_on, IsPlannedRun}
 
--- an accepted run, and its story
+-- an accepted run, and its event order
 pub record WholePlan : Type 0 where
   pub run : AcceptedRun
   pub story : EventOrder
 
--- it is stored as the pair of both
+-- its code is the pair of both
 abbrev pub whole_code : Coded WholePlan
 whole_code = code_by (AcceptedRun × EventOrder) (coded× run_code story.the_row.coded) (λ v. (v.run, v.story)) (λ t. record { run = t.0; story = t.1 }) (λ v. refl)
 
@@ -33,22 +33,23 @@ Names n _ = Unit {0}
 abbrev pub AllNamed : ℕ → List Event → Type 0
 AllNamed n es = (k : ℕ) (e : Event) → slice_get es k ≡ Some e → Names n e
 
--- the story is that of the accepted run
+-- the event order is that of the accepted run
 pub record IsPlanOf (a : AcceptedRun) (s : EventOrder) : Type 0 where
   pub story : s ≡ planned a.trace s.opening
-  -- its cells are the globals and all that the run names, and open as the program's do
+  -- the cells are the globals and all that the run names, and open as the program's do
   pub globals : length (source a.program).openings ≤ length s.opening
   pub cells : AllNamed (length s.opening) a.trace
   pub opens : (c : ℕ) → slice_index_or s.opening c (pos 0) ≡ opening_cells (source a.program) a.input c
-  -- each event is asked for
+  -- each event is requested
   pub asked : (p : ℕ) → IsPosition a.trace p → IsAsked s p
 
--- the story is what the program makes, on these inputs, of the plan of its accepted run, whose cells open so
+-- the event order is what the program makes, on these inputs, of the plan of its accepted run,
+-- whose cells have these opening values
 pub record IsEventOrderOn (a : AcceptedRun) (opening inputs : List ℤ) (s : EventOrder) : Type 0 where
   pub run : Transcript
   pub of_run : IsPlannedRun (source a.program) a.input run a.trace opening
   pub is : s ≡ story_on (source a.program) inputs run a.trace opening
 
--- there is such a story
+-- there is such an event order
 abbrev pub HasEventOrderOn : AcceptedRun → List ℤ → List ℤ → Type 0
 HasEventOrderOn a opening inputs = (s : EventOrder) × IsEventOrderOn a opening inputs s

@@ -16,8 +16,9 @@ use cilk_types::event::FrameNo;
 use cilk_types::input::Input;
 use std::alloc::{AllocError, Global};
 
-/// The course of a plan's run on an input, its own or another, where the yard is the plan's on that input. The only error
-/// is a want of memory. Cost and memory: linear in the run's frames and in the program.
+/// Makes the course of a plan's run on an input, the plan's own or another. `yard` is the plan's on
+/// that input. The only error is out of memory. Cost and memory: linear in the run's frames and in
+/// the program.
 pub fn course(
     alloc: Global,
     plan: &ProgramPlan,
@@ -37,7 +38,8 @@ pub fn course(
     Ok(Course::new(yard, plan.program(), plan.input(), code, input, homes))
 }
 
-// What the plan's run has of each frame, in the order of their numbers. No run has as many frames as there are numbers.
+// The body and the cells of each frame, in the order of the frames' numbers. No run has as many
+// frames as there are numbers.
 fn homes(alloc: Global, plan: &ProgramPlan) -> Result<Vec<FrameHome>, AllocError>
     ensures { IfOk result (λ v. AreHomesIn plan.now.run v.items) }
 {

@@ -1,20 +1,24 @@
-//! The plan of an accepted program's run, which is all that its workers get, and the yard of the program on an input.
+//! The plan of an accepted run: all that workers need to run the program again in parallel.
 //!
-//! [`program_plan::plan`] makes the plan: program, code and input, the plan of the run's events, what each frame runs and
-//! where its cells lie (as the accepted run has it), the continuation and the block of each spawn, and where blocks and
-//! strands lie. What depends on the run alone is found once, for any number of runs. [`yards::yard`] makes the words that
-//! workers share, on the run's own input or another.
+//! An accepted run is free of races, so a parallel run on its input makes the same events with the
+//! same values; only their interleaving differs. A [`program_plan::ProgramPlan`] holds what depends
+//! on the accepted run alone, and is made once for any number of parallel runs:
 //!
-//! ```text
-//! let plan = plan(alloc, &accepted)?;
-//! let (yard, segment) = yard(alloc, &plan, &input)?;
-//! ```
+//! - the program, its code and the run's input;
+//! - the kinds of the run's events in serial order ([`cilk_tree::plan::Plan`]);
+//! - for each frame, the body that it runs and where its cells are;
+//! - for each spawn, its continuation: the `resume` after it and the `sync` that ends its block;
+//! - the positions of the sync blocks and of the strands.
 //!
-//! The course of an accepted program's plan on an input, with which workers go along it.
+//! It holds no value of any event and no outcome, so a worker knows only what it loads or computes.
+//! A plan can also be run on another input: the run follows the plan as long as the frames request
+//! events of the same kinds.
 //!
-//! A [`cilk_replay::course::Course`] holds the program's code and the input at hand, and what the plan's run has of each
-//! frame: what it runs, and where its cells lie. [`course::course`] makes it of the plan and of the yard that the plan
-//! has on that input.
+//! | Call | Makes |
+//! |---|---|
+//! | [`program_plan::plan`] | the plan of an accepted run |
+//! | [`yards::yard`] | the words that workers share on an input, and the first segment |
+//! | [`course::course`] | the code, input and frames with which workers run along the plan |
 //!
 //! ```text
 //! let plan = plan(alloc, &accepted)?;

@@ -1,4 +1,4 @@
-//! Where the blocks and the strands of a program's plan lie.
+//! The positions of a plan's sync blocks and strands.
 
 ghost use Rattle.std.specs.Prelude.{◌≡◌, ◌⊎◌, ℕ, All, Some, slice_index_or, IfOk, OnOk};
 ghost use Rattle.cilk_tree.specs.Blocks.{AreContinuations};
@@ -12,10 +12,13 @@ use cilk_types::event::{Pos, StrandNo};
 use cilk_types::trace::Trace;
 use std::alloc::{AllocError, Global};
 
-/// The positions of the `sync`s that end blocks with spawns; and for each position the place of its block's `sync`
-/// among them, where the position is that of the `sync` or of the `resume` after a spawn, else a number past the
-/// last. A `sync` that awaits no child has no block: what comes right before it is the event ahead of it, so it
-/// always passes. Cost and memory: linear in the events.
+/// Returns the positions of the `sync`s that end blocks with spawns, and a column with the block of
+/// each position.
+///
+/// In the column the position of a block's `sync` and those of the `resume`s after its spawns have
+/// the block's index among the `sync`s; all others have `u32::MAX`. A `sync` that awaits no child
+/// has no block: its only immediate predecessor is the event before it, so it always passes. Cost
+/// and memory: linear in the events.
 pub(crate) fn blocks(
     alloc: Global,
     events: &Plan,
@@ -36,7 +39,7 @@ pub(crate) fn blocks(
     Ok((syncs, of))
 }
 
-// The block of a continuation is known from then on, and whose it is that goes on behind the spawn.
+// Enters the block of a continuation at its `sync` and at its `resume`.
 fn put_block(
     events: &Plan,
     continuation: Continuation,
@@ -60,7 +63,7 @@ fn put_block(
     Ok(())
 }
 
-// One block more, which ends with the `sync` at a position.
+// Adds a block, which ends with the `sync` at this position.
 fn add_sync(events: &Plan, at: Pos, syncs: &mut Vec<Pos>) -> Result<(), AllocError>
     requires there { event events.now at ≡ Some Sync }
     requires syncs { All (λ at. event events.now at ≡ Some Sync) syncs.old.items }
@@ -71,7 +74,7 @@ fn add_sync(events: &Plan, at: Pos, syncs: &mut Vec<Pos>) -> Result<(), AllocErr
     Ok(())
 }
 
-// The number at a position, or one past all blocks.
+// The block of a position, or `u32::MAX` if it has none.
 fn block_of(of: &Vec<u32>, at: Pos) -> u32 {
     match of.get(at as usize) {
         Some(block) => *block,
@@ -79,8 +82,8 @@ fn block_of(of: &Vec<u32>, at: Pos) -> u32 {
     }
 }
 
-/// For each position the strand that begins there, or 0. The starts are those of the run's strands, in the order
-/// of their numbers. Cost and memory: linear in the events.
+/// Returns a column with the strand that begins at each position, or 0. `starts` has the positions
+/// of the run's strands, in the order of their numbers. Cost and memory: linear in the events.
 pub(crate) fn strands(
     alloc: Global,
     trace: &Trace,
@@ -97,7 +100,7 @@ pub(crate) fn strands(
     Ok(column)
 }
 
-// So many zeros.
+// A column of `count` zeros.
 fn zeros(alloc: Global, count: usize) -> Result<Vec<u32>, AllocError>
     ensures { IfOk result (λ v. (p : ℕ) → slice_index_or v.items p 0 ≡ 0) }
 {
@@ -106,7 +109,7 @@ fn zeros(alloc: Global, count: usize) -> Result<Vec<u32>, AllocError>
     Ok(column)
 }
 
-// Where a strand begins, its number.
+// Enters a strand's number at its first position.
 fn put_strand(trace: &Trace, at: Pos, strand: StrandNo, column: &mut Vec<StrandNo>)
     requires begins { BeginsStrand trace.now strand at }
     requires column { AreFirsts trace.now column.old.items }
@@ -116,7 +119,7 @@ fn put_strand(trace: &Trace, at: Pos, strand: StrandNo, column: &mut Vec<StrandN
     put(column, at as usize, strand);
 }
 
-// Writes a number at a place, where there is one.
+// Writes a number at a place, if the column has that place.
 fn put(column: &mut Vec<u32>, place: usize, number: u32)
     ensures { (p : ℕ) → ((p ≡ place) × (slice_index_or column.new.items p 0 ≡ number)) ⊎ (slice_index_or column.new.items p 0 ≡ slice_index_or column.old.items p 0) }
 {

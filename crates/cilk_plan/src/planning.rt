@@ -11,8 +11,9 @@ use cilk_checker::frames::PlannedFrame;
 use cilk_tree::plan::Plan;
 use std::alloc::{AllocError, Global};
 
-/// The plan of an accepted run's events: it is the story of the program's serial run on its input, in which each event is asked for, and its
-/// cells are those of the run. Cost and memory: linear in the run.
+/// Makes the plan of an accepted run's events. It is the event order of the serial run on its
+/// input: each event is requested, and the cells are those of the run. Cost and memory: linear in
+/// the run.
 pub fn events(alloc: Global, accepted: &Accepted) -> Result<Plan, AllocError>
     ensures { IfOk result (λ plan. IsPlanOf accepted.now plan) }
 {
@@ -24,7 +25,7 @@ pub fn events(alloc: Global, accepted: &Accepted) -> Result<Plan, AllocError>
     Ok(plan)
 }
 
-// How many cells the run has: the globals and those of its frames. It names no other.
+// The number of the run's cells: the globals and those of its frames. The run names no others.
 fn cells_of(accepted: &Accepted) -> usize
     ensures globals { length (source accepted.now.program).openings ≤ result }
     ensures named { AllNamed result accepted.now.trace }
@@ -34,7 +35,7 @@ fn cells_of(accepted: &Accepted) -> usize
     end_of(accepted.frames(), globals)
 }
 
-// Where the cells of frames end that begin one after the other, the first of them behind so many.
+// The end of the frames' cells, which follow one another from `first` on.
 fn end_of(frames: &[PlannedFrame], first: usize) -> usize
     ensures { result ≡ end_from first frames.now }
 {
@@ -44,7 +45,7 @@ fn end_of(frames: &[PlannedFrame], first: usize) -> usize
     }
 }
 
-// The opening values of so many cells: those of the globals, then a 0 for each other cell.
+// The opening values of `cells` cells: those of the globals, then 0 for each other cell.
 fn opening(alloc: Global, globals: &[i64], cells: usize) -> Result<Vec<i64>, AllocError>
     requires globals { length globals.now ≤ cells }
     requires few { cells ≤ MAX_CELLS }

@@ -1,4 +1,4 @@
-//! All that a worker may know of the run of an accepted program that it runs again.
+//! The plan of an accepted run: all that a worker may know of it.
 
 ghost use Rattle.std.specs.Prelude.{◌≡◌, ◌↔◌, ◌≤◌, ℕ, All, Some, None, slice_get, slice_index_or, IfOk, IsSome};
 ghost use Rattle.cilk_checker.specs.Determinate.{AreFramesOf, HasDeterminateRun};
@@ -34,9 +34,12 @@ use std::alloc::{AllocError, Global};
 use std::marker::Model;
 use std::snapshot::Snapshot;
 
-/// The plan of a program's run: the program, its code and the run's input; the plan of its events; what each frame runs, and where its
-/// cells lie; the continuation of each spawn, and where each strand begins. It has no value of any event and no outcome, so a worker knows
-/// only what it loads or computes. To a contract it is the accepted run and its story.
+/// The plan of a program's run.
+///
+/// It has the program, its code and the run's input; the plan of its events; the body and cells of
+/// each frame; and the continuations, blocks and strands. It has no value of any event and no
+/// outcome, so a worker knows only what it loads or computes. Contracts see the accepted run and
+/// its event order.
 pub struct ProgramPlan<'a> {
     program: &'a Program,
     input: &'a Input,
@@ -52,7 +55,7 @@ pub struct ProgramPlan<'a> {
     accepted: Snapshot<Accepted>,
 }
 
-// A function of its own, so that a proof follows one call where a plan is dropped.
+// A separate function, so that a proof follows one call where a plan is dropped.
 impl Drop for ProgramPlan<'_> {
     fn drop(self) {
         let ProgramPlan {
@@ -95,7 +98,8 @@ impl<'a> Model for ProgramPlan<'a> {
     ghost invariant = { λ p. HasDeterminateRun p.accepted.value × (p.program.now ≡ p.accepted.value.program) × (p.input.now ≡ p.accepted.value.input) × Behaves (source p.accepted.value.program) p.code × RoomsFit (source p.accepted.value.program) p.code × LaysOut (source p.accepted.value.program) p.code.layout × IsPlanOf p.accepted.value p.events × AreFramesOf p.accepted.value p.frames.now × AreContinuations p.events p.continuations.items × AreStarts p.accepted.value.trace p.starts.items × All (λ at. event p.events at ≡ Some Sync) p.syncs.items × AreFirsts p.accepted.value.trace p.strands.items × AreResumptions p.events p.resumptions.items };
 }
 
-/// The plan of an accepted program's run. Cost and memory: linear in the run's events and the program.
+/// Makes the plan of an accepted program's run. Cost and memory: linear in the run's events and the
+/// program.
 pub fn plan<'a>(alloc: Global, accepted: &'a Accepted) -> Result<ProgramPlan<'a>, AllocError>
     ensures { IfOk result (λ plan. plan.run ≡ accepted.now) }
 {
@@ -124,8 +128,9 @@ pub fn plan<'a>(alloc: Global, accepted: &'a Accepted) -> Result<ProgramPlan<'a>
 }
 
 impl<'a> ProgramPlan<'a> {
-    /// The run is determinate: of no other order of its events does another state come. Each spawn has one continuation: one `resume`, and
-    /// the `sync` that ends its block.
+    /// The laws of the plan: the run is determinate (no other order of its events leads to another
+    /// state), and each spawn has one continuation, that is one `resume` and the `sync` that ends
+    /// its block.
     pub fn laws(&self)
         ensures determinate { HasDeterminateRun self.now.run }
         ensures plan { IsPlanOf self.now.run self.now.story }
@@ -136,21 +141,21 @@ impl<'a> ProgramPlan<'a> {
         self.events.laws();
     }
 
-    /// The program of the plan's run.
+    /// Returns the program of the plan's run.
     pub fn program(&self) -> &Program
         ensures { result.now ≡ self.now.run.program }
     {
         self.program
     }
 
-    /// The input of the run.
+    /// Returns the input of the run.
     pub fn input(&self) -> &Input
         ensures { result.now ≡ self.now.run.input }
     {
         self.input
     }
 
-    /// The program's code.
+    /// Returns the program's code.
     pub fn code(&self) -> &Code
         ensures asks { Behaves (source self.now.run.program) result.now }
         ensures rooms { RoomsFit (source self.now.run.program) result.now }
@@ -159,7 +164,8 @@ impl<'a> ProgramPlan<'a> {
         &self.code
     }
 
-    /// The plan of the run's events: their kinds, with cells and reducers, whose frames they are in, and how the cells open.
+    /// Returns the plan of the run's events: their kinds with cells and reducers, their frames, and
+    /// the opening values of the cells.
     pub fn events(&self) -> &Plan
         ensures story { result.now ≡ self.now.story }
         ensures plan { IsPlanOf self.now.run self.now.story }
@@ -167,7 +173,7 @@ impl<'a> ProgramPlan<'a> {
         &self.events
     }
 
-    /// The plan of the run's events alone.
+    /// Returns the plan of the run's events and drops the rest.
     pub fn into_events(self) -> Plan
         ensures { result ≡ self.entry.story }
     {
@@ -188,21 +194,22 @@ impl<'a> ProgramPlan<'a> {
         events
     }
 
-    /// The accepted run, as contracts see it.
+    /// Returns the accepted run, as contracts see it.
     pub fn accepted(&self) -> &Snapshot<Accepted>
         ensures { result.now.value ≡ self.now.run }
     {
         &self.accepted
     }
 
-    /// What each frame of the run runs, and where its cells lie, in the order of the frames' numbers.
+    /// Returns the body and cells of each frame of the run, in the order of the frames' numbers.
     pub fn frames(&self) -> &[PlannedFrame]
         ensures { AreFramesOf self.now.run result.now }
     {
         self.frames
     }
 
-    /// What the frame with a number runs, and where its cells lie; none where the run has no such frame.
+    /// Returns the body and cells of the frame with this number, or `None` if the run has no such
+    /// frame. Frames are numbered from 1.
     pub fn frame(&self, number: FrameNo) -> Option<PlannedFrame>
         ensures { IsFrameOf self.now.run number result }
     {
@@ -212,7 +219,7 @@ impl<'a> ProgramPlan<'a> {
         }
     }
 
-    /// The continuation of the spawn at a position; none where no spawn stands there.
+    /// Returns the continuation of the spawn at a position, or `None` if there is no spawn.
     pub fn continuation(&self, at: Pos) -> Option<Continuation>
         ensures exact { (c : Continuation) → (result ≡ Some c) ↔ IsContinuationOf self.now.story at c }
         ensures there { IsSome result ↔ (what self.now.story at ≡ spawn) }
@@ -221,7 +228,8 @@ impl<'a> ProgramPlan<'a> {
         continuation_in(&self.continuations, at as usize)
     }
 
-    /// The position of a strand's first event; none where the run has no such strand. Strands are numbered from 1.
+    /// Returns the position of a strand's first event, or `None` if the run has no such strand.
+    /// Strands are numbered from 1.
     pub fn strand(&self, number: StrandNo) -> Option<Pos>
         ensures { (p : ℕ) → (result ≡ Some p) ↔ ((1 ≤ number) × BeginsStrand self.now.story.events number p) }
     {
@@ -231,27 +239,29 @@ impl<'a> ProgramPlan<'a> {
         start_in(&self.starts, number as usize - 1)
     }
 
-    /// The positions of the `sync`s that end blocks with spawns, which are the run's blocks.
+    /// Returns the positions of the `sync`s that end blocks with spawns. Their indices are the
+    /// blocks' numbers.
     pub fn syncs(&self) -> &[Pos]
         ensures { All (λ at. event self.now.story at ≡ Some Sync) result.now }
     {
         self.syncs.as_slice()
     }
 
-    /// For each position its block, where the position is that of the block's `sync` or of the `resume` after one of its
-    /// spawns; for all others a number past the last.
+    /// Returns a column with the block of each position that has one: those of the block's `sync`
+    /// and of the `resume`s after its spawns. Each other position has `u32::MAX`.
     pub fn blocks(&self) -> &[u32] {
         self.blocks.as_slice()
     }
 
-    /// For each position the strand that begins there; 0 where none does.
+    /// Returns a column with the strand that begins at each position, or 0 if none does.
     pub fn strands(&self) -> &[StrandNo]
         ensures { AreFirsts self.now.story.events result.now }
     {
         self.strands.as_slice()
     }
 
-    /// For each position at which a spawn stands, that of the `resume` after it; 0 for all others.
+    /// Returns a column with the `resume` of each spawn at the spawn's position, and 0 at all
+    /// others.
     pub fn resumptions(&self) -> &[Pos]
         ensures { AreResumptions self.now.story result.now }
     {

@@ -1,4 +1,4 @@
-//! The yard of an accepted program on an input.
+//! The shared words of an accepted program's run on an input.
 
 ghost use Rattle.std.specs.Prelude.{◌≡◌, ℤ, List, IfOk};
 ghost use Rattle.std.specs.Borrow.{ftrue};
@@ -20,7 +20,7 @@ use cilk_types::input::Input;
 use std::alloc::{AllocError, Global};
 use std::marker::Model;
 
-// A story that contracts alone see. It takes no bytes.
+// An event order that contracts alone see. It takes no bytes.
 #[derive(Drop)]
 struct Told {
     ghost story: { EventOrder },
@@ -31,7 +31,7 @@ impl Model for Told {
 }
 
 impl Told {
-    // The story that the program of this run makes of its plan on this input.
+    // The event order that the program of this run makes of its plan on this input.
     fn of(plan: &Plan, input: &Input) -> Told
         ghost run: { AcceptedRun }
         requires { HasEventOrderOn run plan.now.opening input.now }
@@ -43,8 +43,9 @@ impl Told {
     }
 }
 
-/// The yard of a program's plan on an input, its own or another, and the segment of its first event. The yard's story is what the program
-/// makes of the plan on this input: its frames' asks, and the values that stand in its cells. On the input of the plan's run it is the
+/// Makes the yard of a program's plan on an input, the plan's own or another, and the segment of
+/// its first event. The yard's event order is what the program makes of the plan on this input:
+/// which events its frames request, and the values in its cells. On the plan's own input it is the
 /// plan's.
 pub fn yard(alloc: Global, plan: &ProgramPlan, input: &Input) -> Result<(Yard, Segment), AllocError>
     ensures story { IfOk result (λ r. IsEventOrderOn plan.now.run plan.now.story.opening input.now r.0.story) }
@@ -62,7 +63,7 @@ pub fn yard(alloc: Global, plan: &ProgramPlan, input: &Input) -> Result<(Yard, S
     yard_of(alloc, plan.events(), plan.resumptions(), input, &told)
 }
 
-// The story that the program of this run makes of its plan on this input.
+// The event order that the program of this run makes of its plan on this input.
 fn tell(plan: &ProgramPlan, input: &Input) -> Told
     ghost run: { AcceptedRun }
     requires { HasEventOrderOn run plan.now.story.opening input.now }
@@ -71,7 +72,7 @@ fn tell(plan: &ProgramPlan, input: &Input) -> Told
     Told::of(plan.events(), input)
 }
 
-// The yard of a story.
+// The yard of an event order.
 fn yard_of(
     alloc: Global,
     plan: &Plan,

@@ -1,4 +1,4 @@
--- What the asks of a frame name is there.
+-- The requests of a frame name only things that exist.
 use Rattle.std.proofs.Common.{◌≡◌, ℕ, zero, suc, ◌+◌, ◌<◌, inl, inr, ℤ, pos, negsuc, ◌+ℤ◌, ◌-ℤ◌, ◌<ℤ◌, neg_ℤ, int_lt, int_eq, Bool, true, false, nat_lt, nat_eq, ◌&&◌, IsTrue, T, List, [], ◌∷◌, length, slice_get, Option, Some, None, is_some, if◌then◌else◌, refl, sym, ap, ◌∙◌, subst, arith}
 use Rattle.std.proofs.lemmas.Bool.{ltb-true, lt-ltb, eqb-true, and_parts, false≢true}
 use Rattle.cilk_types.specs.Input.{input_at, input_count}
@@ -30,7 +30,7 @@ use Rattle.cilk_program.specs.Inside.{body_of, is_whole, CalleeIsFit, AskIsThere
 use Rattle.cilk_program.proofs.Naming.{at_most_is, FunctionIsNamed, LoopIsNamed, SourceIsNamed, well_named_parts}
 use Rattle.cilk_program.proofs.Halves.{halves}
 
--- what a part of a body comes to: a value of this kind, or an ask of this kind
+-- the result of a part of a body: a value of this kind, or a request of this kind
 abbrev Comes : {A : Type 0} → (Ask → Type 0) → (A → Type 0) → Got A → Type 0
 Comes P Q (Gives v answers left) = Q v
 Comes P Q (Asks k) = P k.ask
@@ -52,7 +52,7 @@ same_body_is (bodies.Function n) (bodies.Loop k) h = absurd (false≢true h)
 same_body_is (bodies.Loop n) (bodies.Function k) h = absurd (false≢true h)
 same_body_is (bodies.Loop n) (bodies.Loop k) h = ap bodies.Loop (eqb-true n k h)
 
--- Asks that hold of a tick that is missing, and of faults.
+-- Properties of requests that hold for missing ticks and for faults.
 module _ (p : Source) (inputs : List ℤ) (callee : Callee) (whole : IsTrue (is_whole callee)) where
   abbrev Here : Body
   Here = body_of p callee
@@ -79,7 +79,7 @@ module _ (p : Source) (inputs : List ℤ) (callee : Callee) (whole : IsTrue (is_
   checked f None a l = tt
   checked f (Some v) a l = tt
 
-  -- a place that is there, if there is one
+  -- a place that exists, if there is one
   abbrev PlaceThere : Place → Type 0
   PlaceThere x = IsTrue (place_is_there p Here x)
 
@@ -107,7 +107,7 @@ module _ (p : Source) (inputs : List ℤ) (callee : Callee) (whole : IsTrue (is_
   place_checked None a l h = tt
   place_checked (Some x) a l h = h
 
-  -- what follows a place
+  -- the continuation after a place
   at_place : {B : Type 0} (o : Option Place) (f : Place → List ℤ → ℕ → Got B) (a : List ℤ) (l : ℕ) → PlacesThere o → ((x : Place) → PlaceThere x → (a : List ℤ) (l : ℕ) → There (f x a l)) → There (or_fault IndexOutside o a l >>= f)
   at_place o f a l h next = then_comes (AskIsThere p callee) PlaceThere Any (or_fault IndexOutside o a l) f (place_checked o a l h) next
 
@@ -140,7 +140,7 @@ module _ (p : Source) (inputs : List ℤ) (callee : Callee) (whole : IsTrue (is_
   value_there (Input e) h a l = after (value inputs e a l) _ (value_there e h a l) (λ x a l. after (or_fault InputOutside (input_at inputs x) a l) _ (checked InputOutside (input_at inputs x) a l) gives)
   value_there InputCount h a l = gives (input_count inputs) a l
 
-  -- several values are as many
+  -- the number of values is the number of expressions
   values_there : (es : List Expression) → IsTrue (all_are_named p Here es) → (a : List ℤ) (l : ℕ) → Comes (AskIsThere p callee) (λ vs. length vs ≡ length es) (values inputs es a l)
   values_there [] h a l = refl
   values_there (e ∷ es) h a l =
@@ -211,7 +211,7 @@ module _ (p : Source) (inputs : List ℤ) (callee : Callee) (whole : IsTrue (is_
       if_comes (AskIsThere p callee) Any (int_lt low high) _ _ (λ below. invokes_there Call (callees.Loop (record { number = n; up = 0; low = low; high = high })) a l
       ((ltb-true n (length p.loops) hs.0, record { lt = subst T (sym below) tt }), inl (refl, same_body_is (loop_at p n).within Here hs.1))) (λ _. tt)
 
-  -- a tick, then a value, then something
+  -- a tick, then a value, then a continuation
   begun : {B : Type 0} (e : Expression) (f : ℤ → List ℤ → ℕ → Got B) → IsTrue (expression_is_named p Here e) → ((v : ℤ) (a : List ℤ) (l : ℕ) → There (f v a l)) → (a : List ℤ) (l : ℕ) → There (tick a l >>= λ _ a l. value inputs e a l >>= f)
   begun e f h next a l = after (tick a l) _ (ticks a l) (λ _ a l. after (value inputs e a l) f (value_there e h a l) next)
 
@@ -269,7 +269,7 @@ module _ (p : Source) (inputs : List ℤ) (callee : Callee) (whole : IsTrue (is_
         let hs = and_parts (statement_is_named p Here s) (row_is_named p Here row) h in
         after (does inputs s a l) _ (does_there s hs.0 a l) (λ f a l. unless_there f (all_do inputs row) a l (all_there row hs.1))
 
-  -- reducers with these monoids are created
+  -- the creation of reducers with these monoids
   creates_there : (place : ℕ → ReducerPlace) (n : ℕ) (ks : List MonoidKind) → ((i : ℕ) (k : MonoidKind) → slice_get ks i ≡ Some k → IsTrue (reducer_is_there p Here (place (n + i)) k)) → (a : List ℤ) (l : ℕ) → There (creates place n ks a l)
   creates_there place n [] h a l = tt
   creates_there place n (k ∷ ks) h a l =
@@ -288,7 +288,7 @@ module _ (p : Source) (inputs : List ℤ) (callee : Callee) (whole : IsTrue (is_
   finishes_there false taken f a l = after (ask asks.Sync a l) _ (asked asks.Sync a l tt) (λ _ a l. tt)
   finishes_there true taken f a l = after (ask asks.Sync a l) _ (asked asks.Sync a l tt) (λ _ a l. after (ask (asks.Result (returned f)) a l) _ (asked (asks.Result (returned f)) a l (taken refl (returned f))) (λ _ a l. tt))
 
--- what a function does
+-- the run of a function
 function_gives_there : (p : Source) (inputs : List ℤ) (callee : Callee) (whole : IsTrue (is_whole callee)) (k : ℕ) → body_of p callee ≡ bodies.Function k
     → (f : Function) → f ≡ function_at p k → FunctionIsNamed p k f → (words : List ℤ) → length words ≡ f.words
     → (gives : Bool) → (gives ≡ true → (v : ℤ) → AskIsThere p callee (asks.Result v)) → (a : List ℤ) (l : ℕ) → There p inputs callee whole (function_gives inputs f words gives a l)
@@ -352,7 +352,7 @@ pub asks_there : (p : Source) → IsTrue (is_well_named p) → (callee : Callee)
 asks_there p well callee fit inputs [] left = tt
 asks_there p well callee fit inputs (a ∷ answers) left = ended_there p callee (frame_gives p inputs callee answers left) (frame_there p (well_named_parts p well) callee fit inputs answers left)
 
--- a frame that halves turns begins nothing but parts of its own loop
+-- a frame that halves turns begins only parts of its own loop
 abbrev pub IsPart : Ask → Type 0
 IsPart (asks.Invoke how (callees.Loop l)) = l.up ≡ 1
 IsPart (asks.Invoke how callee) = ⊥

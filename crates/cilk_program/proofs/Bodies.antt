@@ -1,4 +1,4 @@
--- A body does what its elision does.
+-- A body does the same as its elision.
 use Rattle.std.proofs.Common.{◌≡◌, ℕ, zero, suc, ◌<◌, ◌≤◌, ℤ, false, ◌&&◌, IsTrue, List, Option, None, ap, arith}
 use Rattle.std.proofs.lemmas.Bool.{and_parts}
 use Rattle.cilk_program.specs.Operators.{is_zero}
@@ -12,7 +12,7 @@ use Rattle.cilk_program.proofs.Ticks.{condition_below, does_below, all_below, lo
 use Rattle.cilk_program.proofs.Statements.{comes_as, tick_comes, valued, split, assign_goes, change_goes, step_goes, call_goes, each_goes, parallel_goes, if_goes, if_else_goes, return_goes, print_goes, update_goes, set_goes, sync_goes}
 
 module _ (z : Site) where
-  -- a statement does what its elision does, from each moment
+  -- a statement does the same as its elision, from each moment
   abbrev Agrees : Statement → Type 0
   Agrees s = (m : Memory) (left : ℕ) (g : Flow → List ℤ → ℕ → Got ℤ) → Now z m left (λ a l. does z.inputs s a l >>= g) → Comes z (Elides z.p z.inputs z.sight s m) left g
 

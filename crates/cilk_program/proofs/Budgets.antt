@@ -1,4 +1,4 @@
--- Moments with ticks and events enough, and what an expression takes of them.
+-- Moments with enough ticks and events, and the cost of an expression.
 use Rattle.std.proofs.Common.{◌≡◌, ℕ, zero, suc, ◌+◌, ◌-◌, ◌<◌, ◌≤◌, ℤ, pos, neg_ℤ, Bool, true, false, ◌&&◌, IsTrue, if◌then◌else◌, List, [], ◌∷◌, length, ◌⊎◌, inl, inr, Option, Some, None, nat_eq, refl, sym, ap, ◌∙◌, subst, arith}
 use Rattle.std.proofs.lemmas.Bool.{and_parts}
 use Rattle.cilk_types.specs.Input.{input_at, input_count}
@@ -19,7 +19,7 @@ use Rattle.cilk_program.specs.SerialRun.{Ending, Stopped}
 use Rattle.cilk_program.proofs.Steps.{Answered, Goes, Full, answered, faulted}
 use Rattle.cilk_program.proofs.Moments.{Site, Now, now_as, in_turn, regroup, asks_now, IsElided, tick_now, Fits, after_answer, read_fits, value_fits}
 
--- A moment with at least so many ticks and events left.
+-- A moment with at least k ticks and k events left.
 pub record Rich (z : Site) (m : Memory) (k : ℕ) (y : List ℤ → ℕ → Got ℤ) : Type 0 where
   pub left : ℕ
   pub now : Now z m left y
@@ -36,7 +36,7 @@ pub rich_turn : {A B : Type 0} {z : Site} {m : Memory} {k : ℕ} (y : List ℤ �
     → Rich z m k (λ a t. (y a t >>= f) >>= g) → Rich z m k (λ a t. y a t >>= (λ v a l. f v a l >>= g))
 rich_turn y f g n = rich_as (λ a t. in_turn (y a t) f g) n
 
--- the frame has stopped, and not by too many ticks or events
+-- the frame has stopped, but not by a lack of ticks or events
 abbrev pub NotEvents : Fault → Type 0
 NotEvents DivisionByZero = Unit {0}
 NotEvents IndexOutside = Unit {0}
@@ -72,7 +72,7 @@ pub value_after : {z : Site} {A B : Type 0} (w : Valued A) {m : Memory} {k : ℕ
 value_after (Worth v) f h k' g n go = go v n
 value_after (Fails fault) f h k' g n go = n
 
--- what an expression takes at most
+-- the maximum cost of an expression
 abbrev pub nodes : Expression → ℕ
 nodes (Number n) = 1
 nodes (Variable x) = 2

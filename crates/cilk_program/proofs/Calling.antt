@@ -1,4 +1,4 @@
--- What a call takes of ticks and events at most.
+-- The maximum cost of a call in ticks and events.
 use Rattle.std.proofs.Common.{◌≡◌, ℕ, zero, suc, ◌+◌, ◌-◌, ◌≤◌, ℤ, IsTrue, List, [], ◌∷◌, length, is_some, nat_eq, refl, sym, ap, ◌∙◌, subst, arith, add-zero}
 use Rattle.cilk_types.specs.declared.fault.Fault.{Fault}
 use Rattle.cilk_types.specs.declared.event.Event.{Event}
@@ -29,7 +29,7 @@ module _ (p : Source) (wn : IsTrue (is_well_named p)) (inputs : List ℤ) where
   abbrev BodyTakes : Sight → Invoke → List ℤ → elision.Memory → Came → Function → Type 0
   BodyTakes s i words m r f = Takes p inputs (home_in m (instances_in itself s i.reducers) ∷ []) (entered f words m) r (λ b. IsTrue (row_is_named p b f.body)) (all_do inputs f.body)
 
-  -- a function's frame, with ticks and events enough
+  -- a function's frame, with enough ticks and events
   module _ (tied : ℕ → Instance) (m : elision.Memory) (m' : Memory) (b : Body) (s : Sight) (scope : Scope ℕ Instance) (left : ℕ) (i : Invoke) (words : List ℤ)
       (same : SameMemory tied m m') (sees : SeesAlike p tied m.reducers b s scope) (named : IsTrue (invoke_is_named p b i)) (end : Ending) where
     abbrev f : Function

@@ -1,4 +1,4 @@
--- A function that is called does what its elision does.
+-- A called function does the same as its elision.
 use Rattle.std.proofs.Common.{◌≡◌, ℕ, zero, suc, ◌+◌, ◌<◌, ◌≤◌, ℤ, pos, IsTrue, ◌&&◌, true, List, [], ◌∷◌, length, Option, Some, None, is_some, option_map, inl, inr, slice_get, unwrap_or, nat_eq, nat_lt, refl, sym, ap, ◌∙◌, subst, arith, add-zero}
 use Rattle.std.proofs.lemmas.Bool.{and_parts}
 use Rattle.cilk_types.specs.declared.event.Event.{Event}
@@ -22,7 +22,7 @@ use Rattle.cilk_program.proofs.Moments.{Site, Now, SameMemory, ChildEnds, called
 use Rattle.cilk_program.proofs.Bodies.{all_goes}
 use Rattle.cilk_program.proofs.Frames.{starts, ask_then, words_go, creates_go, Finishes, Closes, CutOff, finish, finish_with}
 
--- each body of a program names what is there
+-- everything that a body of a program names exists
 body_named : (p : Source) (fs : List Function) (from k : ℕ) → functions_are_named p from fs ≡ true → IsTrue (row_is_named p (bodies.Function (from + k)) (unwrap_or (slice_get fs k) idle).body)
 body_named p [] from k h = refl
 body_named p (f ∷ fs) from zero h =
@@ -56,7 +56,7 @@ module _ (p : Source) (wn : IsTrue (is_well_named p)) where
   pub main_plain : IsTrue (main_is_plain (main_of p))
   main_plain = parts.0
 
--- the caller's variable takes the result
+-- the caller's variable receives the result
 abbrev result_stored : Sight → Option Place → ℤ → Store ℕ → Store ℕ
 result_stored s None v m = m
 result_stored s (Some x) v m = put (cell_at s x) v m
@@ -111,7 +111,7 @@ module _ (p : Source) (wn : IsTrue (is_well_named p)) (inputs : List ℤ) (tied 
   abbrev g : Flow → List ℤ → ℕ → Got ℤ
   g = finishes (is_some i.result)
 
-  -- the words are written and the reducers begin
+  -- the words are written, and the reducers are created
   entered_now : AskGoes site m1 left (λ a l. writes_words 0 words a l >>= λ _ a l. creates (reducers.Own 0) 0 f.reducers a l >>= λ _ a l. all_do inputs f.body a l >>= g)
       → AskGoes site (entered f words m) left (λ a l. all_do inputs f.body a l >>= g)
   entered_now x =
@@ -131,7 +131,7 @@ module _ (p : Source) (wn : IsTrue (is_well_named p)) (inputs : List ℤ) (tied 
       (omega arith, sym (since.kept (m.reducers + j) l' ∙ grown_own tied m.reducers (suc m'.frames) 1 j))
 
   module _ (ev : evaluate_all inputs s m.store i.arguments ≡ Worth words) where
-    -- its end, with the result and its reducers gone
+    -- the end of a function, with its result, and its reducers retired
     done : (r : Came) (v : ℤ) (m2 : elision.Memory) → ElidesAll p inputs (home_in m (instances_in itself s i.reducers) ∷ []) f.body (entered f words m) r
         → on_ended r (λ v. left_with (result_cell s i.result) v gone) ≡ left_with (result_cell s i.result) v gone m2
         → (left' : ℕ) → left' ≤ left → Finishes site (with_result s i.result v m2) v left' → ChildEnds (ElidesCall p inputs s i m) tied m.reducers left end

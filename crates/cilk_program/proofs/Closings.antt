@@ -1,4 +1,4 @@
--- How orderly runs begin, go on and end.
+-- How orderly runs begin, continue and end.
 use Rattle.std.proofs.Common.{◌≡◌, inl, inr, ℕ, suc, ℤ, pos, int_eq, ◌-ℤ◌, Bool, true, false, if◌then◌else◌, List, [], ◌∷◌, ◌++◌, refl, sym, subst}
 use Rattle.cilk_types.specs.declared.event.Event.{Event}
 use Rattle.cilk_monoid.specs.declared.kind.MonoidKind.{MonoidKind}
@@ -19,7 +19,7 @@ use Rattle.cilk_program.specs.Closed.{IsNoBegin, IsNoResume, BeginsOnce, IsResum
 use Rattle.cilk_program.proofs.Legal.{IsPlain}
 use Rattle.cilk_program.proofs.Orderly.{runs_orderly}
 
--- what comes at a stage, by cases
+-- the requests that may come at a stage, by cases
 pub data View (G : Stage → Type 0) : Stage → Ask → Type 0 where
   Begins : {due : List Ask} → G (opened due) → View G (Fresh due) asks.Begin
   Opens : {k : Ask} {due : List Ask} → G (opened due) → View G (Due k due) k
@@ -75,7 +75,7 @@ view (Resuming w) k G h = subst (λ k. View G (Resuming w) k) (sym h.0) (Resumes
 view Synced k G h = view_closes k G h
 view Closing k G h = subst (λ k. View G Closing k) (sym h.1) EndsThen
 
--- a frame's opening asks write cells and create reducers
+-- a frame's opening requests write cells and create reducers
 abbrev pub IsOpening : Ask → Type 0
 IsOpening (asks.Write x v) = Unit {0}
 IsOpening (asks.Create r) = Unit {0}
@@ -110,7 +110,7 @@ opening_asks_open p (callees.Function c) =
     both_opening (writings 0 c.words) (creations (reducers.Own 0) 0 f.reducers) (writings_opening 0 c.words) (creations_opening (reducers.Own 0) 0 f.reducers)
 opening_asks_open p (callees.Loop l) = turn_opening (int_eq (l.high -ℤ l.low) (pos 1)) (places.Local 0 0) l.low
 
--- a stage whose due asks are opening asks
+-- a stage whose due requests are opening requests
 abbrev pub IsSound : Stage → Type 0
 IsSound (Fresh due) = AreOpening due
 IsSound (Due first due) = AreOpening (first ∷ due)
@@ -202,7 +202,7 @@ opening_no_resume (asks.Result v) h = tt
 opening_no_resume (asks.End v) h = tt
 opening_no_resume (asks.Fault f) h = tt
 
--- the last event of a frame is followed by nothing
+-- nothing follows the last event of a frame
 last_begins : (b : Bool) (r : Transcript) → r ≡ stop → BeginsOnce b r
 last_begins b r e = subst (λ r. BeginsOnce b r) (sym e) tt
 
@@ -221,7 +221,7 @@ module _ (p : Source) where
   begins_step r ih Synced k a sound Ends last = (tt, last_begins true r last)
   begins_step r ih Closing k a sound EndsThen last = (tt, last_begins true r last)
 
-  -- a child, and then
+  -- a child, and then the rest
   begins_past : (r : Transcript) → ((s : Stage) → IsSound s → IsOrderly p s r → BeginsOnce (has_begun s) r) → (s : Stage) (how : Invocation) (callee : Callee) (u : Transcript) → BeginsOnce false u → View (λ s'. IsOrderly p s' r) s (asks.Invoke how callee)
       → IsSound s → BeginsOnce (has_begun s) (child how callee u r)
   begins_past r ih (Fresh due) how callee u inner h sound = elim h [ ]
@@ -355,7 +355,7 @@ module _ (p : Source) where
   ends_awaits Synced v a sound h = tt
   ends_awaits Closing v a sound h = tt
 
-  -- where a frame stands after an event that isn't its end, or a child
+  -- the stage of a frame after an event that isn't its end, or after a child
   next_stage : (r : Transcript) (s : Stage) (k : Ask) → IsSound s → (at_end k ⊥ (Unit {0})) → View (λ s'. IsOrderly p s' r) s k → (s' : Stage) × IsSound s' × IsOrderly p s' r
   next_stage r (Fresh due) k sound more (Begins h) = (opened due, opened_sound due sound, h)
   next_stage r (Due k due) k' sound more (Opens h) = (opened due, opened_sound due sound.1, h)

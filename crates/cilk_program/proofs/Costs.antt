@@ -1,4 +1,4 @@
--- Parts of a frame, from moments with ticks and events enough.
+-- Parts of a frame, from moments with enough ticks and events.
 use Rattle.std.proofs.Common.{◌≡◌, ℕ, zero, suc, ◌+◌, ◌-◌, ◌<◌, ◌≤◌, ℤ, pos, Bool, true, false, IsTrue, List, [], ◌∷◌, ◌++◌, length, ◌⊎◌, inl, inr, Option, Some, None, is_some, option_map, nat_eq, refl, sym, ap, ◌∙◌, subst, arith, zero-add, add-suc}
 use Rattle.cilk_types.specs.declared.fault.Fault.{Fault}
 use Rattle.cilk_types.specs.declared.fault.Fault.TheVariants.{DivisionByZero, IndexOutside, InputOutside, TooManyEvents, TooManyFrames, TooManyCells}
@@ -25,7 +25,7 @@ use Rattle.cilk_program.proofs.Moments.{Site, Now, asks_now, SameMemory, IsElide
 use Rattle.cilk_program.proofs.Frames.{create_fits, result_fits}
 use Rattle.cilk_program.proofs.Budgets.{Rich, less, rich_as, rich_turn, NotEvents, Quiet, tick_rich, asked_rich, ValueAfter}
 
--- what is left of a frame after a part that comes to this, with at least so many ticks and events
+-- the rest of a frame after a part with this result, with at least k ticks and k events
 abbrev pub After : Site → Came → ℕ → (Flow → List ℤ → ℕ → Got ℤ) → Type 0
 After z (GoesOn m) k g = Rich z m k (g None) ⊎ Quiet z.end
 After z (Returns v m) k g = Rich z m k (g (Some v)) ⊎ Quiet z.end
@@ -46,19 +46,19 @@ value_at {z} {m = m} {k = k} x e n = subst (λ w. ValueAfter z w m k x) e n
 pub fails_at : (z : Site) {A : Type 0} {w : Valued A} {f : Fault} (m : elision.Memory) (k : ℕ) (x : A → List ℤ → ℕ → Got ℤ) → w ≡ Fails f → ValueAfter z w m k x → Quiet z.end
 fails_at z m k x e n = subst (λ w. ValueAfter z w m k x) e n
 
--- a part that goes on, and then more
+-- a part that continues, and then more
 pub after_on : {z : Site} {m : elision.Memory} {k : ℕ} (g : Flow → List ℤ → ℕ → Got ℤ) (r : Came) (k' : ℕ) (g' : Flow → List ℤ → ℕ → Got ℤ) → After z (GoesOn m) k g → (Rich z m k (g None) → After z r k' g') → After z r k' g'
 after_on g r k' g' (inl n) go = go n
 after_on {z} g r k' g' (inr q) go = quiet z r k' g' q
 
--- a part that doesn't go on
+-- a part that doesn't continue
 pub after_last : (z : Site) (r : Came) {k : ℕ} (go : List ℤ → ℕ → Got Flow) (g : Flow → List ℤ → ℕ → Got ℤ) (k' : ℕ) → k' ≤ k → IsLast r → After z r k (λ f a l. unless_returned f go a l >>= g) → After z r k' g
 after_last z (GoesOn m) go g k' h last n = absurd last
 after_last z (Returns v m) go g k' h last (inl n) = inl (less k' h n)
 after_last z (Returns v m) go g k' h last (inr q) = inr q
 after_last z (Faults f) go g k' h last n = n
 
--- how a child ends that had ticks and events enough
+-- how a child ends that had enough ticks and events
 abbrev pub FrameAfter : ℕ → Ending → Type 0
 FrameAfter k (Finished v left m) = (k ≤ left) × (k ≤ m.room)
 FrameAfter k (Stopped f) = NotEvents f
@@ -74,7 +74,7 @@ crowd_quiet TooManyEvents c = absurd c
 crowd_quiet TooManyFrames c = tt
 crowd_quiet TooManyCells c = tt
 
--- a child, and then the frame goes on
+-- a child, and then the frame continues
 pub child_rich : {z : Site} {m : elision.Memory} (c k : ℕ) (E : Came → Type 0) → ((r r' : Came) → E r → E r' → r ≡ r') → (r : Came) → E r → (how : Invocation) (callee : Callee) (g : Flow → List ℤ → ℕ → Got ℤ)
     (n : Rich z m (suc c) (λ a t. invokes how callee a t >>= g))
     → ((u : Transcript) (es : List Event) (end : Ending) → IsElided z.p z.inputs u → Serial z.p z.inputs (next_frame z.p z.fr.scope n.now.m' callee) n.left [] (begun z.p callee (counted n.now.m')) u es end → ChildEnds E n.now.tied m.reducers n.left end)

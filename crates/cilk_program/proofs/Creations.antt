@@ -1,4 +1,5 @@
--- In a serial run of a well-named program cells are there, and reducers are created before they are used.
+-- In a serial run of a well-named program, cells exist, and reducers are created before they are
+-- used.
 use Rattle.std.proofs.Common.{◌≡◌, ◌⊎◌, inl, inr, ℕ, suc, ◌+◌, ◌<◌, ◌≤◌, ℤ, pos, ◌-ℤ◌, int_eq, Bool, true, false, IsTrue, if◌then◌else◌, List, [], ◌∷◌, ◌++◌, length, Option, Some, None, refl, sym, ap, ◌∙◌, subst, append-nil, arith}
 use Rattle.cilk_types.specs.declared.event.Instance.{Instance}
 use Rattle.cilk_types.specs.declared.event.Event.{Event}
@@ -74,13 +75,13 @@ starts_below Spawn n top es h = (tt, h)
 
 -- ---- no reducer is created twice
 
--- the creations that are due are of the frame's next reducers
+-- the due creations are those of the frame's next reducers
 abbrev DueFrom : Frame → ℕ → List Ask → Type 0
 DueFrom fr next [] = Unit {0}
 DueFrom fr next (asks.Create c ∷ due) = (reducer_at fr c ≡ record { frame = fr.number; place = next }) × DueFrom fr (suc next) due
 DueFrom fr next (k ∷ due) = DueFrom fr next due
 
--- while creations are due, the frame's reducers that there are have smaller places
+-- while creations are due, the frame's existing reducers have smaller places
 abbrev Opening : Frame → List Instance → List Ask → Type 0
 Opening fr made due = (next : ℕ) × DueFrom fr next due × ((i : Instance) → Among i made → i.frame ≡ fr.number → i.place < next)
 
@@ -93,7 +94,7 @@ opening_unless : (fr : Frame) (made : List Instance) (due : List Ask) → Openin
 opening_unless fr made [] h = tt
 opening_unless fr made (k ∷ due) h = h
 
--- all that there are belong to frames that have begun
+-- all existing reducers belong to frames that have begun
 abbrev pub Bounded : ℕ → List Instance → Type 0
 Bounded n made = (i : Instance) → Among i made → i.frame ≤ n
 
@@ -163,14 +164,14 @@ due_opened : (due : List Ask) → due_of (opened due) ≡ due
 due_opened [] = refl
 due_opened (k ∷ due) = refl
 
--- what holds at a point of a run
+-- the invariant at a point of a run
 record Here (p : Source) (fr : Frame) (n : Counts) (made : List Instance) (due : List Ask) : Type 0 where
   stands : Stands p fr n.cells made due
   opening : OpeningUnless fr made due
   bounded : Bounded n.frames made
   begun : fr.number ≤ n.frames
 
--- one event, and where the frame stands then
+-- one event, and the frame's stage after it
 record Steps (p : Source) (fr : Frame) (n : Counts) (made : List Instance) (e : Event) (G : Stage → Type 0) : Type 0 where
   to : Stage
   sound : IsSound to
@@ -219,7 +220,7 @@ settled (inl a) = a
 settled (inr a) = absurd a
 
 module _ (p : Source) (fr : Frame) (m : Memory) (made : List Instance) (G : Stage → Type 0) where
-  -- an event that is none of the reducers' and of no cell
+  -- an event that concerns no reducer and no cell
   passes : (due : List Ask) (to : Stage) (e : Event) → deed_of e ≡ Passes → CellIsBelow m.cells e → due_of to ≡ due → IsSound to → G to → Here p fr (counts_of m) made due → Steps p fr (counts_of m) made e G
   passes due to e none below same sound goes h = record {
     to = to;
@@ -301,7 +302,7 @@ module _ (p : Source) (fr : Frame) (m : Memory) (made : List Instance) (G : Stag
   steps Synced k sound inner there Ends h = absurd inner
   steps Closing k sound inner there EndsThen h = absurd inner
 
--- at a child nothing is due, and the frame goes on to resume
+-- at a child nothing is due, and the frame continues with a resume
 child_next : (p : Source) (r : Transcript) (s : Stage) (how : Invocation) (callee : Callee) → IsSound s → View (λ s'. IsOrderly p s' r) s (asks.Invoke how callee) → (due_of s ≡ []) × ((w : Bool) × IsOrderly p (Resuming w) r)
 child_next p r (Fresh due) how callee sound h = elim h [ ]
 child_next p r (Due k due) how callee sound (Opens goes) = absurd sound.0
@@ -312,13 +313,13 @@ child_next p r (Resuming w) how callee sound h = elim h [ ]
 child_next p r Synced how callee sound (Again goes) = child_next p r (Going false) how callee tt goes
 child_next p r Closing how callee sound h = elim h [ ]
 
--- what a run leaves behind
+-- the effect of a run on reducers
 record Leaves (p : Source) (top : ℕ) (made : List Instance) (es : List Event) (n : Counts) : Type 0 where
   are_created : AreCreated made es
   are_below : CellsAreBelow top es
   bounded : Bounded n.frames (created es made)
 
--- the first event, and what follows
+-- the first event, and the rest
 act_leaves : (p : Source) (top : ℕ) (made : List Instance) (e : Event) (es : List Event) (n : Counts) → IsCreated (deed_of e) made → CellIsBelow top e → Leaves p top (made_by (deed_of e) made) es n → Leaves p top made (e ∷ es) n
 act_leaves p top made e es n one below h = record { are_created = (one, h.are_created); are_below = (below, h.are_below); bounded = h.bounded }
 
@@ -340,7 +341,7 @@ cell_higher n top e low h = higher e h
     higher (events.Value i v) h = tt
     higher (events.Print v) h = tt
 
--- a child, and what follows
+-- a child, and the rest
 child_leaves : (p : Source) (top : ℕ) (made : List Instance) (how : Invocation) (number : ℕ) (es es' : List Event) (n n' : Counts) → Leaves p top made es n → Leaves p top (created es made) es' n' → Leaves p top made (invocation how number ∷ (es ++ es')) n'
 child_leaves p top made how number es es' n n' h g = record {
   are_created = starts_created how number (es ++ es') made (created_both es es' made h.are_created g.are_created);

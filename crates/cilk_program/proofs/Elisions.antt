@@ -8,7 +8,7 @@ use Rattle.cilk_program.specs.Scopes.{instances_in}
 use Rattle.cilk_program.specs.Elision.{Memory, Sight, itself, Valued, Gives, Fails, evaluate, evaluate_all, Came, GoesOn, Returns, Faults, IsLast, on_ended, left_with, result_cell, home_in, entered, turned, turns_between, Elides, Empties, Blocks, Declares, Assigns, Changes, Steps, Prints, Updates, Sets, Ends, EndsPlainly, Syncs, Calls, Holds, Skips, IfFails, First, Second, IfElseFails, Fors, ForStops, Ascends, LowFails, HighFails, ElidesAll, NoMore, Follows, Stops, ElidesEach, NoneLeft, Next, LastOne, ElidesOne, Zeroes, Opens, OpensByCall, ElidesLoop, Done, TestFails, Turns, BodyLeaves, StepLeaves, ElidesTurns, NoTurns, Turned, TurnFails, ElidesTurn, OneTurn, ElidesCall, ArgumentFails, Called, begins, conclusion_of}
 use Rattle.cilk_program.specs.Agreement.{HasOneElision}
 
--- one test can't go both ways
+-- a test has only one result
 apart : {G : Type 0} (w : Valued ℤ) (v v' : ℤ) → w ≡ Gives v → w ≡ Gives v' → is_zero v ≡ true → is_zero v' ≡ false → G
 apart w v v' e e' z z' = let same : v ≡ v' = cc in let wrong : true ≡ false = sym z ∙ ap is_zero same ∙ z' in absurd (true≢false wrong)
 
@@ -35,7 +35,7 @@ faulty_end : {G : Type 0} (r : Came) (f : Fault) (w : ℤ) (m : Memory) → r �
 faulty_end r f w m e h = let both : Faults f ≡ Returns w m = sym (ap (λ r. on_ended r Returns) e) ∙ h in absurd (cc)
 
 module _ (p : Source) (inputs : List ℤ) where
-  -- the second of two rows goes on from where the first did
+  -- the second of two rows continues from the end of the first
   all_from : {s : Sight} {row : Statements} {m m' : Memory} {r : Came} → m ≡ m' → ElidesAll p inputs s row m' r → ElidesAll p inputs s row m r
   all_from {s} {row} {r = r} e el = subst (λ m. ElidesAll p inputs s row m r) (sym e) el
 

@@ -42,7 +42,7 @@ room_for p m (asks.Result v) h = full_room m h
 room_for p m (asks.End v) h = full_room m h
 room_for p m (asks.Fault f) h = none_some h
 
--- so many events were made of those allowed
+-- n of the allowed events were made
 abbrev pub Spends : ℕ → List Event → Ending → Type 0
 Spends room es (Finished v left m) = length es + m.room ≡ room
 Spends room es (Stopped f) = length es ≤ room
@@ -68,7 +68,7 @@ module _ (p : Source) (inputs : List ℤ) where
   abbrev IsRun : Frame → ℕ → List ℤ → Memory → Ran → Type 0
   IsRun fr start history m w = Serial p inputs fr start history m w.run w.events w.ending
 
-  -- whoever goes on with less room makes a serial run
+  -- a run that continues with less room is a serial run
   abbrev Goes : ℕ → Going → Type 0
   Goes room go = (fr : Frame) (start : ℕ) (history : List ℤ) (m : Memory) → m.room < room → IsRun fr start history m (go fr start history m)
 

@@ -43,7 +43,7 @@ ask_then (Answer n) go = go n
 ask_then (NoRoom q) go = NoRoom q
 
 module _ (z : Site) where
-  -- a function's words go to its first cells
+  -- a function's words are written to its first cells
   pub words_go : (b : ℕ) → ((n : ℕ) → cell_at z.sight (places.Local 0 n) ≡ b + n) → (vs : List ℤ) (n : ℕ) (m : elision.Memory) (left : ℕ) (g : Unit {0} → List ℤ → ℕ → Got ℤ) → Now z m left (λ a l. writes_words n vs a l >>= g)
       → AskGoes z (record m { store = put_all (b + n) vs m.store }) left (g tt)
   words_go b cells [] n m left g now = Answer now
@@ -58,7 +58,7 @@ module _ (z : Site) where
       let within : c < m.reducers = let more = n.since.more in omega arith in
       record { is_inner = tt; same = same_clear n.same.store k c (instance_in global_reducer z.fr.scope place) within (e ∙ sym (n.since.kept c h)); answer = refl }
 
-  -- reducers begin
+  -- reducers are created
   pub creates_go : (own : ℕ → ℕ) (place : ℕ → ReducerPlace) (ks : List MonoidKind) (n : ℕ) → ((j : ℕ) → j < n + length ks → (own j < z.count) × (instance_in global_reducer z.fr.scope (place j) ≡ z.tied (own j)))
       → (m : elision.Memory) (left : ℕ) (g : Unit {0} → List ℤ → ℕ → Got ℤ) → Now z m left (λ a l. creates place n ks a l >>= g)
       → AskGoes z (record m { store = clear_all nat_eq own n ks m.store }) left (g tt)
@@ -96,7 +96,7 @@ module _ (z : Site) where
     answer = refl;
   }
 
-  -- the result goes to the caller's variable
+  -- the result is written to the caller's variable
   pub finish_with : (c : ℕ) → z.fr.result ≡ Some c → (m : elision.Memory) (f : Flow) (left : ℕ) → Now z m left (λ a l. finishes true f a l) → Finishes (record m { store = put c (returned f) m.store }) (returned f) left
   finish_with c e m f left n = after (syncs (λ w. gives_result true (returned f)) n)
     where

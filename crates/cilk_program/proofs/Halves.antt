@@ -3,7 +3,7 @@ use Rattle.std.proofs.Common.{◌≡◌, ℕ, zero, suc, ◌/◌, ◌<◌, ℤ, 
 use Rattle.std.proofs.lemmas.Int.{ints}
 use Rattle.cilk_program.specs.Behaviour.{middle}
 
--- how many turns lie between two bounds
+-- the number of turns between two bounds
 pub record Apart (low high : ℤ) : Type 0 where
   pub turns : ℕ
   pub are : high -ℤ low ≡ pos turns

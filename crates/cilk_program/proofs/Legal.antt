@@ -1,4 +1,4 @@
--- What a frame's behaviour asks for comes in order.
+-- The requests of a frame's behaviour come in order.
 use Rattle.std.proofs.Common.{◌≡◌, ℕ, zero, suc, ◌+◌, ◌-◌, ◌<◌, ◌≤◌, ◌⊎◌, ⊎_elim, inl, inr, ℤ, pos, ◌+ℤ◌, ◌-ℤ◌, neg_ℤ, int_lt, int_eq, Bool, true, false, List, [], ◌∷◌, ◌++◌, Option, Some, None, is_some, if◌then◌else◌, refl, sym, ap, ◌∙◌, subst, append-nil, arith}
 use Rattle.std.proofs.lemmas.Bool.{cases_lt}
 use Rattle.cilk_types.specs.Input.{input_at, input_count}
@@ -20,11 +20,11 @@ use Rattle.cilk_program.specs.Syntax.{Expression, Number, Variable, Element, Neg
 use Rattle.cilk_program.specs.Behaviour.{OpenAsk, asks_for, Got, Gives, Asks, ◌>>=◌, tick, ask, tick_gives, or_fault, chosen, value, values, index_of, Flow, unless_returned, invokes, invokes_function, declares, all_declare, condition, turns, parallel_turns, return_value, does, all_do, returned, gives_result, finishes, writes_words, creates, function_gives, middle, part, frame_gives, ended, frame_asks}
 use Rattle.cilk_program.specs.Order.{writings, creations, opening_asks, Stage, Fresh, Due, Going, Resuming, Synced, Closing, opened, goes_on, closes, follows}
 
--- what is left of a frame: what it asks for after these answers, with so many ticks from its beginning on
+-- the rest of a frame: its requests after these answers, with n ticks from its beginning on
 abbrev pub Rest : Type 0
 Rest = List ℤ → ℕ → OpenAsk
 
--- what is left after one more answer
+-- the rest after one more answer
 abbrev pub after : ℤ → Rest → Rest
 after a c answers start = c (a ∷ answers) start
 
@@ -61,7 +61,7 @@ may_fault (asks.Result v) P h = h
 may_fault (asks.End v) P h = h
 may_fault (asks.Fault f) P h = tt
 
--- what may come among statements may come right after a sync
+-- a request that may come among statements may come right after a sync
 among_closes : (k : Ask) (go : Stage → Type 0) → goes_on false k go → closes k go
 among_closes asks.Begin go h = h
 among_closes (asks.Read x) go h = h
@@ -95,12 +95,12 @@ unless_map (asks.Result v) P Q f h = f h
 unless_map (asks.End v) P Q f h = f h
 unless_map (asks.Fault g) P Q f h = tt
 
--- one after the other
+-- one part after the other
 in_turn : {A B : Type 0} (x : Got A) (f : A → List ℤ → ℕ → Got B) (g : B → List ℤ → ℕ → Got ℤ) → ((x >>= f) >>= g) ≡ (x >>= λ v a l. f v a l >>= g)
 in_turn (Gives v a l) f g = refl
 in_turn (Asks k) f g = refl
 
--- what it comes to, or a fault
+-- its result, or a fault
 abbrev IsFault : OpenAsk → Type 0
 IsFault q = (f : Fault) × (q.ask ≡ asks.Fault f)
 
@@ -140,7 +140,7 @@ ended_or x y g (inl e) = inl (ap (λ z. ended (z >>= g)) e)
 ended_or (Gives v a l) y g (inr h) = absurd h
 ended_or (Asks k) y g (inr h) = inr h
 
--- an ask after which the frame goes on among its statements
+-- a request after which the frame continues among its statements
 abbrev pub IsPlain : Ask → Type 0
 IsPlain (asks.Read x) = Unit {0}
 IsPlain (asks.Write x v) = Unit {0}
@@ -166,23 +166,24 @@ plain_goes (asks.Result v) plain w go h = absurd plain
 plain_goes (asks.End v) plain w go h = absurd plain
 plain_goes (asks.Fault f) plain w go h = absurd plain
 
--- Frames that never had more than so many ticks.
+-- Frames that never had more than `top` ticks.
 module _ (top : ℕ) where
-  -- the next so many asks come in order
+  -- the next n requests come in order
   abbrev pub IsLegal : Stage → Rest → ℕ → Type 0
   IsLegal s c zero = Unit {0}
   IsLegal s c (suc n) = (start : ℕ) → start ≤ top → unless_fault (c [] start).ask (follows s (c [] start).ask (λ s'. (a : ℤ) → IsLegal s' (after a c) n))
 
-  -- all of them do
+  -- all requests do
   abbrev pub Fine : Stage → Rest → Type 0
   Fine s c = (n : ℕ) → IsLegal s c n
 
-  -- after so many ticks of its own a frame has this left, unless it has met a fault; with fewer ticks it has met one
+  -- After `took` ticks of its own, a frame has this rest, unless it has met a fault. With fewer
+  -- ticks it has met one.
   record Stands (c : Rest) (took : ℕ) (x : List ℤ → ℕ → Got ℤ) : Type 0 where
     on : (answers : List ℤ) (start left : ℕ) → start ≤ top → start ≡ took + left → (c answers start ≡ ended (x answers left)) ⊎ IsFault (c answers start)
     short : (answers : List ℤ) (start : ℕ) → start ≤ top → start < took → IsFault (c answers start)
 
-  -- the same, told otherwise
+  -- the same in another form
   retold : (c : Rest) (took : ℕ) (x y : List ℤ → ℕ → Got ℤ) → ((answers : List ℤ) (left : ℕ) → ended (x answers left) ≡ ended (y answers left)) → Stands c took x → Stands c took y
   retold c took x y same h = record { on = λ answers start left low e. ⊎_elim (λ q. inl (q ∙ same answers left)) inr (h.on answers start left low e); short = h.short }
 
@@ -194,7 +195,7 @@ module _ (top : ℕ) where
     short = h.short;
   }
 
-  -- one tick more was taken
+  -- one more tick was used
   ticked : (c : Rest) (took : ℕ) (x : List ℤ → ℕ → Got ℤ) → Stands c took (λ a l. tick a l >>= λ _. x) → Stands c (suc took) x
   ticked c took x h = record {
     on = λ answers start left low e. let f : start ≡ took + suc left = omega (arith, e) in h.on answers start (suc left) low f;
@@ -203,11 +204,11 @@ module _ (top : ℕ) where
         (λ above. let e : start ≡ took + 0 = omega (arith, less, above) in ⊎_elim (λ q. subst IsFault (sym q) (TooManyEvents, refl)) (λ bad. bad) (h.on answers start 0 low e)) (cases_lt start took);
   }
 
-  -- an ask was answered
+  -- a request was answered
   answered : (c : Rest) (took : ℕ) (k : Ask) (f : ℤ → List ℤ → ℕ → Got ℤ) (a : ℤ) → Stands c took (λ a l. ask k a l >>= f) → Stands (after a c) took (f a)
   answered c took k f a h = record { on = λ answers start left low e. h.on (a ∷ answers) start left low e; short = λ answers start low less. h.short (a ∷ answers) start low less }
 
-  -- now it asks this, or meets a fault
+  -- the next request is this one, or a fault
   now : (c : Rest) (took : ℕ) (x : List ℤ → ℕ → Got ℤ) → Stands c took x → (start : ℕ) → start ≤ top → ((left : ℕ) × (c [] start ≡ ended (x [] left))) ⊎ IsFault (c [] start)
   now c took x h start low =
       ⊎_elim (λ below. inr (h.short [] start low below))
@@ -223,7 +224,7 @@ module _ (top : ℕ) where
       at_fault (c [] start) (λ k. follows s k (λ s'. (a : ℤ) → IsLegal s' (after a c) n))
       (⊎_elim (λ there. subst IsFault (sym there.1) (f, refl)) (λ bad. bad) (now c took (λ a l. Asks (asks_for (asks.Fault f) (rest l))) h start low))
 
-  -- an ask that may come now
+  -- a request that may come next
   asks_next : (c : Rest) (took : ℕ) (k : Ask) (f : ℤ → List ℤ → ℕ → Got ℤ) (s : Stage) → Stands c took (λ a l. ask k a l >>= f) → ((n : ℕ) → follows s k (λ s'. (a : ℤ) → IsLegal s' (after a c) n)) → Fine s c
   asks_next c took k f s h next zero = tt
   asks_next c took k f s h next (suc n) = λ start low.
@@ -234,7 +235,7 @@ module _ (top : ℕ) where
   synced c zero h = tt
   synced c (suc n) h = λ start low. unless_map (c [] start).ask (goes_on false (c [] start).ask (λ s'. (a : ℤ) → IsLegal s' (after a c) n)) _ (among_closes (c [] start).ask (λ s'. (a : ℤ) → IsLegal s' (after a c) n)) (h start low)
 
-  -- it asks in order among statements, if what comes after it does
+  -- its requests among statements are in order, if the following ones are
   abbrev Part : {A : Type 0} → (List ℤ → ℕ → Got A) → Type 0
   Part {A} x =
       (g : A → List ℤ → ℕ → Got ℤ) → ((v : A) (w : Bool) (c : Rest) (took : ℕ) → Stands c took (g v) → Fine (Going w) c)
@@ -443,7 +444,7 @@ module _ (top : ℕ) where
   body_fine : (inputs : List ℤ) (row : Statements) (gives : Bool) (c : Rest) (took : ℕ) → Stands c took (λ a l. all_do inputs row a l >>= finishes gives) → Fine (Going false) c
   body_fine inputs row gives c took h = all_part inputs row (finishes gives) (finishes_fine gives) false c took h
 
-  -- words are written, and then what is due
+  -- words are written, and then the due requests follow
   writes_fine : (n : ℕ) (vs : List ℤ) (due : List Ask) (g : List ℤ → ℕ → Got ℤ) → ((c : Rest) (took : ℕ) → Stands c took g → Fine (opened due) c) → (c : Rest) (took : ℕ) → Stands c took (λ a l. writes_words n vs a l >>= λ _. g)
       → Fine (opened (writings n vs ++ due)) c
   writes_fine n [] due g next c took h = next c took h
@@ -490,7 +491,7 @@ module _ (top : ℕ) where
   frame_fine p inputs (callees.Loop l) c took h =
       turn_fine (int_eq (l.high -ℤ l.low) (pos 1)) inputs (loop_at p l.number).body (places.Local 0 0) l.low (part l l.low (middle l.low l.high)) (part l (middle l.low l.high) l.high) c took h
 
-  -- what a frame asks for comes in order, from its beginning on
+  -- the requests of a frame come in order, from its beginning on
   pub fresh_fine : (p : Source) (inputs : List ℤ) (callee : Callee) → Fine (Fresh (opening_asks p callee)) (frame_asks p inputs callee)
   fresh_fine p inputs callee zero = tt
   fresh_fine p inputs callee (suc n) = λ start low. (

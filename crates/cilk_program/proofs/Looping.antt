@@ -1,4 +1,4 @@
--- What a parallel loop takes of ticks and events at most, however its turns are halved.
+-- The maximum cost of a parallel loop in ticks and events, for any way of halving its turns.
 use Rattle.std.proofs.Common.{◌≡◌, ℕ, zero, suc, ◌+◌, ◌-◌, ◌*◌, ◌<◌, ◌≤◌, ℤ, pos, ◌+ℤ◌, ◌-ℤ◌, ◌<ℤ◌, int_eq, int_lt, IsTrue, Bool, true, false, ◌&&◌, if◌then◌else◌, List, [], ◌∷◌, length, drop, None, inl, inr, nat_lt, refl, sym, ap, ap₂, ◌∙◌, subst, arith, add-zero, zero-add, le_refl}
 use Rattle.std.proofs.lemmas.Int.{ints}
 use Rattle.std.proofs.lemmas.Bool.{and_parts}
@@ -33,12 +33,12 @@ use Rattle.cilk_program.proofs.Costs.{After, value_at, fails_at, FrameAfter, fra
 use Rattle.cilk_program.proofs.Spending.{Standing, site, Takes, rich_begun, valued_rich}
 
 module _ (p : Source) (wn : IsTrue (is_well_named p)) (inputs : List ℤ) where
-  -- a turn, with what its body takes
+  -- a turn, with the cost of its body
   pub record TurnTakes (s : Sight) (n : ℕ) (v : ℤ) (m : elision.Memory) (r : Came) : Type 0 where
     pub turn : ElidesTurn p inputs s n v m r
     pub body : Takes p inputs (home_in m [] ∷ s) (turned (loop_at p n) v m) r (λ b. IsTrue (row_is_named p b (loop_at p n).body)) (all_do inputs (loop_at p n).body)
 
-  -- turns, with what they and the frames round them take together
+  -- turns, with the total cost of them and of the frames around them
   pub data Costed (s : Sight) (n : ℕ) : ℤ → ℕ → elision.Memory → Came → ℕ → Type 0 where
     Nothing' : {v : ℤ} {m : elision.Memory} → Costed s n v zero m (GoesOn m) 0
     More : {v : ℤ} {k : ℕ} {m : elision.Memory} {r' r : Came} {c : ℕ} (w : ℤ) (m' : elision.Memory) (t : TurnTakes s n v m r') → on_ended r' Returns ≡ Returns w m' → Costed s n (v +ℤ pos 1) k m' r c → Costed s n v (suc k) m r (t.body.cost + 11 + c)
@@ -107,7 +107,7 @@ module _ (p : Source) (wn : IsTrue (is_well_named p)) (inputs : List ℤ) where
         let n3 = subst (λ c. Rich frame (record m1 { store = put c l.low m.store }) k1 (λ a t. all_do inputs body.body a t >>= finishes false)) (add-zero m.cells) n'' in
         plainly_closes frame r x (t.body.run standing (loop_body_named p wn l.number) (2 + x) (finishes false) n3)
 
-  -- a frame of so many turns at most ends, where it had ticks and events enough
+  -- a frame of at most n turns ends, if it had enough ticks and events
   abbrev pub Enough : ℕ → Type 0
   Enough fuel =
       (tied : ℕ → Instance) (m : elision.Memory) (m' : Memory) (s : Sight) (scope : Scope ℕ Instance) (left : ℕ) (l : LoopPart) (same : SameMemory tied m m')

@@ -1,4 +1,4 @@
--- A moment of a frame: what the elision has come to, and what is left of the serial run.
+-- A moment of a frame: the state of the elision, and the rest of the serial run.
 use Rattle.std.proofs.Common.{◌≡◌, ℕ, zero, suc, ◌+◌, ◌-◌, ◌<◌, ◌≤◌, ℤ, pos, ◌<ℤ◌, IsTrue, List, [], ◌∷◌, ◌++◌, drop, ◌⊎◌, inl, inr, Some, None, refl, sym, ap, ◌∙◌, subst, arith, append-nil, append_assoc, nat_eq}
 use Rattle.cilk_types.specs.declared.fault.Fault.{Fault}
 use Rattle.cilk_types.specs.declared.fault.Fault.TheVariants.{TooManyEvents}
@@ -31,7 +31,7 @@ pub record SameMemory (tied : ℕ → Instance) (m : elision.Memory) (m' : Memor
   pub store : Same tied m.reducers m'.frames m.store m'.store
   pub cells : m.cells ≡ m'.cells
 
--- how a child ends, where so many reducers had begun: as its elision, or by a limit
+-- how a child ends, when n reducers had begun: as its elision, or by a limit
 abbrev pub ChildEnds : (Came → Type 0) → (ℕ → Instance) → ℕ → ℕ → Ending → Type 0
 ChildEnds E tied count left (Finished v left' m') = (m : elision.Memory) × E (GoesOn m) × (left' ≤ left) × ((tied' : ℕ → Instance) × Since tied count tied' m.reducers × SameMemory tied' m m')
 ChildEnds E tied count left (Stopped f) = E (Faults f) ⊎ IsLimit f
@@ -39,7 +39,7 @@ ChildEnds E tied count left (Stopped f) = E (Faults f) ⊎ IsLimit f
 abbrev pub called : Invoke → List ℤ → Callee
 called i words = callees.Function (record { function = i.function; words = words; reducers = i.reducers; result = i.result })
 
--- what a frame does is as its elision, whatever it runs
+-- a frame does the same as its elision, for any callee
 pub record IsElided (p : Source) (inputs : List ℤ) (u : Transcript) : Type 0 where
   pub function : (tied : ℕ → Instance) (m : elision.Memory) (m' : Memory) (b : Body) (s : Sight) (scope : Scope ℕ Instance) (left : ℕ) (es : List Event) (end : Ending) (i : Invoke) (words : List ℤ)
       → SameMemory tied m m' → SeesAlike p tied m.reducers b s scope → IsTrue (invoke_is_named p b i) → evaluate_all inputs s m.store i.arguments ≡ Worth words
@@ -49,7 +49,8 @@ pub record IsElided (p : Source) (inputs : List ℤ) (u : Transcript) : Type 0 w
       → Serial p inputs (next_frame p scope m' (callees.Loop l)) left [] (begun p (callees.Loop l) (counted m')) u es end
       → ChildEnds (ElidesTurns p inputs s l.number l.low (turns_between l.low l.high) m) tied m.reducers left end
 
--- a frame, as it stands in both: its elision's sight and its body, how its serial run ends, and what was tied as its body began
+-- A frame in both runs: its elision's sight and its body, how its serial run ends, and the reducers
+-- that were tied as its body began.
 pub record Site : Type 0 where
   pub p : Source
   pub inputs : List ℤ
@@ -61,7 +62,8 @@ pub record Site : Type 0 where
   pub body : Body
   pub sees : SeesAlike p tied count body sight fr.scope
 
--- A moment: the elision has come to a memory, and with these ticks left the frame is to do x. `took` counts the frame's own ticks until now.
+-- A moment. The elision has reached a memory, and the frame is to do x with these ticks left.
+-- `took` counts the frame's own ticks until now.
 pub record Now (z : Site) (m : elision.Memory) (left : ℕ) (x : List ℤ → ℕ → Got ℤ) : Type 0 where
   pub m' : Memory
   pub tied : ℕ → Instance
@@ -86,7 +88,7 @@ abbrev pub regroup : {A B : Type 0} {z : Site} {m : elision.Memory} {left : ℕ}
     → Now z m left (λ a t. (y a t >>= f) >>= g) → Now z m left (λ a t. y a t >>= (λ v a l. f v a l >>= g))
 regroup y f g n = now_as (λ a t. in_turn (y a t) f g) n
 
--- what the frame asks for now
+-- the frame's next request
 pub asks_now : {z : Site} {m : elision.Memory} {left : ℕ} {x : List ℤ → ℕ → Got ℤ} (n : Now z m left x) → frame_asks z.p z.inputs z.fr.callee n.history (n.took + left) ≡ ended (x [] left)
 asks_now {z} {left = left} n = ap (λ h. frame_asks z.p z.inputs z.fr.callee h (n.took + left)) (sym (append-nil n.history)) ∙ n.rest [] left
 
@@ -114,12 +116,12 @@ pub ticked : {z : Site} {m : elision.Memory} (left : ℕ) (y : Unit {0} → List
 ticked {z} zero y n = NoTick (faulted z.p z.inputs (IsElided z.p z.inputs) TooManyEvents 0 (asks_now n) n.run)
 ticked {z} {m} (suc left) y n = Tick left (omega arith) (tick_now y n)
 
--- an ask that is answered at once
+-- a request that is answered at once
 pub data AskGoes (z : Site) (m : elision.Memory) (left : ℕ) (y : List ℤ → ℕ → Got ℤ) : Type 0 where
   Answer : Now z m left y → AskGoes z m left y
   NoRoom : z.end ≡ Stopped TooManyEvents → AskGoes z m left y
 
--- an ask may be made now, after which the elision has another store; its answer is v
+-- a request may be made now, after which the elision has another store; its answer is v
 pub record Fits {z : Site} {m : elision.Memory} {left : ℕ} {x : List ℤ → ℕ → Got ℤ} (n : Now z m left x) (k : Ask) (store : Store ℕ) (v : ℤ) : Type 0 where
   pub is_inner : IsInner k
   pub same : Same n.tied m.reducers n.m'.frames store (stored z.p z.fr n.m' k)
@@ -148,7 +150,7 @@ asked {z} {m} {left} k store v g n fits = go (answered z.p z.inputs (IsElided z.
     go (Goes r es d inner) = Answer (after_answer k store v g n fits r es d inner)
     go (Full e q) = NoRoom q
 
--- what the frame sees now
+-- the frame's current scope
 pub sees_now : {z : Site} {m : elision.Memory} {left : ℕ} {x : List ℤ → ℕ → Got ℤ} (n : Now z m left x) → SeesAlike z.p n.tied m.reducers z.body z.sight z.fr.scope
 sees_now {z} n = sees_since z.sees n.since
 
@@ -209,14 +211,15 @@ module _ {z : Site} {m : elision.Memory} {left : ℕ} (g : ℤ → List ℤ → 
     pub sets : (v : ℤ) → Now z m left (λ a t. ask (asks.Set r v) a t >>= g) → AskGoes z (record m { store = set nat_eq r.kind (reducer_at z.sight r) v m.store }) left (g (pos 0))
     sets v n = asked (asks.Set r v) (set nat_eq r.kind (reducer_at z.sight r) v m.store) (pos 0) g n (set_fits n r there v)
 
--- how a part of a frame goes: as its elision, and the frame goes on with the rest; or both meet the same fault; or a limit is met
+-- The result of a part of a frame. It is that of its elision, and the frame continues with the
+-- rest. Or both meet the same fault. Or a limit is met.
 pub data Comes (z : Site) (E : Came → Type 0) (bound : ℕ) (g : Flow → List ℤ → ℕ → Got ℤ) : Type 0 where
   On : (m : elision.Memory) → E (GoesOn m) → (left : ℕ) → left < bound → Now z m left (g None) → Comes z E bound g
   Back : (v : ℤ) (m : elision.Memory) → E (Returns v m) → (left : ℕ) → left < bound → Now z m left (g (Some v)) → Comes z E bound g
   Broken' : (f : Fault) → E (Faults f) → z.end ≡ Stopped f → Comes z E bound g
   Limited : (f : Fault) → IsLimit f → z.end ≡ Stopped f → Comes z E bound g
 
--- what is left of a frame once a child has ended
+-- the rest of a frame after a child has ended
 abbrev pub after_child : {z : Site} {m m1 : elision.Memory} {left : ℕ} (how : Invocation) (callee : Callee) (g : Flow → List ℤ → ℕ → Got ℤ) (n : Now z m left (λ a t. invokes how callee a t >>= g)) (left' : ℕ) (m' : Memory) (r : Transcript) (es : List Event)
     (tied : ℕ → Instance) → Since n.tied m.reducers tied m1.reducers → SameMemory tied m1 m' → Serial z.p z.inputs z.fr (left' + (n.took + left - left)) (n.history ++ pos 0 ∷ []) m' r es z.end → Children (IsElided z.p z.inputs) r
     → Now z m1 left' (λ a t. ask asks.Resume a t >>= λ v a l. g None a l)
@@ -234,7 +237,7 @@ after_child {z} {left = left} how callee g n left' m' r es tied since same d inn
   inner = inner;
 }
 
--- a child, and then the frame goes on
+-- a child, and then the frame continues
 pub child_goes : {z : Site} {m : elision.Memory} {left : ℕ} (E : Came → Type 0) (how : Invocation) (callee : Callee) (g : Flow → List ℤ → ℕ → Got ℤ)
     (n : Now z m left (λ a t. invokes how callee a t >>= g))
     → ((u : Transcript) (es : List Event) (end : Ending) → IsElided z.p z.inputs u → Serial z.p z.inputs (next_frame z.p z.fr.scope n.m' callee) left [] (begun z.p callee (counted n.m')) u es end → ChildEnds E n.tied m.reducers left end)

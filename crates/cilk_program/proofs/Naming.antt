@@ -1,4 +1,4 @@
--- What a well-named program promises, part by part.
+-- The guarantees of a well-named program, part by part.
 use Rattle.std.proofs.Common.{◌≡◌, ℕ, zero, suc, ◌+◌, ◌<◌, ◌≤◌, nat_lt, nat_eq, ◌&&◌, IsTrue, List, [], ◌∷◌, length, slice_get, unwrap_or, subst, ap, refl, arith}
 use Rattle.std.proofs.lemmas.Bool.{ltb-true, ltb-false, eqb-true, and_parts, not-true}
 use Rattle.cilk_program.specs.declared.program.Body.{Body}
@@ -102,7 +102,7 @@ well_named_parts p h =
       loops = λ n lt. let same : 0 + n ≡ n = omega arith in subst (λ k. LoopIsNamed p k (loop_at p n)) same (loop_parts p (0 + n) (loop_at p n) (loop_among p 0 p.loops n a.1 lt));
     }
 
--- how deep a body may stand
+-- how deeply a body may be nested
 abbrev depth : Body → ℕ
 depth (bodies.Function k) = 0
 depth (bodies.Loop n) = suc n
@@ -111,7 +111,7 @@ abbrev BodyIsThere : Source → Body → Type 0
 BodyIsThere p (bodies.Function k) = Unit {0}
 BodyIsThere p (bodies.Loop n) = n < length p.loops
 
--- what a loop stands in
+-- the body around a loop
 record StandsIn (p : Source) (n : ℕ) (b : Body) : Type 0 where
   here : BodyIsThere p b
   lower : depth b ≤ n
@@ -120,7 +120,7 @@ stands : (p : Source) (n : ℕ) (b : Body) → n < length p.loops → IsTrue (st
 stands p n (bodies.Function k) lt h = record { here = tt; lower = omega arith }
 stands p n (bodies.Loop k) lt h = let below = ltb-true k n h in record { here = omega (arith, below, lt); lower = omega (arith, below) }
 
--- there is room enough in the levels
+-- the levels have enough fuel
 levels_steady : (p : Source) → SourceIsNamed p → (n k : ℕ) (b : Body) → BodyIsThere p b → depth b < n → depth b < k → levels n p b ≡ levels k p b
 levels_steady p named zero k b here ln lk = absurd (omega (arith, ln))
 levels_steady p named (suc n) zero b here ln lk = absurd (omega (arith, lk))
@@ -130,7 +130,7 @@ levels_steady p named (suc n) (suc k) (bodies.Loop j) here ln lk =
     let s = stands p j (loop_at p j).within here l.within in
     ap (λ ls. loop_level (loop_at p j) ∷ ls) (levels_steady p named n k (loop_at p j).within s.here (omega (arith, s.lower, ln)) (omega (arith, s.lower, lk)))
 
--- the levels of a loop are its own, then those of what it stands in
+-- the levels of a loop are its own, then those of the bodies around it
 pub loop_levels : (p : Source) → IsTrue (is_well_named p) → (n : ℕ) → n < length p.loops → levels_of p (bodies.Loop n) ≡ loop_level (loop_at p n) ∷ levels_of p (loop_at p n).within
 loop_levels p h n lt =
     let named = well_named_parts p h in

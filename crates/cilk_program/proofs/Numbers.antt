@@ -1,4 +1,5 @@
--- The events of a serial run are those of its first frame's run, numbered; and numbers tell frames apart.
+-- The events of a serial run are the numbered events of its first frame's run, and numbers
+-- distinguish frames.
 use Rattle.std.proofs.Common.{◌≡◌, ◌⊎◌, inl, inr, ℕ, zero, suc, ◌+◌, ◌<◌, ◌≤◌, ℤ, List, [], ◌∷◌, ◌++◌, length, Option, Some, None, refl, sym, ap, ap₂, ◌∙◌, subst, append-nil, arith}
 use Rattle.cilk_types.specs.declared.event.Event.{Event}
 use Rattle.cilk_program.specs.declared.ask.Ask.{Ask}
@@ -27,7 +28,7 @@ event_is fr m (asks.Result v) = refl
 event_is fr m (asks.End v) = refl
 event_is fr m (asks.Fault f) = refl
 
--- what has begun by the end
+-- the frames that have begun by the end
 abbrev pub CountsEnd : Source → Transcript → Counts → Ending → Type 0
 CountsEnd p r n (Finished v left m) = counts_of m ≡ counts_after p r n
 CountsEnd p r n (Stopped f) = Unit {0}
@@ -62,7 +63,7 @@ serial_events (Refused k left f q bad) = refl
 pub run_events : (p : Source) (inputs : List ℤ) (r : Transcript) (es : List Event) (c : Conclusion) → IsSerialRun p inputs r es c → es ≡ events_of_root p r
 run_events p inputs r es c (end, d, e) = serial_events d
 
--- ---- numbers tell frames apart
+-- ---- numbers distinguish frames
 
 module _ (p : Source) where
   pub frames_grow : (r : Transcript) (n : Counts) → n.frames ≤ (counts_after p r n).frames

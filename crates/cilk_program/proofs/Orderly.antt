@@ -13,7 +13,7 @@ use Rattle.cilk_program.specs.SerialRun.{Transcript, stop, act, child, Memory, F
 use Rattle.cilk_program.specs.Order.{opening_asks, Stage, Fresh, Due, Going, Resuming, Synced, Closing, goes_on, closes, follows, IsOwnAt, IsOrderly}
 use Rattle.cilk_program.proofs.Legal.{Rest, after, unless_fault, IsLegal, fresh_fine}
 
--- what follows may be told otherwise
+-- the continuation may be stated in another form
 goes_map : (w : Bool) (k : Ask) (G H : Stage → Type 0) → ((s : Stage) → G s → H s) → goes_on w k G → goes_on w k H
 goes_map w asks.Begin G H f h = h
 goes_map w (asks.Read x) G H f h = f (Going w) h
@@ -88,7 +88,7 @@ inner_own (asks.Result v) r inner = tt
 inner_own (asks.End v) r inner = absurd inner
 inner_own (asks.Fault f) r inner = absurd inner
 
--- how many events and children a frame has of its own
+-- the number of events and children of a frame
 abbrev long : Transcript → ℕ
 long stop = zero
 long (act k a r) = suc (long r)
@@ -102,7 +102,7 @@ most (Went {start = start} how callee left v left' m' q ok inner rest) = max sta
 most (Broke {start = start} how callee left f q ok inner) = start
 most (Refused {start = start} k left f q bad) = start
 
--- the asks after a history are those of what is left
+-- the requests after a history are those of the rest
 abbrev IsRest : Source → List ℤ → Callee → List ℤ → Rest → Type 0
 IsRest p inputs callee history c = (answers : List ℤ) (start : ℕ) → frame_asks p inputs callee (history ++ answers) start ≡ c answers start
 

@@ -1,5 +1,5 @@
--- A part of a frame's behaviour does the same with more ticks, goes on where it is answered once more, gives no ticks back, and where it ran out
--- of ticks leaves less than what it gets more.
+-- A part of a frame's behaviour does the same with more ticks, continues after one more answer, and
+-- gives no ticks back. If it ran out of ticks, then with d more ticks it has fewer than d left.
 use Rattle.std.proofs.Common.{◌≡◌, ℕ, zero, suc, ◌+◌, ◌<◌, ◌≤◌, ℤ, pos, ◌+ℤ◌, ◌-ℤ◌, neg_ℤ, Bool, true, false, true≢false, if◌then◌else◌, int_lt, int_eq, List, [], ◌∷◌, ◌++◌, Option, Some, None, is_some, refl, sym, ap, ◌∙◌, subst, arith}
 use Rattle.cilk_types.specs.Input.{input_at, input_count}
 use Rattle.cilk_types.specs.Word.{word_of}
@@ -31,7 +31,7 @@ abbrev pub More : {A : Type 0} → ℕ → Got A → Got A → Type 0
 More d (Gives v a l) y = y ≡ Gives v a (l + d)
 More d (Asks k) y = is_out k.ask ≡ false → y ≡ Asks (asks_for k.ask (k.left + d))
 
--- at most so many ticks are left
+-- at most n ticks are left
 abbrev pub Low : {A : Type 0} → ℕ → Got A → Type 0
 Low n (Gives v a l) = l ≤ n
 Low n (Asks k) = k.left ≤ n
@@ -41,7 +41,7 @@ abbrev pub Fewer : {A : Type 0} → ℕ → Got A → Type 0
 Fewer n (Gives v a l) = l < n
 Fewer n (Asks k) = is_out k.ask ≡ false → k.left < n
 
--- with d more ticks, where they had run out
+-- with d more ticks, if they had run out
 abbrev pub Short : {A : Type 0} → ℕ → Got A → Got A → Type 0
 Short d (Gives v a l) y = Unit {0}
 Short d (Asks k) y = is_out k.ask ≡ true → Fewer d y
@@ -120,7 +120,7 @@ tick_short d a (suc l) = tt
 pub ticks : Steady tick
 ticks = record { more = tick_more; further = tick_further; low = tick_low; short = tick_short }
 
--- an ask is out of ticks or not, whatever is left
+-- whether a request is out of ticks doesn't depend on the ticks left
 in_and_out : {X : Type 0} (b : Bool) → b ≡ true → b ≡ false → X
 in_and_out b out within = absurd (true≢false (sym out ∙ within))
 

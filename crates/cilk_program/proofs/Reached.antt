@@ -1,4 +1,5 @@
--- Where the elision ends, each serial run with ticks and events enough ends so, but for too many frames or cells.
+-- If the elision ends, each serial run with enough ticks and events ends in the same way, unless it
+-- has too many frames or cells.
 use Rattle.std.proofs.Common.{◌≡◌, ℕ, zero, suc, ◌+◌, ◌*◌, ◌<◌, ◌≤◌, ℤ, pos, ◌+ℤ◌, Bool, true, false, IsTrue, List, [], ◌∷◌, length, ◌⊎◌, inl, inr, Option, Some, None, refl, sym, ap, ◌∙◌, subst, arith}
 use Rattle.cilk_types.specs.declared.fault.Fault.{Fault}
 use Rattle.cilk_types.specs.declared.fault.Fault.TheVariants.{DivisionByZero, IndexOutside, InputOutside, TooManyEvents, TooManyFrames, TooManyCells}
@@ -29,7 +30,7 @@ use Rattle.cilk_program.proofs.Calling.{argument_takes, call_takes}
 use Rattle.cilk_program.proofs.Looping.{TurnTakes, Costed, Nothing', More, Fails', low_fails_takes, high_fails_takes, parallel_takes}
 
 module _ (p : Source) (wn : IsTrue (is_well_named p)) (inputs : List ℤ) where
-  -- turns with what they take
+  -- turns with their cost
   record SomeCost (s : Sight) (n : ℕ) (v : ℤ) (k : ℕ) (m : elision.Memory) (r : Came) : Type 0 where
     cost : ℕ
     turns : Costed p wn inputs s n v k m r cost
@@ -141,7 +142,7 @@ module _ (p : Source) (wn : IsTrue (is_well_named p)) (inputs : List ℤ) where
       → Takes p inputs (home_in (begins p inputs) [] ∷ []) (entered (main_of p) [] (begins p inputs)) r (λ b. IsTrue (row_is_named p b (main_of p).body)) (all_do inputs (main_of p).body)
   main_takes f r e all = subst (λ f. Takes p inputs (home_in (begins p inputs) [] ∷ []) (entered f [] (begins p inputs)) r (λ b. IsTrue (row_is_named p b f.body)) (all_do inputs f.body)) e (all_takes all)
 
-  -- with as much as the elision costs
+  -- with the cost of the elision
   reached_from : (c : Conclusion) → IsElision p inputs c → (r : Came) (t : Takes p inputs (home_in (begins p inputs) [] ∷ []) (entered (main_of p) [] (begins p inputs)) r (λ b. IsTrue (row_is_named p b (main_of p).body)) (all_do inputs (main_of p).body))
       → (ticks room : ℕ) → enough r t ≤ ticks → enough r t ≤ room → (u : Transcript) (es : List Event) (c' : Conclusion) → IsSerialRunWithin p inputs ticks room u es c' → (c' ≡ c) ⊎ IsCrowded c'
   reached_from c h r t ticks room le le' u es c' run =

@@ -1,4 +1,4 @@
--- The worked programs with reducers do what is said of them.
+-- The worked programs with reducers have the stated events and outcomes.
 use Rattle.std.proofs.Common.{[], refl}
 use Rattle.std.specs.Int.{int_wrap}
 use Rattle.cilk_types.specs.declared.limits.TheConstants.{MAX_EVENTS, MAX_TICKS}

@@ -1,4 +1,4 @@
--- In a serial run of a well-named program each read gives what was last written.
+-- In a serial run of a well-named program, each read gives the last value written.
 use Rattle.std.proofs.Common.{◌≡◌, ℕ, suc, ◌+◌, ◌≤◌, ℤ, Bool, true, false, nat_eq, nat_lt, IsTrue, if◌then◌else◌, List, [], ◌∷◌, ◌++◌, length, Option, Some, None, option_map, refl, sym, ap, ◌∙◌, subst, append_assoc, append-nil, arith}
 use Rattle.std.proofs.lemmas.Bool.{ltb-true, ltb-false}
 use Rattle.cilk_types.specs.declared.fault.Fault.{Fault}
@@ -60,7 +60,7 @@ record Does (cells : ℕ → ℤ) (output : List ℤ) (e : Event) (cells' : ℕ 
   written_is : cells' ≡ written e cells
   printed_is : output' ≡ output ++ printed_by e
 
--- what several events do to the store, where the run ends
+-- the effect of several events on the store, if the run ends
 abbrev DoAll : (ℕ → ℤ) → List ℤ → List Event → Ending → Type 0
 DoAll cells output es (Finished v left m) = (m.store.cells ≡ cells_after es cells) × (m.store.output ≡ output ++ prints es)
 DoAll cells output es (Stopped f) = Unit {0}
@@ -69,7 +69,7 @@ result_does : (o : Option ℕ) (v : ℤ) (m : Memory) → (c : ℕ) × (o ≡ So
 result_does None v m (c, e) = none_some (sym e)
 result_does (Some c) v m there = record { right = tt; written_is = refl; printed_is = sym (append-nil m.store.output) }
 
--- the caller's variable is there where it takes the result
+-- the caller's variable exists if it receives the result
 abbrev IsKept : Frame → Type 0
 IsKept fr = IsTaken fr.callee → (c : ℕ) × (fr.result ≡ Some c)
 
@@ -89,7 +89,7 @@ event_does p fr m (asks.Result v) inner there kept = result_does fr.result v m (
 event_does p fr m (asks.End v) inner there kept = absurd inner
 event_does p fr m (asks.Fault f) inner there kept = absurd inner
 
--- the reducers that are retired leave cells and output alone
+-- retired reducers don't change cells and output
 cleared_cells : (own : ℕ → Instance) (n : ℕ) (ks : List MonoidKind) (m : Store Instance) → (clear_all same_instance own n ks m).cells ≡ m.cells
 cleared_cells own n [] m = refl
 cleared_cells own n (k ∷ ks) m = cleared_cells own (suc n) ks _
@@ -98,7 +98,7 @@ cleared_output : (own : ℕ → Instance) (n : ℕ) (ks : List MonoidKind) (m : 
 cleared_output own n [] m = refl
 cleared_output own n (k ∷ ks) m = cleared_output own (suc n) ks _
 
--- an event, and what follows it
+-- an event, and the rest
 act_all : (cells cells' : ℕ → ℤ) (output output' : List ℤ) (e : Event) (es : List Event) (end : Ending) → Does cells output e cells' output' → DoAll cells' output' es end → DoAll cells output (e ∷ es) end
 act_all cells cells' output output' e es (Finished v left m) one h =
     (h.0 ∙ ap (cells_after es) one.written_is, h.1 ∙ ap (λ l. l ++ prints es) one.printed_is ∙ append_assoc output (printed_by e) (prints es))

@@ -1,4 +1,4 @@
--- What declarations and loops take of ticks and events at most.
+-- The maximum cost of declarations and loops in ticks and events.
 use Rattle.std.proofs.Common.{◌≡◌, ℕ, zero, suc, ◌+◌, ◌≤◌, ℤ, Bool, true, false, ◌&&◌, IsTrue, if◌then◌else◌, List, [], ◌∷◌, inl, inr, Option, Some, None, refl, sym, ap, ◌∙◌, subst, arith, le_refl}
 use Rattle.std.proofs.lemmas.Bool.{and_parts}
 use Rattle.cilk_types.specs.declared.fault.Fault.{Fault}
@@ -29,7 +29,7 @@ stays_ended (GoesOn m) h go = go _ m
 stays_ended (Returns v m) h go = go v m
 stays_ended (Faults f) h go = tt
 
--- a fault, where what doesn't return doesn't go on
+-- a fault, if a part doesn't continue and doesn't return
 stopped_after : (z : Site) (r : Came) (k k' : ℕ) (g g' : Flow → List ℤ → ℕ → Got ℤ) → IsLast r → Stays r → After z r k g → After z r k' g'
 stopped_after z (GoesOn m) k k' g g' last stays n = absurd last
 stopped_after z (Returns v m) k k' g g' last stays n = absurd stays

@@ -1,4 +1,4 @@
--- The serial run ends as the elision does, but for the limits of a run.
+-- The serial run ends as the elision does, except for the limits of a run.
 use Rattle.std.proofs.Common.{◌≡◌, ℕ, zero, suc, ◌+◌, ◌<◌, ◌≤◌, ℤ, pos, IsTrue, Bool, true, false, true≢false, ◌&&◌, if◌then◌else◌, List, [], ◌∷◌, length, Some, None, nat_eq, inl, inr, ◌⊎◌, refl, sym, ap, ◌∙◌, subst, arith, le_refl, eqb-true, ne_eqb}
 use Rattle.std.proofs.lemmas.Bool.{and_parts}
 use Rattle.cilk_types.specs.declared.event.Event.{Event}
@@ -41,7 +41,7 @@ module _ (p : Source) (wn : IsTrue (is_well_named p)) (inputs : List ℤ) where
     loop = λ tied m m' s scope left es end l same sees below d. loop_ends p wn inputs tied m m' s scope left l same sees below end u es inner d;
   }
 
-  -- each child of a run is as its elision, and so are its own
+  -- each child of a run does the same as its elision, and so do its own children
   pub all_elided : (r : Transcript) → Children (IsElided p inputs) r
   all_elided stop = tt
   all_elided (act k v r) = all_elided r
@@ -66,7 +66,7 @@ cleared_opening openings own n (k ∷ ks) =
     let once : clear nat_eq k (own n) (opening openings) ≡ opening openings = λ i. record { cells = (opening {I = ℕ} openings).cells; views = λ k' j. unit_stays k k' (nat_eq (own n) j) i; output = [] } in
     ap (clear_all nat_eq own (suc n) ks) once ∙ cleared_opening openings own (suc n) ks
 
--- what a frame's end leaves of the rest
+-- the effect of a frame's end on the rest
 module _ {I : Type 0} (same : I → I → Bool) (own : ℕ → I) where
   cleared_cells : (n : ℕ) (ks : List MonoidKind) (m : Store I) → (clear_all same own n ks m).cells ≡ m.cells
   cleared_cells n [] m = refl

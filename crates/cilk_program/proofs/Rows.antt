@@ -1,4 +1,4 @@
--- The worked programs of one frame do what is said of them.
+-- The worked programs of one frame have the stated events and outcomes.
 use Rattle.std.proofs.Common.{◌≡◌, ℕ, zero, suc, ◌-◌, ℤ, pos, List, [], ◌∷◌, length, Some, false, refl, ap, subst, subst₂}
 use Rattle.std.specs.Int.{int_wrap}
 use Rattle.cilk_types.specs.declared.fault.Fault.TheVariants.{TooManyEvents}
@@ -87,7 +87,7 @@ pub redeclared_runs : RedeclaredRuns
 unfolding int_wrap
 redeclared_runs = within MAX_TICKS MAX_EVENTS redeclared [] _ _ refl refl
 
--- a loop that never ends takes all ticks, however many there are
+-- a loop that never ends uses all ticks, however many there are
 turns_on : (n left : ℕ) (inputs answers : List ℤ) → turns n (condition inputs (Some (Number (pos 1)))) (does inputs Empty) (all_do inputs Nothing) answers left ≡ Asks (asks_for (asks.Fault TooManyEvents) 0)
 turns_on zero left inputs answers = refl
 turns_on (suc n) zero inputs answers = refl
@@ -112,7 +112,7 @@ endless_stops =
       ),
     )
 
--- what is computed within these limits ends, and what is computed within less doesn't
+-- the computed run ends within these limits, but not within lower ones
 takes : (ticks room : ℕ) (p : Source) (inputs : List ℤ) (outcome : Outcome)
     → conclusion_of p inputs (ran_within p inputs ticks room).ending ≡ Leaves outcome
     → conclusion_of p inputs (ran_within p inputs (ticks - 1) room).ending ≡ StopsBy TooManyEvents

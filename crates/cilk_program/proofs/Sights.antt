@@ -1,8 +1,9 @@
--- A frame of the elision and one of the serial run that run one body see the same cells, and reducers that are tied.
---   sees_since   they still do when more frames have begun
---   kind_within  what has a kind is in the list
---   sees_called  the frames of a function that is called do
---   sees_turn    so do those of turns of a loop
+-- Two frames with the same body, one of the elision and one of the serial run, see the same cells
+-- and tied reducers.
+-- sees_since   they still do when more frames have begun
+-- kind_within  an index with a kind is within the list
+-- sees_called  the frames of a called function do
+-- sees_turn    so do those of turns of a loop
 use Rattle.std.proofs.Common.{◌≡◌, ℕ, zero, suc, ◌+◌, ◌<◌, Bool, true, false, true≢false, IsTrue, List, [], ◌∷◌, length, Option, None, unwrap_or, slice_get, refl, sym, ap, ◌∙◌, arith}
 use Rattle.std.proofs.lemmas.Bool.{and_parts}
 use Rattle.cilk_types.specs.declared.event.Instance.{Instance}
@@ -21,7 +22,8 @@ use Rattle.cilk_program.specs.Elision.{Sight, itself}
 use Rattle.cilk_program.specs.SerialRun.{global_reducer}
 use Rattle.cilk_program.proofs.Ties.{Since, grown, grown_old, grown_own}
 
--- A frame that runs this body sees the same cells in both, and each reducer that is there is tied to the serial run's.
+-- A frame that runs this body sees the same cells in both runs, and each existing reducer is tied
+-- to one of the serial run.
 pub record SeesAlike (p : Source) (tied : ℕ → Instance) (count : ℕ) (b : Body) (s : Sight) (s' : Scope ℕ Instance) : Type 0 where
   pub cells : (x : Place) → cell_in itself s x ≡ cell_in itself s' x
   pub reducers : (r : ReducerPlace) (k : MonoidKind) → IsTrue (reducer_is_there p b r k) → (instance_in itself s r < count) × (instance_in global_reducer s' r ≡ tied (instance_in itself s r))
@@ -79,7 +81,7 @@ wider p test none (suc n) (bodies.Function k) up h = h
 wider p test none (suc n) (bodies.Loop k) zero h = h
 wider p test none (suc n) (bodies.Loop k) (suc up) h = let l = loop_at p k in wider p test none n l.within up h
 
--- the frame of a loop's turn, or of several, which stands in the frame of what the loop stands in
+-- the frame of one or several turns of a loop, whose static link leads to the frame around the loop
 module _ (p : Source) (tied : ℕ → Instance) (count : ℕ) (s : Sight) (s' : Scope ℕ Instance) (n : ℕ) (h : Home ℕ ℕ) (h' : Home ℕ Instance) (same : h.cells ≡ h'.cells)
     (e : let l = loop_at p n in SeesAlike p tied count l.within s s') where
   turn_cells : (x : Place) → cell_in itself (h ∷ s) x ≡ cell_in itself (h' ∷ s') x

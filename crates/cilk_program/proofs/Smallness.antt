@@ -1,6 +1,6 @@
--- The reducer that a frame of a well-named program names has a small number: a program has at most 64 of its own, a
--- function at most 64, and fewer are given to it.
---   reducer_small   a reducer that is there has a number below 65,536
+-- The reducer that a frame of a well-named program names has a small number. A program has at most
+-- 64 global ones, a function creates at most 64, and fewer are given to it.
+-- reducer_small   an existing reducer has a number below 65,536
 use Rattle.std.proofs.Common.{◌≡◌, inl, inr, ℕ, zero, suc, ◌+◌, ◌<◌, ◌≤◌, Bool, true, IsTrue, List, [], ◌∷◌, length, slice_get, unwrap_or, Option, Some, None, refl, sym, subst, arith}
 use Rattle.std.proofs.lemmas.Bool.{false≢true, cases_lt}
 use Rattle.std.proofs.lemmas.Option.{slice_get_past}

@@ -1,10 +1,10 @@
--- A frame of a serial run of a well-named program sees cells among those that there are, and reducers that have been created
--- or are due to be.
---   stands_more    it still does when there is more
---   stands_write   it still does after a write that was due
---   stands_create  and after a creation that was due
---   child_stands   a child does as it begins
---   root_stands    so does the first frame
+-- A frame of a serial run of a well-named program sees existing cells, and reducers that have been
+-- created or are due to be.
+-- stands_more    it still does when more exist
+-- stands_write   it still does after a write that was due
+-- stands_create  and after a creation that was due
+-- child_stands   a child does when it begins
+-- root_stands    so does the first frame
 use Rattle.std.proofs.Common.{◌≡◌, ◌⊎◌, inl, inr, ℕ, zero, suc, ◌+◌, ◌<◌, ◌≤◌, ℤ, Bool, IsTrue, if◌then◌else◌}
 use Rattle.std.proofs.Common.{List, [], ◌∷◌, ◌++◌, length, slice_get, sym, ap, subst, append-nil, arith}
 use Rattle.std.proofs.lemmas.Bool.{false≢true}
@@ -30,11 +30,11 @@ use Rattle.cilk_program.specs.Visible.{CanInvoke, GlobalsAreThere, FrameSees}
 use Rattle.cilk_program.proofs.Naming.{well_named_parts}
 use Rattle.cilk_program.proofs.Visible.{globals_more, frame_more, none_given, root_sees, called_sees, part_sees}
 
--- a cell is among the first so many
+-- a cell is among the first n
 abbrev pub Below : ℕ → ℕ → Type 0
 Below n c = c < n
 
--- a reducer's creation is due, where reducers are named in this scope
+-- a reducer's creation is due, for names in this scope
 abbrev pub IsDue : Scope ℕ Instance → Instance → List Ask → Type 0
 IsDue scope i [] = ⊥
 IsDue scope i (asks.Create c ∷ due) = (instance_in global_reducer scope c.place ≡ i) ⊎ IsDue scope i due
@@ -44,7 +44,7 @@ IsDue scope i (k ∷ due) = IsDue scope i due
 abbrev pub Held : Scope ℕ Instance → List Instance → List Ask → Instance → MonoidKind → Type 0
 Held scope made due i k = Among i made ⊎ IsDue scope i due
 
--- what a frame sees, once so many cells are there, these reducers have been created, and these asks are due
+-- the scope of a frame, given the existing cells, the created reducers and the due requests
 pub record Stands (p : Source) (fr : Frame) (n : ℕ) (made : List Instance) (due : List Ask) : Type 0 where
   pub globals : GlobalsAreThere p itself global_reducer (Below n) (Held fr.scope made due)
   pub sees : FrameSees p itself global_reducer (Below n) (Held fr.scope made due) fr.callee fr.scope fr.result
@@ -68,7 +68,7 @@ stands_more p fr n n' made made' due low covers h = record {
     reducer i k (inl a) = inl (covers i a)
     reducer i k (inr a) = inr a
 
--- ---- an opening ask is done
+-- ---- an opening request is done
 
 pub stands_write : (p : Source) (fr : Frame) (n : ℕ) (made : List Instance) (x : Place) (v : ℤ) (due : List Ask)
     → Stands p fr n made (asks.Write x v ∷ due) → Stands p fr n made due
@@ -125,14 +125,14 @@ global_due scope ks n k due h =
 
 -- ---- a child begins
 
--- what was created is there, whatever is due now
+-- a created reducer exists, whatever is due now
 settle : (scope scope' : Scope ℕ Instance) (made : List Instance) (due : List Ask) (i : Instance) (k : MonoidKind)
     → Held scope made [] i k → Held scope' made due i k
 settle scope scope' made due i k (inl a) = inl a
 settle scope scope' made due i k (inr a) = absurd a
 
 module _ (p : Source) (well : IsTrue (is_well_named p)) (fr : Frame) (n : Counts) (made : List Instance) (h : Stands p fr n.cells made []) where
-  -- what the parent sees is there for the child
+  -- everything that the parent sees exists for the child
   module _ (callee : Callee) where
     abbrev child : Frame
     child = frame_of p fr.scope n callee

@@ -1,4 +1,4 @@
--- What a statement that its elision ends takes of ticks and events at most.
+-- The maximum cost in ticks and events of a statement that ends in its elision.
 use Rattle.std.proofs.Common.{◌≡◌, ℕ, zero, suc, ◌+◌, ◌<◌, ◌≤◌, ℤ, pos, ◌+ℤ◌, Bool, true, false, ◌&&◌, IsTrue, if◌then◌else◌, List, [], ◌∷◌, length, ◌⊎◌, inl, inr, Option, Some, None, nat_eq, refl, sym, ap, ◌∙◌, subst, arith, le_refl}
 use Rattle.std.proofs.lemmas.Bool.{and_parts}
 use Rattle.cilk_types.specs.Word.{word_of}
@@ -25,7 +25,7 @@ use Rattle.cilk_program.proofs.Budgets.{Rich, less, rich_as, rich_turn, Quiet, t
 use Rattle.cilk_program.proofs.Costs.{After, quiet, on_value_after, value_at, fails_at, after_on, after_last}
 
 module _ (p : Source) (inputs : List ℤ) where
-  -- a frame that sees this
+  -- a frame with this scope
   pub record Standing (s : Sight) : Type 0 where
     pub fr : Frame
     pub end : Ending
@@ -37,7 +37,8 @@ module _ (p : Source) (inputs : List ℤ) where
   abbrev pub site : {s : Sight} → Standing s → Site
   site {s} y = record { p = p; inputs = inputs; fr = y.fr; end = y.end; tied = y.tied; count = y.count; sight = s; body = y.body; sees = y.sees }
 
-  -- A part of a frame that comes to this takes no more than its cost of ticks or of events, in each frame whose body names it.
+  -- A part of a frame with this result uses no more ticks and events than its cost, in each frame
+  -- whose body contains it.
   pub record Takes (s : Sight) (m : Memory) (r : Came) (named : Body → Type 0) (x : List ℤ → ℕ → Got Flow) : Type 0 where
     pub cost : ℕ
     pub run : (y : Standing s) → named y.body → (k : ℕ) (g : Flow → List ℤ → ℕ → Got ℤ) → Rich (site y) m (cost + k) (λ a l. x a l >>= g) → After (site y) r k g
@@ -187,7 +188,7 @@ module _ (p : Source) (inputs : List ℤ) where
           inl (asked_rich asks.Sync m.store (pos 0) (λ v a l. g None a l) n' (sync_fits n'.now));
     }
 
-    -- a test, and then what it chooses
+    -- a test, and then the chosen branch
     chosen_rich : {A : Type 0} (y : Standing s) {k : ℕ} (v : ℤ) (b : Bool) (x x' : List ℤ → ℕ → Got A) (g : A → List ℤ → ℕ → Got ℤ) → is_zero v ≡ b → Rich (site y) m k (λ a l. chosen v (x a l) (x' a l) >>= g) → Rich (site y) m k (λ a l. (if b then x' a l else x a l) >>= g)
     chosen_rich y v b x x' g z n = rich_as (λ a l. ap (λ b. (if b then x' a l else x a l) >>= g) z) n
 

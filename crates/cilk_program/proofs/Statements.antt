@@ -1,4 +1,4 @@
--- A statement does what its elision does.
+-- A statement does the same as its elision.
 use Rattle.std.proofs.Common.{◌≡◌, ℕ, suc, ◌<◌, ◌≤◌, ℤ, pos, ◌+ℤ◌, int_lt, Bool, true, false, ◌&&◌, IsTrue, nat_eq, nat_lt, length, inl, inr, if◌then◌else◌, List, [], ◌∷◌, Option, Some, None, refl, sym, ap, ◌∙◌, subst, arith, le_refl}
 use Rattle.std.proofs.lemmas.Bool.{and_parts}
 use Rattle.cilk_types.specs.Word.{word_of}
@@ -48,7 +48,7 @@ valued E w f g bound h (Has v e left' h' n) go fails = go v e left' (omega arith
 valued E w f g bound h (Lacks fault e q) go fails = Broken' fault (fails fault e) q
 valued E w f g bound h (Late fault l q) go fails = Limited fault l q
 
--- an ask that is the last of its statement
+-- a request that is the last of its statement
 last_ask : {z : Site} {m : Memory} {left : ℕ} (E : Came → Type 0) (g : Flow → List ℤ → ℕ → Got ℤ) (bound : ℕ) → left < bound → E (GoesOn m) → AskGoes z m left (λ a l. g None a l) → Comes z E bound g
 last_ask {m = m} {left = left} E g bound h e (Answer n) = On m e left h n
 last_ask E g bound h e (NoRoom q) = Limited TooManyEvents tt q

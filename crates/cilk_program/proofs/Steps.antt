@@ -1,4 +1,4 @@
--- What comes next in a serial run, by what the frame asks for.
+-- The next step of a serial run, by the frame's request.
 use Rattle.std.proofs.Common.{eqb-true, ◌≡◌, ℕ, ◌+◌, ◌-◌, ℤ, pos, Bool, true, false, List, [], ◌∷◌, ◌++◌, ◌⊎◌, inl, inr, Some, None, nat_eq, nat_lt, if◌then◌else◌, refl, sym, ap, ap₂, ◌∙◌, subst, subst₂}
 use Rattle.std.proofs.lemmas.Option.{none-some, same_Some}
 use Rattle.cilk_types.specs.declared.fault.Fault.{Fault}
@@ -15,7 +15,7 @@ use Rattle.cilk_program.specs.Behaviour.{asks_for, frame_asks}
 use Rattle.cilk_program.specs.SerialRun.{Transcript, stop, act, child, Memory, Frame, next_frame, begun, counted, with_store, answer_to, stored, full, cells_of, refused, IsInner, Ending, Finished, Stopped, Serial, Made, Ended, Went, Broke, Refused}
 use Rattle.cilk_program.specs.Agreement.{IsLimit, IsCrowd}
 
--- each child of what a frame does
+-- the children in a frame's run
 abbrev pub Children : (Transcript → Type 0) → Transcript → Type 0
 Children P stop = Unit {0}
 Children P (act k v r) = Children P r
@@ -63,7 +63,7 @@ crowded_limit true b c f e = (limit f TooManyEvents tt (sym (same_Some TooManyEv
 crowded_limit false true c f e = (limit f TooManyCells tt (none_or c TooManyCells f e), inl (crowd f TooManyCells tt (none_or c TooManyCells f e)))
 crowded_limit false false c f e = (limit f TooManyFrames tt (sym (same_Some TooManyFrames f e)), inl (crowd f TooManyFrames tt (sym (same_Some TooManyFrames f e))))
 
--- what an ask says where it ends, or begins a child
+-- a request that ends the frame, or begins a child
 abbrev IsEnd : Ask → Type 0
 IsEnd asks.Begin = ⊥
 IsEnd (asks.Read x) = ⊥
@@ -145,7 +145,7 @@ fault_of (asks.End v) = TooManyEvents
 fault_of (asks.Fault f) = f
 
 module _ (p : Source) (inputs : List ℤ) (P : Transcript → Type 0) where
-  -- an ask that is answered at once
+  -- a request that is answered at once
   pub data Answered (fr : Frame) (start : ℕ) (history : List ℤ) (m : Memory) (k : Ask) (end : Ending) : Type 0 where
     Goes : (r : Transcript) (es : List Event) → Serial p inputs fr start (history ++ answer_to fr m k ∷ []) (with_store m (stored p fr m k)) r es end → Children P r → Answered fr start history m k end
     Full : m.room ≡ 0 → end ≡ Stopped TooManyEvents → Answered fr start history m k end

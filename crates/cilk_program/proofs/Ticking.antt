@@ -1,7 +1,9 @@
--- A frame asks the same with more ticks, and takes no ticks back; and what it asks with fewer.
+-- A frame makes the same request with more ticks, and gives no ticks back; and its request with
+-- fewer ticks.
 --
--- - `frame_more`, `frame_low`, `frame_further`, `at_full`: with more ticks, and after one more answer;
--- - `frame_short`: where the ticks had run out;
+-- - `frame_more`, `frame_low`, `frame_further`, `at_full`: with more ticks, and after one more
+-- answer;
+-- - `frame_short`: if the ticks had run out;
 -- - `not_out`, `runs_short`: the law.
 use Rattle.std.proofs.Common.{◌≡◌, ℕ, ◌+◌, ◌-◌, ◌≤◌, ◌<◌, ℤ, true, false, true≢false, List, [], ◌∷◌, ◌++◌, ⊎_elim, refl, sym, ap, ◌∙◌, subst, arith}
 use Rattle.std.proofs.lemmas.Bool.{cases_Bool}
@@ -91,7 +93,7 @@ module _ (p : Source) (inputs : List ℤ) (callee : Callee) where
   short_left start d left history k out q within =
       subst (λ (q : OpenAsk). q.left < d) q (frame_short d history start out (subst (λ (q : OpenAsk). is_out q.ask ≡ false) (sym q) within))
 
-  -- with as many ticks as the other ask leaves, or fewer, taken away
+  -- after removing at most as many ticks as the other request has left
   same_before : (start spare left : ℕ) (history : List ℤ) (k : Ask) → frame_asks p inputs callee history (start + spare) ≡ asks_for k (left + spare) → is_out k ≡ false → frame_asks p inputs callee history start ≡ asks_for k left
   same_before start spare left history k q within =
       let now = frame_asks p inputs callee history start in

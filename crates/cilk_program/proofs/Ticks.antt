@@ -1,4 +1,5 @@
--- No part of a frame's behaviour gives ticks back, and each statement takes one. So a loop has turns enough.
+-- No part of a frame's behaviour gives ticks back, and each statement uses one. So a loop has
+-- enough turns.
 use Rattle.std.proofs.Common.{◌≡◌, ℕ, zero, suc, ◌<◌, ◌≤◌, ℤ, pos, neg_ℤ, Bool, true, false, if◌then◌else◌, int_lt, List, [], ◌∷◌, Option, Some, None, refl, ap, arith, lt-suc_self}
 use Rattle.cilk_types.specs.Input.{input_at, input_count}
 use Rattle.cilk_types.specs.Word.{word_of}
@@ -137,7 +138,7 @@ module _ (test : List ℤ → ℕ → Got ℤ) (body step : List ℤ → ℕ →
   unless_same None x y a l e = e
   unless_same (Some v) x y a l e = refl
 
-  -- more turns than ticks are as good as any
+  -- further turns than there are ticks make no difference
   pub turns_enough : (n k : ℕ) (a : List ℤ) (l : ℕ) → l < n → l < k → turns n test body step a l ≡ turns k test body step a l
   turns_enough zero k a l h h' = absurd (omega arith)
   turns_enough (suc n) zero a l h h' = absurd (omega arith)
@@ -148,7 +149,7 @@ module _ (test : List ℤ → ℕ → Got ℤ) (body step : List ℤ → ℕ →
       (λ f a2 l2 h2. unless_same f _ _ a2 l2 (bind_same (suc l2) (step a2 l2) _ _ (stepped a2 l2)
       (λ g a3 l3 h3. unless_same g _ _ a3 l3 (turns_enough n k a3 l3 (omega arith) (omega arith)))))))
 
-  -- a loop with turns enough: its condition, its body, its step, and the loop again
+  -- a loop with enough turns: its condition, its body, its step, and the loop again
   abbrev pub loops : List ℤ → ℕ → Got Flow
   loops a l = turns (suc l) test body step a l
 

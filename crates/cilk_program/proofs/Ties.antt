@@ -1,4 +1,4 @@
--- The store of an elision and that of a serial run, whose reducers are tied to each other.
+-- The store of an elision and that of a serial run, with a tie between their reducers.
 use Rattle.std.proofs.Common.{true≢false, ◌≡◌, ℕ, suc, ◌+◌, ◌-◌, ◌<◌, ◌≤◌, ℤ, Bool, true, false, ◌&&◌, if◌then◌else◌, nat_eq, nat_lt, List, [], ◌∷◌, ◌++◌, length, inl, inr, refl, sym, ap, ap₂, ◌∙◌, subst, arith, le_refl, lt-ltb, le-ltb, eq-eqb, ne_eqb, eqb-true}
 use Rattle.std.proofs.lemmas.Bool.{cases_lt, and_parts}
 use Rattle.cilk_types.specs.declared.event.Instance.{Instance}
@@ -8,8 +8,8 @@ use Rattle.cilk_monoid.specs.Ranges.{same_instance}
 use Rattle.cilk_monoid.specs.Values.{ViewValue}
 use Rattle.cilk_program.specs.Store.{Store, put, print, put_view, clear, clear_all, update, set, number_at}
 
--- The stores are the same, where so many reducers and frames have begun: each reducer of the elision is tied to one of the
--- serial run, no two to one, and what hasn't begun has no view.
+-- The stores are the same when n reducers and k frames have begun. Each reducer of the elision is
+-- tied to one of the serial run, no two to the same one. Reducers that haven't begun have no view.
 pub record Same (tied : ℕ → Instance) (count frames : ℕ) (m : Store ℕ) (m' : Store Instance) : Type 0 where
   pub cells : m.cells ≡ m'.cells
   pub output : m.output ≡ m'.output
@@ -78,7 +78,7 @@ module _ {tied : ℕ → Instance} {count frames : ℕ} {m : Store ℕ} {m' : St
     pub same_number : number_at k n m ≡ number_at k i m'
     same_number = ap (structure_of k).number same_view
 
-  -- a frame that has no reducers of its own begins
+  -- a frame without reducers of its own begins
   pub same_begun : Same tied count (suc frames) m m'
   same_begun = record {
     cells = s.cells;
@@ -90,7 +90,7 @@ module _ {tied : ℕ → Instance} {count frames : ℕ} {m : Store ℕ} {m' : St
     old = λ n h. let o = s.old n h in omega arith;
   }
 
--- reducers of a frame's own begin anew, or are gone
+-- a frame's own reducers are created, or retired
 pub same_clear_all : {tied : ℕ → Instance} {count frames : ℕ} (own : ℕ → ℕ) (own' : ℕ → Instance) (n : ℕ) (ks : List MonoidKind) {m : Store ℕ} {m' : Store Instance}
     → ((j : ℕ) → j < n + length ks → (own j < count) × (own' j ≡ tied (own j)))
     → Same tied count frames m m' → Same tied count frames (clear_all nat_eq own n ks m) (clear_all same_instance own' n ks m')

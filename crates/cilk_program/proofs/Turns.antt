@@ -1,4 +1,4 @@
--- The turns of a parallel loop are those of its elision, however they are halved.
+-- The turns of a parallel loop are those of its elision, for any way of halving them.
 use Rattle.std.proofs.Common.{◌≡◌, ℕ, suc, ◌+◌, ◌≤◌, ℤ, pos, ◌+ℤ◌, ◌-ℤ◌, ◌<ℤ◌, int_eq, IsTrue, Bool, true, false, if◌then◌else◌, List, [], ◌∷◌, drop, Some, None, inl, inr, refl, sym, ap, ap₂, ◌∙◌, subst, arith, add-zero, zero-add}
 use Rattle.std.proofs.lemmas.Int.{ints}
 use Rattle.cilk_types.specs.declared.fault.Fault.{Fault}
@@ -82,11 +82,11 @@ module _ (p : Source) (wn : IsTrue (is_well_named p)) (inputs : List ℤ) (tied 
   ended m2 e v left' h (Closes m3 tied' since same' q) = subst (ChildEnds E tied m.reducers left) (sym q) (m2, e, h, (tied', since, record { store = same'.store; cells = same'.cells }))
   ended m2 e v left' h (CutOff q) = subst (ChildEnds E tied m.reducers left) (sym q) (inr tt)
 
-  -- what the frame of one turn does
+  -- the run of a frame with one turn
   abbrev pub Turn : List ℤ → ℕ → Got ℤ
   Turn a t = ask (asks.Write (places.Local 0 0) l.low) a t >>= λ _ a t. all_do inputs body.body a t >>= finishes false
 
-  -- what the frame of several turns does
+  -- the run of a frame with several turns
   abbrev pub Parts : List ℤ → ℕ → Got ℤ
   Parts a t = invokes Spawn (part l l.low (middle l.low l.high)) a t >>= λ _ a t. invokes Call (part l (middle l.low l.high) l.high) a t >>= finishes false
 
@@ -118,7 +118,7 @@ module _ (p : Source) (wn : IsTrue (is_well_named p)) (inputs : List ℤ) (tied 
         after (Answer n) = turn_ends (all_goes site body.body (loop_body_named p wn l.number) (turned body l.low m) left (finishes false) n)
         after (NoRoom q) = subst (ChildEnds E tied m.reducers left) (sym q) (inr tt)
 
-  -- several, in two halves
+  -- several turns, in two halves
   module _ (many : int_eq (l.high -ℤ l.low) (pos 1) ≡ false) where
     abbrev pub mid : ℤ
     mid = middle l.low l.high

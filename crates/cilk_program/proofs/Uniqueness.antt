@@ -1,4 +1,4 @@
--- There is no serial run but the one that `ran` computes.
+-- The only serial run is the one that `ran` computes.
 use Rattle.std.proofs.Common.{◌≡◌, ℕ, zero, suc, ◌+◌, ◌-◌, ◌<◌, ℤ, pos, List, [], ◌∷◌, ◌++◌, length, Option, Some, None, refl, sym, ap, ◌∙◌, subst, arith}
 use Rattle.cilk_types.specs.declared.fault.Fault.{Fault}
 use Rattle.cilk_types.specs.declared.event.Event.{Event}
@@ -16,7 +16,7 @@ use Rattle.cilk_program.specs.Runs.{HasSerialRun, HasOneSerialRun}
 use Rattle.cilk_program.proofs.Computed.{Ran, Going, broken, made, joined, settled, ran, ran_within}
 use Rattle.cilk_program.proofs.Existence.{room_for, serial_spends, ran_run}
 
--- a serial run is what was computed
+-- a serial run is the computed one
 pub record Is (r : Transcript) (es : List Event) (end : Ending) (w : Ran) : Type 0 where
   pub run_is : r ≡ w.run
   pub events_are : es ≡ w.events
@@ -30,7 +30,7 @@ module _ (p : Source) where
       → Is r es end (go fr start (history ++ answer_to fr m k ∷ []) (with_store m (stored p fr m k))) → Is (act k (answer_to fr m k) r) (event_of fr m k ∷ es) end (made p k fr start history m go)
   made_is k fr start history m go r es end h = record { run_is = ap (act k (answer_to fr m k)) h.run_is; events_are = ap (λ es. event_of fr m k ∷ es) h.events_are; ending_is = h.ending_is }
 
-  -- an event after which its frame goes on
+  -- an event after which its frame continues
   inner_is : (k : Ask) (left : ℕ) (fr : Frame) (start : ℕ) (history : List ℤ) (m : Memory) (go : Going) (r : Transcript) (es : List Event) (end : Ending) → IsInner k
       → Is r es end (go fr start (history ++ answer_to fr m k ∷ []) (with_store m (stored p fr m k))) → Is (act k (answer_to fr m k) r) (event_of fr m k ∷ es) end (settled p None k left fr start history m go)
   inner_is asks.Begin left fr start history m go r es end inner h = made_is asks.Begin fr start history m go r es end h
@@ -48,7 +48,7 @@ module _ (p : Source) where
   inner_is (asks.End v) left fr start history m go r es end inner h = absurd inner
   inner_is (asks.Fault f) left fr start history m go r es end inner h = absurd inner
 
-  -- once a child is what was computed, so is what its parent does
+  -- if the run of a child is the computed one, so is that of its parent
   joined_is : (w : Ran) (u : Transcript) (es : List Event) (v : ℤ) (left' : ℕ) (m' : Memory) (how : Invocation) (callee : Callee) (left : ℕ) (fr : Frame) (start : ℕ) (history : List ℤ) (m : Memory) (go : Going) (r : Transcript) (es' : List Event) (end : Ending)
       → Is u es (Finished v left' m') w → Is r es' end (go fr (left' + (start - left)) (history ++ pos 0 ∷ []) m')
       → Is (child how callee u r) (invocation how (suc m.frames) ∷ (es ++ es')) end (joined p w.ending w.run w.events how callee left fr start history m go)
@@ -66,7 +66,7 @@ module _ (p : Source) where
       subst (λ d. Is (child how callee u stop) (head ∷ es) (Stopped f) (joined p d w.run w.events how callee left fr start history m go)) inner.ending_is
       (record { run_is = ap (λ b. child how callee b stop) inner.run_is; events_are = ap (λ b. head ∷ b) inner.events_are; ending_is = refl })
 
-  -- an ask that is known, and whether it is refused
+  -- a known request, and whether it is refused
   at_ask : (inputs : List ℤ) (n : ℕ) (fr : Frame) (start : ℕ) (history : List ℤ) (m : Memory) (k : Ask) (left : ℕ) (o : Option Fault) (r : Transcript) (es : List Event) (end : Ending)
       → frame_asks p inputs fr.callee history start ≡ asks_for k left → refused p m k ≡ o
       → Is r es end (settled p o k left fr start history m (ran p inputs n)) → Is r es end (ran p inputs (suc n) fr start history m)

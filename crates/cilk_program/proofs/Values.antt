@@ -19,7 +19,8 @@ use Rattle.cilk_program.specs.Agreement.{IsLimit}
 use Rattle.cilk_program.proofs.Steps.{faulted}
 use Rattle.cilk_program.proofs.Moments.{Site, Now, regroup, asks_now, IsElided, Ticked, Tick, NoTick, ticked, AskGoes, Answer, NoRoom, read, reads_view}
 
--- an expression's value is the elision's, and the frame goes on with it; or both meet the same fault; or a limit is met
+-- An expression's value is the elision's, and the frame continues with it. Or both meet the same
+-- fault. Or a limit is met.
 pub data ValueGoes (z : Site) (A : Type 0) (w : Valued A) (m : Memory) (left : ℕ) (g : A → List ℤ → ℕ → Got ℤ) : Type 0 where
   Has : (v : A) → w ≡ Worth v → (left' : ℕ) → left' ≤ left → Now z m left' (g v) → ValueGoes z A w m left g
   Lacks : (f : Fault) → w ≡ Fails f → z.end ≡ Stopped f → ValueGoes z A w m left g
@@ -30,7 +31,7 @@ moved p h (Has v e left' h' n) = Has v (p ∙ e) left' (omega arith) n
 moved p h (Lacks f e q) = Lacks f (p ∙ e) q
 moved p h (Late f l q) = Late f l q
 
--- a value, and then what needs it
+-- a value, and then its use
 pub value_then : {z : Site} {A B : Type 0} {w : Valued A} {m : Memory} {left : ℕ} (f : A → List ℤ → ℕ → Got B) (k : A → Valued B) (g : B → List ℤ → ℕ → Got ℤ)
     → ValueGoes z A w m left (λ v a l. f v a l >>= g)
     → ((v : A) (left : ℕ) → Now z m left (λ a l. f v a l >>= g) → ValueGoes z B (k v) m left g) → ValueGoes z B (then_value w k) m left g

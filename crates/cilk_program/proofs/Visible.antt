@@ -1,16 +1,16 @@
--- A frame of a well-named program sees what is there, whatever its cells and reducers are known by.
---   can_invoke     a frame asks for no child but one that it can invoke
---   sees_more      what sees what is there still does when more is there; frame_more, for a frame
---   given_there    a reducer that is given is there
---   function_sees  a function's frame sees its own cells and reducers, and those that it is given
---   turn_sees      a turn's frame sees its own cells, and what its loop stands in
---   loop_sees      a loop's frame sees what the loop stands in, by its static links
---   result_there   the cell that takes a result is there
---   none_given     a function without reducer parameters is given none
---   root_sees      the first frame sees what is there
---   called_sees    so does the frame of a function that is called
---   part_sees      so does a frame that runs turns of a loop
---   frames_see     all three at numbers and tests, as the law says it
+-- A frame of a well-named program sees only what exists, for any names of cells and reducers.
+-- can_invoke     a frame requests only children that it can invoke
+-- sees_more      a scope that exists still does when more exists; frame_more, for a frame
+-- given_there    a given reducer exists
+-- function_sees  a function's frame sees its own cells and reducers, and those that it is given
+-- turn_sees      a turn's frame sees its own cells, and everything around its loop
+-- loop_sees      a loop's frame sees everything around the loop, by its static links
+-- result_there   the cell that receives a result exists
+-- none_given     a function without reducer parameters is given none
+-- root_sees      the first frame sees only what exists
+-- called_sees    so does the frame of a called function
+-- part_sees      so does a frame that runs turns of a loop
+-- frames_see     all three for numbers and tests, as the law says it
 use Rattle.std.proofs.Common.{◌≡◌, inl, inr, ⊎_elim, ℕ, zero, suc, ◌<◌, ℤ, pos, ◌-ℤ◌, int_eq, Bool, IsTrue, List, []}
 use Rattle.std.proofs.Common.{◌∷◌, length, drop, slice_get, unwrap_or, Option, Some, option_map, sym, ap, ◌∙◌}
 use Rattle.std.proofs.Common.{subst, refl, arith}
@@ -41,7 +41,7 @@ use Rattle.cilk_program.specs.Visible.{CalledSees, PartSees, FramesSee}
 use Rattle.cilk_program.proofs.Asked.{IsPart, parts_asked}
 use Rattle.cilk_program.proofs.Naming.{loop_levels}
 
--- ---- which children a frame asks for
+-- ---- the children that a frame requests
 
 half_of : (how : Invocation) (callee : Callee) → IsPart (asks.Invoke how callee) → IsHalf callee
 half_of how callees.Root h = h
@@ -56,7 +56,7 @@ can_invoke p inputs (callees.Loop l) history start left how callee e =
     ⊎_elim (λ one. inl one) (λ several. inr (half_of how callee (subst (λ (q : OpenAsk). IsPart q.ask) e (parts_asked p l several inputs history start))))
     (cases_Bool (int_eq (l.high -ℤ l.low) (pos 1)))
 
--- ---- more is there
+-- ---- more exists
 
 module _ {C I : Type 0} (p : Source) (global_cell : ℕ → C) (global_instance : ℕ → I)
     (HasCell HasCell' : C → Type 0) (HasReducer HasReducer' : I → MonoidKind → Type 0)
@@ -94,13 +94,13 @@ module _ {C I : Type 0} (p : Source) (global_cell : ℕ → C) (global_instance 
 
 -- ---- lists of monoids
 
--- among no kinds there is none at a place
+-- a list without monoids has none at any place
 pub none_given : (ks : List MonoidKind) (n : ℕ) (k : MonoidKind) {X : Type 0} → length ks ≡ 0
     → IsTrue (is_kind (slice_get ks n) k) → X
 none_given [] n k e h = absurd (false≢true h)
 none_given (j ∷ ks) n k e h = absurd (omega (arith, e))
 
--- ---- what a frame sees is there
+-- ---- everything in a frame's scope exists
 
 -- the number of a loop's body
 abbrev body_loop : Body → ℕ

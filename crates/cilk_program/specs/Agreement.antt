@@ -1,4 +1,4 @@
--- That the elision and the serial run agree.
+-- The serial elision and the serial run agree.
 use Rattle.std.specs.Prelude.{◌≡◌, ◌≤◌, ◌⊎◌, ℕ, ℤ, List, IsTrue}
 use Rattle.cilk_types.specs.declared.fault.Fault.{Fault}
 use Rattle.cilk_types.specs.declared.fault.Fault.TheVariants.{DivisionByZero, IndexOutside, InputOutside, TooManyEvents, TooManyFrames, TooManyCells}
@@ -9,7 +9,7 @@ use Rattle.cilk_program.specs.Outcomes.{Conclusion, Leaves, StopsBy}
 use Rattle.cilk_program.specs.Elision.{IsElision}
 use Rattle.cilk_program.specs.SerialRun.{Transcript, IsSerialRunWithin}
 
--- a limit of runs, and no fault of the program's own
+-- the fault is a limit of runs, not a fault of the program itself
 abbrev pub IsLimit : Fault → Type 0
 IsLimit DivisionByZero = ⊥
 IsLimit IndexOutside = ⊥
@@ -18,7 +18,7 @@ IsLimit TooManyEvents = Unit {0}
 IsLimit TooManyFrames = Unit {0}
 IsLimit TooManyCells = Unit {0}
 
--- a limit that is the same however many ticks and events a run has
+-- a limit that doesn't depend on the ticks and events that a run has
 abbrev pub IsCrowd : Fault → Type 0
 IsCrowd DivisionByZero = ⊥
 IsCrowd IndexOutside = ⊥
@@ -27,27 +27,28 @@ IsCrowd TooManyEvents = ⊥
 IsCrowd TooManyFrames = Unit {0}
 IsCrowd TooManyCells = Unit {0}
 
--- a limit of runs was met
+-- the run met a limit
 abbrev pub IsCutOff : Conclusion → Type 0
 IsCutOff (Leaves o) = ⊥
 IsCutOff (StopsBy f) = IsLimit f
 
--- too many frames or cells were met
+-- the run had too many frames or too many cells
 abbrev pub IsCrowded : Conclusion → Type 0
 IsCrowded (Leaves o) = ⊥
 IsCrowded (StopsBy f) = IsCrowd f
 
--- within any ticks and events, a program ends as its elision does, with the same result, globals, output and reducers or by the same fault; only the limits of a run are the run's own
+-- Within any ticks and events, a program ends as its elision does: with the same result, globals,
+-- output and reducers, or by the same fault. The only exception is a run that met a limit.
 abbrev pub EndsAsElided : Source → List ℤ → Type 0
 EndsAsElided p inputs =
     IsTrue (is_well_named p) → (ticks room : ℕ) (r : Transcript) (es : List Event) (c : Conclusion) → IsSerialRunWithin p inputs ticks room r es c → ¬ (IsCutOff c) → IsElision p inputs c
 
--- the elision ends in one way
+-- the elision ends in at most one way
 abbrev pub HasOneElision : Source → List ℤ → Type 0
 HasOneElision p inputs = (c c' : Conclusion) → IsElision p inputs c → IsElision p inputs c' → c ≡ c'
 
--- The elision's end is reached: with ticks and events enough each serial run ends so, unless there are too many frames or cells,
--- whose limits are the same for all runs.
+-- The elision's end is reached: with enough ticks and events, each serial run ends in that way,
+-- unless it has too many frames or cells. Those limits are the same for all runs.
 abbrev pub IsReached : Source → List ℤ → Type 0
 IsReached p inputs =
     IsTrue (is_well_named p) → (c : Conclusion) → IsElision p inputs c

@@ -1,4 +1,4 @@
--- What the events of a serial run make of memory and output.
+-- The effect of a serial run's events on memory and output.
 use Rattle.std.specs.Prelude.{◌≡◌, ◌≤◌, ℕ, ℤ, nat_eq, if◌then◌else◌, List, [], ◌∷◌, ◌++◌, length}
 use Rattle.cilk_types.specs.declared.event.Event.{Event}
 use Rattle.cilk_types.specs.declared.event.Event.TheVariants as events
@@ -15,12 +15,13 @@ abbrev pub written : Event → (ℕ → ℤ) → ℕ → ℤ
 written (events.Write c v) cells = λ n. if nat_eq c n then v else cells n
 written e cells = cells
 
--- a read gives what its cell has
+-- a read gives the value of its cell
 abbrev pub IsRightRead : Event → (ℕ → ℤ) → Type 0
 IsRightRead (events.Read c v) cells = v ≡ cells c
 IsRightRead e cells = Unit {0}
 
--- each read gives what the last write of its cell ahead of it wrote, or the cell's value at the beginning
+-- each read gives the last value written to its cell before it, or the cell's value at the
+-- beginning
 abbrev pub AreRight : (ℕ → ℤ) → List Event → Type 0
 AreRight cells [] = Unit {0}
 AreRight cells (e ∷ es) = IsRightRead e cells × AreRight (written e cells) es
@@ -33,21 +34,21 @@ abbrev pub printed_by : Event → List ℤ
 printed_by (events.Print v) = v ∷ []
 printed_by e = []
 
--- what is printed, in order
+-- the printed numbers, in order
 abbrev pub prints : List Event → List ℤ
 prints [] = []
 prints (e ∷ es) = printed_by e ++ prints es
 
--- as a program begins
+-- the cells when a program begins
 abbrev pub opening_cells : Source → List ℤ → ℕ → ℤ
 opening_cells p inputs = let m = before_root p inputs 0 in m.store.cells
 
--- the global cells and the output that are left are those that the events make
+-- the final globals and the output are those that the events produce
 pub record IsLeft (p : Source) (inputs : List ℤ) (es : List Event) (outcome : Outcome) : Type 0 where
   pub globals : outcome.globals ≡ cells_from 0 (length p.openings) (cells_after es (opening_cells p inputs))
   pub output : outcome.output ≡ prints es
 
--- a run has no more frames and cells than it may
+-- a run is within the limits of frames and cells
 pub record IsSmall (p : Source) (r : Transcript) : Type 0 where
   pub frames : (counts_after p r (entered p callees.Root (unbegun p))).frames ≤ MAX_FRAMES
   pub cells : (counts_after p r (entered p callees.Root (unbegun p))).cells ≤ MAX_CELLS

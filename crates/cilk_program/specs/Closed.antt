@@ -1,4 +1,4 @@
--- How the runs of frames begin, go on and end.
+-- How frames begin, resume and end in a run.
 use Rattle.std.specs.Prelude.{◌≡◌, ◌⊎◌, Bool, true, false}
 use Rattle.cilk_program.specs.declared.ask.Ask.{Ask}
 use Rattle.cilk_program.specs.declared.ask.Ask.TheVariants as asks
@@ -13,7 +13,8 @@ abbrev pub IsNoResume : Ask → Type 0
 IsNoResume asks.Resume = ⊥
 IsNoResume k = Unit {0}
 
--- Where `begun` is false a frame begins first of all, unless it is stopped before, and never again; its children do so too.
+-- If `begun` is false, the frame's first event is its beginning, unless it is stopped before it,
+-- and it begins only once. So do its children.
 abbrev pub BeginsOnce : (begun : Bool) → Transcript → Type 0
 BeginsOnce begun stop = Unit {0}
 BeginsOnce false (act k a r) = (k ≡ asks.Begin) × BeginsOnce true r
@@ -21,7 +22,8 @@ BeginsOnce false (child how callee u r) = ⊥
 BeginsOnce true (act k a r) = IsNoBegin k × BeginsOnce true r
 BeginsOnce true (child how callee u r) = BeginsOnce false u × BeginsOnce true r
 
--- Right after each child, unless the run is stopped there, the frame goes on by a resume, and nowhere else. `due` says that a child has just ended.
+-- The frame resumes right after each child, unless the run is stopped there, and nowhere else.
+-- `due` means that a child has just ended.
 abbrev pub IsResumed : (due : Bool) → Transcript → Type 0
 IsResumed due stop = Unit {0}
 IsResumed true (act k a r) = (k ≡ asks.Resume) × IsResumed false r
@@ -29,29 +31,30 @@ IsResumed true (child how callee u r) = ⊥
 IsResumed false (act k a r) = IsNoResume k × IsResumed false r
 IsResumed false (child how callee u r) = IsResumed false u × IsResumed true r
 
--- the one where it is a sync, else the other
+-- the first if the request is a sync, else the second
 abbrev pub at_sync : Ask → Type 0 → Type 0 → Type 0
 at_sync asks.Sync P Q = P
 at_sync k P Q = Q
 
--- the one where it is an end, else the other
+-- the first if the request is an end, else the second
 abbrev pub at_end : Ask → Type 0 → Type 0 → Type 0
 at_end (asks.End v) P Q = P
 at_end k P Q = Q
 
--- the frame waits for its children once more
+-- the frame has another sync
 abbrev pub HasSync : Transcript → Type 0
 HasSync stop = ⊥
 HasSync (act k a r) = at_sync k (Unit {0}) (HasSync r)
 HasSync (child how callee u r) = HasSync r
 
--- the frame ends: its end comes last and nowhere else, after each of its children there is a sync, and its children end
+-- The frame ends, and its end is its last event. A sync follows each of its children, and its
+-- children end.
 abbrev pub IsClosed : Transcript → Type 0
 IsClosed stop = ⊥
 IsClosed (act k a r) = at_end k (r ≡ stop) (IsClosed r)
 IsClosed (child how callee u r) = IsClosed u × HasSync r × IsClosed r
 
--- the frame is stopped on its way, or the last of its children is
+-- the frame is stopped before its end, or its last child is
 abbrev pub IsCutShort : Transcript → Type 0
 IsCutShort stop = Unit {0}
 IsCutShort (act k a r) = at_end k ⊥ (IsCutShort r)

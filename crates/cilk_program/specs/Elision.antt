@@ -1,6 +1,7 @@
--- The serial elision of a program (Frigo, Leiserson and Randall 1998): its meaning with the parallel words deleted, statement by
--- statement over one store, as a natural semantics (Kahn 1987). A spawn is a call, a sync does nothing, a parallel loop is an ascending one, and each
--- reducer has one value. It knows no ticks, frames, events or limits of a run.
+-- The serial elision of a program: its meaning without the parallel keywords (Frigo, Leiserson and
+-- Randall 1998), as a natural semantics over one store (Kahn 1987). A spawn is a call, and a sync
+-- does nothing. A parallel loop is an ascending loop, and each reducer has one value. The elision
+-- has no ticks, frames, events or limits.
 use Rattle.std.specs.Prelude.{◌≡◌, ℕ, zero, suc, ◌+◌, nat_eq, ℤ, pos, negsuc, ◌+ℤ◌, ◌-ℤ◌, neg_ℤ, true, false, if◌then◌else◌, List, [], ◌∷◌, length, Option, Some, None}
 use Rattle.cilk_types.specs.Input.{input_at, input_count}
 use Rattle.cilk_types.specs.Word.{word_of}
@@ -15,8 +16,8 @@ use Rattle.cilk_program.specs.Scopes.{Home, Scope, cell_in, instance_in, instanc
 use Rattle.cilk_program.specs.Store.{Store, opening, put, put_all, print, clear_all, update, set, number_at}
 use Rattle.cilk_program.specs.Outcomes.{Conclusion, Leaves, StopsBy, outcome_of}
 
--- The store, and how many cells and how many reducers there have been. Both are counted in the order in which they come, the
--- globals first, and known by their numbers.
+-- The store, and how many cells and reducers have existed so far. Both are numbered in order of
+-- creation, the globals first.
 pub record Memory : Type 0 where
   pub store : Store ℕ
   pub cells : ℕ
@@ -49,7 +50,8 @@ abbrev pub or_fails : {A : Type 0} → Fault → Option A → Valued A
 or_fails f None = Fails f
 or_fails f (Some v) = Gives v
 
--- an expression over a store, from left to right; `&&` and `||` skip the right side where the left decides
+-- The value of an expression over a store, evaluated from left to right. `&&` and `||` skip the
+-- right side if the left decides.
 abbrev pub evaluate : List ℤ → Sight → Store ℕ → Expression → Valued ℤ
 evaluate inputs scope m (Number n) = Gives n
 evaluate inputs scope m (Variable x) = Gives (m.cells (cell_at scope x))
@@ -72,12 +74,12 @@ evaluate_all inputs scope m [] = Gives []
 evaluate_all inputs scope m (e ∷ es) =
     then_value (evaluate inputs scope m e) (λ v. then_value (evaluate_all inputs scope m es) (λ vs. Gives (v ∷ vs)))
 
--- the index of a target, where it has one
+-- the index of a target, or 0 for a variable
 abbrev pub evaluate_index : List ℤ → Sight → Store ℕ → Target → Valued ℤ
 evaluate_index inputs scope m (ToVariable x) = Gives (pos 0)
 evaluate_index inputs scope m (ToElement a e) = evaluate inputs scope m e
 
--- an absent condition holds
+-- the value of a condition; an absent one is true
 abbrev pub evaluate_condition : List ℤ → Sight → Store ℕ → Option Expression → Valued ℤ
 evaluate_condition inputs scope m None = Gives (pos 1)
 evaluate_condition inputs scope m (Some e) = evaluate inputs scope m e
@@ -92,7 +94,7 @@ abbrev pub on_value : {A : Type 0} → Valued A → (A → Came) → Came
 on_value (Gives v) go = go v
 on_value (Fails f) go = Faults f
 
--- it goes on over another store
+-- continues with another store
 abbrev pub goes_on : Memory → Store ℕ → Came
 goes_on m store = GoesOn (record m { store = store })
 
@@ -102,19 +104,19 @@ IsLast (GoesOn m) = ⊥
 IsLast (Returns v m) = Unit {0}
 IsLast (Faults f) = Unit {0}
 
--- a statement that begins no child and runs no other statement
+-- an assignment: the index, then the value, then the check of the index
 abbrev pub assigned : List ℤ → Sight → Target → Expression → Memory → Came
 assigned inputs scope t e m =
     on_value (evaluate_index inputs scope m.store t) (λ i. on_value (evaluate inputs scope m.store e) (λ v. on_value (or_fails IndexOutside (place_of t i)) (λ x.
     goes_on m (put (cell_at scope x) v m.store))))
 
--- a target gets what a function makes of its value
+-- a change of a target's value by a function
 abbrev pub changed : List ℤ → Sight → Target → (ℤ → Valued ℤ) → Memory → Came
 changed inputs scope t f m =
     on_value (evaluate_index inputs scope m.store t) (λ i. on_value (or_fails IndexOutside (place_of t i)) (λ x.
     on_value (f (m.store.cells (cell_at scope x))) (λ v. goes_on m (put (cell_at scope x) v m.store))))
 
--- A function's frame: its cells and reducers come next. Its first cells have the words that it is given.
+-- The frame of a function. Its cells and reducers are the next ones.
 abbrev pub home_in : Memory → List ℕ → Home ℕ ℕ
 home_in m given = record { cells = λ n. m.cells + n; own = λ n. m.reducers + n; given = given }
 
@@ -125,16 +127,16 @@ entered f words m = record {
   reducers = m.reducers + length f.reducers;
 }
 
--- a turn of a parallel loop: its frame's first cell is the loop's variable
+-- the memory at the beginning of a parallel loop's turn, whose first cell is the loop's variable
 abbrev pub turned : Loop → ℤ → Memory → Memory
 turned l v m = record m { store = put m.cells v m.store; cells = m.cells + l.cells }
 
--- what the caller goes on with: its variable has the result, and the function's reducers are gone
+-- the caller continues: its variable has the result, and the function's reducers are retired
 abbrev pub left_with : Option ℕ → ℤ → (Store ℕ → Store ℕ) → Memory → Came
 left_with None v gone m = goes_on m (gone m.store)
 left_with (Some c) v gone m = goes_on m (gone (put c v m.store))
 
--- a body that ended; one without `return` gives 0
+-- after a body has ended, with 0 as its value if it had no `return`
 abbrev pub on_ended : Came → (ℤ → Memory → Came) → Came
 on_ended (GoesOn m) go = go (pos 0) m
 on_ended (Returns v m) go = go v m
@@ -148,7 +150,7 @@ result_cell scope (Some x) = Some (cell_at scope x)
 abbrev pub own_cell : ℕ → Place
 own_cell n = places.Local 0 n
 
--- how many turns lie between two bounds
+-- the number of turns between two bounds
 abbrev pub turns_between : ℤ → ℤ → ℕ
 turns_between low high = count (high -ℤ low)
   where
@@ -158,7 +160,7 @@ turns_between low high = count (high -ℤ low)
 
 module _ (p : Source) (inputs : List ℤ) where
   mutual
-    -- a statement of a frame that sees this, from one memory, comes to this
+    -- a statement, in a frame that sees this, leads from a memory to this end
     pub data Elides : Sight → Statement → Memory → Came → Type 0 where
       Empties : {s : Sight} {m : Memory} → Elides s Empty m (GoesOn m)
       Blocks : {s : Sight} {row : Statements} {m : Memory} {r : Came} → ElidesAll s row m r → Elides s (Block row) m r
@@ -192,13 +194,13 @@ module _ (p : Source) (inputs : List ℤ) where
       HighFails : {s : Sight} {a b : Expression} {n : ℕ} {m : Memory} (low : ℤ) (f : Fault) → evaluate inputs s m.store a ≡ Gives low → evaluate inputs s m.store b ≡ Fails f
           → Elides s (ParallelFor a b n) m (Faults f)
 
-    -- one statement after the other
+    -- statements in order
     pub data ElidesAll : Sight → Statements → Memory → Came → Type 0 where
       NoMore : {s : Sight} {m : Memory} → ElidesAll s Nothing m (GoesOn m)
       Follows : {s : Sight} {a : Statement} {row : Statements} {m : Memory} {r : Came} (m' : Memory) → Elides s a m (GoesOn m') → ElidesAll s row m' r → ElidesAll s (Then a row) m r
       Stops : {s : Sight} {a : Statement} {row : Statements} {m : Memory} {r : Came} → Elides s a m r → IsLast r → ElidesAll s (Then a row) m r
 
-    -- one variable of a declaration after the other
+    -- the variables of a declaration in order
     pub data ElidesEach : Sight → List Declaration → Memory → Came → Type 0 where
       NoneLeft : {s : Sight} {m : Memory} → ElidesEach s [] m (GoesOn m)
       Next : {s : Sight} {d : Declaration} {ds : List Declaration} {m : Memory} {r : Came} (m' : Memory) → ElidesOne s d m (GoesOn m') → ElidesEach s ds m' r → ElidesEach s (d ∷ ds) m r
@@ -210,7 +212,7 @@ module _ (p : Source) (inputs : List ℤ) where
           → r ≡ on_value (evaluate inputs s m.store e) (λ v. goes_on m (put (cell_at s (own_cell n)) v m.store)) → ElidesOne s (Opening n e) m r
       OpensByCall : {s : Sight} {m : Memory} {r : Came} (i : Invoke) → ElidesCall s i m r → ElidesOne s (Invoking i) m r
 
-    -- A loop: its condition, its body, its step.
+    -- a loop: its condition, its body, its step
     pub data ElidesLoop : Sight → Option Expression → Statements → Statement → Memory → Came → Type 0 where
       Done : {s : Sight} {test : Option Expression} {step : Statements} {a : Statement} {m : Memory} (v : ℤ)
           → evaluate_condition inputs s m.store test ≡ Gives v → is_zero v ≡ true → ElidesLoop s test step a m (GoesOn m)
@@ -223,7 +225,7 @@ module _ (p : Source) (inputs : List ℤ) where
       StepLeaves : {s : Sight} {test : Option Expression} {step : Statements} {a : Statement} {m : Memory} {r : Came} (v : ℤ) (m' : Memory)
           → evaluate_condition inputs s m.store test ≡ Gives v → is_zero v ≡ false → Elides s a m (GoesOn m') → ElidesAll s step m' r → IsLast r → ElidesLoop s test step a m r
 
-    -- so many turns of a parallel loop, from this value of its variable on, in ascending order
+    -- n turns of a parallel loop in ascending order, beginning with this value of its variable
     pub data ElidesTurns : Sight → ℕ → ℤ → ℕ → Memory → Came → Type 0 where
       NoTurns : {s : Sight} {n : ℕ} {v : ℤ} {m : Memory} → ElidesTurns s n v zero m (GoesOn m)
       Turned : {s : Sight} {n : ℕ} {v : ℤ} {k : ℕ} {m : Memory} {r : Came} (r' : Came) (w : ℤ) (m' : Memory)
@@ -234,14 +236,15 @@ module _ (p : Source) (inputs : List ℤ) where
       OneTurn : {s : Sight} {n : ℕ} {v : ℤ} {m : Memory} {r : Came} (l : Loop) → l ≡ loop_at p n
           → ElidesAll (home_in m [] ∷ s) l.body (turned l v m) r → ElidesTurn s n v m r
 
-    -- a function is called
+    -- a call of a function
     pub data ElidesCall : Sight → Invoke → Memory → Came → Type 0 where
       ArgumentFails : {s : Sight} {i : Invoke} {m : Memory} (f : Fault) → evaluate_all inputs s m.store i.arguments ≡ Fails f → ElidesCall s i m (Faults f)
       Called : {s : Sight} {i : Invoke} {m : Memory} {r : Came} (words : List ℤ) (f : Function) (r' : Came) → evaluate_all inputs s m.store i.arguments ≡ Gives words
           → f ≡ function_at p i.function → ElidesAll (home_in m (instances_in itself s i.reducers) ∷ []) f.body (entered f words m) r'
           → r ≡ on_ended r' (λ v. left_with (result_cell s i.result) v (clear_all nat_eq (λ n. m.reducers + n) 0 f.reducers)) → ElidesCall s i m r
 
-  -- as a program begins: its global cells have their values, its global reducers have begun
+  -- the memory when a program begins: global cells have their opening values, and global reducers
+  -- exist
   abbrev pub begins : Memory
   begins = record { store = opening p.openings; cells = length p.openings; reducers = length p.reducers }
 
@@ -250,6 +253,6 @@ module _ (p : Source) (inputs : List ℤ) where
   conclusion_of (Returns v m) = Leaves (outcome_of itself p v m.store)
   conclusion_of (Faults f) = StopsBy f
 
-  -- the program's elision on these inputs ends so
+  -- the program's elision on these inputs ends in this way
   abbrev pub IsElision : Conclusion → Type 0
   IsElision e = (r : Came) × (f : Function) × (f ≡ main_of p) × ElidesAll (home_in begins [] ∷ []) f.body (entered f [] begins) r × (e ≡ conclusion_of r)

@@ -1,4 +1,4 @@
--- What the asks of a frame name is there.
+-- The requests of a frame name only things that exist.
 use Rattle.std.specs.Prelude.{◌≡◌, ◌<◌, ◌⊎◌, ℕ, ℤ, pos, ◌-ℤ◌, ◌<ℤ◌, Bool, true, IsTrue, length, Option, Some, None}
 use Rattle.std.specs.Ordering.{int_eq}
 use Rattle.cilk_program.specs.declared.ask.Ask.{Ask}
@@ -17,13 +17,13 @@ body_of p callees.Root = bodies.Function p.main
 body_of p (callees.Function c) = bodies.Function c.function
 body_of p (callees.Loop l) = bodies.Loop l.number
 
--- a frame that halves the turns of a loop has no cells, and runs no statement
+-- false for a frame that halves the turns of a loop: it has no cells and runs no statement
 abbrev pub is_whole : Callee → Bool
 is_whole callees.Root = true
 is_whole (callees.Function c) = true
 is_whole (callees.Loop l) = int_eq (l.high -ℤ l.low) (pos 1)
 
--- what is called is there, and is given what it takes
+-- the called function exists, and gets the number of words that it takes
 pub record IsFit (p : Source) (words : ℕ) (function : ℕ) : Type 0 where
   pub here : function < length p.functions
   pub takes : let f = function_at p function in words ≡ f.words
@@ -33,7 +33,8 @@ CalleeIsFit p callees.Root = Unit {0}
 CalleeIsFit p (callees.Function c) = IsFit p (length c.words) c.function × (let f = function_at p c.function in IsTrue (have_kinds c.reducers f.given))
 CalleeIsFit p (callees.Loop l) = (l.number < length p.loops) × (l.low <ℤ l.high)
 
--- a frame that runs body b may begin this child: the loop stands in b, or is the one whose turns the frame halves
+-- A frame that runs body b may begin this child: the loop is directly in b, or it is the loop whose
+-- turns the frame halves.
 abbrev pub CalleeIsThere : Source → Body → Callee → Type 0
 CalleeIsThere p b callees.Root = ⊥
 CalleeIsThere p b (callees.Function c) =
@@ -47,7 +48,7 @@ IsTaken callees.Root = ⊥
 IsTaken (callees.Function c) = (x : Place) × (c.result ≡ Some x)
 IsTaken (callees.Loop l) = ⊥
 
--- an ask of a frame that runs this
+-- the request of a frame names only things that exist
 abbrev pub AskIsThere : Source → Callee → Ask → Type 0
 AskIsThere p callee asks.Begin = Unit {0}
 AskIsThere p callee (asks.Read x) = IsTrue (is_whole callee) × IsTrue (place_is_there p (body_of p callee) x)

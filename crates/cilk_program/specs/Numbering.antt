@@ -19,21 +19,21 @@ pub record Counts : Type 0 where
 abbrev pub counts_of : Memory → Counts
 counts_of m = record { frames = m.frames; cells = m.cells }
 
--- before the first frame
+-- the counts before the first frame
 abbrev pub unbegun : Source → Counts
 unbegun p = record { frames = 0; cells = length p.openings }
 
--- one frame more
+-- the counts with one more frame
 abbrev pub entered : Source → Callee → Counts → Counts
 entered p callee n = record { frames = suc n.frames; cells = n.cells + cells_of p callee }
 
--- after what a frame and its children do
+-- the counts after the run of a frame and its children
 abbrev pub counts_after : Source → Transcript → Counts → Counts
 counts_after p stop n = n
 counts_after p (act k a r) n = counts_after p r n
 counts_after p (child how callee u r) n = counts_after p r (counts_after p u (entered p callee n))
 
--- the frame that one that sees this begins next
+-- the next frame that a frame with this scope begins
 abbrev pub frame_of : Source → Scope ℕ Instance → Counts → Callee → Frame
 frame_of p scope n callee = record {
   callee = callee;
@@ -42,7 +42,7 @@ frame_of p scope n callee = record {
   result = result_of callee scope;
 }
 
--- the event of an ask that was answered so, where so many frames have begun
+-- the event of a request and its answer, when n frames have begun
 abbrev pub numbered : Frame → ℕ → Ask → ℤ → Event
 numbered fr n asks.Begin a = events.Begin fr.number
 numbered fr n (asks.Read x) a = events.Read (cell_at fr x) a
@@ -70,7 +70,7 @@ events_of p fr n (child how callee u r) =
 abbrev pub events_of_root : Source → Transcript → List Event
 events_of_root p r = events_of p (frame_of p [] (unbegun p) callees.Root) (entered p callees.Root (unbegun p)) r
 
--- a frame's number, its first cell, and how many it has
+-- a frame's number, its first cell, and how many cells it has
 pub record Block : Type 0 where
   pub number : ℕ
   pub first : ℕ
@@ -79,7 +79,8 @@ pub record Block : Type 0 where
 abbrev pub block_of : Source → Callee → Counts → Block
 block_of p callee n = record { number = suc n.frames; first = n.cells; cells = cells_of p callee }
 
--- From a point in a frame on, the frame to which a path leads: first so many children are passed over, then the next child's path follows.
+-- The frame at the end of a path, from a point in a frame. First, `k` children are skipped. Then
+-- the path continues in the next child.
 abbrev pub child_at : Source → Transcript → Counts → ℕ → List ℕ → Option Block
 child_at p stop n k path = None
 child_at p (act a v r) n k path = child_at p r n k path
@@ -87,17 +88,18 @@ child_at p (child how callee u r) n zero [] = Some (block_of p callee n)
 child_at p (child how callee u r) n zero (j ∷ path) = child_at p u (entered p callee n) j path
 child_at p (child how callee u r) n (suc k) path = child_at p r (counts_after p u (entered p callee n)) k path
 
--- the frame with this name: ordinals of invocations from 0, from the first frame down
+-- the frame with this name, a list of ordinals of invocations from 0, from the first frame down
 abbrev pub frame_at : Source → Transcript → List ℕ → Option Block
 frame_at p r [] = Some (block_of p callees.Root (unbegun p))
 frame_at p r (k ∷ path) = child_at p r (entered p callees.Root (unbegun p)) k path
 
--- two frames have different numbers, so their reducers are different instances, and their cells lie apart
+-- two frames have different numbers, so their reducers are different instances, and their cells are
+-- disjoint
 pub record Apart (f g : Block) : Type 0 where
   pub numbers : f.number ≢ g.number
   pub cells : (f.first + f.cells ≤ g.first) ⊎ (g.first + g.cells ≤ f.first)
 
--- names and numbers are tied one to one: two names of frames mean one frame, or frames that lie apart; and a frame's cells lie past the globals
+-- Names and numbers correspond one to one: two names mean the same frame, or frames that are apart.
 abbrev pub HasOneName : Source → Transcript → Type 0
 HasOneName p r = (path path' : List ℕ) (f g : Block) → frame_at p r path ≡ Some f → frame_at p r path' ≡ Some g → (path ≡ path') ⊎ Apart f g
 

@@ -1,4 +1,4 @@
--- In which order a frame's events come.
+-- The order of a frame's events.
 use Rattle.std.specs.Prelude.{◌≡◌, ℕ, suc, ℤ, pos, ◌-ℤ◌, Bool, true, false, if◌then◌else◌, List, [], ◌∷◌, ◌++◌}
 use Rattle.std.specs.Ordering.{int_eq}
 use Rattle.cilk_monoid.specs.declared.kind.MonoidKind.{MonoidKind}
@@ -13,25 +13,27 @@ use Rattle.cilk_program.specs.declared.syntax.ReducerPlace.TheVariants as reduce
 use Rattle.cilk_program.specs.Syntax.{Source, function_at, main_of}
 use Rattle.cilk_program.specs.SerialRun.{Transcript, stop, act, child}
 
--- a frame's first cells get the words that it is given
+-- writes the words that a frame is given to its first cells
 abbrev pub writings : ℕ → List ℤ → List Ask
 writings n [] = []
 writings n (v ∷ vs) = asks.Write (places.Local 0 n) v ∷ writings (suc n) vs
 
--- reducers with these monoids begin
+-- creates reducers with these monoids
 abbrev pub creations : (ℕ → ReducerPlace) → ℕ → List MonoidKind → List Ask
 creations place n [] = []
 creations place n (k ∷ ks) = asks.Create (record { place = place n; kind = k }) ∷ creations place (suc n) ks
 
--- what each frame does before it runs a statement: the first one creates the global reducers, a function gets its words and creates its reducers, and a
--- turn of a parallel loop gets its variable
+-- The requests of a frame before its first statement. The first frame creates the global reducers
+-- and its own. A function writes its words and creates its reducers. A single turn of a parallel
+-- loop writes its variable.
 abbrev pub opening_asks : Source → Callee → List Ask
 opening_asks p callees.Root = let f = main_of p in creations reducers.Global 0 p.reducers ++ creations (reducers.Own 0) 0 f.reducers
 opening_asks p (callees.Function c) = let f = function_at p c.function in writings 0 c.words ++ creations (reducers.Own 0) 0 f.reducers
 opening_asks p (callees.Loop l) = if int_eq (l.high -ℤ l.low) (pos 1) then asks.Write (places.Local 0 0) l.low ∷ [] else []
 
--- Where a frame stands: it hasn't begun; some of its opening asks are due; it runs statements, and may have spawned children since its last sync; a child
--- has just ended; it has just waited for its children; it has given its result.
+-- The stage of a frame. Fresh: it hasn't begun. Due: some opening requests are left. Going: it runs
+-- statements, and may have spawned children since its last sync. Resuming: a child has just ended.
+-- Synced: it has just waited for its children. Closing: it has given its result.
 pub data Stage : Type 0 where
   Fresh : (due : List Ask) → Stage
   Due : (first : Ask) (due : List Ask) → Stage
@@ -44,7 +46,7 @@ abbrev pub opened : List Ask → Stage
 opened [] = Going false
 opened (k ∷ due) = Due k due
 
--- among its statements a frame doesn't begin, create a reducer, resume, give a result or end
+-- while it runs statements, a frame doesn't begin, create a reducer, resume, give a result or end
 abbrev pub goes_on : Bool → Ask → (Stage → Type 0) → Type 0
 goes_on spawned asks.Begin go = ⊥
 goes_on spawned (asks.Read x) go = go (Going spawned)
@@ -62,13 +64,13 @@ goes_on spawned (asks.Result v) go = ⊥
 goes_on spawned (asks.End v) go = ⊥
 goes_on spawned (asks.Fault f) go = ⊥
 
--- right after a sync a frame may go on, give its result or end
+-- right after a sync, a frame may continue, give its result or end
 abbrev pub closes : Ask → (Stage → Type 0) → Type 0
 closes (asks.Result v) go = go Closing
 closes (asks.End v) go = Unit {0}
 closes k go = goes_on false k go
 
--- what may come next, and where the frame stands then
+-- the requests that may come next, and the frame's stage after them
 abbrev pub follows : Stage → Ask → (Stage → Type 0) → Type 0
 follows (Fresh due) k go = (k ≡ asks.Begin) × go (opened due)
 follows (Due first due) k go = (k ≡ first) × go (opened due)
@@ -77,13 +79,13 @@ follows (Resuming spawned) k go = (k ≡ asks.Resume) × go (Going spawned)
 follows Synced k go = closes k go
 follows Closing k go = (v : ℤ) × (k ≡ asks.End v)
 
--- an event of the frame itself starts no child, and nothing comes after its end
+-- an event of the frame itself begins no child, and nothing follows its end
 abbrev pub IsOwnAt : Ask → Transcript → Type 0
 IsOwnAt (asks.Invoke how callee) r = ⊥
 IsOwnAt (asks.End v) r = r ≡ stop
 IsOwnAt k r = Unit {0}
 
--- what a frame does from this stage on comes in order, and so does what its children do
+-- from this stage on, the events of a frame are in order, and so are those of its children
 abbrev pub IsOrderly : Source → Stage → Transcript → Type 0
 IsOrderly p s stop = Unit {0}
 IsOrderly p s (act k a r) = follows s k (λ s'. IsOrderly p s' r) × IsOwnAt k r

@@ -1,4 +1,4 @@
--- What the programs of the code stand for.
+-- The meaning of the code's programs as sources.
 use Rattle.std.specs.Prelude.{ℕ, ℤ, List, [], ◌∷◌, map, Option, Some, None}
 use Rattle.cilk_monoid.specs.declared.kind.MonoidKind.{MonoidKind}
 use Rattle.cilk_program.specs.declared.syntax.Expr as exprs
@@ -65,7 +65,7 @@ abbrev mutual
   row_view stmts.end_of-Stmt = Nothing
   row_view (stmts.more_of-Stmt s row) = Then (statement s) (row_view row)
 
--- one after the other
+-- the statements of a list, in order
 abbrev pub statements : List stmts.Stmt → Statements
 statements [] = Nothing
 statements (s ∷ list) = Then (statement s) (statements list)
@@ -76,6 +76,6 @@ function f = record { words = f.words; given = f.given; cells = f.cells; reducer
 abbrev pub loop : declared_loops.Loop → Loop
 loop l = record { within = l.within; cells = l.cells; body = statements l.body.items }
 
--- what these parts mean together
+-- the source that these parts make
 abbrev pub source_of : List ℤ → List GlobalReducer → List declared_functions.Function → List declared_loops.Loop → ℕ → Source
 source_of globals reducers functions loops main = record { openings = globals; reducers = map (λ r. r.kind) reducers; functions = map function functions; loops = map loop loops; main = main }

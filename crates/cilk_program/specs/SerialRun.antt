@@ -1,5 +1,5 @@
--- The serial run of a program: what its frames ask for, one event after the other, answered from one store. A child runs
--- where it is called or spawned, and its parent goes on once it has ended.
+-- The serial run of a program: the requests of its frames, one at a time, answered from one store.
+-- A child runs where it is called or spawned, and its parent continues when it has ended.
 use Rattle.std.specs.Prelude.{◌≡◌, ℕ, zero, suc, ◌+◌, ◌-◌, nat_eq, nat_lt, ℤ, pos, ◌-ℤ◌, if◌then◌else◌, List, [], ◌∷◌, ◌++◌, length, drop, Option, Some, None}
 use Rattle.std.specs.Option.{option_map}
 use Rattle.std.specs.Ordering.{int_eq}
@@ -26,21 +26,22 @@ use Rattle.cilk_program.specs.Store.{Store, opening, put, print, clear, clear_al
 use Rattle.cilk_program.specs.Behaviour.{asks_for, frame_asks}
 use Rattle.cilk_program.specs.Outcomes.{Conclusion, Leaves, StopsBy, outcome_of}
 
--- What a frame does, from its beginning or from some event on: an ask with its answer, or a child with what that does.
--- Places are those that the frame names.
+-- The run of a frame, from its beginning or from a later event: a request with its answer, or a
+-- child with its run. Places are those that the frame names.
 pub data Transcript : Type 0 where
   stop : Transcript
   act : (ask : Ask) (answer : ℤ) (rest : Transcript) → Transcript
   child : (how : Invocation) (callee : Callee) (inner : Transcript) (rest : Transcript) → Transcript
 
--- The store; how many frames have begun and how many cells there are, the globals first; and the events still allowed.
+-- The store; how many frames have begun and how many cells there are, the globals first; and the
+-- number of events still allowed.
 pub record Memory : Type 0 where
   pub store : Store Instance
   pub frames : ℕ
   pub cells : ℕ
   pub room : ℕ
 
--- A frame: what it runs, its number, what it sees, and the cell that its result goes to.
+-- A frame: its callee, its number, what it sees, and the cell that receives its result.
 pub record Frame : Type 0 where
   pub callee : Callee
   pub number : ℕ
@@ -60,29 +61,29 @@ cell_at fr x = cell_in itself fr.scope x
 abbrev pub reducer_at : Frame → Reducer → Instance
 reducer_at fr r = instance_in global_reducer fr.scope r.place
 
--- the place of a frame's own first reducer; in the root those of the globals come first
+-- the place of a frame's own first reducer; the root's follow the global ones
 abbrev pub first_place : Source → Callee → ℕ
 first_place p callees.Root = suc (length p.reducers)
 first_place p (callees.Function c) = 1
 first_place p (callees.Loop l) = 1
 
--- the monoids of the reducers that a frame creates for itself
+-- the monoids of the reducers that a frame declares
 abbrev pub own_reducers : Source → Callee → List MonoidKind
 own_reducers p callees.Root = let f = main_of p in f.reducers
 own_reducers p (callees.Function c) = let f = function_at p c.function in f.reducers
 own_reducers p (callees.Loop l) = []
 
--- the cells of a frame; one that halves the turns of a loop has none
+-- the number of a frame's cells; a frame that halves the turns of a loop has none
 abbrev pub cells_of : Source → Callee → ℕ
 cells_of p callees.Root = let f = main_of p in f.cells
 cells_of p (callees.Function c) = let f = function_at p c.function in f.cells
 cells_of p (callees.Loop l) = let body = loop_at p l.number in if int_eq (l.high -ℤ l.low) (pos 1) then body.cells else 0
 
--- a frame with this number whose cells begin at this one
+-- the home of a frame with this number, whose cells begin at `base`
 abbrev pub home_of : Source → Callee → ℕ → ℕ → List Instance → Home ℕ Instance
 home_of p callee number base given = record { cells = λ n. base + n; own = λ n. record { frame = number; place = first_place p callee + n }; given = given }
 
--- the frames that a frame's body stands in, by static links
+-- the frames around a frame's body, by static links
 abbrev pub outer_of : Callee → Scope ℕ Instance → Scope ℕ Instance
 outer_of callees.Root scope = []
 outer_of (callees.Function c) scope = []
@@ -98,7 +99,7 @@ result_of callees.Root scope = None
 result_of (callees.Function c) scope = option_map (cell_in itself scope) c.result
 result_of (callees.Loop l) scope = None
 
--- a frame that one that sees this begins next
+-- the next frame that a frame with this scope begins
 abbrev pub next_frame : Source → Scope ℕ Instance → Memory → Callee → Frame
 next_frame p scope m callee = record {
   callee = callee;
@@ -107,19 +108,19 @@ next_frame p scope m callee = record {
   result = result_of callee scope;
 }
 
--- with one frame more
+-- with one more frame
 abbrev pub begun : Source → Callee → Memory → Memory
 begun p callee m = record { store = m.store; frames = suc m.frames; cells = m.cells + cells_of p callee; room = m.room }
 
--- with one event more
+-- with one event fewer allowed
 abbrev pub counted : Memory → Memory
 counted m = record m { room = m.room - 1 }
 
--- with another store, after one event more
+-- with another store, and one event fewer allowed
 abbrev pub with_store : Memory → Store Instance → Memory
 with_store m store = record { store = store; frames = m.frames; cells = m.cells; room = m.room - 1 }
 
--- what an ask is answered; 0 where nobody waits for it
+-- the answer to a request; 0 for one without a result
 abbrev pub answer_to : Frame → Memory → Ask → ℤ
 answer_to fr m asks.Begin = pos 0
 answer_to fr m (asks.Read x) = m.store.cells (cell_at fr x)
@@ -136,7 +137,7 @@ answer_to fr m (asks.Result v) = pos 0
 answer_to fr m (asks.End v) = pos 0
 answer_to fr m (asks.Fault f) = pos 0
 
--- a cell that may be absent is written
+-- writes a cell, if there is one
 abbrev pub put_result : Option ℕ → ℤ → Store Instance → Store Instance
 put_result None v m = m
 put_result (Some c) v m = put c v m
@@ -144,7 +145,7 @@ put_result (Some c) v m = put c v m
 abbrev pub own_from : Source → Frame → ℕ → Instance
 own_from p fr n = record { frame = fr.number; place = first_place p fr.callee + n }
 
--- the store after the event of an ask; a frame's own reducers are retired with its end
+-- the store after the event of a request; the end of a frame retires its own reducers
 abbrev pub stored : Source → Frame → Memory → Ask → Store Instance
 stored p fr m asks.Begin = m.store
 stored p fr m (asks.Read x) = m.store
@@ -169,7 +170,7 @@ abbrev pub result_written : Option ℕ → ℤ → Event
 result_written None v = events.Write 0 v
 result_written (Some c) v = events.Write c v
 
--- the event of an ask, by numbers
+-- the event of a request, with numbers in place of names
 abbrev pub event_of : Frame → Memory → Ask → Event
 event_of fr m asks.Begin = events.Begin fr.number
 event_of fr m (asks.Read x) = events.Read (cell_at fr x) (m.store.cells (cell_at fr x))
@@ -186,17 +187,18 @@ event_of fr m (asks.Result v) = result_written fr.result v
 event_of fr m (asks.End v) = events.End
 event_of fr m (asks.Fault f) = events.End
 
--- the fault that stands in place of one more event, if any
+-- the fault instead of one more event, if any
 abbrev pub full : Memory → Option Fault
 full m = if nat_eq m.room 0 then Some TooManyEvents else None
 
--- the fault that stands in place of one more frame: too many events before too many frames before too many cells
+-- The fault instead of one more frame, if any. The limit of events is checked first, then frames,
+-- then cells.
 abbrev pub crowded : Source → Callee → Memory → Option Fault
 crowded p callee m =
     if nat_eq m.room 0 then Some TooManyEvents
     else (if nat_lt m.frames MAX_FRAMES then (if nat_lt MAX_CELLS (m.cells + cells_of p callee) then Some TooManyCells else None) else Some TooManyFrames)
 
--- the fault that stands in place of the event of an ask, if any
+-- the fault instead of the event of a request, if any
 abbrev pub refused : Source → Memory → Ask → Option Fault
 refused p m asks.Begin = full m
 refused p m (asks.Read x) = full m
@@ -213,7 +215,7 @@ refused p m (asks.Result v) = full m
 refused p m (asks.End v) = full m
 refused p m (asks.Fault f) = Some f
 
--- an ask after whose event the frame goes on at once
+-- a request after whose event the frame continues at once
 abbrev pub IsInner : Ask → Type 0
 IsInner asks.Begin = Unit {0}
 IsInner (asks.Read x) = Unit {0}
@@ -230,14 +232,16 @@ IsInner (asks.Result v) = Unit {0}
 IsInner (asks.End v) = ⊥
 IsInner (asks.Fault f) = ⊥
 
--- how a frame ends: with a value, so many ticks left, and what memory then is; or the run is stopped by a fault
+-- how a frame ends: with a value, the ticks left and the memory then, or the run is stopped by a
+-- fault
 pub data Ending : Type 0 where
   Finished : (value : ℤ) (left : ℕ) (memory : Memory) → Ending
   Stopped : (fault : Fault) → Ending
 
 module _ (p : Source) (inputs : List ℤ) where
-  -- A frame, after this history of answers, over this memory: what it does, the events that it and its children make, and
-  -- how that ends. `start` is the ticks that were left as the frame began, less those that other frames took since.
+  -- The run of a frame after this history of answers, over this memory: its transcript, the events
+  -- of it and its children, and how it ends. `start` is the number of ticks that were left when the
+  -- frame began, less those that other frames have used since.
   pub data Serial : (frame : Frame) (start : ℕ) (history : List ℤ) → Memory → Transcript → List Event → Ending → Type 0 where
     Made : {fr : Frame} {start : ℕ} {history : List ℤ} {m : Memory} {r : Transcript} {es : List Event} {end : Ending} (k : Ask) (left : ℕ)
         → frame_asks p inputs fr.callee history start ≡ asks_for k left → IsInner k → refused p m k ≡ None
@@ -260,7 +264,8 @@ module _ (p : Source) (inputs : List ℤ) where
         → frame_asks p inputs fr.callee history start ≡ asks_for k left → refused p m k ≡ Some f
         → Serial fr start history m stop [] (Stopped f)
 
-  -- as a program begins: its global cells have their values, and no frame has begun
+  -- the memory when a program begins: global cells have their opening values, and no frame has
+  -- begun
   abbrev pub before_root : ℕ → Memory
   before_root room = record { store = opening p.openings; frames = 0; cells = length p.openings; room = room }
 
@@ -271,7 +276,7 @@ module _ (p : Source) (inputs : List ℤ) where
   conclusion_of (Finished v left m) = Leaves (outcome_of global_reducer p v m.store)
   conclusion_of (Stopped f) = StopsBy f
 
-  -- the serial run of a program on these inputs, within so many ticks and events
+  -- the serial run of a program on these inputs, within the given ticks and events
   abbrev pub IsSerialRunWithin : ℕ → ℕ → Transcript → List Event → Conclusion → Type 0
   IsSerialRunWithin ticks room r es c =
       (end : Ending) × Serial root_frame ticks [] (begun p callees.Root (before_root room)) r es end × (c ≡ conclusion_of end)

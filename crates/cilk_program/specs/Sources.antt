@@ -1,4 +1,4 @@
--- What a program of the code means.
+-- The source that a program of the code means.
 use Rattle.cilk_program.specs.declared.program.Program.{Program}
 use Rattle.cilk_program.specs.Syntax.{Source}
 use Rattle.cilk_program.specs.Programs.{source_of}

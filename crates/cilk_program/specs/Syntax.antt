@@ -1,4 +1,4 @@
--- Resolved programs without where they lie in memory.
+-- Resolved programs as mathematical values, without their representation in memory.
 use Rattle.std.specs.Prelude.{ℕ, ◌+◌, nat_lt, ℤ, pos, negsuc, if◌then◌else◌, List, [], ◌∷◌, Option, Some, None, slice_get, unwrap_or}
 use Rattle.cilk_monoid.specs.declared.kind.MonoidKind.{MonoidKind}
 use Rattle.cilk_program.specs.declared.syntax.Operator.{Operator}
@@ -26,12 +26,12 @@ pub data Expression : Type 0 where
   Input : (place : Expression) → Expression
   InputCount : Expression
 
--- what is written to
+-- the target of an assignment
 pub data Target : Type 0 where
   ToVariable : (place : Place) → Target
   ToElement : (array : Array) (index : Expression) → Target
 
--- a call or spawn of a function, and the variable that takes the result
+-- a call or spawn of a function, and the variable that receives the result
 pub record Invoke : Type 0 where
   pub how : Invocation
   pub function : ℕ
@@ -39,7 +39,7 @@ pub record Invoke : Type 0 where
   pub reducers : List Reducer
   pub result : Option Place
 
--- one variable of a declaration, by its place among the frame's cells
+-- one variable of a declaration, by its index among the frame's cells
 pub data Declaration : Type 0 where
   Zero : (number : ℕ) → Declaration
   Opening : (number : ℕ) (value : Expression) → Declaration
@@ -68,8 +68,9 @@ mutual
     Nothing : Statements
     Then : (first : Statement) (row : Statements) → Statements
 
--- a function: how many of its parameters are words, the monoids of those that are reducers, the cells of its frame (its words first), the monoids of
--- the reducers that its frame creates, and its body
+-- A function: the number of its word parameters, the monoids of its reducer parameters, the number
+-- of its frame's cells (its words first), the monoids of the reducers that it declares, and its
+-- body.
 pub record Function : Type 0 where
   pub words : ℕ
   pub given : List MonoidKind
@@ -77,13 +78,14 @@ pub record Function : Type 0 where
   pub reducers : List MonoidKind
   pub body : Statements
 
--- a parallel loop: what it stands in, the cells of the frame of a turn (the loop's variable first), and its body
+-- A parallel loop: the body that contains it, the number of cells of a turn's frame (the loop's
+-- variable first), and its body.
 pub record Loop : Type 0 where
   pub within : Body
   pub cells : ℕ
   pub body : Statements
 
--- what a program means depends on this alone
+-- a program's meaning depends only on this
 pub record Source : Type 0 where
   pub openings : List ℤ
   pub reducers : List MonoidKind
@@ -113,12 +115,12 @@ abbrev pub element : Array → ℤ → Option Place
 element a (pos n) = if nat_lt n a.length then Some (places.Global (a.first + n)) else None
 element a (negsuc n) = None
 
--- where a target lies, once its index is known; none outside its array
+-- the place of a target, given its index; none outside its array
 abbrev pub place_of : Target → ℤ → Option Place
 place_of (ToVariable x) i = Some x
 place_of (ToElement a e) i = element a i
 
--- the number in a reducer's place
+-- the index in a reducer's place
 abbrev pub number_in : ReducerPlace → ℕ
 number_in (reducers.Global n) = n
 number_in (reducers.Own up n) = n

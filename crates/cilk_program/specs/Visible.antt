@@ -1,5 +1,6 @@
--- What a frame sees is there. What cells and reducers are known by, and what it takes for one of them to be there, is for each
--- use to say: numbers below a count, or names of frames that have begun.
+-- Everything that a frame sees exists. The identity of cells and reducers, and the meaning of
+-- existence, are parameters: numbers below a count, for example, or names of frames that have
+-- begun.
 use Rattle.std.specs.Prelude.{◌≡◌, ◌<◌, ◌⊎◌, ℕ, Bool, IsTrue, [], ◌∷◌, length, drop, slice_get, Option, Some, None}
 use Rattle.std.specs.Prelude.{unwrap_or}
 use Rattle.std.specs.Option.{option_map}
@@ -16,13 +17,13 @@ use Rattle.cilk_program.specs.Scopes.{Home, Scope, cell_in, instance_in, instanc
 use Rattle.cilk_program.specs.WellNamed.{is_kind, place_is_there, reducer_is_there}
 use Rattle.cilk_program.specs.Inside.{body_of, is_whole, CalleeIsFit, CalleeIsThere, IsTaken}
 
--- a part of the turns that the parent halves: its frame stands in what the parent's stands in
+-- half of the turns that the parent halves: its frame has the same static link as the parent's
 abbrev pub IsHalf : Callee → Type 0
 IsHalf callees.Root = ⊥
 IsHalf (callees.Function c) = ⊥
 IsHalf (callees.Loop l) = l.up ≡ 1
 
--- a frame that halves turns begins halves alone
+-- a frame that halves turns begins only halves
 abbrev pub CanInvoke : Callee → Callee → Type 0
 CanInvoke parent callee = IsTrue (is_whole parent) ⊎ IsHalf callee
 
@@ -33,26 +34,28 @@ module _ {C I : Type 0} (p : Source) (global_cell : ℕ → C) (global_instance 
     pub reducers : (n : ℕ) (k : MonoidKind) → IsTrue (is_kind (slice_get p.reducers n) k)
         → HasReducer (global_instance n) k
 
-  -- what body b names means cells and reducers that are there
+  -- the places that body b names mean cells and reducers that exist
   pub record Sees (b : Body) (scope : Scope C I) : Type 0 where
     pub cells : (x : Place) → IsTrue (place_is_there p b x) → HasCell (cell_in global_cell scope x)
     pub reducers : (r : ReducerPlace) (k : MonoidKind) → IsTrue (reducer_is_there p b r k)
         → HasReducer (instance_in global_instance scope r) k
 
-  -- a loop's frame sees by its static link what the loop stands in
+  -- a loop's frame sees, by its static link, everything around the loop
   abbrev pub SeesOuter : Callee → Scope C I → Type 0
   SeesOuter callees.Root scope = Unit {0}
   SeesOuter (callees.Function c) scope = Unit {0}
   SeesOuter (callees.Loop l) scope = let body = loop_at p l.number in Sees body.within (drop 1 scope)
 
-  -- what a frame sees that runs this in this scope, and the cell that takes its result
+  -- a frame with this callee and scope sees only what exists, and the cell that receives its result
+  -- exists
   pub record FrameSees (callee : Callee) (scope : Scope C I) (target : Option C) : Type 0 where
     pub fit : CalleeIsFit p callee
     pub own : IsTrue (is_whole callee) → Sees (body_of p callee) scope
     pub outer : SeesOuter callee scope
     pub result : IsTaken callee → (c : C) × (target ≡ Some c) × HasCell c
 
-  -- the first frame does, where its own cells and reducers are there, and those that it is given
+  -- the first frame has this property, if its own cells and reducers and those that it is given
+  -- exist
   abbrev pub RootSees : Type 0
   RootSees =
       (home : Home C I) → let f = main_of p in GlobalsAreThere → ((n : ℕ) → n < f.cells → HasCell (home.cells n))
@@ -61,7 +64,7 @@ module _ {C I : Type 0} (p : Source) (global_cell : ℕ → C) (global_instance 
       → HasReducer (unwrap_or (slice_get home.given n) (global_instance n)) k)
       → FrameSees callees.Root (home ∷ []) None
 
-  -- so does the frame of a function that is called, where its own cells and reducers are there
+  -- so does the frame of a called function, if its own cells and reducers exist
   abbrev pub CalledSees : Type 0
   CalledSees =
       (parent : Callee) (scope : Scope C I) (target : Option C) (c : FunctionCall) (cells : ℕ → C) (own : ℕ → I)
@@ -73,7 +76,7 @@ module _ {C I : Type 0} (p : Source) (global_cell : ℕ → C) (global_instance 
       → ((n : ℕ) (k : MonoidKind) → IsTrue (is_kind (slice_get f.reducers n) k) → HasReducer (own n) k)
       → FrameSees (callees.Function c) (home ∷ []) (option_map (cell_in global_cell scope) c.result)
 
-  -- and so does a frame that runs turns of a loop, where its own cells are there, if it runs one turn
+  -- so does a frame of a loop's turns, if its own cells exist in the case of a single turn
   abbrev pub PartSees : Type 0
   PartSees =
       (parent : Callee) (scope : Scope C I) (target : Option C) (l : LoopPart) (home : Home C I)
@@ -83,8 +86,8 @@ module _ {C I : Type 0} (p : Source) (global_cell : ℕ → C) (global_instance 
       → (IsTrue (is_whole (callees.Loop l)) → (n : ℕ) → n < body.cells → HasCell (home.cells n))
       → FrameSees (callees.Loop l) (home ∷ drop l.up scope) None
 
--- A well-named program's frames see what is there, whatever numbers cells and reducers are known by, and whichever of them
--- are there. The lemmas say it of any names in place of numbers.
+-- Frames of a well-named program see only what exists, however cells and reducers are numbered, and
+-- whichever of them exist. The lemmas hold for any names in place of numbers.
 module _ (p : Source) (global_cell global_instance : ℕ → ℕ)
     (has_cell : ℕ → Bool) (has_reducer : ℕ → MonoidKind → Bool) where
   pub record FramesSee : Type 0 where

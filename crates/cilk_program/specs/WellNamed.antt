@@ -1,4 +1,4 @@
--- Programs in which each name means something that is there.
+-- Programs in which every name refers to something that exists.
 use Rattle.std.specs.Prelude.{ℕ, zero, suc, ◌+◌, nat_eq, nat_lt, Bool, true, false, not, ◌&&◌, List, [], ◌∷◌, length, slice_get, Option, Some, None}
 use Rattle.cilk_monoid.specs.declared.kind.MonoidKind.{MonoidKind}
 use Rattle.cilk_monoid.specs.Kinds.{same_kind}
@@ -12,7 +12,8 @@ use Rattle.cilk_program.specs.declared.syntax.ReducerPlace.{ReducerPlace}
 use Rattle.cilk_program.specs.declared.syntax.ReducerPlace.TheVariants as reducers
 use Rattle.cilk_program.specs.Syntax.{Expression, Number, Variable, Element, Negate, Not, Binary, And, Or, Value, Input, InputCount, Target, ToVariable, ToElement, Invoke, Declaration, Zero, Opening, Invoking, Statement, Empty, Block, Declare, Assign, Change, Step, Invokes, Sync, If, IfElse, For, ParallelFor, Print, Update, Set, Return, Statements, Nothing, Then, Function, Loop, Source, function_at, main_of, loop_at}
 
--- what a body's frame has: its cells, the monoids of the reducers that it creates and of those that it is given
+-- the cells of a body's frame, the monoids of the reducers that it creates, and of those that it is
+-- given
 pub record Level : Type 0 where
   pub cells : ℕ
   pub own : List MonoidKind
@@ -24,13 +25,13 @@ function_level f = record { cells = f.cells; own = f.reducers; given = f.given }
 abbrev pub loop_level : Loop → Level
 loop_level l = record { cells = l.cells; own = []; given = [] }
 
--- a body's level, then those that it stands in, at most so many
+-- a body's level, then those of the bodies around it, at most n
 abbrev pub levels : ℕ → Source → Body → List Level
 levels zero p b = []
 levels (suc n) p (bodies.Function k) = function_level (function_at p k) ∷ []
 levels (suc n) p (bodies.Loop k) = let l = loop_at p k in loop_level l ∷ levels n p l.within
 
--- all of them: a loop stands in a function, or in an earlier loop
+-- all levels of a body; a loop is contained in a function or in an earlier loop
 abbrev pub levels_of : Source → Body → List Level
 levels_of p b = levels (suc (length p.loops)) p b
 
@@ -53,7 +54,7 @@ abbrev pub has_given : Option Level → ℕ → MonoidKind → Bool
 has_given None n k = false
 has_given (Some l) n k = is_kind (slice_get l.given n) k
 
--- reducers with these monoids, in order
+-- reducers have these monoids, in order
 abbrev pub have_kinds : List Reducer → List MonoidKind → Bool
 have_kinds [] [] = true
 have_kinds [] (k ∷ ks) = false
@@ -79,7 +80,7 @@ module _ (p : Source) (b : Body) where
   reducer_is_there (reducers.Own up n) k = has_own (slice_get (levels_of p b) up) n k
   reducer_is_there (reducers.Given up n) k = has_given (slice_get (levels_of p b) up) n k
 
-  -- each thing that an expression names
+  -- everything that an expression names exists
   abbrev pub expression_is_named : Expression → Bool
   expression_is_named (Number n) = true
   expression_is_named (Variable x) = place_is_there x
@@ -113,7 +114,7 @@ module _ (p : Source) (b : Body) where
   reducers_are_there [] = true
   reducers_are_there (r ∷ rs) = reducer_is_there r.place r.kind && reducers_are_there rs
 
-  -- the function is there, and is given what it takes
+  -- the function exists, and gets the arguments that it takes
   abbrev pub invoke_is_named : Invoke → Bool
   invoke_is_named i =
       let f = function_at p i.function in
@@ -129,7 +130,7 @@ module _ (p : Source) (b : Body) where
   declarations_are_named [] = true
   declarations_are_named (d ∷ ds) = declaration_is_named d && declarations_are_named ds
 
-  -- the loop is there, and stands in this body
+  -- the loop exists, and is directly in this body
   abbrev pub loop_is_there : ℕ → Bool
   loop_is_there n = let l = loop_at p n in nat_lt n (length p.loops) && same_body l.within b
 
@@ -156,7 +157,7 @@ module _ (p : Source) (b : Body) where
     row_is_named Nothing = true
     row_is_named (Then s row) = statement_is_named s && row_is_named row
 
--- what a loop stands in is there, and is no later loop
+-- the body around a loop is a function that exists or an earlier loop
 abbrev pub stands_in : Source → ℕ → Body → Bool
 stands_in p n (bodies.Function k) = nat_lt k (length p.functions)
 stands_in p n (bodies.Loop k) = nat_lt k n
@@ -167,7 +168,7 @@ function_is_named p k f = at_most f.words f.cells && at_most f.cells 256 && at_m
 abbrev pub loop_is_named : Source → ℕ → Loop → Bool
 loop_is_named p n l = nat_lt 0 l.cells && at_most l.cells 256 && stands_in p n l.within && row_is_named p (bodies.Loop n) l.body
 
--- those of a list, from this number on
+-- the functions of a list, numbered from k
 abbrev pub functions_are_named : Source → ℕ → List Function → Bool
 functions_are_named p k [] = true
 functions_are_named p k (f ∷ fs) = function_is_named p k f && functions_are_named p (suc k) fs
@@ -176,11 +177,11 @@ abbrev pub loops_are_named : Source → ℕ → List Loop → Bool
 loops_are_named p n [] = true
 loops_are_named p n (l ∷ ls) = loop_is_named p n l && loops_are_named p (suc n) ls
 
--- main takes nothing
+-- main has no parameters
 abbrev pub main_is_plain : Function → Bool
 main_is_plain f = nat_eq f.words 0 && nat_eq (length f.given) 0
 
--- within the limits of a program
+-- all names refer to something, and the program is within its limits
 abbrev pub is_well_named : Source → Bool
 is_well_named p =
     at_most (length p.openings) 1000000 && at_most (length p.reducers) 64 && nat_lt p.main (length p.functions) && main_is_plain (main_of p)

@@ -1,4 +1,4 @@
--- Worked programs of one frame, and what they do.
+-- Worked programs of one frame, with their events and outcomes.
 use Rattle.std.specs.Prelude.{◌≡◌, ℕ, ◌-◌, ℤ, pos, negsuc, List, [], ◌∷◌, length, Some}
 use Rattle.cilk_types.specs.declared.fault.Fault.TheVariants.{DivisionByZero, IndexOutside, InputOutside, TooManyEvents}
 use Rattle.cilk_types.specs.declared.event.Event.{Event}
@@ -16,25 +16,25 @@ use Rattle.cilk_program.specs.Outcomes.{Conclusion, Leaves, StopsBy}
 use Rattle.cilk_program.specs.SerialRun.{Transcript, IsSerialRun, IsSerialRunWithin}
 use Rattle.cilk_program.specs.Numbering.{counts_after, entered, unbegun}
 
--- the program's serial run makes these events, and ends so
+-- the program's serial run makes these events, and ends in this way
 abbrev pub Makes : Source → List ℤ → List Event → Conclusion → Type 0
 Makes p inputs es c = (r : Transcript) × IsSerialRun p inputs r es c
 
--- within so many ticks and events
+-- the same within the given ticks and events
 abbrev pub MakesWithin : ℕ → ℕ → Source → List ℤ → List Event → Conclusion → Type 0
 MakesWithin ticks room p inputs es c = (r : Transcript) × IsSerialRunWithin p inputs ticks room r es c
 
--- it makes so many events in so many frames, and ends so
+-- it makes n events in k frames, and ends in this way
 abbrev pub EndsAfter : ℕ → ℕ → Source → List ℤ → Conclusion → Type 0
 EndsAfter n frames p inputs c =
     (r : Transcript) × (es : List Event) × (length es ≡ n) × ((counts_after p r (entered p callees.Root (unbegun p))).frames ≡ frames) × IsSerialRun p inputs r es c
 
--- one statement after the other
+-- statements in order
 abbrev pub row : List Statement → Statements
 row [] = Nothing
 row (s ∷ list) = Then s (row list)
 
--- a function without parameters or reducers of its own, whose frame has so many cells
+-- a function without parameters or reducers of its own, whose frame has n cells
 abbrev pub plain : ℕ → List Statement → Function
 plain cells list = record { words = 0; given = []; cells = cells; reducers = []; body = row list }
 
@@ -107,7 +107,9 @@ EndlessStops = Makes endless [] (event.Begin 1 ∷ []) (StopsBy TooManyEvents)
 abbrev pub least : ℤ
 least = negsuc 9223372036854775807
 
--- int m; int main() { m = -9223372036854775807 - 1; print(m / -1); print(m % -1); print(-7 / 2); print(-7 % 2); return m * 2; }
+-- int m;
+-- int main() { m = -9223372036854775807 - 1; print(m / -1); print(m % -1); print(-7 / 2); print(-7
+-- % 2); return m * 2; }
 abbrev pub edges : Source
 edges =
     single (pos 0 ∷ []) 0
@@ -126,7 +128,10 @@ EdgesRun =
     ∷ event.Print (negsuc 2) ∷ event.Print (negsuc 0) ∷ event.Read 0 least ∷ event.Sync ∷ event.End ∷ [])
     (leaving (pos 0) (least ∷ []) (least ∷ pos 0 ∷ negsuc 2 ∷ negsuc 0 ∷ []))
 
--- int main() { int m = -9223372036854775807 - 1; print(m / -1); print(m % -1); print(-7 / 2); print(-7 % 2); return m * 2; }
+-- int main() {
+-- int m = -9223372036854775807 - 1;
+-- print(m / -1); print(m % -1); print(-7 / 2); print(-7 % 2); return m * 2;
+-- }
 abbrev pub local_edges : Source
 local_edges =
     single [] 1
@@ -161,7 +166,7 @@ short_input = single [] 0 (Print (Input (num 0)) ∷ returns (Input (num 1)) ∷
 abbrev pub ShortInputStops : Type 0
 ShortInputStops = Makes short_input (pos 5 ∷ []) (event.Begin 1 ∷ event.Print (pos 5) ∷ []) (StopsBy InputOutside)
 
--- print each of these, and return 0
+-- prints each of these, and returns 0
 abbrev pub printing : List Expression → List Statement
 printing [] = returns (num 0) ∷ []
 printing (e ∷ list) = Print e ∷ printing list
@@ -177,7 +182,7 @@ on_two op a b = Binary op (num a) (num b)
 abbrev pub faulty : Expression
 faulty = on_two Divide 1 0
 
--- each operator; the second sum wraps, and what faults is skipped
+-- each operator; the second sum wraps, and the operands with a fault are skipped
 abbrev pub each_operator : List Expression
 each_operator =
     on_two Add 1 2 ∷ on_two Add 9223372036854775807 1 ∷ on_two Subtract 5 7 ∷ Binary Multiply (num 3) (Negate (num 4)) ∷ on_two Divide 7 2 ∷ Binary Remainder (num 7) (Negate (num 2))
@@ -204,7 +209,9 @@ OperatorsRun = Makes operators (pos 5 ∷ pos 6 ∷ []) (event.Begin 1 ∷ print
 abbrev pub add_to : ℕ → Statement
 add_to n = set_global 0 (Binary Add (global 0) (num n))
 
--- int g; int main() { if (1) g = 1; if (0) g = 2; if (g) g = g + 10; else g = 3; if (0) g = 4; else g = g + 100; while (1) { ; return g; print(9); } return 5; }
+-- int g;
+-- int main() { if (1) g = 1; if (0) g = 2; if (g) g = g + 10; else g = 3; if (0) g = 4; else g = g
+-- + 100; while (1) { ; return g; print(9); } return 5; }
 abbrev pub branches : Source
 branches =
     single (pos 0 ∷ []) 0
@@ -228,11 +235,12 @@ no_return = single (pos 4 ∷ pos 8 ∷ []) 0 (set_global 0 (global 1) ∷ set_g
 abbrev pub NoReturnRuns : Type 0
 NoReturnRuns = Makes no_return [] (event.Begin 1 ∷ event.Read 1 (pos 8) ∷ event.Write 0 (pos 8) ∷ event.Write 1 (pos 9) ∷ event.Sync ∷ event.End ∷ []) (leaving (pos 0) (pos 8 ∷ pos 9 ∷ []) [])
 
--- the global array that begins with the first cell
+-- a global array of this length, from the first cell on
 abbrev pub array : ℕ → Array
 array length = record { first = 0; length = length }
 
--- int a[3]; int main() { for (int i = 0; i < 3; i++) a[i] += i + 1; a[1] -= 5; return a[0] + a[2]; }
+-- int a[3];
+-- int main() { for (int i = 0; i < 3; i++) a[i] += i + 1; a[1] -= 5; return a[0] + a[2]; }
 abbrev pub sums : Source
 sums =
     single (pos 0 ∷ pos 0 ∷ pos 0 ∷ []) 1
@@ -251,14 +259,16 @@ SumsRun =
     ∷ event.Read 3 (pos 3) ∷ event.Read 1 (pos 2) ∷ event.Write 1 (negsuc 2) ∷ event.Read 0 (pos 1) ∷ event.Read 2 (pos 3) ∷ event.Sync ∷ event.End ∷ [])
     (leaving (pos 4) (pos 1 ∷ negsuc 2 ∷ pos 3 ∷ []) [])
 
--- int a[2]; int g; int main() { a[g - 1] = g; return 0; }: the index is checked once the right side has its value
+-- int a[2]; int g; int main() { a[g - 1] = g; return 0; }
+-- The index is checked after the right side has been evaluated.
 abbrev pub index_outside : Source
 index_outside = single (pos 0 ∷ pos 0 ∷ pos 0 ∷ []) 0 (Assign (ToElement (array 2) (Binary Subtract (global 2) (num 1))) (global 2) ∷ returns (num 0) ∷ [])
 
 abbrev pub IndexOutsideStops : Type 0
 IndexOutsideStops = Makes index_outside [] (event.Begin 1 ∷ event.Read 2 (pos 0) ∷ event.Read 2 (pos 0) ∷ []) (StopsBy IndexOutside)
 
--- int a[2]; int g; int main() { a[2] += g; return 0; }: here it is checked before
+-- int a[2]; int g; int main() { a[2] += g; return 0; }
+-- The index is checked before the right side is evaluated.
 abbrev pub change_outside : Source
 change_outside = single (pos 0 ∷ pos 0 ∷ pos 0 ∷ []) 0 (Change (ToElement (array 2) (num 2)) compound.Add (global 2) ∷ returns (num 0) ∷ [])
 
@@ -272,7 +282,8 @@ read_outside = single (pos 0 ∷ pos 0 ∷ pos 0 ∷ []) 0 (returns (Element (ar
 abbrev pub ReadOutsideStops : Type 0
 ReadOutsideStops = Makes read_outside [] (event.Begin 1 ∷ []) (StopsBy IndexOutside)
 
--- int main() { for (int i = 0; i < 2; i++) { int x; print(x); x = 5; } return 0; }: a cell keeps its value until its declaration writes
+-- int main() { for (int i = 0; i < 2; i++) { int x; print(x); x = 5; } return 0; }
+-- A cell keeps its value until its declaration writes it.
 abbrev pub redeclared : Source
 redeclared =
     single [] 2
@@ -293,11 +304,11 @@ RedeclaredRuns =
 abbrev pub EndsWithin : ℕ → ℕ → Source → List ℤ → Type 0
 EndsWithin ticks room p inputs = (es : List Event) × (outcome : Outcome) × MakesWithin ticks room p inputs es (Leaves outcome)
 
--- within these limits it doesn't
+-- within these limits the program's serial run has too many events
 abbrev pub IsTooLong : ℕ → ℕ → Source → List ℤ → Type 0
 IsTooLong ticks room p inputs = (es : List Event) × MakesWithin ticks room p inputs es (StopsBy TooManyEvents)
 
--- the program's serial run takes so many ticks and makes so many events
+-- the program's serial run uses exactly these ticks and makes exactly these events
 pub record Takes (ticks room : ℕ) (p : Source) (inputs : List ℤ) : Type 0 where
   pub ends : EndsWithin ticks room p inputs
   pub takes_ticks : IsTooLong (ticks - 1) room p inputs
@@ -306,7 +317,8 @@ pub record Takes (ticks room : ℕ) (p : Source) (inputs : List ℤ) : Type 0 wh
 abbrev pub TicksCount : Type 0
 TicksCount = Takes 2 3 nothing [] × Takes 28 20 countdown [] × Takes 24 10 branches [] × Takes 114 32 operators (pos 5 ∷ pos 6 ∷ []) × Takes 42 30 sums []
 
--- a tick comes before its event; a fault of the program comes before a tick and before the room for an event is asked for
+-- A tick comes before its event. A fault of the program comes before the tick and before the check
+-- for room.
 abbrev pub FaultsInOrder : Type 0
 FaultsInOrder =
     MakesWithin 1 20 countdown [] (event.Begin 1 ∷ []) (StopsBy TooManyEvents)

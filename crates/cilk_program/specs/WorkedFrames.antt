@@ -1,4 +1,4 @@
--- Worked programs whose frames begin others, and what they do.
+-- Worked programs with calls, spawns and parallel loops, with their events and outcomes.
 use Rattle.std.specs.Prelude.{◌≡◌, ℕ, ℤ, pos, List, [], ◌∷◌, Option, Some, None}
 use Rattle.cilk_types.specs.declared.fault.Fault.TheVariants.{DivisionByZero, IndexOutside, InputOutside, TooManyEvents, TooManyFrames, TooManyCells}
 use Rattle.cilk_types.specs.declared.event.Event.TheVariants as event
@@ -18,27 +18,29 @@ use Rattle.cilk_program.specs.Outcomes.{StopsBy}
 use Rattle.cilk_program.specs.SerialRun.{Memory, crowded}
 use Rattle.cilk_program.specs.Worked.{Makes, MakesWithin, EndsAfter, row, plain, leaving, num, own, local, global, set_global, set_local, returns, array}
 
--- a call or spawn of a function: how, which one, its arguments, and the variable that takes the result
+-- a call or spawn of a function: how, which function, its arguments, and the variable that receives
+-- the result
 abbrev pub begin : Invocation → ℕ → List Expression → List Reducer → Option Place → Statement
 begin how function arguments reducers result = Invokes (record { how = how; function = function; arguments = arguments; reducers = reducers; result = result })
 
--- functions over global cells and reducers; the last one is main
+-- functions over global cells and reducers, and the index of main
 abbrev pub program : List ℤ → List MonoidKind → List Function → List Loop → ℕ → Source
 program openings reducers functions loops main = record { openings = openings; reducers = reducers; functions = functions; loops = loops; main = main }
 
--- a loop that stands in a function, with its variable alone
+-- a loop in a function, whose only cell is the loop's variable
 abbrev pub loop_in : ℕ → List Statement → Loop
 loop_in function list = record { within = bodies.Function function; cells = 1; body = row list }
 
--- a function with one word
+-- a function with one word parameter
 abbrev pub of_word : List Statement → Function
 of_word list = record { words = 1; given = []; cells = 1; reducers = []; body = row list }
 
--- a variable of the frame round this one
+-- a variable of the frame around this one
 abbrev pub outer : ℕ → Place
 outer n = place.Local 1 n
 
--- int one() { return 1; } int main() { int x; int y; x = cilk_spawn one(); y = x; cilk_sync; return y; }
+-- int one() { return 1; }
+-- int main() { int x; int y; x = cilk_spawn one(); y = x; cilk_sync; return y; }
 abbrev pub one : Source
 one =
     program [] []
@@ -55,7 +57,8 @@ OneRuns =
     ∷ event.Read 0 (pos 1) ∷ event.Write 1 (pos 1) ∷ event.Sync ∷ event.Read 1 (pos 1) ∷ event.Sync ∷ event.End ∷ [])
     (leaving (pos 1) [] [])
 
--- int g = 7; int get() { return g; } int main() { int x; int y; x = cilk_spawn get(); y = cilk_spawn get(); cilk_sync; return x + y; }
+-- int g = 7; int get() { return g; }
+-- int main() { int x; int y; x = cilk_spawn get(); y = cilk_spawn get(); cilk_sync; return x + y; }
 abbrev pub get : Source
 get =
     program (pos 7 ∷ []) []
@@ -75,7 +78,8 @@ GetRuns =
     ∷ event.Sync ∷ event.Read 1 (pos 7) ∷ event.Read 2 (pos 7) ∷ event.Sync ∷ event.End ∷ [])
     (leaving (pos 14) (pos 7 ∷ []) [])
 
--- int g; void put() { g = 1; } int main() { cilk_spawn put(); cilk_spawn put(); cilk_sync; return g; }
+-- int g; void put() { g = 1; }
+-- int main() { cilk_spawn put(); cilk_spawn put(); cilk_sync; return g; }
 abbrev pub put : Source
 put =
     program (pos 0 ∷ []) []
@@ -83,7 +87,7 @@ put =
     ∷ plain 0 (begin Spawn 0 [] [] None ∷ begin Spawn 0 [] [] None ∷ Sync ∷ returns (global 0) ∷ []) ∷ [])
     [] 1
 
--- the writes stand at 4 and 10
+-- the writes are at positions 4 and 10
 abbrev pub PutRuns : Type 0
 PutRuns =
     Makes put []
@@ -93,7 +97,8 @@ PutRuns =
     ∷ event.Sync ∷ event.Read 0 (pos 1) ∷ event.Sync ∷ event.End ∷ [])
     (leaving (pos 1) (pos 1 ∷ []) [])
 
--- int a[7]; int main() { int n = input(0); cilk_for (int i = 0; i < n; i++) { a[i] = i; } return a[6]; }
+-- int a[7];
+-- int main() { int n = input(0); cilk_for (int i = 0; i < n; i++) { a[i] = i; } return a[6]; }
 abbrev pub filled : Source
 filled =
     program (pos 0 ∷ pos 0 ∷ pos 0 ∷ pos 0 ∷ pos 0 ∷ pos 0 ∷ pos 0 ∷ []) []
@@ -120,7 +125,7 @@ FilledByOne =
 abbrev pub FilledByAll : Type 0
 FilledByAll = EndsAfter 99 14 filled (pos 7 ∷ []) (leaving (pos 6) (pos 0 ∷ pos 1 ∷ pos 2 ∷ pos 3 ∷ pos 4 ∷ pos 5 ∷ pos 6 ∷ []) [])
 
--- an eighth turn is outside the array: the fault stands at 98
+-- an eighth turn is outside the array: the fault is at position 98
 abbrev pub FilledTooFar : Type 0
 FilledTooFar = EndsAfter 97 16 filled (pos 8 ∷ []) (StopsBy IndexOutside)
 
@@ -134,7 +139,7 @@ total =
     (plain 1 (Declare (Opening 0 (num 0) ∷ []) ∷ ParallelFor (num 0) (num 2) 0 ∷ returns (local 0) ∷ []) ∷ [])
     (loop_in 0 (Block (row (Assign (ToVariable (outer 0)) (Binary Add (Variable (outer 0)) (local 0)) ∷ [])) ∷ []) ∷ []) 0
 
--- the halves' accesses to the sum stand at 10 and 17
+-- the halves' accesses to the sum are at positions 10 and 17
 abbrev pub TotalRuns : Type 0
 TotalRuns =
     Makes total []
@@ -144,7 +149,9 @@ TotalRuns =
     ∷ event.Sync ∷ event.End ∷ event.Resume 1 ∷ event.Read 0 (pos 1) ∷ event.Sync ∷ event.End ∷ [])
     (leaving (pos 1) [] [])
 
--- int t[4]; int main() { cilk_for (int i = 0; i < 2; i++) { cilk_for (int j = 0; j < 2; j++) { t[2 * i + j] = 10 * i + j; } } return t[3]; }
+-- int t[4];
+-- int main() { cilk_for (int i = 0; i < 2; i++) { cilk_for (int j = 0; j < 2; j++) { t[2 * i + j] =
+-- 10 * i + j; } } return t[3]; }
 abbrev pub nested : Source
 nested =
     program (pos 0 ∷ pos 0 ∷ pos 0 ∷ pos 0 ∷ []) []
@@ -159,7 +166,8 @@ nested =
 abbrev pub NestedRuns : Type 0
 NestedRuns = EndsAfter 75 10 nested [] (leaving (pos 11) (pos 0 ∷ pos 1 ∷ pos 10 ∷ pos 11 ∷ []) [])
 
--- int d(int k) { return 6 / k; } int main() { int x; int y; x = cilk_spawn d(2); y = cilk_spawn d(0); cilk_sync; return x + y; }
+-- int d(int k) { return 6 / k; }
+-- int main() { int x; int y; x = cilk_spawn d(2); y = cilk_spawn d(0); cilk_sync; return x + y; }
 abbrev pub divided : Source
 divided =
     program [] []
@@ -169,7 +177,7 @@ divided =
     ∷ returns (Binary Add (local 0) (local 1)) ∷ []) ∷ [])
     [] 1
 
--- the fault stands at 16, in the second child
+-- the fault is at position 16, in the second child
 abbrev pub DividedStops : Type 0
 DividedStops =
     Makes divided []
@@ -178,7 +186,8 @@ DividedStops =
     ∷ event.Spawn 3 ∷ event.Begin 3 ∷ event.Write 3 (pos 0) ∷ event.Read 3 (pos 0) ∷ [])
     (StopsBy DivisionByZero)
 
--- void p(int n) { print(n); } int main() { cilk_spawn p(1); cilk_spawn p(2); cilk_spawn p(3); cilk_sync; return 0; }
+-- void p(int n) { print(n); }
+-- int main() { cilk_spawn p(1); cilk_spawn p(2); cilk_spawn p(3); cilk_sync; return 0; }
 abbrev pub prints : Source
 prints =
     program [] []
@@ -197,7 +206,9 @@ PrintsRun =
     ∷ event.Sync ∷ event.Sync ∷ event.End ∷ [])
     (leaving (pos 0) [] (pos 1 ∷ pos 2 ∷ pos 3 ∷ []))
 
--- int fib(int n) { if (n < 2) { return n; } int x; int y; x = cilk_spawn fib(n - 1); y = fib(n - 2); cilk_sync; return x + y; } int main() { int r; r = fib(10); return r; }
+-- int fib(int n) { if (n < 2) { return n; } int x; int y; x = cilk_spawn fib(n - 1); y = fib(n -
+-- 2); cilk_sync; return x + y; }
+-- int main() { int r; r = fib(10); return r; }
 abbrev pub fib : Source
 fib =
     program [] []
@@ -220,7 +231,9 @@ fib =
 abbrev pub FibRuns : Type 0
 FibRuns = EndsAfter 2126 178 fib [] (leaving (pos 55) [] [])
 
--- int f() { return 5; } int main() { int x; cilk_for (int i = 0; i < 2; i++) { x = f(); } return x; }: the result goes through a static link
+-- int f() { return 5; }
+-- int main() { int x; cilk_for (int i = 0; i < 2; i++) { x = f(); } return x; }
+-- The result is written through a static link.
 abbrev pub linked : Source
 linked =
     program [] []
@@ -237,14 +250,16 @@ LinkedRuns =
     ∷ event.Sync ∷ event.End ∷ event.Resume 1 ∷ event.Read 0 (pos 5) ∷ event.Sync ∷ event.End ∷ [])
     (leaving (pos 5) [] [])
 
--- void f() { f(); } int main() { f(); return 0; } never ends by itself
+-- void f() { f(); } int main() { f(); return 0; }
+-- It ends only by a limit.
 abbrev pub deep : Source
 deep = program [] [] (plain 0 (begin Call 0 [] [] None ∷ []) ∷ plain 0 (begin Call 0 [] [] None ∷ returns (num 0) ∷ []) ∷ []) [] 1
 
 abbrev pub DeepStops : Type 0
 DeepStops = MakesWithin 100 6 deep [] (event.Begin 1 ∷ event.Call 2 ∷ event.Begin 2 ∷ event.Call 3 ∷ event.Begin 3 ∷ event.Call 4 ∷ []) (StopsBy TooManyEvents)
 
--- what a run has when so many frames have begun, with so many cells and with so many events left
+-- the memory when this number of frames has begun, with this number of cells and this room for
+-- events
 abbrev pub having : ℕ → ℕ → ℕ → Memory
 having frames cells room = record { store = opening []; frames = frames; cells = cells; room = room }
 
@@ -252,7 +267,7 @@ having frames cells room = record { store = opening []; frames = frames; cells =
 abbrev pub three_cells : Callee
 three_cells = callees.Function (record { function = 0; words = pos 1 ∷ []; reducers = []; result = None })
 
--- of the limits of a run that of its events comes first, then that of its frames, then that of its cells
+-- the limit of events is checked first, then that of frames, then that of cells
 abbrev pub LimitsInOrder : Type 0
 LimitsInOrder =
     (crowded fib three_cells (having 65535 1048573 1) ≡ None)

@@ -1,4 +1,4 @@
--- Worked programs with reducers, and what they do.
+-- Worked programs with reducers, with their events and outcomes.
 use Rattle.std.specs.Prelude.{ℕ, ℤ, pos, negsuc, List, [], ◌∷◌, Some, None}
 use Rattle.cilk_types.specs.declared.event.Event.TheVariants as event
 use Rattle.cilk_types.specs.declared.event.Instance.{Instance}
@@ -15,7 +15,7 @@ use Rattle.cilk_program.specs.Outcomes.{Conclusion, Leaves}
 use Rattle.cilk_program.specs.Worked.{Makes, EndsAfter, row, plain, leaving, num, own, local, global, set_global, set_local, returns}
 use Rattle.cilk_program.specs.WorkedFrames.{begin, program, loop_in, of_word}
 
--- a function with reducers of its own, and no parameters
+-- a function without parameters, whose frame has n cells and these reducers
 abbrev pub reducing : ℕ → List MonoidKind → List Statement → Function
 reducing cells kinds list = record { words = 0; given = []; cells = cells; reducers = kinds; body = row list }
 
@@ -36,7 +36,8 @@ given_reducer n kind = record { place = reducers.Given 0 n; kind = kind }
 abbrev pub leaving_all : ℤ → List ℤ → List ℤ → List Final → Conclusion
 leaving_all v globals output reducers = Leaves (record { result = v; globals = globals; output = output; reducers = reducers })
 
--- int cilk_reducer(append) l; int main() { update(l, 4); set(l, 7); update(l, 8); print(value(l)); return 0; }
+-- int cilk_reducer(append) l;
+-- int main() { update(l, 4); set(l, 7); update(l, 8); print(value(l)); return 0; }
 abbrev pub changed : Source
 changed =
     let l = global_reducer 0 kinds.Append in
@@ -50,27 +51,30 @@ ChangedRuns =
     ∷ event.Sync ∷ event.End ∷ [])
     (leaving_all (pos 0) [] (pos 2 ∷ []) (final.List (pos 7 ∷ pos 8 ∷ []) ∷ []))
 
--- int cilk_reducer(add) s; int main() { cilk_for (int i = 1; i < 101; i++) { update(s, i); } return value(s); }
+-- int cilk_reducer(add) s;
+-- int main() { cilk_for (int i = 1; i < 101; i++) { update(s, i); } return value(s); }
 abbrev pub hundred : Source
 hundred =
     program [] (kinds.Add ∷ []) (plain 0 (ParallelFor (num 1) (num 101) 0 ∷ returns (Value (global_reducer 0 kinds.Add)) ∷ []) ∷ [])
     (loop_in 0 (Block (row (Update (global_reducer 0 kinds.Add) (local 0) ∷ [])) ∷ []) ∷ []) 0
 
--- 99 halvings of 7 events, 100 turns of 6, and 7 of main
+-- 99 halvings of 7 events, 100 turns of 6 events, and 7 events of main
 abbrev pub HundredRuns : Type 0
 HundredRuns = EndsAfter 1300 200 hundred [] (leaving_all (pos 5050) [] [] (final.Number (pos 5050) ∷ []))
 
--- int cilk_reducer(append) l; int main() { cilk_for (int i = 0; i < 5; i++) { update(l, i); } return value(l); }
+-- int cilk_reducer(append) l;
+-- int main() { cilk_for (int i = 0; i < 5; i++) { update(l, i); } return value(l); }
 abbrev pub ordered : Source
 ordered =
     program [] (kinds.Append ∷ []) (plain 0 (ParallelFor (num 0) (num 5) 0 ∷ returns (Value (global_reducer 0 kinds.Append)) ∷ []) ∷ [])
     (loop_in 0 (Block (row (Update (global_reducer 0 kinds.Append) (local 0) ∷ [])) ∷ []) ∷ []) 0
 
--- 4 halvings of 7 events, 5 turns of 6, and 7 of main
+-- 4 halvings of 7 events, 5 turns of 6 events, and 7 events of main
 abbrev pub OrderedRuns : Type 0
 OrderedRuns = EndsAfter 65 10 ordered [] (leaving_all (pos 5) [] [] (final.List (pos 0 ∷ pos 1 ∷ pos 2 ∷ pos 3 ∷ pos 4 ∷ []) ∷ []))
 
--- int cilk_reducer(add) r; void f() { update(r, 1); } int main() { int x; cilk_spawn f(); x = value(r); cilk_sync; return x; }
+-- int cilk_reducer(add) r; void f() { update(r, 1); }
+-- int main() { int x; cilk_spawn f(); x = value(r); cilk_sync; return x; }
 abbrev pub read_early : Source
 read_early =
     program [] (kinds.Add ∷ [])
@@ -78,7 +82,7 @@ read_early =
     ∷ plain 1 (Declare (Zero 0 ∷ []) ∷ begin Spawn 0 [] [] None ∷ set_local 0 (Value (global_reducer 0 kinds.Add)) ∷ Sync ∷ returns (local 0) ∷ []) ∷ [])
     [] 1
 
--- the creation stands at 2, the read at 10
+-- the creation is at position 2, the read at position 10
 abbrev pub ReadEarlyRuns : Type 0
 ReadEarlyRuns =
     Makes read_early []
@@ -87,7 +91,9 @@ ReadEarlyRuns =
     ∷ event.Value (instance 1 1) (pos 1) ∷ event.Write 0 (pos 1) ∷ event.Sync ∷ event.Read 0 (pos 1) ∷ event.Sync ∷ event.End ∷ [])
     (leaving_all (pos 1) [] [] (final.Number (pos 1) ∷ []))
 
--- int f(int n) { int cilk_reducer(add) s; cilk_for (int i = 0; i < n; i++) { update(s, i); } return value(s); }
+-- int f(int n) {
+-- int cilk_reducer(add) s; cilk_for (int i = 0; i < n; i++) { update(s, i); } return value(s);
+-- }
 -- int main() { int x; int y; x = cilk_spawn f(4); y = cilk_spawn f(5); cilk_sync; return x + y; }
 abbrev pub apart : Source
 apart =
@@ -104,11 +110,13 @@ apart =
     ∷ returns (Binary Add (local 0) (local 1)) ∷ []) ∷ [])
     (loop_in 0 (Block (row (Update (own_reducer 1 0 kinds.Add) (local 0) ∷ [])) ∷ []) ∷ []) 1
 
--- 3 and 4 halvings of 7 events, 4 and 5 turns of 6, twice 10 of f, and 12 of main
+-- 3 and 4 halvings of 7 events, 4 and 5 turns of 6, 10 events of f twice, and 12 events of main
 abbrev pub ApartRuns : Type 0
 ApartRuns = EndsAfter 135 19 apart [] (leaving (pos 16) [] [])
 
--- int cilk_reducer(add) s; void u(int k) { update(s, k); } int main() { cilk_spawn u(9223372036854775807); cilk_spawn u(1); cilk_spawn u(1); cilk_sync; return value(s); }
+-- int cilk_reducer(add) s; void u(int k) { update(s, k); }
+-- int main() { cilk_spawn u(9223372036854775807); cilk_spawn u(1); cilk_spawn u(1); cilk_sync;
+-- return value(s); }
 abbrev pub wrapped : Source
 wrapped =
     program [] (kinds.Add ∷ [])
@@ -130,7 +138,9 @@ UntouchedRuns =
     Makes untouched [] (event.Begin 1 ∷ event.Create (instance 1 1) ∷ event.Value (instance 1 1) (pos 9223372036854775807) ∷ event.Sync ∷ event.End ∷ [])
     (leaving_all (pos 9223372036854775807) [] [] (final.Number (pos 9223372036854775807) ∷ []))
 
--- void put(int cilk_reducer(append) l, int x) { update(l, x); } int main() { int cilk_reducer(append) a; cilk_spawn put(a, 1); cilk_spawn put(a, 2); cilk_sync; return value(a); }
+-- void put(int cilk_reducer(append) l, int x) { update(l, x); }
+-- int main() { int cilk_reducer(append) a; cilk_spawn put(a, 1); cilk_spawn put(a, 2); cilk_sync;
+-- return value(a); }
 abbrev pub lent : Source
 lent =
     program [] []
@@ -150,7 +160,8 @@ LentRuns =
     ∷ event.Sync ∷ event.Value (instance 1 1) (pos 2) ∷ event.Sync ∷ event.End ∷ [])
     (leaving (pos 2) [] [])
 
--- int peek(int cilk_reducer(add) r) { return value(r); } int main() { int cilk_reducer(add) a; int x; x = cilk_spawn peek(a); cilk_sync; return x; }
+-- int peek(int cilk_reducer(add) r) { return value(r); }
+-- int main() { int cilk_reducer(add) a; int x; x = cilk_spawn peek(a); cilk_sync; return x; }
 abbrev pub peeked : Source
 peeked =
     program [] []
@@ -158,7 +169,7 @@ peeked =
     ∷ reducing 1 (kinds.Add ∷ []) (Empty ∷ Declare (Zero 0 ∷ []) ∷ begin Spawn 0 [] (own_reducer 0 0 kinds.Add ∷ []) (Some (own 0)) ∷ Sync ∷ returns (local 0) ∷ []) ∷ [])
     [] 1
 
--- the creation stands at 2, the read at 6
+-- the creation is at position 2, the read at position 6
 abbrev pub PeekedRuns : Type 0
 PeekedRuns =
     Makes peeked []
@@ -167,13 +178,14 @@ PeekedRuns =
     ∷ event.Sync ∷ event.Read 0 (pos 0) ∷ event.Sync ∷ event.End ∷ [])
     (leaving (pos 0) [] [])
 
--- int cilk_reducer(affine) d; int main() { cilk_for (int i = 1; i < 5; i++) { update(d, i); } return value(d); }
+-- int cilk_reducer(affine) d;
+-- int main() { cilk_for (int i = 1; i < 5; i++) { update(d, i); } return value(d); }
 abbrev pub digits : Source
 digits =
     program [] (kinds.Affine ∷ []) (plain 0 (ParallelFor (num 1) (num 5) 0 ∷ returns (Value (global_reducer 0 kinds.Affine)) ∷ []) ∷ [])
     (loop_in 0 (Block (row (Update (global_reducer 0 kinds.Affine) (local 0) ∷ [])) ∷ []) ∷ []) 0
 
--- 3 halvings of 7 events, 4 turns of 6, and 7 of main
+-- 3 halvings of 7 events, 4 turns of 6 events, and 7 events of main
 abbrev pub DigitsRun : Type 0
 DigitsRun = EndsAfter 52 8 digits [] (leaving_all (pos 1234) [] [] (final.Number (pos 1234) ∷ []))
 
@@ -183,12 +195,15 @@ nines =
     program [] (kinds.Affine ∷ []) (plain 0 (ParallelFor (num 0) (num 20) 0 ∷ returns (Value (global_reducer 0 kinds.Affine)) ∷ []) ∷ [])
     (loop_in 0 (Block (row (Update (global_reducer 0 kinds.Affine) (num 9) ∷ [])) ∷ []) ∷ []) 0
 
--- 19 halvings of 7 events, 20 turns of 5, and 7 of main
+-- 19 halvings of 7 events, 20 turns of 5 events, and 7 events of main
 abbrev pub NinesRun : Type 0
 NinesRun = EndsAfter 240 40 nines [] (leaving_all (pos 7766279631452241919) [] [] (final.Number (pos 7766279631452241919) ∷ []))
 
--- int cilk_reducer(max) s; int g; int main() { int cilk_reducer(add) t; int x; if (g) { return 0; } g = 1; update(t, 3); x = main(); return value(t) + x; }:
--- the first frame creates the global reducers before its own, and another frame of main only its own
+-- int cilk_reducer(max) s; int g;
+-- int main() { int cilk_reducer(add) t; int x; if (g) { return 0; } g = 1; update(t, 3); x =
+-- main(); return value(t) + x; }
+-- The first frame creates the global reducers before its own. Another frame of main creates only
+-- its own.
 abbrev pub again : Source
 again =
     let t = own_reducer 0 0 kinds.Add in

@@ -1,12 +1,12 @@
-//! What a frame asks for as it goes on.
+//! The requests that a frame makes while it runs.
 
 use crate::given::{References, Words};
 use crate::syntax::{Place, Reducer};
 use cilk_types::fault::Fault;
 use cilk_types::invocation::Invocation;
 
-/// A call of a function: its number, the words and the reducers that it is given, each in order of its parameters, and the
-/// caller's variable that takes the result.
+/// A call of a function: its index, the words and reducers that it is given, each in parameter
+/// order, and the caller's variable that receives the result.
 #[derive(Drop)]
 pub struct FunctionCall {
     pub function: u32,
@@ -15,8 +15,9 @@ pub struct FunctionCall {
     pub result: Option<Place>,
 }
 
-/// The turns of a loop from `low` up to but without `high`: the loop's number, and how many static links up from the frame
-/// that asks the frame lies in which the loop stands.
+/// The turns of a loop from `low` up to, but not including, `high`. `number` is the loop's index,
+/// and `up` the number of static links from the requesting frame to the frame that contains the
+/// loop.
 #[derive(Clone, Copy, Debug)]
 pub struct LoopPart {
     pub number: u32,
@@ -25,7 +26,7 @@ pub struct LoopPart {
     pub high: i64,
 }
 
-/// What a frame runs.
+/// The code that a new frame runs.
 #[derive(Drop)]
 pub enum Callee {
     /// The main function, with which a run begins.
@@ -34,35 +35,35 @@ pub enum Callee {
     Loop(LoopPart),
 }
 
-/// What a frame asks for next. Each is an event of the run but `Fault`, after which the run ends.
+/// The next request of a frame. Each is an event of the run except `Fault`, which ends the run.
 #[derive(Drop)]
 pub enum Ask {
-    /// The frame begins.
+    /// Begins the frame.
     Begin,
-    /// The value at a place; the answer is that value.
+    /// Reads a place. The answer is its value.
     Read(Place),
-    /// A new value at a place.
+    /// Writes a value to a place.
     Write(Place, i64),
-    /// A reducer begins with its monoid's unit.
+    /// Creates a reducer, whose view is its monoid's unit.
     Create(Reducer),
-    /// A reducer's view is multiplied by a number from the right.
+    /// Combines a reducer's view with a number on the right.
     Update(Reducer, i64),
-    /// A reducer's view becomes that of a number alone.
+    /// Replaces a reducer's view by that of a number alone.
     Set(Reducer, i64),
-    /// The number of a reducer's view; the answer is that number.
+    /// Reads the number of a reducer's view. The answer is that number.
     Value(Reducer),
-    /// One more number of the ordered output.
+    /// Appends a number to the ordered output.
     Print(i64),
-    /// A child begins. It is answered once the frame may go on.
+    /// Begins a child. The answer comes when the frame may continue.
     Invoke(Invocation, Callee),
-    /// The frame goes on after an invocation.
+    /// Continues the frame after a child.
     Resume,
-    /// The frame waits for the children that it spawned.
+    /// Waits for the children that the frame spawned.
     Sync,
-    /// The frame's result goes to its caller's variable.
+    /// Writes the frame's result to its caller's variable.
     Result(i64),
-    /// The frame ends with a result.
+    /// Ends the frame with a result.
     End(i64),
-    /// The frame can't go on.
+    /// Stops the run by a fault.
     Fault(Fault),
 }

@@ -1,4 +1,4 @@
-//! What a function is given: at most 16 words and reducers, which take no memory.
+//! The arguments of a call: at most 16 words and reducers, stored inline without allocation.
 
 ghost use Rattle.std.specs.Prelude.{◌≡◌, ◌<◌, [], ◌∷◌, length, slice_get};
 
@@ -6,10 +6,10 @@ use crate::syntax::{Reducer, ReducerPlace};
 use cilk_monoid::kind::MonoidKind;
 use std::marker::Model;
 
-/// At most 16 words.
+/// A list of at most 16 words, stored inline.
 #[derive(Drop)]
 pub struct Words {
-    // They are kept at the end of the array.
+    // The list is the end of the array, from `start` on.
     start: usize,
     items: [i64; 16],
 }
@@ -25,7 +25,7 @@ impl Model for Words {
 }
 
 impl Words {
-    /// No words.
+    /// Returns an empty list.
     pub fn new() -> Words
         ensures { result ≡ [] }
     {
@@ -35,14 +35,14 @@ impl Words {
         }
     }
 
-    /// All words go.
+    /// Removes all words.
     pub fn clear(&mut self)
         ensures { self.new ≡ [] }
     {
         self.start = 16;
     }
 
-    /// Puts one more word ahead of the others.
+    /// Inserts a word at the front. There must be room for it.
     pub fn put(&mut self, word: i64)
         requires { length self.old < 16 }
         ensures { self.new ≡ word ∷ self.old }
@@ -51,7 +51,7 @@ impl Words {
         self.items[self.start] = word;
     }
 
-    /// The same words.
+    /// Returns a copy.
     pub fn copied(&self) -> Words
         ensures { result ≡ self.now }
     {
@@ -61,7 +61,7 @@ impl Words {
         }
     }
 
-    /// The words in order.
+    /// Returns the words in order.
     pub fn as_slice(&self) -> &[i64]
         ensures { result.now ≡ self.now }
     {
@@ -69,10 +69,10 @@ impl Words {
     }
 }
 
-/// At most 16 reducers.
+/// A list of at most 16 reducers, stored inline.
 #[derive(Drop)]
 pub struct References {
-    // They are kept at the end of the array.
+    // The list is the end of the array, from `start` on.
     start: usize,
     items: [Reducer; 16],
 }
@@ -89,7 +89,7 @@ impl Model for References {
 }
 
 impl References {
-    /// No reducers.
+    /// Returns an empty list.
     pub fn new() -> References
         ensures { result ≡ [] }
     {
@@ -103,7 +103,7 @@ impl References {
         }
     }
 
-    /// Puts one more reducer ahead of the others.
+    /// Inserts a reducer at the front. There must be room for it.
     pub fn put(&mut self, reducer: Reducer)
         requires { length self.old < 16 }
         ensures { self.new ≡ reducer ∷ self.old }
@@ -112,7 +112,7 @@ impl References {
         self.items[self.start] = reducer;
     }
 
-    /// Becomes the same reducers as others, of which it copies those that there are.
+    /// Becomes a copy of `other`. Copies only the reducers that `other` holds, not the whole array.
     pub fn take_from(&mut self, other: &References)
         ensures { self.new ≡ other.now }
     {
@@ -123,7 +123,7 @@ impl References {
         }
     }
 
-    /// The same reducers.
+    /// Returns a copy.
     pub fn copied(&self) -> References
         ensures { result ≡ self.now }
     {
@@ -133,7 +133,7 @@ impl References {
         }
     }
 
-    /// The reducers in order.
+    /// Returns the reducers in order.
     pub fn as_slice(&self) -> &[Reducer]
         ensures { result.now ≡ self.now }
     {

@@ -1,20 +1,37 @@
-//! Programs with each name replaced by what it names, and what they mean.
+//! Resolved Cilk programs and the definition of their meaning.
 //!
-//! [`program::Program`] keeps the shape of the source tree. Its meaning is defined once, in this crate's `specs/`:
-//! what a frame's body asks for next after these answers (`Behaviour`), the serial elision over one store (`Elision`),
-//! and the serial run, in which frame after frame acts and each event is numbered (`SerialRun`).
+//! A [`program::Program`] is a syntax tree in which each name is replaced by the cell, reducer,
+//! function or loop that it refers to. `cilk_names` makes it from the parsed text, and `cilk_lower`
+//! compiles it. This crate executes nothing: it has the types, the meaning and the laws.
 //!
-//! `int g = 3; int main() { return g; }` is a program with one global cell that opens with 3 and one function, whose body gives
-//! the value of that cell. Its serial run is four events: begin, the read of 3, sync and end.
+//! A frame is one activation of a function, or of some turns of a `cilk_for`. It never touches
+//! memory: it makes a request, an [`ask::Ask`], and whoever runs it answers. So one definition of a
+//! frame serves the serial run and every parallel schedule. `specs/` has three definitions:
 //!
-//! Laws that tie the meanings of a program together.
+//! - `Behaviour`: the next request of a frame, given the answers so far and its ticks.
+//! - `Elision`: the serial elision, which is the program without its parallel keywords, run over
+//!   one store (Frigo, Leiserson and Randall 1998).
+//! - `SerialRun`: the run on one worker. Each child runs where it is called or spawned, and frames,
+//!   cells and events are numbered in that order.
 //!
-//! A program's meaning is defined in `cilk_program`: the behaviour of a frame, the serial elision, the serial run. Each law
-//! is a function that does nothing: its contract is the law.
+//! | Module | Contents |
+//! |---|---|
+//! | [`program`], [`syntax`] | programs; their statements and expressions |
+//! | [`ask`], [`given`] | the requests of a frame; the arguments of a call |
+//! | [`agreement`] | the serial run ends as the serial elision does |
+//! | [`runs`] | there is exactly one serial run, and it is sound |
+//! | [`shortage`] | how a frame's next request depends on its ticks |
+//! | [`worked`] | small programs with their events and outcomes |
 //!
-//! [`agreement`] ties the elision to the serial run, [`runs`] says what serial runs are like, [`shortage`] what a frame asks
-//! for with fewer ticks, and [`worked`] computes small programs. A crate above cites a law by its lemma in `proofs/`: so
-//! `cilk_serial` shows that what it runs is the elision.
+//! Each law is a function with an empty body, whose contract is the law. Other crates use its
+//! lemmas in `proofs/`. This program has one global cell and one function:
+//!
+//! ```text
+//! int g = 3; int main() { return g; }
+//!
+//! body of main    Return(Some(Variable(Place::Global(0))))
+//! serial run      begin; read cell 0, which is 3; sync; end
+//! ```
 #![tactic(auto)]
 
 pub mod agreement;

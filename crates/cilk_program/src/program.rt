@@ -1,4 +1,4 @@
-//! A program whose names are resolved.
+//! Programs whose names are resolved.
 
 ghost use Rattle.std.specs.Prelude.{IsTrue};
 ghost use Rattle.cilk_program.specs.Programs.{source_of};
@@ -9,8 +9,10 @@ use cilk_monoid::kind::MonoidKind;
 use cilk_types::sequence::Sequence;
 use cilk_types::word_list::WordList;
 
-/// A function: how many of its parameters are words, the monoids of those that are reducers, how many cells its frame has (its word parameters
-/// first, then its variables in order of declaration), the monoids of its own reducers in order, and its body.
+/// A function. Its frame has `cells` cells: its `words` word parameters first, then its variables
+/// in order of declaration.
+/// `given` has the monoids of its reducer parameters, and `reducers` those of the reducers that it
+/// declares, in order.
 #[derive(Drop)]
 pub struct Function {
     pub words: u32,
@@ -20,14 +22,14 @@ pub struct Function {
     pub body: Vec<Stmt>,
 }
 
-/// What a loop's body stands in.
+/// The function or loop whose body directly contains a loop.
 #[derive(Clone, Copy, PartialEq, Eq, Debug)]
 pub enum Body {
     Function(u32),
     Loop(u32),
 }
 
-/// A `cilk_for`: what it stands in, how many cells the frame of a turn has (the loop's variable first), and its body.
+/// A `cilk_for`. The frame of one turn has `cells` cells, the loop's variable first.
 #[derive(Drop)]
 pub struct Loop {
     pub within: Body,
@@ -35,15 +37,16 @@ pub struct Loop {
     pub body: Vec<Stmt>,
 }
 
-/// A global reducer: its name in the text, and its monoid.
+/// A global reducer: its name in the source text, and its monoid.
 #[derive(Drop)]
 pub struct GlobalReducer {
     pub name: Sequence<u8>,
     pub kind: MonoidKind,
 }
 
-/// A program: the opening values of its global cells, its global reducers and its functions, each in order of declaration,
-/// its loops in order of their first words, and the number of its main function.
+/// A program in which every name refers to something that exists. Global cells (by their opening
+/// values), global reducers and functions are in order of declaration.
+/// Loops are in order of their first words, and `main` is the index of the main function.
 pub struct Program {
     pub globals: WordList,
     pub reducers: Vec<GlobalReducer>,
@@ -53,7 +56,7 @@ pub struct Program {
     ghost well_named: { IsTrue (is_well_named (source_of globals reducers.items functions.items loops.items main)) },
 }
 
-// A function of its own, so that a proof follows one call where a program is dropped.
+// A separate function, so that a proof follows one call where a program is dropped.
 impl Drop for Program {
     fn drop(self) {
         let Program {

@@ -1,4 +1,4 @@
-//! Expressions and statements whose names are resolved.
+//! Statements and expressions whose names are resolved.
 
 ghost use Rattle.cilk_types.specs.Word.{IsWord};
 
@@ -6,7 +6,7 @@ use cilk_monoid::kind::MonoidKind;
 use cilk_types::compound::Compound;
 use cilk_types::invocation::Invocation;
 
-/// An operator on two words, both of which are evaluated.
+/// A binary operator that evaluates both operands.
 #[derive(Clone, Copy, PartialEq, Eq)]
 pub enum Operator {
     Add,
@@ -22,41 +22,44 @@ pub enum Operator {
     NotEqual,
 }
 
-/// Where a variable lives, as a frame sees it.
+/// The place of a variable, as a frame sees it.
 #[derive(Clone, Copy, PartialEq, Eq, Debug)]
 pub enum Place {
     /// A global cell, counted from 0 in order of declaration.
     Global(u32),
-    /// A cell of the frame so many static links up: 0 is the frame itself. Its cells are counted from 0.
+    /// A cell of the frame that is the given number of static links up, then the cell's index from
+    /// 0. 0 links is the frame itself.
     Local(u32, u32),
 }
 
-/// A global array: its first cell, and how many elements it has.
+/// A global array: its first cell and its length.
 #[derive(Clone, Copy, PartialEq, Eq)]
 pub struct Array {
     pub first: u32,
     pub length: u32,
 }
 
-/// Which reducer a name means, as a frame sees it.
+/// The place of a reducer, as a frame sees it.
 #[derive(Clone, Copy, PartialEq, Eq, Debug)]
 pub enum ReducerPlace {
     /// A global reducer, counted from 0 in order of declaration.
     Global(u32),
-    /// A reducer that the frame so many static links up created itself, counted from 0.
+    /// A reducer that a frame created: the number of static links up to that frame, then the index
+    /// from 0.
     Own(u32, u32),
-    /// A reducer that the frame so many static links up was given by its caller, counted from 0.
+    /// A reducer that a frame was given by its caller: the number of static links up to that frame,
+    /// then the index from 0.
     Given(u32, u32),
 }
 
-/// A reducer, and its monoid.
+/// A reducer and its monoid.
 #[derive(Clone, Copy, PartialEq, Eq, Debug)]
 pub struct Reducer {
     pub place: ReducerPlace,
     pub kind: MonoidKind,
 }
 
-/// A number that a text writes. Its type keeps that it is a word.
+/// A number literal. Its type guarantees that it is a word.
 #[derive(Clone, Copy, PartialEq, Eq, Debug)]
 pub struct Literal {
     pub value: i64,
@@ -68,32 +71,32 @@ pub struct Literal {
 pub enum Expr {
     Number(Literal),
     Variable(Place),
-    /// The element at an index, which is checked.
+    /// The array element at an index, which is checked against the array's length.
     Element(Array, Box<Expr>),
     Negate(Box<Expr>),
     Not(Box<Expr>),
     Binary(Operator, Box<Expr>, Box<Expr>),
-    /// The right side is evaluated only where the left isn't 0.
+    /// Evaluates the right side only if the left isn't 0.
     And(Box<Expr>, Box<Expr>),
-    /// The right side is evaluated only where the left is 0.
+    /// Evaluates the right side only if the left is 0.
     Or(Box<Expr>, Box<Expr>),
     /// The number of a reducer's view.
     Value(Reducer),
-    /// The input number at a place, from 0.
+    /// The input number at an index from 0.
     Input(Box<Expr>),
-    /// How many input numbers there are.
+    /// The count of input numbers.
     InputCount,
 }
 
-/// What is written to.
+/// The target of an assignment.
 #[derive(Drop)]
 pub enum Target {
     Variable(Place),
     Element(Array, Expr),
 }
 
-/// A call or spawn of a function: its number, the arguments that are words and those that are reducers, each in order, and
-/// the variable that takes the result.
+/// A call or spawn of a function: its index, its word and reducer arguments in order, and the
+/// variable that receives the result.
 #[derive(Drop)]
 pub struct Invoke {
     pub how: Invocation,
@@ -103,39 +106,41 @@ pub struct Invoke {
     pub result: Option<Place>,
 }
 
-/// One variable of a declaration, by its place among the frame's cells.
+/// One variable of a declaration, by its index among the frame's cells.
 #[derive(Drop)]
 pub enum Declaration {
-    /// It becomes 0.
+    /// The variable becomes 0.
     Zero(u32),
     Value(u32, Expr),
-    /// The child writes its result; the declaration itself writes nothing.
+    /// The child writes its result. The declaration itself writes nothing.
     Invoke(Invoke),
 }
 
 /// A statement.
 #[derive(Drop)]
 pub enum Stmt {
-    /// Nothing; also the declaration of a local reducer, which is created as its frame begins.
+    /// Does nothing. A local reducer's declaration is empty too: the reducer is created when its
+    /// frame begins.
     Empty,
     Block(Vec<Stmt>),
     Declare(Vec<Declaration>),
     Assign(Target, Expr),
     Change(Target, Compound, Expr),
-    /// Adds a number: 1 for `++`, -1 for `--`.
+    /// Adds 1 for `++`, -1 for `--`.
     Step(Target, i64),
     Invoke(Invoke),
     Sync,
     If(Expr, Box<Stmt>),
     IfElse(Expr, Box<Stmt>, Box<Stmt>),
-    /// A `for`: what it begins with, its condition (an absent one holds), its step, and its body. A `while` has a condition
-    /// and a body alone.
+    /// A `for`: its initial statements, its condition (true if absent), its step and its body. A
+    /// `while` has only a condition and a body.
     For(Vec<Stmt>, Option<Expr>, Vec<Stmt>, Box<Stmt>),
-    /// A `cilk_for` between two bounds, by the number of its body.
+    /// A `cilk_for` from the first bound up to, but not including, the second, and the loop's index
+    /// in the program.
     ParallelFor(Expr, Expr, u32),
     Print(Expr),
     Update(Reducer, Expr),
     Set(Reducer, Expr),
-    /// A `return` without a value gives 0.
+    /// Returns a value, or 0 if there is none.
     Return(Option<Expr>),
 }

@@ -1,10 +1,10 @@
-//! Worked programs and what they do, computed from the definitions of a program's meaning.
+//! Worked programs, whose events and outcomes are computed from the definition of their meaning.
 
 ghost use Rattle.cilk_program.specs.Worked.{NothingRuns, CountdownRuns, EndlessStops, EdgesRun, LocalEdgesRun, DivisionByZeroStops, SkippedDivisionRuns, ShortInputStops, OperatorsRun, BranchesRun, NoReturnRuns, SumsRun, IndexOutsideStops, ChangeOutsideStops, ReadOutsideStops, RedeclaredRuns, TicksCount, FaultsInOrder};
 ghost use Rattle.cilk_program.specs.WorkedFrames.{OneRuns, GetRuns, PutRuns, FilledByNone, FilledByOne, FilledByAll, FilledTooFar, FilledWithoutInput, TotalRuns, NestedRuns, DividedStops, PrintsRun, FibRuns, LinkedRuns, DeepStops, LimitsInOrder};
 ghost use Rattle.cilk_program.specs.WorkedReducers.{ChangedRuns, HundredRuns, OrderedRuns, ReadEarlyRuns, ApartRuns, WrappedRuns, UntouchedRuns, LentRuns, PeekedRuns, DigitsRun, NinesRun, AgainRuns};
 
-/// Programs of one frame make these events and leave this, or stop by this fault.
+/// Programs of one frame make these events, and have this outcome or stop by this fault.
 pub fn worked_statements()
     ensures nothing { NothingRuns }
     ensures countdown { CountdownRuns }
@@ -26,8 +26,8 @@ pub fn worked_statements()
     ensures order { FaultsInOrder }
 {}
 
-/// Programs whose frames call and spawn others, and parallel loops, make these events and leave this, or stop by this
-/// fault.
+/// Programs with calls, spawns and parallel loops make these events, and have this outcome or stop
+/// by this fault.
 pub fn worked_frames()
     ensures one { OneRuns }
     ensures get { GetRuns }
@@ -47,7 +47,7 @@ pub fn worked_frames()
     ensures limits { LimitsInOrder }
 {}
 
-/// Programs with reducers make these events and leave this.
+/// Programs with reducers make these events and have this outcome.
 pub fn worked_reducers()
     ensures changed { ChangedRuns }
     ensures hundred { HundredRuns }

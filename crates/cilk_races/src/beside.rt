@@ -1,4 +1,4 @@
-//! The child beside which a reducer is read or set.
+//! The child that runs in parallel with a read or set of a reducer.
 
 use cilk_findings::replay::FrameNote;
 use cilk_findings::runs::Run;
@@ -6,25 +6,28 @@ use cilk_types::event::{Event, Instance};
 use cilk_types::invocation::Invocation;
 use std::alloc::{AllocError, Global};
 
-/// A change of a reducer: the frame that makes it, and the child beside an event in which that stands.
+/// A change of a reducer: the frame that makes it, and the child around that frame which runs in
+/// parallel with the event.
 #[derive(Clone, Copy)]
 pub struct Change {
     pub frame: usize,
     pub child: usize,
 }
 
-/// How the frames of a run stand to an event: which are above it, and which children that ran ahead of it stand beside it.
+/// The frames of a run as seen from an event: its ancestors, and the earlier children that run in
+/// parallel with it.
 #[derive(Drop)]
 pub struct Beside {
-    // Of each frame the child of a frame above the event in which it stands, if it isn't above the event itself.
+    // For each frame: the child of an ancestor of the event that the frame is in. `None` for the
+    // ancestors.
     sides: Vec<Option<usize>>,
-    // Of each frame its last sync ahead of the event.
+    // For each frame: its last sync before the event.
     synced: Vec<usize>,
     upto: usize,
 }
 
 impl Beside {
-    /// How they stand to an event of a frame.
+    /// Classifies the frames of a run for the event `upto` of a frame.
     pub fn of(alloc: Global, run: &Run, frame: usize, upto: usize) -> Result<Beside, AllocError> {
         let above = above(alloc, run, frame)?;
         Ok(Beside {
@@ -34,7 +37,8 @@ impl Beside {
         })
     }
 
-    // Whether a frame is a spawned child that has ended ahead of the event, and that its parent hasn't waited for.
+    // Whether a frame is a spawned child that ended before the event and that its parent hasn't
+    // synced.
     fn is_beside(&self, note: &FrameNote) -> bool {
         let has_ended = match note.ended {
             Some(end) => end < self.upto,
@@ -47,7 +51,8 @@ impl Beside {
         note.how == Invocation::Spawn && has_ended && is_open
     }
 
-    /// The last change of a reducer ahead of the event that a child beside it makes.
+    /// Returns the last change of a reducer before the event that is in a child in parallel with
+    /// it.
     pub fn changing(&self, run: &Run, instance: Instance) -> Option<Change> {
         let mut found = None;
         for (index, event) in run.trace.as_slice().iter().enumerate().take(self.upto) {
@@ -60,7 +65,7 @@ impl Beside {
         found
     }
 
-    // An event that a child beside this one makes.
+    // An earlier event, if it is in a child in parallel with this one.
     fn change_at(&self, run: &Run, index: usize) -> Option<Change> {
         let step = run.replay.steps.get(index)?;
         let child = self.sides.get(step.frame).copied()??;
@@ -73,7 +78,7 @@ impl Beside {
         }
     }
 
-    /// Of each frame its last child that is beside the event.
+    /// Returns for each frame its last child in parallel with the event.
     pub fn last_children(
         &self,
         alloc: Global,
@@ -92,7 +97,6 @@ impl Beside {
     }
 }
 
-// Whether an event changes a reducer.
 fn changes(event: &Event, wanted: Instance) -> bool {
     match *event {
         Event::Update { instance, .. } | Event::Set { instance, .. } => instance == wanted,
@@ -100,7 +104,7 @@ fn changes(event: &Event, wanted: Instance) -> bool {
     }
 }
 
-// Of each frame whether it is this one, or above it.
+// For each frame: whether it is this frame or one of its ancestors.
 fn above(alloc: Global, run: &Run, frame: usize) -> Result<Vec<bool>, AllocError> {
     let count = run.replay.frames.len();
     let mut above: Vec<bool> = Vec::new(alloc);
@@ -118,7 +122,8 @@ fn above(alloc: Global, run: &Run, frame: usize) -> Result<Vec<bool>, AllocError
     Ok(above)
 }
 
-// Of each frame the child of one of those above in which it stands. A frame is numbered behind its parent.
+// For each frame: the child of an ancestor that it is in. Parents have smaller numbers than their
+// children.
 fn sides(alloc: Global, run: &Run, above: &[bool]) -> Result<Vec<Option<usize>>, AllocError> {
     let mut sides: Vec<Option<usize>> = Vec::new(alloc);
     for (number, note) in run.replay.frames.iter().enumerate() {
@@ -137,7 +142,7 @@ fn sides(alloc: Global, run: &Run, above: &[bool]) -> Result<Vec<Option<usize>>,
     Ok(sides)
 }
 
-// Of each frame its last sync ahead of an event.
+// For each frame: its last sync before an event.
 fn syncs(alloc: Global, run: &Run, upto: usize) -> Result<Vec<usize>, AllocError> {
     let mut synced: Vec<usize> = Vec::new(alloc);
     synced.resize(run.replay.frames.len(), 0)?;

@@ -1,4 +1,4 @@
-//! What to write in place of two accesses that race, by what they access.
+//! Hints for races by the kind of variable that is accessed.
 
 use cilk_findings::case::Case;
 use cilk_findings::map::GlobalName;
@@ -8,8 +8,8 @@ use cilk_syntax::tree::Name;
 use cilk_types::event::Event;
 use std::alloc::AllocError;
 
-/// The cure of a race on the cell of an event, if it is known: turns of a `cilk_for` access it, or else a spawned child and what
-/// follows it.
+/// Returns a hint for a race on the cell of an event; `None` for other events. With `in_turns`,
+/// turns of a `cilk_for` race; otherwise a spawned child races with the code after its spawn.
 pub fn cure_of(
     case: &Case<'_>,
     run: &Run,
@@ -27,7 +27,7 @@ pub fn cure_of(
     }
 }
 
-// Of a global variable, or of an element.
+// A global variable or an element.
 fn of_global(case: &Case<'_>, cell: usize, in_turns: bool) -> Result<Option<String>, AllocError> {
     let alloc = case.alloc;
     let Some(GlobalName { name, length, .. }) = case.map.global(cell) else {
@@ -64,8 +64,8 @@ fn of_global(case: &Case<'_>, cell: usize, in_turns: bool) -> Result<Option<Stri
     Ok(Some(text))
 }
 
-// Of a variable of a function: turns share it where it is declared outside of their loop; else a spawned call gives it its
-// result.
+// A function's variable. Turns share it if it is declared outside of their loop; otherwise it takes
+// the result of a spawned call.
 fn of_variable(
     case: &Case<'_>,
     run: &Run,
@@ -92,7 +92,7 @@ fn of_variable(
     Ok(Some(text))
 }
 
-// The name by which the variable of a cell is declared.
+// The name with which the variable of a cell is declared.
 fn variable(case: &Case<'_>, run: &Run, cell: usize) -> Option<Name> {
     let (frame, number) = run.replay.owner(cell)?;
     let note = run.replay.frames.get(frame)?;

@@ -1,4 +1,4 @@
-//! Two accesses that race, or a reducer's read that a schedule can change.
+//! Reports on two accesses that race, or on a reducer's read that a schedule can change.
 
 use crate::beside::{Beside, Change};
 use crate::cures::cure_of;
@@ -18,8 +18,9 @@ use cilk_types::event::Event;
 use cilk_types::invocation::Invocation;
 use std::alloc::AllocError;
 
-/// What races, by its frames: that of the later event, counted from 0, and the one beside it, which is the earlier event's, or, where a reducer
-/// is read or set, a child that may still update it; the frame that both ways up have in common, and its child that runs beside what follows.
+/// The frames of a race. `later` is the later event, counted from 0, and `second` its frame.
+/// `beside` is the frame of the earlier event, or a child in parallel that may update the reducer.
+/// `common` is the nearest common ancestor, and `child` its spawned child around `beside`.
 #[derive(Clone, Copy, Debug)]
 struct Pair {
     later: usize,
@@ -29,8 +30,10 @@ struct Pair {
     child: usize,
 }
 
-/// What stands behind the line of a race: both accesses with what they touch and the ways to them from the frame that they have in
-/// common, what lets them run in parallel and where a sync would part them, and a schedule, which was played. The positions count from 1.
+/// Returns the report that follows the line of a race: both accesses, the paths from them up to the
+/// common frame, the spawn between them, a place for a sync, a schedule that was played, and a
+/// hint. Events count from 1. Fails with [`CaseFault::Unfit`] where the run doesn't have both
+/// events.
 pub fn of_race(
     case: &Case<'_>,
     number: u16,
@@ -48,7 +51,6 @@ pub fn of_race(
     Ok(report)
 }
 
-// Both accesses, and what stands below them.
 fn push_race(
     case: &Case<'_>,
     run: &Run,
@@ -76,8 +78,8 @@ fn push_race(
     push_hint(report, cure, number)
 }
 
-/// The script of a schedule that makes the later of the two first, where there is one of two workers, which was played. The
-/// positions count from 1.
+/// Returns the script of a schedule of two workers that makes the later event first, if there is
+/// one that `play` accepts. Events count from 1.
 pub fn script_of_race(
     case: &Case<'_>,
     number: u16,
@@ -90,7 +92,6 @@ pub fn script_of_race(
     Ok(script_of(case, &run, number, earlier, later)?)
 }
 
-// The same by the run.
 fn script_of(
     case: &Case<'_>,
     run: &Run,
@@ -112,7 +113,7 @@ fn script_of(
     }
 }
 
-// The cure of a race of accesses.
+// The hint for a determinacy race.
 fn push_cure(
     case: &Case<'_>,
     run: &Run,
@@ -139,7 +140,7 @@ fn push_cure(
     push_hint(report, cure, 311)
 }
 
-// A cure, or else that which stands by a number.
+// The hint, or the refusal number's general one.
 fn push_hint(report: &mut String, cure: Option<String>, number: u16) -> Result<(), AllocError> {
     match cure {
         Some(cure) => push_line(report, "hint", cure.as_str()),
@@ -147,7 +148,7 @@ fn push_hint(report: &mut String, cure: Option<String>, number: u16) -> Result<(
     }
 }
 
-// The ways to two accesses, for a cure.
+// The paths to both accesses, for a hint.
 fn ways_of(case: &Case<'_>, run: &Run, pair: &Pair) -> Ways {
     Ways {
         earlier: pair.beside,
@@ -158,7 +159,7 @@ fn ways_of(case: &Case<'_>, run: &Run, pair: &Pair) -> Ways {
     }
 }
 
-// The cure that stands by a number.
+// The general hint of a refusal number.
 fn push_reason(report: &mut String, number: u16) -> Result<(), AllocError> {
     match reason_of(number) {
         Some(reason) => push_line(report, "hint", reason.cure),
@@ -166,7 +167,8 @@ fn push_reason(report: &mut String, number: u16) -> Result<(), AllocError> {
     }
 }
 
-// The two ways up to the frame in common, below these headings; what lets the two run in parallel, what parts them, and a schedule.
+// Both paths up to the common frame under these headings, the spawn, the place for a sync, and a
+// schedule.
 fn push_pair(
     case: &Case<'_>,
     run: &Run,
@@ -189,8 +191,8 @@ fn push_pair(
     push_schedule(case, report, &schedule_of(run, pair))
 }
 
-// A reducer that is read or set beside no child that was spawned ahead of it: so it is in a spawned child itself, and what follows that
-// child's spawn may update the reducer beside it.
+// A reducer that is read or set with no earlier child in parallel. So the event is itself in a
+// spawned child, and code after that spawn may update the reducer in parallel.
 fn push_first_child(
     case: &Case<'_>,
     run: &Run,
@@ -293,7 +295,7 @@ fn push_earlier(
     push_place(case, report, place(case, run, index), what.as_str())
 }
 
-// Whose result an event writes, where it does: a child's, as the last thing that the child does.
+// The function whose result an event writes, if the event is a child's result.
 fn giver_of(case: &Case<'_>, run: &Run, index: usize) -> Result<String, AllocError> {
     let alloc = case.alloc;
     match frame_of(run, index) {
@@ -306,7 +308,7 @@ fn giver_of(case: &Case<'_>, run: &Run, index: usize) -> Result<String, AllocErr
     }
 }
 
-// Where an event stands; a creation stands where its reducer is declared.
+// The place of an event. A creation's place is the declaration of its reducer.
 fn place(case: &Case<'_>, run: &Run, index: usize) -> usize {
     if let Some(Event::Create { instance }) = run.event(index) {
         if let Some(name) = reducer_name(case, run, instance) {
@@ -316,7 +318,6 @@ fn place(case: &Case<'_>, run: &Run, index: usize) -> usize {
     run.replay.place(&case.map, index).unwrap_or(0)
 }
 
-// What an event does.
 fn done_by(run: &Run, index: usize) -> &'static str {
     match run.event(index) {
         Some(Event::Write { .. }) => "written",
@@ -327,13 +328,12 @@ fn done_by(run: &Run, index: usize) -> &'static str {
     }
 }
 
-// The frame of an event.
 fn frame_of(run: &Run, index: usize) -> Option<usize> {
     let step = run.replay.steps.get(index)?;
     Some(step.frame)
 }
 
-// The frame above one, if there is one.
+// The parent of a frame; none for the first frame.
 fn above(run: &Run, frame: usize) -> Option<usize> {
     if frame == 0 {
         return None;
@@ -342,7 +342,7 @@ fn above(run: &Run, frame: usize) -> Option<usize> {
     Some(note.parent)
 }
 
-// Whether a frame is another one, or stands below it.
+// Whether a frame is `outer` or one of its descendants.
 fn is_within(run: &Run, frame: usize, outer: usize) -> bool {
     let mut at = frame;
     for _level in 0..run.replay.frames.len() {
@@ -357,7 +357,7 @@ fn is_within(run: &Run, frame: usize, outer: usize) -> bool {
     false
 }
 
-// Two accesses whose ways up part where the earlier one's is a spawned child.
+// The common frame of two accesses, and its child around the earlier one.
 fn of_accesses(run: &Run, earlier: usize, later: usize) -> Option<Pair> {
     let first = frame_of(run, earlier)?;
     let second = frame_of(run, later)?;
@@ -378,8 +378,8 @@ fn of_accesses(run: &Run, earlier: usize, later: usize) -> Option<Pair> {
     None
 }
 
-// A read of a reducer, and a child that was spawned ahead of it in its own frame or in one above, and isn't synced: the one that updates the
-// reducer, where one does.
+// A read of a reducer, and an unsynced child that was spawned before it in its frame or an
+// ancestor. It is the child that changes the reducer, if there is one.
 fn of_views(
     case: &Case<'_>,
     run: &Run,
@@ -405,7 +405,8 @@ fn of_views(
     Ok(beside_any(run, children.as_slice(), later, first, second))
 }
 
-// A frame's event, and the last child beside it of the nearest frame that has one, from its own up to another.
+// The last child in parallel of the nearest frame that has one, from the event's frame up to
+// `first`.
 fn beside_any(
     run: &Run,
     children: &[Option<usize>],
@@ -432,7 +433,7 @@ fn beside_any(
     None
 }
 
-// The way up from a frame to another one, if it isn't that one itself.
+// The path from a frame up to another one. Nothing if both are the same.
 fn push_way(
     case: &Case<'_>,
     run: &Run,
@@ -450,7 +451,7 @@ fn push_way(
     push_path(case, run, report, way.as_slice())
 }
 
-// What lets the two run in parallel.
+// The spawn or loop that lets the two run in parallel.
 fn push_parallel(
     case: &Case<'_>,
     run: &Run,
@@ -471,7 +472,7 @@ fn push_parallel(
     push_line(report, "parallel", text.as_str())
 }
 
-// Where a sync would part the two.
+// The place for a sync between the two.
 fn push_parting(
     case: &Case<'_>,
     run: &Run,
@@ -505,7 +506,7 @@ fn push_parting(
     push_line(report, "parted by", text.as_str())
 }
 
-// The turn of a loop, or its turns, in which a frame stands, below one that halves them.
+// The turn or turns of a loop around a frame, below a frame that halves them.
 fn turn_below(
     case: &Case<'_>,
     run: &Run,
@@ -536,7 +537,7 @@ fn turn_below(
     }
 }
 
-// Where the later way leaves the frame in common.
+// The place in the common frame of the later access, or of the invocation on the path to it.
 fn leaving(case: &Case<'_>, run: &Run, pair: &Pair) -> usize {
     let mut at = pair.second;
     for _level in 0..run.replay.frames.len() {
@@ -566,7 +567,8 @@ fn leaving(case: &Case<'_>, run: &Run, pair: &Pair) -> usize {
     place(case, run, pair.later)
 }
 
-// One worker goes up to the spawn; another takes what follows, and comes to the later access first; then the child goes on.
+// One worker runs up to the spawn. Another steals the continuation and makes the later access
+// first. Then the first one runs the child.
 fn schedule_of(run: &Run, pair: &Pair) -> Schedule {
     let mut offered: usize = 0;
     let mut at = pair.child;

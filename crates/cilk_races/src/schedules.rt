@@ -1,4 +1,4 @@
-//! A schedule that makes the later of two accesses first, and what it leaves.
+//! A schedule that makes the later of two accesses first, and its outcome.
 
 use cilk_findings::case::Case;
 use cilk_findings::notes::push_line;
@@ -9,8 +9,9 @@ use cilk_serial::run::run;
 use cilk_types::outcome::{Final, Outcome};
 use std::alloc::{AllocError, Global};
 
-/// A schedule of two workers: the first makes so many events, up to a spawn; the second takes the continuation at this place, and
-/// makes so many; then the first makes those of the child.
+/// A schedule of two workers. The first makes `ahead` events, up to a spawn. The second steals the
+/// continuation at `place` and makes `behind` events. Then the first makes the `child` events of
+/// the child.
 #[derive(Clone, Copy)]
 pub struct Schedule {
     pub ahead: usize,
@@ -20,7 +21,7 @@ pub struct Schedule {
 }
 
 impl Schedule {
-    /// The script that makes it, for `play`.
+    /// Returns the script of this schedule for `play`.
     pub fn script(&self, case: &Case<'_>) -> Result<String, AllocError> {
         let alloc = case.alloc;
         let Schedule {
@@ -33,14 +34,14 @@ impl Schedule {
     }
 }
 
-/// A script that `play` took, and what it leaves, in words.
+/// A script that `play` accepted, and its outcome in words.
 #[derive(Drop)]
 pub struct Played {
     pub script: String,
     pub leaves: String,
 }
 
-/// The script of a schedule, which is played first; nothing where `play` refuses it, or doesn't come to the run's end.
+/// Plays a schedule. Returns `None` where `play` refuses its script or doesn't reach the run's end.
 pub fn made_by(case: &Case<'_>, schedule: &Schedule) -> Result<Option<Played>, AllocError> {
     let script = schedule.script(case)?;
     match leaves(case, script.as_str())? {
@@ -49,7 +50,7 @@ pub fn made_by(case: &Case<'_>, schedule: &Schedule) -> Result<Option<Played>, A
     }
 }
 
-// What a script leaves, in words, where `play` takes it.
+// The outcome of a script in words, if `play` accepts it.
 fn leaves(case: &Case<'_>, script: &str) -> Result<Option<String>, AllocError> {
     let alloc = case.alloc;
     let steps = match read(alloc, script.as_bytes()) {
@@ -64,7 +65,7 @@ fn leaves(case: &Case<'_>, script: &str) -> Result<Option<String>, AllocError> {
     }
 }
 
-/// What a schedule leaves, in words, and its script, where `play` takes it.
+/// Adds the outcome of a schedule and its script, if `play` accepts it.
 pub fn push_schedule(
     case: &Case<'_>,
     report: &mut String,
@@ -82,7 +83,7 @@ pub fn push_schedule(
     Ok(())
 }
 
-// What is told of a script that stops.
+// The outcome in words where a fault stops the run. None if the script is refused.
 fn stopped(alloc: Global, fault: &PlayFault) -> Result<Option<String>, AllocError> {
     match fault {
         PlayFault::Stop { fault, name: _ } => {
@@ -96,7 +97,7 @@ fn stopped(alloc: Global, fault: &PlayFault) -> Result<Option<String>, AllocErro
     }
 }
 
-// How an outcome differs from that of `run`.
+// The difference between an outcome and that of `run`.
 fn left(case: &Case<'_>, outcome: &Outcome) -> Result<String, AllocError> {
     let alloc = case.alloc;
     match run(alloc, &case.program, &case.input) {
@@ -111,7 +112,7 @@ fn left(case: &Case<'_>, outcome: &Outcome) -> Result<String, AllocError> {
     }
 }
 
-// How an outcome differs from the serial run's.
+// The difference between an outcome and the serial run's.
 fn differing(alloc: Global, outcome: &Outcome, serial: &Outcome) -> Result<String, AllocError> {
     let result = outcome.result;
     let wanted = serial.result;

@@ -1,6 +1,5 @@
-//! What to write in place of two accesses that race, where their causes are common ones: a work array that the calls
-//! of a recursion share, a count of the places that are filled, and a reducer that is read to keep the greater of two
-//! numbers.
+//! Hints for races with a common cause: a work array that calls of a recursion share, a count of
+//! filled places, and a reducer that is read to keep the greater of two numbers.
 
 use cilk_findings::case::Case;
 use cilk_findings::map::GlobalName;
@@ -14,8 +13,8 @@ use cilk_syntax::token::Kind;
 use cilk_types::event::Event;
 use std::alloc::AllocError;
 
-/// Two accesses by their frames, the frame that both ways up have in common, its child that runs beside what follows,
-/// and the byte at which the later way leaves it.
+/// Two accesses by their frames, the common ancestor, its child around the earlier access, and the
+/// byte at which the later path leaves that ancestor.
 #[derive(Clone, Copy)]
 pub struct Ways {
     pub earlier: usize,
@@ -25,7 +24,7 @@ pub struct Ways {
     pub leaves_at: usize,
 }
 
-/// The cure of a race on a global, where its cause is a common one.
+/// Returns the hint for a race on a global with a common cause.
 pub fn common_cure(
     case: &Case<'_>,
     run: &Run,
@@ -51,7 +50,7 @@ pub fn common_cure(
     }
 }
 
-// The frame of the function in which a frame stands, and the function's number.
+// The nearest frame of a function around a frame, and the function's number.
 fn function_at(run: &Run, frame: usize) -> Option<(usize, u32)> {
     let mut at = frame;
     for _level in 0..run.replay.frames.len() {
@@ -64,7 +63,7 @@ fn function_at(run: &Run, frame: usize) -> Option<(usize, u32)> {
     None
 }
 
-// Whether a function's frame stands in another one of the same function.
+// Whether a function's frame has an ancestor that runs the same function.
 fn is_recursive(run: &Run, frame: usize, function: u32) -> bool {
     let mut at = frame;
     for _level in 0..run.replay.frames.len() {
@@ -84,8 +83,8 @@ fn is_recursive(run: &Run, frame: usize, function: u32) -> bool {
     false
 }
 
-// An array that two calls of a recursion access: the later one isn't the frame in common, or a loop there spawns the
-// child and makes the later access as well.
+// An array that two calls of a recursion access. The later call isn't the common frame, or one loop
+// spawns the child and makes the later access.
 fn of_recursion(
     case: &Case<'_>,
     run: &Run,
@@ -115,7 +114,7 @@ fn of_recursion(
     )?))
 }
 
-// Whether the innermost loop at which the later way leaves the frame in common spawns the child as well.
+// Whether the innermost loop around the spawn is around the later path as well.
 fn is_in_one_loop(case: &Case<'_>, run: &Run, tokens: &Tokens<'_>, ways: &Ways) -> bool {
     let spawn = match run.replay.frames.get(ways.child) {
         Some(child) => tokens.number_at(invoked_at(case, run, child)),
@@ -127,7 +126,7 @@ fn is_in_one_loop(case: &Case<'_>, run: &Run, tokens: &Tokens<'_>, ways: &Ways) 
     }
 }
 
-// A variable that counts on, and is the index at which something is written.
+// A counter that is also the index of a written element.
 fn of_count(
     case: &Case<'_>,
     tokens: &Tokens<'_>,
@@ -149,7 +148,7 @@ fn of_count(
     )?))
 }
 
-// The array that is written at this name as its index.
+// The array that is written with this name as its index.
 fn written_at(tokens: &Tokens<'_>, name: &[u8]) -> Option<usize> {
     for number in 2..tokens.count() {
         if tokens.word(number) == name
@@ -163,7 +162,8 @@ fn written_at(tokens: &Tokens<'_>, name: &[u8]) -> Option<usize> {
     None
 }
 
-// Whether this name is counted on: by `++` or `+=`, or by an assignment that begins with the name itself and a `+`.
+// Whether this name is incremented: by `++`, `+=`, or an assignment that begins with the name and a
+// `+`.
 fn is_counted(tokens: &Tokens<'_>, name: &[u8]) -> bool {
     for number in 0..tokens.count() {
         let again = number.saturating_add(2);
@@ -181,7 +181,8 @@ fn is_counted(tokens: &Tokens<'_>, name: &[u8]) -> bool {
     false
 }
 
-/// What is said of the read of a reducer at a byte, where an `if` compares it with what it is then set to.
+/// Returns the hint for a read of a reducer at a byte, where an `if` compares the reducer with the
+/// number that it is then set to or updated by.
 pub fn kept_cure(case: &Case<'_>, at: usize) -> Result<Option<String>, AllocError> {
     let alloc = case.alloc;
     let tokens = Tokens::new(alloc, case.text)?;
@@ -202,7 +203,7 @@ pub fn kept_cure(case: &Case<'_>, at: usize) -> Result<Option<String>, AllocErro
     )?))
 }
 
-// The monoid that keeps what a comparison with the value of the reducer at a token keeps.
+// The monoid that keeps the same number as a comparison with the reducer's value.
 fn compared(tokens: &Tokens<'_>, reducer: usize) -> Option<&'static str> {
     if !matches!(tokens.kind_back(reducer, 2), Some(Kind::Value)) {
         return None;
@@ -219,7 +220,7 @@ fn compared(tokens: &Tokens<'_>, reducer: usize) -> Option<&'static str> {
     }
 }
 
-// The `if` in whose condition a token stands.
+// The `if` whose condition a token is in.
 fn condition_of(tokens: &Tokens<'_>, number: usize) -> Option<usize> {
     let mut depth: usize = 0;
     for back in 1..number.saturating_add(1) {
@@ -239,7 +240,7 @@ fn condition_of(tokens: &Tokens<'_>, number: usize) -> Option<usize> {
     None
 }
 
-// What the first statement behind the condition in which a reducer is read sets the reducer to, or updates it by.
+// The number that the first statement after the condition sets the reducer to, or updates it by.
 fn number_written<'a>(tokens: &Tokens<'a>, reducer: usize) -> Option<&'a [u8]> {
     let body = behind_head(tokens, condition_of(tokens, reducer)?);
     let first = match tokens.kind(body) {

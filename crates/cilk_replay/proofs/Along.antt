@@ -41,15 +41,15 @@ use Rattle.cilk_replay.proofs.Looking as looking
 use Rattle.cilk_replay.proofs.Looking.{IsOfCell, IsOfChild, IsOfReducer}
 use Rattle.cilk_replay.proofs.Resuming.{resumed}
 
--- the story of a chain's course
+-- the event order of a chain's course
 abbrev pub story_of : CourseValue → EventOrder
 story_of c = let y = c.yard in y.story
 
--- a fact of a position of a story, of the chain at hand
+-- a fact about a position of the current chain's event order
 pub of_chain : (P : EventOrder → ℕ → Type 0) (u : CourseValue) (at : ℕ) (v : ChainValue) → standing u at ≡ v → P (let c = v.of in let y = c.yard in y.story) v.at → P (story_of u) at
 of_chain P u at v is h = subst (λ (z : ChainValue). P (let c = z.of in let y = c.yard in y.story) z.at) (sym is) h
 
--- a frame that is begun by an ask
+-- a frame that a request begins
 pub begun_by : (code code' : CodeView) (inputs : List ℤ) (a : Ask) (first : Invocation) (what : Callee) (cursor cursor' : CursorView) → a ≡ asks.Invoke first what → code' ≡ code → cursor' ≡ cursor
     → ((p : Source) (inputs : List ℤ) → Behaves p code' → CalleeIsFit p what → Stands code' inputs p what cursor [] 0)
     → (p : Source) (how : Invocation) (callee : Callee) → a ≡ asks.Invoke how callee → Behaves p code → CalleeIsFit p callee → Stands code inputs p callee cursor' [] 0
@@ -86,7 +86,7 @@ module _ (u v : CourseValue) (same : u ≡ v) (at : ℕ) (k : Ask) (l : Level) (
   answered a k' l' q sight step =
       (S.0, S.1, going.answered_on (setting_of u S.0) S.1 at k k' l l' below a S.2 q sight (subst (λ (z : CourseValue). HasStepped z l a k' l') (sym same) step))
 
-  -- what is known of a child's level
+  -- facts about a child's level
   pub record IsChild (c : Level) : Type 0 where
     pub number : ℕ
     pub home : Home

@@ -1,4 +1,5 @@
--- A story all of which is asked for is of a course all of which is: `asked_throughout`. What departs nowhere is a serial run: `departs_nowhere`.
+-- If all of an event order is requested, all of its course is: `asked_throughout`. A course that
+-- departs nowhere is a serial run: `departs_nowhere`.
 use Rattle.std.proofs.Common.{◌≡◌, ℕ, suc, ◌+◌, ◌-◌, ◌<◌, true, false, List, [], ◌∷◌, length, slice_index_or, refl, sym, ap, ◌∙◌, subst, arith, inl}
 use Rattle.std.proofs.lemmas.List.{length-append, get_or_append_left, get_or-append-add}
 use Rattle.cilk_types.specs.declared.event.Event as numbers
@@ -21,7 +22,7 @@ throughout (child b k w u r) h =
       throughout r (λ n less. sym (get_or-append-add (asked_in u) (asked_in r) n false) ∙ h (suc (length (asked_in u) + n)) (omega (arith, less, both))),
     )
 
--- ---- as many events as askings
+-- ---- as many events as marks of requests
 pub long : {W : Type 0} (c : Course W) → length (trace (run_of c)) ≡ length (asked_in c)
 long stop = refl
 long (act b e r) = ap suc (long r)

@@ -1,7 +1,7 @@
--- A spawn is before its child's `end`, behind which its frame goes on.
+-- A spawn is before its child's `end`, after which its frame continues.
 --
 -- - `spawn_ahead`: so it is for the events of a shape;
--- - `behind_spawn`: and in the story of a run of a shape.
+-- - `behind_spawn`: and for the event order of a run of a shape.
 use Rattle.std.proofs.Common.{◌≡◌, ◌≢◌, ℕ, zero, suc, ◌+◌, ◌-◌, ◌<◌, ◌≤◌, List, [], ◌∷◌, get_or, length, map, slice_get, slice_index_or, refl, sym, ap, ◌∙◌, subst, arith}
 use mathlib.Core.Logic.{dite}
 use native.Mathlib.Decide.{dec_lt, ℕ_discrete}
@@ -27,7 +27,7 @@ module _ (f : ℕ → List ℕ) (m : ℕ → Mark) where
   not_here : {k q : ℕ} (p : ℕ) (x : Mark) → q ≡ p → m p ≡ x → (x ≡ Resume → ⊥) → IsReturn f m k q → ⊥
   not_here p x same is not r = not (sym is ∙ ap m (sym same) ∙ r.resumes)
 
-  -- the child's last event stands at z, and its parent goes on right behind it
+  -- the child's last event is at z, and its parent continues right after it
   at_child : (c : Invocation) (u : Shape) (p k z : ℕ) → z ≡ end_of u p → Laid f (plain (line_of u)) (suc p) (p ∷ []) [] → Marked m u (suc (suc p)) → m p ≡ start_of c
       → f (suc z) ≡ resumed_from c p z → IsReturn f m k (suc z) → Reaches f k z
   at_child invocations.Call u p k z at laid marked start ahead r =

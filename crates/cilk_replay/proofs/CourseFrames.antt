@@ -1,4 +1,4 @@
--- Courses at the language: `runs_are_courses`, `courses_are_runs`.
+-- Courses for the language: `runs_are_courses`, `courses_are_runs`.
 use Rattle.std.proofs.Common.{◌≡◌, ℤ, Bool, true, false, ◌&&◌, cond, List, [], ◌∷◌, ◌++◌, None, Some, refl, ap, ◌∙◌, eq-eqb}
 use Rattle.cilk_program.specs.declared.program.Body.{Body}
 use Rattle.cilk_program.specs.declared.program.Body.TheVariants.{Function, Loop}

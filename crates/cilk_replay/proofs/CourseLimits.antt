@@ -1,8 +1,10 @@
 -- A course uses as many events, frames and cells as the plan's run: `as_much`.
 --
--- - `head_is`: the first thing that a part of a loop does tells whether it is one turn, and so whether it has cells;
--- - `IsOpened`: each frame begins and goes on;
--- - `are_like`: a course starts frames of as many cells where the plan's run does; `as_much`: so it weighs as much.
+-- - `head_is`: the first event of a part of a loop says whether it is one turn, and so whether it
+--   has cells;
+-- - `IsOpened`: each frame begins and continues;
+-- - `are_like`: a course starts frames with as many cells as the plan's run; `as_much`: so it has
+--   the same cost.
 use Rattle.std.proofs.Common.{◌≡◌, ℕ, ℤ, pos, ◌-ℤ◌, int_eq, Bool, true, false, if◌then◌else◌, List, [], ◌∷◌, ◌++◌, Option, Some, refl, sym, ap, ap₂, ◌∙◌, subst, arith, eqb-true}
 use Rattle.std.proofs.lemmas.Bool.{and_parts}
 use Rattle.cilk_types.specs.declared.invocation.Invocation.{Invocation}
@@ -118,7 +120,7 @@ same_cells p (callees.Loop l) (callees.Function c) h loops = absurd (cc h)
 same_cells p (callees.Loop l) (callees.Loop m) h loops =
     ap₂ (λ (b : Bool) (n : ℕ). let body = loop_at p n in if b then body.cells else 0) (loops l m refl refl) (eqb-true l.number m.number h)
 
--- ---- each frame begins and goes on
+-- ---- each frame begins and continues
 
 abbrev pub IsOpened : Run FrameEnv → Type 0
 IsOpened runs.stop = Unit {0}
@@ -146,7 +148,7 @@ opened neither_due (runs.act (Passes (Prints x)) r) f = opened neither_due r f
 opened neither_due (runs.child k v u r) f = (begins_on u f.0, opened begin_due u f.0, opened resume_due r f.1)
 opened due t f = absurd f
 
--- ---- what a course weighs
+-- ---- the cost of a course
 
 no_frames : (e : Event) → frame_cost {W = FrameEnv} (ask_of e) ≡ 0
 no_frames (Reads c v) = refl
@@ -162,7 +164,7 @@ no_cells cells Syncs = refl
 no_cells cells (Ends v gone) = refl
 no_cells cells (Passes m) = refl
 
--- the runs have children where the other has, of as many cells
+-- each run has the other's children, with as many cells
 abbrev pub AreLike : Source → Run FrameEnv → Run FrameEnv → Type 0
 AreLike p runs.stop runs.stop = Unit {0}
 AreLike p (runs.act e r) (runs.act x s) = AreLike p r s

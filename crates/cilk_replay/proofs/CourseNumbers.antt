@@ -1,7 +1,10 @@
--- The events of the serial run on another input are those of the story, where that departs nowhere: `events_are`.
+-- The events of the serial run on another input are those of the event order, if that departs
+-- nowhere: `events_are`.
 --
--- - `IsShaped`, `same_frames`: transcripts with the same children number their frames, cells and reducers alike;
--- - `valued`: the events of a course by the plan's numbers are the plan's with the values of the course.
+-- - `IsShaped`, `same_frames`: transcripts with the same children number their frames, cells and
+--   reducers alike;
+-- - `valued`: the events of a course by the plan's numbers are the plan's with the values of the
+--   course.
 use Rattle.std.proofs.Common.{◌≡◌, ℕ, zero, suc, ◌+◌, ℤ, List, [], ◌∷◌, ◌++◌, length, Option, Some, refl, sym, ap, ap₂, ◌∙◌, subst, arith}
 use Rattle.std.proofs.lemmas.Bool.{and_parts}
 use Rattle.cilk_types.specs.declared.event.Event as numbers

@@ -1,4 +1,5 @@
--- On its own input a run is its own course: `own_course`. A course of which each event is asked for is a serial run: `asked_is_serial`.
+-- On its own input a run is its own course: `own_course`. A course in which each event is requested
+-- is a serial run: `asked_is_serial`.
 use Rattle.std.proofs.Common.{◌≡◌, ℤ, Bool, true, false, List, [], ◌∷◌, ◌++◌, Option, Some, None, refl, sym, ap, ◌∙◌, subst}
 use Rattle.cilk_monoid.specs.Laws.{MonoidStructure}
 use Rattle.cilk_runs.specs.Runs.{Cell, Instance, Ask, Granted, Begins, Resumes, Creates, Updates, Sets, Values, Prints, Event, Reads, Writes, Syncs, Ends, Passes, Deed, Does, Invokes, Run}
@@ -27,7 +28,7 @@ like Syncs = tt
 like (Ends v gone) = tt
 like (Passes m) = mark_like m
 
--- ---- what is due where an event stands, and whether it ends its frame
+-- ---- what is due at an event, and whether it ends its frame
 abbrev due_of : Event → Due
 due_of (Reads c v) = neither_due
 due_of (Writes c v) = neither_due
@@ -125,14 +126,14 @@ module _ (W V : Type 0) (M : Instance → MonoidStructure V) (next : W → List 
   pub own_course : OwnCourse W V M next same
   own_course known w memory views t h = (own known w [] memory views t h.behaves h.reads h.values, asked_all t, run_all t)
 
-  -- ---- what a run is from a point of a frame on, where this is due
+  -- ---- a run from a point of a frame on, where this is due
   record IsFrom (w : W) (past : List (Deed W)) (memory : Cell → ℤ) (views : Instance → V) (due : Due) (t : Run W) : Type 0 where
     behaves : Behaves W (follows next) w past t
     framed : IsFramed due t
     reads : IsSerial t memory
     values : IsSerialViews M t views
 
-  -- the frame goes on after an event that doesn't end it
+  -- the frame continues after an event that doesn't end it
   goes_on : (w : W) (past : List (Deed W)) (memory : Cell → ℤ) (views : Instance → V) (due : Due) (e e' : Event) (b : Bool) (t : Run W)
       → IsMadeFor W V M next same w past memory views e e' b → b ≡ true → due ≡ due_of e → is_end e ≡ false
       → IsFrom (w) (past ++ Does e' ∷ []) (λ c. put e' c (memory c)) (λ i. on_view (M i) i e' (views i)) neither_due t

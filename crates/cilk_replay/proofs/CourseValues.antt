@@ -1,5 +1,5 @@
--- Each read of a course that is asked for gives what its cell holds by the course's own list: `course_right`. After a run, cells by names and
--- by numbers hold the same: `tied_after`.
+-- Each requested read of a course gives its cell's value by the course's own list: `course_right`.
+-- After a run, cells by names and by numbers have the same values: `tied_after`.
 use Rattle.std.proofs.Common.{◌≡◌, ℕ, ℤ, nat_eq, Bool, true, false, cond, if◌then◌else◌, List, [], ◌∷◌, ◌++◌, length, Option, refl, sym, ap, ◌∙◌, subst}
 use Rattle.cilk_types.specs.declared.event.Event as numbers
 use Rattle.cilk_types.specs.declared.event.Instance as numbered

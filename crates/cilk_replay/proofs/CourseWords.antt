@@ -1,4 +1,4 @@
--- What the events of a course read, write and put into views is words, where the plan's are: `course_words`.
+-- All values of a course's events are words, if the plan's are: `course_words`.
 use Rattle.std.proofs.Common.{◌≡◌, ◌≤◌, ◌+◌, ℕ, suc, ℤ, Bool, true, false, cond, List, [], ◌∷◌, ◌++◌, length, Option, Some, None, refl, sym, subst, arith, length-append}
 use Rattle.cilk_types.specs.Word.{IsWord}
 use Rattle.cilk_types.specs.declared.invocation.Invocation.{Invocation}
@@ -67,7 +67,7 @@ view_word i views n few h =
     let s = v.short in
     subst IsWord (sym (m.number (kind_of i) (views i) v.view v.is)) (let g = v.is in number_word (kind_of i) v.view g.member (omega (arith, s, few)))
 
--- ---- events, asks and runs of words
+-- ---- events, requests and runs of words
 
 abbrev pub EventWords : Event → Type 0
 EventWords (Reads c v) = IsWord v
@@ -87,7 +87,7 @@ RunWords runs.stop = Unit {0}
 RunWords (runs.act e r) = EventWords e × RunWords r
 RunWords (runs.child k v u r) = CalleeWords v.callee × RunWords u × RunWords r
 
--- what isn't asked for is of words
+-- an event that isn't requested has words
 abbrev pub IsElseWords : Run FrameEnv → Course FrameEnv → Type 0
 IsElseWords (runs.act e r) (act b x c) = (b ≡ false → EventWords e) × IsElseWords r c
 IsElseWords (runs.child k v u r) (child b j x d c) = (b ≡ false → CalleeWords v.callee) × IsElseWords u d × IsElseWords r c
@@ -224,7 +224,7 @@ record Fits (w : FrameEnv) (past : List (Deed FrameEnv)) (memory : Cell → ℤ)
   cells : (c : Cell) → IsWord (memory c)
   viewed : AreViewed views n
 
--- of a run: its events, and what it leaves
+-- a run of words: its events, and the cells and views after it
 record LeavesWords (t : Run FrameEnv) (memory : Cell → ℤ) (views : Instance → View) (n : ℕ) : Type 0 where
   events : RunWords t
   cells : (c : Cell) → IsWord (value_after t c (memory c))

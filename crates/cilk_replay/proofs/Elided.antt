@@ -1,6 +1,7 @@
--- A serial run by names leaves what the elision leaves, however many ticks its frames take together: `runs_are_elided`.
+-- A serial run by names has the outcome of the serial elision, however many ticks its frames use
+-- together: `runs_are_elided`.
 --
--- - `same_finals`, `named_leaves`: so what the run by names leaves is the outcome of the store that it leaves.
+-- - `same_finals`, `named_leaves`: so the outcome of the run by names is the outcome of its store.
 use Rattle.std.proofs.Common.{◌≡◌, ℕ, zero, suc, ◌+◌, ◌<◌, ℤ, IsTrue, List, [], ◌∷◌, length, reverse, slice_get, refl, sym, ap, ap₂, ◌∙◌, subst, arith}
 use Rattle.cilk_types.specs.declared.event.Instance as numbered
 use Rattle.cilk_types.specs.declared.limits.TheConstants.{MAX_EVENTS}
@@ -63,8 +64,8 @@ module _ (p : Source) (r : serial.Transcript) (memory : Cell → ℤ) (views : I
   all_globals : cells_from 0 (length p.openings) (λ n. memory (Global n)) ≡ cells_from 0 (length p.openings) store.cells
   all_globals = same_cells_from 0 (length p.openings) _ _ (λ i less. same.cells (Global i) (omega (arith, less)))
 
--- Where the run's memory and views are those of a store, its last end gave this, and it printed what the store has, it leaves the outcome
--- of these.
+-- If the run's memory and views are those of a store, its last end gave v, and it printed the
+-- store's output, then its outcome is that of v and the store.
 named_leaves : (p : Source) (inputs : List ℤ) (r : serial.Transcript) (v : ℤ) (store : Store numbered.Instance)
     → result_in (reverse (trace (named p r))) ≡ v → store.output ≡ printed_in (trace (named p r))
     → Same p r (λ c. value_after (named p r) c (opening_values p inputs c)) (λ i. view_after (monoid_of i) i (named p r) (unit_of monoid_of i)) store

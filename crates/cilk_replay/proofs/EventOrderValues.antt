@@ -1,5 +1,6 @@
--- The story of a plan's run on another input has values: `stories_have_values`. On the run's own it is the plan's: `own_story`. What a serial
--- run by names reads, writes and puts into views is words: `own_words`.
+-- The event order of a plan's run on another input has values: `stories_have_values`. On the run's
+-- own input it is the plan's: `own_story`. A serial run by names reads, writes and puts into views
+-- only words: `own_words`.
 use Rattle.std.proofs.Common.{◌≡◌, ◌≤◌, ℕ, ◌-◌, ℤ, pos, Bool, true, false, List, [], ◌∷◌, ◌++◌, zero, suc, length, Some, None, slice_get, slice_index_or, unwrap_or, refl, sym, ap, ap₂, ◌∙◌, subst, arith, inl}
 use Rattle.std.proofs.lemmas.Option.{slice_get_past}
 use Rattle.cilk_types.specs.declared.event.Event as numbers
@@ -129,7 +130,7 @@ module _ (cell : Cell → ℕ) (instance : Instance → numbered.Instance) where
   own_values (d ∷ ds) [] is = absurd is
   own_values (d ∷ ds) (n ∷ es) is = ap₂ (λ (n : numbers.Event) l. n ∷ l) (own_value d n is.0) (own_values ds es is.1)
 
-  -- as many askings as events
+  -- as many marks of requests as events
   all_of : (ds : List (Deed FrameEnv)) (es : List numbers.Event) (bs : List Bool) → AreWritten cell instance ds es → bs ≡ all_true ds → bs ≡ plans.all_asked es
   all_of ds es bs is e = e ∙ by ds es is
     where

@@ -1,11 +1,11 @@
--- Frames of a course go on.
+-- Steps of the frames of a course.
 --
 -- - `Laws`: what holds at each position of a course;
 -- - `frame_here`, `begin_number`, `known`: the frames, cells and reducers there are the run's;
--- - `answered_on`: after the answer to its event the frame at hand stands at the next position;
--- - `begun_asks`, `called_on`, `spawned_on`: a child begins there, and its caller waits;
+-- - `answered_on`: after the answer to its event the current frame is at the next position;
+-- - `begun_asks`, `called_on`, `spawned_on`: a child begins, and its caller waits;
 -- - `ended_on`: a frame ends, and its caller is next;
--- - `woken`: a frame that rests goes on.
+-- - `woken`: a frame that rests continues.
 use Rattle.std.proofs.Common.{◌≡◌, ◌≢◌, ◌<◌, inl, inr, ℕ, zero, suc, ◌+◌, ◌-◌, ℤ, pos, true, false, List, [], ◌∷◌, ◌++◌, reverse, length, Some, None, slice_get, refl, sym, ap, ◌∙◌, subst, arith}
 use Rattle.std.specs.Option.{option_map}
 use Rattle.std.proofs.lemmas.List.{reverse-append}
@@ -77,7 +77,7 @@ kind_begins : (e : Event) (f : ℕ) → kind_of e ≡ kinds.Begin f → e ≡ ev
 kind_begins (events.Begin g) f q = ap events.Begin (let z : g ≡ f = cc q in z)
 kind_begins e f q = absurd (cc q)
 
--- the same frame, of which the same is known
+-- the same frame, with the same facts
 same_sight : (p : Source) (r : Transcript) (w w' : FrameEnv) (a b : Sight) → w' ≡ w → b ≡ a → Sees p r w a → Sees p r w' b
 same_sight p r w w' a b frame sight h = subst (λ (z : FrameEnv). Sees p r z b) (sym frame) (subst (Sees p r w) (sym sight) h)
 
@@ -118,7 +118,7 @@ module _ (s : Setting) (h : IsOfProgram s) where
   unfolding point_at
   first x is = told.begins x is
 
-  -- the plan's event is of the story's kind
+  -- the plan's event has the kind of the event in the event order
   pub plan_event : (i : ℕ) (e : Event) → event story (suc i) ≡ Some e → (p : Event) × (slice_get h.events i ≡ Some p) × (kind_of p ≡ kind_of e)
   plan_event i e there =
       let back : suc i - 1 ≡ i = omega arith in
@@ -143,7 +143,7 @@ module _ (s : Setting) (h : IsOfProgram s) where
       let e = plan_event i (events.Begin f) there in
       begun_by s.program s.run [] (named s.program s.run) i e.0 (let w = x.frame in w.name) f (ap (λ l. slice_get l i) (sym numbered.events) ∙ e.1) t.owner (kind_begins e.0 f e.2)
 
-  -- the children that it starts
+  -- its children
   children : AreChildren s.program s.run [] 1 (named s.program s.run)
   children =
       let d = h.is.runs in
@@ -217,7 +217,7 @@ module _ (s : Setting) (h : IsOfProgram s) where
         let on = unended (has_ended x.past) (named_ask s.program w n (asked_after s.program s.inputs w x.past).ask) _ ((here A.behind x A.is).0.asks yes) in
         not_end s.program w n k x.deed (ap (named_ask s.program w n) (sym asked_ask) ∙ on.1) has
 
-    -- the answer that it is owed
+    -- the answer owed to it
     pub owed : (a : Answer) → IsAnswered story at a → Runs s.code s.inputs l.cursor × Fits (let v = l.cursor in v.owed) a
     owed a q =
         let f = q.1 in
@@ -267,7 +267,7 @@ module _ (s : Setting) (h : IsOfProgram s) where
 
   -- ---- a child begins
 
-  -- the first ask of a frame
+  -- the first request of a frame
   first_asked : (callee : Callee) (c : Level) (past : List (Deed FrameEnv)) → past ≡ [] → c.took ≡ 0 → Stands s.code s.inputs s.program callee c.cursor [] 0
       → (let v = c.cursor in v.owed ≡ owed_for asks.Begin) → HasAsked s.code s.inputs s.program callee (answers_of past) asks.Begin c
   first_asked callee c past none took stands owes =
@@ -283,21 +283,21 @@ module _ (s : Setting) (h : IsOfProgram s) where
     pub since : let y = asks.point in y.since ≡ suc i
     pub deed : let y = asks.point in A.deed ≡ Invokes how y.frame
 
-  -- what is asked for is there
+  -- what is requested exists
   pub ask_there : (at : ℕ) (k : Ask) (l : Level) (A : Asks s at k l) → (let x = A.point in let w = x.frame in AskIsThere s.program w.callee k)
   ask_there at k l A =
       let x = A.point in
       let w = x.frame in
       subst (AskIsThere s.program w.callee) (asked_ask at k l A) (asks_there s.program h.is.named w.callee A.fit s.inputs (answers_of x.past) MAX_TICKS)
 
-  -- what is begun by an ask
+  -- the child that a request begins
   pub there : (at : ℕ) (k : Ask) (l : Level) (A : Asks s at k l) (how : Invocation) (callee : Callee) → k ≡ asks.Invoke how callee → (callee ≢ callees.Root) × CalleeIsFit s.program callee
   there at k l A how callee is =
       let x = A.point in
       let w = x.frame in
       child_fit s.program (body_of s.program w.callee) callee (subst (AskIsThere s.program w.callee) is (ask_there at k l A))
 
-  -- what the frame has that begins right behind a position, whose caller sees this
+  -- the home of the frame that begins right after a position, if its caller sees this
   pub record Placed (at : ℕ) (caller new : Sight) (callee : Callee) : Type 0 where
     pub number : ℕ
     pub home : Home
@@ -423,7 +423,7 @@ module _ (s : Setting) (h : IsOfProgram s) where
         callers = subst (Linked s _) (sym (reverse-append below (l ∷ []))) (waits_for at k l c A Call callee.0 callee.1 B, S.callers);
       }
 
-  -- what the ask begins
+  -- the child that the request begins
   pub call_begins : (at : ℕ) (k : Ask) (l : Level) (below : List Level) → StandsAt s at k l below → (f : ℕ) → Follows story at (events.Call f)
       → (how : Invocation) × (callee : Callee) × (callee ≢ callees.Root) × (k ≡ asks.Invoke how callee)
   call_begins at k l below S f F =
@@ -442,7 +442,7 @@ module _ (s : Setting) (h : IsOfProgram s) where
     pub child : StandsAt s (at + 1) asks.Begin c []
     pub parent : RestsAt s next l below
 
-  -- where a spawn's continuation stands: the parent's next event
+  -- the position of a spawn's continuation: the parent's next event
   abbrev pub IsResumed : ℕ → Point FrameEnv → Type 0
   IsResumed next x = (j : ℕ) × (suc j ≡ next) × (y : Point FrameEnv) × (point_at s j ≡ Some y) × IsLater x y
 
@@ -484,7 +484,7 @@ module _ (s : Setting) (h : IsOfProgram s) where
 
   -- ---- a frame ends
 
-  -- what is left of the callers without the innermost
+  -- the callers without the innermost
   abbrev pub Caller : ℕ → Level → List Level → Type 0
   Caller at top below = RestsAt s (at + 1) top below
 
@@ -524,7 +524,7 @@ module _ (s : Setting) (h : IsOfProgram s) where
         callers = subst (λ n. Linked s n (reverse new)) (sym later.since) callers.1;
       }
 
-  -- ---- a frame that rests goes on
+  -- ---- a frame that rests continues
 
   pub woken : (at : ℕ) (k' : Ask) (l l' : Level) (below : List Level) → RestsAt s at l below → l'.sight ≡ l.sight → Stepped l Done k' l' → StandsAt s at k' l' below
   woken at k' l l' below S sight step =
@@ -552,7 +552,7 @@ module _ (s : Setting) (h : IsOfProgram s) where
 
   -- ---- the root's frame
 
-  -- what the root's frame has and sees
+  -- the home and the sight of the root's frame
   pub record RootPlaced (sight : Sight) : Type 0 where
     pub home : Home
     pub lies : (path : List ℕ) (b : Block) → frame_at s.program s.run path ≡ Some b → b.number ≡ 1 → home.block ≡ cells_of_block b

@@ -1,4 +1,5 @@
--- The last deed of a run that finishes is its first frame's end: `ends_last`. So its last end gave the result of what it leaves: `serial_result`.
+-- The last deed of a run that finishes is its first frame's end: `ends_last`. So its last end gives
+-- the result of its outcome: `serial_result`.
 use Rattle.std.proofs.Common.{◌≡◌, ℕ, suc, ℤ, List, [], ◌∷◌, ◌++◌, reverse, sym, refl, ap, ◌∙◌, subst}
 use Rattle.std.proofs.lemmas.List.{reverse-append}
 use Rattle.cilk_types.specs.declared.event.Event as numbers
@@ -17,7 +18,7 @@ use Rattle.cilk_determinacy.specs.Nested.{named, named_event, named_from}
 abbrev pub IsLast : List (Deed FrameEnv) → ℤ → Type 0
 IsLast ds v = (front : List (Deed FrameEnv)) × (gone : List Instance) × (ds ≡ front ++ Does (Ends v gone) ∷ [])
 
--- where a frame ends with a value, that holds of the value
+-- the property holds of each value with which a frame ends
 abbrev pub AtEnd : Ending → (ℤ → Type 0) → Type 0
 AtEnd (Finished v left m) P = P v
 AtEnd (Stopped f) P = Unit {0}
@@ -60,6 +61,6 @@ module _ (p : Source) (inputs : List ℤ) where
 pub result_of : (ds : List (Deed FrameEnv)) (v : ℤ) → IsLast ds v → result_in (reverse ds) ≡ v
 result_of ds v (front, gone, is) = ap (λ (l : List (Deed FrameEnv)). result_in (reverse l)) is ∙ ap result_in (reverse-append front (Does (Ends v gone) ∷ []))
 
--- what a serial run leaves has the result that its last end gave
+-- the outcome of a serial run has the result of its last end
 pub serial_result : (p : Source) (inputs : List ℤ) (r : Transcript) (es : List numbers.Event) (o : Outcome) → IsSerialRun p inputs r es (Leaves o) → result_in (reverse (trace (named p r))) ≡ o.result
 serial_result p inputs r es o runs = result_of (trace (named p r)) o.result (result_last p inputs r es o runs)

@@ -1,4 +1,4 @@
--- What a cell holds after the first events is what its last write among them wrote: `last_value`.
+-- After the first n events, a cell holds the value of its last write among them: `last_value`.
 use Rattle.std.proofs.Common.{◌≡◌, ◌⊎◌, inl, inr, ℕ, zero, suc, ℤ, pos, nat_eq, Bool, true, false, if◌then◌else◌, List, [], ◌∷◌, ◌++◌, length, take, Option, Some, None, slice_get, slice_index_or, refl, sym, ap, ◌∙◌, subst, arith, eqb-true}
 use Rattle.std.proofs.lemmas.Bool.{cases_Bool, false≢true}
 use Rattle.cilk_types.specs.declared.event.Event.{Event}
@@ -17,7 +17,7 @@ pub cells_after_both : (es xs : List Event) (cells : Cells) → cells_after (es 
 cells_after_both [] xs cells = refl
 cells_after_both (e ∷ es) xs cells = cells_after_both es xs (written e cells)
 
--- ---- a read that is asked for gives what its cell holds
+-- ---- a read that is requested gives what its cell holds
 abbrev pub AreAskedRight : Cells → List Event → List Bool → Type 0
 AreAskedRight cells [] bs = Unit {0}
 AreAskedRight cells (e ∷ es) [] = Unit {0}
@@ -63,7 +63,7 @@ kept : (o : Option Event) (c : ℕ) (cells : Cells) → writes o c ≡ false →
 kept (Some (events.Write d v)) c cells e = ap (λ b. if b then v else cells c) e
 kept _ c cells e = refl
 
--- where this is the last write of the cell, its value is x
+-- if this is the last write of the cell, its value is x
 record IsLastWritten (cells : Cells) (es : List Event) (c : ℕ) (x : ℤ) (s : ℕ) : Type 0 where
   opened : s ≡ 0 → x ≡ cells c
   by_write : (k : ℕ) → s ≡ suc k → event_at es (suc k) ≡ Some (events.Write c x)
@@ -90,7 +90,7 @@ last_written cells es c (suc n) = by (last_written cells es c n) (cases_Bool (wr
         subst (λ b. IsLastWritten cells es c (cells_after (take (suc n) es) cells c) (if b then suc n else last_write es c n)) (sym fails)
         (subst (λ x. IsLastWritten cells es c x (last_write es c n)) (sym same) h)
 
--- what a cell of a story holds, where its cells open so
+-- the value of a cell of an event order with these opening values
 pub last_value : (s : EventOrder) (cells : Cells) → ((c : ℕ) → slice_index_or s.opening c (pos 0) ≡ cells c) → (c n : ℕ) (v : ℤ)
     → v ≡ cells_after (take n s.events) cells c → HasValue s c n v
 last_value s cells opens c n v e =

@@ -1,4 +1,5 @@
--- What the list of a course's events leaves is what its run by names leaves: `cells_left` of cells, `prints_are` of what is printed.
+-- The list of a course's events has the outcome of its run by names: the cells (`cells_left`) and
+-- the output (`prints_are`).
 use Rattle.std.proofs.Common.{◌≡◌, ℕ, ℤ, List, [], ◌∷◌, ◌++◌, sym, ap, ap₂, refl}
 use Rattle.cilk_types.specs.declared.event.Event as numbers
 use Rattle.cilk_types.specs.declared.event.Instance as numbered
@@ -59,7 +60,7 @@ module _ (p : Source) (inputs : List ℤ) (r : Transcript) (es : List numbers.Ev
   abbrev list : List numbers.Event
   list = with_values es (trace (run_of c))
 
-  -- a cell of the run holds what the list leaves in the cell of its number
+  -- a cell of the run has the last value of the cell with its number in the list
   pub cells_left : (i : Cell) → HasCell p r i → value_after (run_of c) i (opening_values p others i) ≡ cells_after list (opening_cells p inputs) (cell_number p r i)
   cells_left i has =
       let n = events_numbered p inputs r es (Leaves is.outcome) is.named is.runs in

@@ -1,9 +1,9 @@
--- Whether a frame asks for the plan's next event.
+-- Whether a frame requests the plan's next event.
 --
 -- - `asked_there`, `differs_there`: by the event's sort;
--- - `cell_there`, `cell_differs`: by the cell that it reads or writes;
--- - `child_there`, `child_differs`: by what the child runs that it starts;
--- - `reducer_there`, `reducer_differs`: by the reducer that it names.
+-- - `cell_there`, `cell_differs`: by the cell read or written;
+-- - `child_there`, `child_differs`: by the body of the child;
+-- - `reducer_there`, `reducer_differs`: by the reducer.
 use Rattle.std.proofs.Common.{◌≡◌, ◌≢◌, ℕ, suc, ℤ, Bool, true, false, cond, List, [], ◌∷◌, ◌++◌, length, Option, None, Some, refl, sym, ap, ap₂, ◌∙◌, subst}
 use Rattle.std.proofs.lemmas.Bool.{and_from, false≢true}
 use Rattle.cilk_types.specs.declared.event.Event.{Event}
@@ -89,7 +89,7 @@ module _ (cell : Cell → ℕ) (instance : Instance → numbered.Instance) where
   written_sort (Invokes invocations.Call w) e h = ap (λ (z : Event). sort_of (kind_of z)) h.1
   written_sort (Invokes invocations.Spawn w) e h = ap (λ (z : Event). sort_of (kind_of z)) h.1
 
--- ---- what is asked for is of the event's sort
+-- ---- what is requested is of the event's sort
 
 module _ (p : Source) (r : Transcript) (w : FrameEnv) where
   event_sort : (k : language.Ask) (e : Event) → IsEventOf p r w k e → sort_of (kind_of e) ≡ sort_asked k
@@ -109,7 +109,7 @@ module _ (p : Source) (r : Transcript) (w : FrameEnv) where
   event_sort (asks.End v) e h = ap (λ (z : Event). sort_of (kind_of z)) h
   event_sort (asks.Fault f) e h = absurd h
 
--- ---- what names nothing is asked for where its sort is
+-- ---- a request without cell, reducer or child is decided by its sort
 
 is_begin : (d : Deed FrameEnv) → sort_done d ≡ sorts.Begin → d ≡ Does (Passes Begins)
 is_begin (Does (Passes Begins)) q = refl
@@ -144,7 +144,7 @@ is_print (Invokes invocations.Spawn w) q = absurd (cc q)
 is_print d q = absurd (cc q)
 
 module _ (p : Source) (w : FrameEnv) where
-  -- a deed of the plan's kind that the ask comes to
+  -- a deed of the plan's kind that the request makes
   abbrev IsMade : ℕ → language.Ask → Deed FrameEnv → Type 0
   IsMade n k d = (m : Deed FrameEnv) × IsLikeDeed (same_frame p) d m × (named_ask p w n k ≡ asked_for m)
 
@@ -184,7 +184,8 @@ is_write (Invokes invocations.Spawn w) q = absurd (cc q)
 is_write d q = absurd (cc q)
 
 module _ (p : Source) (r : Transcript) (w : FrameEnv) (n : ℕ) where
-  -- the plan's deed and an ask of its sort: the deed's cell is the run's, and the ask comes to the deed where it names that cell, and there alone
+  -- The plan's deed and a request of its sort: the deed's cell is the run's, and the request makes
+  -- the deed exactly if it names that cell.
   record OfCell (k : language.Ask) (d : Deed FrameEnv) (c : ℕ) : Type 0 where
     there : Cell
     has : HasCell p r there
@@ -238,7 +239,7 @@ module _ (p : Source) (r : Transcript) (w : FrameEnv) (n : ℕ) where
       (of_write (asks.Result v) v refl f.0 f.1 e c (subst (λ (z : Deed FrameEnv). Written z e) f.2 written) (subst (DeedIsHere p r) f.2 here) cell)
   of_cell k d e c u q written here cell = absurd u
 
-  -- an ask of the sort of an event of a cell names a cell
+  -- a request of the sort of an event of a cell names a cell
   names_cell : (k : language.Ask) (kind : Kind) (c : ℕ) → IsOfCell c kind → sort_asked k ≡ sort_of kind → AsksForCell p r k
   names_cell k (kinds.Read d) c of q = by k q
     where
@@ -336,8 +337,8 @@ is_value (Invokes invocations.Spawn w) q = absurd (cc q)
 is_value d q = absurd (cc q)
 
 module _ (p : Source) (r : Transcript) (w : FrameEnv) (n : ℕ) where
-  -- the plan's deed and an ask of its sort: the deed's reducer is the run's, and the ask comes to the deed where it names that reducer, and
-  -- there alone
+  -- The plan's deed and a request of its sort: the deed's reducer is the run's, and the request
+  -- makes the deed exactly if it names that reducer.
   record OfReducer (k : language.Ask) (d : Deed FrameEnv) (i : numbered.Instance) : Type 0 where
     there : Instance
     has : HasInstance p r there
@@ -426,7 +427,7 @@ module _ (p : Source) (r : Transcript) (w : FrameEnv) (n : ℕ) where
       (of_value q f.0 f.1 e i (subst (λ (z : Deed FrameEnv). WrittenSo z e) f.2 written) (subst (DeedIsHere p r) f.2 here) of)
   of_reducer k d e i u same written here of = absurd u
 
-  -- an ask of the sort of an event of a reducer names a reducer
+  -- a request of the sort of an event of a reducer names a reducer
   names_reducer : (k : language.Ask) (kind : Kind) (i : numbered.Instance) → IsOfReducer i kind → sort_asked k ≡ sort_of kind → AsksForReducer p r k
   names_reducer k (kinds.Create j) i of same = by k same
     where
@@ -462,7 +463,7 @@ module _ (s : Setting) (h : IsOfProgram s) (at : ℕ) (k : language.Ask) (l : Le
   abbrev x : Point FrameEnv
   x = A.point
 
-  -- what the frame asks for comes to this deed, of the plan's kind
+  -- the frame's request makes this deed, of the plan's kind
   pub asked_by_deed : IsMade s.program x.frame (suc (started x.past)) k x.planned → IsAsked s.story at
   asked_by_deed m =
       let n = suc (started x.past) in
@@ -508,7 +509,7 @@ module _ (s : Setting) (h : IsOfProgram s) (at : ℕ) (k : language.Ask) (l : Le
           let N = subst (IsNumberOf s.program s.run (asked_cell s.program s.run x.frame k)) q number_is in
           asked_by_deed (D.makes (cells_one s.program s.run D.there (asked_cell s.program s.run x.frame k) D.has N.0 (D.number ∙ sym N.1)))
 
-      -- the cell that is asked for is the plan's
+      -- the cell that is requested is the plan's
       met : IsAsked s.story at → (let D = cells_deed in asked_cell s.program s.run x.frame k ≡ D.there)
       met asked =
           let n = suc (started x.past) in
@@ -527,7 +528,7 @@ module _ (s : Setting) (h : IsOfProgram s) (at : ℕ) (k : language.Ask) (l : Le
 
     module _ (f : ℕ) (of : IsOfChild f kind) (alike : sort_asked k ≡ sort_of kind) (body : Body)
         (lies : (path : List ℕ) (b : Block) (callee : Callee) → frame_at s.program s.run path ≡ Some b → frame_runs s.run path ≡ Some callee → b.number ≡ f → body ≡ body_of s.program callee) where
-      -- the plan's child, and the one that is asked for
+      -- the plan's child, and the one that is requested
       record Starts : Type 0 where
         how : Invocation
         planned : FrameEnv
@@ -560,7 +561,7 @@ module _ (s : Setting) (h : IsOfProgram s) (at : ℕ) (k : language.Ask) (l : Le
             other = (there s h at k l A how.0 a.0 a.1).0;
           }
 
-      -- what it comes to
+      -- the deed of the request
       abbrev asked_for_child : FrameEnv
       asked_for_child = let S = starts in child_world s.program x.frame (suc (started x.past)) S.callee
 

@@ -1,8 +1,9 @@
--- What a plan's run by names has: its frames, cells and reducers, by their numbers.
+-- The frames, cells and reducers of a plan's run by names, by their numbers.
 --
 -- - `maker_here`: the frame that makes an event;
 -- - `begun_by`: a frame begins with its number;
--- - `known_at`: what the plan does at a point is the run's, and what the course does there is of its kind;
+-- - `known_at`: the plan's deed at a point is the run's, and the course's deed there is of its
+--   kind;
 -- - `start_at`: the event that starts a child has its number.
 use Rattle.std.proofs.Common.{◌≡◌, ℕ, zero, suc, ◌+◌, ℤ, true, List, [], ◌∷◌, ◌++◌, length, Option, Some, None, slice_get, refl, sym, ap, ◌∙◌, subst}
 use Rattle.std.proofs.lemmas.Bool.{and_parts}

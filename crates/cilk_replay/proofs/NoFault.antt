@@ -1,12 +1,14 @@
--- A serial run by names that keeps the limits is the program's serial run, within any ticks that are enough for all its frames together:
--- `goes_along`.
+-- A serial run by names that keeps the limits is the program's serial run, within any ticks that
+-- are enough for all its frames together: `goes_along`.
 --
--- - `asks_same`: a frame asks the same with all ticks of a run and with any number that is no less than what it has taken;
--- - `asking`, `at_act`, `at_child`: where a frame stands, by names and by numbers;
+-- - `asks_same`: a frame makes the same request with all ticks of a run as with any number of ticks
+--   not less than it has used;
+-- - `asking`, `at_act`, `at_child`: the position of a frame, by names and by numbers;
 -- - `Goes`: the run by names from a point on, with what is left of each limit;
--- - `no_refusal`: the ask at that point is not refused;
+-- - `no_refusal`: the request at that point is not refused;
 -- - `set_word`: what sets a reducer there is a word;
--- - `goes_along`: the serial run from that point on is the run by names, sets reducers to words, and leaves the ticks that it doesn't take.
+-- - `goes_along`: the serial run from that point on is the run by names, sets reducers to words,
+--   and keeps its unused ticks.
 use Rattle.std.proofs.Common.{◌≡◌, ◌≤◌, ◌<◌, ℕ, suc, ◌+◌, ◌-◌, nat_eq, nat_lt, ℤ, pos, Bool, false, cond, if◌then◌else◌, IsTrue, List, [], ◌∷◌, ◌++◌, length, Option, Some, None, ⊎_elim, refl, sym, ap, ap₂, ◌∙◌, subst, arith, length-append}
 use Rattle.std.proofs.lemmas.Bool.{lt-ltb, le-ltb, ne_eqb, cases_lt}
 use Rattle.cilk_types.specs.declared.event.Event.{Event}
@@ -56,7 +58,7 @@ use Rattle.cilk_replay.proofs.CourseWords.{EventWords, RunWords}
 use Rattle.cilk_replay.proofs.OneCourse.{same_event}
 use Rattle.cilk_replay.proofs.OneRun.{invoked}
 
--- ---- asks by names
+-- ---- requests by names
 
 inner_ends : (p : Source) (w : FrameEnv) (a : language.Ask) (v : ℤ) → IsInner a → is_end (Does (named_event p w a v)) ≡ false
 inner_ends p w asks.Begin v i = refl
@@ -81,7 +83,7 @@ failed Syncs f a g q = cc
 failed (Ends x gone) f a g q = cc
 failed (Passes m) f a g q = cc
 
--- ---- what isn't refused
+-- ---- requests that aren't refused
 
 has_room : (room : ℕ) (o : Option Fault) → 0 < room → (if nat_eq room 0 then Some TooManyEvents else o) ≡ o
 has_room room o h = ap (λ (b : Bool). if b then Some TooManyEvents else o) (ne_eqb room 0 (λ e. omega (arith, e, h)))
@@ -110,7 +112,7 @@ not_refused p w k m (asks.Result y) e h q = (has_room m.room None h, tt)
 not_refused p w k m (asks.End y) e h q = (has_room m.room None h, tt)
 not_refused p w k m (asks.Fault f) e h q = absurd (failed e f (runs.Fail f) refl q)
 
--- the frame that an ask starts
+-- the frame that a request starts
 record IsInvoked (p : Source) (w : FrameEnv) (k : ℕ) (a : language.Ask) (how : Invocation) (x : FrameEnv) : Type 0 where
   callee : Callee
   is : a ≡ asks.Invoke how callee
@@ -169,7 +171,7 @@ before_is_less f more (d ∷ past) = by past [] d
 
 -- ---- words
 
--- where the event by names is of words, a reducer that it sets is set to a word
+-- if the event by names has words, a reducer is set to a word
 set_asked : (e : Happens) (i : Instance) (v : ℤ) → ask_of {W = FrameEnv} e ≡ runs.Pass (runs.Set i v) → EventWords e → IsWord v
 set_asked (Reads c x) i v q h = absurd (cc q)
 set_asked (Writes c x) i v q h = absurd (cc q)
@@ -212,7 +214,7 @@ set_both : (es es' : List Event) → SetWords es → SetWords es' → SetWords (
 set_both [] es' h g = g
 set_both (e ∷ es) es' h g = (h.0, set_both es es' h.1 g)
 
--- ---- where a frame stands, and what it asks for
+-- ---- the position of a frame, and its request
 
 module _ (p : Source) (inputs : List ℤ) where
   taken_more : (w : FrameEnv) (past : List (Deed FrameEnv)) (d : Deed FrameEnv) → taken p inputs w past ≤ taken p inputs w (past ++ d ∷ [])
@@ -224,7 +226,7 @@ module _ (p : Source) (inputs : List ℤ) where
   before_taken : (w : FrameEnv) (past : List (Deed FrameEnv)) → taken p inputs w (but_last past) ≤ taken p inputs w past
   before_taken w past = before_is_less (taken p inputs w) (taken_more w) past
 
-  -- what is asked there, and the ticks taken by then
+  -- the request there, and the ticks used by then
   record Asking (w : FrameEnv) (past : List (Deed FrameEnv)) (k : ℕ) (a : language.Ask) (start left : ℕ) : Type 0 where
     asks : next p inputs w past ≡ Some (named_ask p w k a)
     took : taken p inputs w past ≡ start - left
@@ -239,7 +241,8 @@ module _ (p : Source) (inputs : List ℤ) where
       → asked_after p inputs w past ≡ frame_asks p inputs fr.callee history MAX_TICKS
   full_ask w fr past history k at = ap (λ callee. frame_asks p inputs callee (answers_of past) MAX_TICKS) at.callee ∙ ap (λ hs. frame_asks p inputs fr.callee hs MAX_TICKS) at.answers
 
-  -- A frame asks the same with any ticks that are no fewer than it has taken by then, be they fewer or more than those of a run.
+  -- A frame makes the same request with any number of ticks not less than it has used by then, be
+  -- it fewer or more than a run's.
   asks_same : (w : FrameEnv) (fr : Frame) (past : List (Deed FrameEnv)) (history : List ℤ) (k start : ℕ) → At p inputs w fr past history k
       → taken p inputs w past ≤ start → IsWithin (asked_after p inputs w past).ask
       → frame_asks p inputs fr.callee history start ≡ asks_for (asked_after p inputs w past).ask (start - taken p inputs w past)
@@ -333,9 +336,9 @@ module _ (p : Source) (inputs : List ℤ) where
         cells = omega (arith, c);
       }
 
-  -- ---- the ask at that point
+  -- ---- the request at that point
 
-  -- an ask that stands at a point of the run by names isn't refused
+  -- a request at a point of the run by names isn't refused
   no_refusal : (w : FrameEnv) (fr : Frame) (past : List (Deed FrameEnv)) (history : List ℤ) (k start left : ℕ) (m : Memory) (b : language.Ask) (f : Fault)
       → At p inputs w fr past history k → taken p inputs w past ≤ start
       → frame_asks p inputs fr.callee history start ≡ asks_for b left → refused p m b ≡ Some f
@@ -351,7 +354,7 @@ module _ (p : Source) (inputs : List ℤ) where
   enough_child : (w : FrameEnv) (past : List (Deed FrameEnv)) (k : Invocation) (x : FrameEnv) (d u : Run FrameEnv) (memory : Cell → ℤ) (views : Instance → View) (start : ℕ) (m : Memory) → Goes w past (child k x d u) memory views start m → taken p inputs w past ≤ start
   enough_child w past k x d u memory views start m h = let t = h.ticks in let before = before_taken w past in omega (arith, t, before)
 
-  -- what a frame of the run asks for isn't refused
+  -- a request of a frame of the run isn't refused
   good_act : (w : FrameEnv) (fr : Frame) (past : List (Deed FrameEnv)) (history : List ℤ) (j start : ℕ) (m : Memory) (e : Happens) (u : Run FrameEnv)
       (memory : Cell → ℤ) (views : Instance → View) → At p inputs w fr past history j
       → Goes w past (act e u) memory views start m → (refused p m (asked_after p inputs w past).ask ≡ None) × IsWithin (asked_after p inputs w past).ask
@@ -409,10 +412,10 @@ module _ (p : Source) (inputs : List ℤ) where
       → Behaves FrameEnv (follows (next p inputs)) w past stop → ⊥
   stopped_early w fr past history j at b = b _ (named_next w fr past history j at)
 
-  -- ---- the serial run goes along
+  -- ---- the serial run follows the run by names
 
-  -- t is what the serial run from a point on is by names, and es are its events: it is the run by names, it sets reducers to words, and
-  -- what it takes and leaves are the ticks that there were
+  -- The serial run from a point on has events es and is t by names. It is the run by names, it sets
+  -- reducers to words, and its used and unused ticks are those that there were.
   abbrev pub EndsAs : Ending → FrameEnv → List (Deed FrameEnv) → ℕ → List Event → Run FrameEnv → Run FrameEnv → Type 0
   EndsAs (Finished v left m) w past start es t u =
       (t ≡ u) × SetWords es × (weight (costs p inputs) TickTotal w past t + left + taken p inputs w (but_last past) ≡ start)

@@ -1,9 +1,9 @@
--- What events, the plan's deeds and asks of one kind have in common.
+-- Events, the plan's deeds and requests of one kind.
 --
 -- - `IsOfKind`, `made`: the plan's deed of an event;
--- - `goes_on`: an event that is answered is one by which its frame goes on;
--- - `IsAskFor`, `ask_for`: which asks come to an event;
--- - `Fitting`, `fitting`: an answer to an event is owed to its ask.
+-- - `goes_on`: after an event that is answered, its frame continues;
+-- - `IsAskFor`, `ask_for`: the requests that make an event;
+-- - `Fitting`, `fitting`: an answer to an event is owed to its request.
 use Rattle.std.proofs.Common.{◌≡◌, ℕ, ℤ, pos, List, Option, Some, None, refl, sym, ap, ◌∙◌, subst}
 use Rattle.std.specs.Option.{option_map}
 use Rattle.cilk_types.specs.declared.event.Event.{Event}
@@ -92,7 +92,7 @@ pub kind_there : (o : Option Event) (k : Kind) → option_map kind_of o ≡ Some
 kind_there None k q = absurd (cc q)
 kind_there (Some e) k q = (e, refl, some_inner (kind_of e) k q)
 
--- ---- the ask
+-- ---- the request
 
 abbrev pub IsAskFor : Event → Ask → Type 0
 IsAskFor (events.Begin f) k = Unit {0}
@@ -109,7 +109,7 @@ IsAskFor (events.Set i v) k = Unit {0}
 IsAskFor (events.Value i v) k = Unit {0}
 IsAskFor (events.Print v) k = Unit {0}
 
--- an answer that its ask is owed
+-- an answer that is owed to its request
 pub record Fitting (k : Ask) (e : Event) (a : Answer) : Type 0 where
   pub has : HasAnswer k
   pub fits : Fits (owed_for k) a

@@ -1,4 +1,4 @@
--- A plan's run has a course on each input, and one alone: `courses_are_one`.
+-- A plan's run has exactly one course on each input: `courses_are_one`.
 use Rattle.std.proofs.Common.{◌≡◌, ℤ, Bool, true, false, cond, List, [], ◌∷◌, ◌++◌, Option, Some, refl, sym, ap, ◌∙◌, subst}
 use Rattle.cilk_types.specs.declared.invocation.Invocation.{Invocation}
 use Rattle.cilk_types.specs.declared.invocation.Invocation.TheVariants.{Call, Spawn}
@@ -13,7 +13,7 @@ use Rattle.cilk_runs.proofs.Basics.{same_cell-refl, same_cell-eq, same_instance-
 use Rattle.cilk_replay.specs.InputCourses.{Course, stop, act, child, run_of, IsMarkLike, IsLike, wishes_for, asks_for, made_by, starts_like, started_by, IsMadeFor, IsStartedFor, IsCourse, event_for, frame_for, course_of, CoursesAreOne}
 use Rattle.cilk_replay.proofs.CourseRuns.{like}
 
--- ---- an ask for an event, and what is like an event
+-- ---- a request for an event, and what is like an event
 
 wish_like : (m n : Granted) → IsMarkLike m n → wishes_for (wish_of n) m ≡ true
 wish_like Begins Begins h = refl
@@ -64,7 +64,7 @@ value_right M views (Set i x) = tt
 value_right M views (Value i) = refl
 value_right M views (Print x) = tt
 
--- the event of an ask that is for e
+-- the event of a request for e
 record IsAnswer {W V : Type 0} (M : Instance → MonoidStructure V) (memory : Cell → ℤ) (views : Instance → V) (a : Option (Ask W)) (e e' : Event) : Type 0 where
   kind : IsLike e e'
   asks : a ≡ Some (ask_of e')

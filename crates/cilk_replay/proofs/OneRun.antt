@@ -1,4 +1,5 @@
--- A program has one serial run at most by names: `runs_are_one`. The serial run by names is one: `named_runs_are_serial`.
+-- By names a program has at most one serial run: `runs_are_one`. The serial run by names is one:
+-- `named_runs_are_serial`.
 use Rattle.std.proofs.Common.{◌≡◌, ℤ, Bool, List, [], ◌∷◌, ◌++◌, Option, Some, refl, sym, ap, ◌∙◌, subst}
 use Rattle.cilk_types.specs.declared.invocation.Invocation.{Invocation}
 use Rattle.cilk_monoid.specs.Laws.{MonoidStructure}

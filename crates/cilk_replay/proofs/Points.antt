@@ -1,8 +1,9 @@
--- What stands at each position of a course: `asked_by_positions`.
+-- The positions of a course: `asked_by_positions`.
 --
--- - `Laid`: a list of points has those of a course from a position on; `laid`: so does the list that they are of;
--- - `walk`: what holds of each point;
--- - `points_asked`, `points_deeds`, `written_at`: what the story tells of it.
+-- - `Laid`: a list of points has those of a course from a position on; `laid`: so has a course's
+--   own list;
+-- - `walk`: the law of each point;
+-- - `points_asked`, `points_deeds`, `written_at`: the event order at each point.
 use Rattle.std.proofs.Common.{◌≡◌, ◌≢◌, ◌≤◌, ◌<◌, ◌⊎◌, inl, inr, ⊎_elim, ℕ, zero, suc, ◌+◌, ◌-◌, ℤ, Bool, true, false, cond, List, [], ◌∷◌, ◌++◌, map, length, Option, Some, None, slice_get, slice_index_or, refl, sym, ap, ap₂, ◌∙◌, subst, arith, append_assoc, append-nil, length-append}
 use Rattle.std.specs.Option.{option_map}
 use Rattle.std.proofs.lemmas.Bool.{and_parts}
@@ -51,7 +52,7 @@ size c = length (asked_in c)
 
 -- ---- frames that are framed
 
--- the event is the frame's end, behind which nothing stands; or the frame goes on
+-- the event is the frame's end, and nothing follows; or the frame continues
 framed_on : {W : Type 0} (due : Due) (e : Event) (r : Run W) → IsFramed due (runs.act e r)
     → ((Continues e → ⊥) × (r ≡ runs.stop)) ⊎ (Continues e × IsFramed neither_due r)
 framed_on begin_due (Passes Begins) r f = inr (tt, f)
@@ -92,7 +93,7 @@ Laid at w past b o t c = ⊥
 some_inner : {A : Type 0} (x y : A) → Some x ≡ Some y → x ≡ y
 some_inner x y h = cc
 
--- a point of the frame at hand that has done this
+-- a point of the current frame that has done this
 record IsHere {W : Type 0} (w : W) (done : List (Deed W)) (b : ℕ) (y : Point W) : Type 0 where
   frame : y.frame ≡ w
   past : y.past ≡ done
@@ -115,7 +116,7 @@ stop_size at w past b o (runs.child k v u r) c l q = absurd (cc q)
 stop_size at w past b o t c l q = absurd l
 
 module _ (W V : Type 0) (M : Instance → MonoidStructure V) (next : W → List (Deed W) → Option (Ask W)) (same : W → W → Bool) (at : ℕ → Option (Point W)) where
-  -- where the frame ends that began at b, its caller goes on
+  -- at the end of the frame that began at b, its caller continues
   abbrev Behind : ℕ → ℕ → W → Type 0
   Behind n b w = (y : Point W) → at n ≡ Some y → (x : Point W) → x.since ≡ b → x.frame ≡ w → IsReturn at x y
 
@@ -316,7 +317,7 @@ module _ (W V : Type 0) (M : Instance → MonoidStructure V) (next : W → List 
       )
   laid list w past memory views b o t c h part = absurd h
 
-  -- the columns of the points: the course's deeds, what is asked for, and the plan's deeds
+  -- the columns of the points: the course's deeds, what is requested, and the plan's deeds
   record HasColumns (list : List (Point W)) (t : Run W) (c : Course W) : Type 0 where
     deeds : map (λ (x : Point W). x.deed) list ≡ trace (run_of c)
     asked : map (λ (x : Point W). x.asked) list ≡ asked_in c
@@ -344,7 +345,7 @@ module _ (W V : Type 0) (M : Instance → MonoidStructure V) (next : W → List 
       }
   columns w past memory views b o t c h = absurd h
 
--- ---- the story's events
+-- ---- the events of the event order
 
 record IsWrittenAt (cell : Cell → ℕ) (instance : Instance → numbered.Instance) {W : Type 0} (d : Deed W) (es : List numbers.Event) (i : ℕ) : Type 0 where
   here : numbers.Event
@@ -365,7 +366,7 @@ asked_at [] i b is = absurd (let z : None ≡ Some b = is in cc z)
 asked_at (x ∷ bs) zero b is = some_inner x b is
 asked_at (x ∷ bs) (suc i) b is = asked_at bs i b is
 
--- ---- at the language
+-- ---- for the language
 
 -- the points of a run are in the frames that make its events
 owners : (p : Source) (V : Type 0) (M : Instance → MonoidStructure V) (next : FrameEnv → List (Deed FrameEnv) → Option (Ask FrameEnv)) (w : FrameEnv) (past : List (Deed FrameEnv))

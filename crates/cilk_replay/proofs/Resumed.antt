@@ -1,6 +1,7 @@
--- Behind a child its caller asks for the `resume`.
+-- After a child its caller requests the `resume`.
 --
--- - `Resumes`: so it is in a part of a frame's behaviour, whatever follows, and so of each statement (`done`) and frame (`framed`);
+-- - `Resumes`: in a part of a frame's behaviour, whatever follows; so in each statement (`done`)
+--   and frame (`framed`);
 -- - `resume_asked`: by answers; `resume_next`: by names.
 use Rattle.std.proofs.Common.{◌≡◌, ℕ, zero, suc, ℤ, pos, ◌+ℤ◌, ◌-ℤ◌, neg_ℤ, Bool, true, false, cond, if◌then◌else◌, int_lt, int_eq, List, [], ◌∷◌, ◌++◌, Option, Some, None, is_some, refl, sym, ap, ◌∙◌, subst}
 use Rattle.cilk_types.specs.Input.{input_at, input_count}
@@ -33,7 +34,8 @@ abbrev IsStart : Ask → Type 0
 IsStart (asks.Invoke how child) = Unit {0}
 IsStart k = ⊥
 
--- what a part of a body comes to with one more answer: where it had a value, the same, and where it asked for a child, the `resume`
+-- a part of a body with one more answer: the same value, if it had one, and after the request of a
+-- child, the `resume`
 abbrev Next : {A : Type 0} → ℤ → Got A → Got A → Type 0
 Next z (Gives v a l) y = y ≡ Gives v (a ++ z ∷ []) l
 Next z (Asks k) y = IsStart k.ask → y ≡ Asks (asks_for asks.Resume k.left)

@@ -1,6 +1,6 @@
--- A frame that asks for a spawn asks for the `resume` behind it: `resumes_asked`.
+-- A frame that requests a spawn requests the `resume` after it: `resumes_asked`.
 --
--- - `of_shape`: the story is of the shape of the plan's run;
+-- - `of_shape`: the event order is of the shape of the plan's run;
 -- - `resume_deed`: the plan's deed of a `resume`;
 -- - `goes_on`: by the points of the spawn and of the `resume`.
 use Rattle.std.proofs.Common.{◌≡◌, inr, ℕ, zero, suc, ◌-◌, ◌<◌, List, [], ◌∷◌, ◌++◌, length, map, Some, refl, sym, ap, ap₂, ◌∙◌, subst, arith}
@@ -75,7 +75,7 @@ module _ (cell : Cell → ℕ) (instance : Instance → numbered.Instance) where
   resume_deed (Does (Passes (Values i x))) f is = absurd (cc is)
   resume_deed (Does (Passes (Prints x))) f is = absurd (cc is)
 
--- ---- the story
+-- ---- the event order
 
 module _ (s : Setting) (h : IsOfProgram s) where
   abbrev story : EventOrder

@@ -1,8 +1,8 @@
--- Where the frame goes on that has spawned: `resumed`.
+-- The position at which a frame continues after a spawn: `resumed`.
 --
 -- - `IsGood`, `good_shape`: right after a spawn a frame begins;
--- - `Chained`, `Ahead`: what the pass over a plan's events has of the frames at hand;
--- - `walk`: the pass tells of each `resume` after a spawn what its frame did last.
+-- - `Chained`, `Ahead`: the frames that the pass over a plan's events keeps;
+-- - `walk`: for each `resume` after a spawn, the pass gives the last event of its frame.
 use Rattle.std.proofs.Common.{◌≡◌, ◌⊎◌, inl, inr, ⊎_elim, ℕ, zero, suc, ◌+◌, ◌-◌, List, [], ◌∷◌, ◌++◌, map, Option, Some, None, slice_get, slice_index_or, refl, sym, ap, ◌∙◌, subst, arith, append_assoc, append-nil}
 use Rattle.std.specs.Option.{option_map}
 use Rattle.std.proofs.lemmas.Option.{slice_get-map}
@@ -130,7 +130,8 @@ module _ (s : Setting) (h : IsOfProgram s) where
   abbrev story : EventOrder
   story = s.story
 
-  -- the frames that wait for a child, the innermost first, where the frame at hand has its first event there
+  -- the frames that wait for a child, the innermost first, if the current frame's first event is
+  -- there
   abbrev Chained : ℕ → List Waiting → Type 0
   Chained since [] = since ≡ 0
   Chained since (w ∷ ws) = (b : ℕ) × (z : Point FrameEnv) × (suc b ≡ since) × (point_at s b ≡ Some z) × (w.at ≡ since) × Chained z.since ws
@@ -138,7 +139,7 @@ module _ (s : Setting) (h : IsOfProgram s) where
   abbrev NoSpawnAhead : ℕ → Type 0
   NoSpawnAhead i = (j : ℕ) → suc j ≡ i → slice_get all j ≡ Some Spawn → ⊥
 
-  -- what comes right before the event at hand: nothing, the event ahead of it, or what its frame did last
+  -- the predecessor of the current event: none, the event before it, or its frame's last event
   abbrev Ahead : ℕ → List Mark → List ℕ → Point FrameEnv → Type 0
   Ahead i ms ahead x =
       (ahead ≡ []) ⊎ ((ahead ≡ i ∷ []) × (Begins ms ⊎ NoSpawnAhead i))
@@ -156,7 +157,7 @@ module _ (s : Setting) (h : IsOfProgram s) where
       let found = event_there (slice_get h.events i) m (sym (slice_get-map mark_of h.events i) ∙ at) in
       subst (λ n. IsOfMark n x.planned) found.2 (of_mark found.0 x.planned (plan_deed s h i x found.0 is found.1))
 
-  -- the point ahead of one
+  -- the point before one
   before : (i : ℕ) (y : Point FrameEnv) → point_at s (suc i) ≡ Some y → (x : Point FrameEnv) × (point_at s i ≡ Some x)
   before i y is = following s h i (let less = within s h (suc i) y is in omega (arith, less))
 
@@ -265,7 +266,7 @@ module _ (s : Setting) (h : IsOfProgram s) where
       let tree = shape_of (named s.program s.run) in
       subst IsGood (sym n.spells) (subst IsGood (append-nil (shapes.marks tree)) (good_shape tree [] tt))
 
-  -- the mark of the story's event is the plan's
+  -- the event in the event order has the plan's mark
   marked : (i : ℕ) (e : Event) (m : Mark) → event story (suc i) ≡ Some e → mark_of e ≡ m → slice_get all i ≡ Some m
   marked i e m there is =
       let p = plan_event s h i e there in

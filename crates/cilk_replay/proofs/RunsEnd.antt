@@ -1,5 +1,6 @@
--- A serial run by names is the program's within as many ticks as all its frames take together: `runs_within`. So it is the program's serial run
--- where it keeps the limits: `within_limits`. What runs on other inputs are: `inputs_run_along`.
+-- A serial run by names is the program's serial run within as many ticks as all its frames use
+-- together: `runs_within`. So it is the program's serial run if it keeps the limits:
+-- `within_limits`. The runs on other inputs: `inputs_run_along`.
 use Rattle.std.proofs.Common.{◌≡◌, ◌≤◌, ℤ, List, [], refl, sym, ap, ◌∙◌, arith, ◌<◌, zero, suc, slice_index_or, pos, length, ℕ, ◌+◌, IsTrue}
 use Rattle.cilk_types.specs.declared.event.Event.{Event}
 use Rattle.cilk_types.specs.declared.outcome.Outcome.{Outcome}
@@ -47,7 +48,7 @@ use Rattle.cilk_replay.proofs.NoFault.{EndsAs, Goes, goes_along, at_begin}
 use Rattle.cilk_replay.proofs.OneRun.{runs_are_one, named_runs_are_serial}
 use Rattle.cilk_replay.proofs.EventOrderValues.{stories_have_values, course, written, serial, cells_open, own_words}
 
--- the program's serial run within so many ticks is the run by names, which ends without a fault
+-- the program's serial run within these ticks is the run by names, which ends without a fault
 pub record IsRunWithin (p : Source) (inputs : List ℤ) (ticks : ℕ) (u : Run FrameEnv) : Type 0 where
   pub transcript : Transcript
   pub events : List Event

@@ -1,9 +1,9 @@
--- What is known of the cells and reducers that a frame sees.
+-- Facts about the cells and reducers that a frame sees.
 --
--- - `seen`: a place that the frame names; `cell_found`: so of the cell that it asks for;
+-- - `seen`: a place that the frame names; `cell_found`: the cell that is requested;
 -- - `reducer_seen_is`, `reducer_found`: the same of reducers;
 -- - `root_sees`, `child_sees`: frames as they begin;
--- - `lies_at`: a frame by its number; `block_in`, `body_in`: its cells, and what it runs.
+-- - `lies_at`: a frame by its number; `block_in`, `body_in`: its cells and its body.
 use Rattle.std.proofs.Common.{◌≡◌, ◌≢◌, ℕ, zero, suc, ◌+◌, ◌-◌, nat_eq, nat_lt, if◌then◌else◌, Bool, true, false, IsTrue, List, [], ◌∷◌, ◌++◌, drop, length, map, Option, Some, None, slice_get, unwrap_or, option_map, refl, sym, ap, ◌∙◌, subst, arith, ltb-false, ltb-true, eqb-true, eq-eqb}
 use Rattle.std.proofs.lemmas.Bool.{false≢true}
 use Rattle.cilk_types.specs.declared.event.Instance as numbered
@@ -117,7 +117,7 @@ module _ (p : Source) (r : Transcript) where
   given_at (x ∷ is) (y ∷ ns) h zero i m e = h.0
   given_at (x ∷ is) (y ∷ ns) h (suc n) i m e = given_at is ns h.1 n i m e
 
-  -- what is given to the frame so many links up
+  -- the reducers passed to the frame `up` links out
   abbrev given_there : Seen → ℕ → ℕ → Reducers
   given_there hs up n = at_home (slice_get hs up) (global_named n) (λ h. unwrap_or (slice_get h.given n) (global_named n))
 
@@ -184,12 +184,12 @@ module _ (p : Source) (r : Transcript) where
   none_given_to x (y ∷ hs) [] given none h g = absurd h
   none_given_to x (y ∷ hs) (b ∷ bs) given none h g = (none, g)
 
-  -- what a frame has itself
+  -- a frame's own home
   home_is : (callee : Callee) (name : Name) (is : List Reducers) (here : IsHere p r name) (home : Home) → home.block ≡ cells_of_block here.block → here.block.number ≡ home.frame → home.before ≡ before_own p callee
       → HasHome p r (home_named p callee name is) home
   home_is callee name is here home block frame before = record { cells = own_found name here home.block block; own = own_is callee name here home frame before }
 
-  -- ---- reducers are there
+  -- ---- reducers exist
 
   abbrev HasOne : Reducers → MonoidKind → Type 0
   HasOne i k = HasInstance p r (i k)
@@ -255,7 +255,7 @@ module _ (p : Source) (r : Transcript) where
   given_have (callees.Function c) name hs bs given h g = all_given hs bs given h g c.reducers
   given_have (callees.Loop l) name hs bs given h g = none_given_to (home_named p (callees.Loop l) name []) (drop l.up hs) (drop l.up bs) given refl (dropped l.up hs bs h) (given_dropped l.up hs given g)
 
-  -- what is known of a child: what it runs is there, the plan's child runs the same, and what it has itself
+  -- facts about a child: its body exists, the plan's child has the same body, and its own home
   pub record Begins (w : FrameEnv) (k : ℕ) (callee : Callee) (home : Home) : Type 0 where
     pub well : IsTrue (is_well_named p)
     pub other : callee ≢ callees.Root
@@ -292,7 +292,7 @@ module _ (p : Source) (r : Transcript) where
     reducers = child_see w k callee home b sees.reducers;
   }
 
-  -- the cell that a frame asks for
+  -- the cell that a frame requests
   abbrev pub asked_cell : FrameEnv → Ask → Cell
   asked_cell w (asks.Read x) = cell_seen w x
   asked_cell w (asks.Write x v) = cell_seen w x
@@ -311,7 +311,7 @@ module _ (p : Source) (r : Transcript) where
   cell_found w s h (asks.Result v) u = h.result
   cell_found w s h k u = absurd u
 
--- the reducer that a frame asks for
+-- the reducer that a frame requests
 module _ (p : Source) (r : Transcript) where
   abbrev pub asked_instance : FrameEnv → Ask → Instance
   asked_instance w (asks.Create x) = reducer_seen w x
@@ -351,7 +351,7 @@ lies_at u v homes there number place other found same list are at is run path b 
     let spot : place ≡ b.number - 1 = omega (arith, at, q) in
     is ∙ inner_home (slice_get there place) (home_of (source v.program) callee b) other (ap (λ l. slice_get l place) list ∙ ap (slice_get homes) spot ∙ here)
 
--- what it has there
+-- the frame there
 pub block_in : (u : CourseValue) (number : ℕ) (home : FrameHome) → IsHomeOf u number home → IsBlockOf u number home.block
 block_in u number home h run path b prog frame q =
     let runs = runs_there (source u.program) run path b frame in

@@ -1,4 +1,4 @@
--- The worked stories, computed.
+-- The worked event orders, computed.
 use Rattle.std.proofs.Common.{refl}
 use Rattle.cilk_replay.specs.Worked.{WorkedEventOrders}
 

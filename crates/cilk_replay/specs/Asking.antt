@@ -1,4 +1,4 @@
--- What a frame asks for, and the events and answers that fit it.
+-- Requests of frames, and the events and answers that fit them.
 use Rattle.std.specs.Prelude.{◌≡◌, ◌+◌, ◌-◌, ◌<◌, ◌≤◌, ℕ, suc, ℤ, List, length, Some}
 use Rattle.cilk_types.specs.declared.event.Event.{Event}
 use Rattle.cilk_types.specs.declared.event.Event.TheVariants as events
@@ -22,8 +22,8 @@ use Rattle.cilk_replay.specs.Points.{Point, IsEventOf}
 use Rattle.cilk_replay.specs.declared.level.Level.{Level}
 use Rattle.cilk_replay.specs.Courses.{CourseValue, IsOfProgram, setting_of, point_at}
 
--- The next thing that the frame at hand asks for at a position: what its program asks for, after all answers that it had so far in the
--- story, with all the ticks of a run for itself.
+-- The next request of the current frame at a position: what its program requests after all answers
+-- so far in the event order, with all the ticks of a run for itself.
 pub record IsNextAsk (c : CourseValue) (at : ℕ) (k : Ask) : Type 0 where
   pub run : Transcript
   pub of_program : IsOfProgram (setting_of c run)
@@ -32,21 +32,21 @@ pub record IsNextAsk (c : CourseValue) (at : ℕ) (k : Ask) : Type 0 where
   pub point : Point FrameEnv
   pub is : point_at (setting_of c run) behind ≡ Some point
   pub asks : k ≡ (asked_after (source c.program) c.inputs point.frame point.past).ask
-  -- where it asks for the story's event, that is what the ask comes to: of its kind, with its cell or its reducer by the run's numbers,
-  -- and its value
+  -- if it requests the order's event, that event is what the request makes: its kind, its cell or
+  -- reducer by the run's numbers, and its value
   pub made : (let y = c.yard in IsAsked y.story at) → (here : Event) × (let y = c.yard in event y.story at ≡ Some here) × IsEventOf (source c.program) run point.frame k here
 
--- no value is owed
+-- the answer has no value
 abbrev pub IsDone : Answer → Type 0
 IsDone Done = Unit {0}
 IsDone (Value v) = ⊥
 
--- this value is owed
+-- the answer is this value
 abbrev pub Gives : ℤ → Answer → Type 0
 Gives v Done = ⊥
 Gives v (Value w) = w ≡ v
 
--- the answer to an event by which its frame goes on
+-- the answer to an event with which its frame continues
 abbrev pub IsAnswerTo : Event → Answer → Type 0
 IsAnswerTo (events.Begin f) a = IsDone a
 IsAnswerTo (events.Spawn f) a = ⊥
@@ -62,30 +62,31 @@ IsAnswerTo (events.Set i v) a = IsDone a
 IsAnswerTo (events.Value i v) a = Gives v a
 IsAnswerTo (events.Print v) a = IsDone a
 
--- the frame at hand asks for the story's event at a position, which isn't the last one
+-- the current frame requests the event at a position, which isn't the last one
 pub record Follows (s : EventOrder) (at : ℕ) (e : Event) : Type 0 where
   pub first : 1 ≤ at
   pub asked : IsAsked s at
   pub is : event s at ≡ Some e
   pub more : at < length s.events
 
--- and this is the answer to it
+-- the current frame requests an event with this answer
 abbrev pub IsAnswered : EventOrder → ℕ → Answer → Type 0
 IsAnswered s at a = (e : Event) × Follows s at e × IsAnswerTo e a
 
--- it calls a child
+-- the current frame calls a child
 abbrev pub Calls : EventOrder → ℕ → Type 0
 Calls s at = (f : ℕ) × Follows s at (events.Call f)
 
--- the frame with this number is begun right behind
+-- the frame with this number begins right after
 abbrev pub BeginsNext : EventOrder → ℕ → ℕ → Type 0
 BeginsNext s at frame = event s (at + 1) ≡ Some (events.Begin frame)
 
--- it spawns a child, and goes on at `next`
+-- the current frame spawns a child, and continues at `next`
 abbrev pub Spawns : EventOrder → ℕ → ℕ → Type 0
 Spawns s at next = ((f : ℕ) × Follows s at (events.Spawn f)) × (what s next ≡ resume at)
 
--- A frame of this callee that had these answers has asked for this: its cursor, with the ticks that it took.
+-- A frame of this callee, after these answers, has requested this: its cursor, and the ticks it
+-- used.
 pub record HasAsked (code : CodeView) (inputs : List ℤ) (p : Source) (callee : Callee) (history : List ℤ) (k : Ask) (l : Level) : Type 0 where
   pub asks : frame_asks p inputs callee history MAX_TICKS ≡ asks_for k (MAX_TICKS - l.took)
   pub stands : HasAnswer k → Stands code inputs p callee l.cursor history l.took

@@ -1,9 +1,9 @@
--- What contracts see of frames that go on, and of a continuation to be taken.
+-- Chains and tasks as contracts see them.
 use Rattle.std.specs.Prelude.{ℕ, refl}
 use Rattle.std.specs.Coded.{Coded, code_by, coded×, coded_ℕ}
 use Rattle.cilk_replay.specs.Courses.{CourseValue, course_code}
 
--- a frame and its callers go on at a position of a course
+-- a frame and its callers continue at a position of a course
 pub record ChainValue : Type 0 where
   pub of : CourseValue
   pub at : ℕ
@@ -14,7 +14,7 @@ chain_code = code_by (CourseValue × ℕ) (coded× course_code coded_ℕ) (λ c.
 abbrev pub standing : CourseValue → ℕ → ChainValue
 standing c p = record { of = c; at = p }
 
--- the continuation after the spawn at the ticket, which goes on at a position
+-- the continuation after the spawn at `ticket`, which continues at position `at`
 pub record TaskValue : Type 0 where
   pub of : CourseValue
   pub ticket : ℕ

@@ -1,4 +1,4 @@
--- The course of a plan's run on some inputs: the story that it makes, and the frame at hand at each event of it.
+-- The course of a plan's run on some inputs: its event order, and the current frame at each event.
 use Rattle.std.specs.Prelude.{◌≡◌, ◌-◌, ℕ, ℤ, List, length, Option, Some, slice_get, refl}
 use Rattle.std.specs.Coded.{Coded, code_by, coded×, coded_list, coded_ℤ}
 use Rattle.cilk_types.specs.declared.event.Event.{Event}
@@ -30,7 +30,8 @@ use Rattle.cilk_replay.specs.declared.home.Home.{Home}
 use Rattle.cilk_replay.specs.declared.sight.Sight.{Sight}
 use Rattle.cilk_replay.specs.Sights.{IsSightOf, cells_of_block}
 
--- what contracts see of a course: the yard with its story, the program and its code, the inputs of the plan's run, and the inputs at hand
+-- A course as contracts see it: the yard with its event order, the program and its code, the inputs
+-- of the plan's run, and the current inputs.
 pub record CourseValue : Type 0 where
   pub yard : YardValue
   pub program : Program
@@ -49,7 +50,7 @@ course_code =
     (λ v. (v.yard, (v.program, (v.code, (v.own, v.inputs)))))
     (λ t. record { yard = t.0; program = t.1.0; code = t.1.1.0; own = t.1.1.1.0; inputs = t.1.1.1.1 }) (λ v. refl)
 
--- a course, with the serial run of the program of which there is a plan
+-- a course, with the serial run of the program that its plan is of
 pub record Setting : Type 0 where
   pub program : Source
   pub code : CodeView
@@ -61,12 +62,12 @@ pub record Setting : Type 0 where
 abbrev pub setting_of : CourseValue → Transcript → Setting
 setting_of c r = let y = c.yard in record { program = source c.program; code = c.code; own = c.own; inputs = c.inputs; run = r; story = y.story }
 
--- the frame at hand at the event behind so many, and all that the frame has done before
+-- the current frame at the event after `behind` others, with its past
 unfoldable pub point_at : Setting → ℕ → Option (Point FrameEnv)
 point_at s behind = slice_get (points_on s.program s.inputs s.run) behind
 
--- The code asks what the program asks; the plan is that of the program's serial run on its inputs; and the story is what the program makes of
--- it on the inputs at hand.
+-- The code requests what the program requests, the plan is that of the program's serial run on its
+-- own inputs, and the event order is what the program makes of the plan on the current inputs.
 pub record IsOfProgram (s : Setting) : Type 0 where
   pub behaves : Behaves s.program s.code
   pub events : List Event
@@ -75,40 +76,40 @@ pub record IsOfProgram (s : Setting) : Type 0 where
   pub orderly : IsOrderly s.story
   pub along : let t = s.story in IsAlong (planned events t.opening) s.story
 
--- there is such a run
+-- the program has such a run
 abbrev pub IsCourse : CourseValue → Type 0
 IsCourse c = (run : Transcript) × IsOfProgram (setting_of c run)
 
--- what a frame of a run runs, and where its cells lie
+-- the body of a frame of a run, and its block of cells
 abbrev pub home_of : Source → Callee → Block → FrameHome
 home_of p callee b = record { body = body_of p callee; block = cells_of_block b }
 
--- each frame of a run stands at its number, from 1
+-- the homes of a run's frames, in the order of the frames' numbers, from 1
 abbrev pub AreHomes : Source → Transcript → List FrameHome → Type 0
 AreHomes p r homes =
     (path : List ℕ) (b : Block) (callee : Callee) → frame_at p r path ≡ Some b → frame_runs r path ≡ Some callee → slice_get homes (b.number - 1) ≡ Some (home_of p callee b)
 
--- of the course
+-- the same for a course
 abbrev pub AreHomesOf : CourseValue → List FrameHome → Type 0
 AreHomesOf c homes = (run : Transcript) → IsOfProgram (setting_of c run) → AreHomes (source c.program) run homes
 
--- the frame with a number, if the run has it
+-- the home of the frame with this number, if the run has it
 abbrev pub IsHomeOf : CourseValue → ℕ → FrameHome → Type 0
 IsHomeOf c number home =
     (run : Transcript) (path : List ℕ) (b : Block) (callee : Callee) → IsOfProgram (setting_of c run) → frame_at (source c.program) run path ≡ Some b
     → frame_runs run path ≡ Some callee → b.number ≡ number → home ≡ home_of (source c.program) callee b
 
--- where its cells lie
+-- its block of cells
 abbrev pub IsBlockOf : CourseValue → ℕ → CellBlock → Type 0
 IsBlockOf c number block =
     (run : Transcript) (path : List ℕ) (b : Block) → IsOfProgram (setting_of c run) → frame_at (source c.program) run path ≡ Some b → b.number ≡ number → block ≡ cells_of_block b
 
--- what it runs
+-- the function or loop of that frame
 abbrev pub IsBodyOf : CourseValue → ℕ → Body → Type 0
 IsBodyOf c number body =
     (run : Transcript) (path : List ℕ) (b : Block) (callee : Callee) → IsOfProgram (setting_of c run) → frame_at (source c.program) run path ≡ Some b
     → frame_runs run path ≡ Some callee → b.number ≡ number → body ≡ body_of (source c.program) callee
 
--- what the frame sees that a frame of it begins
+-- the sight of a child that one of its frames begins
 abbrev pub IsSightIn : CourseValue → Callee → Home → Sight → Sight → Type 0
 IsSightIn c callee home caller s = let p = source c.program in IsSightOf (length p.openings) callee home caller s

@@ -1,4 +1,4 @@
--- The runs of a program on several inputs, by names and in the language's own terms.
+-- The runs of a program on several inputs, by names and as the language defines them.
 use Rattle.std.specs.Prelude.{◌≡◌, ◌≤◌, ◌<◌, ℕ, ℤ, pos, IsTrue, List, length, slice_index_or}
 use Rattle.cilk_types.specs.declared.event.Event.{Event}
 use Rattle.cilk_types.specs.declared.limits.TheConstants.{MAX_TICKS}
@@ -29,7 +29,7 @@ NamedRunsAreSerial =
     (p : Source) (inputs : List ℤ) (r : Transcript) (es : List Event) (outcome : Outcome) → IsTrue (is_well_named p) → HasWords p → InputsAreWords inputs
     → IsSerialRun p inputs r es (Leaves outcome) → IsSerialRunOn p inputs (named p r)
 
--- the run takes no more ticks, events, frames and cells than a run may
+-- the run uses no more ticks, events, frames and cells than a run may
 abbrev pub KeepsLimits : Source → List ℤ → Run FrameEnv → Type 0
 KeepsLimits p inputs u = (total : Total) → whole (costs p inputs) (first_world p) u total ≤ limit p inputs total
 
@@ -41,25 +41,27 @@ pub record IsWholeRun (p : Source) (inputs : List ℤ) (u : Run FrameEnv) : Type
   pub serial : IsSerialRun p inputs transcript events (Leaves outcome)
   pub names : named p transcript ≡ u
 
--- A serial run in the sense of courses, each frame of which has all ticks for itself, is the program's serial run where it keeps the
--- limits of a run.
+-- A serial run in the sense of courses, which gives each frame all the ticks of a run, is the
+-- program's serial run if it keeps the limits of a run.
 abbrev pub RunsWithinLimitsAreWhole : Type 0
 RunsWithinLimitsAreWhole =
     (p : Source) (inputs : List ℤ) (u : Run FrameEnv) → IsTrue (is_well_named p) → HasWords p → InputsAreWords inputs
     → IsSerialRunOn p inputs u → KeepsLimits p inputs u → IsWholeRun p inputs u
 
--- Along an orderly plan: where the story on some inputs departs nowhere, the course is a serial run on them, with as many events, frames
--- and cells as the plan's. It is the program's serial run on them, which ends without a fault, where all its frames together take no more
--- ticks than a run may; and each serial run of the program on them that ends without a fault is it, with the story's events by numbers.
+-- The course on these inputs is a serial run and keeps the limits of events, frames and cells. It
+-- is the program's serial run and ends without a fault, if all its frames together use no more
+-- ticks than a run may. Each serial run of the program on these inputs that ends without a fault is
+-- the course, with the events of the event order.
 pub record RunsAsCourse (p : Source) (others : List ℤ) (u : Run FrameEnv) (story : EventOrder) : Type 0 where
   pub course : IsSerialRunOn p others u
   pub counts : KeepsCounts p others u
   pub ends : whole (costs p others) (first_world p) u TickTotal ≤ MAX_TICKS → IsWholeRun p others u
   pub only : (r : Transcript) (es : List Event) (outcome : Outcome) → IsSerialRun p others r es (Leaves outcome) → (named p r ≡ u) × (es ≡ story.events)
-  -- and leaves the globals that the story's last writes leave
+  -- its globals have the values of the last writes in the event order
   pub globals : (r : Transcript) (es : List Event) (outcome : Outcome) → IsSerialRun p others r es (Leaves outcome)
       → (c : ℕ) → c < length p.openings → HasValue story c (length story.events) (slice_index_or outcome.globals c (pos 0))
 
+-- So it is along an orderly plan, on inputs on which the event order departs nowhere.
 abbrev pub InputsRunAlong : Type 0
 InputsRunAlong =
     (p : Source) (inputs others : List ℤ) (r : Transcript) (es : List Event) (opening : List ℤ)

@@ -1,4 +1,5 @@
--- The story of a plan's run on another input, as one function of the plan, the program and the input.
+-- The event order of a plan's run on another input, as a function of the plan, the program and the
+-- input.
 use Rattle.std.specs.Prelude.{◌≡◌, ℕ, ℤ, pos, IsTrue, List, slice_index_or}
 use Rattle.cilk_types.specs.declared.event.Event.{Event}
 use Rattle.cilk_types.specs.declared.outcome.Outcome.{Outcome}
@@ -16,11 +17,13 @@ use Rattle.cilk_determinacy.specs.Words.{HasWords, InputsAreWords}
 use Rattle.cilk_replay.specs.Frames.{course_on}
 use Rattle.cilk_replay.specs.Lists.{story_along}
 
--- the story on these inputs along the plan of a serial run, whose events are these and whose cells open so
+-- the event order on these inputs along the plan of a serial run with these events and opening
+-- cells
 abbrev pub story_on : Source → List ℤ → Transcript → List Event → List ℤ → EventOrder
 story_on p inputs r es opening = story_along es opening (course_on p inputs (named p r))
 
--- Of a program of words: its serial run on these inputs, which ends without a fault. The cells open with the globals' values.
+-- The serial run of a program of words on these inputs, which ends without a fault. The cells open
+-- with the globals' values.
 pub record IsPlannedRun (p : Source) (inputs : List ℤ) (r : Transcript) (es : List Event) (opening : List ℤ) : Type 0 where
   pub named : IsTrue (is_well_named p)
   pub words : HasWords p
@@ -29,14 +32,15 @@ pub record IsPlannedRun (p : Source) (inputs : List ℤ) (r : Transcript) (es : 
   pub runs : IsSerialRun p inputs r es (Leaves outcome)
   pub opens : (c : ℕ) → slice_index_or opening c (pos 0) ≡ opening_cells p inputs c
 
--- On its own inputs a run's story is that of its plan.
+-- On its own inputs a run's event order is the plan's.
 abbrev pub OwnEventOrder : Type 0
 OwnEventOrder =
     (p : Source) (inputs : List ℤ) (r : Transcript) (es : List Event) (opening : List ℤ)
     → IsPlannedRun p inputs r es opening → story_on p inputs r es opening ≡ planned es opening
 
--- On all inputs the story is along the plan, and has values: a read at a followed position gives what the cell's last write ahead of it
--- wrote, or the cell's opening value, and each value is a word.
+-- On all inputs of words the event order is along the plan and has values: a read at a followed
+-- position gives the cell's last write before it, or the cell's opening value, and each value is a
+-- word.
 abbrev pub EventOrdersAlongHaveValues : Type 0
 EventOrdersAlongHaveValues =
     (p : Source) (inputs others : List ℤ) (r : Transcript) (es : List Event) (opening : List ℤ)

@@ -1,4 +1,4 @@
--- The courses of a program's runs: at the language.
+-- The courses of a program's runs, for the language.
 use Rattle.std.specs.Prelude.{◌≡◌, ℤ, nat_eq, Bool, false, ◌&&◌, List, []}
 use Rattle.cilk_program.specs.declared.program.Body.{Body}
 use Rattle.cilk_program.specs.declared.program.Body.TheVariants.{Function, Loop}
@@ -16,11 +16,12 @@ same_body (Function n) (Function m) = nat_eq n m
 same_body (Loop n) (Loop m) = nat_eq n m
 same_body _ _ = false
 
--- two frames have one name, and run one function or one loop, whatever words they are given
+-- two frames have one name and run one function or one loop, whatever their arguments
 abbrev pub same_frame : Source → FrameEnv → FrameEnv → Bool
 same_frame p v w = same_name v.name w.name && same_body (body_of p v.callee) (body_of p w.callee)
 
--- the run is a serial run of the program on the inputs: each frame asks as if it had all ticks of a run for itself
+-- the run is a serial run of the program on the inputs; each frame may use all the ticks of a run
+-- for itself
 abbrev pub IsSerialRunOn : Source → List ℤ → Run FrameEnv → Type 0
 IsSerialRunOn p inputs t =
     IsSerialRunFrom FrameEnv View monoid_of (next p inputs) (same_frame p) (first_world p) (opening_values p inputs) (unit_of monoid_of) t
@@ -33,19 +34,20 @@ IsCourseOn p inputs t c =
 abbrev pub course_on : Source → List ℤ → Run FrameEnv → Course FrameEnv
 course_on p inputs t = course_of FrameEnv View monoid_of (next p inputs) (same_frame p) (first_world p) [] (opening_values p inputs) (unit_of monoid_of) t
 
--- A program's run has a course on each inputs, and one alone.
+-- A program's run has exactly one course on given inputs.
 abbrev pub ProgramsHaveOneCourse : Type 0
 ProgramsHaveOneCourse =
     (p : Source) (inputs : List ℤ) (t : Run FrameEnv) → IsCourseOn p inputs t (course_on p inputs t)
     × ((c : Course FrameEnv) → IsCourseOn p inputs t c → c ≡ course_on p inputs t)
 
--- On its own inputs a serial run is its own course, and each of its events is asked for.
+-- On its own inputs a serial run is its own course, and each of its events is requested.
 abbrev pub SerialRunsAreTheirCourses : Type 0
 SerialRunsAreTheirCourses =
     (p : Source) (inputs : List ℤ) (t : Run FrameEnv) → IsSerialRunOn p inputs t
     → IsCourseOn p inputs t (all_asked t) × IsAskedThroughout (all_asked t) × (run_of (all_asked t) ≡ t)
 
--- Along a serial run on some inputs, a course on others each of whose events is asked for is a serial run on those.
+-- The course of a serial run on other inputs is a serial run on those, if each of its events is
+-- requested.
 abbrev pub AskedCoursesAreSerialRuns : Type 0
 AskedCoursesAreSerialRuns =
     (p : Source) (inputs others : List ℤ) (t : Run FrameEnv) (c : Course FrameEnv) → IsSerialRunOn p inputs t

@@ -1,4 +1,5 @@
--- The values along a plan on an input, its own or another. The plan is a run; its events are followed as far as frames ask for them.
+-- The values along a plan on an input, its own or another. The plan is a run, whose events are
+-- followed as long as frames request them.
 use Rattle.std.specs.Prelude.{◌≡◌, ℤ, Bool, true, false, cond, List, [], ◌∷◌, ◌++◌, Option, Some, None}
 use Rattle.cilk_types.specs.declared.invocation.Invocation.{Invocation}
 use Rattle.cilk_types.specs.declared.invocation.Invocation.TheVariants.{Call, Spawn}
@@ -12,31 +13,31 @@ use Rattle.cilk_runs.specs.Traces.{begin_due, IsFramed}
 use Rattle.cilk_runs.specs.Views.{view_after, IsViewRight, IsSerialViews}
 use Rattle.cilk_runs.specs.Theorem.{follows}
 
--- A run along a plan: for each event, whether its frame asks for it.
+-- A run along a plan: each event, and whether its frame requests it.
 pub data Course (W : Type 0) : Type 0 where
   stop : Course W
   act : (asked : Bool) → (event : Event) → (rest : Course W) → Course W
   child : (asked : Bool) → (how : Invocation) → (what : W) → (inner : Course W) → (rest : Course W) → Course W
 
--- the run, without what is asked
+-- the run alone
 abbrev pub run_of : {W : Type 0} → Course W → Run W
 run_of stop = runs.stop
 run_of (act b e r) = runs.act e (run_of r)
 run_of (child b k w u r) = runs.child k w (run_of u) (run_of r)
 
--- for each event, in serial order: whether it is asked for
+-- whether each event is requested, in serial order
 abbrev pub asked_in : {W : Type 0} → Course W → List Bool
 asked_in stop = []
 asked_in (act b e r) = b ∷ asked_in r
 asked_in (child b k w u r) = b ∷ (asked_in u ++ asked_in r)
 
--- the course of a run each of whose events is asked for
+-- the course of a run in which each event is requested
 abbrev pub all_asked : {W : Type 0} → Run W → Course W
 all_asked runs.stop = stop
 all_asked (runs.act e r) = act true e (all_asked r)
 all_asked (runs.child k w u r) = child true k w (all_asked u) (all_asked r)
 
--- each event is asked for
+-- each event is requested
 abbrev pub IsAskedThroughout : {W : Type 0} → Course W → Type 0
 IsAskedThroughout stop = Unit {0}
 IsAskedThroughout (act b e r) = (b ≡ true) × IsAskedThroughout r
@@ -62,7 +63,7 @@ IsLike (Ends v gone) (Ends w gone') = Unit {0}
 IsLike (Passes m) (Passes n) = IsMarkLike m n
 IsLike _ _ = ⊥
 
--- an ask for an event of this kind, and of this cell or instance
+-- a request for an event of this kind, and of this cell or instance
 abbrev pub wishes_for : Wish → Granted → Bool
 wishes_for Begin Begins = true
 wishes_for Resume Resumes = true
@@ -81,7 +82,8 @@ asks_for (Some (End x gone)) (Ends v gone') = true
 asks_for (Some (Pass a)) (Passes m) = wishes_for a m
 asks_for _ _ = false
 
--- what an ask makes, where the cells hold these values and the views have these numbers; this event, where it makes none
+-- the event of a request, if the cells hold these values and the views have these numbers; if it
+-- makes none, event e
 abbrev pub made_by : {W : Type 0} → (Cell → ℤ) → (Instance → ℤ) → Option (Ask W) → Event → Event
 made_by memory number (Some (Read c)) e = Reads c (memory c)
 made_by memory number (Some (Write c v)) e = Writes c v
@@ -90,29 +92,31 @@ made_by memory number (Some (End v gone)) e = Ends v gone
 made_by memory number (Some (Pass a)) e = Passes (mark_of number a)
 made_by memory number _ e = e
 
--- an ask that starts a frame so, of one function or one loop with v
+-- a request that starts, in this way, a frame of the same function or loop as v
 abbrev pub starts_like : {W : Type 0} → (W → W → Bool) → Option (Ask W) → Invocation → W → Bool
 starts_like same (Some (Invoke Call x)) Call v = same v x
 starts_like same (Some (Invoke Spawn x)) Spawn v = same v x
 starts_like same _ k v = false
 
--- what an ask starts; this, where it starts nothing
+-- the frame that a request starts; if it starts none, frame v
 abbrev pub started_by : {W : Type 0} → Option (Ask W) → W → W
 started_by (Some (Invoke k x)) v = x
 started_by _ v = v
 
--- `next` is the program's behaviour on the input. `same` tells whether two frames are of one function or of one loop.
+-- `next` is the program's behaviour on the input. `same` says whether two frames run one function
+-- or one loop.
 module _ (W V : Type 0) (M : Instance → MonoidStructure V) (next : W → List (Deed W) → Option (Ask W)) (same : W → W → Bool) where
-  -- Where the plan has event e, a frame that has done this makes event e'. It asks for it where the next that it asks for is of that
-  -- kind, and then with the values of its own: a read gives what its cell has, a value is the number of its view. What it doesn't ask
-  -- for stays as the plan has it.
+  -- In the place of the plan's event e, a frame with this past makes event e'. The event is
+  -- requested if the frame's next request is of that kind. Then it has the frame's values: a read
+  -- gives its cell's value, a value is the number of its view. An event that isn't requested stays
+  -- as the plan has it.
   pub record IsMadeFor (w : W) (past : List (Deed W)) (memory : Cell → ℤ) (views : Instance → V) (e e' : Event) (asked : Bool) : Type 0 where
     pub like : IsLike e e'
     pub made : asked ≡ true → (next w past ≡ Some (ask_of e')) × IsReadRight e' memory × IsViewRight M e' views
     pub kept : asked ≡ false → e' ≡ e
     pub only : (x : Event) → IsLike e x → next w past ≡ Some (ask_of x) → asked ≡ true
 
-  -- where the plan starts v, it starts v'
+  -- in the place of the plan's child v, the frame starts v'
   pub record IsStartedFor (w : W) (past : List (Deed W)) (k k' : Invocation) (v v' : W) (asked : Bool) : Type 0 where
     pub how : k ≡ k'
     pub fits : same v v' ≡ true
@@ -120,8 +124,9 @@ module _ (W V : Type 0) (M : Instance → MonoidStructure V) (next : W → List 
     pub kept : asked ≡ false → v' ≡ v
     pub only : (x : W) → same v x ≡ true → next w past ≡ Some (Invoke k x) → asked ≡ true
 
-  -- The course of the plan's run, where frame w has done this, the cells hold these values and the views are these. A read is of the
-  -- last write of its cell before it in serial order, a value of what is before it in serial order.
+  -- The course of the plan's run from frame w on, with this past, these values in the cells and
+  -- these views. A read gives the last write of its cell before it in serial order. A value comes
+  -- from the events before it in serial order.
   abbrev pub IsCourse : W → List (Deed W) → (Cell → ℤ) → (Instance → V) → Run W → Course W → Type 0
   IsCourse w past memory views runs.stop stop = Unit {0}
   IsCourse w past memory views (runs.act e r) (act b e' r') =
@@ -133,7 +138,7 @@ module _ (W V : Type 0) (M : Instance → MonoidStructure V) (next : W → List 
       × IsCourse w (past ++ Invokes k' v' ∷ []) (λ c. value_after (run_of u') c (memory c)) (λ i. view_after (M i) i (run_of u') (views i)) r r'
   IsCourse _ _ _ _ _ _ = ⊥
 
-  -- The same as a function.
+  -- The same, as a function.
   abbrev pub event_for : W → List (Deed W) → (Cell → ℤ) → (Instance → V) → Event → Event
   event_for w past memory views e = cond (asks_for (next w past) e) (made_by memory (numbers_of M views) (next w past) e) e
 
@@ -151,34 +156,35 @@ module _ (W V : Type 0) (M : Instance → MonoidStructure V) (next : W → List 
       child (starts_like same (next w past) k v) k v' u'
       (course_of w (past ++ Invokes k v' ∷ []) (λ c. value_after (run_of u') c (memory c)) (λ i. view_after (M i) i (run_of u') (views i)) r)
 
-  -- A plan's run has a course on each input, and one alone.
+  -- A plan's run has exactly one course on each input.
   abbrev pub CoursesAreOne : Type 0
   CoursesAreOne = ((v : W) → same v v ≡ true) → (w : W) (past : List (Deed W)) (memory : Cell → ℤ) (views : Instance → V) (t : Run W)
       → IsCourse w past memory views t (course_of w past memory views t)
       × ((c : Course W) → IsCourse w past memory views t c → c ≡ course_of w past memory views t)
 
-  -- the run is what its frames ask for, one after the other, and each read and each value is right
+  -- the run is what its frames request, one after the other, and each read and each value is right
   pub record IsSerialRunFrom (w : W) (memory : Cell → ℤ) (views : Instance → V) (t : Run W) : Type 0 where
     pub behaves : Behaves W (follows next) w [] t
     pub framed : IsFramed begin_due t
     pub reads : IsSerial t memory
     pub values : IsSerialViews M t views
 
-  -- There is one such run at most.
+  -- There is at most one such run.
   abbrev pub SerialRunsAreOne : Type 0
   SerialRunsAreOne =
       (w : W) (memory : Cell → ℤ) (views : Instance → V) (t u : Run W) → IsSerialRunFrom w memory views t → IsSerialRunFrom w memory views u → t ≡ u
 
-  -- On its own input a run is its own course, in which each event is asked for.
+  -- On its own input a run is its own course, in which each event is requested.
   abbrev pub OwnCourse : Type 0
   OwnCourse = ((v : W) → same v v ≡ true) → (w : W) (memory : Cell → ℤ) (views : Instance → V) (t : Run W) → IsSerialRunFrom w memory views t
       → IsCourse w [] memory views t (all_asked t) × IsAskedThroughout (all_asked t) × (run_of (all_asked t) ≡ t)
 
-  -- a frame asks for nothing after its end
+  -- a frame requests nothing after its end
   abbrev pub IsOverWithItsEnd : Type 0
   IsOverWithItsEnd = (w : W) (past : List (Deed W)) (v : ℤ) (gone : List Instance) → next w (past ++ Does (Ends v gone) ∷ []) ≡ None
 
-  -- Where each event is asked for, the course of a plan is a serial run of the program on the input, whatever input the plan is of.
+  -- If each event is requested, the course of a plan is a serial run of the program on the input,
+  -- whatever the plan's own input.
   abbrev pub AskedCourseIsSerial : Type 0
   AskedCourseIsSerial = IsOverWithItsEnd → (w : W) (memory : Cell → ℤ) (views : Instance → V) (t : Run W) (c : Course W) → IsFramed begin_due t
       → IsCourse w [] memory views t c → IsAskedThroughout c → IsSerialRunFrom w memory views (run_of c)

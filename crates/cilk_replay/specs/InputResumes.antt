@@ -1,4 +1,4 @@
--- Behind a child its caller goes on.
+-- After a child its caller resumes.
 use Rattle.std.specs.Prelude.{◌≡◌, ℕ, ℤ, List, [], ◌∷◌, ◌++◌, Some}
 use Rattle.cilk_types.specs.declared.invocation.Invocation.{Invocation}
 use Rattle.cilk_program.specs.declared.ask.Ask.TheVariants as asks
@@ -9,11 +9,11 @@ use Rattle.cilk_runs.specs.Runs.{Deed, Invokes, Invoke, Pass, Resume}
 use Rattle.cilk_runs.specs.FrameEnvMachine.{next}
 use Rattle.cilk_runs.specs.FrameEnvs.{FrameEnv}
 
--- What a frame asks for right after a child, called or spawned, is the `resume` behind it, whatever it was answered: it takes no tick
--- between the two, so no fault can come there.
+-- Right after a child, called or spawned, a frame requests the `resume`, whatever the answer. It
+-- uses no tick between the two, so no fault can come there.
 pub record FramesResume : Type 0 where
   pub asked : (p : Source) (inputs : List ℤ) (callee : Callee) (answers : List ℤ) (answer : ℤ) (ticks : ℕ) (how : Invocation) (child : Callee)
       → (frame_asks p inputs callee answers ticks).ask ≡ asks.Invoke how child → (frame_asks p inputs callee (answers ++ answer ∷ []) ticks).ask ≡ asks.Resume
-  -- by names
+  -- the same by names
   pub next_is : (p : Source) (inputs : List ℤ) (w : FrameEnv) (past : List (Deed FrameEnv)) (how : Invocation) (child : FrameEnv)
       → next p inputs w past ≡ Some (Invoke how child) → next p inputs w (past ++ Invokes how child ∷ []) ≡ Some (Pass Resume)

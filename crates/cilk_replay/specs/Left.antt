@@ -1,4 +1,4 @@
--- What a run by names leaves, and that it is what the elision leaves.
+-- The outcome of a run by names is the serial elision's.
 use Rattle.std.specs.Prelude.{◌≤◌, IsTrue, List, [], ◌∷◌, ◌++◌, ℤ, length, reverse}
 use Rattle.cilk_types.specs.declared.limits.TheConstants.{MAX_EVENTS, MAX_FRAMES, MAX_CELLS}
 use Rattle.cilk_types.specs.declared.outcome.Outcome.{Outcome}
@@ -24,13 +24,13 @@ abbrev pub printed_by : Deed FrameEnv → List ℤ
 printed_by (Does (Passes (Prints x))) = x ∷ []
 printed_by d = []
 
--- what is printed, in order
+-- all that is printed, in order
 abbrev pub printed_in : List (Deed FrameEnv) → List ℤ
 printed_in [] = []
 printed_in (d ∷ ds) = printed_by d ++ printed_in ds
 
--- What a run of a program on these inputs leaves: what its last end gave, the values that its events leave in the global cells, all that they
--- printed, and the last values of the global reducers.
+-- The outcome of a run of a program on these inputs: the value of its last end, the last values of
+-- the global cells, its output, and the last values of the global reducers.
 abbrev pub left_by : Source → List ℤ → Run FrameEnv → Outcome
 left_by p inputs t = record {
   result = result_in (reverse (trace t));
@@ -39,14 +39,14 @@ left_by p inputs t = record {
   reducers = finals_in (λ i. view_after (monoid_of i) i t (unit_of monoid_of i)) 0 p.reducers;
 }
 
--- the run makes no more events, frames and cells than a run may, however many ticks it takes
+-- the run makes no more events, frames and cells than a run may, however many ticks it uses
 pub record KeepsCounts (p : Source) (inputs : List ℤ) (u : Run FrameEnv) : Type 0 where
   pub events : whole (costs p inputs) (first_world p) u EventTotal ≤ MAX_EVENTS
   pub frames : whole (costs p inputs) (first_world p) u FrameTotal ≤ MAX_FRAMES
   pub cells : whole (costs p inputs) (first_world p) u CellTotal ≤ MAX_CELLS
 
--- A serial run in the sense of courses, each frame of which has all ticks of a run for itself, leaves what the elision leaves, however
--- many ticks all its frames take together.
+-- A serial run in the sense of courses, which gives each frame all the ticks of a run, has the
+-- outcome of the serial elision, however many ticks all its frames use together.
 abbrev pub RunsAreElided : Type 0
 RunsAreElided =
     (p : Source) (inputs : List ℤ) (u : Run FrameEnv) → IsTrue (is_well_named p) → HasWords p → InputsAreWords inputs

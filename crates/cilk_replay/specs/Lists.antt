@@ -1,4 +1,4 @@
--- The list of a course's events by numbers, and its story. What a story tells of its course.
+-- The events of a course by numbers, its event order, and what that order says about the course.
 use Rattle.std.specs.Prelude.{ℕ, ℤ, Bool, List, [], ◌∷◌, Option}
 use Rattle.cilk_types.specs.declared.event.Event as numbers
 use Rattle.cilk_types.specs.declared.event.Event.TheVariants as events
@@ -18,11 +18,11 @@ use Rattle.cilk_runs.specs.FrameEnvs.{FrameEnv}
 use Rattle.cilk_replay.specs.InputCourses.{Course, run_of, asked_in, IsAskedThroughout, IsCourse}
 use Rattle.cilk_replay.specs.Frames.{IsSerialRunOn, IsCourseOn}
 
--- the story of a course whose events by numbers are these, along the plan of these events
+-- the event order of a course with events es' by numbers, along the plan of events es
 abbrev pub story_of : {W : Type 0} → List numbers.Event → List ℤ → List numbers.Event → Course W → EventOrder
 story_of es opening es' c = record { events = es'; preceding = predecessors_in es; opening = opening; asked = asked_in c }
 
--- an event by numbers, with the value that a deed has
+-- an event by numbers, with the value of a deed
 abbrev pub with_value : {W : Type 0} → numbers.Event → Deed W → numbers.Event
 with_value (events.Read c v) (Does (Reads d x)) = events.Read c x
 with_value (events.Write c v) (Does (Writes d x)) = events.Write c x
@@ -37,12 +37,13 @@ abbrev pub with_values : {W : Type 0} → List numbers.Event → List (Deed W) �
 with_values (e ∷ es) (d ∷ ds) = with_value e d ∷ with_values es ds
 with_values es ds = es
 
--- the story of a course along the plan of these events: their kinds, with the values of the course
+-- the event order of a course along the plan of these events: their kinds, with the values of the
+-- course
 abbrev pub story_along : {W : Type 0} → List numbers.Event → List ℤ → Course W → EventOrder
 story_along es opening c = story_of es opening (with_values es (trace (run_of c))) c
 
--- The events of a course of a run, by the numbers that the run's cells and reducers have, are the run's with the values of the course,
--- and the story of the course is along the run's plan.
+-- The events of a course, by the numbers of the run's cells and reducers, are the run's events with
+-- the values of the course. The event order of the course is along the run's plan.
 abbrev pub CoursesAreAlongPlans : (W V : Type 0) → (Instance → MonoidStructure V) → (W → List (Deed W) → Option (Ask W)) → (W → W → Bool) → Type 0
 CoursesAreAlongPlans W V M next same =
     (cell : Cell → ℕ) (instance : Instance → numbered.Instance) (w : W) (memory : Cell → ℤ) (views : Instance → V) (t : Run W) (c : Course W)
@@ -50,15 +51,16 @@ CoursesAreAlongPlans W V M next same =
     → IsCourse W V M next same w [] memory views t c → AreWritten cell instance (trace t) es
     → AreWritten cell instance (trace (run_of c)) (with_values es (trace (run_of c))) × IsAlong (planned es opening) (story_along es opening c)
 
--- Where the story of a course asks for the event at each position, each event of the course is asked for.
+-- If the event order of a course has a requested event at each position, each event of the course
+-- is requested.
 abbrev pub AskedEventOrdersAreOfAskedCourses : Type 0 → Type 0
 AskedEventOrdersAreOfAskedCourses W =
     (cell : Cell → ℕ) (instance : Instance → numbered.Instance) (c : Course W) (es es' : List numbers.Event) (opening : List ℤ)
     → AreWritten cell instance (trace (run_of c)) es'
     → ((p : ℕ) → IsPosition es' p → IsAsked (story_of es opening es' c) p) → IsAskedThroughout c
 
--- Along an orderly plan of a program's serial run: where the story of a course on other inputs departs nowhere, the course is a serial
--- run of the program on those.
+-- Along an orderly plan of a program's serial run: if the event order of a course on other inputs
+-- departs nowhere, the course is a serial run of the program on those.
 abbrev pub InputsThatDepartNowhere : Type 0
 InputsThatDepartNowhere =
     (p : Source) (inputs others : List ℤ) (t : Run FrameEnv) (c : Course FrameEnv) (cell : Cell → ℕ) (instance : Instance → numbered.Instance)

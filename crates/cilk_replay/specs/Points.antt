@@ -1,4 +1,5 @@
--- What stands at each position of a course: the frame at hand, all that it has done before, and the event. Positions count from 0 here.
+-- The positions of a course: the current frame, its past, and the event.
+-- Positions count from 0 here.
 use Rattle.std.specs.Prelude.{◌≡◌, ℕ, suc, ◌+◌, ◌↔◌, ℤ, pos, Bool, true, false, List, [], ◌∷◌, ◌++◌, length, Option, Some, slice_get}
 use Rattle.cilk_types.specs.declared.event.Event as numbers
 use Rattle.cilk_types.specs.declared.event.Event.TheVariants as events
@@ -25,8 +26,8 @@ use Rattle.cilk_replay.specs.Frames.{same_frame, course_on}
 use Rattle.cilk_replay.specs.Owned.{makers}
 use Rattle.cilk_replay.specs.EventOrders.{story_on, IsPlannedRun}
 
--- The frame at hand: what it was started as, what it has done before, and where its first event stands. Then the plan's event, the
--- course's, and whether the frame asks for it.
+-- The current frame: what it was started as, what it has done before, and the position of its first
+-- event. Then the plan's event, the course's event, and whether the frame requests it.
 pub record Point (W : Type 0) : Type 0 where
   pub frame : W
   pub past : List (Deed W)
@@ -35,7 +36,7 @@ pub record Point (W : Type 0) : Type 0 where
   pub deed : Deed W
   pub asked : Bool
 
--- of each event of a course from position o on, in serial order
+-- the points of a course from position o on, in serial order
 abbrev pub points : {W : Type 0} → W → List (Deed W) → ℕ → ℕ → Run W → Course W → List (Point W)
 points w past b o (runs.act e r) (act a e' r') =
     record { frame = w; past = past; since = b; planned = Does e; deed = Does e'; asked = a } ∷ points w (past ++ Does e' ∷ []) b (suc o) r r'
@@ -44,18 +45,18 @@ points w past b o (runs.child k v u r) (child a k' v' u' r') =
     ∷ (points v' [] (suc o) (suc o) u u' ++ points w (past ++ Invokes k' v' ∷ []) b (suc o + length (asked_in u')) r r')
 points w past b o t c = []
 
--- what a frame asks for that does this
+-- the request of this deed
 abbrev pub asked_for : {W : Type 0} → Deed W → Ask W
 asked_for (Does e) = ask_of e
 asked_for (Invokes k v) = Invoke k v
 
--- of one kind, whatever the values
+-- two deeds of one kind, whatever their values
 abbrev pub IsLikeDeed : {W : Type 0} → (W → W → Bool) → Deed W → Deed W → Type 0
 IsLikeDeed same (Does e) (Does x) = IsLike e x
 IsLikeDeed same (Invokes k v) (Invokes j x) = (k ≡ j) × (same v x ≡ true)
 IsLikeDeed same _ _ = ⊥
 
--- an event by which its frame goes on at the next position
+-- an event after which its frame continues at the next position
 abbrev pub Continues : Event → Type 0
 Continues (Reads c v) = Unit {0}
 Continues (Writes c v) = Unit {0}
@@ -63,19 +64,19 @@ Continues Syncs = Unit {0}
 Continues (Ends v gone) = ⊥
 Continues (Passes m) = Unit {0}
 
--- the same frame, which has done this too
+-- the same frame, after this deed too
 pub record IsLater {W : Type 0} (x y : Point W) : Type 0 where
   pub frame : y.frame ≡ x.frame
   pub past : y.past ≡ x.past ++ x.deed ∷ []
   pub since : y.since ≡ x.since
 
--- the first event of a frame, right behind the event that started it
+-- the first event of a frame, right after the event that started it
 pub record IsFirst {W : Type 0} (i : ℕ) (x : Point W) (k : Invocation) (y : Point W) : Type 0 where
   pub started : x.deed ≡ Invokes k y.frame
   pub past : y.past ≡ []
   pub since : y.since ≡ suc i
 
--- The frame of x was started by an event of that of y, and y is the next event of that frame.
+-- The frame of x was started by the frame of y, and y is that frame's next event after the start.
 pub record IsReturn {W : Type 0} (at : ℕ → Option (Point W)) (x y : Point W) : Type 0 where
   pub place : ℕ
   pub caller : Point W
@@ -85,8 +86,8 @@ pub record IsReturn {W : Type 0} (at : ℕ → Option (Point W)) (x y : Point W)
   pub started : caller.deed ≡ Invokes how x.frame
   pub goes_on : IsLater caller y
 
--- What holds of each: the event is asked for exactly where what the frame asks for, after all that it has done, is of the plan's kind; and
--- whose the next event is, and what that frame has done.
+-- The law of each point. The event is requested exactly if the frame's next request is of the
+-- plan's kind. The other fields say which frame makes the next event, and what it has done before.
 pub record IsPoint {W : Type 0} (next : W → List (Deed W) → Option (Ask W)) (same : W → W → Bool) (at : ℕ → Option (Point W)) (i : ℕ) (x : Point W) : Type 0 where
   pub asks : x.asked ≡ true → next x.frame x.past ≡ Some (asked_for x.deed)
   pub only : (d : Deed W) → IsLikeDeed same x.planned d → next x.frame x.past ≡ Some (asked_for d) → x.asked ≡ true
@@ -94,18 +95,18 @@ pub record IsPoint {W : Type 0} (next : W → List (Deed W) → Option (Ask W)) 
   pub starts : (k : Invocation) (v : W) → x.planned ≡ Invokes k v → (y : Point W) → at (suc i) ≡ Some y → IsFirst i x k y
   pub returns : (v : ℤ) (gone : List Instance) → x.planned ≡ Does (Ends v gone) → (y : Point W) → at (suc i) ≡ Some y → IsReturn at x y
 
--- of the story of a plan's run on some inputs
+-- the points of a plan's run on some inputs
 abbrev pub points_on : Source → List ℤ → Transcript → List (Point FrameEnv)
 points_on p inputs r = points (first_world p) [] 0 0 (named p r) (course_on p inputs (named p r))
 
--- what an event answers: what is read, else 0
+-- the answer to an event: the value read, else 0
 abbrev pub answer_in : numbers.Event → ℤ
 answer_in (events.Read c v) = v
 answer_in (events.Value i v) = v
 answer_in e = pos 0
 
 module _ (p : Source) (r : Transcript) where
-  -- The event that comes of what a frame of this program asks for, by the numbers that the run gives to names.
+  -- The event of a request of a frame of this program, by the numbers that the run gives to names.
   abbrev pub IsEventOf : FrameEnv → language.Ask → numbers.Event → Type 0
   IsEventOf w asks.Begin e = (f : ℕ) × (e ≡ events.Begin f)
   IsEventOf w (asks.Read x) e = (v : ℤ) × (e ≡ events.Read (cell_number p r (cell_seen w x)) v)
@@ -123,20 +124,20 @@ module _ (p : Source) (r : Transcript) where
   IsEventOf w (asks.End v) e = e ≡ events.End
   IsEventOf w (asks.Fault f) e = ⊥
 
-  -- The frame, which has not ended, asks for the event, where its behaviour is asked with the answers that it had so far; and what it
-  -- starts is what it asks for.
+  -- The frame, which hasn't ended, requests the event, by its behaviour after the answers so
+  -- far. A child that is started is the one requested.
   pub record IsAskedBy (inputs : List ℤ) (x : Point FrameEnv) (here : numbers.Event) : Type 0 where
     pub goes_on : has_ended x.past ≡ false
     pub event : IsEventOf x.frame (asked_after p inputs x.frame x.past).ask here
     pub starts : (how : Invocation) (callee : Callee) → (asked_after p inputs x.frame x.past).ask ≡ asks.Invoke how callee
         → x.deed ≡ Invokes how (child_world p x.frame (suc (started x.past)) callee)
 
-  -- what the story of these inputs tells at a position
+  -- what the event order of these inputs says at a position
   pub record IsTold (inputs : List ℤ) (es : List numbers.Event) (s : EventOrder) (i : ℕ) (x : Point FrameEnv) : Type 0 where
-    -- the plan's event, and whose frame it is in
+    -- the plan's event, and the frame that makes it
     pub plan : (e : numbers.Event) → slice_get es i ≡ Some e → IsWritten (cell_number p r) (instance_number p r) x.planned e
     pub owner : slice_get (makers [] (named p r)) i ≡ Some x.frame.name
-    -- the story's event: what it answers, whether it is asked for, and how
+    -- the order's event: its answer, whether it is requested, and how
     pub here : numbers.Event
     pub is : event s (suc i) ≡ Some here
     pub answers : answer_of x.deed ≡ answer_in here
@@ -150,7 +151,8 @@ module _ (p : Source) (r : Transcript) where
     pub each : (i : ℕ) (x : Point FrameEnv) → slice_get (points_on p inputs r) i ≡ Some x
         → IsPoint (next p inputs) (same_frame p) (slice_get (points_on p inputs r)) i x × IsTold inputs es s i x
 
--- On all inputs: what each frame has done so far tells whether it asks for the story's next event, and with which values.
+-- On all inputs: what each frame has done so far decides whether it requests the next event, and
+-- with which values.
 abbrev pub EventOrdersAreAskedByPositions : Type 0
 EventOrdersAreAskedByPositions =
     (p : Source) (inputs others : List ℤ) (r : Transcript) (es : List numbers.Event) (opening : List ℤ)

@@ -1,4 +1,4 @@
--- The reducers that a frame sees, by the numbers that a plan's run gives to them.
+-- The reducers that a frame sees, by their numbers in a plan's run.
 use Rattle.std.specs.Prelude.{◌≡◌, ◌+◌, ℕ, nat_eq, if◌then◌else◌, List, [], ◌∷◌, drop, length, map, Option, Some, None, slice_get, unwrap_or}
 use Rattle.cilk_types.specs.declared.event.Instance as numbered
 use Rattle.cilk_program.specs.declared.ask.Ask.{Ask}
@@ -17,7 +17,7 @@ use Rattle.cilk_replay.specs.declared.looked.Looked.TheVariants.{Asked, Differs}
 abbrev pub as_instance : ReducerNumber → numbered.Instance
 as_instance r = record { frame = r.frame; place = r.place }
 
--- the root's frame creates the global ones
+-- a global reducer, which the root's frame creates
 abbrev pub global_reducer : ℕ → ReducerNumber
 global_reducer n = record { frame = 1; place = n + 1 }
 
@@ -28,15 +28,15 @@ abbrev pub own_there : Option Home → ℕ → ReducerNumber
 own_there None n = global_reducer n
 own_there (Some h) n = own_reducer h n
 
--- The reducer that a place means to a frame. The outermost of the frames that it sees runs a function, which is given some; the others run
--- turns of loops, which are given none.
+-- The reducer that a place means in a frame. The outermost frame in sight runs a function, to
+-- which reducers may be passed. The others run turns of loops, to which none are passed.
 abbrev pub reducer_in : List Home → List ReducerNumber → ReducerPlace → ReducerNumber
 reducer_in homes given (reducers.Global n) = global_reducer n
 reducer_in homes given (reducers.Own up n) = own_there (slice_get homes up) n
 reducer_in homes given (reducers.Given up n) =
     if nat_eq (up + 1) (length homes) then unwrap_or (slice_get given n) (global_reducer n) else global_reducer n
 
--- the one that a frame asks for, which sees these
+-- the reducer that a frame requests, if it sees these
 abbrev pub reducer_asked : List Home → List ReducerNumber → Ask → ReducerNumber
 reducer_asked homes given (asks.Create r) = reducer_in homes given r.place
 reducer_asked homes given (asks.Update r v) = reducer_in homes given r.place
@@ -44,18 +44,18 @@ reducer_asked homes given (asks.Set r v) = reducer_in homes given r.place
 reducer_asked homes given (asks.Value r) = reducer_in homes given r.place
 reducer_asked homes given k = global_reducer 0
 
--- what the function was given whose body a loop stands in
+-- the reducers that were passed to the function around a loop
 abbrev pub outer_given : List Home → List ReducerNumber → List ReducerNumber
 outer_given [] given = []
 outer_given (h ∷ hs) given = given
 
--- of the frame that a frame begins
+-- the passed reducers that a child sees
 abbrev pub given_seen : Callee → List Home → List ReducerNumber → List ReducerNumber
 given_seen callees.Root homes given = []
 given_seen (callees.Function c) homes given = map (λ (r : Reducer). reducer_in homes given r.place) c.reducers
 given_seen (callees.Loop l) homes given = outer_given (drop l.up homes) given
 
--- what a look at the reducer with a number says
+-- the comparison with the plan's reducer
 abbrev pub LooksAtReducer : ReducerNumber → numbered.Instance → Looked → Type 0
 LooksAtReducer found i Asked = as_instance found ≡ i
 LooksAtReducer found i Differs = as_instance found ≡ i → ⊥

@@ -1,4 +1,4 @@
--- The cells and reducers that a frame sees, by the numbers that a plan's run gives to them.
+-- The cells and reducers that a frame sees, by their numbers in a plan's run.
 use Rattle.std.specs.Prelude.{◌≡◌, ◌+◌, ℕ, nat_lt, if◌then◌else◌, List, [], ◌∷◌, drop, Option, Some, None, slice_get}
 use Rattle.cilk_program.specs.declared.ask.Ask.{Ask}
 use Rattle.cilk_program.specs.declared.ask.Ask.TheVariants as asks
@@ -23,11 +23,11 @@ use Rattle.cilk_replay.specs.declared.home.ReducerNumber.{ReducerNumber}
 use Rattle.cilk_replay.specs.declared.sight.Sight.{Sight}
 use Rattle.cilk_replay.specs.Reducing.{as_instance, given_seen, own_reducer}
 
--- what the frame has itself, then by its static links what the frames round it have
+-- the frame's own home, then by its static links the homes of the frames around it
 abbrev pub homes_of : Sight → List Home
 homes_of s = s.own ∷ s.outer.items
 
--- ---- numbers of cells; none where the run doesn't have the cell
+-- ---- numbers of cells; none if the run doesn't have the cell
 
 abbrev pub found_global : ℕ → ℕ → Option ℕ
 found_global globals n = if nat_lt n globals then Some n else None
@@ -43,12 +43,12 @@ abbrev pub found_in : ℕ → List Home → Place → Option ℕ
 found_in globals homes (places.Global n) = found_global globals n
 found_in globals homes (places.Local up n) = found_there globals (slice_get homes up) n
 
--- of the cell that a result goes to; where there is none, a result would go to the first global
+-- the number of the cell that receives a result; without one, that of the first global
 abbrev pub number_taking : ℕ → List Home → Option Place → Option ℕ
 number_taking globals homes None = found_global globals 0
 number_taking globals homes (Some x) = found_in globals homes x
 
--- of the cell that a frame asks for, which sees this
+-- the number of the cell that a frame requests, if it sees this
 abbrev pub cell_asked : ℕ → Sight → Ask → Option ℕ
 cell_asked globals s (asks.Read x) = found_in globals (homes_of s) x
 cell_asked globals s (asks.Write x v) = found_in globals (homes_of s) x
@@ -57,11 +57,11 @@ cell_asked globals s k = None
 
 -- ---- the frames of a run
 
--- where the cells of a run's frame lie
+-- the cells of a run's frame
 abbrev pub cells_of_block : Block → CellBlock
 cells_of_block b = record { first = b.first; cells = b.cells }
 
--- what the frame sees that a frame begins, which has this itself
+-- the sight of a child with this home
 abbrev pub outer_homes : Callee → List Home → List Home
 outer_homes callees.Root homes = []
 outer_homes (callees.Function c) homes = []
@@ -78,7 +78,7 @@ IsSightOf globals callee home caller s =
     × (s.result ≡ result_number globals callee (homes_of caller))
 
 module _ (p : Source) (r : Transcript) where
-  -- the run has the cell, with this number; or it doesn't have it
+  -- the run has the cell with this number, or doesn't have the cell
   abbrev pub IsNumberOf : Cell → Option ℕ → Type 0
   IsNumberOf c (Some n) = HasCell p r c × (cell_number p r c ≡ n)
   IsNumberOf c None = HasCell p r c → ⊥
@@ -87,12 +87,12 @@ module _ (p : Source) (r : Transcript) where
   abbrev pub IsReducer : Reducers → ReducerNumber → Type 0
   IsReducer i n = (k : MonoidKind) → instance_number p r (i k) ≡ as_instance n
 
-  -- what a frame has itself is there
+  -- the run has a frame's own cells and reducers, with these numbers
   pub record HasHome (seen : SeenHome Cell Reducers) (home : Home) : Type 0 where
     pub cells : (n : ℕ) → IsNumberOf (seen.cells n) (found_inside home.block n)
     pub own : (n : ℕ) → IsReducer (seen.own n) (own_reducer home n)
 
-  -- so of each frame that is seen
+  -- the same of each frame that is seen
   abbrev pub HaveHomes : Seen → List Home → Type 0
   HaveHomes [] [] = Unit {0}
   HaveHomes (h ∷ hs) (b ∷ bs) = HasHome h b × HaveHomes hs bs
@@ -103,20 +103,20 @@ module _ (p : Source) (r : Transcript) where
   AreReducers (i ∷ is) (n ∷ ns) = IsReducer i n × AreReducers is ns
   AreReducers _ _ = ⊥
 
-  -- the outermost alone was given some
+  -- reducers are passed only to the outermost frame
   abbrev pub HaveGiven : Seen → List ReducerNumber → Type 0
   HaveGiven [] given = Unit {0}
   HaveGiven (h ∷ []) given = AreReducers h.given given
   HaveGiven (h ∷ h' ∷ hs) given = (h.given ≡ []) × HaveGiven (h' ∷ hs) given
 
-  -- what is known of a frame is what it sees; and all reducers that it can name are the run's
+  -- the sight is right for the frame, and the run has all reducers that the frame can name
   pub record Sees (w : FrameEnv) (s : Sight) : Type 0 where
     pub homes : HaveHomes w.sight (homes_of s)
     pub given : HaveGiven w.sight s.given.items
     pub result : IsNumberOf (result_cell w) s.result
     pub reducers : FrameSees p Global global_named (λ c. Unit {0}) (λ i k. HasInstance p r (i k)) w.callee w.sight w.result
 
--- what a look at the cell with a number says
+-- the comparison with the plan's cell
 abbrev pub LooksAt : Option ℕ → ℕ → Looked → Type 0
 LooksAt found c Asked = found ≡ Some c
 LooksAt found c Differs = found ≡ Some c → ⊥

@@ -1,4 +1,4 @@
--- What sort of event an ask and a plan's kind are of, whatever their cells, reducers and frames.
+-- The sort of a request and of a plan's event, without its cell, reducer or frame.
 use Rattle.cilk_types.specs.declared.invocation.Invocation.{Invocation}
 use Rattle.cilk_types.specs.declared.invocation.Invocation.TheVariants as invocations
 use Rattle.cilk_program.specs.declared.ask.Ask.{Ask}
@@ -57,7 +57,7 @@ NamesNothing End = Unit {0}
 NamesNothing Print = Unit {0}
 NamesNothing _ = ⊥
 
--- what a look at the event of this kind at a position says
+-- the comparison with the event of this kind at a position
 abbrev pub Says : EventOrder → ℕ → Kind → Looked → Type 0
 Says s at k Asked = IsAsked s at
 Says s at k Differs = IsAsked s at → ⊥

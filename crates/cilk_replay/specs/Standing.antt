@@ -1,4 +1,4 @@
--- Frames that stand at a position of a course: the one at hand, and its callers.
+-- The frames at a position of a course: the current frame and its callers.
 use Rattle.std.specs.Prelude.{◌≡◌, ◌⊎◌, ◌≤◌, ℕ, suc, pos, false, List, [], ◌∷◌, ◌++◌, reverse, Some}
 use Rattle.cilk_types.specs.declared.invocation.Invocation.{Invocation}
 use Rattle.cilk_types.specs.declared.invocation.Invocation.TheVariants.{Spawn}
@@ -17,7 +17,7 @@ use Rattle.cilk_replay.specs.Asking.{HasAsked}
 use Rattle.cilk_replay.specs.Sights.{Sees}
 use Rattle.cilk_replay.specs.Courses.{CourseValue, IsOfProgram, Setting, setting_of, point_at}
 
--- the frame at hand at a position has asked for this, after the answers that it had so far in the story
+-- the current frame at a position has requested this, after the answers so far in the event order
 pub record Asks (c : Setting) (at : ℕ) (k : Ask) (l : Level) : Type 0 where
   pub behind : ℕ
   pub place : suc behind ≡ at
@@ -28,7 +28,8 @@ pub record Asks (c : Setting) (at : ℕ) (k : Ask) (l : Level) : Type 0 where
   pub sees : Sees c.program c.run point.frame l.sight
   pub asked : let w = point.frame in HasAsked c.code c.inputs c.program w.callee (answers_of point.past) k l
 
--- The frame at hand at a position has had all answers but the last, which is 0, and hasn't gone on with that.
+-- The current frame at a position has had all answers but the last, which is 0. It hasn't continued
+-- with that one.
 pub record Rests (c : Setting) (at : ℕ) (l : Level) : Type 0 where
   pub behind : ℕ
   pub place : suc behind ≡ at
@@ -45,7 +46,7 @@ pub record Rests (c : Setting) (at : ℕ) (l : Level) : Type 0 where
   pub owes : let v = l.cursor in v.owed ≡ Nothing
   pub small : l.took ≤ MAX_TICKS
 
--- a frame that waits for its child, whose first event stands behind so many
+-- a frame that waits for its child, whose first event is after `since` others
 pub record Waits (c : Setting) (since : ℕ) (l : Level) : Type 0 where
   pub behind : ℕ
   pub place : suc behind ≡ since
@@ -61,7 +62,7 @@ pub record Waits (c : Setting) (since : ℕ) (l : Level) : Type 0 where
   pub owes : let v = l.cursor in v.owed ≡ Nothing
   pub small : l.took ≤ MAX_TICKS
 
--- the frame whose first event stands there is the root's, or was spawned
+-- the frame whose first event is after `since` others was spawned; or it is the root's
 pub record IsSpawned (c : Setting) (since : ℕ) : Type 0 where
   pub behind : ℕ
   pub place : suc behind ≡ since
@@ -73,7 +74,8 @@ pub record IsSpawned (c : Setting) (since : ℕ) : Type 0 where
 abbrev pub IsOutermost : Setting → ℕ → Type 0
 IsOutermost c since = (since ≡ 0) ⊎ IsSpawned c since
 
--- the callers of the frame whose first event stands behind so many, the innermost first, up to the nearest frame that was spawned
+-- The callers of the frame whose first event is after `since` others, the innermost first, up to
+-- the nearest frame that was spawned.
 abbrev pub Linked : Setting → ℕ → List Level → Type 0
 Linked c since [] = IsOutermost c since
 Linked c since (l ∷ ls) = (w : Waits c since l) × (let x = w.point in Linked c x.since ls)
@@ -87,14 +89,14 @@ pub record RestsAt (c : Setting) (at : ℕ) (top : Level) (below : List Level) :
   pub rests : Rests c at top
   pub callers : let x = rests.point in Linked c x.since (reverse below)
 
--- of a course
+-- the same for a course
 abbrev pub Stand : CourseValue → ℕ → Ask → Level → List Level → Type 0
 Stand c at k top below = (run : Transcript) × IsOfProgram (setting_of c run) × StandsAt (setting_of c run) at k top below
 
 abbrev pub Rest : CourseValue → ℕ → Level → List Level → Type 0
 Rest c at top below = (run : Transcript) × IsOfProgram (setting_of c run) × RestsAt (setting_of c run) at top below
 
--- the frame at hand at a position was spawned, or is the root's
+-- the current frame at a position was spawned, or is the root's
 pub record IsTheOutermost (c : CourseValue) (at : ℕ) : Type 0 where
   pub run : Transcript
   pub of_program : IsOfProgram (setting_of c run)

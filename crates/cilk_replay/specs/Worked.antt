@@ -1,4 +1,5 @@
--- A worked program along the plan of its run on one input: on two others the story departs where the program's asks first differ.
+-- A worked program along the plan of its run on one input. On two other inputs the event order
+-- departs where the program's requests first differ.
 use Rattle.std.specs.Prelude.{◌≡◌, ℤ, pos, true, false, List, [], ◌∷◌, take}
 use Rattle.cilk_types.specs.declared.event.Event.{Event}
 use Rattle.cilk_types.specs.declared.event.Event.TheVariants as events
@@ -12,7 +13,8 @@ use Rattle.cilk_tree.specs.declared.event_order.EventOrder.{EventOrder}
 use Rattle.cilk_tree.specs.Planned.{planned}
 use Rattle.cilk_replay.specs.EventOrders.{story_on}
 
--- int a[7]; int main() { int n = input(0); cilk_for (int i = 0; i < n; i++) { a[i] = i; } return a[6]; }, on 1: one turn, called
+-- `int a[7]; int main() { int n = input(0); cilk_for (int i = 0; i < n; i++) { a[i] = i; } return
+-- a[6]; }` on input 1: one turn, which is called.
 abbrev pub turn : Transcript
 turn =
     act asks.Begin (pos 0) (act (asks.Write (places.Local 0 0) (pos 0)) (pos 0)
@@ -35,12 +37,14 @@ one_turn_events =
 abbrev pub all_zero : List ℤ
 all_zero = pos 0 ∷ pos 0 ∷ pos 0 ∷ pos 0 ∷ pos 0 ∷ pos 0 ∷ pos 0 ∷ pos 0 ∷ pos 0 ∷ []
 
--- the story of the program on one number along that plan
+-- the event order of the program on input n, along that plan
 abbrev pub filled_on : ℤ → EventOrder
 filled_on n = story_on filled (n ∷ []) one_turn one_turn_events all_zero
 
--- On its own input it is the plan's. On 0 the loop has no turn: at 4 the program asks for the read of `a[6]`, and not for the call. On 2 the
--- loop is the plan's with another bound: the call is followed, and its frame begins, but at 6 it asks for a spawn, and not for the write of `i`.
+-- On its own input it is the plan's. On 0 the loop has no turn: at position 4 the program requests
+-- the read of `a[6]` instead of the call. On 2 the loop is the plan's with another bound: the call
+-- is followed, and its frame begins, but at position 6 it requests a spawn instead of the write of
+-- `i`.
 pub record WorkedEventOrders : Type 0 where
   pub own : filled_on (pos 1) ≡ planned one_turn_events all_zero
   pub none : let s = filled_on (pos 0) in

@@ -1,4 +1,4 @@
-//! Frames that go on at a position of a run.
+//! Chains: the frames that continue at a position of a run.
 
 ghost use Rattle.std.specs.Prelude.{◌≡◌, ◌+◌, ◌<◌, false, IfOk, IsTrue, OnErr, OnOk};
 ghost use Rattle.cilk_types.specs.declared.event.Event.TheVariants.{End};
@@ -22,7 +22,7 @@ use std::marker::Model;
 use std::mem;
 use std::snapshot::Snapshot;
 
-/// A frame that has asked for an event, and its callers up to the nearest frame that was spawned.
+/// A frame that has requested an event, and its callers up to the nearest frame that was spawned.
 pub struct Chain {
     of: Snapshot<Course>,
     at: Pos,
@@ -57,8 +57,8 @@ impl Model for Chain {
     ghost invariant = { λ c. Stand c.of.value c.at c.asked c.top.value c.below.items };
 }
 
-/// A frame that has yet to go on once its child, called or spawned, is left, and its callers up to the nearest frame
-/// that was spawned.
+/// A frame that is still to continue after its child, called or spawned, and its callers up to the
+/// nearest frame that was spawned.
 #[derive(Drop)]
 pub struct Rest {
     of: Snapshot<Course>,
@@ -88,7 +88,7 @@ impl Chain {
     ghost use Rattle.cilk_replay.specs.Asking.{BeginsNext, Calls, Follows, IsAnswered, IsNextAsk, Spawns};
     ghost use Rattle.cilk_replay.specs.Standing.{IsTheOutermost};
 
-    /// The root's frame, before it begins.
+    /// Creates the chain of the root's frame, before it begins.
     pub fn root(alloc: Global, course: &Course) -> Result<Chain, AllocError>
         ensures { IfOk result (λ c. c ≡ standing course.now 1) }
     {
@@ -104,7 +104,7 @@ impl Chain {
         })
     }
 
-    /// The position at which the frame goes on.
+    /// Returns the position at which the frame continues.
     pub fn at(&self) -> Pos
         ensures { result ≡ self.now.at }
     {
@@ -112,14 +112,15 @@ impl Chain {
         *at
     }
 
-    /// What the frame asks for next. Where the run follows its story, it is the story's event.
+    /// Returns the frame's next request. While the run follows its event order, the request makes
+    /// the order's event.
     pub fn ask(&self) -> &AskSlot
         ensures { IsNextAsk self.now.of self.now.at result.now }
     {
         &self.asked
     }
 
-    /// Whether the frame asks for the plan's event at its position, whose kind is this.
+    /// Returns whether the frame requests the plan's event at its position, which is of this kind.
     pub fn look(&self, course: &Course, kind: Kind) -> Looked
         requires course { course.now ≡ self.now.of }
         requires kind { kind_of_event (event self.now.of.yard.story self.now.at) ≡ Some kind }
@@ -150,7 +151,7 @@ impl Chain {
         }
     }
 
-    /// The frame goes on with the answer to its event.
+    /// Continues the frame with the answer to its event.
     pub fn answer(&mut self, course: &Course, answer: Answer)
         requires course { course.now ≡ self.old.of }
         requires answer { IsAnswered self.old.of.yard.story self.old.at answer }
@@ -160,8 +161,8 @@ impl Chain {
         self.at += 1;
     }
 
-    /// The frame that is called begins, and its caller waits. `frame` is its number, which stands in its `begin`. Without
-    /// memory nothing changes.
+    /// Begins the called child, while its caller waits. `frame` is the child's number, as in its
+    /// `begin`. Out of memory, nothing changes.
     pub fn call(&mut self, alloc: Global, course: &Course, frame: FrameNo) -> Result<(), AllocError>
         requires course { course.now ≡ self.old.of }
         requires calls { Calls self.old.of.yard.story self.old.at }
@@ -179,8 +180,8 @@ impl Chain {
         Ok(())
     }
 
-    /// The frame that is spawned begins, alone, and its parent with its callers rests until it goes on at `next`.
-    /// `frame` is the child's number, which stands in its `begin`. Without memory nothing changes.
+    /// Begins the spawned child, alone. Returns the parent with its callers, which continues at
+    /// `next`. `frame` is the child's number, as in its `begin`. Out of memory, nothing changes.
     pub fn spawn(
         &mut self,
         alloc: Global,
@@ -209,7 +210,8 @@ impl Chain {
         Ok(rest)
     }
 
-    /// The frame ends, and its caller goes on. False where there is none, since it was spawned, or is the root's: then nothing changes.
+    /// Ends the frame and continues its caller. Returns false if it has no caller here, since it
+    /// was spawned or is the root's; then nothing changes.
     pub fn end(&mut self, course: &Course) -> bool
         requires course { course.now ≡ self.old.of }
         requires end { Follows self.old.of.yard.story self.old.at End }
@@ -227,7 +229,7 @@ impl Chain {
 }
 
 impl Rest {
-    /// The position at which the frame goes on.
+    /// Returns the position at which the frame continues.
     pub fn at(&self) -> Pos
         ensures { result ≡ self.now.at }
     {
@@ -235,7 +237,7 @@ impl Rest {
         *at
     }
 
-    /// The frame goes on.
+    /// Continues the frame after its child.
     pub fn wake(self, course: &Course) -> Chain
         requires { course.now ≡ self.of }
         ensures { result ≡ self }
@@ -258,7 +260,7 @@ impl Rest {
     }
 }
 
-/// A continuation to be taken: its ticket, and the frames that go on there.
+/// A continuation that can be taken: its ticket, and the frames that continue there.
 #[derive(Drop)]
 pub struct Task {
     ticket: Pos,
@@ -280,7 +282,8 @@ impl Model for Task {
 }
 
 impl Task {
-    /// The continuation after the spawn at `ticket`, where its frame goes on with its `resume`.
+    /// Creates the continuation after the spawn at `ticket`. Its frame continues at the `resume` of
+    /// that spawn.
     pub fn new(ticket: Pos, rest: Rest) -> Task
         requires { what rest.of.yard.story rest.at ≡ resume ticket }
         ensures { result ≡ task_of ticket rest }
@@ -288,14 +291,14 @@ impl Task {
         Task { ticket, rest }
     }
 
-    /// The ticket.
+    /// Returns the position of the spawn.
     pub fn ticket(&self) -> Pos
         ensures { result ≡ self.now.ticket }
     {
         self.ticket
     }
 
-    /// The position of the continuation.
+    /// Returns the position of the continuation.
     pub fn at(&self) -> Pos
         ensures place { result ≡ self.now.at }
         ensures resumption { what self.now.of.yard.story result ≡ resume self.now.ticket }
@@ -303,7 +306,7 @@ impl Task {
         self.rest.at()
     }
 
-    /// The frames that go on there.
+    /// Returns the frames that continue there.
     pub fn rest(self) -> Rest
         ensures rest { result ≡ standing self.of self.at }
         ensures resumption { what self.of.yard.story self.at ≡ resume self.ticket }

@@ -1,4 +1,4 @@
-//! Whether a frame asks for the child that a plan's run begins.
+//! Whether a frame requests the child that a plan's run begins.
 
 ghost use Rattle.std.specs.Prelude.{◌≡◌};
 ghost use Rattle.cilk_replay.specs.Frames.{same_body};
@@ -9,7 +9,7 @@ use cilk_frames::asked::AskSlot;
 use cilk_frames::small_ask::SmallAsk;
 use cilk_program::program::Body;
 
-/// What the child runs that a frame asks for.
+/// Returns the function or loop of the child that a frame requests.
 pub(crate) fn body_asked(asked: &AskSlot) -> Body
     ensures { result ≡ body_asked asked.now }
 {
@@ -20,7 +20,7 @@ pub(crate) fn body_asked(asked: &AskSlot) -> Body
     }
 }
 
-/// Whether a child that a frame asks for runs what the plan's does.
+/// Returns whether a requested child runs the same function or loop as the plan's.
 pub(crate) fn look_at_body(planned: Body, asked: Body) -> Looked
     ensures { LooksAtBody planned asked result }
 {

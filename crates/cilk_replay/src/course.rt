@@ -14,15 +14,15 @@ use cilk_types::input::Input;
 use std::marker::Model;
 use std::snapshot::Snapshot;
 
-/// What a frame of a plan's run runs, and where its cells lie.
+/// The function or loop that a frame of a plan's run runs, and its block of cells.
 #[derive(Clone, Copy)]
 pub struct FrameHome {
     pub body: Body,
     pub block: CellBlock,
 }
 
-/// The code of a program and an input for it, along the plan of one of the program's runs; and what that run's frames run,
-/// and where their cells lie.
+/// The code of a program and an input for it, along the plan of one of the program's runs; and for
+/// each frame of that run its body and its cells.
 pub struct Course {
     yard: Snapshot<Yard>,
     program: Snapshot<Program>,
@@ -68,8 +68,9 @@ impl Model for Course {
 }
 
 impl Course {
-    /// The code of a program and an input, where the yard's story is what the program makes on it of the plan of its
-    /// serial run on its own input. `homes` has each frame of that run, in the order of their numbers.
+    /// Creates the course of a program on `input`, along the plan of its serial run on `own`. The
+    /// event order of `yard` is that plan as the program makes it on `input`. `homes` has each
+    /// frame of that run, by number.
     pub fn new(
         yard: &Yard,
         program: &Program,
@@ -94,14 +95,15 @@ impl Course {
         }
     }
 
-    /// How many global cells there are.
+    /// Returns the number of global cells.
     pub fn globals(&self) -> usize
         ensures { let p = source self.now.program in result ≡ length p.openings }
     {
         self.globals
     }
 
-    /// What the root's frame has: the first number is its own, and it creates the global reducers ahead of its others.
+    /// Returns the home of the root's frame. Its number is 1, and it creates the global reducers
+    /// before its own.
     pub fn root(&self) -> Home
         ensures block { IsBlockOf self.now 1 result.block }
         ensures frame { result.frame ≡ 1 }
@@ -114,7 +116,7 @@ impl Course {
         }
     }
 
-    /// What the frame with a number has that a frame begins, if the plan's run has that frame.
+    /// Returns the home of the child with this number, if the plan's run has that frame.
     pub fn child(&self, frame: FrameNo) -> Home
         ensures block { IsBlockOf self.now frame result.block }
         ensures frame { result.frame ≡ frame }
@@ -127,21 +129,23 @@ impl Course {
         }
     }
 
-    /// Where the cells of the frame with a number lie, if the plan's run has that frame.
+    /// Returns the cells of the frame with this number, if the plan's run has that frame.
     pub fn block(&self, frame: FrameNo) -> CellBlock
         ensures { IsBlockOf self.now frame result }
     {
         self.home(frame).block
     }
 
-    /// What the frame with a number runs, if the plan's run has that frame.
+    /// Returns the function or loop of the frame with this number, if the plan's run has that
+    /// frame.
     pub fn body(&self, frame: FrameNo) -> Body
         ensures { IsBodyOf self.now frame result }
     {
         self.home(frame).body
     }
 
-    /// Both.
+    /// Returns the body and the cells of the frame with this number. A number past the last frame's
+    /// gives function 0 without cells.
     pub fn home(&self, frame: FrameNo) -> FrameHome
         ensures { IsHomeOf self.now frame result }
     {
@@ -152,28 +156,29 @@ impl Course {
         home_at(&self.homes, frame.saturating_sub(1), none)
     }
 
-    /// The program's code.
+    /// Returns the program's code.
     pub fn code(&self) -> &Code
         ensures { result.now ≡ self.now.code }
     {
         &self.code
     }
 
-    /// The input.
+    /// Returns the current input.
     pub fn input(&self) -> &Input
         ensures { result.now ≡ self.now.inputs }
     {
         &self.input
     }
 
-    /// What holds of the course.
+    /// States the invariant of a course.
     pub fn laws(&self)
         ensures { IsCourse self.now }
     {
         let _input = self.input.count();
     }
 
-    /// A frame that asks for a spawn asks for the `resume` behind it: the run doesn't depart there.
+    /// States that a frame that requests a spawn requests the `resume` after it: the run doesn't
+    /// depart there.
     pub fn resumes(&self)
         ensures { let y = self.now.yard in ResumesAreAsked y.story }
     {

@@ -1,16 +1,16 @@
-//! What a frame has, by the numbers that a plan's run gives to cells and reducers.
+//! The cells and reducers of a frame, by their numbers in a plan's run.
 
 use cilk_types::event::{Cell, FrameNo};
 
-/// Where the cells of a frame lie: one behind the other, from the first on.
+/// The cells of a frame: consecutive numbers, from the first on.
 #[derive(Clone, Copy)]
 pub struct CellBlock {
     pub first: Cell,
     pub cells: u32,
 }
 
-/// What a frame has: its cells, and its number, by which its reducers go. So many of these come before those that it
-/// creates for itself: the root's frame creates the global ones first.
+/// The home of a frame: its cells, and its number, which identifies its reducers. `before` is the
+/// number of reducers created before its own: the root's frame creates the global ones first.
 #[derive(Clone, Copy)]
 pub struct Home {
     pub block: CellBlock,
@@ -18,7 +18,8 @@ pub struct Home {
     pub before: u32,
 }
 
-/// A reducer: the number of the frame that creates it, and its place among that frame's reducers from 1.
+/// A reducer: the number of the frame that creates it, and its place among that frame's reducers,
+/// from 1.
 #[derive(Clone, Copy)]
 pub struct ReducerNumber {
     pub frame: FrameNo,

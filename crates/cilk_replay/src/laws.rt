@@ -1,7 +1,8 @@
-//! Laws of the courses of a run. Each is a function that does nothing: its contract is the law.
+//! Laws of the courses of a run. Each law is the contract of a function that does nothing.
 //!
-//! In each, `W` is what a frame can be started as, `V` a reducer's view, `M` the monoid of each reducer, `next` the program's behaviour
-//! on the input, and `same` tells whether two frames are of one function or one loop.
+//! `W` is what a frame can be started as, `V` a reducer's view, `M` the monoid of each reducer, and
+//! `next` the program's behaviour on the input. `same` says whether two frames run one function or
+//! one loop.
 
 ghost use Rattle.std.specs.Prelude.{Bool, ℤ, List, Option};
 ghost use Rattle.cilk_replay.specs.InputCourses.{AskedCourseIsSerial, CoursesAreOne, OwnCourse, SerialRunsAreOne};
@@ -17,111 +18,122 @@ ghost use Rattle.cilk_replay.specs.Worked.{WorkedEventOrders};
 ghost use Rattle.cilk_monoid.specs.Laws.{MonoidStructure};
 ghost use Rattle.cilk_runs.specs.Runs.{Ask, Deed, Instance};
 
-/// On each input a plan's run has a course, the one that `course_of` gives, and no other: at each event of the plan stands what its frame
-/// makes, where the frame's next ask is of that kind, and else the plan's own event.
+/// On each input a plan's run has exactly one course, the one that `course_of` gives. In the place
+/// of each event of the plan it has the frame's own event, if the frame's next request is of that
+/// kind, and the plan's event otherwise.
 pub fn courses_are_one<W, V>()
     ensures { (M : Instance → MonoidStructure V) (next : W → List (Deed W) → Option (Ask W)) (same : W → W → Bool) → CoursesAreOne W V M next same }
 {}
 
-/// On its own input a run is its own course, and each of its events is asked for.
+/// On its own input a run is its own course, and each of its events is requested.
 pub fn own_course<W, V>()
     ensures { (M : Instance → MonoidStructure V) (next : W → List (Deed W) → Option (Ask W)) (same : W → W → Bool) → OwnCourse W V M next same }
 {}
 
-/// By names, a program has one serial run at most on an input.
+/// By names, a program has at most one serial run on an input.
 pub fn serial_runs_are_one<W, V>()
     ensures { (M : Instance → MonoidStructure V) (next : W → List (Deed W) → Option (Ask W)) (same : W → W → Bool) → SerialRunsAreOne W V M next same }
 {}
 
-/// Where each event of a course is asked for, it is a serial run of the program on that input.
+/// A course in which each event is requested is a serial run of the program on that input.
 pub fn asked_course_is_serial<W, V>()
     ensures { (M : Instance → MonoidStructure V) (next : W → List (Deed W) → Option (Ask W)) (same : W → W → Bool) → AskedCourseIsSerial W V M next same }
 {}
 
-/// At the language: a run of a program has one course on each inputs.
+/// For the language: a run of a program has exactly one course on each input.
 pub fn programs_have_one_course()
     ensures { ProgramsHaveOneCourse }
 {}
 
-/// At the language: on its own inputs a serial run of a program is its own course, in which each event is asked for.
+/// For the language: on its own input a serial run of a program is its own course, and each event
+/// is requested.
 pub fn serial_runs_are_their_courses()
     ensures { SerialRunsAreTheirCourses }
 {}
 
-/// At the language: along a serial run of a program on some inputs, a course on others is a serial run on those, where each event is
-/// asked for. Each frame is asked as if it had all ticks of a run for itself.
+/// For the language: the course of a serial run on another input is a serial run on that input, if
+/// each event is requested. Each frame may use all the ticks of a run for itself.
 pub fn asked_courses_are_serial_runs()
     ensures { AskedCoursesAreSerialRuns }
 {}
 
-/// The story of a course, by the numbers that the run's cells and reducers have, is along the plan of the run: what holds of each story
-/// along a plan holds of it, as `cilk_tree::along` says.
+/// The event order of a course, by the numbers of the run's cells and reducers, is along the plan
+/// of the run. So the laws of `cilk_tree::along` apply to it.
 pub fn courses_are_along_plans<W, V>()
     ensures { (M : Instance → MonoidStructure V) (next : W → List (Deed W) → Option (Ask W)) (same : W → W → Bool) → CoursesAreAlongPlans W V M next same }
 {}
 
-/// Where the story of a course asks for the event at each position, each event of the course is asked for.
+/// If the event order of a course has a requested event at each position, each event of the course
+/// is requested.
 pub fn asked_stories_are_of_asked_courses<W>()
     ensures { AskedEventOrdersAreOfAskedCourses W }
 {}
 
-/// At the language, along an orderly plan of a program's serial run: inputs on which the story of a course departs nowhere have a serial
-/// run of the program, and the values of the course are that run's.
+/// For the language, along an orderly plan of a program's serial run: on an input on which the
+/// event order departs nowhere, the program has a serial run, and the values of the course are that
+/// run's.
 pub fn inputs_that_depart_nowhere()
     ensures { InputsThatDepartNowhere }
 {}
 
-/// At the language: on its own inputs the story of a run along its plan is the plan's.
+/// For the language: on its own input the event order of a run along its plan is the plan's.
 pub fn own_story()
     ensures { OwnEventOrder }
 {}
 
-/// At the language: on all inputs of words the story along the plan of a serial run is along that plan and has values.
+/// For the language: on each input of words the event order of a serial run is along the run's plan
+/// and has values.
 pub fn stories_along_have_values()
     ensures { EventOrdersAlongHaveValues }
 {}
 
-/// At the language: the serial run of a program of words, by names, is a serial run in the sense of courses.
+/// For the language: the serial run of a program of words, by names, is a serial run in the sense
+/// of courses.
 pub fn named_runs_are_serial()
     ensures { NamedRunsAreSerial }
 {}
 
-/// At the language: a serial run in the sense of courses, each frame of which has all ticks of a run for itself, is the program's serial
-/// run, which ends without a fault, where it keeps the limits of a run.
+/// For the language: a serial run in the sense of courses, which gives each frame all the ticks of
+/// a run, is the program's serial run and ends without a fault, if it keeps the limits of a run.
 pub fn runs_within_limits_are_whole()
     ensures { RunsWithinLimitsAreWhole }
 {}
 
-/// At the language: a serial run in the sense of courses that makes no more events, frames and cells than a run may leaves what the elision
-/// leaves: the same result, globals, output and reducers. So it does where its frames together take more ticks than a run may.
+/// For the language: a serial run in the sense of courses has the outcome of the serial elision:
+/// the same result, globals, output and reducers. It must keep the limits of events, frames and
+/// cells, but its frames together may use more ticks than a run may.
 pub fn runs_are_elided()
     ensures { RunsAreElided }
 {}
 
-/// At the language, along an orderly plan: inputs on which the story departs nowhere run as the course says. It is the program's serial
-/// run on them, and ends without a fault, where its frames together take no more ticks than a run may.
+/// For the language, along an orderly plan: on an input on which the event order departs nowhere,
+/// the program runs as the course says. The course is the program's serial run and ends without a
+/// fault, if its frames together use no more ticks than a run may.
 pub fn inputs_run_along()
     ensures { InputsRunAlong }
 {}
 
-/// At the language: in the list of a serial run's events each event is in the frame that makes it by names, by that frame's number.
+/// For the language: in the list of a serial run's events, each event is in the frame that makes
+/// it, by the frame's number.
 pub fn events_are_in_their_frames()
     ensures { EventsAreInTheirFrames }
 {}
 
-/// At the language, on all inputs, by positions: what a frame has done so far along the story tells whether it asks for the next event, and
-/// with which values; the frame's next event, a child's first, and the caller's next behind a child's `end` stand where the plan has them.
+/// For the language, on each input, by positions: what a frame has done so far decides whether it
+/// requests the next event, and with which values. The frame's next event, a child's first event,
+/// and the caller's next event after a child's `end` are at the plan's positions.
 pub fn stories_are_asked_by_positions()
     ensures { EventOrdersAreAskedByPositions }
 {}
 
-/// At the language: what a frame asks for right behind a child, called or spawned, is its `resume`. So a run that follows a plan up to there
-/// doesn't depart at a `resume`.
+/// For the language: right after a child, called or spawned, a frame requests its `resume`. So a
+/// run that follows a plan up to there doesn't depart at a `resume`.
 pub fn frames_resume()
     ensures { FramesResume }
 {}
 
-/// A worked program along the plan of its run on one input: the story on that and on two others, which depart.
+/// A worked example: a program along the plan of its run on one input. Its event order on that
+/// input, and on two others, which depart.
 pub fn worked_stories()
     ensures { WorkedEventOrders }
 {}

@@ -24,8 +24,8 @@ use cilk_frames::stepping::step_into;
 use cilk_types::limits::MAX_TICKS;
 use std::alloc::{AllocError, Global};
 
-/// A frame: where it stands in its code, the ticks that it took, and the cells and reducers that it sees. It counts them as if it had all those of a run
-/// for itself.
+/// A frame: its cursor in the code, its used ticks, and the cells and reducers in its sight. It may
+/// use all the ticks of a run for itself.
 #[derive(Drop)]
 pub struct Level {
     pub cursor: Cursor,
@@ -37,7 +37,7 @@ impl Level {
     ghost use Rattle.cilk_replay.specs.Asking.{HasAsked};
     ghost use Rattle.cilk_replay.specs.Courses.{IsSightIn};
 
-    /// The root's frame before it begins.
+    /// Creates the root's frame, before it begins.
     pub fn root(alloc: Global, course: &Course, home: Home) -> Result<Level, AllocError>
         ensures stands { IfOk result (λ l. (p : Source) → Behaves p course.now.code
             → Stands course.now.code course.now.inputs p Root l.cursor [] 0) }
@@ -57,7 +57,8 @@ impl Level {
         Ok(level)
     }
 
-    /// The frame that a frame asks for, before it begins, which has this itself.
+    /// Creates the child that a frame requests, before it begins. `home` is the child's, and
+    /// `caller` is the requesting frame's sight.
     pub fn begun(
         alloc: Global,
         course: &Course,
@@ -88,7 +89,7 @@ impl Level {
         })
     }
 
-    /// The frame goes on with the answer to its last ask, to the next one.
+    /// Continues the frame with the answer to its last request, up to its next request.
     pub fn step(&mut self, course: &Course, answer: Answer, asked: &mut AskSlot)
         requires runs { Runs course.now.code course.now.inputs self.old.cursor }
         requires fits { Fits self.old.cursor.owed answer }
@@ -111,7 +112,7 @@ impl Level {
     }
 }
 
-/// A frame on the heap goes on with the answer to its last ask, to the next one.
+/// Continues a frame on the heap with the answer to its last request, up to its next request.
 pub(crate) fn go_on(frame: &mut Box<Level>, course: &Course, answer: Answer, asked: &mut AskSlot)
     requires runs { let l = frame.old.value in Runs course.now.code course.now.inputs l.cursor }
     requires fits { let l = frame.old.value in Fits l.cursor.owed answer }

@@ -1,38 +1,37 @@
-//! The frames with which a worker goes on along a plan.
+//! Replay of a run: the frames with which workers follow a plan, on the plan's input or another.
 //!
-//! A worker holds a frame that has asked for its next event, and the frames that wait for it: its callers, up to the
-//! nearest frame that was spawned. What lies further out waits at a spawn, on this worker or on another. A
-//! [`chain::Chain`] is these frames, at a position of the run; it keeps in its type that each of their cursors
-//! (`cilk_frames`) has had the answers that the run gave it so far. So what the chain asks for next is what the
-//! program asks for there, on the input at hand, whoever made the events before it; and where the run follows its
-//! story, it is the story's event, with its kind, its cell or reducer, and its value. At a spawn a chain falls in
-//! two: the child alone, and a [`chain::Rest`], which goes on behind the spawn (Frigo, Leiserson and Randall 1998).
-//! With the spawn's position, its ticket, a rest is a [`chain::Task`].
+//! A *plan* has the kinds of the events of one serial run of a program, in serial order. Workers
+//! that run the program again follow it. Each frame still computes its own requests, by the
+//! program's code on the current input. If a request is the plan's event, a worker makes that
+//! event; otherwise the run departs from the plan there.
+//!
+//! A worker holds a [`chain::Chain`]: a frame that has requested its next event, and its callers up
+//! to the nearest spawned frame. Frames further out wait at a spawn, on this worker or another. At
+//! a spawn a chain splits in two: the child alone, and a [`chain::Rest`], the continuation of the
+//! parent (Frigo, Leiserson and Randall 1998). With its *ticket*, the position of the spawn, a rest
+//! is a [`chain::Task`].
+//!
+//! The *course* of a run on an input is the plan's events with the values of that input. A read
+//! gives the last write of its cell before it in serial order, and a reducer's value comes from the
+//! events before it in serial order. An event that isn't requested stays as the plan has it. A
+//! chain's type keeps that each of its frames has had the answers of the course so far. So its next
+//! request is the program's, whoever made the events before it.
+//!
+//! | Item | Use |
+//! |---|---|
+//! | [`chain::Chain::look`] | Whether the next request is the plan's event. |
+//! | [`chain::Chain::answer`] | Continues the frame; `call`, `spawn` and `end` change the frame. |
+//! | [`chain::Rest::wake`] | Continues a frame after its child. |
+//! | [`course::Course`] | The program's code and the input, along a plan. |
+//! | [`laws`] | A course in which each event is requested is a serial run. |
 //!
 //! ```text
-//! let chain = Chain::root(alloc, &course)?;
-//! match chain.ask().brief() {
-//!     Some(SmallAsk::Read(_)) => {
-//!         let value = yard.load(&mut segment, cell);
-//!         chain.answer(&course, Answer::Value(value));
-//!     }
-//!     ..
+//! let mut chain = Chain::root(alloc, &course)?;
+//! match chain.look(&course, kind) {        // the kind of the plan's event at chain.at()
+//!     Looked::Asked => chain.answer(&course, answer),
+//!     Looked::Differs => ..,               // the run departs from the plan
 //! }
 //! ```
-//!
-//! One plan, several inputs.
-//!
-//! A scheduler that runs a program along the plan of one of its runs may be given another input. Each frame then asks for what it asks
-//! for on that input, and the plan's event is followed where the ask is of its kind. `specs/Courses` says what stands at each position
-//! of the plan then: the *course* of the plan's run on the input. A read gives the last write of its cell before it in serial order, a
-//! value the number of what comes before it, and what isn't asked for stays as the plan has it.
-//!
-//! The laws, in [`laws`]: on each input there is one course; on its own input a run is its own course, and each of its events is asked
-//! for. The story of a course is along the plan of its run and has values. Where each event of a course is asked for, as where its story
-//! departs nowhere, it is a serial run of the program on that input: the program's own, where that isn't stopped for its ticks. However many
-//! ticks it takes, it leaves what the elision leaves.
-//! By positions, `specs/Points` has the frame at hand at each event of a story, and all that it has done before: it asks for the event
-//! exactly where what its behaviour asks for next, after those answers, is of the event's kind, and then with the story's value.
 #![tactic(auto)]
 
 pub mod chain;

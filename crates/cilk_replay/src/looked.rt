@@ -1,10 +1,10 @@
-//! What a look at a plan's next event says.
+//! The result of comparing a request with the plan's next event.
 
-/// Whether the frame at hand asks for the plan's next event.
+/// Whether the current frame requests the plan's next event.
 #[derive(Clone, Copy, PartialEq, Eq)]
 pub enum Looked {
     /// It does.
     Asked,
-    /// It asks for something else: the run departs from the plan.
+    /// It requests something else: the run departs from the plan.
     Differs,
 }

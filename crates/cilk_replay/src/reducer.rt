@@ -1,4 +1,4 @@
-//! The reducers that a frame sees, by the numbers that a plan's run gives to them.
+//! The reducers that a frame sees, by their numbers in a plan's run.
 
 ghost use Rattle.std.specs.Prelude.{◌≡◌, IfOk, map, slice_get, unwrap_or};
 ghost use Rattle.cilk_program.specs.declared.syntax.Reducer.{Reducer};
@@ -54,7 +54,7 @@ fn own(home: Home, number: u32) -> ReducerNumber
     }
 }
 
-// A reducer that a function was given.
+// A reducer that was passed to a function.
 fn among(given: &[ReducerNumber], number: u32) -> ReducerNumber
     ensures { result ≡ unwrap_or (slice_get given.now number) (global_reducer number) }
 {
@@ -64,7 +64,7 @@ fn among(given: &[ReducerNumber], number: u32) -> ReducerNumber
     }
 }
 
-/// The reducers that a function is given by a frame that sees this.
+/// Returns the reducers that a frame with this sight passes to a function.
 pub(crate) fn given_to(
     alloc: Global,
     sight: &Sight,
@@ -79,7 +79,7 @@ pub(crate) fn given_to(
     Ok(numbers)
 }
 
-/// Those that a function was given, for a loop that stands in its body.
+/// Returns the reducers that were passed to a function, for a loop in its body.
 pub(crate) fn given_outer(
     alloc: Global,
     outer: &[Home],
@@ -94,7 +94,7 @@ pub(crate) fn given_outer(
     Ok(copied)
 }
 
-/// The reducer that a frame asks for, which sees this.
+/// Returns the reducer that a frame with this sight requests.
 pub(crate) fn reducer_asked(sight: &Sight, asked: &AskSlot) -> ReducerNumber
     ensures { result ≡ reducer_asked (homes_of sight.now) sight.now.given.items asked.now }
 {
@@ -107,7 +107,7 @@ pub(crate) fn reducer_asked(sight: &Sight, asked: &AskSlot) -> ReducerNumber
     }
 }
 
-/// Whether a reducer that a frame asks for is the plan's.
+/// Returns whether a requested reducer is the plan's.
 pub(crate) fn look_at_reducer(found: ReducerNumber, instance: Instance) -> Looked
     ensures { LooksAtReducer found instance result }
 {

@@ -1,4 +1,4 @@
-//! The cells and reducers that a frame sees, by the numbers that a plan's run gives to them.
+//! The cells and reducers that a frame sees, by their numbers in a plan's run.
 
 ghost use Rattle.std.specs.Prelude.{◌≡◌, ◌≢◌, ◌∷◌, [], IfOk, drop, slice_get};
 ghost use Rattle.cilk_types.specs.declared.invocation.Invocation.{Invocation};
@@ -16,9 +16,9 @@ use cilk_program::syntax::Place;
 use cilk_types::event::Cell;
 use std::alloc::{AllocError, Global};
 
-/// What a frame sees: what it has itself; by its static links, what the frames round it have; the reducers that the
-/// function was given whose body it runs or stands in; and the number of the cell that its result goes to. A cell that
-/// the plan's run doesn't have has no number.
+/// The sight of a frame: its own home; by its static links, the homes of the frames around it; the
+/// reducers that were passed to its function or to the function around it; and the number of the
+/// cell that receives its result. A cell that the plan's run doesn't have has no number.
 #[derive(Drop)]
 pub struct Sight {
     pub own: Home,
@@ -28,7 +28,7 @@ pub struct Sight {
 }
 
 impl Sight {
-    /// What the root's frame sees.
+    /// Returns the sight of the root's frame.
     pub fn root(alloc: Global, globals: usize, home: Home) -> Sight
         ensures homes { homes_of result ≡ home ∷ [] }
         ensures given { result.given.items ≡ [] }
@@ -42,7 +42,8 @@ impl Sight {
         }
     }
 
-    /// What the frame sees that a frame asks for, which has this itself.
+    /// Returns the sight of the child that a frame requests. `home` is the child's, and `caller` is
+    /// the requesting frame's sight.
     pub fn begun(
         alloc: Global,
         globals: usize,
@@ -81,7 +82,7 @@ impl Sight {
         }
     }
 
-    // What lies so many static links up, and further out.
+    // The homes `up` static links out and further out.
     fn outer(&self, alloc: Global, up: u32) -> Result<Vec<Home>, AllocError>
         ensures { IfOk result (λ v. v.items ≡ drop up (homes_of self.now)) }
     {
@@ -95,7 +96,7 @@ impl Sight {
         Ok(outer)
     }
 
-    /// What the frame has that lies so many static links up.
+    /// Returns the home `up` static links out.
     pub(crate) fn home(&self, up: u32) -> Option<Home>
         ensures { result ≡ slice_get (homes_of self.now) up }
     {
@@ -118,7 +119,7 @@ impl Sight {
         }
     }
 
-    // The number of the cell that takes a result.
+    // The number of the cell that receives a result.
     fn taking(&self, globals: usize, place: Option<Place>) -> Option<u64>
         ensures { result ≡ number_taking globals (homes_of self.now) place }
     {
@@ -129,7 +130,7 @@ impl Sight {
     }
 }
 
-// So many fewer.
+// The homes from `first` on.
 fn behind(homes: &[Home], first: u32) -> &[Home]
     ensures { result.now ≡ drop first homes.now }
 {
@@ -156,7 +157,7 @@ fn inside(block: CellBlock, number: u32) -> Option<u64>
     }
 }
 
-/// The number of the cell that a frame asks for, which sees this.
+/// Returns the number of the cell that a frame with this sight requests.
 pub(crate) fn cell_asked(globals: usize, sight: &Sight, asked: &AskSlot) -> Option<u64>
     ensures { result ≡ cell_asked globals sight.now asked.now }
 {
@@ -169,7 +170,7 @@ pub(crate) fn cell_asked(globals: usize, sight: &Sight, asked: &AskSlot) -> Opti
     }
 }
 
-/// Whether a cell that a frame asks for is the plan's.
+/// Returns whether a requested cell is the plan's.
 pub(crate) fn look_at_cell(found: Option<u64>, cell: Cell) -> Looked
     ensures { LooksAt found cell result }
 {

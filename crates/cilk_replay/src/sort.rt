@@ -1,4 +1,4 @@
-//! What sort of event an ask and a plan's kind are of, whatever their cells, reducers and frames.
+//! The sort of a request and of a plan's event, without its cell, reducer or frame.
 
 ghost use Rattle.std.specs.Prelude.{◌≡◌};
 ghost use Rattle.cilk_replay.specs.Sorts.{sort_asked, sort_of, sort_started};
@@ -8,7 +8,7 @@ use cilk_frames::small_ask::SmallAsk;
 use cilk_tree::kind::Kind;
 use cilk_types::invocation::Invocation;
 
-/// A sort of events.
+/// The sort of an event.
 #[derive(Clone, Copy, PartialEq, Eq)]
 pub enum Sort {
     Begin,
@@ -38,7 +38,7 @@ fn started(how: Invocation) -> Sort
     }
 }
 
-/// The sort of what a frame asks for.
+/// Returns the sort of a request.
 pub(crate) fn asked_sort(asked: &AskSlot) -> Sort
     ensures { result ≡ sort_asked asked.now }
 {
@@ -62,7 +62,7 @@ pub(crate) fn asked_sort(asked: &AskSlot) -> Sort
     }
 }
 
-/// The sort of a plan's event.
+/// Returns the sort of a plan's event.
 pub(crate) fn kind_sort(kind: Kind) -> Sort
     ensures { result ≡ sort_of kind }
 {

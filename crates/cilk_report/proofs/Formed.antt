@@ -1,4 +1,4 @@
--- Words without those that say how a run is shown.
+-- Command lines without the words that select the output.
 --
 -- `formed_texts`: their texts are those of the words, without these.
 use Rattle.std.proofs.Common.{◌≡◌, List, [], ◌∷◌, Bool, true, false, cond, refl, ap, ◌∙◌}

@@ -1,7 +1,10 @@
--- How a reply of `measure` comes about.
+-- The replies of `measure`.
 --
--- `fails`: there are no totals, and why is told. `starved`: a want of memory. `unnamed`: words that name no run. `asked`: words that ask something of `serve` aren't
--- words that ask nothing. `named`: the run that words measure is the one that the words in its place run.
+-- - `fails`: there are no totals, and the reply says why;
+-- - `starved`: out of memory;
+-- - `unnamed`: the words name no run;
+-- - `asked`: a command line of `serve` isn't one that `serve` refuses;
+-- - `named`: the run that words measure is that of the `run` command in their place.
 use Rattle.std.proofs.Common.{◌≡◌, ℕ, List, Bool, Option, Some, None, refl, sym, ap, subst, inl, inr, ◌∙◌}
 use Rattle.std.proofs.lemmas.Bool.{true≢false}
 use Rattle.std.specs.Prelude.{IsSome}
@@ -14,7 +17,7 @@ use Rattle.cilk_messages.specs.Words.{Origin, Requested, order_in}
 use Rattle.cilk_commands.specs.declared.reply.Failure.{Failure}
 use Rattle.cilk_commands.specs.declared.reply.Failure.TheVariants as failures
 
--- what `complain` says of a failure
+-- the text of a failure
 abbrev pub Told : Failure → ℕ → Bool → Option Text → Option Text → Type 0
 Told f status told e m = (r : Reply) × IsOrNoMemory (failure_view f) r × (status ≡ status_of r) × ShowsError r told e m
 
@@ -60,11 +63,11 @@ module _ (words : List Text) (files : Text → Option Text) (input : Option Text
         | inr is ↦ OutOfMemory (complains shown.0 NoMemory status status' told o e m e' is shown.2 shown.3 behind same)
       ]
 
--- words that ask something of `serve` don't ask nothing
+-- a command line of `serve` isn't one that `serve` refuses
 pub asked : (asked : Option Requested) (r : Requested) → asked ≡ Some r → asked ≡ None → ⊥
 asked a r some none = true≢false (sym (subst IsSome (sym some ∙ none) refl))
 
--- the run that words measure is the one that the words in its place run
+-- the run that words measure is that of the `run` command in their place
 pub named : (words plain : List Text) (wanted : Option Requested) (run : Option (Origin × Option Text)) → plain ≡ words_of_run words
     → order_in plain ≡ wanted → run ≡ run_of wanted → measured_run words ≡ run
 named words plain wanted run same order is = ap (λ ws. run_of (order_in ws)) (sym same) ∙ ap run_of order ∙ sym is

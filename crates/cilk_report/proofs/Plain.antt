@@ -1,6 +1,8 @@
--- Words without `--explain`.
+-- Command lines without `--explain`.
 --
--- `plain_texts`: their texts are those of the words, without it. `fewer`: there are fewer of them, where any went. `as_many`: else there aren't.
+-- - `plain_texts`: their texts are those of the words, without it;
+-- - `fewer`: fewer words remain if any was removed;
+-- - `as_many`: no fewer remain if none was removed.
 use Rattle.std.proofs.Common.{◌≡◌, ◌≤◌, List, [], ◌∷◌, Bool, true, false, cond, refl, ap, ◌∙◌, sym, suc, length, ◌<◌, arith}
 use Rattle.std.specs.Prelude.{filter, not}
 use Rattle.std.specs.Borrow.{Bor}
@@ -22,7 +24,7 @@ length_texts : (words : List (Bor Text)) → length (texts words) ≡ length wor
 length_texts [] = refl
 length_texts (w ∷ words) = ap (λ n. suc n) (length_texts words)
 
--- there are fewer of them where words went
+-- fewer words remain if any was removed
 pub fewer : (words plain : List (Bor Text)) → texts plain ≡ unflagged (texts words) → length plain < length words
     → length (unflagged (texts words)) < length (texts words)
 fewer words plain same less =
@@ -30,7 +32,7 @@ fewer words plain same less =
     let long : length (texts words) ≡ length words = length_texts words in
     omega arith
 
--- there are no fewer where none went
+-- no fewer remain if none was removed
 pub as_many : (words plain : List (Bor Text)) → texts plain ≡ unflagged (texts words) → length words ≤ length plain
     → length (unflagged (texts words)) < length (texts words) → ⊥
 as_many words plain same kept less =

@@ -1,8 +1,12 @@
--- How a reply of `serve_explained` comes about.
+-- The replies of `serve_explained`.
 --
--- `ended`, `failed`: an answer to an order, or a failure, is shown as `serve` shows it. `refused`: words that ask for nothing.
--- `asked_for`: what is answered to an order is answered to its words. `starved`: a want of memory. `silence`: nothing follows. `unasked`: words that clap refuses ask for nothing.
--- `of_kept`: what is said of files that were told to keep what is read is said of them as they were.
+-- - `ended`, `failed`: an answer to an order, or a failure, is shown as `serve` shows it;
+-- - `refused`: the command line isn't valid;
+-- - `asked_for`: the answer to an order is the answer to its words;
+-- - `starved`: out of memory;
+-- - `silence`: nothing follows;
+-- - `unasked`: words with a usage error have no order;
+-- - `of_kept`: a call of `keep` changes nothing that is stated of the files.
 use Rattle.std.proofs.Common.{◌≡◌, ℕ, Bool, true, Option, None, [], List, refl, sym, subst}
 use Rattle.cilk_report.specs.Explained.{Follows}
 use Rattle.cilk_commands.proofs.Replying.{ends, fails, keeps, no_memory}
@@ -49,7 +53,7 @@ abbrev pub IsUsage : WordsFault → Type 0
 IsUsage (faults.Usage text) = Unit {0}
 IsUsage faults.Memory = ⊥
 
--- words that clap refuses ask for nothing
+-- words with a usage error have no order
 pub unasked : (words : List Text) (e : WordsFault) → IsUsage e → IsWordsFault words e → order_in words ≡ None
 unasked words (faults.Usage text) u h = h
 unasked words faults.Memory u h = absurd u
@@ -59,6 +63,6 @@ pub of_kept : (P : (Text → Option Text) → Failures → Type 0) (files files'
 of_kept P files files' failed failed' unfailed same h =
     subst (λ (fs : Text → Option Text). P fs failed) same (subst (λ (f : Failures). P files' f) unfailed h)
 
--- what is answered to an order is answered to its words
+-- the answer to an order is the answer to its words
 pub asked_for : (words : List Text) (w : Surroundings) (asked : Option Requested) (r : Reply) → order_in words ≡ asked → Answers w asked r → Answers w (order_in words) r
 asked_for words w asked r order h = subst (λ (a : Option Requested). Answers w a r) (sym order) h

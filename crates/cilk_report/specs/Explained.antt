@@ -1,4 +1,5 @@
--- What `serve_explained` shows, beside what `serve` does.
+-- The replies of `serve_explained` to command lines that `serve` doesn't have, and its
+-- explanations.
 use Rattle.std.specs.Prelude.{◌≡◌, ◌⊎◌, ◌<◌, ◌==◌, ◌&&◌, ◌||◌, ℕ, Bool, true, false, not, List, [], ◌∷◌, length, filter, Option, Some, None, codes}
 use Rattle.std.specs.Str.{bytes_eq}
 use Rattle.std.specs.Io.KnownBytes.{Appends}
@@ -18,16 +19,16 @@ use Rattle.cilk_report.specs.declared.about.About.TheVariants as answers
 abbrev pub is_flag : Text → Bool
 is_flag word = bytes_eq word (codes "--explain")
 
--- the words but for each `--explain`
+-- the words without each `--explain`
 abbrev pub unflagged : List Text → List Text
 unflagged words = filter (λ w. not (is_flag w)) words
 
--- a word that is an option, or stands for one
+-- a word that begins with `-`
 abbrev pub is_option : Text → Bool
 is_option [] = false
 is_option (first ∷ bytes) = first == 45
 
--- a word that asks for help
+-- a word that requests help
 abbrev pub is_help : Text → Bool
 is_help word = bytes_eq word (codes "--help") || bytes_eq word (codes "-h")
 
@@ -37,128 +38,133 @@ is_command word =
     bytes_eq word (codes "run") || (bytes_eq word (codes "certify") || (bytes_eq word (codes "check") || (bytes_eq word (codes "threads")
     || (bytes_eq word (codes "play") || (bytes_eq word (codes "measure") || (bytes_eq word (codes "schedule") || bytes_eq word (codes "explain")))))))
 
--- a word that asks about the tool by itself: for help, for its version, or for what all its numbers mean
+-- a word that alone is about the tool: a request for help, the version, or all numbers
 abbrev pub is_question : Text → Bool
 is_question word =
     bytes_eq word (codes "help") || (is_help word || (bytes_eq word (codes "--version") || (bytes_eq word (codes "-V")
     || bytes_eq word (codes "explain"))))
 
--- two words that ask about the tool: for help on a command, or for what a number means
+-- two words about the tool: a request for help on a command, or for the meaning of a number
 abbrev pub is_question_on : Text → Text → Bool
 is_question_on word other =
     (bytes_eq word (codes "explain") && not (is_option other)) || ((bytes_eq word (codes "help") && is_command other)
     || (is_command word && is_help other))
 
--- the words ask about the tool itself: for help, for its version, or for what all its numbers mean, or one
+-- the words are about the tool itself
 abbrev pub is_about : List Text → Bool
 is_about [] = false
 is_about (word ∷ []) = is_question word
 is_about (word ∷ other ∷ []) = is_question_on word other
 is_about (word ∷ other ∷ more ∷ words) = false
 
--- an answer that isn't that the words are about something else
+-- any answer but that the words aren't about the tool
 abbrev pub IsAnswer : AboutAnswer → Type 0
 IsAnswer answers.Other = ⊥
 IsAnswer _ = Unit {0}
 
--- an answer that words about the tool have, and only these
+-- an answer about the tool, if the words are about the tool, and none otherwise
 abbrev pub IsAskedFor : List Text → AboutAnswer → Type 0
 IsAskedFor words answers.Other = is_about words ≡ false
 IsAskedFor words (answers.Text text) = is_about words ≡ true
 IsAskedFor words (answers.Wrong text) = is_about words ≡ true
 
--- some text comes behind what there is: all of it, or a beginning
+-- some text follows the old one, all of it or a beginning
 abbrev pub ComesBehind : Option Text → Option Text → Type 0
 ComesBehind old new = (text : Text) × (is_whole : Bool) × AppendsFront is_whole old new text
 
--- some text comes after what was shown with a status, but none after a want of memory
+-- some text follows a reply with this status, but none follows a reply that is out of memory
 abbrev pub Follows : ℕ → Option Text → Option Text → Type 0
 Follows status old new = ComesBehind old new × (status ≡ NO_MEMORY → new ≡ old)
 
--- the text goes to standard output with status 0; or a write there fails, and standard error says so
+-- the text goes to standard output with status 0; or a write there fails, and standard error says
+-- so
 abbrev pub WritesText : Text → ℕ → Option Text → Option Text → Option Text → Option Text → Type 0
 WritesText text status out out' err err' =
     ((status ≡ 0) × Appends out out' text × (err' ≡ err))
     ⊎ ((status ≡ 2) × AppendsPart out out' text × ((told : Bool) × AppendsFront told err err' (line (codes "cannot write"))))
 
--- some text does
+-- some text goes to standard output in that way
 abbrev pub WritesAbout : ℕ → Option Text → Option Text → Option Text → Option Text → Type 0
 WritesAbout status out out' err err' = (text : Text) × WritesText text status out out' err err'
 
--- what `serve` does with these words, where its reads of files are all of the call's, and a text on standard error after it
+-- the reply of `serve` to these words, then a text on standard error; all reads of files are those
+-- of `serve`
 abbrev pub ServesThenExplains : List Text → (Text → Option Text) → Option Text → Failures → Failures → ℕ
     → Option Text → Option Text → Option Text → Option Text → Type 0
 ServesThenExplains words files input failed failed' status out out' err err' =
     (middle : Option Text) × (told : Bool) × Serves words (world files input failed failed') status told out out' err middle
     × Follows status middle err'
 
--- a reply that isn't what a run left
+-- a reply other than the outcome of a run
 abbrev pub IsNoOutcome : Reply → Type 0
 IsNoOutcome (Ended names outcome) = ⊥
 IsNoOutcome _ = Unit {0}
 
--- a reply goes to standard error with its status, and a text behind it; nothing goes to standard output
+-- a reply and then some text go to standard error with the reply's status; nothing goes to standard
+-- output
 abbrev pub Complains : Reply → ℕ → Option Text → Option Text → Option Text → Option Text → Type 0
 Complains r status out out' err err' =
     (out' ≡ out) × (status ≡ status_of r) × (middle : Option Text) × (told : Bool) × ShowsError r told err middle × Follows status middle err'
 
--- What comes of words that measure a run.
+-- The replies of `measure`.
 pub data Measures (words : List Text) (files : Text → Option Text) (input : Option Text) (failed failed' : Failures)
     (status : ℕ) (out out' err err' : Option Text) : Type 0 where
   -- the run ends, and a text with its totals is shown
   Measured : (program : Origin) (numbers : Option Text) (t : Totals) (text : Text) → measured_run words ≡ Some (program, numbers)
       → AreTotalsOf (world files input failed failed') program numbers t → IsMeasureText words t text → WritesText text status out out' err err'
       → Measures words files input failed failed' status out out' err err'
-  -- the texts mean no program and input, or the run stops: what `run` shows of that
+  -- the texts aren't a program and its input, or the run stops: the reply is that of `run`
   Unmeasured : (program : Origin) (numbers : Option Text) (r : Reply) → measured_run words ≡ Some (program, numbers)
       → RunReply (world files input failed failed') program numbers r → IsNoOutcome r → Complains r status out out' err err'
       → Measures words files input failed failed' status out out' err err'
-  -- the words name no run
+  -- the words don't name a run
   Unnamed : (r : Reply) → measured_run words ≡ None → WordsFail r → Complains r status out out' err err'
       → Measures words files input failed failed' status out out' err err'
-  -- memory was refused
+  -- out of memory
   OutOfMemory : Complains NoMemory status out out' err err' → Measures words files input failed failed' status out out' err err'
 
--- the first word is `schedule`, and what is behind it isn't one word that asks for help
+-- the first word is `schedule`, and more follows than one request for help
 abbrev pub is_schedule : List Text → Bool
 is_schedule [] = false
 is_schedule (word ∷ words) = bytes_eq word (codes "schedule") && not (asks_help words)
 
--- the words that check what these ask a schedule of: `check`, and those behind the first
+-- the words of the check for which a schedule is requested: `check`, then the words after the first
 abbrev pub words_of_check : List Text → List Text
 words_of_check words = codes "check" ∷ unflagged (behind_first words)
 
--- a certificate is refused
+-- the refusal of a certificate
 abbrev pub IsRefusal : Reply → Type 0
 IsRefusal (Refused number places) = Unit {0}
 IsRefusal _ = ⊥
 
--- what comes of the words that check a certificate, where a schedule is asked for
+-- the replies of `schedule`, by the words of the check
 pub data Schedules (words : List Text) (files : Text → Option Text) (input : Option Text) (failed failed' : Failures)
     (status : ℕ) (out out' err err' : Option Text) : Type 0 where
-  -- it is refused, and a script is shown
+  -- the certificate is refused, and a script is shown
   Told : (r : Reply) (script : Text) → Answers (world files input failed failed') (order_in words) r → IsRefusal r
       → WritesText script status out out' err err' → Schedules words files input failed failed' status out out' err err'
-  -- what `check` shows of it, and a text behind that
+  -- the reply of `check`, then a text
   Checked : ServesThenExplains words files input failed failed' status out out' err err'
       → Schedules words files input failed failed' status out out' err err'
 
--- What comes of a call over what files hold and what standard input gives, with the failed reads before it and at its end.
+-- The replies of a call, given the contents of files and standard input, and the failed reads
+-- before and after it.
 pub data ServesExplained (words : List Text) (files : Text → Option Text) (input : Option Text) (failed failed' : Failures)
     (status : ℕ) (out out' err err' : Option Text) : Type 0 where
-  -- what `serve` does with these words
+  -- the reply of `serve`
   Served : (told : Bool) → Serves words (world files input failed failed') status told out out' err err'
       → ServesExplained words files input failed failed' status out out' err err'
-  -- the words ask nothing of `serve`, and have `--explain` among them: what it does with the others, and then a text
+  -- the words aren't a command line of `serve` and have `--explain` among them: the reply to the
+  -- others, then a text
   Explained : order_in words ≡ None → length (unflagged words) < length words
       → ServesThenExplains (unflagged words) files input failed failed' status out out' err err'
       → ServesExplained words files input failed failed' status out out' err err'
-  -- the words ask nothing of `serve`, and measure a run
+  -- the words aren't a command line of `serve` and measure a run
   Measuring : order_in words ≡ None → is_measure words ≡ true → Measures words files input failed failed' status out out' err err'
       → ServesExplained words files input failed failed' status out out' err err'
-  -- the words ask nothing of `serve`, and ask for a schedule
+  -- the words aren't a command line of `serve` and request a schedule
   Scheduling : order_in words ≡ None → is_schedule words ≡ true → Schedules (words_of_check words) files input failed failed' status out out' err err'
       → ServesExplained words files input failed failed' status out out' err err'
-  -- the words ask about the tool itself: a text about it
+  -- the words are about the tool itself: a text about it
   About : order_in words ≡ None → is_about words ≡ true → WritesAbout status out out' err err'
       → ServesExplained words files input failed failed' status out out' err err'

@@ -1,4 +1,4 @@
--- What is shown of a run that is measured.
+-- The output of `measure`.
 use Rattle.std.specs.Prelude.{◌≡◌, ℕ, ℤ, Bool, ◌||◌, IsFalse, List, ◌++◌, cond, Option, codes}
 use Rattle.cilk_types.specs.declared.event.Event.{Event}
 use Rattle.cilk_checker.specs.Judging.{Meant}
@@ -11,7 +11,7 @@ use Rattle.cilk_commands.specs.Replies.{Text}
 use Rattle.cilk_commands.specs.Serving.{AreGiven, Surroundings}
 use Rattle.cilk_messages.specs.Words.{Origin}
 
--- these are the totals of the run of the program on its input, as the texts mean them that files and standard input give
+-- the totals of the run of a program on its input, which are read from files and standard input
 pub record AreTotalsOf (w : Surroundings) (program : Origin) (input : Option Text) (t : Totals) : Type 0 where
   pub meant : Meant
   pub inputs : List ℤ
@@ -19,18 +19,18 @@ pub record AreTotalsOf (w : Surroundings) (program : Origin) (input : Option Tex
   pub events : List Event
   pub measures : AreMeasures meant.source inputs t events
 
--- what stands ahead of each number: a comma where the words ask for that
+-- the separator before each number: a comma with `--csv`
 abbrev pub mark_in : List Text → ℕ
 mark_in words = cond (asks (codes "--csv") words) COMMA BLANK
 
--- the words ask for a picture in place of a table
+-- a picture is requested in place of a table
 abbrev pub is_drawn : List Text → Bool
 is_drawn words = asks (codes "--svg") words || asks (codes "--dot") words
 
--- A table begins with the totals; what stands behind them isn't stated.
+-- A table begins with the totals. Nothing is stated about the rest.
 abbrev pub IsTable : List Text → Totals → Text → Type 0
 IsTable words t text = (ticks : Option ℕ) × (rest : Text) × (text ≡ totals_text (mark_in words) t ticks ++ rest)
 
--- where the words ask for no picture, of which nothing is stated, a table is shown
+-- A table, unless a picture is requested. Nothing is stated about pictures.
 abbrev pub IsMeasureText : List Text → Totals → Text → Type 0
 IsMeasureText words t text = IsFalse (is_drawn words) → IsTable words t text

@@ -1,26 +1,26 @@
--- The words of `measure`.
+-- The command line of `measure`.
 use Rattle.std.specs.Prelude.{Bool, false, ◌&&◌, ◌||◌, not, List, [], ◌∷◌, filter, Option, Some, None, codes}
 use Rattle.std.specs.Str.{bytes_eq}
 use Rattle.cilk_commands.specs.Replies.{Text}
 use Rattle.cilk_messages.specs.Words.{Origin, Requested, Run, order_in}
 
--- one word, which asks for help
+-- one word only, which requests help
 abbrev pub is_help : List Text → Bool
 is_help [] = false
 is_help (word ∷ []) = bytes_eq word (codes "--help") || bytes_eq word (codes "-h")
 is_help (word ∷ other ∷ words) = false
 
--- the first word is `measure`, and what is behind it isn't one word that asks for help
+-- the first word is `measure`, and more follows than one request for help
 abbrev pub is_measure : List Text → Bool
 is_measure [] = false
 is_measure (word ∷ words) = bytes_eq word (codes "measure") && not (is_help words)
 
--- one of the words is this one
+-- this word is among the words
 abbrev pub asks : Text → List Text → Bool
 asks wanted [] = false
 asks wanted (word ∷ words) = bytes_eq word wanted || asks wanted words
 
--- a word that says how a measured run is shown, or asks for an explanation
+-- a word that selects the output of `measure`, or `--explain`
 abbrev pub is_form : Text → Bool
 is_form word =
     bytes_eq word (codes "--csv") || (bytes_eq word (codes "--svg") || (bytes_eq word (codes "--dot") || bytes_eq word (codes "--explain")))
@@ -30,15 +30,16 @@ abbrev pub behind_first : List Text → List Text
 behind_first [] = []
 behind_first (word ∷ words) = words
 
--- the words that run what these measure: `run`, and those behind the first that don't say how it is shown
+-- the words of the run to measure: `run`, then the words after the first that don't select the
+-- output
 abbrev pub words_of_run : List Text → List Text
 words_of_run words = codes "run" ∷ filter (λ w. not (is_form w)) (behind_first words)
 
--- the program and the input of a run, where that is what is asked for
+-- the program and the input of an order to run
 abbrev pub run_of : Option Requested → Option (Origin × Option Text)
 run_of (Some (Run program input)) = Some (program, input)
 run_of _ = None
 
--- the program and the input whose run these words measure
+-- the program and the input of the run to measure
 abbrev pub measured_run : List Text → Option (Origin × Option Text)
 measured_run words = run_of (order_in (words_of_run words))

@@ -1,4 +1,4 @@
-//! Words about the tool itself: its help, what a number means, and the version.
+//! Answers about the tool itself: its help, the meaning of a number, and the version.
 
 ghost use Rattle.std.specs.Prelude.{◌≡◌, IfOk};
 ghost use Rattle.cilk_report.specs.Explained.{IsAnswer, IsAskedFor, is_about, is_command, is_help, is_option, is_question, is_question_on};
@@ -9,18 +9,18 @@ use cilk_messages::report::{of_all, of_number};
 use cilk_syntax::lexer::{all_digits, value_of};
 use std::alloc::{AllocError, Global};
 
-/// What is answered to words about the tool.
+/// The answer to a command line about the tool.
 #[derive(Drop)]
 pub enum About {
-    /// The words aren't about the tool.
+    /// The command line isn't about the tool.
     Other,
     /// A text for standard output.
     Text(String),
-    /// A text for standard error: the help that is asked for, or what is wrong with the words.
+    /// A text for standard error: the requested help, or an error in the command line.
     Wrong(String),
 }
 
-/// Whether a word is an option, or stands for one.
+/// Returns whether a word begins with `-`.
 fn is_option(word: &str) -> bool
     ensures { result ≡ is_option word.now }
 {
@@ -30,14 +30,13 @@ fn is_option(word: &str) -> bool
     }
 }
 
-/// Whether a word asks for help.
+/// Returns whether a word requests help.
 fn is_help(word: &str) -> bool
     ensures { result ≡ is_help word.now }
 {
     word == "--help" || word == "-h"
 }
 
-/// Whether a word is the name of a command.
 fn is_command(word: &str) -> bool
     ensures { result ≡ is_command word.now }
 {
@@ -51,14 +50,15 @@ fn is_command(word: &str) -> bool
         || word == "explain"
 }
 
-/// Whether a word asks about the tool by itself: for help, for its version, or for what all its numbers mean.
+/// Returns whether a word alone is about the tool: a request for help, the version, or all numbers.
 fn is_question(word: &str) -> bool
     ensures { result ≡ is_question word.now }
 {
     word == "help" || is_help(word) || word == "--version" || word == "-V" || word == "explain"
 }
 
-/// Whether two words ask about the tool: for help on a command, or for what a number means.
+/// Returns whether two words are about the tool: a request for help on a command, or for a number's
+/// meaning.
 fn is_question_on(word: &str, other: &str) -> bool
     ensures { result ≡ is_question_on word.now other.now }
 {
@@ -67,7 +67,7 @@ fn is_question_on(word: &str, other: &str) -> bool
         || (is_command(word) && is_help(other))
 }
 
-/// Whether words ask about the tool itself: for help, for its version, or for what its numbers mean.
+/// Returns whether the command line is about the tool.
 fn is_about(words: &[&str]) -> bool
     ensures { result ≡ is_about (texts words.now) }
 {
@@ -78,7 +78,7 @@ fn is_about(words: &[&str]) -> bool
     }
 }
 
-/// What is answered to these words, if they are about the tool.
+/// Answers a command line about the tool.
 pub fn answer_about(alloc: Global, words: &[&str]) -> Result<About, AllocError>
     ensures { IfOk result (λ answer. IsAskedFor (texts words.now) answer) }
 {
@@ -95,7 +95,7 @@ pub fn answer_about(alloc: Global, words: &[&str]) -> Result<About, AllocError>
     }
 }
 
-// What the number of a word means.
+// The meaning of the number that a word spells.
 fn explained(alloc: Global, word: &str) -> Result<About, AllocError>
     ensures { IfOk result (λ answer. IsAnswer answer) }
 {
@@ -110,7 +110,6 @@ fn explained(alloc: Global, word: &str) -> Result<About, AllocError>
     Ok(About::Wrong(wrong))
 }
 
-// The number that a word spells.
 fn number_of(word: &str) -> Option<u16> {
     if !all_digits(word.as_bytes()) {
         return None;

@@ -1,9 +1,9 @@
-//! Which line of a certificate a refusal is about.
+//! The line of a certificate that a refusal is about.
 
 use cilk_checker::refusal::Refusal;
 use cilk_syntax::lexer::{all_digits, value_of};
 
-/// How many events, frames and strands a certificate says that it has.
+/// The numbers of events, frames and strands in a certificate's second line.
 #[derive(Clone, Copy)]
 struct Sizes {
     events: u64,
@@ -11,7 +11,8 @@ struct Sizes {
     strands: u64,
 }
 
-/// The line, from 1, if it is known: the front of the certificate has the sizes in its second line.
+/// Returns the line, counted from 1, if it is known. `front` is the beginning of the certificate
+/// with at least its first two lines.
 pub fn line_of(front: &[u8], refusal: Refusal) -> Option<u64> {
     if let Refusal::Malformed { line } | Refusal::Truncated { line } = refusal {
         return Some(u64::from(line));
@@ -40,7 +41,6 @@ pub fn line_of(front: &[u8], refusal: Refusal) -> Option<u64> {
     }
 }
 
-// The sizes in the second line of a certificate.
 fn sizes_of(front: &[u8]) -> Option<Sizes> {
     let text = str::from_utf8(front).ok()?;
     let line = text.lines().nth(1)?;

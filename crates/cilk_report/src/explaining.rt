@@ -1,4 +1,4 @@
-//! What is said behind a reply, where the words ask for an explanation.
+//! Explanations of answers and failures.
 
 use crate::certificate::line_of;
 use crate::wanted::{Expected, expected_at};
@@ -13,7 +13,7 @@ use cilk_races::races::of_race;
 use cilk_types::event::Pos;
 use std::alloc::{AllocError, Global};
 
-/// The files that an order names: its program, where that isn't standard input, its input, and its certificate or script.
+/// The files in an order: its program, its input, and its certificate or script.
 #[derive(Clone, Copy)]
 struct Named<'a> {
     program: Origin<'a>,
@@ -22,7 +22,7 @@ struct Named<'a> {
 }
 
 impl<'a> Named<'a> {
-    // What the program is called; standard input is `-`.
+    // The program's path, or `-` for standard input.
     fn file(&self) -> &'a str {
         match self.program {
             Origin::Standard => "-",
@@ -31,7 +31,7 @@ impl<'a> Named<'a> {
     }
 }
 
-/// The files that an order names.
+/// The files in an order.
 fn files_of<'a>(order: &Order<'a>) -> Named<'a> {
     match *order {
         Order::Run { program, input } => Named {
@@ -66,7 +66,8 @@ fn files_of<'a>(order: &Order<'a>) -> Named<'a> {
     }
 }
 
-/// What is said after an answer to an order: of a certificate's refusal, why it is one, by what was kept of the files.
+/// Returns the explanation of an answer: the reason of a refusal, and nothing for other answers.
+/// `kept` has the files as they were read.
 pub fn of_answer(
     alloc: Global,
     order: &Order<'_>,
@@ -79,7 +80,8 @@ pub fn of_answer(
     }
 }
 
-// Of a race and of a run that stops the text of the program is told, of all else the line of the certificate.
+// A race, or a fault that stops the run, is explained in the program's text. For other refusals the
+// line of the certificate is shown.
 fn of_refusal(
     alloc: Global,
     order: &Order<'_>,
@@ -98,7 +100,7 @@ fn of_refusal(
     Ok(of_line(alloc, path, line, number)?)
 }
 
-/// The two events for whose race a certificate is refused, if it is for one.
+/// Returns the two events of a race, if the refusal is about one.
 pub(crate) fn race_of(refusal: Refusal) -> Option<(Pos, Pos)> {
     match refusal {
         Refusal::Race { earlier, later } => Some((earlier, later)),
@@ -107,7 +109,7 @@ pub(crate) fn race_of(refusal: Refusal) -> Option<(Pos, Pos)> {
     }
 }
 
-// Of two events that race, or of the fault that stops a run.
+// Explains a race of two events, or the fault that stops a run.
 fn in_text(
     alloc: Global,
     texts: &CaseTexts<'_>,
@@ -121,7 +123,8 @@ fn in_text(
     }
 }
 
-/// The texts of an order's program and its input; none where the program came from standard input.
+/// Returns the texts of an order's program and input, or `None` if the program came from standard
+/// input.
 pub(crate) fn texts_of<'a>(
     order: &Order<'a>,
     kept: &'a Kept,
@@ -130,7 +133,8 @@ pub(crate) fn texts_of<'a>(
     CaseTexts::of(program, input, kept)
 }
 
-/// What is said after a failure of an order, by what was kept of the files: the text that was read last is the one at fault.
+/// Returns the explanation of a failure. `kept` has the files as they were read. A fault of a text
+/// is in the one that was read last.
 pub fn of_failure(
     alloc: Global,
     order: &Order<'_>,
@@ -149,7 +153,8 @@ pub fn of_failure(
     }
 }
 
-// Of a byte of the program's text, which isn't kept where it came from standard input.
+// Explains a fault at a byte of the program. Only its number is known if the program came from
+// standard input.
 fn of_program(
     alloc: Global,
     named: &Named<'_>,
@@ -163,7 +168,7 @@ fn of_program(
     }
 }
 
-// Of a failure for which no text is looked at.
+// Explains a failure without a look at the texts.
 fn of_other(alloc: Global, named: &Named<'_>, failure: &Failure<'_>) -> Result<String, AllocError> {
     match failure {
         Failure::Strand { number, .. } => of_line(alloc, named.file(), None, *number),
@@ -173,7 +178,7 @@ fn of_other(alloc: Global, named: &Named<'_>, failure: &Failure<'_>) -> Result<S
     }
 }
 
-// Of what can't be read: the program, or another file.
+// Explains that the program or another file can't be read.
 fn of_unreadable(alloc: Global, named: &Named<'_>, path: &str) -> Result<String, AllocError> {
     match named.program {
         Origin::Standard if path == "-" => String::from_str(
@@ -190,7 +195,7 @@ fn of_unreadable(alloc: Global, named: &Named<'_>, path: &str) -> Result<String,
     }
 }
 
-// Of a fault that stops a run.
+// Explains a fault that stops a run.
 fn of_stop(
     alloc: Global,
     order: &Order<'_>,
@@ -203,7 +208,7 @@ fn of_stop(
     }
 }
 
-// Of a byte of a text.
+// Explains a fault at a byte of a text.
 fn at_byte(
     alloc: Global,
     file: &str,

@@ -1,18 +1,18 @@
-//! The word `--explain` among the words of a command line.
+//! The word `--explain` in a command line.
 
 ghost use Rattle.std.specs.Prelude.{◌≡◌, IfOk, filter, not};
 ghost use Rattle.cilk_report.specs.Explained.{is_flag};
 
 use std::alloc::{AllocError, Global};
 
-/// Whether a word asks for an explanation.
+/// Returns whether a word is `--explain`.
 fn is_flag(word: &str) -> bool
     ensures { result ≡ is_flag word.now }
 {
     word == "--explain"
 }
 
-/// The words but for each `--explain`.
+/// Returns the command line without each `--explain`.
 pub fn unflagged<'a>(alloc: Global, words: &[&'a str]) -> Result<Vec<&'a str>, AllocError>
     ensures { IfOk result (λ plain. plain.items ≡ filter (λ w. not (is_flag w.now)) words.now) }
 {

@@ -1,4 +1,4 @@
-//! The help of the program.
+//! The tool's help.
 
 ghost use Rattle.cilk_commands.specs.Replies.{failure_view};
 ghost use Rattle.cilk_commands.specs.Serving.{WordsFail};
@@ -6,10 +6,10 @@ ghost use Rattle.cilk_commands.specs.Serving.{WordsFail};
 use cilk_commands::reply::Failure;
 use std::alloc::{AllocError, Global};
 
-/// What `--version` writes.
+/// The text of `--version`.
 pub const VERSION: &str = "cilk 1.0.0 (Ruqwabi)\n";
 
-/// What `--help` writes, and what stands behind clap's text where words are no command.
+/// The text of `--help`. It also follows clap's text where a command line isn't valid.
 pub const HELP: &str = "\
 Runs and checks programs of a small integer C with cilk_spawn, cilk_sync, cilk_for and reducers.
 
@@ -68,7 +68,7 @@ Documents, beside the program's sources: README.md, docs/LANGUAGE.md, docs/FROM-
 OpenCilk), docs/REFUSALS.md, docs/CHECKER.md, docs/SCRIPTS.md, docs/EDITORS.md, docs/PROVED.md
 ";
 
-/// What is said of `explain`, and of words that begin with it and name no number.
+/// The help on `explain`, and the answer to `explain` without a valid number.
 pub const EXPLAIN: &str = "\
 What a number of a refusal means, a text that provokes it, and the cure
 
@@ -80,7 +80,7 @@ Arguments:
 hint: `cilk --help` describes all commands
 ";
 
-/// What a command does, how it is written, and the lines of what it takes beside what they all take.
+/// The help on a command: its purpose and usage, and its own arguments and options.
 #[derive(Clone, Copy)]
 struct Page {
     head: &'static str,
@@ -193,7 +193,7 @@ Usage: cilk measure PROGRAM [--input FILE] [--csv | --svg | --dot] [--explain]
 ",
 };
 
-/// What is said of a command that takes a program.
+/// Returns the help on a command that takes a program.
 fn page_of(command: &str) -> Option<Page> {
     match command {
         "run" => Some(RUN),
@@ -207,7 +207,7 @@ fn page_of(command: &str) -> Option<Page> {
     }
 }
 
-/// What help on a command writes.
+/// Returns the text of the help on a command.
 pub fn help_on(alloc: Global, command: &str) -> Result<String, AllocError> {
     let Some(
         Page {
@@ -226,7 +226,7 @@ pub fn help_on(alloc: Global, command: &str) -> Result<String, AllocError> {
     Ok(text)
 }
 
-/// What stands behind clap's text for these words, which are no order.
+/// Returns the hint that follows clap's text for a command line that isn't valid.
 pub fn advice(alloc: Global, words: &[&str]) -> Result<String, AllocError> {
     match words {
         [first, ..] if first.starts_with("-") || *first == "help" => format!(in alloc; "\n{HELP}"),
@@ -247,12 +247,12 @@ fn is_command(word: &str) -> bool {
     page_of(word).is_some() || word == "explain"
 }
 
-// What is said of words that name no certificate to make a schedule of.
+// The error of `schedule` without a certificate.
 const NO_SCHEDULE: &str =
     "error: these words name no certificate: `cilk schedule PROGRAM CERTIFICATE [--input FILE] [--explain]`\n\
     hint: the script goes to standard output: `cilk schedule prog.c prog.certificate > prog.script`\n";
 
-/// What is shown of words that name no certificate to make a schedule of.
+/// Returns the failure of `schedule` without a certificate.
 pub fn usage_of_schedule<'a>(alloc: Global) -> Failure<'a>
     ensures { WordsFail (failure_view result) }
 {

@@ -1,4 +1,4 @@
-//! Files that keep what was read of them, for what is told beside a reply: it tells of the texts that were judged.
+//! Files with copies of what was read, so that an explanation is about the texts that were judged.
 
 ghost use Rattle.std.specs.Prelude.{◌≡◌};
 
@@ -8,20 +8,21 @@ use cilk_findings::fault::CaseFault;
 use cilk_messages::words::Origin;
 use std::alloc::{AllocError, Global};
 
-/// How many bytes are kept of a file that is read in parts: more than the first two lines of a certificate.
+/// The number of bytes kept of a file that is read in parts: more than a certificate's first two
+/// lines.
 const FRONT: usize = 256;
 
-/// Copies of what was read: each text that was read whole, in the order of reading, and the front of the file that was read in parts.
+/// Copies of what was read: each text that was read whole, in order, and the front of the file that
+/// was read in parts.
 #[derive(Drop)]
 pub struct Kept {
     texts: Vec<Vec<u8>>,
     front: Vec<u8>,
-    // Whether memory was refused for a copy.
+    // Whether there was no memory for a copy.
     lacks: bool,
 }
 
 impl Kept {
-    // Nothing.
     fn new(alloc: Global) -> Kept {
         Kept {
             texts: Vec::new(alloc),
@@ -30,7 +31,6 @@ impl Kept {
         }
     }
 
-    // Keeps a text.
     fn add(&mut self, alloc: Global, text: &[u8]) {
         if self.copy(alloc, text).is_err() {
             self.lacks = true;
@@ -42,7 +42,7 @@ impl Kept {
         Ok(())
     }
 
-    // Keeps of a part of a file, from a byte on, what belongs to the front.
+    // Keeps what belongs to the front of a part that begins at byte `at`.
     fn add_part(&mut self, at: u64, part: &[u8]) {
         let length = self.front.len();
         if at != length as u64 {
@@ -54,12 +54,13 @@ impl Kept {
         }
     }
 
-    /// How many texts were read whole.
+    /// Returns the number of texts that were read whole.
     pub fn count(&self) -> usize {
         self.texts.len()
     }
 
-    /// The text that was read as this one, from 0.
+    /// Returns a text by the order of reading, from 0. Fails if it wasn't read, or if there was no
+    /// memory for a copy.
     pub fn text(&self, number: usize) -> Result<&[u8], CaseFault> {
         match self.texts.get(number) {
             _ if self.lacks => Err(CaseFault::Memory),
@@ -68,12 +69,13 @@ impl Kept {
         }
     }
 
-    /// The text that was read last.
+    /// Returns the text that was read last.
     pub fn last(&self) -> Result<&[u8], CaseFault> {
         self.text(self.count().saturating_sub(1))
     }
 
-    /// The front of the file that was read in parts.
+    /// Returns the front of the file that was read in parts. Fails if there was no memory for a
+    /// copy.
     pub fn front(&self) -> Result<&[u8], CaseFault> {
         if self.lacks {
             Err(CaseFault::Memory)
@@ -83,18 +85,18 @@ impl Kept {
     }
 }
 
-/// Files that keep copies of what is read, once they are told to.
+/// Files that keep copies of what is read after a call of `keep`.
 pub trait Keeps: Files {
     /// Keeps copies of what is read from now on.
     fn keep(&mut self)
         ensures failures { Self.failed self.new ≡ Self.failed self.old }
         ensures same { Self.holds self.new ≡ Self.holds self.old };
 
-    /// What was kept.
+    /// Returns the copies.
     fn kept(&self) -> &Kept;
 }
 
-/// Any files, with copies of what is read of them.
+/// Any files, with copies of what is read.
 #[derive(Drop)]
 pub struct KeptFiles<F> {
     pub files: F,
@@ -103,7 +105,7 @@ pub struct KeptFiles<F> {
 }
 
 impl<F: Files> KeptFiles<F> {
-    /// These files; no copies yet.
+    /// Wraps files. No copies are kept yet.
     pub fn new(alloc: Global, files: F) -> Self
         ensures { result.files ≡ files }
     {
@@ -159,7 +161,7 @@ impl<F: Files> Keeps for KeptFiles<F> {
     }
 }
 
-/// What a program is called, its text, and that of its input.
+/// A program's path, its text, and the text of its input.
 #[derive(Clone, Copy)]
 pub struct CaseTexts<'a> {
     pub file: &'a str,
@@ -168,7 +170,8 @@ pub struct CaseTexts<'a> {
 }
 
 impl<'a> CaseTexts<'a> {
-    /// The texts of a program and its input, which were read first; none where the program came from standard input.
+    /// Returns the texts of a program and its input, which have to be read first. `None` if the
+    /// program came from standard input.
     pub fn of(
         program: Origin<'a>,
         input: Option<&str>,
@@ -189,7 +192,7 @@ impl<'a> CaseTexts<'a> {
         }))
     }
 
-    /// The case of these texts.
+    /// Reads these texts as a case.
     pub fn case(&self, alloc: Global) -> Result<Case<'a>, CaseFault> {
         Case::of(alloc, self.file, self.program, self.input)
     }

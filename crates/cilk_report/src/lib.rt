@@ -1,9 +1,25 @@
-//! The tool for people: what `cilk_commands` shows, and behind it, where the words ask for that, where a fault stands, why, and what
-//! to write in its place.
+//! Explains the answers of `cilk_commands` on request, and adds the commands `measure`, `schedule`,
+//! `help` and `explain`.
 //!
-//! [`serve_explained`] is what the program calls. Words that ask something of [`cilk_commands::serve`] are served as it serves them.
-//! The word `--explain` among them changes nothing of that: the same line comes first, on the same stream, with the same status,
-//! and behind it an explanation comes on standard error:
+//! [`serve_explained`] serves one call of the tool. A command line of [`cilk_commands::serve`] is
+//! served as that function does. The word `--explain` adds to it: the same line comes first, on the
+//! same stream and with the same status, then an explanation on standard error. It names the place,
+//! the reason and a fix. An explanation is derived from the texts themselves, by a second serial
+//! run where that is needed (`cilk_findings`, `cilk_races`). [`KeptFiles`] therefore keeps the
+//! texts as they were read, and the first bytes of a certificate. So the explanation is about the
+//! texts that were judged. A command line of `serve` keeps no copies.
+//!
+//! `measure` prints work, span and parallelism of a run (Frigo, Leiserson and Randall 1998), then a
+//! table by function and loop, or a picture. `schedule` prints a script for `play` that shows a
+//! race. `help`, `explain 103` and `--version` are about the tool itself.
+//!
+//! | Call | Purpose |
+//! |---|---|
+//! | [`serve_explained`] | serves a command line and returns the exit status |
+//! | [`of_answer`], [`of_failure`] | the explanation of an answer or a failure |
+//! | [`follow`] | writes an explanation after what was shown |
+//! | [`totals_of`], [`text_of`] | the totals of a run, and the text or picture of `measure` |
+//! | [`KeptFiles`], [`Kept`], [`CaseTexts`] | files with copies of what was read |
 //!
 //! ```text
 //! program 103 at 61
@@ -12,27 +28,6 @@
 //!             ^
 //! reason: found `(`, wanted `;` or an operator
 //! hint: a call stands alone or as the whole right side of a variable's assignment: `x = f(a);`
-//! ```
-//!
-//! `schedule` writes the script of a schedule that shows a race. Other words are about the tool itself: `help`,
-//! `explain 103`, `--version`; and help stands behind clap's text for words that are none.
-//!
-//! [`unflagged`], [`of_answer`], [`of_failure`] and [`follow`] are the steps of that, for a command whose words are read elsewhere.
-//!
-//! What `measure` shows: the totals of a program's run, ahead of what each of its functions and loops takes.
-//!
-//! [`totals_of`] reads and judges the texts as `run` does, makes the serial run, and counts it. [`text_of`] is the table that begins with
-//! these totals, each on a line; or a picture. [`KeptFiles`] keep a copy of what is read, where more is told than a reply: it is told of the texts
-//! that were judged.
-//!
-//! ```text
-//! events 3
-//! ticks 2
-//! frames 1
-//! strands 2
-//! work 3
-//! span 3
-//! parallelism 1.00
 //! ```
 #![tactic(auto)]
 

@@ -1,4 +1,4 @@
-//! What a run takes besides its totals: a row for each function and loop.
+//! The rows of `measure` by function and loop.
 
 use cilk_findings::case::Case;
 use cilk_findings::fault::CaseFault;
@@ -9,27 +9,28 @@ use cilk_messages::place::{Location, locate};
 use cilk_program::program::Body;
 use std::alloc::{AllocError, Global};
 
-// What stands above the numbers of a row.
+// The heads of the columns of numbers.
 const HEADINGS: [&str; 5] = ["frames", "strands", "events", "work", "span"];
 
-/// A row of the table.
 #[derive(Drop)]
 struct Row {
     name: String,
     share: Share,
 }
 
-/// What is told of a run behind its totals.
+/// The measures of a run besides its totals.
 #[derive(Drop)]
 pub struct Details {
-    /// The ticks that it took.
+    /// The ticks of the run.
     pub ticks: u64,
-    /// By function and loop what its frames take, a line each, below an empty line and a head: how many frames there are, the strands and events
-    /// that they make themselves, the work from the begins to the ends of these frames, and the largest span of one of them.
+    /// A line for each function and loop, after an empty line and a head. The columns are the
+    /// number of its frames, the strands and events that these frames make themselves, the work
+    /// from their begin to their end, and the largest span of one frame.
     pub bodies: String,
 }
 
-/// What is told of the case's run after its totals, in columns or with commas. The run has to end.
+/// Measures a case's run, for a table with columns or with commas. The run has to end without a
+/// fault; otherwise the error is [`CaseFault::Unfit`].
 pub fn details_of(case: &Case<'_>, commas: bool) -> Result<Details, CaseFault> {
     let run = Run::of(case)?;
     if run.fault.is_some() {
@@ -43,7 +44,7 @@ pub fn details_of(case: &Case<'_>, commas: bool) -> Result<Details, CaseFault> {
     })
 }
 
-// The functions and loops that ran, functions first, each list in the order of the text.
+// The functions and loops that ran: functions first, each in the text's order.
 fn push_rows(
     case: &Case<'_>,
     run: &Run,
@@ -113,7 +114,6 @@ fn rows_of(case: &Case<'_>, run: &Run) -> Result<Vec<Row>, AllocError> {
     Ok(rows)
 }
 
-// A line of the table.
 fn push_cells(
     text: &mut String,
     name: &str,
@@ -143,7 +143,7 @@ fn push_blanks(text: &mut String, count: usize) -> Result<(), AllocError> {
     Ok(())
 }
 
-// A function's name, or where a loop stands.
+// A function's name, or the place of a loop.
 fn title_of(case: &Case<'_>, body: Body) -> Result<String, AllocError> {
     let alloc = case.alloc;
     let Some(BodyMap { name: head, .. }) = case.map.body(body) else {
@@ -162,7 +162,7 @@ fn title_of(case: &Case<'_>, body: Body) -> Result<String, AllocError> {
     format!(in alloc; "{name} at {line}:{column}")
 }
 
-// What the frames of each body take: functions first, then loops.
+// The measures of each body: functions first, then loops.
 fn shares_of(case: &Case<'_>, run: &Run) -> Result<Vec<Share>, AllocError> {
     let functions = case.map.functions.len();
     let mut members: Vec<usize> = Vec::new(case.alloc);
@@ -173,7 +173,7 @@ fn shares_of(case: &Case<'_>, run: &Run) -> Result<Vec<Share>, AllocError> {
     shares(case.alloc, &run.trace, members.as_slice(), count)
 }
 
-// Where a body stands among all.
+// The place of a body in that order.
 fn place_in(functions: usize, body: Body) -> usize {
     match body {
         Body::Function(number) => number as usize,

@@ -1,4 +1,4 @@
-//! A script that shows a race, for `play`.
+//! The command `schedule`: a script for `play` that shows a race.
 
 ghost use Rattle.std.specs.Prelude.{◌≡◌, ◌<◌, IfOk, IfSome};
 ghost use Rattle.cilk_report.specs.Words.{behind_first};
@@ -20,7 +20,7 @@ use cilk_races::races::script_of_race;
 use std::alloc::{AllocError, Global};
 use std::io::{Read, Write};
 
-/// Whether the first word is `schedule`, and what is behind it isn't one word that asks for help.
+/// Returns whether the first word is `schedule` and more follows than one request for help.
 pub fn is_schedule(words: &[&str]) -> bool
     ensures { result ≡ is_schedule (texts words.now) }
 {
@@ -30,7 +30,7 @@ pub fn is_schedule(words: &[&str]) -> bool
     }
 }
 
-// The words that check what these ask a schedule of: `check` in place of the first.
+// The command line with `check` in place of `schedule`, without each `--explain`.
 fn check_words<'a>(alloc: Global, words: &[&'a str]) -> Result<Vec<&'a str>, AllocError>
     ensures { IfOk result (λ plain. texts plain.items ≡ words_of_check (texts words.now)) }
 {
@@ -39,7 +39,7 @@ fn check_words<'a>(alloc: Global, words: &[&'a str]) -> Result<Vec<&'a str>, All
     Ok(plain)
 }
 
-/// Serves words that ask for a schedule.
+/// Serves the command `schedule`.
 pub fn serve_schedule<F: Keeps, R: Read, O: Write, E: Write>(
     alloc: Global,
     words: &[&str],
@@ -61,7 +61,7 @@ pub fn serve_schedule<F: Keeps, R: Read, O: Write, E: Write>(
     }
 }
 
-// By the words that check the certificate.
+// Serves the command by the words of the check.
 fn serve_checked<F: Keeps, R: Read, O: Write, E: Write>(
     alloc: Global,
     words: &[&str],
@@ -97,7 +97,7 @@ fn serve_checked<F: Keeps, R: Read, O: Write, E: Write>(
     }
 }
 
-// The script that shows the race for which a certificate is refused, where there is one: the search is made to its end.
+// The script that shows the race for which a certificate is refused, if there is one.
 fn script_of(
     alloc: Global,
     order: &Order<'_>,
@@ -133,7 +133,7 @@ fn script_against(
     )
 }
 
-// What is said where there is no script: why the certificate is refused, where that is asked for, or that there is none.
+// The explanation of a refusal, if requested, and a hint that there is no script.
 fn unscheduled(
     alloc: Global,
     explains: bool,
@@ -155,7 +155,7 @@ fn unscheduled(
     Ok(text)
 }
 
-// What is said of a text or a file at fault, where that is asked for.
+// The explanation of a failure, if requested.
 fn unchecked(
     alloc: Global,
     explains: bool,

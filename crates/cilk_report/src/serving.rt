@@ -1,4 +1,4 @@
-//! From words to a reply that is shown, and explained where the words ask for that.
+//! From a command line to its reply and explanation.
 
 ghost use Rattle.std.specs.Prelude.{◌≡◌, ◌<◌, None, Some, false, length, option_map, true};
 ghost use Rattle.cilk_report.specs.Explained.{ComesBehind, Follows, Measures, Schedules, ServesExplained, ServesThenExplains, WritesText, is_about, is_schedule, unflagged, words_of_check};
@@ -23,8 +23,9 @@ use cilk_messages::words::{Order, Origin, WordsFault, read};
 use std::alloc::{AllocError, Global};
 use std::io::{Read, Write};
 
-/// Serves the words after the program's own name: as `serve` does, where they ask something of it; with `--explain` among them as it
-/// serves the others, and an explanation follows; `measure` shows the totals of a run; and words about the tool are answered.
+/// Serves the words after the program's name and returns the exit status. Command lines of
+/// [`cilk_commands::serve`] are served as that function does. With `--explain` an explanation
+/// follows the same reply. `measure`, `schedule` and questions about the tool are answered as well.
 pub fn serve_explained<F: Keeps, R: Read, O: Write, E: Write>(
     alloc: Global,
     words: &[&str],
@@ -61,7 +62,7 @@ pub fn serve_explained<F: Keeps, R: Read, O: Write, E: Write>(
     }
 }
 
-/// Serves words that ask nothing of `serve`.
+/// Serves a command line that isn't one of `serve`.
 fn serve_other<F: Keeps, R: Read, O: Write, E: Write>(
     alloc: Global,
     words: &[&str],
@@ -93,7 +94,7 @@ fn serve_other<F: Keeps, R: Read, O: Write, E: Write>(
     }
 }
 
-/// Serves words that ask nothing of `serve`, and measure nothing.
+/// Serves a command line that isn't one of `serve` or `measure`.
 fn serve_unmeasured<F: Keeps, R: Read, O: Write, E: Write>(
     alloc: Global,
     words: &[&str],
@@ -122,7 +123,7 @@ fn serve_unmeasured<F: Keeps, R: Read, O: Write, E: Write>(
     }
 }
 
-/// Serves words that ask nothing of `serve`, measure nothing, and ask for no schedule.
+/// Serves a command line that isn't one of `serve`, `measure` or `schedule`.
 fn serve_unscheduled<F: Keeps, R: Read, O: Write, E: Write>(
     alloc: Global,
     words: &[&str],
@@ -154,7 +155,8 @@ fn serve_unscheduled<F: Keeps, R: Read, O: Write, E: Write>(
     }
 }
 
-/// What is shown of words that ask for nothing: clap's text, and help behind it; of `explain`, which clap doesn't know, its own.
+/// Returns the failure for a command line that isn't valid: clap's text and a hint, or the help on
+/// `explain`, which clap doesn't know.
 fn refusal<'a>(alloc: Global, words: &[&str], usage: String) -> Failure<'a>
     ensures { WordsFail (failure_view result) }
 {
@@ -173,7 +175,7 @@ fn advised(alloc: Global, words: &[&str], usage: String) -> Result<String, Alloc
     Ok(text)
 }
 
-/// Serves words as `serve` does, and then explains what was shown.
+/// Serves a command line as `serve` does, then explains what was shown.
 fn serve_flagged<F: Keeps, R: Read, O: Write, E: Write>(
     alloc: Global,
     words: &[&str],
@@ -206,7 +208,7 @@ fn serve_flagged<F: Keeps, R: Read, O: Write, E: Write>(
     }
 }
 
-/// Serves words that measure a run.
+/// Serves `measure`.
 fn serve_measure<F: Keeps, R: Read, O: Write, E: Write>(
     alloc: Global,
     words: &[&str],
@@ -225,7 +227,7 @@ fn serve_measure<F: Keeps, R: Read, O: Write, E: Write>(
     }
 }
 
-/// Serves words that measure a run, by the words that run it.
+/// Serves `measure` by the words of the run.
 fn serve_run<F: Keeps, R: Read, O: Write, E: Write>(
     alloc: Global,
     words: &[&str],
@@ -252,7 +254,7 @@ fn serve_run<F: Keeps, R: Read, O: Write, E: Write>(
     }
 }
 
-/// Shows the totals of the run that words measure; or why there are none, and an explanation where the words ask for one.
+/// Shows the measures of a run. If the run fails, shows why, with an explanation if requested.
 fn show_measured<F: Keeps, R: Read, O: Write, E: Write>(
     alloc: Global,
     words: &[&str],
@@ -288,7 +290,7 @@ fn show_measured<F: Keeps, R: Read, O: Write, E: Write>(
     }
 }
 
-/// What is said behind a failure, where the words ask for an explanation.
+/// Returns the explanation of a failure, if requested.
 fn why(
     alloc: Global,
     words: &[&str],
@@ -303,7 +305,8 @@ fn why(
     }
 }
 
-/// Writes an explanation after what was shown, or why there is none: where all of that went out, and was no want of memory.
+/// Writes an explanation, or a line why there is none. It does nothing if a write of the reply
+/// failed or if the reply was out of memory. Returns the reply's status.
 pub fn follow<E: Write>(served: Served, text: Result<String, CaseFault>, err: &mut E) -> u8
     ensures status { result ≡ served.status }
     ensures follows { Follows result (E.contents err.old) (E.contents err.new) }
@@ -316,7 +319,7 @@ pub fn follow<E: Write>(served: Served, text: Result<String, CaseFault>, err: &m
     served.status
 }
 
-/// Writes an explanation, or why there is none.
+/// Writes an explanation, or a line why there is none.
 fn explain<E: Write>(text: Result<String, CaseFault>, err: &mut E)
     ensures { ComesBehind (E.contents err.old) (E.contents err.new) }
 {
@@ -326,7 +329,7 @@ fn explain<E: Write>(text: Result<String, CaseFault>, err: &mut E)
     };
 }
 
-// The line of an explanation that can't be made.
+// The line in place of an explanation.
 fn missing(fault: CaseFault) -> &'static str {
     match fault {
         CaseFault::Memory => "explanation: no memory\n",
@@ -334,7 +337,7 @@ fn missing(fault: CaseFault) -> &'static str {
     }
 }
 
-/// Writes a text to standard output, and answers the status.
+/// Writes a text to standard output and returns the status.
 pub(crate) fn tell_text<O: Write, E: Write>(text: &[u8], out: &mut O, err: &mut E) -> u8
     ensures { WritesText text.now result (O.contents out.old) (O.contents out.new) (E.contents err.old) (E.contents err.new) }
 {

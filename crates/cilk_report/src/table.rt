@@ -7,10 +7,10 @@ use cilk_findings::totals::Totals;
 use itoa::Buffer;
 use std::alloc::{AllocError, Global};
 
-/// What stands between a name and its number in a table with columns.
+/// The separator of names and numbers in a table with columns.
 pub const BLANK: u8 = b' ';
 
-/// What stands there in a table with commas.
+/// The separator in a table with commas.
 pub const COMMA: u8 = b',';
 
 // `NAME MARK NUMBER`.
@@ -25,7 +25,7 @@ fn push_total(text: &mut Vec<u8>, name: &[u8], mark: u8, number: u64) -> Result<
     Ok(())
 }
 
-// The same of a number that is known; else nothing.
+// The same for a known number, and nothing for an unknown one.
 fn push_known(
     text: &mut Vec<u8>,
     name: &[u8],
@@ -40,7 +40,7 @@ fn push_known(
     }
 }
 
-// How many hundredths of the span the work is, rounded down.
+// Work over span in hundredths, rounded down.
 fn hundredths(totals: &Totals) -> u128
     ensures { result ≡ hundredths totals.now }
 {
@@ -51,7 +51,7 @@ fn hundredths(totals: &Totals) -> u128
     }
 }
 
-// A number of hundredths, with a point ahead of the last two digits.
+// A number of hundredths, with a point before the last two digits.
 fn push_point(text: &mut Vec<u8>, number: u128) -> Result<(), AllocError>
     ensures { OnOk result (text.new.items ≡ text.old.items ++ decimal_point number) }
 {
@@ -62,7 +62,7 @@ fn push_point(text: &mut Vec<u8>, number: u128) -> Result<(), AllocError>
     text.extend_from_slice(buffer.format(number % 10).as_bytes())
 }
 
-// The work over the span, to two digits behind the point.
+// Work over span, with two digits after the point.
 fn push_parallelism(text: &mut Vec<u8>, mark: u8, totals: &Totals) -> Result<(), AllocError>
     ensures { OnOk result (text.new.items ≡ text.old.items ++ parallelism_line mark totals.now) }
 {
@@ -73,8 +73,9 @@ fn push_parallelism(text: &mut Vec<u8>, mark: u8, totals: &Totals) -> Result<(),
     Ok(())
 }
 
-/// The totals, each on a line of its own with this mark ahead of its number: events, ticks where they are known, frames, strands,
-/// work, span, and parallelism with two digits behind the point, rounded down.
+/// Returns the totals, one to a line, with `mark` before each number: events, ticks if they are
+/// known, frames, strands, work, span and parallelism. Parallelism has two digits after the point
+/// and is rounded down.
 pub fn totals_text(
     alloc: Global,
     mark: u8,

@@ -1,4 +1,4 @@
-//! What is shown of a run that was measured.
+//! The text or picture that `measure` shows.
 
 ghost use Rattle.std.specs.Prelude.{◌≡◌, IfOk};
 ghost use Rattle.cilk_report.specs.Measured.{IsMeasureText, IsTable, is_drawn, mark_in};
@@ -14,8 +14,9 @@ use cilk_findings::totals::Totals;
 use cilk_messages::words::Origin;
 use std::alloc::Global;
 
-/// What is shown of a run with these totals, as the words ask: a table that begins with them, or a picture. What else is told
-/// is of the texts as they were kept; of a program from standard input, which are not, the totals are all.
+/// Returns what `measure` shows of a run with these totals: a table that begins with them, or a
+/// picture. All but the totals is derived from the kept texts. A program from standard input isn't
+/// kept: its table has the totals only, and its picture is empty.
 pub fn text_of(
     alloc: Global,
     words: &[&str],
@@ -34,14 +35,14 @@ pub fn text_of(
     }
 }
 
-/// Whether the words ask for a picture.
+/// Returns whether a picture is requested.
 fn is_drawn(words: &[&str]) -> bool
     ensures { result ≡ is_drawn (texts words.now) }
 {
     asks(words, "--svg") || asks(words, "--dot")
 }
 
-// The picture: of the steps, or of the tree. Nothing where the texts weren't kept.
+// The picture of the steps or of the tree. It is empty if the texts weren't kept.
 fn drawn(alloc: Global, words: &[&str], read: Option<CaseTexts<'_>>) -> Result<Vec<u8>, CaseFault> {
     let Some(read) = read else {
         return Ok(Vec::new(alloc));
@@ -55,7 +56,7 @@ fn drawn(alloc: Global, words: &[&str], read: Option<CaseTexts<'_>>) -> Result<V
     Ok(picture.as_bytes().to_vec(alloc)?)
 }
 
-// The table: the totals, and what else is told.
+// The table of the totals and rows.
 fn table(
     alloc: Global,
     words: &[&str],
@@ -70,14 +71,14 @@ fn table(
     Ok(text)
 }
 
-// What stands ahead of each number.
+// The separator before each number.
 fn mark_in(words: &[&str]) -> u8
     ensures { result ≡ mark_in (texts words.now) }
 {
     if asks(words, "--csv") { COMMA } else { BLANK }
 }
 
-/// What is told beside the totals: the ticks, and the rows by function and loop.
+/// The ticks, and the rows by function and loop.
 #[derive(Drop)]
 struct Behind {
     ticks: Option<u64>,

@@ -1,4 +1,4 @@
-//! The totals of a run, from files to numbers.
+//! From the files of a program and its input to the totals of its run.
 
 ghost use Rattle.std.specs.Prelude.{◌≡◌, ◌<◌, IfErr, IfOk, option_map};
 ghost use Rattle.cilk_report.specs.Measured.{AreTotalsOf};
@@ -14,7 +14,7 @@ use cilk_messages::words::Origin;
 use std::alloc::Global;
 use std::io::Read;
 
-/// The totals of a program's run on its input. What fails is what `run` shows.
+/// Returns the totals of a program's run on its input. Its failures are those of `run`.
 pub fn totals_of<'a, F: Files, R: Read>(
     alloc: Global,
     program: Origin<'a>,

@@ -1,24 +1,24 @@
-//! What the grammar has at a place: each token is put there, and the parser says whether it goes on.
+//! The tokens that can follow a beginning of a text: the parser tries each of them.
 
 use cilk_parser::fault::{SyntaxErrorKind, TextFault};
 use cilk_parser::parse::parse;
 use cilk_types::limits::MAX_TEXT;
 use std::alloc::{AllocError, Global};
 
-/// What can stand at a place, in words, and whether a semicolon is among it.
+/// The possible tokens in words, and whether a semicolon is among them.
 #[derive(Drop)]
 pub struct Expected {
     pub words: String,
     pub semicolon: bool,
 }
 
-// The tokens that are told one by one where they can stand, but for those that a group has.
+// Tokens that are listed by themselves where no group has them.
 const MARKS: &str = "`)` `}` `]` `,` `else` `cilk_reducer`";
 
-// Those that begin a statement or an expression as well.
+// Such tokens that also begin a statement or an expression.
 const BEGINNINGS: &str = "`(` `{` `[` `++` `int` `void` `cilk_spawn`";
 
-/// A text up to a place, behind which tokens are tried.
+/// The beginning of a text, after which tokens are tried.
 #[derive(Drop)]
 struct Trial {
     alloc: Global,
@@ -27,7 +27,7 @@ struct Trial {
 }
 
 impl Trial {
-    // Whether the grammar has this token behind the text.
+    // Whether this token can follow the beginning.
     fn takes(&mut self, token: &str) -> Result<bool, AllocError> {
         self.text.truncate(self.at);
         self.text.push(b' ')?;
@@ -42,7 +42,8 @@ impl Trial {
     }
 }
 
-/// What the grammar has at a byte of a text whose tokens ahead of it are taken.
+/// Returns the tokens that can follow the first `at` bytes of a text, whose tokens the parser
+/// accepts. The list is empty for a text that is too long for a trial.
 pub fn expected_at(alloc: Global, text: &[u8], at: usize) -> Result<Expected, AllocError> {
     let front = match text.get(..at) {
         Some(front) if front.len() < MAX_TEXT - 32 => front,
@@ -66,7 +67,7 @@ pub fn expected_at(alloc: Global, text: &[u8], at: usize) -> Result<Expected, Al
     })
 }
 
-// What can stand there: groups first, then single tokens.
+// The possible tokens: groups first, then single ones.
 fn list(
     alloc: Global,
     trial: &mut Trial,
@@ -93,7 +94,7 @@ fn list(
     Ok(listed)
 }
 
-// What can stand behind a name or an expression, or where a declaration begins.
+// The tokens that can follow a name or an expression, or that begin a declaration.
 fn push_behind(trial: &mut Trial, listed: &mut Vec<&'static str>) -> Result<(), AllocError> {
     if trial.takes("%")? {
         listed.push("an operator")?;
@@ -108,7 +109,7 @@ fn push_behind(trial: &mut Trial, listed: &mut Vec<&'static str>) -> Result<(), 
     push_tokens(trial, listed, BEGINNINGS)
 }
 
-// Those of the tokens that can stand there.
+// The possible ones of these tokens.
 fn push_tokens(
     trial: &mut Trial,
     listed: &mut Vec<&'static str>,
@@ -122,7 +123,7 @@ fn push_tokens(
     Ok(())
 }
 
-// A list in words: commas, and `or` ahead of the last one.
+// A list in words, with commas and a final `or`.
 fn joined(alloc: Global, listed: &[&str]) -> Result<String, AllocError> {
     let mut words = String::new(alloc);
     for (place, item) in listed.iter().enumerate() {

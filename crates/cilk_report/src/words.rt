@@ -1,4 +1,4 @@
-//! The words of `measure`.
+//! The command line of `measure`.
 
 ghost use Rattle.std.specs.Prelude.{◌≡◌, IfOk, Some, filter, not, option_map};
 ghost use Rattle.cilk_report.specs.Words.{asks, behind_first, is_form, is_help, is_measure, run_of, words_of_run};
@@ -10,12 +10,12 @@ use cilk_commands::reply::Failure;
 use cilk_messages::words::{Order, Origin};
 use std::alloc::{AllocError, Global};
 
-// What is said of words that don't say what to measure.
+// The error of `measure` without a program.
 const USAGE: &str =
     "error: these words name no program to measure: `cilk measure PROGRAM [--input FILE] [--csv | --svg | --dot] [--explain]`\n\
     hint: what it shows goes to standard output, a picture too: `cilk measure prog.c --svg > prog.svg`\n";
 
-/// What is shown of words that don't say what to measure.
+/// Returns the failure of `measure` without a program.
 pub fn usage_of_measure<'a>(alloc: Global) -> Failure<'a>
     ensures { WordsFail (failure_view result) }
 {
@@ -25,7 +25,7 @@ pub fn usage_of_measure<'a>(alloc: Global) -> Failure<'a>
     }
 }
 
-/// Whether words are one alone, which asks for help.
+/// Returns whether there is one word only, which requests help.
 pub fn is_help(words: &[&str]) -> bool
     ensures { result ≡ is_help (texts words.now) }
 {
@@ -35,7 +35,7 @@ pub fn is_help(words: &[&str]) -> bool
     }
 }
 
-/// Whether the first word is `measure`, and what is behind it isn't one word that asks for help.
+/// Returns whether the first word is `measure` and more follows than one request for help.
 pub fn is_measure(words: &[&str]) -> bool
     ensures { result ≡ is_measure (texts words.now) }
 {
@@ -45,7 +45,7 @@ pub fn is_measure(words: &[&str]) -> bool
     }
 }
 
-/// Whether one of the words is this one.
+/// Returns whether a word is among the words.
 pub fn asks(words: &[&str], wanted: &str) -> bool
     ensures { result ≡ asks wanted.now (texts words.now) }
 {
@@ -59,14 +59,14 @@ pub fn asks(words: &[&str], wanted: &str) -> bool
     false
 }
 
-/// Whether a word says how a measured run is shown, or asks for an explanation.
+/// Returns whether a word selects the output of `measure`, or is `--explain`.
 fn is_form(word: &str) -> bool
     ensures { result ≡ is_form word.now }
 {
     word == "--csv" || word == "--svg" || word == "--dot" || word == "--explain"
 }
 
-// The words but for those.
+// The command line without those words.
 fn unformed<'a>(alloc: Global, words: &[&'a str]) -> Result<Vec<&'a str>, AllocError>
     ensures { IfOk result (λ plain. plain.items ≡ filter (λ w. not (is_form w.now)) words.now) }
 {
@@ -77,7 +77,7 @@ fn unformed<'a>(alloc: Global, words: &[&'a str]) -> Result<Vec<&'a str>, AllocE
         .collect(alloc)
 }
 
-/// All but the first.
+/// Returns all words but the first.
 pub fn behind_first<'a, 'b>(words: &'b [&'a str]) -> &'b [&'a str]
     ensures { texts result.now ≡ behind_first (texts words.entry.now) }
 {
@@ -87,7 +87,7 @@ pub fn behind_first<'a, 'b>(words: &'b [&'a str]) -> &'b [&'a str]
     }
 }
 
-/// The words that run what these measure: `run` in place of the first.
+/// Returns the command line with `run` in place of `measure`, without the words of `measure` alone.
 pub fn run_words<'a>(alloc: Global, words: &[&'a str]) -> Result<Vec<&'a str>, AllocError>
     ensures { IfOk result (λ plain. texts plain.items ≡ words_of_run (texts words.now)) }
 {
@@ -96,7 +96,7 @@ pub fn run_words<'a>(alloc: Global, words: &[&'a str]) -> Result<Vec<&'a str>, A
     Ok(plain)
 }
 
-/// The program and the input of a run, where that is what is asked for.
+/// Returns the program and the input of an order to run.
 pub fn run_of<'a>(order: Order<'a>) -> Option<(Origin<'a>, Option<&'a str>)>
     ensures { option_map (λ run. (origin_view run.0, option_map (λ p. p.now) run.1)) result ≡ run_of (Some (order_view order.entry)) }
 {

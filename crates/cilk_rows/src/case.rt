@@ -1,18 +1,18 @@
-//! The texts of a case, from its folder.
+//! A case: the texts in its folder.
 
 use crate::folder::File;
 use cilk_commands::disk::Disk;
 use cilk_commands::files::{FileFault, Files};
 use std::alloc::{AllocError, Global};
 
-/// A call, and what it is to show. A text that has no file is empty.
+/// A call and its expected reply. A text without a file is empty.
 #[derive(Drop)]
 pub struct Case {
-    /// A word a line.
+    /// The command line, one word to a line.
     pub words: String,
-    /// The name of a file that is made first, and the words of the call that shows it, a line each.
+    /// The name of a file to make first, then the words of the call that prints it, one to a line.
     pub makes: String,
-    /// Lines `NAME COUNT TEXT`: so many of this text are put at the end of a file.
+    /// Lines `NAME COUNT TEXT`: add the text that many times at the end of a file.
     fills: String,
     pub files: Vec<File>,
     pub status: u8,
@@ -20,7 +20,7 @@ pub struct Case {
     pub err: Vec<u8>,
 }
 
-/// The bytes of a file, if it can be read.
+/// Returns the bytes of a file, if it can be read.
 fn read(rt: &HostRuntime, path: &str) -> Result<Option<Vec<u8>>, AllocError> {
     match Disk::new(rt).read(rt.alloc(), path) {
         Ok(bytes) => Ok(Some(bytes)),
@@ -29,7 +29,7 @@ fn read(rt: &HostRuntime, path: &str) -> Result<Option<Vec<u8>>, AllocError> {
     }
 }
 
-/// The bytes of a file; none where it can't be read.
+/// Returns the bytes of a file; none where it can't be read.
 fn bytes(rt: &HostRuntime, path: &str) -> Result<Vec<u8>, AllocError> {
     match read(rt, path)? {
         Some(bytes) => Ok(bytes),
@@ -37,7 +37,7 @@ fn bytes(rt: &HostRuntime, path: &str) -> Result<Vec<u8>, AllocError> {
     }
 }
 
-/// The text of a file; none where it can't be read, or is no text.
+/// Returns the text of a file. It is empty where the file can't be read or isn't text.
 pub fn text_of(rt: &HostRuntime, path: &str) -> Result<String, AllocError> {
     let bytes = bytes(rt, path)?;
     match std::str::from_utf8(bytes.as_slice()) {
@@ -46,12 +46,12 @@ pub fn text_of(rt: &HostRuntime, path: &str) -> Result<String, AllocError> {
     }
 }
 
-/// The path of a file of a case.
+/// Returns the path of a file of a case.
 fn path(alloc: Global, case: &str, name: &str) -> Result<String, AllocError> {
     format!(in alloc; "{case}/{name}")
 }
 
-/// The file of a case by its name is put to the others, if there is one.
+/// Adds the file of a case with this name, if there is one.
 fn put_file(
     rt: &HostRuntime,
     case: &str,
@@ -66,7 +66,7 @@ fn put_file(
     Ok(())
 }
 
-/// Each file of a case that one of these words names is put to the others.
+/// Adds each file of a case that one of these words names.
 fn put_files(
     rt: &HostRuntime,
     case: &str,
@@ -79,7 +79,7 @@ fn put_files(
     Ok(())
 }
 
-/// The case of a folder.
+/// Loads the case of a folder.
 pub fn loaded(rt: &HostRuntime, name: &str) -> Result<Case, AllocError> {
     let alloc = rt.alloc();
     let words = text_of(rt, path(alloc, name, "words")?.as_str())?;
@@ -118,8 +118,8 @@ impl Case {
     }
 }
 
-/// Puts so many of a text at the end of each file of a name, or of a new one where there is none. `\n` in the text is a
-/// line's end.
+/// Adds a text `count` times at the end of each file with this name, or of a new one if there is
+/// none. `\n` in the text is a line feed.
 fn append(
     alloc: Global,
     files: &mut Vec<File>,
@@ -144,7 +144,7 @@ fn append(
     Ok(())
 }
 
-/// Puts so many of a text at the end of another.
+/// Adds a text `count` times at the end of another.
 fn repeat(bytes: &mut Vec<u8>, count: usize, part: &[u8]) -> Result<(), AllocError> {
     for _ in 0..count {
         bytes.extend_from_slice(part)?;

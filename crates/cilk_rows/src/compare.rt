@@ -1,12 +1,12 @@
-//! What a case wants beside what it shows.
+//! Comparison of expected and shown texts.
 
-// It stands in a wanted text for any bytes.
+// The gap: it matches any bytes.
 const GAP: &[u8] = b"<..>";
 
 // The most bytes of a text that are printed.
 const MOST: usize = 2000;
 
-/// A wanted text ahead of its first gap and behind it, if it has one.
+/// Returns an expected text before and after its first gap, if it has one.
 fn parts(wanted: &[u8]) -> Option<(&[u8], &[u8])> {
     for at in 0..wanted.len() {
         let rest = &wanted[at..];
@@ -17,7 +17,7 @@ fn parts(wanted: &[u8]) -> Option<(&[u8], &[u8])> {
     None
 }
 
-/// What stands behind the first place of a piece in a text, if it is there.
+/// Returns the text after the first occurrence of a piece, if there is one.
 fn after<'a>(text: &'a [u8], piece: &[u8]) -> Option<&'a [u8]> {
     for at in 0..text.len() {
         let rest = &text[at..];
@@ -28,7 +28,7 @@ fn after<'a>(text: &'a [u8], piece: &[u8]) -> Option<&'a [u8]> {
     None
 }
 
-/// Whether a text has the pieces of a wanted one in their order, the last one at its end.
+/// Returns whether a text has the pieces of an expected one in order, the last one at its end.
 fn follows(wanted: &[u8], shown: &[u8]) -> bool {
     let (mut wanted, mut shown) = (wanted, shown);
     for _ in 0..wanted.len() {
@@ -44,7 +44,7 @@ fn follows(wanted: &[u8], shown: &[u8]) -> bool {
     shown.ends_with(wanted)
 }
 
-/// Whether a text is the wanted one: each gap of that stands for any bytes.
+/// Returns whether a text matches the expected one, whose gaps match any bytes.
 pub fn agrees(wanted: &[u8], shown: &[u8]) -> bool {
     match parts(wanted) {
         Some((front, back)) => {
@@ -56,7 +56,7 @@ pub fn agrees(wanted: &[u8], shown: &[u8]) -> bool {
     }
 }
 
-/// The text of bytes, as far as it is printed.
+/// Returns the beginning of a text for a message.
 pub fn start_of(bytes: &[u8]) -> &str {
     let count = bytes.len().min(MOST);
     std::str::from_utf8(&bytes[..count]).unwrap_or("(no text)")

@@ -6,14 +6,13 @@ use cilk_commands::disk::MAX_FILE;
 use cilk_commands::files::{FileFault, Files};
 use std::alloc::Global;
 
-/// A file of a case.
 #[derive(Drop)]
 pub struct File {
     pub name: String,
     pub bytes: Vec<u8>,
 }
 
-/// The bytes of the last file of a name; none where there is no such file.
+/// Returns the bytes of the last file with a name; none where there is no such file.
 pub fn bytes_of<'a>(files: &'a [File], name: &str) -> &'a [u8] {
     match found(files, name) {
         Some(bytes) => bytes,
@@ -21,7 +20,7 @@ pub fn bytes_of<'a>(files: &'a [File], name: &str) -> &'a [u8] {
     }
 }
 
-/// The bytes of the last file of a name, if there is one.
+/// Returns the bytes of the last file with a name, if there is one.
 fn found<'a>(files: &'a [File], name: &str) -> Option<&'a [u8]> {
     let mut bytes = None;
     for file in files {
@@ -32,7 +31,7 @@ fn found<'a>(files: &'a [File], name: &str) -> Option<&'a [u8]> {
     bytes
 }
 
-/// The files of a case, as the tool reads them. A path without one counts as a failure.
+/// The files of a case, as the tool reads them. An unknown path counts as a failure.
 #[derive(Drop)]
 pub struct Folder<'a> {
     files: &'a [File],
@@ -40,14 +39,14 @@ pub struct Folder<'a> {
 }
 
 impl<'a> Folder<'a> {
-    /// A folder with these files, of which nothing was read yet.
+    /// Creates a folder with these files.
     pub fn new(files: &'a [File]) -> Folder<'a>
         ensures { result.failures ≡ 0 }
     {
         Folder { files, failures: 0 }
     }
 
-    /// The text of a path.
+    /// Returns the text of a path.
     fn text(&mut self, path: &str) -> Result<&'a [u8], FileFault>
         requires { self.old.failures < 18446744073709551615 }
         ensures counted { IfErr result (λ _. self.old.failures < self.new.failures) }

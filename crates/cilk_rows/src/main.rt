@@ -1,6 +1,27 @@
-//! Whole calls of the tool, each a folder of texts: a case's words over its files and its standard input are to show its
-//! two streams, with its status. Each case that shows something else is printed; the last line has the counts.
-//! `tools/cases.py` says what a folder holds, and calls the built program with the same cases.
+//! Tests of whole calls of the tool, one folder of texts for each case.
+//!
+//! A case has a command line, its files and its standard input, and the expected bytes on both
+//! output streams with the exit status. This program serves each case with
+//! [`cilk_tool::serve_parallel`] over files in memory. It prints what differs, and the counts in
+//! its last line. The exit status is 0 if all cases pass, 1 if one fails, and 2 if memory runs out
+//! or a line can't be printed.
+//!
+//! | File of a case | Content |
+//! |---|---|
+//! | `words` | the command line, one word to a line |
+//! | `stdin`, and files that `words` names | what the call reads |
+//! | `makes` | a file to make first by another call, as a certificate |
+//! | `fills` | texts to repeat at the end of a file, for long inputs |
+//! | `out`, `err`, `status` | the expected reply; `<..>` matches any bytes |
+//!
+//! A missing file is empty text, so a case holds only what matters for it. `tools/cases.py`
+//! describes the folders and runs the built program with the same cases.
+//!
+//! ```text
+//! data/words-explain-103-111/words     explain, 103, 111
+//! data/words-explain-103-111/err       the expected standard error
+//! data/words-explain-103-111/status    2
+//! ```
 #![tactic(auto)]
 
 mod case;
@@ -18,7 +39,7 @@ use std::process::ExitCode;
 use std::sync::Wait;
 use std::thread::Threads;
 
-/// What a call shows, and its status.
+/// The reply to a call.
 #[derive(Drop)]
 struct Shown {
     status: u8,
@@ -26,7 +47,7 @@ struct Shown {
     err: Vec<u8>,
 }
 
-/// Serves words over files, of which `stdin` is the standard input.
+/// Serves words over files. The file `stdin` is the standard input.
 fn served<H: Threads + Wait + Sync>(
     rt: &HostRuntime,
     handle: &H,
@@ -50,7 +71,7 @@ fn served<H: Threads + Wait + Sync>(
     Ok(Shown { status, out, err })
 }
 
-/// Makes the file that a case makes by a call of its own, if it makes one: the standard output of that call.
+/// Makes the file of a case's own call, if it has one: the standard output of that call.
 fn make<H: Threads + Wait + Sync>(
     rt: &HostRuntime,
     handle: &H,
@@ -67,7 +88,7 @@ fn make<H: Threads + Wait + Sync>(
     Ok(())
 }
 
-/// Prints a text that a case wants or shows, if the two differ.
+/// Prints an expected and a shown text, if they differ.
 fn print_difference(
     rt: &HostRuntime,
     name: &str,
@@ -82,7 +103,7 @@ fn print_difference(
     println!(rt; "{name}: {stream} is\n{}", start_of(shown))
 }
 
-/// Whether a case shows what it is to show; what differs is printed.
+/// Returns whether a case shows its expected reply; prints the differences.
 fn is_passed<H: Threads + Wait + Sync>(
     rt: &HostRuntime,
     handle: &H,
@@ -106,7 +127,7 @@ fn is_passed<H: Threads + Wait + Sync>(
     )
 }
 
-/// Serves each case, and prints how many pass; the answer is how many fail.
+/// Serves each case, prints the counts, and returns how many fail.
 fn run_all<H: Threads + Wait + Sync>(rt: &HostRuntime, handle: &H) -> io::Result<u64> {
     let names = text_of(rt, "cases")?;
     let (mut passed, mut failed) = (0u64, 0u64);

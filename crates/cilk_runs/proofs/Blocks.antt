@@ -1,10 +1,12 @@
--- Races by blocks, as the theorem's proof uses that a run has none: what a spawned child does against what the rest of its block does.
+-- Races by blocks, as the theorem's proof uses that a run has none: the events of a spawned child
+-- against those of the rest of its block.
 --
 -- - `HasInBlockWith`: some event before the frame's next sync;
 -- - `IsAccess`, `IsWrite`, `Apart`, `RaceFree`: determinacy races (Feng and Leiserson 1997);
--- - `IsTouch`, `ViewApart`, `ViewFree`: what a thief finds at a stolen continuation (Lee and Schardl 2015);
--- - `IsResume`, `IsResumed`: where resumes stand;
--- - `ReadRule`, `IsReadApart`: what was read before a continuation isn't read in it.
+-- - `IsTouch`, `ViewApart`, `ViewFree`: the view that a thief finds at a stolen continuation (Lee
+--   and Schardl 2015);
+-- - `IsResume`, `IsResumed`: the places of resumes;
+-- - `ReadRule`, `IsReadApart`: an instance read before a continuation isn't read in it.
 use Rattle.std.proofs.Common.{◌≡◌, Bool, true, false, ◌⊎◌}
 use Rattle.cilk_types.specs.declared.invocation.Invocation.{Invocation}
 use Rattle.cilk_types.specs.declared.invocation.Invocation.TheVariants.{Call, Spawn}
@@ -43,8 +45,8 @@ HasInBlockWith P stop = ⊥
 HasInBlockWith P (act e r) = P e ⊎ (¬ (IsSync e) × HasInBlockWith P r)
 HasInBlockWith P (child k w u r) = HasEventWith P u ⊎ HasInBlockWith P r
 
--- A spawned child runs in parallel with the rest of its block, and nothing else does. So there is no race where no spawned child
--- and the rest of its block access one cell, one of them writing.
+-- A spawned child runs in parallel with the rest of its block, and with nothing else of its parent.
+-- They have no race if they don't access one cell with a write.
 abbrev pub Apart : {W : Type 0} → Run W → Run W → Type 0
 Apart u r =
     (c : Cell)
@@ -70,7 +72,8 @@ IsTouch i Syncs = ⊥
 IsTouch i (Ends val gone) = has_instance gone i ≡ true
 IsTouch i (Passes m) = IsMarkRead i m
 
--- What a thief finds at a stolen continuation: either the serial view is the unit there, or the rest of the block doesn't read or retire it.
+-- At a stolen continuation the serial view is the unit, or the rest of the block doesn't read or
+-- retire it.
 abbrev pub ViewApart : {W V : Type 0} → MonoidStructure V → Instance → Invocation → V → Run W → Type 0
 ViewApart M i Call v r = Unit {0}
 ViewApart M i Spawn v r = (v ≡ M.unit) ⊎ (¬ (HasInBlockWith (IsTouch i) r))
@@ -81,7 +84,7 @@ ViewFree M i stop x = Unit {0}
 ViewFree M i (act e r) x = ViewFree M i r (on_view M i e x)
 ViewFree M i (child k w u r) x = ViewApart M i k (view_after M i u x) r × ViewFree M i u x × ViewFree M i r (view_after M i u x)
 
--- a resume stands right after each child and nowhere else
+-- a resume comes right after each child and nowhere else
 abbrev pub IsResume : Event → Type 0
 IsResume (Reads c v) = ⊥
 IsResume (Writes c v) = ⊥
@@ -95,7 +98,7 @@ IsResume (Passes (Sets i x)) = ⊥
 IsResume (Passes (Values i n)) = ⊥
 IsResume (Passes (Prints x)) = ⊥
 
--- in the run a resume stands where it must; true: one is due at its start
+-- resumes are in their places in the run; true: one is due at its start
 abbrev pub IsResumed : {W : Type 0} → Bool → Run W → Type 0
 IsResumed true stop = ⊥
 IsResumed true (act e r) = IsResume e × IsResumed false r

@@ -1,4 +1,4 @@
--- A frame that isn't waiting stands at its next deed of the serial run.
+-- A frame that isn't waiting is at its next deed of the serial run.
 use Rattle.std.proofs.Common.{◌≡◌, ℕ, suc, ◌≤◌, Bool, List, [], ◌∷◌, ◌++◌, Option, Some, None, refl, sym, ap, ◌∙◌, subst, arith, ⊎_elim, append_assoc, append-nil, ℤ, zero, ap₂}
 use Rattle.std.proofs.lemmas.Bool.{cases_eq}
 use Rattle.cilk_types.specs.declared.invocation.Invocation.{Invocation}

@@ -1,4 +1,5 @@
--- Runs whose frames begin, resume and end where they must: a resume stands after each child, and each child makes an event.
+-- Runs whose frames have their begin, resumes and end in their places: a resume follows each child,
+-- and each child has an event.
 use Rattle.std.proofs.Common.{◌≡◌, ◌<◌, Bool, true, false, List, [], ◌∷◌, ◌++◌, length, Option, Some, None, sym, ap, ◌∙◌, subst, arith}
 use Rattle.cilk_types.specs.declared.invocation.Invocation.{Invocation}
 use Rattle.cilk_types.specs.declared.invocation.Invocation.TheVariants.{Call, Spawn}

@@ -1,4 +1,4 @@
--- The place in the serial run at which a frame of a cut stands.
+-- The place of a cut's frame in the serial run.
 use Rattle.std.proofs.Common.{◌≡◌, ℕ, suc, List, [], ◌∷◌, ◌++◌, refl, sym, ap, ◌∙◌, inl, inr, ⊎_elim, ℤ}
 use Rattle.std.proofs.lemmas.Bool.{cases_Bool, cond-false}
 use Rattle.cilk_types.specs.declared.invocation.Invocation.{Invocation}
@@ -16,8 +16,8 @@ abbrev pub grown : {W : Type 0} → Name → List (Deed W) → Deed W → List (
 grown [] ds d = ds ++ d ∷ []
 grown (j ∷ m) ds d = ds
 
--- Frame n, by its name below the frame at the top, stands before its deed e of the serial run, where cell c holds y, having held x when the run began.
--- It doesn't wait: what must have ended before e has.
+-- Frame n, by its name below the top frame, is at its deed e of the serial run. There cell c holds
+-- y, and it held x when the run began. The frame doesn't wait: what must have ended before e has.
 pub data Front (W : Type 0) (c : Cell) : Run W → ℕ → List (Deed W) → (ℕ → Frames W) → Name → Deed W → ℤ → ℤ → Type 0 where
   here_act : {e : Event} {r : Run W} {k : ℕ} {kids : ℕ → Frames W} {x : ℤ} → Front W c (act e r) k [] kids [] (Does e) x x
   here_child : {i : Invocation} {w : W} {u r : Run W} {k : ℕ} {kids : ℕ → Frames W} {x : ℤ} → Front W c (child i w u r) k [] kids [] (Invokes i w) x x
@@ -48,7 +48,7 @@ module _ {W : Type 0} {c : Cell} where
   full_stuck (past_child p f) h = full_stuck f h.1
   full_stuck (inside f) h = full_stuck f h.0
 
-  -- what is made next is an event of the run
+  -- the next deed is an event of the run
   pub front_event : (P : Event → Type 0) {r : Run W} {k : ℕ} {ds : List (Deed W)} {kids : ℕ → Frames W} {n : Name} {e : Event} {x y : ℤ} → Front W c r k ds kids n (Does e) x y → P e → HasEventWith P r
   front_event P here_act h = inl h
   front_event P (past_act f) h = inr (front_event P f h)
@@ -103,7 +103,7 @@ module _ {W : Type 0} (c : Cell) where
   block_quiet (child i w u r) k (d ∷ ds) kids x cut none never =
       block_quiet r (suc k) ds kids (made u 1 (deeds_at (kids k [])) (below (kids k)) c x) cut.4 (no_sync_child i w d ds cut.0 none) (λ h. never (inr h)) ∙ made_quiet u 1 (deeds_at (kids k [])) (below (kids k)) x (λ h. never (inl h))
 
-  -- a run that is done leaves what it leaves
+  -- a complete run has its final effect on the cell
   pub made_full : (r : Run W) (k : ℕ) (ds : List (Deed W)) (kids : ℕ → Frames W) (x : ℤ) → IsFull r k ds kids → made r k ds kids c x ≡ value_after r c x
   made_full stop k ds kids x full = refl
   made_full (act e r) k [] kids x full = absurd full
@@ -122,7 +122,8 @@ module _ {W : Type 0} {c : Cell} where
   past_call (past_child {n = j ∷ m} p f) = tt
   past_call (inside f) = tt
 
-  -- What was made of a child on the way to the front is what the whole child leaves in a cell that is accessed there.
+  -- The events made of a child on the way to the front have the whole child's effect on a cell that
+  -- is accessed there.
   pub beside : (i : Invocation) (u r : Run W) (k : ℕ) (ds : List (Deed W)) (kids : ℕ → Frames W) (v : ℤ) {n : Name} {e : Event} {x y : ℤ} → (IsPast i (grown n ds (Does e)) → IsFull u 1 (deeds_at (kids k [])) (below (kids k))) → Front W c r (suc k) ds kids n (Does e) x y → IsCut r (suc k) ds kids → ApartIf i u r → IsAccess e c → made u 1 (deeds_at (kids k [])) (below (kids k)) c v ≡ value_after u c v
   beside Call u r k ds kids v p f cut far acc = made_full c u 1 (deeds_at (kids k [])) (below (kids k)) v (p (past_call f))
   beside Spawn u r k ds kids v {n} {e} p f cut far acc =
@@ -131,7 +132,8 @@ module _ {W : Type 0} {c : Cell} where
       made_quiet c u 1 (deeds_at (kids k [])) (below (kids k)) v quiet ∙ sym (value_quiet c u v quiet))
       (has_sync ds)
 
-  -- What was made after a child that isn't done leaves a cell that the child accesses next.
+  -- The events made after a child that isn't complete don't change a cell that the child accesses
+  -- next.
   pub after_child : (i : Invocation) (u r : Run W) (k : ℕ) (ds : List (Deed W)) (kids : ℕ → Frames W) (v : ℤ) {m : Name} {e : Event} {x y : ℤ} → Front W c u 1 (deeds_at (kids k [])) (below (kids k)) m (Does e) x y → (IsPast i ds → IsFull u 1 (deeds_at (kids k [])) (below (kids k))) → IsCut r (suc k) ds kids → ApartIf i u r → IsAccess e c → made r (suc k) ds kids c v ≡ v
   after_child Call u r k [] kids v f p cut far acc = made_nil c r (suc k) kids v
   after_child Call u r k (d ∷ ds) kids v f p cut far acc = absurd (full_stuck f (p tt))

@@ -1,4 +1,4 @@
--- What one more deed does to a cut.
+-- The effect of one more deed on a cut.
 use Rattle.std.proofs.Common.{◌≡◌, ℕ, suc, ◌+◌, ◌≤◌, cond, ◌&&◌, List, [], ◌∷◌, ◌++◌, Some, refl, sym, ap, ◌∙◌, subst, arith, ⊎_elim, eq-eqb, le_refl, ℤ, None}
 use mathlib.Core.Path.{fun_ext}
 use Rattle.std.proofs.lemmas.Bool.{cond-true, cond-false, cases_Bool}
@@ -153,7 +153,7 @@ module _ {W : Type 0} {c : Cell} where
       made_ext r (suc k) ds kids kids' c _ (λ j le. g.0 j (λ q. omega arith))
       ∙ ap (made r (suc k) ds kids c) (rw g.2 (made_other f still cut.2 (suc (started (deeds_at (kids k [])))) (below (kids' k)) (omega arith) g.3 z))
 
-  -- a write at the front stands last in the cell
+  -- a write at the front is the last in the cell
   pub made_write : {r : Run W} {k : ℕ} {ds : List (Deed W)} {kids : ℕ → Frames W} {n : Name} {e : Event} {x y : ℤ} → Front W c r k ds kids n (Does e) x y → (v : ℤ) → e ≡ Writes c v → IsCut r k ds kids → RaceFree r → (K : ℕ) (kids' : ℕ → Frames W) → K ≡ k + started ds → Grows n (Does e) K kids kids' → (z : ℤ) → made r k (grown n ds (Does e)) kids' c z ≡ v
   made_write (here_act {e = e} {r = r} {k = k}) v is cut free K kids' at g z =
       made_nil c r k kids' (put e c z) ∙ rw is (cond-true (same_cell c c) v z (same_cell-refl c))

@@ -1,6 +1,6 @@
--- What frames hold is views of the language, step by step.
+-- Frames hold views of the language, step by step.
 --
--- - `HasView`, `has_unit`, `has_single`, `has_join`, `has_cond`: what is made of views is one;
+-- - `HasView`, `has_unit`, `has_single`, `has_join`, `has_cond`: operations on views give views;
 -- - `block_has`: the product at a block;
 -- - `wish_has`, `ask_leaves`: the pieces after one more deed;
 -- - `children_after`: the children after one more deed;

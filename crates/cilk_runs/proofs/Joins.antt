@@ -1,4 +1,4 @@
--- How often a spawned child stands in the joins.
+-- The number of times a spawned child is in the joins.
 use Rattle.std.proofs.Common.{◌≡◌, ℕ, suc, ◌+◌, ◌<◌, ◌≤◌, false, cond, List, [], ◌∷◌, ◌++◌, Some, None, refl, sym, ap, ◌∙◌, subst, arith, ⊎_elim, eq-eqb, ne_eqb, zero-add, ℤ, zero}
 use Rattle.std.specs.Prelude.{nat_eq}
 use Rattle.std.proofs.lemmas.Bool.{cases_eq, cases_Bool, cond-true, cond-false}
@@ -360,7 +360,8 @@ module _ {W : Type 0} where
   spawned_none t (k ∷ []) h = ap (λ z. spawned_at 1 k (deeds_at z)) (h [])
   spawned_none t (j ∷ k ∷ m) h = spawned_none (below t j) (k ∷ m) (λ n. h (j ∷ n))
 
-  -- once a frame and all below it have made each of their events, each spawned child has been joined
+  -- once a frame and all below it have made each of their events, each spawned child has been
+  -- joined
   pub full_joined : (m : Name) (r : Run W) (w : W) (t : Frames W) → IsStarted w t → IsFull r 1 (deeds_at (t [])) (below t) → IsCut r 1 (deeds_at (t [])) (below t) → IsClosed r → joined t m ≡ spawned t m
   full_joined [] r w t begins full cut closed = refl
   full_joined (k ∷ []) r w t begins full cut closed = full_here r 1 (deeds_at (t [])) (below t) k full cut closed

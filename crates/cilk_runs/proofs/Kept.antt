@@ -237,7 +237,7 @@ module _ (W V : Type 0) (M : Instance → MonoidStructure V) (Next : W → List 
           no_stop = m.stopped ∙ ok.no_stop;
         }
 
-    -- with what the frame asks for next no total is more than the serial run's
+    -- with the frame's next ask no total exceeds the serial run's
     pub room_at : (s : State W V) (n : Name) → IsConsistent M C w t opening s → (total : Total) (f : Frame W) (a : Ask W) → IsAsking W V M Next C s n f a → s.totals total + cost C total f.what f.deeds a ≤ C.used total + weight C total w [] t
     room_at s n ok total f a m =
         let ds = deeds_at (s.frames []) in

@@ -1,8 +1,10 @@
--- The tree of strands of a nested run with their events at its leaves, and freedom of races by names. It is the tree of the run's shape
--- (layouts_agree in Spells), and the list of the run's events has each of these races (Numbered): lemmas walk down this form, and no contract
--- speaks of it.
---   Layout, layout    the tree; are_beside and peer_at: positions in parallel; IsInhabited: each child has an event
---   NoneClash, ReadsHavePeers   no two positions have a determinacy race, or a view-read race
+-- The tree of strands of a nested run with their events at its leaves, and freedom of races by
+-- names. It is the tree of the run's shape (layouts_agree in Spells), and the list of the run's
+-- events has each of these races (Numbered). Lemmas use this form; no contract speaks of it.
+--
+-- - `Layout`, `layout`: the tree; `are_beside`, `peer_at`: positions in parallel; `IsInhabited`:
+--   each child has an event;
+-- - `NoneClash`, `ReadsHavePeers`: no two positions have a determinacy race, or a view-read race.
 use Rattle.std.proofs.Common.{◌≡◌, ℕ, ◌+◌, ◌-◌, ◌<◌, Bool, true, false, cond, List, [], ◌∷◌, ◌++◌, length, nat_lt, Option, Some, None, slice_get}
 use Rattle.cilk_runs.specs.Traces.{trace}
 use Rattle.cilk_runs.specs.Views.{IsReducerRead}
@@ -34,8 +36,9 @@ is_sync Syncs = true
 is_sync (Ends val gone) = false
 is_sync (Passes m) = false
 
--- The sync block that is open, whose strand has these events so far, and the later blocks. A block is a strand alone, or a strand ended by a
--- call, the child and the rest of the block in series, or a strand ended by a spawn and then the child beside the rest of the block.
+-- The current sync block, whose strand has these events so far, and the later blocks. A block is a
+-- strand alone; a strand, a called child and the rest of the block in series; or a strand and then
+-- a spawned child beside the rest of the block.
 abbrev pub layouts : {W : Type 0} → Run W → List (Deed W) → Layout W × Option (Layout W)
 layouts stop s = (Strand s, None)
 layouts (act e r) s =

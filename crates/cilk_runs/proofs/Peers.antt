@@ -64,7 +64,7 @@ module _ (i : Instance) where
   touch_parts (Ends val gone) h = inr h
   touch_parts (Passes m) h = inl h
 
-  -- what is retired in a run was created there
+  -- the instances retired in a run were created there
   touch_read : {W : Type 0} (r : Run W) (mine : Type 0) → IsRetiredAtHome i r mine → HasEventWith (IsTouch i) r → HasEventWith (IsReducerRead i) r ⊎ mine
   touch_read stop mine home h = absurd h
   touch_read (act e r) mine home (inl h) = ⊎_elim (λ z. inl (inl z)) (λ z. inr (home.0 z)) (touch_parts e h)
@@ -72,7 +72,8 @@ module _ (i : Instance) where
   touch_read (child b w u r) mine home (inl h) = ⊎_elim (λ z. inl (inl z)) (λ z. absurd z) (touch_read u ⊥ home.0 h)
   touch_read (child b w u r) mine home (inr h) = ⊎_elim (λ z. inl (inr z)) (λ z. inr z) (touch_read r mine home.1 h)
 
-  -- So before a sync that is still to come it is retired only with a frame that created it there: a frame's own end comes after its syncs.
+  -- So before a later sync an instance is retired only with a frame that created it there: a
+  -- frame's own end comes after its syncs.
   block_read : {W : Type 0} (r : Run W) (mine : Type 0) → IsRetiredAtHome i r mine → IsClosed r → SyncAhead r → HasInBlockWith (IsTouch i) r → HasInBlockWith (IsReducerRead i) r
   block_read stop mine home closed ahead h = absurd h
   block_read (act (Reads c v) r) mine home closed ahead (inl h) = absurd h
@@ -323,7 +324,8 @@ module _ {W : Type 0} where
       (⊎_elim (λ lt. peers_less t p q lt ∙ sym (peers_more t p q lt)) (λ lt. peers_more t q p lt ∙ sym (peers_less t q p lt)))
       (cases_order p q)
 
-  -- reducer-reads with equal peers: a stolen continuation finds the view that it reads, or reads none
+  -- reducer-reads with equal peers: a stolen continuation finds the view that it reads, or reads
+  -- none
   created_view : {V : Type 0} (M : MonoidStructure V) (i : Instance) (t : Run W) → ReadsHavePeers i t → IsInhabited (layout t) → IsClosed t → IsRetiredAtHome i t ⊥ → IsCreatedFirst i t ⊥ → ViewFree M i t M.unit
   created_view M i t free kids closed home first =
       let placed0 : (p q : ℕ) → p < q → q < size (layout t) → peer_at (layout t) (0 + p) (0 + q) ≡ are_beside (layout t) p q =

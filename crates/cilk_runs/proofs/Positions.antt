@@ -202,7 +202,7 @@ module _ {W : Type 0} where
   one_more : (b : Bool) (m : List Bool) (s : List (Deed W)) (d : Deed W) → length m ≡ length s → length (m ++ b ∷ []) ≡ length (s ++ d ∷ [])
   one_more b m s d e = omega (arith, length-append m (b ∷ []), length-append s (d ∷ []), e)
 
-  -- a strand goes on with an event
+  -- a strand continues with an event
   strand_off : (t : Layout W) (o : Option (Layout W)) (r : Run W) (m : List Bool) (k : ℕ) (kids : ℕ → Frames W) → Parts t o ((m ++ false ∷ []) ++ made_at r k [] kids) [] → Parts t o (m ++ false ∷ unmade r) []
   strand_off t o r m k kids h = recast t o _ _ [] [] (append_assoc m (false ∷ []) _ ∙ ap (λ z. m ++ false ∷ z) (nil_made r k kids)) (λ z. z) h
 

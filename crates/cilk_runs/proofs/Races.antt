@@ -251,6 +251,7 @@ module _ {W : Type 0} where
     λ c. (no_clash a b free (λ e. IsAccess e c) (λ e. IsWrite e c) (clash_to c), no_clash a b free (λ e. IsWrite e c) (λ e. IsAccess e c) (clash_from c)),
   )
 
-  -- no race over all pairs of positions of the trace: no spawned child races with the rest of its block
+  -- no race over all pairs of positions of the trace: no spawned child races with the rest of its
+  -- block
   pub no_race : (t : Run W) → NoneClash t → RaceFree t
   no_race t free = tree_free t (pairs_clean (layout t) (λ p q lt par. subst (λ z. clash (slice_get z p) (slice_get z q) ≡ false) (sym (tree_events t)) (free p q lt par)))

@@ -1,4 +1,4 @@
--- What one more deed does to the pieces.
+-- The effect of one more deed on the pieces.
 use Rattle.std.proofs.Common.{◌≡◌, ℕ, suc, pred, ◌+◌, ◌≤◌, Bool, true, false, cond, List, [], ◌∷◌, ◌++◌, Some, refl, sym, ap, ◌∙◌, subst, arith, ⊎_elim, le_refl, ℤ}
 use mathlib.Core.Path.{fun_ext}
 use Rattle.std.proofs.lemmas.Bool.{cases_Bool}
@@ -122,7 +122,8 @@ module _ {W V : Type 0} (M : MonoidStructure V) (i : Instance) where
   block_act kid loose acc k d ds (Ends val gone) q = rw q refl
   block_act kid loose acc k d ds (Passes m) q = rw q refl
 
-  -- one instance's views of a frame, root, and below it, pcs, turn to root' and pcs' by one more deed of frame n
+  -- frame n's deed changes one instance's views: root of this frame to root', and pcs of those
+  -- below it to pcs'
   abbrev pub Moved : Name → Deed W → (Name → Bool) → V → ℕ → (ℕ → Frames W) → (Name → V) → V → (Name → V) → V → Type 0
   Moved [] (Does e) loose B K kids pcs root pcs' root' =
       (root' ≡ own_view M i B (loose (pred K ∷ [])) (pcs (pred K ∷ [])) e root) × ((j : ℕ) (m : Name) → pcs' (j ∷ m) ≡ pcs (j ∷ m))

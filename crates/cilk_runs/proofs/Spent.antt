@@ -1,4 +1,4 @@
--- What the events made add to the totals.
+-- The totals of the events made.
 use Rattle.std.proofs.Common.{◌≡◌, false, ℕ, suc, ◌+◌, ◌≤◌, List, [], ◌∷◌, ◌++◌, Option, Some, None, refl, ap, ◌∙◌, subst, arith, append_assoc, append-nil, le_refl, le-ltb, ℤ}
 use Rattle.std.proofs.lemmas.Bool.{cond-false}
 use Rattle.cilk_types.specs.declared.fault.Fault.{Fault}
@@ -16,7 +16,7 @@ module _ {W : Type 0} (C : Costs W) (total : Total) where
   spent_nil w past (act e r) k kids = refl
   spent_nil w past (child i v u r) k kids = refl
 
-  -- what is made weighs no more than the whole
+  -- the events made add no more than the whole run
   pub spent_le : (w : W) (past : List (Deed W)) (r : Run W) (k : ℕ) (ds : List (Deed W)) (kids : ℕ → Frames W) → spent C total w past r k ds kids ≤ weight C total w past r
   spent_le w past stop k ds kids = omega arith
   spent_le w past (act e r) k [] kids = omega arith

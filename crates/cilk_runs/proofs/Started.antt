@@ -1,4 +1,4 @@
--- How many children a history has started.
+-- The number of children that a history has started.
 --
 -- - `started_does`, `started_invokes`: with one more deed.
 use Rattle.std.proofs.Common.{◌≡◌, suc, List, [], ◌∷◌, ◌++◌, refl, ap}

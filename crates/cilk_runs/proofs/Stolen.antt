@@ -1,4 +1,4 @@
--- What a steal does to the pieces.
+-- The effect of a steal on the pieces.
 use Rattle.std.proofs.Common.{◌≡◌, ℕ, suc, ◌+◌, ◌≤◌, Bool, true, false, List, [], ◌∷◌, ◌++◌, Some, None, refl, sym, ap, ◌∙◌, subst, arith, ⊎_elim, le_refl, ℤ}
 use mathlib.Core.Path.{fun_ext}
 use Rattle.std.proofs.lemmas.Bool.{cases_eq}
@@ -74,7 +74,7 @@ module _ {W : Type 0} where
     resume_here (act e r) k kids x res = (x, subst (λ z. Front W c (act e r) k [] kids [] (Does z) x x) (is_resume e res.0) here_act)
     resume_here (child b w u r) k kids x res = absurd res
 
-    -- where a continuation can be stolen its frame stands before the resume
+    -- if a frame's continuation can be stolen, the frame is before the resume
     pub find_stolen : (r : Run W) (k : ℕ) (ds : List (Deed W)) (kids : ℕ → Frames W) (n : Name) (x : ℤ) (K : ℕ) (b : Bool) → IsResumed b r → IsCut r k ds kids → At K k ds kids n → (y : ℤ) × Front W c r k ds kids n (Does (Passes Resumes)) x y
     find_stolen stop k [] kids n x K b res cut at = at_none K k kids n cut at
     find_stolen stop k (d ∷ ds) kids n x K b res cut at = absurd cut
@@ -165,7 +165,7 @@ module _ {W V : Type 0} (M : MonoidStructure V) (i : Instance) where
       )
 
   module _ {c : Cell} where
-    -- nothing goes on beside a child that isn't done and wasn't left to a thief
+    -- nothing is made beside a child that isn't complete, unless the continuation was stolen
     stuck_resumed : (u : Run W) (kids : ℕ → Frames W) {m : Name} {a : Deed W} {x y : ℤ} (X Y : Type 0) (k : ℕ) (loose loose' : Name → Bool) (ds : List (Deed W)) → Front W c u 1 (deeds_at (kids k [])) (below (kids k)) m a x y → ((j : ℕ) → suc k ≤ j → (n : Name) → loose' (j ∷ n) ≡ loose (j ∷ n)) → WhenResumed (suc k) loose ds (IsFull u 1 (deeds_at (kids k [])) (below (kids k)) × X) → WhenResumed (suc k) loose' ds (IsFull u 1 (deeds_at (kids k [])) (below (kids k)) × Y)
     stuck_resumed u kids X Y k loose loose' [] f fl h = λ j le n. fl j le n ∙ h j le n
     stuck_resumed u kids X Y k loose loose' (d ∷ ds) f fl h = absurd (full_stuck f h.0)

@@ -1,8 +1,10 @@
--- Each piece has the views of its stretch alone, where no stolen continuation reads what was read before.
+-- Each piece has the views of its stretch alone, if no stolen continuation reads an instance that
+-- was read before.
 --
 -- - `along_append`, `along_run`, `long`: views along lists of events, and along whole runs;
 -- - `viewed_append`, `past_viewed`: stretches that follow one another;
--- - `Fit`, `Calm`: where the walk stands: a frame's own view and its block's product against the view of its stretch, and what is still to come;
+-- - `Fit`, `Calm`: the state of the walk: a frame's own view and its block's product against the
+--   view of its stretch, and the rest of the run;
 -- - `viewed`, `are_views`: the law.
 use Rattle.std.proofs.Common.{◌≡◌, ℕ, suc, ◌+◌, Bool, true, false, true≢false, List, [], ◌∷◌, ◌++◌, length, refl, sym, ap, ap₂, ◌∙◌, subst, arith, ◌⊎◌, inl, inr, ⊎_elim, append_assoc, append-nil, length-append, ℤ}
 use Rattle.std.proofs.lemmas.Bool.{cases_Bool}
@@ -65,11 +67,11 @@ module _ {W V : Type 0} (M : MonoidStructure V) (i : Instance) (P : Name → V) 
   viewed_append (Ahead k ∷ a) b xs ys (own, rest, e, l, t) g =
       (own, rest ++ ys, ap (λ z. z ++ ys) e ∙ append_assoc own rest ys, l, viewed_append a b rest ys t g)
 
-  -- what isn't made
+  -- events that aren't made
   ahead_viewed : (rs : List (Deed W)) (n : ℕ) → length rs ≡ n → AreViewed M i P (Ahead n ∷ []) rs
   ahead_viewed rs n e = (rs, [], sym (append-nil rs), e, refl)
 
-  -- a frame that stands at the end of its stretch
+  -- a frame at the end of its stretch
   stands_viewed : (n : Name) (seg rs : List (Deed W)) (own left : ℕ) → length seg ≡ own → P n ≡ view_along M i seg M.unit → length rs ≡ left → AreViewed M i P (Held n own ∷ Ahead left ∷ []) (seg ++ rs)
   stands_viewed n seg rs own left l v e = (seg, rs, refl, l, v, ahead_viewed rs left e)
 
@@ -100,12 +102,13 @@ same_sync : {W : Type 0} (d : Deed W) (ds : List (Deed W)) (b : Invocation) (w :
 same_sync d ds b w q = ap (λ x. has_sync (x ∷ ds)) q
 
 module _ {W V : Type 0} (M : MonoidStructure V) (law : IsLawful M IsValue) (i : Instance) where
-  -- A frame's own view p and its block's product acc against the view x of its stretch: where the frame has made its next sync they are even, else the own
-  -- view is that of the stretch.
+  -- A frame's own view p and its block's product acc, against the view x of its stretch. They are
+  -- even if the frame has made its next sync; otherwise the own view is that of the stretch.
   abbrev Fit : Run W → List (Deed W) → V → V → V → Type 0
   Fit r ds acc p x = (has_sync ds ≡ true → Even M law i r acc p x) × (has_sync ds ≡ false → p ≡ x)
 
-  -- What is still to come finds at each stolen continuation what it reads; or it reads nothing until a sync that isn't made.
+  -- The rest of the run finds at each stolen continuation the view that it reads, or reads none
+  -- until a sync that isn't made.
   abbrev Calm : Run W → List (Deed W) → V → Type 0
   Calm r ds x = ViewFree M i r x ⊎ ((has_sync ds ≡ false) × (¬ (HasInBlockWith (IsTouch i) r)))
 
@@ -156,7 +159,7 @@ module _ {W V : Type 0} (M : MonoidStructure V) (law : IsLawful M IsValue) (i : 
   calm_thief r ds v (inl e) s calm = subst (Calm r ds) e calm
   calm_thief r ds v (inr never) s calm = inr (s, never)
 
-  -- the frame goes on with its child's piece
+  -- the frame continues with its child's piece
   fit_on : (b : Invocation) (w : W) (u r : Run W) (d : Deed W) (ds : List (Deed W)) (acc p x q : V) → d ≡ Invokes b w → q ≡ view_after M i u p → Fit (child b w u r) (d ∷ ds) acc p x → Fit r ds acc q (view_after M i u x)
   fit_on b w u r d ds acc p x q is e h =
       let s = same_sync d ds b w is in (
@@ -164,7 +167,7 @@ module _ {W V : Type 0} (M : MonoidStructure V) (law : IsLawful M IsValue) (i : 
         λ z. e ∙ ap (view_after M i u) (h.1 (s ∙ z)),
       )
 
-  -- a thief whose sync is made goes on with the frame's stretch
+  -- a thief whose sync is made continues the frame's stretch
   fit_stolen : (w : W) (u r : Run W) (d : Deed W) (ds : List (Deed W)) (acc p x q : V) → d ≡ Invokes Spawn w → q ≡ view_after M i u p → has_sync ds ≡ true → IsClosed (child Spawn w u r)
       → Calm (child Spawn w u r) (d ∷ ds) x → Fit (child Spawn w u r) (d ∷ ds) acc p x → Fit r ds (M.combine acc q) M.unit (view_after M i u x)
   fit_stolen w u r d ds acc p x q is e synced closed calm h = (

@@ -1,6 +1,7 @@
 -- Each piece covers one stretch of the serial run.
 --
--- - `replicate_add`, `marks_append`, `all_made`, `none_made`: marks of stretches, and of whole runs;
+-- - `replicate_add`, `marks_append`, `all_made`, `none_made`: marks of stretches, and of whole
+--   runs;
 -- - `past_marks`, `cover`: the stretches are the events made;
 -- - `Within`, `all_within`, `all_apart`: each frame holds one of them;
 -- - `are_stretches`: the law.
@@ -79,13 +80,14 @@ thief_goes true T X h e = h
 thief_goes false T X h e = absurd (true≢false (sym e))
 
 module _ {W V : Type 0} (M : MonoidStructure V) (i : Instance) where
-  -- a spawned child whose piece is back has ended, and the frame goes on as a thief or with it
+  -- a spawned child whose piece is back has ended, and the frame continues as a thief or with that
+  -- piece
   goes_on : (stolen : Bool) (k : ℕ) (loose : Name → Bool) (ds : List (Deed W)) (F T R : Type 0) → (HasSync ds → F) → WhenStolen stolen T (WhenResumed k loose ds (F × R)) → is_back Spawn stolen ds ≡ true → F × (T ⊎ R)
   goes_on true k loose ds F T R synced h e = (synced (sync_of ds e), inl h)
   goes_on false k loose [] F T R synced h e = absurd (true≢false (sym e))
   goes_on false k loose (d ∷ ds) F T R synced h e = (h.0, inr h.1)
 
-  -- a frame that doesn't have its child's piece back, and whose continuation nobody took, has made nothing more
+  -- a frame without its child's piece, whose continuation isn't stolen, has made nothing more
   waits : (b : Invocation) (stolen : Bool) (ds : List (Deed W)) → is_back b stolen ds ≡ false → stolen ≡ false → ds ≡ []
   waits Call stolen [] e f = refl
   waits Call stolen (d ∷ ds) e f = absurd (true≢false e)

@@ -1,13 +1,17 @@
--- The theorem. What a crate cites that has a behaviour of its own, for any types W, V and any relation Next:
---   IsDetermined            shown of its Next (follows_determined does it for a function of the history);
---   opening_ok              (Kept) the opening state is consistent, whatever the run;
---   race_free_kept          one step, where a list of the run's events has no race: for machines and schedulers;
---   race_free_agrees        what holds of each consistent state, likewise;
---   race_free_determinate   all lists of steps, likewise;
---   kept, agrees, determinate   the same from the nested forms RaceFree and ViewFree, which no_race (Races) and no_view_race (Peers) give;
---   room_at, never_stops    (Kept) the totals of one consistent state;
---   free_by_names           (Numbered) what freedom of races of the list says of the nested run, by names;
---   tests_tell              (Decided) a list of events has no race where a test of each pair finds none.
+-- The theorem. A crate with a behaviour of its own cites these, for any types W, V and any relation
+-- Next:
+--
+-- - `IsDetermined`: shown of its Next (`follows_determined` does it for a function of the history);
+-- - `opening_ok` (Kept): the opening state is consistent, whatever the run;
+-- - `race_free_kept`: one step, if a list of the run's events has no race: for machines and
+--   schedulers;
+-- - `race_free_agrees`: each consistent state agrees with the run, likewise;
+-- - `race_free_determinate`: all lists of steps, likewise;
+-- - `kept`, `agrees`, `determinate`: the same from the nested forms RaceFree and ViewFree, which
+--   `no_race` (Races) and `no_view_race` (Peers) give;
+-- - `room_at`, `never_stops` (Kept): the totals of one consistent state;
+-- - `free_by_names` (Numbered): a list without races gives a nested run without races, by names;
+-- - `tests_tell` (Decided): a list of events has no race if a test of each pair finds none.
 use Rattle.std.proofs.Common.{◌≡◌, ◌<◌, ◌≤◌, ℤ, List, [], Option, Some, sym, ◌∙◌, arith}
 use Rattle.cilk_runs.specs.Runs.{Cell, Instance, Ask, Deed, Run}
 use Rattle.cilk_runs.proofs.Find.{IsDetermined}
@@ -41,7 +45,7 @@ unspent_at C w t opening s ok partly =
     let le : made ≤ all = spent_le C EventTotal w [] t 1 ds (below s.frames) in
     omega (arith, ok.totals EventTotal, le, differ)
 
--- what holds of each consistent cut
+-- each consistent cut agrees with the run
 pub agrees : (W V : Type 0) (M : Instance → MonoidStructure V) (Next : W → List (Deed W) → Ask W → Type 0) (C : Costs W) → ((i : Instance) → IsLawful (M i) IsValue) → IsDetermined W Next → (w : W) (t : Run W) (opening : Cell → ℤ) → IsNestedSerialRun W V M Next C w t opening → RaceFree t → ((i : Instance) → ViewFree (M i) i t (unit_of M i)) → CutsAgree W V M Next C w t opening
 agrees W V M Next C law determined w t opening run free apart s ok = record {
   consistent = ok;

@@ -1,4 +1,4 @@
--- What a piece's views are against the serial run's.
+-- The views of a piece, compared with the serial run's.
 use Rattle.std.proofs.Common.{◌≡◌, ℕ, suc, Bool, true, false, List, [], ◌∷◌, refl, sym, ap, ◌∙◌, subst, ◌⊎◌, inl, inr, ⊎_elim, ℤ}
 use Rattle.std.proofs.lemmas.Bool.{cases_Bool, cond-true, cond-false}
 use Rattle.cilk_types.specs.declared.invocation.Invocation.{Invocation}
@@ -120,8 +120,9 @@ module _ {V : Type 0} (M : MonoidStructure V) (law : IsLawful M IsValue) (i : In
     quiet_free (act e r) x never = quiet_free r (on_view M i e x) (λ h. never (inr h))
     quiet_free (child b w u r) x never = (quiet_apart b _ r (λ h. never (inr h)), quiet_free u x (λ h. never (inl h)), quiet_free r _ (λ h. never (inr h)))
 
-    -- A frame's own view p and its block's product acc against the serial view x: the own view is the serial one and nothing lies at the block,
-    -- or the two together make it, and the reducer isn't read until the sync that is still to come.
+    -- A frame's own view p and its block's product acc, against the serial view x. Either the own
+    -- view is the serial one and the block is empty, or the two together make it, and the reducer
+    -- isn't read until a later sync.
     abbrev pub Even : Run W → V → V → V → Type 0
     Even r acc p x = ((p ≡ x) × (acc ≡ M.unit)) ⊎ ((M.combine acc p ≡ x) × (¬ (HasInBlockWith (IsTouch i) r)) × SyncAhead r)
 
@@ -187,7 +188,8 @@ module _ {V : Type 0} (M : MonoidStructure V) (law : IsLawful M IsValue) (i : In
         final_view r (suc k) ds kids loose pcs acc (pcs (k ∷ [])) root _ true parts.1 full.1 cut.4 closed.2 rest.1 free.2 (subst (λ z. Even r acc z (view_after M i u x)) (sym inner) (even_child Spawn w u r acc p x even)))
         (cases_Bool (loose (k ∷ [])))
 
-    -- The same before all of the block's children are done: even once there is a sync, and till then the own view is right where it is read.
+    -- The same before all of the block's children have ended: even once there is a sync, and until
+    -- then the own view is right where it is read.
     abbrev Fair : Run W → Name → List (Deed W) → Deed W → V → V → V → Type 0
     Fair r n ds a acc p x = (HasSync (grown n ds a) → Even r acc p x) × ((p ≡ x) ⊎ (¬ (HasInBlockWith (IsTouch i) r)))
 

@@ -1,4 +1,5 @@
--- The free machine at the language: what its frames ask for, what that costs, and how it begins.
+-- The free machine on the language: what its frames request, what that costs, and its opening
+-- values.
 use Rattle.std.specs.Prelude.{ℕ, suc, ◌+◌, ◌-◌, ℤ, pos, Bool, true, false, cond, List, [], ◌∷◌, length, map, Option, Some, None, slice_get, unwrap_or}
 use Rattle.cilk_types.specs.declared.limits.TheConstants.{MAX_EVENTS, MAX_TICKS, MAX_FRAMES, MAX_CELLS}
 use Rattle.cilk_monoid.specs.declared.kind.MonoidKind.{MonoidKind}
@@ -15,16 +16,16 @@ use Rattle.cilk_runs.specs.Costs.{Costs, Total, TickTotal, EventTotal, FrameTota
 use Rattle.cilk_runs.specs.Machine.{started}
 use Rattle.cilk_runs.specs.FrameEnvs.{FrameEnv, Reducers, own_named, child_world, cell_seen, reducer_seen, result_cell}
 
--- reducers with these monoids, from this one of a frame's own on
+-- a frame's own reducers with these monoids, counted from n
 abbrev pub retired_from : (ℕ → Reducers) → ℕ → List MonoidKind → List Instance
 retired_from own n [] = []
 retired_from own n (k ∷ ks) = own n k ∷ retired_from own (suc n) ks
 
--- the reducers that a frame retires with its end: those that it created for itself
+-- the reducers that a frame's end retires: those that it created for itself
 abbrev pub retired_by : Source → FrameEnv → List Instance
 retired_by p w = retired_from (own_named p w.callee w.name) 0 (own_reducers p w.callee)
 
--- an ask of a frame by names, where its next child has this ordinal
+-- an ask of a frame by names, if its next child has this ordinal
 abbrev pub named_ask : Source → FrameEnv → ℕ → language.Ask → Ask FrameEnv
 named_ask p w k asks.Begin = Pass Begin
 named_ask p w k (asks.Read x) = Read (cell_seen w x)
@@ -41,7 +42,7 @@ named_ask p w k (asks.Result v) = Write (result_cell w) v
 named_ask p w k (asks.End v) = End v (retired_by p w)
 named_ask p w k (asks.Fault f) = Fail f
 
--- what a frame was answered; 0 where nothing is
+-- the answer to a deed, 0 if there is none
 abbrev pub answer_of : Deed FrameEnv → ℤ
 answer_of (Does (Reads c v)) = v
 answer_of (Does (Writes c v)) = pos 0
@@ -79,19 +80,19 @@ but_last (x ∷ []) = []
 but_last (x ∷ y ∷ xs) = x ∷ but_last (y ∷ xs)
 
 module _ (p : Source) (inputs : List ℤ) where
-  -- what a frame's behaviour asks for after a history, with all the ticks of a run for itself
+  -- a frame's next ask after a history, given all the ticks of a run
   abbrev pub asked_after : FrameEnv → List (Deed FrameEnv) → OpenAsk
   asked_after w past = frame_asks p inputs w.callee (answers_of past) MAX_TICKS
 
-  -- what a frame asks for next; nothing after its end
+  -- a frame's next ask, none after its end
   abbrev pub next : FrameEnv → List (Deed FrameEnv) → Option (Ask FrameEnv)
   next w past = cond (has_ended past) None (Some (named_ask p w (suc (started past)) (asked_after w past).ask))
 
-  -- the ticks that a frame has taken by the ask that follows a history
+  -- the ticks that a frame has used up to the ask after a history
   abbrev pub taken : FrameEnv → List (Deed FrameEnv) → ℕ
   taken w past = MAX_TICKS - (asked_after w past).left
 
-  -- what the first frame and the globals use, and the limits of a run
+  -- the totals of the opening state, and the limits of a run
   abbrev pub used : Total → ℕ
   used TickTotal = 0
   used EventTotal = 0
@@ -107,7 +108,7 @@ module _ (p : Source) (inputs : List ℤ) where
   abbrev pub costs : Costs FrameEnv
   costs = record { ticks = λ w past. taken w past - taken w (but_last past); cells = λ w. cells_of p w.callee; used = used; limit = limit }
 
-  -- the cells' values as a program begins
+  -- the opening values of the cells
   abbrev pub opening_values : Cell → ℤ
   opening_values (Global n) = unwrap_or (slice_get p.openings n) (pos 0)
   opening_values (Own name n) = pos 0

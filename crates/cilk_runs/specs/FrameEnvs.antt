@@ -1,4 +1,4 @@
--- What a frame is started as, by names that no schedule changes.
+-- Frame environments: what a frame is started as, by names that no schedule changes.
 use Rattle.std.specs.Prelude.{ℕ, ◌+◌, List, [], ◌∷◌, ◌++◌, length, drop, Option, None, unwrap_or}
 use Rattle.std.specs.Option.{option_map}
 use Rattle.cilk_monoid.specs.declared.kind.MonoidKind.{MonoidKind}
@@ -10,19 +10,20 @@ use Rattle.cilk_program.specs.Syntax.{Source}
 use Rattle.cilk_program.specs.Scopes.{Home, Scope, cell_in, instance_in, instances_in}
 use Rattle.cilk_runs.specs.Runs.{Name, Cell, Global, Own, Instance, Reducer}
 
--- a place of a reducer, which with a monoid is a reducer
+-- the place of a reducer; with a monoid it gives the reducer
 abbrev pub Reducers : Type 0
 Reducers = MonoidKind → Instance
 
--- what a frame sees: cells and reducers by names
+-- the cells and reducers that a frame sees, by names
 abbrev pub Sight : Type 0
 Sight = Scope Cell Reducers
 
--- a global reducer: the first frame creates them
+-- a global reducer; they are created by the first frame
 abbrev pub global_named : ℕ → Reducers
 global_named n = Reducer [] n
 
--- how many reducers a frame creates before its own: the first frame creates the global ones
+-- the number of reducers that a frame creates before its own: the first frame creates the global
+-- ones
 abbrev pub before_own : Source → Callee → ℕ
 before_own p callees.Root = length p.reducers
 before_own p (callees.Function c) = 0
@@ -35,7 +36,7 @@ own_named p callee name n = Reducer name (before_own p callee + n)
 abbrev pub home_named : Source → Callee → Name → List Reducers → Home Cell Reducers
 home_named p callee name given = record { cells = Own name; own = own_named p callee name; given = given }
 
--- the frames that a frame's body stands in, by static links
+-- the frames around a frame's body, by static links
 abbrev pub outer_named : Callee → Sight → Sight
 outer_named callees.Root sight = []
 outer_named (callees.Function c) sight = []
@@ -51,14 +52,14 @@ result_named callees.Root sight = None
 result_named (callees.Function c) sight = option_map (cell_in Global sight) c.result
 result_named (callees.Loop l) sight = None
 
--- what a frame runs, its name, what it sees, and the cell that its result goes to
+-- the code that a frame runs, its name, what it sees, and the cell of its result
 pub record FrameEnv : Type 0 where
   pub callee : Callee
   pub name : Name
   pub sight : Sight
   pub result : Option Cell
 
--- the frame of this name, begun by one that sees this
+-- the environment of the frame of this name, started by one with this sight
 abbrev pub world_of : Source → Name → Sight → Callee → FrameEnv
 world_of p name sight callee = record {
   callee = callee;
@@ -67,11 +68,11 @@ world_of p name sight callee = record {
   result = result_named callee sight;
 }
 
--- the first frame
+-- the environment of the first frame
 abbrev pub first_world : Source → FrameEnv
 first_world p = world_of p [] [] callees.Root
 
--- the child of this ordinal
+-- the environment of the child of this ordinal
 abbrev pub child_world : Source → FrameEnv → ℕ → Callee → FrameEnv
 child_world p w k callee = world_of p (w.name ++ k ∷ []) w.sight callee
 
@@ -81,6 +82,6 @@ cell_seen w x = cell_in Global w.sight x
 abbrev pub reducer_seen : FrameEnv → syntax.Reducer → Instance
 reducer_seen w r = instance_in global_named w.sight r.place r.kind
 
--- where the result goes
+-- the cell of the frame's result
 abbrev pub result_cell : FrameEnv → Cell
 result_cell w = unwrap_or w.result (Global 0)

@@ -1,4 +1,4 @@
--- What frames hold is views of the language.
+-- Frames hold views of the language.
 use Rattle.std.specs.Prelude.{◌≡◌, ◌≤◌, ℕ, ℤ, List, [], ◌∷◌, ◌++◌, Some}
 use Rattle.cilk_monoid.specs.Values.{ViewValue}
 use Rattle.cilk_types.specs.Word.{IsWord}
@@ -11,12 +11,14 @@ use Rattle.cilk_runs.specs.Steps.{Next, IsFirst, OneStep}
 use Rattle.cilk_runs.specs.FrameEnvViews.{IsViewOf}
 use Rattle.cilk_runs.specs.FrameEnvs.{FrameEnv}
 
--- Each view in the piece of each frame is a view of the language, of its reducer's monoid; and the children that a frame has started are there.
+-- Each view in the piece of each frame is a view of the language, of its reducer's monoid. The
+-- children that a frame has started exist.
 pub record HoldsViews (s : State FrameEnv View) : Type 0 where
   pub views : (n : Name) (f : Frame FrameEnv) (i : Instance) → s.frames n ≡ Some f → (x : ViewValue) × IsViewOf (kind_of i) (s.piece n i) x
   pub children : (n : Name) (f : Frame FrameEnv) (k : ℕ) → s.frames n ≡ Some f → 1 ≤ k → k ≤ started f.deeds → (g : Frame FrameEnv) × (s.frames (n ++ k ∷ []) ≡ Some g)
 
--- What is put into a view is a word; and a frame that has started so many children resumes only after one.
+-- A value put into a view is a word, and a resume comes only after a child; k children were
+-- started.
 abbrev pub WishIsSound : Wish → ℕ → Type 0
 WishIsSound Begin k = Unit {0}
 WishIsSound Resume k = 1 ≤ k
@@ -26,7 +28,7 @@ WishIsSound (Set i v) k = IsWord v
 WishIsSound (Value i) k = Unit {0}
 WishIsSound (Print v) k = IsWord v
 
--- the same of what a frame with this history asks for
+-- the same for the ask of a frame with this history
 abbrev pub AskIsSound : Ask FrameEnv → List (Deed FrameEnv) → Type 0
 AskIsSound (Read c) past = Unit {0}
 AskIsSound (Write c v) past = Unit {0}
@@ -36,7 +38,7 @@ AskIsSound (End v gone) past = Unit {0}
 AskIsSound (Pass a) past = WishIsSound a (started past)
 AskIsSound (Fail f) past = Unit {0}
 
--- frames hold views as a program begins, and after each step by which a frame asks so
+-- frames hold views in the opening state, and after each step whose ask is sound
 pub record StepsKeepViews (p : Source) (inputs : List ℤ) : Type 0 where
   pub opens : (s : State FrameEnv View) → IsFirst p inputs s → HoldsViews s
   pub keeps : (s s' : State FrameEnv View) (n : Name) → HoldsViews s → ((f : Frame FrameEnv) (a : Ask FrameEnv) → IsAsking FrameEnv View monoid_of (Next p inputs) (costs p inputs) s n f a → AskIsSound a f.deeds)

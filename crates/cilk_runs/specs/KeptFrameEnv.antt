@@ -1,4 +1,4 @@
--- What a machine keeps of a frame between two of its events: a cursor that stands at the frame's history by names.
+-- The cursor that a machine keeps of a frame between two of its events.
 use Rattle.std.specs.Prelude.{◌≡◌, ◌≤◌, ◌-◌, ◌+◌, ℕ, suc, ℤ, false, List, [], ◌∷◌, ◌++◌, Some}
 use Rattle.cilk_types.specs.declared.limits.TheConstants.{MAX_TICKS}
 use Rattle.cilk_program.specs.declared.ask.Ask as language
@@ -13,8 +13,8 @@ use Rattle.cilk_runs.specs.Costs.{TickTotal, cost}
 use Rattle.cilk_runs.specs.FrameEnvs.{FrameEnv}
 use Rattle.cilk_runs.specs.FrameEnvMachine.{answer_of, answers_of, has_ended, next, taken, costs, named_ask}
 
--- A frame that has made an event and wasn't told its answer yet: the cursor stands before that answer, and `took` counts the frame's own ticks
--- up to that event.
+-- A frame has made an event, and its cursor hasn't received the answer yet. The cursor is before
+-- that answer, and `took` is the number of ticks that the frame had used up to that event.
 pub record IsTold (code : CodeView) (p : Source) (inputs : List ℤ) (w : FrameEnv) (deeds : List (Deed FrameEnv)) (c : CursorView) (answer : Answer) (took : ℕ) : Type 0 where
   pub past : List (Deed FrameEnv)
   pub last : Deed FrameEnv
@@ -25,7 +25,8 @@ pub record IsTold (code : CodeView) (p : Source) (inputs : List ℤ) (w : FrameE
   pub took_is : took ≡ taken p inputs w past
   pub small : took ≤ MAX_TICKS
 
--- The frame's next ask is k, by names; its ticks are those that the step took; and the cursor stands at the whole history then.
+-- The frame's next ask is k, by names. Its ticks are those that the step used, and the cursor is
+-- then at the end of the history.
 pub record IsNext (code : CodeView) (p : Source) (inputs : List ℤ) (w : FrameEnv) (deeds : List (Deed FrameEnv)) (k : language.Ask) (c : CursorView) (took took' : ℕ) : Type 0 where
   pub asks : next p inputs w deeds ≡ Some (named_ask p w (suc (started deeds)) k)
   pub ticks : cost (costs p inputs) TickTotal w deeds (named_ask p w (suc (started deeds)) k) ≡ took' - took
@@ -34,7 +35,8 @@ pub record IsNext (code : CodeView) (p : Source) (inputs : List ℤ) (w : FrameE
   pub small : took' ≤ MAX_TICKS
   pub stands : HasAnswer k → Stands code inputs p w.callee c (answers_of deeds) took'
 
--- A cursor that goes on with the answer, and all the ticks of a run but those that its frame took itself, comes to the frame's next ask.
+-- A cursor that continues with the answer, and with the ticks of a run that its frame hasn't used,
+-- comes to the frame's next ask.
 abbrev pub NextIsNamed : Source → List ℤ → Type 0
 NextIsNamed p inputs =
     (code : CodeView) (w : FrameEnv) (deeds : List (Deed FrameEnv)) (c c' : CursorView) (answer : Answer) (took left : ℕ) (k : language.Ask) (told : IsTold code p inputs w deeds c answer took) → has_ended deeds ≡ false

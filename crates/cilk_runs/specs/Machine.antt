@@ -1,5 +1,6 @@
--- The free machine: any frame that isn't waiting may make its next event at any moment (steals after Frigo, Leiserson and Randall
--- 1998, views after Frigo, Halpern, Leiserson and Lewin-Berlin 2009).
+-- The free machine: any frame that isn't waiting may make its next event at any moment. Steals are
+-- those of Frigo, Leiserson and Randall (1998), views those of Frigo, Halpern, Leiserson and
+-- Lewin-Berlin (2009).
 use Rattle.std.specs.Prelude.{◌≡◌, ℕ, suc, ◌+◌, nat_eq, ℤ, Bool, true, false, cond, List, [], ◌∷◌, ◌++◌, Option, Some, None, ◌⊎◌}
 use Rattle.cilk_types.specs.declared.invocation.Invocation.TheVariants.{Call, Spawn}
 use Rattle.cilk_runs.specs.Runs.{Name, same_name, Cell, same_cell, Instance, Ask, Read, Write, Invoke, Sync, End, Pass, Fail, Wish, Begin, Resume, Create, Update, Set, Value, Print, Granted, Begins, Resumes, Creates, Updates, Sets, Values, Prints, Event, Reads, Writes, Syncs, Ends, Passes, Deed, Does, Invokes}
@@ -8,7 +9,7 @@ use Rattle.cilk_runs.specs.Costs.{Costs, Total, cost, fault_of}
 use Rattle.cilk_monoid.specs.Laws.{MonoidStructure}
 use Rattle.cilk_runs.specs.Monoids.{unit_of, numbers_of, on_view}
 
--- what a frame was started as, and what it has done
+-- a frame: what it was started as, and what it has done
 pub record Frame (W : Type 0) : Type 0 where
   pub what : W
   pub deeds : List (Deed W)
@@ -17,13 +18,14 @@ pub record Frame (W : Type 0) : Type 0 where
 abbrev pub Frames : Type 0 → Type 0
 Frames W = Name → Option (Frame W)
 
--- where and why a run stopped: the strand, by its frame and its number among the frame's strands, from 1
+-- where and why a run stopped; the strand is given by its frame and its number among the frame's
+-- strands, from 1
 pub record Stop : Type 0 where
   pub frame : Name
   pub strand : ℕ
   pub fault : Fault
 
--- A state. The continuation that goes on beside a spawned child is named by that child.
+-- A state of the machine. The continuation of a spawn is named by the spawned child.
 pub record State (W V : Type 0) : Type 0 where
   pub frames : Frames W
   pub stolen : Name → Bool
@@ -33,7 +35,7 @@ pub record State (W V : Type 0) : Type 0 where
   pub totals : Total → ℕ
   pub stopped : Option Stop
 
--- nothing, where there is no frame
+-- the deeds of a frame, none if it doesn't exist
 abbrev pub deeds_at : {W : Type 0} → Option (Frame W) → List (Deed W)
 deeds_at None = []
 deeds_at (Some f) = f.deeds
@@ -58,14 +60,15 @@ HasSync (Does (Ends val gone) ∷ ds) = HasSync ds
 HasSync (Does (Passes m) ∷ ds) = HasSync ds
 HasSync (Invokes k w ∷ ds) = HasSync ds
 
--- the number of frames started, which is the ordinal of the last
+-- the number of children started, which is the ordinal of the last
 abbrev pub started : {W : Type 0} → List (Deed W) → ℕ
 started [] = 0
 started (Does e ∷ ds) = started ds
 started (Invokes k w ∷ ds) = suc (started ds)
 
--- A frame isn't waiting and may make its next ask, where kid gives its children and loose the continuations stolen, by ordinal.
--- It waits for a called child to end, after a spawn for the child's end or a thief, and at a sync for the end of each child spawned in that block.
+-- The frame isn't waiting and may make its next ask; kid gives its children and loose the stolen
+-- continuations, by ordinal. A frame waits after a call for the child's end, after a spawn for the
+-- child's end or a thief, and at a sync for the end of each child spawned in the block.
 abbrev pub Ready : {W : Type 0} → (ℕ → Option (Frame W)) → (ℕ → Bool) → Ask W → ℕ → List (Deed W) → Type 0
 Ready kid loose a k [] = Unit {0}
 Ready kid loose a k (Does e ∷ ds) = Ready kid loose a k ds
@@ -87,17 +90,17 @@ begins_strand (Passes (Sets i v)) = false
 begins_strand (Passes (Values i v)) = false
 begins_strand (Passes (Prints v)) = false
 
--- the strands begun
+-- the number of strands begun
 abbrev pub strands : {W : Type 0} → List (Deed W) → ℕ
 strands [] = 0
 strands (Does e ∷ ds) = cond (begins_strand e) (suc (strands ds)) (strands ds)
 strands (Invokes k w ∷ ds) = strands ds
 
--- the latest strand begun, and the first before the frame's begin
+-- the latest strand begun; the first before the frame's begin
 abbrev pub strand_of : {W : Type 0} → List (Deed W) → ℕ
 strand_of ds = cond (nat_eq (strands ds) 0) 1 (strands ds)
 
--- the answer to a wish, where the views have these numbers
+-- the answer to a wish, given the numbers of the views
 abbrev pub mark_of : (Instance → ℤ) → Wish → Granted
 mark_of number Begin = Begins
 mark_of number Resume = Resumes
@@ -107,7 +110,8 @@ mark_of number (Set i x) = Sets i x
 mark_of number (Value i) = Values i (number i)
 mark_of number (Print x) = Prints x
 
--- What is done by an ask, where the memory is this and the views' numbers are these. A fault does nothing: it stops the run instead.
+-- The deed of an ask, given the memory and the numbers of the views. The deed of a fault is never
+-- used, since a fault stops the run.
 abbrev pub deed_of : {W : Type 0} → (Cell → ℤ) → (Instance → ℤ) → Ask W → Deed W
 deed_of memory number (Read c) = Does (Reads c (memory c))
 deed_of memory number (Write c v) = Does (Writes c v)
@@ -117,7 +121,7 @@ deed_of memory number (End v gone) = Does (Ends v gone)
 deed_of memory number (Pass a) = Does (Passes (mark_of number a))
 deed_of memory number (Fail n) = Does (Passes Begins)
 
--- what an event leaves in a cell that held x
+-- a cell's value after an event, given its value x before
 abbrev pub put : Event → Cell → ℤ → ℤ
 put (Reads c v) at x = x
 put (Writes c v) at x = cond (same_cell c at) v x
@@ -125,12 +129,12 @@ put Syncs at x = x
 put (Ends val gone) at x = x
 put (Passes m) at x = x
 
--- what a deed leaves in a cell that held x
+-- a cell's value after a deed, given its value x before
 abbrev pub effect : {W : Type 0} → Deed W → Cell → ℤ → ℤ
 effect (Does e) at x = put e at x
 effect (Invokes k w) at x = x
 
--- one frame is another
+-- the frames with one of them replaced
 abbrev pub with_frame : {W : Type 0} → Frames W → Name → Frame W → Frames W
 with_frame frames n f = λ m. cond (same_name n m) (Some f) (frames m)
 
@@ -144,7 +148,7 @@ after_deed frames n f (Does e) = with_frame frames n (record f { deeds = f.deeds
 after_deed frames n f (Invokes k w) =
     with_frame (with_frame frames n (record f { deeds = f.deeds ++ Invokes k w ∷ [] })) (n ++ suc (started f.deeds) ∷ []) (begun w)
 
--- the ordinals of the children spawned in the block that is open at the end of the deeds
+-- the ordinals of the children spawned in the block that is open after the deeds
 abbrev pub open_block : {W : Type 0} → ℕ → List ℕ → List (Deed W) → List ℕ
 open_block k block [] = block
 open_block k block (Does (Reads c v) ∷ ds) = open_block k block ds
@@ -155,12 +159,12 @@ open_block k block (Does (Passes m) ∷ ds) = open_block k block ds
 open_block k block (Invokes Call w ∷ ds) = open_block (suc k) block ds
 open_block k block (Invokes Spawn w ∷ ds) = open_block (suc k) (block ++ k ∷ []) ds
 
--- the children of these ordinals, by name
+-- the names of the children of these ordinals
 abbrev pub children : Name → List ℕ → List Name
 children n [] = []
 children n (k ∷ ks) = (n ++ k ∷ []) ∷ children n ks
 
--- the children that enter the joins with this ask: those of the open block, at a sync
+-- the children joined by this ask: those of the open block, at a sync
 abbrev pub joined_by : {W : Type 0} → Ask W → Name → List (Deed W) → List Name
 joined_by (Read c) n ds = []
 joined_by (Write c v) n ds = []
@@ -170,7 +174,7 @@ joined_by (End v gone) n ds = []
 joined_by (Pass m) n ds = []
 joined_by (Fail m) n ds = []
 
--- The product of the pieces that lie at the block open at the end of the deeds, by ascending ordinal: those of its stolen children.
+-- The product of the pieces of the open block's stolen children, in order of their ordinals.
 abbrev pub block_view : {W V : Type 0} → MonoidStructure V → (ℕ → V) → (ℕ → Bool) → V → ℕ → List (Deed W) → V
 block_view M kid loose acc k [] = acc
 block_view M kid loose acc k (Does (Reads c v) ∷ ds) = block_view M kid loose acc k ds
@@ -181,8 +185,9 @@ block_view M kid loose acc k (Does (Passes m) ∷ ds) = block_view M kid loose a
 block_view M kid loose acc k (Invokes Call w ∷ ds) = block_view M kid loose acc (suc k) ds
 block_view M kid loose acc k (Invokes Spawn w ∷ ds) = block_view M kid loose (cond (loose k) (M.combine acc (kid k)) acc) (suc k) ds
 
--- A frame's view of one instance after its event, where the block's product and the last child's view and flag are these.
--- A resume takes the child's piece, unless a thief has an empty one.
+-- A frame's view of one instance after its event, given the block's product, and the last child's
+-- flag and view. A resume takes over the child's piece, unless the continuation was stolen with an
+-- empty one.
 abbrev pub own_view : {V : Type 0} → MonoidStructure V → Instance → V → Bool → V → Event → V → V
 own_view M i block loose last (Reads c n) v = v
 own_view M i block loose last (Writes c n) v = v
@@ -196,18 +201,18 @@ own_view M i block loose last (Passes (Sets j x)) v = on_view M i (Passes (Sets 
 own_view M i block loose last (Passes (Values j n)) v = v
 own_view M i block loose last (Passes (Prints x)) v = on_view M i (Passes (Prints x)) v
 
--- one frame has another view
+-- the views with that of one frame replaced
 abbrev pub with_view : {V : Type 0} → (Name → V) → Name → V → Name → V
 with_view views n v m = cond (same_name n m) v (views m)
 
--- one instance's views by name after one more deed of frame n. A child begins with its parent's piece.
+-- one instance's views after one more deed of frame n. A child begins with its parent's piece.
 abbrev pub after_views : {W V : Type 0} → MonoidStructure V → Instance → (Name → Bool) → Name → List (Deed W) → Deed W → (Name → V) → Name → V
 after_views M i stolen n ds (Does e) views =
     with_view views n (own_view M i (block_view M (λ k. views (n ++ k ∷ [])) (λ k. stolen (n ++ k ∷ [])) M.unit 1 ds) (stolen (n ++ started ds ∷ [])) (views (n ++ started ds ∷ [])) e (views n))
 after_views M i stolen n ds (Invokes k w) views = with_view views (n ++ suc (started ds) ∷ []) (views n)
 
 module _ (W V : Type 0) (M : Instance → MonoidStructure V) (Next : W → List (Deed W) → Ask W → Type 0) (C : Costs W) where
-  -- frame n isn't waiting, and asks this next
+  -- frame n isn't waiting, and this is its next ask
   pub record IsAsking (s : State W V) (n : Name) (frame : Frame W) (ask : Ask W) : Type 0 where
     pub here : s.frames n ≡ Some frame
     pub next : Next frame.what frame.deeds ask
@@ -227,7 +232,7 @@ module _ (W V : Type 0) (M : Instance → MonoidStructure V) (Next : W → List 
     pub totals : (total : Total) → s'.totals total ≡ s.totals total + cost C total frame.what frame.deeds ask
     pub stopped : s'.stopped ≡ s.stopped
 
-  -- a thief takes the continuation beside the child that frame n spawned last
+  -- a thief steals the continuation of frame n's last spawn
   pub record Steals (s : State W V) (n : Name) (s' : State W V) : Type 0 where
     pub frame : Frame W
     pub before : List (Deed W)
@@ -243,7 +248,7 @@ module _ (W V : Type 0) (M : Instance → MonoidStructure V) (Next : W → List 
     pub totals : s'.totals ≡ s.totals
     pub stopped : s'.stopped ≡ s.stopped
 
-  -- what frame n asks next is a fault, or would take a total over its limit
+  -- frame n's next ask is a fault, or would exceed a limit
   pub record Stops (s : State W V) (n : Name) (s' : State W V) : Type 0 where
     pub frame : Frame W
     pub ask : Ask W
@@ -252,16 +257,17 @@ module _ (W V : Type 0) (M : Instance → MonoidStructure V) (Next : W → List 
     pub why : fault_of C s.totals frame.what frame.deeds ask ≡ Some fault
     pub after : s' ≡ record s { stopped = Some (record { frame = n; strand = strand_of frame.deeds; fault = fault }) }
 
-  -- a run that was stopped makes no step
+  -- one step; a stopped run makes none
   abbrev pub Step : State W V → Name → State W V → Type 0
   Step s n s' = (s.stopped ≡ None) × (Makes s n s' ⊎ (Steals s n s' ⊎ Stops s n s'))
 
-  -- one step after another, at these names
+  -- a list of steps, by the frames that make them
   abbrev pub Steps : List Name → State W V → State W V → Type 0
   Steps [] s s' = s' ≡ s
   Steps (n ∷ ns) s s' = (mid : State W V) × Step s n mid × Steps ns mid s'
 
-  -- the root alone is there and has done nothing, the cells have their opening values, and nothing is stolen, joined or stopped
+  -- only the root exists and it has done nothing; cells have their opening values; nothing is
+  -- stolen, joined or stopped
   abbrev pub IsOpening : W → (Cell → ℤ) → State W V → Type 0
   IsOpening w opening s =
       ((n : Name) → s.frames n ≡ cond (same_name [] n) (Some (begun w)) None) × (s.memory ≡ opening) × (s.joins ≡ []) × (s.stopped ≡ None) × ((n : Name) → s.stolen n ≡ false) × ((i : Instance) → s.piece [] i ≡ unit_of M i) × ((total : Total) → s.totals total ≡ C.used total)

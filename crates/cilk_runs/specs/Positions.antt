@@ -1,4 +1,5 @@
--- A cut by positions of the serial run: which events are made, and that what is before them is made too.
+-- Consistent cuts by positions of the serial run: which events are made, and that these are closed
+-- under "before".
 use Rattle.std.specs.Prelude.{◌≡◌, ℕ, suc, ◌-◌, Bool, true, false, List, [], ◌∷◌, ◌++◌, length, Some, slice_get}
 use Rattle.cilk_types.specs.declared.event.Event.{Event}
 use Rattle.cilk_types.specs.declared.event.Instance as numbered
@@ -15,7 +16,7 @@ unmade stop = []
 unmade (act e r) = false ∷ unmade r
 unmade (child b w u r) = false ∷ (unmade u ++ unmade r)
 
--- for each event of the run, in serial order: whether it is made
+-- whether each event of the run is made, in serial order
 abbrev pub made_at : {W : Type 0} → Run W → ℕ → List (Deed W) → (ℕ → Frames W) → List Bool
 made_at stop k ds kids = []
 made_at (act e r) k [] kids = false ∷ unmade r
@@ -27,12 +28,13 @@ made_at (child b w u r) k (d ∷ ds) kids = true ∷ (made_at u 1 (deeds_at (kid
 abbrev pub IsMade : List Bool → ℕ → Type 0
 IsMade marks p = slice_get marks (p - 1) ≡ Some true
 
--- each event of the list is made or not, and with an event made, each event that is before it in the tree is made
+-- each event of the list is made or not, and if an event is made, each event before it in the tree
+-- is made
 pub record IsClosedBefore (es : List Event) (t : Tree) (marks : List Bool) : Type 0 where
   pub whole : length marks ≡ length es
   pub closed : (p q : ℕ) → IsPosition es p → IsPosition es q → IsBefore t es p q → IsMade marks q → IsMade marks p
 
--- so it is in each cut, with any list of the run's events by numbers
+-- this holds of each cut, with any list of the run's events by numbers
 abbrev pub CutsAreClosed : (W : Type 0) → Type 0
 CutsAreClosed W = (cell : Cell → ℕ) (instance : Instance → numbered.Instance) (t : Run W) (es : List Event) (deeds : List (Deed W)) (kids : ℕ → Frames W)
     → IsFramed begin_due t → AreWritten cell instance (trace t) es → IsCut t 1 deeds kids → IsClosedBefore es (tree (shape_of t)) (made_at t 1 deeds kids)

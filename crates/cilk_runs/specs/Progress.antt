@@ -1,4 +1,5 @@
--- The free machine makes its steps: frames that have nothing to wait for, thieves, and the stop at a fault.
+-- The free machine makes its steps: frames that don't wait continue, continuations are stolen, and
+-- faults stop the run.
 use Rattle.std.specs.Prelude.{◌≡◌, suc, ◌+◌, ◌≤◌, ◌<◌, ℤ, true, false, List, [], ◌∷◌, ◌++◌, Some, None}
 use Rattle.cilk_types.specs.declared.fault.Fault.{Fault}
 use Rattle.cilk_types.specs.declared.invocation.Invocation.{Invocation}
@@ -22,7 +23,7 @@ abbrev pub HasNoSync : {W : Type 0} → List (Deed W) → Type 0
 HasNoSync {W = W} deeds = (before after : List (Deed W)) → deeds ≡ before ++ Does Syncs ∷ after → ⊥
 
 module _ (W V : Type 0) where
-  -- frame m is there, and its end is among its deeds
+  -- frame m exists, and its end is among its deeds
   pub record HasEnded (s : State W V) (m : Name) : Type 0 where
     pub frame : Frame W
     pub before : List (Deed W)
@@ -32,27 +33,29 @@ module _ (W V : Type 0) where
     pub here : s.frames m ≡ Some frame
     pub ends : frame.deeds ≡ before ++ Does (Ends result retired) ∷ after
 
-  -- Frame n, with these deeds, doesn't wait after the last of them: it has done nothing yet, or its last deed is an event, or
-  -- starts a child that has ended, or is a spawn beside which the continuation was stolen.
+  -- Frame n, with these deeds, doesn't wait after the last of them. It has done nothing yet, or its
+  -- last deed is an event, starts a child that has ended, or is a spawn whose continuation was
+  -- stolen.
   pub data GoesOn (s : State W V) (n : Name) (deeds : List (Deed W)) : Type 0 where
     AtBegin : deeds ≡ [] → GoesOn s n deeds
     AfterEvent : (before : List (Deed W)) → (event : Event) → deeds ≡ before ++ Does event ∷ [] → GoesOn s n deeds
     AfterChild : (before : List (Deed W)) → (kind : Invocation) → (what : W) → deeds ≡ before ++ Invokes kind what ∷ [] → HasEnded s (child_after n before) → GoesOn s n deeds
     AfterSteal : (before : List (Deed W)) → (what : W) → deeds ≡ before ++ Invokes Spawn what ∷ [] → s.stolen (child_after n before) ≡ true → GoesOn s n deeds
 
-  -- each child that frame n, with these deeds, spawned and has made no sync since, has ended
+  -- each child that frame n spawned since its last sync has ended
   abbrev pub BlockHasEnded : State W V → Name → List (Deed W) → Type 0
   BlockHasEnded s n deeds = (before after : List (Deed W)) (what : W) → deeds ≡ before ++ Invokes Spawn what ∷ after → HasNoSync after → HasEnded s (child_after n before)
 
 module _ (W V : Type 0) (M : Instance → MonoidStructure V) (Next : W → List (Deed W) → Ask W → Type 0) (C : Costs W) where
-  -- frame n is there, asks this next, and has nothing to wait for
+  -- frame n exists, doesn't wait, and makes this ask next
   pub record MayAsk (s : State W V) (n : Name) (frame : Frame W) (ask : Ask W) : Type 0 where
     pub here : s.frames n ≡ Some frame
     pub next : Next frame.what frame.deeds ask
     pub goes_on : GoesOn W V s n frame.deeds
     pub block : ask ≡ Sync → BlockHasEnded W V s n frame.deeds
 
-  -- there is a step by which frame n has one more deed, which answers this ask, and a child that it starts is there
+  -- a step exists by which frame n makes one more deed that answers this ask; a child that it
+  -- starts then exists
   pub record HasNext (s : State W V) (n : Name) (frame : Frame W) (ask : Ask W) : Type 0 where
     pub after : State W V
     pub step : Step W V M Next C s n after
@@ -62,14 +65,14 @@ module _ (W V : Type 0) (M : Instance → MonoidStructure V) (Next : W → List 
     pub longer : after.frames n ≡ Some (record frame { deeds = frame.deeds ++ deed ∷ [] })
     pub child : (k : Invocation) (w : W) → ask ≡ Invoke k w → after.frames (child_after n frame.deeds) ≡ Some (begun w)
 
-  -- there is a step by which frame n stops the run with this fault
+  -- a step exists by which frame n stops the run with this fault
   pub record HasStop (s : State W V) (n : Name) (frame : Frame W) (fault : Fault) : Type 0 where
     pub after : State W V
     pub step : Step W V M Next C s n after
     pub stops : Stops W V M Next C s n after
     pub stopped : after.stopped ≡ Some (record { frame = n; strand = strand_of frame.deeds; fault = fault })
 
-  -- there is a step by which frame n's continuation beside this child is stolen
+  -- a step exists that steals frame n's continuation beside this child
   pub record HasThief (s : State W V) (n child : Name) : Type 0 where
     pub after : State W V
     pub step : Step W V M Next C s n after
@@ -77,15 +80,16 @@ module _ (W V : Type 0) (M : Instance → MonoidStructure V) (Next : W → List 
     pub taken : after.stolen child ≡ true
 
   pub record HasProgress : Type 0 where
-    -- there is a state to begin with
+    -- an opening state exists
     pub opens : (w : W) (opening : Cell → ℤ) → (s : State W V) × IsOpening W V M Next C w opening s
-    -- a frame that has nothing to wait for makes its next event, where that is no fault and keeps the limits
+    -- a frame that doesn't wait makes its next event, if that is no fault and exceeds no limit
     pub goes_on : (s : State W V) (n : Name) (frame : Frame W) (ask : Ask W) → s.stopped ≡ None → MayAsk s n frame ask → ((f : Fault) → ask ≡ Fail f → ⊥) → ((total : Total) → s.totals total + cost C total frame.what frame.deeds ask ≤ C.limit total) → HasNext s n frame ask
     -- a fault stops the run, if the ticks up to it are within their limit
     pub fails : (s : State W V) (n : Name) (frame : Frame W) (f : Fault) → s.stopped ≡ None → MayAsk s n frame (Fail f) → s.totals TickTotal + cost C TickTotal frame.what frame.deeds (Fail f) ≤ C.limit TickTotal → HasStop s n frame f
-    -- and so does a total over its limit
+    -- and so does an exceeded limit
     pub exceeds : (s : State W V) (n : Name) (frame : Frame W) (ask : Ask W) (total : Total) → s.stopped ≡ None → MayAsk s n frame ask → C.limit total < s.totals total + cost C total frame.what frame.deeds ask → (f : Fault) × HasStop s n frame f
-    -- a continuation that was neither resumed nor stolen can be stolen, whether the child has ended or not
+    -- a continuation that was neither resumed nor stolen can be stolen, whether the child has ended
+    -- or not
     pub steals : (s : State W V) (n : Name) (frame : Frame W) (before : List (Deed W)) (what : W) → s.stopped ≡ None → s.frames n ≡ Some frame → frame.deeds ≡ before ++ Invokes Spawn what ∷ [] → s.stolen (child_after n before) ≡ false → HasThief s n (child_after n before)
     -- a frame waits in no other case
     pub exact : (s : State W V) (n : Name) (frame : Frame W) (ask : Ask W) → IsAsking W V M Next C s n frame ask → MayAsk s n frame ask

@@ -1,4 +1,4 @@
--- The steps of the free machine at the language, and what a state has made of a program.
+-- The steps of the free machine on the language, and the outcome of a state.
 use Rattle.std.specs.Prelude.{◌≡◌, ℕ, suc, ℤ, pos, List, [], ◌∷◌, length}
 use Rattle.cilk_types.specs.declared.outcome.Final.{Final}
 use Rattle.cilk_types.specs.declared.outcome.Outcome.{Outcome}
@@ -15,7 +15,7 @@ use Rattle.cilk_runs.specs.Reducers.{View, value_of, monoid_of, elements_of}
 use Rattle.cilk_runs.specs.FrameEnvs.{FrameEnv, first_world, global_named}
 use Rattle.cilk_runs.specs.FrameEnvMachine.{next, costs, opening_values}
 
--- what a frame's end gave
+-- the result that a frame's end gave
 abbrev pub result_in : List (Deed FrameEnv) → ℤ
 result_in [] = pos 0
 result_in (Does (Reads c v) ∷ ds) = result_in ds
@@ -25,12 +25,12 @@ result_in (Does (Ends v gone) ∷ ds) = v
 result_in (Does (Passes m) ∷ ds) = result_in ds
 result_in (Invokes k w ∷ ds) = result_in ds
 
--- the last values of the global reducers with these monoids, from one on
+-- the last values of the global reducers with these monoids, counted from n
 abbrev pub finals_in : (Instance → View) → ℕ → List MonoidKind → List Final
 finals_in views n [] = []
 finals_in views n (k ∷ ks) = final_of (value_of k (views (global_named n k))) ∷ finals_in views (suc n) ks
 
--- what a state of the free machine has made of a program whose first frame has ended
+-- the outcome of a state whose first frame has ended
 abbrev pub outcome_in : Source → State FrameEnv View → Outcome
 outcome_in p s = record {
   result = result_in (deeds_at (s.frames []));
@@ -40,7 +40,7 @@ outcome_in p s = record {
 }
 
 module _ (p : Source) (inputs : List ℤ) where
-  -- what a frame asks for next
+  -- a frame's next ask
   abbrev pub Next : FrameEnv → List (Deed FrameEnv) → Ask FrameEnv → Type 0
   Next = follows (next p inputs)
 
@@ -50,10 +50,10 @@ module _ (p : Source) (inputs : List ℤ) where
   abbrev pub OneStep : State FrameEnv View → Name → State FrameEnv View → Type 0
   OneStep s n s' = Step FrameEnv View monoid_of Next (costs p inputs) s n s'
 
-  -- lists of steps lead there from the opening state
+  -- steps of these frames lead from the opening state to this one
   abbrev pub Reaches : List Name → State FrameEnv View → Type 0
   Reaches ns s' = (s : State FrameEnv View) × IsFirst s × Steps FrameEnv View monoid_of Next (costs p inputs) ns s s'
 
-  -- the machine makes the steps that the program's behaviour asks for
+  -- the machine makes the steps of the program's behaviour
   abbrev pub MachineHasProgress : Type 0
   MachineHasProgress = HasProgress FrameEnv View monoid_of Next (costs p inputs)

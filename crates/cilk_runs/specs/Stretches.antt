@@ -1,4 +1,4 @@
--- Which events each piece covers, and what its views are: the serial run as stretches, one after the other.
+-- The events that each piece covers, and its views: the serial run as a list of stretches.
 use Rattle.std.specs.Prelude.{◌≡◌, ℕ, suc, ◌+◌, Bool, true, false, List, [], ◌∷◌, ◌++◌, length, replicate, Some, slice_get}
 use Rattle.cilk_types.specs.declared.invocation.Invocation.TheVariants.{Call, Spawn}
 use Rattle.cilk_types.specs.declared.invocation.Invocation.{Invocation}
@@ -10,18 +10,18 @@ use Rattle.cilk_runs.specs.Monoids.{on_view}
 use Rattle.cilk_runs.specs.Positions.{made_at}
 use Rattle.cilk_runs.specs.Traces.{trace}
 
--- so many events that follow one another: the piece of a frame covers them, or they aren't made
+-- a stretch of consecutive events: the piece of a frame covers them, or they aren't made
 pub data Stretch : Type 0 where
   Held : (holder : List ℕ) → (events : ℕ) → Stretch
   Ahead : (events : ℕ) → Stretch
 
--- for each event of these stretches: whether it is made
+-- whether each event of these stretches is made
 abbrev pub marks : List Stretch → List Bool
 marks [] = []
 marks (Held n e ∷ ss) = replicate e true ++ marks ss
 marks (Ahead e ∷ ss) = replicate e false ++ marks ss
 
--- how many events a run has
+-- the number of events of a run
 abbrev pub many : {W : Type 0} → Run W → ℕ
 many stop = 0
 many (act e r) = suc (many r)
@@ -36,7 +36,8 @@ has_sync (Does (Ends v gone) ∷ ds) = has_sync ds
 has_sync (Does (Passes m) ∷ ds) = has_sync ds
 has_sync (Invokes k w ∷ ds) = has_sync ds
 
--- The frame has the child's piece back: it went on with it, or where a thief took the continuation, a sync has multiplied it.
+-- The frame has the child's piece back: it has resumed with it, or if the continuation was stolen,
+-- a sync has multiplied it.
 abbrev pub is_back : {W : Type 0} → Invocation → (stolen : Bool) → List (Deed W) → Bool
 is_back Call stolen [] = false
 is_back Call stolen (d ∷ ds) = true
@@ -44,14 +45,15 @@ is_back Spawn true ds = has_sync ds
 is_back Spawn false [] = false
 is_back Spawn false (d ∷ ds) = true
 
--- what follows a child's start: the frame's stretch goes on; or the child's stretches come, and then the thief's; or nothing more is made
+-- the stretches after a child's start: the frame's own stretch continues; or the child's come and
+-- then the thief's; or nothing more is made
 abbrev pub past : (back stolen : Bool) (on inner thief : List Stretch) (left : ℕ) → List Stretch
 past true stolen on inner thief left = on
 past false true on inner thief left = inner ++ thief
 past false false on inner thief left = inner ++ Ahead left ∷ []
 
--- The stretches of a frame's run from a point on, where the frame n, with these deeds ahead, holds a piece that covers so many events up to there. A child
--- goes on with its parent's stretch, and a thief begins an empty one.
+-- The stretches of the rest of a frame's run. Frame n still has these deeds, and its piece covers
+-- `own` events up to here. A child continues its parent's stretch, and a thief begins an empty one.
 abbrev pub stretches : {W : Type 0} → Run W → ℕ → List (Deed W) → (ℕ → Frames W) → (Name → Bool) → Name → ℕ → List Stretch
 stretches stop k [] kids loose n own = Held n own ∷ Ahead 0 ∷ []
 stretches stop k (d ∷ ds) kids loose n own = []
@@ -66,19 +68,20 @@ stretches (child b w u r) k (d ∷ ds) kids loose n own =
 abbrev pub covered : {W V : Type 0} → Run W → State W V → List Stretch
 covered t s = stretches t 1 (deeds_at (s.frames [])) (below s.frames) s.stolen [] 0
 
--- Each piece covers at most one stretch of the serial run, without gaps, the stretches lie apart, and together they are the cut.
+-- Each piece covers at most one stretch of the serial run, without gaps. The stretches are
+-- disjoint, and together they are the cut.
 pub record AreStretches {W V : Type 0} (t : Run W) (s : State W V) : Type 0 where
   pub whole : marks (covered t s) ≡ made_at t 1 (deeds_at (s.frames [])) (below s.frames)
   pub one : (a b : ℕ) (n : Name) (x y : ℕ) → slice_get (covered t s) a ≡ Some (Held n x) → slice_get (covered t s) b ≡ Some (Held n y) → a ≡ b
 
--- instance i's view after these events, from its view before
+-- instance i's view after these events, given its view before
 abbrev pub view_along : {W V : Type 0} → MonoidStructure V → Instance → List (Deed W) → V → V
 view_along M i [] v = v
 view_along M i (Does e ∷ ds) v = view_along M i ds (on_view M i e v)
 view_along M i (Invokes k w ∷ ds) v = view_along M i ds v
 
--- The events are those of the stretches, one after the other, and a frame that holds one has in its piece the view of that stretch alone: from the
--- unit on, after each of its events.
+-- The events are those of the stretches, one after another. A frame that holds a stretch has in its
+-- piece the view of that stretch alone, made from the unit by its events.
 abbrev pub AreViewed : {W V : Type 0} → MonoidStructure V → Instance → (Name → V) → List Stretch → List (Deed W) → Type 0
 AreViewed M i piece [] ds = ds ≡ []
 AreViewed {W = W} M i piece (Held n many ∷ ss) ds =
@@ -86,6 +89,6 @@ AreViewed {W = W} M i piece (Held n many ∷ ss) ds =
 AreViewed {W = W} M i piece (Ahead many ∷ ss) ds =
     (own : List (Deed W)) × (rest : List (Deed W)) × (ds ≡ own ++ rest) × (length own ≡ many) × AreViewed M i piece ss rest
 
--- so it is for each reducer
+-- this holds for each reducer
 abbrev pub PiecesAreViews : {W V : Type 0} → (Instance → MonoidStructure V) → Run W → State W V → Type 0
 PiecesAreViews M t s = (i : Instance) → AreViewed (M i) i (λ n. s.piece n i) (covered t s) (trace t)

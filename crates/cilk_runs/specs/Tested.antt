@@ -1,4 +1,5 @@
--- The test of each pair of positions of a list of events, by which computing shows that the list has no race.
+-- A test of each pair of positions of a list of events, which shows by computing that the list has
+-- no race.
 use Rattle.std.specs.Prelude.{◌≡◌, ℕ, zero, suc, ◌+◌, ◌-◌, nat_lt, nat_eq, Bool, true, false, cond, ◌&&◌, not, List, length, Option, Some, None, get_or}
 use Rattle.cilk_types.specs.declared.event.Event.{Event}
 use Rattle.cilk_types.specs.declared.event.Event.TheVariants.{Read, Write, Create, Set, Value}
@@ -10,7 +11,7 @@ use Rattle.cilk_tree.specs.Races.{strand_at, event_at, IsRace}
 use Rattle.cilk_peers.specs.Peers.{class_numbers}
 use Rattle.cilk_peers.specs.RaceFree.{IsRaceFree}
 
--- all numbers below one pass
+-- all numbers below n pass
 abbrev pub all_below : (ℕ → Bool) → ℕ → Bool
 all_below f zero = true
 all_below f (suc n) = f n && all_below f n
@@ -22,7 +23,7 @@ or false b = b
 abbrev pub holds : Tree → ℕ → ℕ → Bool
 holds t o u = not (nat_lt u o) && nat_lt u (o + leaves t)
 
--- two leaves, counted from o on, stand on the two sides of a P node
+-- two leaves, counted from o, are on the two sides of a P node
 abbrev pub beside : Tree → ℕ → ℕ → ℕ → Bool
 beside (strand n) o u v = false
 beside (series a b) o u v = or (beside a o u v) (beside b (o + leaves a) u v)
@@ -61,7 +62,7 @@ clash d e = same_numbers (cell_of d) (cell_of e) && or (is_write d) (is_write e)
 abbrev pub race : Tree → List Event → ℕ → ℕ → Bool
 race t es p q = clash (event_at es p) (event_at es q) && beside t 1 (strand_at es p) (strand_at es q)
 
--- no two positions race but those that are excepted
+-- no two positions race, except those that are allowed to
 abbrev pub is_free_but : (ℕ → ℕ → Bool) → Tree → List Event → Bool
 is_free_but excepted t es = all_below (λ q. all_below (λ p. or (not (race t es p q)) (excepted p q)) q) (suc (length es))
 
@@ -71,14 +72,14 @@ none p q = false
 abbrev pub class_at : Tree → ℕ → ℕ
 class_at t u = get_or (class_numbers t 0 1) (u - 1) 0
 
--- the two positions, where they are reducer-reads of one instance, are of strands of one class
+-- if the two positions are reducer-reads of one instance, their strands are of one class
 abbrev pub agree : Tree → List Event → ℕ → ℕ → Bool
 agree t es p q = cond (same_reads (read_of (event_at es p)) (read_of (event_at es q))) (nat_eq (class_at t (strand_at es p)) (class_at t (strand_at es q))) true
 
 abbrev pub is_view_free : Tree → List Event → Bool
 is_view_free t es = all_below (λ q. all_below (λ p. agree t es p q) q) (suc (length es))
 
--- the test tells each race, and a list that passes both tests has none
+-- the test finds every race, and a list that passes both tests has none
 pub record TestsTell : Type 0 where
   pub races : (t : Tree) (es : List Event) (excepted : ℕ → ℕ → Bool) → is_free_but excepted t es ≡ true → (p q : ℕ) → IsRace t es p q → excepted p q ≡ true
   pub free : (s : Shape) (es : List Event) → Spells s es → is_free_but none (tree s) es ≡ true → is_view_free (tree s) es ≡ true → IsRaceFree es

@@ -8,13 +8,13 @@ use Rattle.cilk_types.specs.declared.invocation.Invocation.TheVariants.{Call, Sp
 use Rattle.cilk_tree.specs.Shape as shapes
 use Rattle.cilk_runs.specs.Runs.{Cell, Instance, Event, Reads, Writes, Syncs, Ends, Passes, Granted, Begins, Resumes, Creates, Updates, Sets, Values, Prints, Deed, Does, Invokes, Run, stop, act, child}
 
--- in serial order; the position of an event is its place here, counted from 1
+-- the deeds in serial order; an event's position is its place here, counted from 1
 abbrev pub trace : {W : Type 0} → Run W → List (Deed W)
 trace stop = []
 trace (act e r) = Does e ∷ trace r
 trace (child b w u r) = Invokes b w ∷ (trace u ++ trace r)
 
--- the shape of a nested run, in which a `begin` and a `resume` stand with the frames that make them
+-- the shape of a nested run; its `begin`s and `resume`s are implied
 abbrev pub shape_of : {W : Type 0} → Run W → shapes.Shape
 shape_of stop = shapes.finish
 shape_of (act (Reads c v) r) = shapes.act (shape_of r)
@@ -30,13 +30,14 @@ shape_of (act (Passes (Values i n)) r) = shapes.act (shape_of r)
 shape_of (act (Passes (Prints x)) r) = shapes.act (shape_of r)
 shape_of (child k w u r) = shapes.child k (shape_of u) (shape_of r)
 
--- what a frame makes next: its `begin`, the `resume` after a child, or something else
+-- the event due next in a frame: its `begin`, the `resume` after a child, or another one
 pub data Due : Type 0 where
   begin_due : Due
   resume_due : Due
   neither_due : Due
 
--- each frame begins with its `begin`, makes a `resume` after each child and nowhere else, and ends with its `end`
+-- each frame begins with its `begin`, has a `resume` after each child and nowhere else, and ends
+-- with its `end`
 abbrev pub IsFramed : {W : Type 0} → Due → Run W → Type 0
 IsFramed begin_due (act (Passes Begins) r) = IsFramed neither_due r
 IsFramed resume_due (act (Passes Resumes) r) = IsFramed neither_due r
@@ -53,7 +54,7 @@ IsFramed neither_due (child k w u r) = IsFramed begin_due u × IsFramed resume_d
 IsFramed _ _ = ⊥
 
 module _ (cell : Cell → ℕ) (instance : Instance → numbered.Instance) where
-  -- the event by numbers, with the same values, whatever its frames
+  -- the event by numbers, with the same values and any frame numbers
   abbrev pub IsWrittenMark : Granted → numbers.Event → Type 0
   IsWrittenMark Begins e = (f : ℕ) × (e ≡ events.Begin f)
   IsWrittenMark Resumes e = (f : ℕ) × (e ≡ events.Resume f)
@@ -75,7 +76,7 @@ module _ (cell : Cell → ℕ) (instance : Instance → numbered.Instance) where
   IsWritten (Invokes Call w) e = (f : ℕ) × (e ≡ events.Call f)
   IsWritten (Invokes Spawn w) e = (f : ℕ) × (e ≡ events.Spawn f)
 
-  -- the list of events is the nested run's by numbers, with its values
+  -- the list of events is that of the nested run, by numbers and with its values
   abbrev pub AreWritten : {W : Type 0} → List (Deed W) → List numbers.Event → Type 0
   AreWritten [] [] = Unit {0}
   AreWritten (d ∷ ds) (e ∷ es) = IsWritten d e × AreWritten ds es

@@ -4,13 +4,13 @@ use Rattle.cilk_runs.specs.Runs.{Instance, Output, has_instance, Event, Reads, W
 use Rattle.cilk_monoid.specs.Laws.{MonoidStructure}
 use Rattle.cilk_runs.specs.Monoids.{numbers_of, on_view}
 
--- instance i's view after the run, from its view before
+-- instance i's view after the run, given its view before
 abbrev pub view_after : {W V : Type 0} → MonoidStructure V → Instance → Run W → V → V
 view_after M i stop x = x
 view_after M i (act e r) x = view_after M i r (on_view M i e x)
 view_after M i (child k w u r) x = view_after M i r (view_after M i u x)
 
--- a value is the number of the view
+-- a value that is read is the number of the view
 abbrev pub IsValueRight : {V : Type 0} → (Instance → MonoidStructure V) → Granted → (Instance → V) → Type 0
 IsValueRight M Begins views = Unit {0}
 IsValueRight M Resumes views = Unit {0}
@@ -28,7 +28,7 @@ IsViewRight M Syncs views = Unit {0}
 IsViewRight M (Ends val gone) views = Unit {0}
 IsViewRight M (Passes m) views = IsValueRight M m views
 
--- each value is the number of the serial view
+-- each value that is read is the number of the serial view
 abbrev pub IsSerialViews : {W V : Type 0} → (Instance → MonoidStructure V) → Run W → (Instance → V) → Type 0
 IsSerialViews M stop views = Unit {0}
 IsSerialViews M (act e r) views = IsViewRight M e views × IsSerialViews M r (λ i. on_view (M i) i e (views i))
@@ -78,7 +78,7 @@ IsRetire i Syncs = ⊥
 IsRetire i (Ends val gone) = has_instance gone i ≡ true
 IsRetire i (Passes m) = ⊥
 
--- a frame's end retires only what that frame created; mine: it has created the instance
+-- a frame's end retires only what that frame created; `mine` says that it has created the instance
 abbrev pub IsRetiredAtHome : {W : Type 0} → Instance → Run W → Type 0 → Type 0
 IsRetiredAtHome i stop mine = Unit {0}
 IsRetiredAtHome i (act e r) mine = (IsRetire i e → mine) × IsRetiredAtHome i r (mine ⊎ IsCreate i e)
@@ -108,12 +108,13 @@ HasEventWith P stop = ⊥
 HasEventWith P (act e r) = P e ⊎ HasEventWith P r
 HasEventWith P (child k w u r) = HasEventWith P u ⊎ HasEventWith P r
 
--- no update comes before a reducer-read, the creation; seen: there was one before the run
+-- each update comes after a reducer-read, the creation; `seen` says that there was one before the
+-- run
 abbrev pub IsCreatedFirst : {W : Type 0} → Instance → Run W → Type 0 → Type 0
 IsCreatedFirst i stop seen = Unit {0}
 IsCreatedFirst i (act e r) seen = (IsUpdate i e → seen) × IsCreatedFirst i r (seen ⊎ IsReducerRead i e)
 IsCreatedFirst i (child b w u r) seen = IsCreatedFirst i u seen × IsCreatedFirst i r (seen ⊎ HasEventWith (IsReducerRead i) u)
 
--- it is created before its first update, or nobody reads it at all, as the output
+-- the instance is created before its first update, or, as the output, never read
 abbrev pub IsCreated : {W : Type 0} → Instance → Run W → Type 0
 IsCreated i t = IsCreatedFirst i t ⊥ ⊎ (¬ (HasEventWith (IsReducerRead i) t))

@@ -1,4 +1,5 @@
--- Worked programs as nested runs, with the lists of their events. What a frame is started as is a number here.
+-- Worked programs as nested runs, with the lists of their events. Here frames are started as
+-- numbers.
 use Rattle.std.specs.Prelude.{◌≡◌, ℕ, zero, suc, ℤ, pos, ◌+ℤ◌, cond, List, [], ◌∷◌, length, Option, slice_get}
 use Rattle.cilk_types.specs.declared.event.Event as numbers
 use Rattle.cilk_types.specs.declared.event.Event.TheVariants as events
@@ -18,7 +19,7 @@ use Rattle.cilk_runs.specs.Theorem.{IsNestedSerialRun, HasNoRaces, IsDeterminate
 abbrev pub begin : Event
 begin = Passes Begins
 
--- a parent goes on after its child
+-- a parent resumes after its child
 abbrev pub resume : Event
 resume = Passes Resumes
 
@@ -26,16 +27,16 @@ resume = Passes Resumes
 abbrev pub end : Event
 end = Ends (pos 0) []
 
--- the one global is cell 0, and the root's variables follow
+-- the only global is cell 0, and the root's variables follow
 abbrev pub cell_number : Cell → ℕ
 cell_number (Global n) = n
 cell_number (Own frame n) = suc n
 
--- each program has one reducer at most
+-- each program has at most one reducer
 abbrev pub instance_number : Instance → numbered.Instance
 instance_number i = record { frame = 1; place = 1 }
 
--- the list is the run's by these numbers
+-- the list is that of the run, by these numbers
 abbrev pub Lists : Run ℕ → List numbers.Event → Type 0
 Lists t es = AreWritten cell_number instance_number (trace t) es
 
@@ -102,13 +103,13 @@ two_writes_events =
 abbrev pub TwoWritesRace : Type 0
 TwoWritesRace = RaceOnlyAt two_writes two_writes_events 4 10
 
--- What the root and its two children ask, one after the other, whatever is answered.
+-- The asks of the root and its two children, in order, whatever the answers.
 abbrev pub script : ℕ → List (Ask ℕ)
 script zero = Pass Begin ∷ Write (Own [] 0) (pos 0) ∷ Write (Own [] 1) (pos 0) ∷ Invoke Spawn 1 ∷ Pass Resume ∷ Invoke Spawn 2 ∷ Pass Resume ∷ Sync ∷ Read (Own [] 0) ∷ Read (Own [] 1) ∷ Sync ∷ End (pos 0) [] ∷ []
 script (suc zero) = Pass Begin ∷ Read (Global 0) ∷ Sync ∷ Write (Own [] 0) (pos 7) ∷ End (pos 0) [] ∷ []
 script (suc (suc n)) = Pass Begin ∷ Read (Global 0) ∷ Sync ∷ Write (Own [] 1) (pos 7) ∷ End (pos 0) [] ∷ []
 
--- what a frame asks after so many deeds
+-- a frame's next ask after these deeds
 abbrev pub asked : ℕ → List (Deed ℕ) → Option (Ask ℕ)
 asked w past = slice_get (script w) (length past)
 
@@ -120,21 +121,22 @@ sum i = record { unit = pos 0; combine = λ a b. a +ℤ b; single = λ a. a; num
 abbrev pub opening : Cell → ℤ
 opening c = cond (same_cell c (Global 0)) (pos 7) (pos 0)
 
--- what the opening state has used: the root is a frame, and the global and its two variables are cells
+-- the totals of the opening state: the root is a frame, and the global and its two variables are
+-- cells
 abbrev pub used : Total → ℕ
 used TickTotal = 0
 used EventTotal = 0
 used FrameTotal = 1
 used CellTotal = 3
 
--- limits that this run just keeps
+-- limits that this run just meets
 abbrev pub limit : Total → ℕ
 limit TickTotal = 22
 limit EventTotal = 22
 limit FrameTotal = 3
 limit CellTotal = 7
 
--- each frame takes a tick before each ask, and has two cells
+-- each ask costs one tick, and each frame has two cells
 abbrev pub costs : Costs ℕ
 costs = record { ticks = λ w past. 1; cells = λ w. 2; used = used; limit = limit }
 
@@ -142,7 +144,7 @@ costs = record { ticks = λ w past. 1; cells = λ w. 2; used = used; limit = lim
 abbrev pub BothReadRuns : Type 0
 BothReadRuns = IsNestedSerialRun ℕ ℤ sum (follows asked) costs 0 both_read opening
 
--- and the theorem speaks of it
+-- and the theorem applies to it
 abbrev pub BothReadIsDeterminate : Type 0
 BothReadIsDeterminate = HasNoRaces both_read × IsDeterminate ℕ ℤ sum (follows asked) costs 0 both_read opening
 
@@ -164,6 +166,6 @@ early_value_events =
     ∷ events.Begin 2 ∷ events.Update r (pos 1) ∷ events.Sync ∷ events.End
     ∷ events.Resume 1 ∷ events.Value r (pos 1) ∷ events.Write 1 (pos 1) ∷ events.Sync ∷ events.Read 1 (pos 1) ∷ events.Sync ∷ events.End ∷ []
 
--- the value, at position 10, runs in parallel with the child, and the creation, at position 2, doesn't
+-- the value, at position 10, is parallel to the child, and the creation, at position 2, is not
 abbrev pub EarlyValueRaces : Type 0
 EarlyValueRaces = Lists early_value early_value_events × IsViewRace (tree (shape_of early_value)) early_value_events 2 10

@@ -1,6 +1,8 @@
-//! What pieces cover, and what their views are. Each is a function that does nothing: its contract is the law.
+//! The stretches of the serial run that pieces cover, and their views. Each function does nothing:
+//! its contract is the law.
 //!
-//! In each, `W` is what a frame can be started as, `V` a reducer's view, `M` the monoid of each reducer, and `t` a nested run.
+//! In each law `W` is the type of what a frame can be started as, `V` that of a reducer's views,
+//! `M` gives the monoid of each reducer, and `t` is a nested run.
 
 ghost use Rattle.std.specs.Prelude.{ℤ, List, Option};
 ghost use Rattle.cilk_runs.specs.Runs.{Cell, Instance, Ask, Deed, Run};
@@ -12,15 +14,17 @@ ghost use Rattle.cilk_runs.specs.Cuts.{IsConsistent};
 ghost use Rattle.cilk_runs.specs.Stretches.{AreStretches, PiecesAreViews};
 ghost use Rattle.cilk_runs.specs.Theorem.{IsNestedSerialRun, HasNoRaces, follows};
 
-/// In each consistent cut of a serial run, and so in each state that steps lead to where the run has no race, a piece covers at
-/// most one stretch of the run, without gaps, the pieces' stretches lie apart, and together they are the cut. A child's piece covers
-/// what its parent's covered before, a thief's begins where the thief does, and a sync's covers its whole block.
+/// In each consistent cut of a serial run a piece covers at most one stretch of the run, without
+/// gaps. The stretches are disjoint, and together they are the cut. A child's piece covers what its
+/// parent's covered before, a thief's begins where the thief does, and a sync's covers its whole
+/// block.
 pub fn pieces_cover_stretches<W, V>()
     ensures { (M : Instance → MonoidStructure V) (C : Costs W) (w : W) (t : Run W) (opening : Cell → ℤ) (s : State W V) → IsConsistent M C w t opening s → AreStretches t s }
 {}
 
-/// Where the serial run has no race, each piece has the views of its stretch alone: of each reducer what the stretch's creations, updates,
-/// sets and retirements make of the unit. So a sync that multiplies pieces makes what their stretches make together.
+/// If the serial run has no race, each piece has the views of its stretch alone: for each reducer,
+/// the effect of the stretch's creations, updates, sets and retirements on the unit. So a sync that
+/// multiplies pieces gives the view of their stretches together.
 pub fn pieces_are_views_of_stretches<W, V>()
     ensures { (M : Instance → MonoidStructure V) (next : W → List (Deed W) → Option (Ask W)) (C : Costs W) (w : W) (t : Run W) (opening : Cell → ℤ) → ((i : Instance) → IsLawful (M i) IsValue) → IsNestedSerialRun W V M (follows next) C w t opening → HasNoRaces t → (s : State W V) → IsConsistent M C w t opening s → PiecesAreViews M t s }
 {}

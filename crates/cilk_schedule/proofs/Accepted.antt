@@ -1,6 +1,6 @@
--- What is known of an ask in whose place no fault stands.
+-- Facts about a request that causes no fault.
 --
--- - `few_ticks`, `few_events`, `few_frames`: the limits aren't passed;
+-- - `few_ticks`, `few_events`, `few_frames`: the limits aren't exceeded;
 -- - `no_fault`: it is no fault.
 use Rattle.std.proofs.Common.{◌≡◌, ◌+◌, ◌≤◌, ℕ, nat_lt, Bool, true, false, if◌then◌else◌, Option, Some, None, refl}
 use Rattle.std.proofs.lemmas.Bool.{ltb-false}

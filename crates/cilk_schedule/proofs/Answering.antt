@@ -1,7 +1,7 @@
--- An event after which its frame goes on with an answer.
+-- An event after which its frame continues with an answer.
 --
--- - `settles`: the board is sound after it;
--- - `ticks`: no ticks are taken or counted.
+-- - `settles`: the scheduler is sound after it;
+-- - `ticks`: no ticks are used or counted.
 use Rattle.std.proofs.Common.{◌≡◌, ◌+◌, ◌<◌, ℕ, List, length, None, Result, Ok, Err, OnOk, refl, sym, subst, arith}
 use Rattle.cilk_program.specs.declared.ask.Ask.{Ask}
 use Rattle.cilk_program.specs.declared.ask.Ask.TheVariants as asks

@@ -1,6 +1,6 @@
 -- A frame's own piece comes to its block.
 --
--- - `on_if`: what is promised of each answer, where there is one;
+-- - `on_if`: a promise about each answer, if there is one;
 -- - `changed_same`: a frame that stays as it is;
 -- - `own_of`: a piece that comes as the last is the frame's own;
 -- - `own_passed`: its block has passed.

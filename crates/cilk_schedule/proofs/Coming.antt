@@ -1,8 +1,8 @@
--- A frame goes on to what it asks for.
+-- A frame steps to its next request.
 --
--- - `ready`: a frame that rests can go on;
--- - `came`: then it has come to an ask, and what that names is there;
--- - `cell_there`, `reducer_there`, `result_there`: what an ask names.
+-- - `ready`: a frame that rests can continue;
+-- - `came`: then it has made a request, and what that names exists;
+-- - `cell_there`, `reducer_there`, `result_there`: what a request names.
 use Rattle.std.proofs.Common.{◌≡◌, ◌+◌, ◌-◌, ◌<◌, ◌≤◌, ◌^◌, ℕ, ℤ, List, [], ◌∷◌, ◌++◌, length, slice_get, Some, None, refl, sym, ap, ◌∙◌, subst, arith}
 use Rattle.cilk_types.specs.declared.event.Instance.{Instance}
 use Rattle.cilk_types.specs.declared.limits.TheConstants.{MAX_TICKS}
@@ -133,7 +133,7 @@ module _ (code : CodeView) (p : Source) (inputs : List ℤ) (is_code : IsCodeOf 
       subst (λ (z : Activation FrameState). Comes code p inputs (changed (λ _. x) frames k) cells events (record z { cursor = x }) ask) e (come_by k a x ask c is n.took h y.due refl went))
       (λ j no not q. cc) (λ j no q. absurd (no (sym (some_is k j q)))) s.few_cells s.few_events low
 
--- ---- what an ask names
+-- ---- what a request names
 
 pub cell_there : (frames : List (Activation FrameState)) (cells k : ℕ) (x : Place) (ask : Ask) → ((p : Source) (fr : _) → IsThere p fr cells ask → let scope = fr.scope in cell_in itself scope x < cells) → k < length frames → HasCome frames cells k ask
     → (scope : Scope ℕ Instance) × SeesAt frames k scope × (cell_in itself scope x < 2 ^ 32) × (cell_in itself scope x < cells)

@@ -1,8 +1,8 @@
--- What a choice decides.
+-- A choice is deterministic.
 --
--- - `some_is`, `hand_is`: what a list has at a place is one;
+-- - `some_is`, `hand_is`: a list has only one element at a place;
 -- - `Did`, `did`, `did_same`: a worker's event;
--- - `leads_by`, `stops_by`, `apart_by`: choices from states of which one has other views;
+-- - `leads_by`, `stops_by`, `apart_by`: choices from two states that differ in views;
 -- - `choices_decide`: the law.
 use Rattle.std.proofs.Common.{◌≡◌, ◌⊎◌, inl, inr, ⊎_elim, ℕ, zero, suc, ℤ, List, [], ◌∷◌, ◌++◌, slice_get, length, Option, Some, None, refl, sym, ap, ◌∙◌, subst}
 use mathlib.Core.Path.{fun_ext}
@@ -77,7 +77,7 @@ module _ (p : Source) (inputs : List ℤ) where
     one_ask : (f f' : Frame FrameEnv) (a a' : Ask FrameEnv) → f' ≡ f → next p inputs f.what f.deeds ≡ Some a → next p inputs f'.what f'.deeds ≡ Some a' → a' ≡ a
     one_ask f f' a a' e h k = some_is a' a (sym k ∙ ap (λ (z : Frame FrameEnv). next p inputs z.what z.deeds) e ∙ h)
 
-    -- what comes of a choice from the one state and from the other
+    -- the results of a choice from the one state and from the other
     abbrev IsOnce : Comes → Comes → WorkerTable → WorkerTable → State FrameEnv View → State FrameEnv View → Type 0
     IsOnce x y d' d'' s' t' = (y ≡ x) × (d'' ≡ d') × Agree s' t'
 
@@ -105,7 +105,7 @@ module _ (p : Source) (inputs : List ℤ) where
         let ea : Sync ≡ a = one_ask f f' a Sync ef h.next is in
         block_moves u s (sym eu) n' (subst (λ z. BlockIsOver u z) (sym en) (h.block (sym ea)))
 
-    -- a frame that asks isn't skipped
+    -- a frame that makes a request isn't skipped
     asks_on : (d : WorkerTable) (w : ℕ) (n : Name) (f : Frame FrameEnv) (a : Ask FrameEnv) → slice_get d.hands w ≡ Some (Some n) → s.frames n ≡ Some f → next p inputs f.what f.deeds ≡ Some a → IsSkipped s d (choices.Run (suc w)) → ⊥
     asks_on d w n f a hand here is skipped = ⊎_elim (λ none. none n hand) (λ over. asks_no_more s kids over p inputs n f a here is) skipped
 
@@ -120,7 +120,7 @@ module _ (p : Source) (inputs : List ℤ) where
           stolen_same p inputs s q same n h.before s' t' (stolen_by p inputs s n s' h) (subst (λ z. StolenBy p inputs t n z t') eb.0 (subst (λ z. StolenBy p inputs t z m.before t') en by)),
         )
 
-    -- nor is a thief with a continuation to take
+    -- nor is a thief with a continuation to steal
     no_skip : (d : WorkerTable) (w k : ℕ) (n : Name) → slice_get d.hands w ≡ Some None → ¬ (IsOver s) → slice_get (all_offered d.offered) k ≡ Some n → IsSkipped s d (choices.Steal (suc w) k) → ⊥
     no_skip d w k n hand on at skipped = ⊎_elim (λ busy. busy hand) (λ rest. ⊎_elim (λ none. let z : None ≡ Some n = sym none ∙ at in let f : ⊥ = cc in f) on rest) skipped
 

@@ -5,7 +5,8 @@
 -- - `own_same`, `views_after`: the views after a deed;
 -- - `MadeBy`, `made_by`, `made_same`: an event leads to states that agree;
 -- - `StolenBy`, `stolen_by`, `stolen_same`: and so does a steal;
--- - `over_all`, `asks_no_more`: once the first frame has ended, each has, and asks for nothing.
+-- - `over_all`, `asks_no_more`: once the first frame has ended, each frame has, and requests
+--   nothing.
 use Rattle.std.proofs.Common.{◌≡◌, ◌⊎◌, inl, inr, ⊎_elim, ◌+◌, ◌<◌, ◌≤◌, ℕ, zero, suc, Bool, true, false, true≢false, cond, ℤ, List, [], ◌∷◌, ◌++◌, length, Option, Some, None, refl, sym, ap, ap₂, ◌∙◌, subst, arith}
 use mathlib.Core.Path.{fun_ext}
 use Rattle.cilk_types.specs.declared.invocation.Invocation.{Invocation}
@@ -75,7 +76,7 @@ own_same M i (Passes (Sets j x)) B B' l last last' v v' b r h = ap (on_view M i 
 own_same M i (Passes (Values j n)) B B' l last last' v v' b r h = h
 own_same M i (Passes (Prints x)) B B' l last last' v v' b r h = ap (on_view M i (Passes (Prints x))) h
 
--- a frame that resumes was asked to
+-- a frame that resumes requested it
 resumes_by : (memory : Cell → ℤ) (number : Instance → ℤ) (a : Ask FrameEnv) → deed_of memory number a ≡ Does (Passes Resumes) → a ≡ Pass Resume
 resumes_by memory number (Read c) q = let f : ⊥ = cc in absurd f
 resumes_by memory number (Write c v) q = let f : ⊥ = cc in absurd f
@@ -147,7 +148,7 @@ module _ (s : State FrameEnv View) (q : Name → Instance → View) (same : (n :
 -- ---- events and steals
 
 module _ (p : Source) (inputs : List ℤ) where
-  -- what an event of this frame, by this ask, makes of a state
+  -- the state after an event of this frame, by this request
   pub record MadeBy (s : State FrameEnv View) (n : Name) (f : Frame FrameEnv) (a : Ask FrameEnv) (s' : State FrameEnv View) : Type 0 where
     pub frames : s'.frames ≡ after_deed s.frames n f (deed_of s.memory (numbers_of monoid_of (s.piece n)) a)
     pub memory : s'.memory ≡ (λ c. effect (deed_of s.memory (numbers_of monoid_of (s.piece n)) a) c (s.memory c))
@@ -181,7 +182,7 @@ module _ (p : Source) (inputs : List ℤ) where
           let o = law.order s n f a asked here is (λ x z. let y : Pass Resume ≡ Fail x = sym r ∙ z in let b : ⊥ = cc in b) in
           o.resumes r
 
-  -- what a thief behind these deeds of a frame makes of a state
+  -- the state after a steal of the continuation after these deeds of a frame
   pub record StolenBy (s : State FrameEnv View) (n : Name) (before : List (Deed FrameEnv)) (s' : State FrameEnv View) : Type 0 where
     pub frames : s'.frames ≡ s.frames
     pub memory : s'.memory ≡ s.memory

@@ -1,7 +1,7 @@
--- The desk after a frame's event is decided by the event.
+-- The worker table after a frame's event is decided by the event.
 --
--- - `settled_else`, `settled_call`, `settled_spawn`, `settled_end`: by what the frame asked for;
--- - `desk_once`: one desk, in states that agree.
+-- - `settled_else`, `settled_call`, `settled_spawn`, `settled_end`: by what the frame requested;
+-- - `desk_once`: one worker table, in states that agree.
 use Rattle.std.proofs.Common.{◌≡◌, ℕ, suc, ℤ, true, false, true≢false, List, [], ◌∷◌, ◌++◌, refl, sym, ap, ◌∙◌, subst}
 use Rattle.cilk_types.specs.declared.invocation.Invocation.TheVariants.{Call, Spawn}
 use Rattle.cilk_runs.specs.Machine.{State, started}
@@ -45,7 +45,7 @@ module _ (s : State FrameEnv View) (d : WorkerTable) (w : ℕ) (n : Name) (befor
   settled_spawn a x u q (passes v gone m k is flag in_it over) = let f : ⊥ = cc in absurd f
   settled_spawn a x u q (leaves v gone m k is flag not_both) = let f : ⊥ = cc in absurd f
 
-  -- where a frame's end leaves its worker
+  -- where a worker is after its frame's end
   data EndsAt : WorkerTable → Type 0 where
     all_over : n ≡ [] → EndsAt (idle d w)
     back : (m : Name) (k : ℕ) → n ≡ m ++ k ∷ [] → s.stolen n ≡ false → EndsAt (holds (record d { offered = withdrawn d.offered m }) w m)
@@ -93,7 +93,7 @@ module _ (s t : State FrameEnv View) (agree : Agree s t) (d : WorkerTable) (w : 
       absurd (not_both (subst (λ z. IsIn z d.waiting) e in_it, subst (λ z. BlockIsOver s z) e (block_moves t s (sym agree.frames) m' over)))
   ends_once x y (gone_off m k is flag not_both) (gone_off m' k' is' flag' not_both') = refl
 
-  -- an ask that starts and ends nothing
+  -- a request that starts and ends nothing
   plainly : (a : Ask FrameEnv) (x y : WorkerTable) → ((v : FrameEnv) → a ≡ Invoke Call v → ⊥) → ((v : FrameEnv) → a ≡ Invoke Spawn v → ⊥) → ((v : ℤ) (gone : List Instance) → a ≡ End v gone → ⊥) → Settles s d w n before a x → Settles t d w n before a y → y ≡ x
   plainly a x y c g e h k = settled_else t d w n before a y c g e k ∙ sym (settled_else s d w n before a x c g e h)
 

@@ -1,8 +1,8 @@
--- A worker's frame ends: a step of the free machine.
+-- The end of a worker's frame is a step of the free machine.
 --
 -- - `acts_end`, `makes_end`: which events end a frame;
--- - `viewing_twice`: workers of whom one has other views, twice;
--- - `finds_parent`: what a frame that ends finds;
+-- - `viewing_twice`: one worker gets other views, twice;
+-- - `finds_parent`: the parent of a frame that ends;
 -- - `retired`, `is_finished`: its reducers are gone, and it is finished;
 -- - `leaves_run`, `leaves_parent`: the laws of ends, the first frame's and another's;
 -- - `told_ends`: from what the functions change, by numbers.
@@ -79,7 +79,7 @@ viewing_twice h g (u ∷ ws) zero = refl
 viewing_twice h g (u ∷ ws) (suc w) = ap (λ l. u ∷ l) (viewing_twice h g ws w)
 
 module _ (code : CodeView) (p : Source) (inputs : List ℤ) (name : ℕ → Name) (b : Scheduler) (d : WorkerTable) (s : State FrameEnv View) (w : ℕ) (v : ℤ) (sh : IsShown code p inputs name b d s) where
-  -- ---- what a frame that ends finds
+  -- ---- the parent of a frame that ends
 
   module _ (outlive : OutliveChildren s) (j : ℕ) (h : HasCome code p inputs b w (suc j) (asks.End v)) (went : List (Activation FrameState)) (is : let f = b.frames in went ≡ changed (λ _. h.came) f.items (suc j)) where
     abbrev seats : List (Activation FrameState)
@@ -88,7 +88,7 @@ module _ (code : CodeView) (p : Source) (inputs : List ℤ) (name : ℕ → Name
     abbrev own : FrameState
     own = let a = h.seat in a.cursor
 
-    -- its seat once it has gone on
+    -- its state once it has stepped to its end
     own_is : (a : Activation FrameState) → slice_get went (suc j) ≡ Some a → a.cursor ≡ record own { cursor = (let y = h.came in y.cursor); took = (let y = h.came in y.took) }
     own_is a at =
         ap (λ (z : Activation FrameState). z.cursor) (same_at went (suc j) a (record h.seat { cursor = h.came }) at (ap (λ l. slice_get l (suc j)) is ∙ changed_here (λ _. h.came) seats (suc j) h.seat h.sits))

@@ -1,9 +1,10 @@
--- A fault that is found in place of an event is a stop of the free machine.
+-- A fault that comes instead of an event is a stop of the free machine.
 --
--- - `strands_stay`: a frame's latest strand, once it has gone on;
--- - `refused_stops`: from what the functions answer, by numbers, to the law of stops;
--- - `memory_stops`, `halted`: a want of memory, and a board that keeps why it stopped;
--- - `one_after`, `stops_reach`, `if_err_reaches`, `if_err_halts`: steps lead to the state that was stopped.
+-- - `strands_stay`: a frame's latest strand, once it has stepped to its request;
+-- - `refused_stops`: from the functions' results, by numbers, to the law of stops;
+-- - `memory_stops`, `halted`: out of memory, and a scheduler that keeps its stop;
+-- - `one_after`, `stops_reach`, `if_err_reaches`, `if_err_halts`: the state that was stopped is
+--   reachable.
 use Rattle.std.proofs.Common.{◌≡◌, ◌+◌, ◌-◌, ◌∷◌, ◌++◌, [], ℕ, zero, suc, false, ℤ, List, length, slice_get, Option, Some, Result, Ok, Err, IfErr, refl, sym, ap, ◌∙◌, subst, arith, inr}
 use Rattle.cilk_types.specs.declared.fault.Fault.{Fault}
 use Rattle.cilk_program.specs.Syntax.{Source}
@@ -66,7 +67,7 @@ module _ (code : CodeView) (inputs : List ℤ) (b b1 : Scheduler) (v k : ℕ) (r
   worker : (u : Worker) × (let l = b.workers in slice_get l.items v ≡ Some u) × (u.frame ≡ Some k)
   worker = let l = b.workers in held_place l.items v k ready.held
 
-  -- the fault that was found on the board on which the frame has gone on
+  -- the fault of the scheduler whose frame has stepped to its request
   abbrev Found : Type 0
   Found =
       let f = b1.frames in let c = b1.cells in let e = b1.journal in
@@ -178,7 +179,7 @@ pub if_err_reaches : (code : CodeView) (inputs : List ℤ) (b b' : Scheduler) (c
 if_err_reaches code inputs b b' c (Ok t) P q k = tt
 if_err_reaches code inputs b b' c (Err stop) P q k = λ going p is h. stops_reach code inputs b b' c p is h stop (q going) (k going)
 
--- whatever else it leaves, steps lead to the state that was stopped
+-- a state that a fault stopped is reachable
 pub if_err_halts : (code : CodeView) (inputs : List ℤ) (b b' : Scheduler) (c : Choice) (r : Result Told Stop) (P : Type 0) → IfErr r (λ stop. P → (p : Source) → IsCodeOf p code → (h : HasReached code p inputs b) → StopsFrom code p inputs b h b' c stop)
     → IfErr r (λ stop. P → (p : Source) → IsCodeOf p code → HasReached code p inputs b → HasStopped code p inputs b' stop)
 if_err_halts code inputs b b' c (Ok t) P q = tt

@@ -1,7 +1,7 @@
--- Schedulers that show a state which steps lead to.
+-- Schedulers that show a reachable state.
 --
 -- - `each_more`: what holds of each element holds of one more;
--- - `has_opened`, `first_reached`: a new board shows the opening state;
+-- - `has_opened`, `first_reached`: a new scheduler shows the opening state;
 -- - `goes_on`: a choice leads from one to the next.
 use Rattle.std.proofs.Common.{◌≡◌, ℕ, zero, suc, ℤ, List, [], ◌∷◌, ◌++◌, length, slice_get, Some, refl, subst}
 use Rattle.cilk_program.specs.Syntax.{Source}

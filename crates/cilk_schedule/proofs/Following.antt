@@ -1,10 +1,11 @@
--- How the tasks of a script come down to others.
+-- To do the tasks of a script is to do others.
 --
--- - `follows_on`, `ahead`, `all_ahead`: one after the other; with further tasks behind;
--- - `handed`, `on_ok`, `if_err`: an error that is handed on, and what follows for a result;
--- - `fault_of`, `fails_later`, `fails_ahead`, `all_fail_ahead`: a fault of other ends, of what tasks come down to, and of the first of them;
+-- - `follows_on`, `ahead`, `all_ahead`: one after the other; with further tasks after them;
+-- - `handed`, `on_ok`, `if_err`: an error that is passed on, and what follows for a result;
+-- - `fault_of`, `fails_later`, `fails_ahead`, `all_fail_ahead`: an error of other ends, of the
+--   tasks that are left, and of the first tasks;
 -- - `chosen`, `refused`: a choice is made, or stops the run;
--- - `turned`, `turn_fails`, `turns_more`: a turn is the choice that it stands for;
+-- - `turned`, `turn_fails`, `turns_more`: a turn is its choice;
 -- - `round_begins`, `rounds_ended`, `rounds_enough`: rounds;
 -- - `led`, `led_to_fault`: all of a script.
 use Rattle.std.proofs.Common.{◌≡◌, ℕ, zero, suc, ◌+◌, arith, ℤ, List, [], ◌∷◌, ◌++◌, Some, sym, ap, subst, ◌∙◌, append_assoc}
@@ -20,7 +21,7 @@ use Rattle.cilk_schedule.specs.Playing.{Chosen, Choose, Done, End, Ended, Ends, 
 use Rattle.cilk_schedule.specs.declared.fault.PlayFault.{PlayFault}
 use Rattle.cilk_schedule.specs.declared.fault.PlayFault.TheVariants as faults
 
--- an error that was handed on
+-- an error that was passed on
 pub handed : {T : Type 0} (x : Result T PlayFault) (f : PlayFault) (P : PlayFault → Type 0) → IsErrAnd x (λ e. e ≡ f) → P f → IfErr x P
 handed (Ok v) f P h p = absurd h
 handed (Err e) f P h p = subst P (sym h) p
@@ -33,7 +34,7 @@ pub if_err : {T F : Type 0} (x : Result T F) (P Q : F → Type 0) → ((f : F) �
 if_err (Ok v) P Q h p = tt
 if_err (Err e) P Q h p = h e p
 
--- a fault is one of other ends, where these are ends too
+-- an error of these ends is one of other ends, if these are among them
 pub fault_of : (P Q : End → Type 0) (f : PlayFault) → ((e : End) → P e → Q e) → IsFault P f → IsFault Q f
 fault_of P Q (faults.Line line) h k = h (Passed line) k
 fault_of P Q (faults.Stop fault name) h k = (k.0, h (Stopped k.0) k.1, k.2, k.3)
@@ -45,7 +46,7 @@ turns_more worker n k e =
     ap (turns worker) e ∙ ap (λ v. Turn worker ∷ turns v k) (sym next)
 
 module _ (p : Source) (inputs : List ℤ) (workers : ℕ) where
-  -- tasks with any others behind come to this fault
+  -- tasks with any others after them end with this error
   abbrev pub Fails : List Task → State FrameEnv View → WorkerTable → PlayFault → Type 0
   Fails tasks s d f = (rest : List Task) → IsFault (λ e. Plays p inputs workers (tasks ++ rest) s d e) f
 
@@ -59,14 +60,14 @@ module _ (p : Source) (inputs : List ℤ) (workers : ℕ) where
   pub all_ahead : (tasks behind : List Task) (s t : State FrameEnv View) (d d' : WorkerTable) → Follows p inputs workers tasks s d [] t d' → Follows p inputs workers (tasks ++ behind) s d behind t d'
   all_ahead tasks behind s t d d' h = λ rest e q. subst (λ ts. Plays p inputs workers ts s d e) (sym (append_assoc tasks behind rest)) (h (behind ++ rest) e q)
 
-  -- they fail, whatever stands behind them
+  -- they fail, whatever comes after them
   pub all_fail_ahead : (tasks behind : List Task) (s : State FrameEnv View) (d : WorkerTable) (f : PlayFault) → Fails tasks s d f → Fails (tasks ++ behind) s d f
   all_fail_ahead tasks behind s d f h = λ rest. subst (λ ts. IsFault (λ e. Plays p inputs workers ts s d e) f) (sym (append_assoc tasks behind rest)) (h (behind ++ rest))
 
   pub chosen : (choice : Choice) (told : Comes) (s s' : State FrameEnv View) (d d' : WorkerTable) → Chooses p inputs s d choice told s' d' → Follows p inputs workers (Choose choice ∷ []) s d [] s' d'
   chosen choice told s s' d d' h = λ rest e q. Chosen choice told rest s s' d d' e h q
 
-  -- a stop that is told
+  -- a stop that is reported
   pub refused : (choice : Choice) (stop : Stop) (s s' : State FrameEnv View) (d : WorkerTable) → StopsAt p inputs s d choice s' → s'.stopped ≡ Some stop → (rest : List Task) → Plays p inputs workers ((Choose choice ∷ []) ++ rest) s d (Stopped stop)
   refused choice stop s s' d h is = λ rest. Stops choice stop rest s s' d h is
 
@@ -91,6 +92,6 @@ module _ (p : Source) (inputs : List ℤ) (workers : ℕ) where
   pub led : (tasks : List Task) (s t : State FrameEnv View) (d d' : WorkerTable) → Follows p inputs workers tasks s d [] t d' → Plays p inputs workers tasks s d (Done t d')
   led tasks s t d d' h = subst (λ ts. Plays p inputs workers ts s d (Done t d')) (append-nil tasks) (h [] (Done t d') (Finished t d'))
 
-  -- it comes to a fault
+  -- it ends with an error
   pub led_to_fault : (tasks : List Task) (s : State FrameEnv View) (d : WorkerTable) (f : PlayFault) → Fails tasks s d f → IsFault (Plays p inputs workers tasks s d) f
   led_to_fault tasks s d f h = subst (λ ts. IsFault (λ e. Plays p inputs workers ts s d e) f) (append-nil tasks) (h [])

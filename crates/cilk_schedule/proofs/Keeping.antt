@@ -1,9 +1,10 @@
--- A machine that goes on, and the states that its board shows.
+-- A machine that makes choices, and the states that its scheduler shows.
 --
 -- - `leads_same`, `leads_on`, `leads_ahead`, `comes_later`, `comes_ahead`: one after the other;
 -- - `leads_chosen`, `refused_at`: a choice is made, or stops the run;
--- - `leads_turned`, `comes_turned`, `leads_turn`, `comes_turn`: turns; `over_rounds`, `begun_rounds`, `done_rounds`: rounds;
--- - `passes`: a line's choices would go past the limit.
+-- - `leads_turned`, `comes_turned`, `leads_turn`, `comes_turn`: turns; `over_rounds`,
+--   `begun_rounds`, `done_rounds`: rounds;
+-- - `passes`: a line's choices would exceed the limit.
 use Rattle.std.proofs.Common.{◌≡◌, ◌+◌, ◌-◌, ◌≤◌, ◌<◌, ℕ, zero, suc, Bool, true, false, true≢false, ℤ, List, [], ◌∷◌, ◌++◌, length, map, slice_get, Option, Some, None, refl, sym, ap, ◌∙◌, subst, arith, Bor}
 use Rattle.std.specs.Prelude.{if◌then◌else◌}
 use Rattle.std.specs.Option.{is_some, option_map}
@@ -80,7 +81,7 @@ leads_ahead workers tasks behind l m h = record {
       (x, all_ahead p i.now workers tasks behind r.state x.state r.desk x.desk a.1);
 }
 
--- they fail, whatever stands behind them
+-- they fail, whatever comes after them
 pub comes_ahead : (workers : ℕ) (tasks behind : List Task) (m : Machine) (f : PlayFault) → ComesToFault workers tasks m f → ComesToFault workers (tasks ++ behind) m f
 comes_ahead workers tasks behind m f h = λ p is r. let i = m.input in all_fail_ahead p i.now workers tasks behind r.state r.desk f (h p is r)
 
@@ -99,12 +100,12 @@ leads_chosen workers m m' choice t same_code same_input led = record {
       (x, chosen p i.now workers choice (comes_of t) h.state x.state h.desk x.desk r.1);
 }
 
--- a stop that is told
+-- a stop that is reported
 module _ (workers : ℕ) (m m' : Machine) (choice : Choice) (stop : stopping.Stop) where
   abbrev Faults : stopping.Stop → Type 0
   Faults z = FaultsAreStops (let c = m.code in c.now) (let i = m.input in i.now) m.board m'.board choice z
 
-  -- the name of the strand, by the board
+  -- the name of the strand, by the scheduler
   name_is : (code : CodeView) (p : Source) (inputs : List ℤ) (name : ℕ → Name) (fault : _) (strand : Strand) (s : State FrameEnv View) (told : List ℕ) → (q : IsStoppedBy code p inputs name m'.board fault strand s) → IsNameIn m'.board strand told
       → told ≡ name q.place ++ strand.number ∷ []
   name_is code p inputs name fault strand s told q is = let t = q.tells in is name q.place q.frame t.named q.here
@@ -128,7 +129,7 @@ module _ (workers : ℕ) (m m' : Machine) (choice : Choice) (stop : stopping.Sto
 
 -- ---- turns
 
--- a worker that has a frame by the desk has one by the board
+-- a worker that holds a frame in the worker table holds one in the scheduler
 busy_is : (code : CodeView) (p : Source) (inputs : List ℤ) (b : Scheduler) (h : HasReached code p inputs b) (worker : ℕ) → is_busy h.desk worker ≡ is_some (held_by (let ws = b.workers in ws.items) worker)
 busy_is code p inputs b h zero = refl
 busy_is code p inputs b h (suc v) =
@@ -145,7 +146,7 @@ busy_is code p inputs b h (suc v) =
     by None = refl
     by (Some u) = idle_or u.frame
 
--- what a worker does in its turn, by the board
+-- a worker's choice in its turn, by the scheduler
 abbrev pub turn_at : Scheduler → ℕ → Choice
 turn_at b worker = if is_some (held_by (let ws = b.workers in ws.items) worker) then choices.Run worker else choices.Steal worker 0
 
@@ -182,7 +183,7 @@ leads_turn workers tasks worker n k l m m' h e made =
     leads_on workers tasks (turns worker n) l m h (turns (worker + 1) k) m'
     (subst (λ ts. Leads workers ts m (turns (worker + 1) k) m') (sym (turns_more worker n k e)) (leads_ahead workers (Turn worker ∷ []) (turns (worker + 1) k) m m' made))
 
--- it fails
+-- the next turn fails
 pub comes_turn : (workers : ℕ) (tasks : List Task) (worker n k : ℕ) (l m : Machine) (f : PlayFault) → Leads workers tasks l (turns worker n) m → n ≡ suc k → ComesToFault workers (Turn worker ∷ []) m f → ComesToFault workers tasks l f
 comes_turn workers tasks worker n k l m f h e lost =
     comes_later workers tasks (turns worker n) l m h f

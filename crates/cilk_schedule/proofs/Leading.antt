@@ -1,8 +1,8 @@
--- A choice leads from a board that shows a state to which steps lead to another such board.
+-- A choice leads from a scheduler that shows a reachable state to another such scheduler.
 --
--- - `reached_of`: what holds of each state that steps lead to;
+-- - `reached_of`: what holds of each reachable state;
 -- - `led_by`, `events_reach`: by an event;
--- - `choices_reach`, `if_ok_reaches`: whatever is told of the choice.
+-- - `choices_reach`, `if_ok_reaches`: whatever the result of the choice.
 use Rattle.std.proofs.Common.{ℕ, ℤ, List, refl}
 use Rattle.std.specs.Prelude.{Result, Ok, Err, IfOk}
 use Rattle.cilk_scheduler.specs.declared.choice.Stop.{Stop}
@@ -50,7 +50,7 @@ module _ (code : CodeView) (inputs : List ℤ) (b b' : Scheduler) (c : Choice) (
   abbrev Leads : Comes → Type 0
   Leads t = (h' : HasReached code p inputs b') × Chooses p inputs h.state h.desk c t h'.state h'.desk
 
-  -- by a step whose board keeps names and desk
+  -- by a step that keeps names and worker table
   led_by : (s' : State FrameEnv View) × Chooses p inputs h.state h.desk c Did s' h.desk × ShowsBy code p inputs h.name b' h.desk s' → Leads Did
   led_by m = goes_on code p inputs b b' h c Did m.0 h.desk h.name m.1 m.2
 

@@ -1,6 +1,6 @@
 -- Frames as they are gathered.
 --
--- - `set_back`: what stands in a list where one place has changed;
+-- - `set_back`: a list in which one place has changed;
 -- - `child_here`, `child_off`, `none_yet`: the children of a frame;
 -- - `child_added`, `child_nowhere`: the next frame among its parent's children;
 -- - `have_more`: one frame more;

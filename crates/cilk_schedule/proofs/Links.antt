@@ -1,6 +1,6 @@
 -- The links of the frames that a run shows.
 --
--- - `links_stay`: a frame changes, and not its link.
+-- - `links_stay`: a frame changes, but its link doesn't.
 use Rattle.std.proofs.Common.{◌≡◌, ◌∷◌, [], ℕ, zero, suc, List, slice_get, slice_set, Some, refl, sym, ap, ◌∙◌}
 use Rattle.cilk_schedule.specs.Links.{links_in}
 use Rattle.cilk_schedule.specs.declared.showing.ShownFrame.{ShownFrame}

@@ -2,9 +2,10 @@
 --
 -- - `plays_once`: from states that agree;
 -- - `one_end`: the law;
--- - `reached_end`: steps of the free machine lead to it;
--- - `one_left`, `one_stop`, `one_line`, `left_or_past`, `left_or_stopped`, `stopped_or_past`: what is told of it is one;
--- - `settled_end`, `settled_fault`: where one serial run settles every parallel one, it is that run's.
+-- - `reached_end`: it is reachable;
+-- - `one_left`, `one_stop`, `one_line`, `left_or_past`, `left_or_stopped`, `stopped_or_past`: its
+--   report is one;
+-- - `settled_end`, `settled_fault`: if one serial run settles every parallel one, it is that run's.
 use Rattle.std.proofs.Common.{◌≡◌, ◌-◌, ℕ, ℤ, List, [], ◌∷◌, ◌++◌, Option, Some, None, refl, sym, ap, ◌∙◌, subst}
 use Rattle.std.specs.Prelude.{IfSome}
 use Rattle.cilk_types.specs.declared.fault.Fault.{Fault}
@@ -59,7 +60,7 @@ module _ (p : Source) (inputs : List ℤ) (workers : ℕ) where
   plays_once tasks s t d e e' going agree (Round more rest _ _ _ on k) (Round _ _ _ _ _ on' k') = plays_once _ s t d e e' going agree k k'
   plays_once tasks s t d e e' going agree (Passes line rest _ _) (Passes _ _ _ _) = refl
 
-  -- steps lead to the end of a script
+  -- the end of a script is reachable
   abbrev pub IsReached : End → Type 0
   IsReached (Done s d) = deciding.IsGoing p inputs s
   IsReached (Stopped stop) = (ns : List Name) × (s : State FrameEnv View) × Reaches p inputs ns s × (s.stopped ≡ Some stop)
@@ -100,7 +101,7 @@ one_end p inputs workers steps e e' h k =
     let law = choices_decide p inputs in
     plays_once p inputs workers (tasks_of steps) h.0 k.0 (first_desk (workers - 1)) e e' (law.first h.0 h.1) (law.opens h.0 k.0 h.1 k.1) h.2 k.2
 
--- ---- what is told of it is one
+-- ---- its report is one
 
 module _ (p : Source) (inputs : List ℤ) (workers : ℕ) (steps : List Step) where
   one_outcome : (s t : State FrameEnv View) → deciding.IsGoing p inputs s → Agree s t → (left left' : Option Outcome) → Leaves p s left → Leaves p t left' → left' ≡ left

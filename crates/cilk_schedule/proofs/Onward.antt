@@ -1,9 +1,9 @@
--- A worker goes on with its frame.
+-- A worker continues its frame.
 --
--- - `is_ready`, `is_asked`: the frame can go on, and then it has come to what is asked for;
--- - `is_turn`: no fault stands in place of its event;
+-- - `is_ready`, `is_asked`: the frame can continue, and then it has made the current request;
+-- - `is_turn`: no fault comes instead of its event;
 -- - `few_uncounted`: its ticks are few;
--- - `runs_on`, `runs_quiet`: its event is written down; a change that is quiet.
+-- - `runs_on`, `runs_quiet`: its event is in the journal; a change that is quiet.
 use Rattle.std.proofs.Common.{◌≡◌, ◌+◌, ◌<◌, ◌≤◌, ◌^◌, ℕ, ℤ, List, [], ◌∷◌, ◌++◌, length, slice_get, Some, None, refl, sym, ap, subst, arith}
 use Rattle.cilk_types.specs.declared.limits.TheConstants.{MAX_TICKS}
 use Rattle.cilk_program.specs.declared.ask.Ask.{Ask}

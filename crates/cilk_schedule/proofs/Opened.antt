@@ -1,4 +1,4 @@
--- The board as it opens is sound.
+-- A new scheduler is sound.
 --
 -- - `few_cells`: global cells and the first frame's are within their limit;
 -- - `opened`: with the first frame alone.

@@ -1,6 +1,6 @@
--- A worker parts from its frame, which ends.
+-- A worker leaves its frame, which ends.
 --
--- - `altered_length`, `seeks_length`: there are as many workers;
+-- - `altered_length`, `seeks_length`: the number of workers stays the same;
 -- - `leaves_by`, `arrives_by`: from what the functions change, by numbers.
 use Rattle.std.proofs.Common.{◌≡◌, ◌<◌, ℕ, zero, suc, Bool, true, cond, ℤ, List, [], ◌∷◌, length, slice_get, slice_index_or, slice_set, Some, refl, ap, ◌∙◌, subst}
 use Rattle.cilk_lower.specs.Code.{CodeView}

@@ -9,7 +9,8 @@ use Rattle.cilk_runs.specs.Runs.{Name}
 use Rattle.cilk_scheduler.specs.Numbered.{AreNamed}
 use Rattle.cilk_scheduler.specs.declared.frame_state.FrameState.{FrameState}
 
--- The frame's name is that of the frame at this place, and then the ordinals told so far, last first. Each step leads to an earlier frame.
+-- The frame's name is that of the frame at this place, followed by the ordinals found so far, last
+-- first. Each step leads to an earlier frame.
 pub record IsOnWay (name : ℕ → Name) (frame : ℕ) (told : List ℕ) (place counter : ℕ) : Type 0 where
   pub whole : name frame ≡ name place ++ reverse told
   pub near : place + counter ≤ frame

@@ -1,11 +1,11 @@
 -- A list of choices.
 --
--- - `lead_on`, `stop_behind`: one more choice behind those that were made;
+-- - `lead_on`, `stop_behind`: one more choice after those that were made;
 -- - `lists_decide`: a list has one end;
 -- - `moved`, `at_moved`: of a machine with the same code and input;
 -- - `lead_same`, `lead_more`, `halt_more`: what a machine's choices lead to;
--- - `opened_at`: the board of a new machine shows the opening state;
--- - `leaves_by`: what a state leaves that a board tells;
+-- - `opened_at`: the scheduler of a new machine shows the opening state;
+-- - `leaves_by`: the outcome of a state that a scheduler records;
 -- - `played_by`, `stopped_by`: of a whole list.
 use Rattle.std.proofs.Common.{◌≡◌, inl, inr, ◌-◌, ℕ, ℤ, List, [], ◌∷◌, ◌++◌, Option, Some, None, refl, sym, ap, ◌∙◌, subst, Bor, MatchOption}
 use Rattle.cilk_types.specs.declared.outcome.Outcome.{Outcome}
@@ -88,11 +88,11 @@ module _ (p : Source) (inputs : List ℤ) where
 
 -- ---- a machine
 
--- what holds of the code and the input of one machine holds of those of another, which are the same
+-- facts about the code and the input of one machine hold of another with the same code and input
 pub moved : (c c' : Bor CodeView) (i i' : Bor (List ℤ)) → c' ≡ c → i' ≡ i → (P : CodeView → List ℤ → Type 0) → P c.now i.now → P c'.now i'.now
 moved c c' i i' e d P x = subst (λ (z : Bor CodeView). P z.now i'.now) (sym e) (subst (λ (y : Bor (List ℤ)). P c.now y.now) (sym d) x)
 
--- a state and a desk that a board shows
+-- a state and a worker table that a scheduler shows
 pub at_moved : (c c' : Bor CodeView) (i i' : Bor (List ℤ)) → c' ≡ c → i' ≡ i → (p : Source) (b : Scheduler) (Q : State FrameEnv View → WorkerTable → Type 0) → (h : HasReached c.now p i.now b) × Q h.state h.desk → (h' : HasReached c'.now p i'.now b) × Q h'.state h'.desk
 at_moved c c' i i' e d p b Q r = moved c c' i i' e d (λ x y. (h : HasReached x p y b) × Q h.state h.desk) r
 
@@ -120,7 +120,7 @@ module _ (done : List Choice) (choice : Choice) (l m m' : Machine) (first : Lead
   abbrev Stops : Stop → Type 0
   Stops stop = (p : Source) → IsCodeOf p (let c = m.code in c.now) → (h : IsAt m p) → StopsFrom (let c = m.code in c.now) p (let i = m.input in i.now) m.board h m'.board choice stop
 
-  -- the choices before it lead to where it stops the run
+  -- the choices before the stop lead to the state where it happens
   stops_from : (rest : List Choice) (stop : Stop) → Stops stop → (p : Source) → IsCodeOf p (let c = l.code in c.now) → (h : IsAt l p) → StopFrom (let c = m'.code in c.now) p (let i = m'.input in i.now) (done ++ choice ∷ rest) h.state h.desk m'.board stop
   stops_from rest (stops.At fault strand) halts p is h =
       let i = l.input in
@@ -138,7 +138,7 @@ module _ (done : List Choice) (choice : Choice) (l m m' : Machine) (first : Lead
   pub halt_more : (rest : List Choice) (stop : Stop) → Stops stop → HaltAt (done ++ choice ∷ rest) l m' stop
   halt_more rest stop halts = record { code = same_code ∙ first.code; input = same_input ∙ first.input; halted = stops_from rest stop halts }
 
--- ---- what is left
+-- ---- the outcome
 
 pub leaves_by : (code : CodeView) (p : Source) (inputs : List ℤ) (name : ℕ → Name) (b : Scheduler) (s : State FrameEnv View) → Tells code p inputs name b s → (left : Option Outcome) → b.outcome ≡ left → Leaves p s left
 leaves_by code p inputs name b s t None e = t.going e
@@ -174,7 +174,7 @@ module _ (code : CodeView) (p : Source) (inputs : List ℤ) (workers : ℕ) (m :
         shows = run p x.steps x.name x.state (subst (λ (c : Bor CodeView). IsCodeOf p c.now) (sym led.code) of_code) x.reaches y.tells;
       }
 
-  -- a stop that is told with its strand's name
+  -- a stop that is reported with its strand's name
   pub stopped_by : (choices : List Choice) (m' : Machine) (stop : Stop) (list : List ℕ) → IsCodeOf p code → (let c = m.code in c.now ≡ code) → (let i = m.input in i.now ≡ inputs) → HasOpened code p inputs m.board (workers - 1)
       → HaltAt choices m m' stop → (stop ≡ stops.Memory → list ≡ [])
       → ((q : Source) (fault : _) (strand : _) → stop ≡ stops.At fault strand → (h : HasFault (let c = m'.code in c.now) q (let i = m'.input in i.now) m'.board fault strand) → NamesStop h.state list) → IsStop p inputs workers choices stop list

@@ -1,6 +1,7 @@
 -- Quiet changes of one frame.
 --
--- - `moved`, `marked`, `robs`: where it is, its block has passed, the continuation beside it was stolen;
+-- - `moved`, `marked`, `robs`: where it is, its block has passed, the continuation beside it was
+--   stolen;
 -- - `joins`: what lies at its block.
 use Rattle.std.proofs.Common.{◌≡◌, ◌<◌, ℕ, List, length, slice_index_or, slice_set, refl, sym, ◌∙◌, subst}
 use Rattle.cilk_frames.specs.declared.activation.Activation.{Activation}

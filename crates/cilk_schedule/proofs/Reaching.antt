@@ -1,7 +1,7 @@
--- What holds of each state that steps lead to goes on to hold after a choice.
+-- A choice keeps what holds of each reachable state.
 --
 -- - `outlive_on`, `started_on`: after steps;
--- - `choices_lead_on`: after a choice, on the board that shows what comes of it.
+-- - `choices_lead_on`: after a choice, for the scheduler that shows the next state.
 use Rattle.std.proofs.Common.{ℤ, List, [], ◌∷◌, sym, subst}
 use Rattle.cilk_program.specs.Syntax.{Source}
 use Rattle.cilk_lower.specs.Code.{CodeView}

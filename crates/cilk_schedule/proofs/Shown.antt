@@ -1,6 +1,6 @@
--- What a machine shows of its run.
+-- The run that a machine shows.
 --
--- - `shows_reached`: what is shown of its board is each state to which steps lead.
+-- - `shows_reached`: it is right for every reachable state that its scheduler records.
 use Rattle.std.proofs.Common.{◌≡◌, ℕ, ℤ, List, length, ap, ◌∙◌}
 use Rattle.cilk_lower.specs.Code.{CodeView}
 use Rattle.cilk_scheduler.specs.declared.scheduler.Scheduler.{Scheduler}

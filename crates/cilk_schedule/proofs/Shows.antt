@@ -1,13 +1,13 @@
--- What was gathered of a board is what is shown of the state that the board tells.
+-- The run gathered from a scheduler shows the state that the scheduler records.
 --
 -- - `among_at`, `among_keeps`: the children of a frame by their ordinals;
--- - `linked`: frames by links have the names that they have on the board;
+-- - `linked`: frames by links have the names of the scheduler's frames;
 -- - `named_so`: an event, by numbers and by names;
 -- - `shown_deeds`: the events of a frame;
 -- - `shows_run`: the whole;
--- - `linked_up`: whose frame begins a frame's path;
+-- - `linked_up`: the frame at the beginning of a path;
 -- - `link_named`: a frame's name by its link;
--- - `outcome_left`: what the first frame's end left.
+-- - `outcome_left`: the outcome at the first frame's end.
 use Rattle.std.proofs.Common.{Bor, MatchOption, ◌≡◌, ◌⊎◌, inl, inr, ⊎_elim, ◌+◌, ◌-◌, ◌<◌, ◌≤◌, ℕ, ℤ, zero, suc, nat_eq, eq-eqb, eqb-true, Bool, true, false, cond, List, [], ◌∷◌, ◌++◌, length, map, slice_get, unwrap_or, Option, Some, None, refl, sym, ap, ap₂, ◌∙◌, subst, arith, append_assoc}
 use Rattle.std.specs.Option.{option_map}
 use Rattle.std.proofs.lemmas.Bool.{ne_eqb}
@@ -57,7 +57,7 @@ no_root (j ∷ n) q e = let z : [] ≡ j ∷ (n ++ q ∷ []) = e in cc
 
 -- ---- children
 
--- the frame at this place is a child of frame k, with the ordinal behind this number
+-- the frame at this place is a child of frame k, with one more than this number as its ordinal
 pub record IsNext (frames : List (Activation FrameState)) (k q j : ℕ) : Type 0 where
   pub before : ℕ
   pub place : j ≡ suc before

@@ -1,8 +1,9 @@
 -- A choice that is skipped can't be made.
 --
--- - `located_in`: a continuation that is offered stands in some worker's list;
+-- - `located_in`: a continuation that is offered is in some worker's list;
 -- - `run_skips`, `steal_skips`: a choice of a worker that is to run, and of one that is to steal;
--- - `skips_are_steps`, `over_skips`: from choices that can't be made, and in a run that is over, to the law.
+-- - `skips_are_steps`, `over_skips`: from choices that can't be made, and in a run that is over, to
+--   the law.
 use Rattle.std.proofs.Common.{◌≡◌, ◌⊎◌, inl, inr, ◌<◌, ℕ, zero, suc, nat_lt, Bool, true, false, ℤ, List, [], ◌∷◌, ◌++◌, slice_get, Option, Some, None, Result, Ok, Err, IfOk, refl, sym, ◌∙◌, subst}
 use Rattle.std.proofs.lemmas.Bool.{ltb-false, ltb-true}
 use Rattle.cilk_types.specs.declared.outcome.Outcome.{Outcome}

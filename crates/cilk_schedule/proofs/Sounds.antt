@@ -1,4 +1,4 @@
--- What keeps a board sound.
+-- Changes that keep a scheduler sound.
 --
 -- - `lives_more`, `there_more`: with more cells, and with one frame changed;
 -- - `changed_sound`: one frame is changed;
@@ -164,7 +164,8 @@ module _ (code : CodeView) (p : Source) (inputs : List ℤ) (frames : List (Acti
 
 -- ---- quiet changes
 
--- where a frame is, whether it was stolen from, what lies at its block, how many of its ticks are counted
+-- where a frame is, whether it was stolen from, what lies at its block, how many of its ticks are
+-- counted
 pub record IsStill (f : FrameState → FrameState) : Type 0 where
   pub parent : (x : FrameState) → let y = f x in y.parent ≡ x.parent
   pub last : (x : FrameState) → let y = f x in y.last ≡ x.last
@@ -240,7 +241,7 @@ quiet_none l = (λ code p inputs cells events turn ask s. s, λ k a at. (a, at, 
 
 -- ---- an event is made
 
--- the frame goes on with this, and has begun at most so many strands more
+-- the frame continues with this, and has begun at most `more` strands more
 pub record IsStep (more : ℕ) (f : FrameState → FrameState) (d : Due) : Type 0 where
   pub parent : (x : FrameState) → let y = f x in y.parent ≡ x.parent
   pub last : (x : FrameState) → let y = f x in y.last ≡ x.last

@@ -1,10 +1,12 @@
--- Frames stand where they stood, each started by the same one.
+-- Frames keep their places and their parents.
 --
--- - `stand_same`, `stand_twice`, `stand_changed`: no change, two changes, and one of a frame beside its place;
--- - `stand_gone`: a frame has gone on;
--- - `stand_joined`: what lies at a frame's block;
+-- - `stand_same`, `stand_twice`, `stand_changed`: no change, two changes, and a change of one
+--   frame;
+-- - `stand_gone`: a frame has stepped to its request;
+-- - `stand_joined`: a change at a frame's block;
 -- - `on_err_same`, `on_err_stand`, `on_err_then`: after an error;
--- - `kept_by`, `kept_gone`, `if_err_gone`, `if_err_always`, `kept_stopped`: what a board tells.
+-- - `kept_by`, `kept_gone`, `if_err_gone`, `if_err_always`, `kept_stopped`: what a scheduler
+--   records.
 use Rattle.std.proofs.Common.{◌≡◌, ◌<◌, ⊎_elim, ℕ, ℤ, List, length, slice_get, slice_index_or, slice_set, Some, Result, Ok, Err, OnErr, IfErr, refl, sym, ap, ap₂, ◌∙◌, subst}
 use Rattle.cilk_lower.specs.Code.{CodeView}
 use Rattle.cilk_program.specs.declared.ask.Ask.{Ask}
@@ -49,7 +51,7 @@ stand_changed f same frames k = record {
       (r.0, r.1, r.2, links);
 }
 
--- one frame is another seat, started by the same one
+-- one frame has another state and the same parent
 stand_set : (frames : List (Activation FrameState)) (k : ℕ) (a : Activation FrameState) (y : FrameState) → slice_get frames k ≡ Some a → (let x = a.cursor in (y.parent ≡ x.parent) × (y.ordinal ≡ x.ordinal)) → StandAsBefore frames (changed (λ _. y) frames k)
 stand_set frames k a y at same =
     let x = a.cursor in
@@ -90,12 +92,12 @@ pub on_err_then : {A E : Type 0} (r : Result A E) (f g h : List (Activation Fram
 on_err_then (Ok a) f g h one two = tt
 on_err_then (Err e) f g h one two = stand_twice f g h one two
 
--- ---- what a board tells
+-- ---- what a scheduler records
 
 pub kept_by : (b b' : Scheduler) → (let f = b.frames in let g = b'.frames in StandAsBefore f.items g.items) → (let e = b.journal in let l = b'.journal in l.items ≡ e.items) → b'.outcome ≡ b.outcome → KeepsTold b b'
 kept_by b b' frames journal outcome = record { frames = frames; journal = journal; outcome = outcome }
 
--- the frame has gone on before
+-- the frame has stepped to its request before
 pub kept_gone : (code : CodeView) (inputs : List ℤ) (b mid b' : Scheduler) (k : ℕ) → WentTo code inputs b mid k → KeepsTold mid b' → KeepsTold b b'
 kept_gone code inputs b mid b' k go kept =
     let f = b.frames in
@@ -111,7 +113,7 @@ pub if_err_always : {A E : Type 0} (r : Result A E) (P : Type 0) → P → IfErr
 if_err_always (Ok a) P h = tt
 if_err_always (Err e) P h = h
 
--- the board of a choice that stopped, which keeps why
+-- the scheduler after a choice that stopped, which keeps the stop
 pub kept_stopped : (b b' b2 : Scheduler) (r r2 : Result Told Stop) (stop : Stop) → r ≡ Err stop → b' ≡ b2 → r ≡ r2 → IfErr r2 (λ z. KeepsTold b b2) → KeepsTold b (record b' { stopped = Some stop })
 kept_stopped b b' b2 r r2 stop is board_is told_is h =
     let k : KeepsTold b b' = subst (λ q. KeepsTold b q) (sym board_is) (subst (λ q. IfErr q (λ z. KeepsTold b b2)) (sym told_is ∙ is) h) in

@@ -1,8 +1,8 @@
--- A worker's frame starts another: a step of the free machine.
+-- The start of a child by a worker's frame is a step of the free machine.
 --
 -- - `if_both`, `started_by`: from what the functions change, by numbers;
 -- - `no_touch`, `acts_start`, `makes_start`: which events start a frame;
--- - `has_come`: the frame has gone on and come to an ask;
+-- - `has_come`: the frame has stepped to its request;
 -- - `start_is_step`, `told_starts`: the law of invocations.
 use Rattle.std.proofs.Common.{◌≡◌, ◌+◌, ◌-◌, ◌<◌, ℕ, suc, ℤ, List, [], ◌∷◌, ◌++◌, length, slice_get, Some, None, Result, Ok, Err, IfOk, OnOk, sym, ap, ◌∙◌, subst}
 use Rattle.cilk_types.specs.declared.event.Event as numbered
@@ -91,7 +91,7 @@ acts_start frames cells views k ask act event cells' views' (prints v vs word is
 pub makes_start : (frames frames' : List (Activation FrameState)) (cells cells' : List ℤ) (views views' : Hypermap) (k : ℕ) (ask : Ask) (event : numbered.Event) → MakesEvent frames frames' cells cells' views views' k ask event → IsStart event → ⊥
 makes_start frames frames' cells cells' views views' k ask event m = acts_start frames cells views k ask m.0 event cells' views' m.1
 
--- ---- the frame has gone on and come to an ask
+-- ---- the frame has stepped to its request
 
 module _ (code : CodeView) (p : Source) (inputs : List ℤ) (b b1 : Scheduler) (w k : ℕ) (u : Worker) (ask : Ask) where
   pub has_come : b.outcome ≡ None → (let l = b.workers in slice_get l.items w ≡ Some u) → u.frame ≡ Some k → (go : WentTo code inputs b b1 k) → IsAccepted code b1 k → b1.asked ≡ ask

@@ -1,7 +1,8 @@
--- A thief takes a continuation: this choice is a step of the free machine.
+-- A steal is a step of the free machine.
 --
 -- - `idle_place`: the worker that has no frame;
--- - `takes`, `steals_are_steps`: from what the functions change, by numbers, to the law of a thief's choice.
+-- - `takes`, `steals_are_steps`: from what the functions change, by numbers, to the law of a
+--   thief's choice.
 use Rattle.std.proofs.Common.{◌≡◌, ◌-◌, ℕ, suc, true, false, if◌then◌else◌, ℤ, List, slice_get, Option, Some, None, refl, ap, subst}
 use Rattle.std.specs.Option.{is_some}
 use Rattle.std.specs.Prelude.{remove}

@@ -1,6 +1,6 @@
 -- An event that starts and ends no frame and no block is a step of the free machine.
 --
--- - `keeps_ticks`: it takes and counts no ticks;
+-- - `keeps_ticks`: it uses and counts no ticks;
 -- - `made`, `touched_still`, `touched_views`: it is made;
 -- - `is_step`: from what the functions change, by numbers, to the law of the event;
 -- - `held_place`: the worker that has a frame.
@@ -65,7 +65,7 @@ keeps_ticks frames cells views k ask act event cells' views' (prints v vs word i
 
 module _ (code : CodeView) (p : Source) (inputs : List ℤ) (name : ℕ → Name) (b b' : Scheduler) (d : WorkerTable) (s : State FrameEnv View) (w k : ℕ) (sh : IsShown code p inputs name b d s) (frames : List (Activation FrameState)) (cells : List ℤ) (views : Hypermap)
     (cells_are : let c = b.cells in cells ≡ c.items) where
-  -- what the frame that has come sees is what it saw
+  -- a frame that has stepped to its request sees what it saw before
   saw : (ask : Ask) (h : HasCome code p inputs b w k ask) → (let f = b.frames in frames ≡ changed (λ _. h.came) f.items k) → (scope : Scope ℕ Instance) → (let f = b.frames in SeesAt f.items k scope) → SeesAt frames k scope
   saw ask h is scope sees = let f = b.frames in (sight_stays f.items frames k h.came is).0 scope sees
 

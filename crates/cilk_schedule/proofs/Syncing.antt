@@ -1,9 +1,10 @@
--- A frame that has come to a sync waits there, or makes it: these choices are steps of the free machine.
+-- A wait at a sync makes no step of the free machine, and a sync is one step.
 --
 -- - `acts_apart`, `none_of`: other events are no syncs;
--- - `must_unmerged`, `sits_on`: a frame that has gone on;
--- - `own_brings`: what its own piece comes to;
--- - `waits_are_steps`, `syncs_are_steps`: from what the functions change, by numbers, to the laws of waits and syncs.
+-- - `must_unmerged`, `sits_on`: a frame that has stepped to its sync;
+-- - `own_brings`: the arrival of its own piece;
+-- - `waits_are_steps`, `syncs_are_steps`: from what the functions change, by numbers, to the laws
+--   of waits and syncs.
 use Rattle.std.proofs.Common.{◌≡◌, ◌+◌, ◌-◌, ◌++◌, ◌∷◌, [], ℕ, suc, Bool, true, false, if◌then◌else◌, ℤ, List, length, slice_get, Some, None, Result, Ok, Err, IfOk, refl, sym, ap, ◌∙◌, subst}
 use Rattle.cilk_types.specs.declared.event.Event as numbered
 use Rattle.cilk_types.specs.declared.event.Event.TheVariants as events
@@ -63,7 +64,7 @@ acts_apart frames cells views k ask act event cells' views' (prints v vs word is
 pub none_of : (frames frames' : List (Activation FrameState)) (cells cells' : List ℤ) (views views' : Hypermap) (k : ℕ) (ask : Ask) (event : numbered.Event) → MakesEvent frames frames' cells cells' views views' k ask event → event ≡ events.Sync → ⊥
 none_of frames frames' cells cells' views views' k ask event m q = acts_apart frames cells views k ask m.0 event cells' views' m.1 q
 
--- ---- a frame that has gone on to its sync
+-- ---- a frame that has stepped to its sync
 
 unmerged : (m z : Bool) → (if m then false else z) ≡ true → m ≡ false
 unmerged true z q = let n : false ≡ true = q in cc

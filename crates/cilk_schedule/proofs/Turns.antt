@@ -1,11 +1,13 @@
 -- A turn in which the frame's event is made.
 --
--- - `many`, `comes`: there is room for the event, and the frame has come to what is asked for;
--- - `is_made`, `settles_made`: the board after it;
--- - `strand_settles`, `block_settles`, `end_settles`, and ticks: a strand begins, a block is complete, the frame ends;
+-- - `many`, `comes`: there is room for the event, and the frame has made the current request;
+-- - `is_made`, `settles_made`: the scheduler after it;
+-- - `strand_settles`, `block_settles`, `end_settles`, and ticks: a strand begins, a block is
+--   complete, the frame ends;
 -- - `begun_made`, `begun_ticks`: it starts another;
 -- - `few_children`, `few_strands_behind`, `waits_runs`: it comes to a sync, and waits there;
--- - `few_places`, `few_numbers`, `can_start`, `few_strands`, `function_may`, `turns_may`: what these want.
+-- - `few_places`, `few_numbers`, `can_start`, `few_strands`, `function_may`, `turns_may`: what
+--   these require.
 use Rattle.std.proofs.Common.{◌≡◌, ◌+◌, ◌<◌, ◌≤◌, ◌^◌, ℕ, ℤ, pos, List, [], ◌∷◌, ◌++◌, length, replicate, slice_get, Option, Some, None, refl, sym, ap, ◌∙◌, subst, arith}
 use Rattle.std.proofs.lemmas.List.{length-append, length-replicate}
 use Rattle.cilk_types.specs.declared.limits.TheConstants.{MAX_CELLS, MAX_EVENTS, MAX_FRAMES}
@@ -105,7 +107,7 @@ strand_settles frames frames' cells k ask has fits there is = λ code p inputs e
 pub strand_ticks : (frames frames' : List (Activation FrameState)) (k : ℕ) → frames' ≡ changed stranded frames k → SameTicks frames frames'
 strand_ticks frames frames' k is = subst (λ l. SameTicks frames l) (sym is) (same_ticks stranded (λ x. (refl, refl)) frames k)
 
--- behind a quiet change
+-- after a quiet change
 pub block_settles : (frames quiet frames' : List (Activation FrameState)) (cells k : ℕ) → IsQuiet frames quiet → k < length frames → frames' ≡ changed synced quiet k → Settles frames frames' cells cells k asks.Sync
 block_settles frames quiet frames' cells k still there is = λ code p inputs events few s.
     let low = still.2 in

@@ -1,6 +1,6 @@
 -- A whole script, from a new machine on.
 --
--- - `left_by`, `failed_by`: what a script leaves, and the fault that it comes to.
+-- - `left_by`, `failed_by`: the outcome of a script, and its error.
 use Rattle.std.proofs.Common.{◌≡◌, ◌-◌, ℕ, ℤ, List, [], ◌∷◌, Option, Some, None, refl, sym, ◌∙◌, subst}
 use Rattle.cilk_types.specs.declared.outcome.Outcome.{Outcome}
 use Rattle.cilk_program.specs.Syntax.{Source}

@@ -1,9 +1,9 @@
 -- Which workers there are.
 --
--- - `inside`: a place where something stands;
+-- - `inside`: a place of a list;
 -- - `is_held`: one that has a frame is there;
 -- - `is_there`: one that is idle is there;
--- - `same_at`, `some_of`, `holds_true`: what a look-up and a test tell.
+-- - `same_at`, `some_of`, `holds_true`: the results of a look-up and a test.
 use Rattle.std.proofs.Common.{◌≡◌, ◌<◌, ◌≤◌, ℕ, zero, suc, Bool, true, false, List, [], ◌∷◌, length, slice_get, IsTrue, Option, Some, None, refl, sym, ◌∙◌, arith}
 use Rattle.std.specs.Option.{is_some}
 use Rattle.cilk_scheduler.specs.Workers.{frame_in, held_by, is_free, is_idle}

@@ -1,4 +1,4 @@
--- What the event of a frame that starts and ends no frame and no block changes, by numbers.
+-- The changes, by numbers, of an event that starts and ends no frame and no block.
 use Rattle.std.specs.Prelude.{◌≡◌, ◌⊎◌, ◌-◌, ◌+◌, ℕ, ℤ, List, [], ◌∷◌, ◌++◌, slice_get, slice_set, Some}
 use Rattle.cilk_types.specs.declared.event.Event as numbered
 use Rattle.cilk_types.specs.declared.event.Event.TheVariants as events
@@ -53,15 +53,15 @@ IsTouch (events.Spawn k) = ⊥
 IsTouch events.Sync = ⊥
 IsTouch events.End = ⊥
 
--- the place means this cell, or this reducer, to the frame at place k
+-- the place means this cell, or this reducer, in the frame at place k
 abbrev pub Means : List (Activation FrameState) → ℕ → Place → ℕ → Type 0
 Means frames k x n = (scope : Scope ℕ Instance) → SeesAt frames k scope → n ≡ cell_in itself scope x
 
 abbrev pub MeansInstance : List (Activation FrameState) → ℕ → ReducerPlace → Instance → Type 0
 MeansInstance frames k r j = (scope : Scope ℕ Instance) → SeesAt frames k scope → j ≡ instance_in global_reducer scope r
 
--- The frame at place k has come to an ask. By its event, what is kept of it changes by a function; and the cells and the worker's views are
--- these then.
+-- The event of the frame at place k that requests this: how it changes the frame's state, and the
+-- cells and the worker's views after it.
 pub data Acts (frames : List (Activation FrameState)) (cells : List ℤ) (views : Hypermap) (k : ℕ) : Ask → (FrameState → FrameState) → numbered.Event → List ℤ → Hypermap → Type 0 where
   begins : Acts frames cells views k asks.Begin stranded (events.Begin (k + 1)) cells views
   resumes : Acts frames cells views k asks.Resume stranded (events.Resume (k + 1)) cells views
@@ -79,11 +79,11 @@ pub data Acts (frames : List (Activation FrameState)) (cells : List ℤ) (views 
   prints : (v : ℤ) (views' : Hypermap) → IsWord v → ChangesIn views views' Append output (Some ((structure_of Append).combine (value_in views Append output) ((structure_of Append).single v)))
       → Acts frames cells views k (asks.Print v) (answered answers.Done) (events.Print v) cells views'
 
--- some function does so to the frame of the list
+-- the event is made, and some such function changes the frame in the list
 abbrev pub MakesEvent : List (Activation FrameState) → List (Activation FrameState) → List ℤ → List ℤ → Hypermap → Hypermap → ℕ → Ask → numbered.Event → Type 0
 MakesEvent frames frames' cells cells' views views' k ask event = (act : FrameState → FrameState) × Acts frames cells views k ask act event cells' views' × (frames' ≡ changed act frames k)
 
--- The frame at place k of worker w has come to what is asked for, and its event, still to be written down, is made.
+-- Worker w has made the requested event of the frame at place k. It isn't in the journal yet.
 pub record Touched (b b' : Scheduler) (w k : ℕ) (event : numbered.Event) : Type 0 where
   pub worker : Worker
   pub views : Hypermap
@@ -93,7 +93,7 @@ pub record Touched (b b' : Scheduler) (w k : ℕ) (event : numbered.Event) : Typ
   pub offered : b'.offered ≡ b.offered
   pub outcome : b'.outcome ≡ b.outcome
 
--- It is written down, and the frame's ticks are counted.
+-- The same, with the event in the journal and the frame's ticks counted.
 pub record Wrote (b b' : Scheduler) (w k : ℕ) (event : numbered.Event) : Type 0 where
   pub made : Scheduler
   pub touched : Touched b made w k event
@@ -105,7 +105,7 @@ pub record Wrote (b b' : Scheduler) (w k : ℕ) (event : numbered.Event) : Type 
   pub offered : b'.offered ≡ made.offered
   pub outcome : b'.outcome ≡ made.outcome
 
--- The frame at place k has gone on to what is asked for, and nothing else has changed.
+-- The frame at place k has stepped to its next request, and nothing else has changed.
 pub record WentTo (code : CodeView) (inputs : List ℤ) (b b' : Scheduler) (k : ℕ) : Type 0 where
   pub seat : Activation FrameState
   pub came : FrameState
@@ -119,7 +119,8 @@ pub record WentTo (code : CodeView) (inputs : List ℤ) (b b' : Scheduler) (k : 
   pub offered : b'.offered ≡ b.offered
   pub outcome : b'.outcome ≡ b.outcome
 
--- The choice is a step of the free machine, where it makes such an event: a board that showed a state shows what comes of it.
+-- A choice that makes such an event is a step of the free machine: if the scheduler showed a state,
+-- it shows the state after that step.
 abbrev pub EventsAreSteps : CodeView → List ℤ → Scheduler → Scheduler → Choice → Told → Type 0
 EventsAreSteps code inputs b b' c (told.Did act) =
     IsTouch act.event → (p : Source) (name : ℕ → Name) (d : WorkerTable) (s : State FrameEnv View) → IsShown code p inputs name b d s → (s' : State FrameEnv View) × Chooses p inputs s d c Did s' d × ShowsBy code p inputs name b' d s'

@@ -1,4 +1,4 @@
--- Which choices a board allows, and what they write down.
+-- Which choices a scheduler allows, and what they add to its journal.
 use Rattle.std.specs.Prelude.{◌≡◌, ◌+◌, ◌<◌, ◌≤◌, ℕ, true, List, [], ◌∷◌, ◌++◌, length, slice_get, Some, Result, Ok, Err}
 use Rattle.cilk_frames.specs.Cursor.{CursorView}
 use Rattle.cilk_join.specs.Joins.{IsOpen}
@@ -14,7 +14,7 @@ use Rattle.cilk_scheduler.specs.declared.choice.Told.TheVariants as told
 use Rattle.cilk_scheduler.specs.declared.frame_state.JournalEntry.{JournalEntry}
 use Rattle.cilk_scheduler.specs.declared.frame_state.FrameState.{FrameState}
 
--- a worker, which counts from 1, has the frame at place k, which hasn't ended
+-- a worker, from 1, holds the frame at place k, which hasn't ended
 pub record IsReadyAt (b : Scheduler) (worker k : ℕ) : Type 0 where
   pub held : let u = b.workers in held_by u.items worker ≡ Some k
   pub first : 0 < worker
@@ -24,7 +24,7 @@ pub record IsReadyAt (b : Scheduler) (worker k : ℕ) : Type 0 where
   pub cursor : CursorView
   pub has : let x = seat.cursor in x.cursor ≡ Some cursor
 
--- a worker has no frame, and may take the continuation of frame k, which is offered at this place
+-- a worker is idle and may steal the continuation of frame k, which is offered at this place
 pub record CanSteal (b : Scheduler) (worker place k : ℕ) : Type 0 where
   pub idle : let u = b.workers in is_idle u.items worker ≡ true
   pub few : place < b.offered
@@ -38,14 +38,14 @@ abbrev pub CanChoose : Scheduler → Choice → Type 0
 CanChoose b (choices.Run worker) = (k : ℕ) × IsReadyAt b worker k
 CanChoose b (choices.Steal worker place) = (k : ℕ) × CanSteal b worker place k
 
--- an event that was made is written down behind the others
+-- an event is added to the end of the journal
 abbrev pub WritesTold : Told → List JournalEntry → List JournalEntry → Type 0
 WritesTold (told.Did act) old new = (k : ℕ) × (act.frame ≡ k + 1) × (new ≡ old ++ (record { frame = k; event = act.event }) ∷ [])
 WritesTold told.Stole old new = new ≡ old
 WritesTold told.Waits old new = new ≡ old
 WritesTold told.Skipped old new = new ≡ old
 
--- and nothing else is
+-- a stop adds nothing
 abbrev pub Writes : Result Told Stop → List JournalEntry → List JournalEntry → Type 0
 Writes (Ok t) old new = WritesTold t old new
 Writes (Err stop) old new = new ≡ old

@@ -1,4 +1,4 @@
--- A worker's frame ends: by numbers, and as a step of the free machine.
+-- The end of a worker's frame: by numbers, and as a step of the free machine.
 use Rattle.std.specs.Prelude.{◌≡◌, ◌+◌, ◌<◌, ℕ, Bool, true, false, cond, ℤ, List, slice_get, length, Option, Some}
 use Rattle.cilk_types.specs.declared.event.Event.{Event}
 use Rattle.cilk_types.specs.declared.event.Event.TheVariants as events
@@ -32,24 +32,27 @@ use Rattle.cilk_scheduler.specs.declared.frame_state.Status.TheVariants.{Held, O
 use Rattle.cilk_scheduler.specs.declared.frame_state.Worker.{Worker}
 use Rattle.cilk_schedule.specs.Reached.{IsReached}
 
--- the worker that offers a frame's continuation, where one does, is one of so many
+-- the worker that offers a frame's continuation, if any, is one of `count` workers
 abbrev pub IsOfferedAmong : Status → ℕ → Type 0
 IsOfferedAmong status count = (v : ℕ) → status ≡ Offered v → v < count
 
--- a stolen child's piece may come to a frame's block with this key
+-- a stolen child's piece may arrive at a frame's block under this key
 abbrev pub MayBring : FrameState → ℕ → Type 0
 MayBring x key = (l : _) × (x.join ≡ Some l) × MayArrive (shown l.value) key false
 
--- What the frame at place k of these finds as it ends: the worker that offers its parent's continuation is there, and where the continuation beside
--- the frame was stolen, its piece may come to the parent's block.
+-- The parent of the frame at place k as the frame ends: the worker that offers the parent's
+-- continuation exists. If the continuation beside the frame was stolen, the frame's piece may
+-- arrive at the parent's block.
 abbrev pub FindsParent : List (Activation FrameState) → ℕ → ℕ → Type 0
 FindsParent frames count k =
     0 < k → (a above : Activation FrameState) → slice_get frames k ≡ Some a → (let x = a.cursor in slice_get frames x.parent ≡ Some above)
     → let x = a.cursor in let y = above.cursor in IsOfferedAmong y.status count × (x.stolen ≡ true → MayBring y x.ordinal)
 
--- Worker w, whose views are these, parts from its frame, the one at place k of these, which ends with a value. The first frame leaves an outcome, and
--- the worker is idle. Where no continuation was stolen beside the frame, the worker has the parent, whose continuation is taken back. Else its piece
--- comes to the parent's block; where that passes, the worker has the parent, at its sync, and else is idle.
+-- Worker w, with these views, leaves its frame at place k, which ends with a value. The first frame
+-- gives an outcome, and the worker is idle. If no continuation was stolen beside the frame, the
+-- worker holds the parent, and its continuation is withdrawn. Otherwise the piece arrives at the
+-- parent's block. If the block passes, the worker holds the parent at its sync; if not, the worker
+-- is idle.
 pub data PartsFrom (code : CodeView) (frames : List (Activation FrameState)) (cells : List ℤ) (workers : List Worker) (offered : ℕ) (outcome : Option Outcome) (views : Hypermap) (b' : Scheduler) (w k : ℕ) (v : ℤ) : Type 0 where
   LeavesRun : k ≡ 0 → (left : Hypermap) → b'.outcome ≡ Some (outcome_of code.layout cells views v) → (let g = b'.frames in g.items ≡ frames) → (let m = b'.workers in m.items ≡ altered freed (viewing left workers w) w) → b'.offered ≡ offered
       → PartsFrom code frames cells workers offered outcome views b' w k v
@@ -62,13 +65,14 @@ pub data PartsFrom (code : CodeView) (frames : List (Activation FrameState)) (ce
       → (let x = a.cursor in let m = b'.workers in m.items ≡ altered (cond passes (working x.parent) freed) (viewing left workers w) w) → b'.offered ≡ offered → b'.outcome ≡ outcome
       → PartsFrom code frames cells workers offered outcome views b' w k v
 
--- from one board to another
+-- the same, from one scheduler to the next
 abbrev pub PartsTo : CodeView → Scheduler → Scheduler → ℕ → ℕ → ℤ → Type 0
 PartsTo code b b' w k v =
     (u : Worker) → let f = b.frames in let c = b.cells in let l = b.workers in FindsParent f.items (length l.items) k → slice_get l.items w ≡ Some u → PartsFrom code f.items c.items l.items b.offered b.outcome u.views b' w k v
 
--- The frame at place k, which worker w has, ends with a value: the worker's views have lost its reducers, the worker has parted from it, and it is
--- finished. The event is still to be written down.
+-- The frame at place k, which worker w holds, ends with a value. The worker's views have lost the
+-- frame's reducers, the worker has left the frame, and the frame is finished. The event isn't in
+-- the journal yet.
 pub record Ended (code : CodeView) (b b' : Scheduler) (w k : ℕ) (v : ℤ) : Type 0 where
   pub worker : Worker
   pub top : Activation FrameState
@@ -86,21 +90,22 @@ pub record Ended (code : CodeView) (b b' : Scheduler) (w k : ℕ) (v : ℤ) : Ty
   pub journal : let e = b.journal in let l = b'.journal in l.items ≡ e.items
   pub ticks : b'.ticks ≡ b.ticks
 
--- it has come to its end, and ends so where it finds its parent
+-- the frame requests its end, and ends so if its parent is as it must be
 abbrev pub EndsFrame : CodeView → Scheduler → Scheduler → ℕ → ℕ → Type 0
 EndsFrame code b b' w k = (v : ℤ) × (b.asked ≡ asks.End v) × ((let f = b.frames in let l = b.workers in FindsParent f.items (length l.items) k) → Ended code b b' w k v)
 
--- It is written down, and the frame's ticks are counted.
+-- The same, with the event in the journal and the frame's ticks counted.
 pub record WroteEnd (code : CodeView) (b b' : Scheduler) (w k : ℕ) : Type 0 where
   pub made : Scheduler
   pub ends : EndsFrame code b made w k
   pub noted : IsNoted made b' k events.End
 
--- what is told is an event of that frame, which ends where it is its end
+-- the result is an event of that frame; if it is an `end`, the frame has ended
 abbrev pub TellsEnd : CodeView → Scheduler → Scheduler → ℕ → ℕ → Told → Type 0
 TellsEnd code b b' w k t = (e : Event) × (t ≡ told.Did (record { frame = k + 1; event = e })) × (e ≡ events.End → WroteEnd code b b' w k)
 
--- The choice is a step of the free machine, where it ends a frame: a board that showed a state shows what comes of it.
+-- A choice that ends a frame is a step of the free machine: if the scheduler showed a state, it
+-- shows the state after that step.
 abbrev pub EndsAreSteps : CodeView → List ℤ → Scheduler → Scheduler → Choice → Told → Type 0
 EndsAreSteps code inputs b b' c (told.Did act) =
     act.event ≡ events.End → (p : Source) (name : ℕ → Name) (d : WorkerTable) (s : State FrameEnv View) → IsReached code p inputs name b d s → (s' : State FrameEnv View) × (d' : WorkerTable) × Chooses p inputs s d c Did s' d' × IsReached code p inputs name b' d' s'

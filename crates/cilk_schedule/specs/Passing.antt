@@ -1,5 +1,5 @@
--- Continuations that thieves take, frames that wait at a sync, and syncs: what functions change by numbers, and that these choices are steps of
--- the free machine.
+-- Steals, waits at a sync, and syncs: what they change by numbers, and that these choices are steps
+-- of the free machine.
 use Rattle.std.specs.Prelude.{◌≡◌, ◌+◌, ℕ, Bool, true, false, ℤ, List, remove, slice_get, Some, None}
 use Rattle.cilk_types.specs.declared.event.Event.TheVariants as events
 use Rattle.cilk_types.specs.declared.event.Instance.{Instance}
@@ -32,7 +32,8 @@ use Rattle.cilk_scheduler.specs.declared.choice.Told.TheVariants as told
 use Rattle.cilk_scheduler.specs.declared.frame_state.FrameState.{FrameState}
 use Rattle.cilk_scheduler.specs.declared.frame_state.Worker.{Worker}
 
--- The piece of the last child of the frame at place k is awaited at its block, and that child is marked.
+-- The last child of the frame at place k is marked as stolen, and its piece is awaited at the
+-- frame's block.
 pub record Robs (frames frames' : List (Activation FrameState)) (k : ℕ) : Type 0 where
   pub seat : Activation FrameState
   pub awaiting : FrameState
@@ -40,7 +41,7 @@ pub record Robs (frames frames' : List (Activation FrameState)) (k : ℕ) : Type
   pub awaits : let x = seat.cursor in AwaitsLast x awaiting
   pub frames_are : frames' ≡ changed robbed (changed (λ _. awaiting) frames k) awaiting.last
 
--- The worker at this place no longer offers the continuation at that place of its list.
+-- Worker `victim` no longer offers the continuation at place `at` of its list.
 pub record OffersLess (workers workers' : List Worker) (victim at : ℕ) : Type 0 where
   pub owner : Worker
   pub without : Worker
@@ -53,18 +54,18 @@ pub record OffersLess (workers workers' : List Worker) (victim at : ℕ) : Type 
 abbrev pub HasNoView : List Worker → List Worker → ℕ → Type 0
 HasNoView workers workers' w = (views : Hypermap) × EachKind (λ q. (j : Instance) → view_in views q j ≡ None) × (workers' ≡ viewing views workers w)
 
--- The piece that a frame brings to its own block may arrive there, where the block hasn't passed.
+-- If the block of a frame hasn't passed, the frame's own piece may arrive there.
 abbrev pub MayBringOwn : FrameState → Type 0
 MayBringOwn x = x.merged ≡ false → MayArrive (block_in x.join) (x.children + 1) true
 
--- What is kept of a frame, and these views, where they come to its block with this key: no continuation of it was stolen, or they arrive. Whether it
--- passes.
+-- The frame's state and the views after the views were brought to its block under this key, and
+-- whether the block passes. Either no continuation of the frame was stolen, or the views arrive.
 pub data ComesTo (x : FrameState) (key : ℕ) (last : Bool) (old : Hypermap) (passes : Bool) (x' : FrameState) (new : Hypermap) : Type 0 where
   Unstolen : x.join ≡ None → x' ≡ x → new ≡ old → passes ≡ false → ComesTo x key last old passes x' new
   Arrived : (l l' : _) → x.join ≡ Some l → x' ≡ record x { join = Some l' }
       → Arrives (shown l.value) key last (product old) passes (shown l'.value) new → ComesTo x key last old passes x' new
 
--- The views of the worker at place w come so to the block of the frame at place k.
+-- The views of worker w are brought so to the block of the frame at place k.
 pub record PieceComes (frames frames' : List (Activation FrameState)) (workers workers' : List Worker) (w k key : ℕ) (last passes : Bool) : Type 0 where
   pub seat : Activation FrameState
   pub worker : Worker
@@ -76,7 +77,7 @@ pub record PieceComes (frames frames' : List (Activation FrameState)) (workers w
   pub frames_are : frames' ≡ changed (λ _. brought) frames k
   pub workers_are : workers' ≡ viewing views workers w
 
--- The own piece of the frame at place k, which the worker at place w has, comes to the frame's block.
+-- The own piece of the frame at place k, which worker w holds, is brought to the frame's block.
 pub record OwnComes (frames frames' : List (Activation FrameState)) (workers workers' : List Worker) (w k : ℕ) : Type 0 where
   pub seat : Activation FrameState
   pub worker : Worker
@@ -88,7 +89,7 @@ pub record OwnComes (frames frames' : List (Activation FrameState)) (workers wor
   pub frames_are : frames' ≡ changed (λ _. brought) frames k
   pub workers_are : workers' ≡ viewing views workers w
 
--- The frame waits, and the worker has none.
+-- The frame waits at its sync, and the worker is idle.
 pub record StaysAt (b b' : Scheduler) (w k : ℕ) : Type 0 where
   pub arrived : List (Activation FrameState)
   pub viewed : List Worker
@@ -101,7 +102,7 @@ pub record StaysAt (b b' : Scheduler) (w k : ℕ) : Type 0 where
   pub ticks : b'.ticks ≡ b.ticks
   pub outcome : b'.outcome ≡ b.outcome
 
--- The frame goes on behind its sync, with another block. The event is still to be written down.
+-- The frame continues after its sync, with a new block. The event isn't in the journal yet.
 pub record GoesBehind (b b' : Scheduler) (w k : ℕ) : Type 0 where
   pub arrived : List (Activation FrameState)
   pub comes : let f = b.frames in let l = b.workers in let m = b'.workers in OwnComes f.items arrived l.items m.items w k
@@ -110,14 +111,15 @@ pub record GoesBehind (b b' : Scheduler) (w k : ℕ) : Type 0 where
   pub offered : b'.offered ≡ b.offered
   pub outcome : b'.outcome ≡ b.outcome
 
--- what comes of the frame at place k, where its own piece may come to its block; and where that hasn't passed
+-- P holds if the own piece of the frame at place k may arrive at its block; or if, also, the block
+-- hasn't passed
 abbrev pub WhereOwnMayCome : List (Activation FrameState) → ℕ → Type 0 → Type 0
 WhereOwnMayCome frames k P = (a : Activation FrameState) → slice_get frames k ≡ Some a → MayBringOwn a.cursor → P
 
 abbrev pub WhereOwnIsDue : List (Activation FrameState) → ℕ → Type 0 → Type 0
 WhereOwnIsDue frames k P = (a : Activation FrameState) → slice_get frames k ≡ Some a → (let x = a.cursor in x.merged ≡ false) → MayBringOwn a.cursor → P
 
--- It makes its sync: the event is written down, and its ticks are counted.
+-- The frame's sync is made, with the event in the journal and its ticks counted.
 pub record WroteSync (b b' : Scheduler) (w k : ℕ) : Type 0 where
   pub made : Scheduler
   pub asked : b.asked ≡ asks.Sync
@@ -126,7 +128,8 @@ pub record WroteSync (b b' : Scheduler) (w k : ℕ) : Type 0 where
   pub ticks : made.ticks ≡ b.ticks
   pub noted : IsNoted made b' k events.Sync
 
--- A thief's choice is a step of the free machine: a board that showed a state shows what comes of it.
+-- A steal is a step of the free machine: if the scheduler showed a state, it shows the state after
+-- that step.
 abbrev pub StealsAreSteps : CodeView → List ℤ → Scheduler → Scheduler → Choice → Told → Type 0
 StealsAreSteps code inputs b b' c (told.Did act) = Unit {0}
 StealsAreSteps code inputs b b' c told.Stole =
@@ -135,7 +138,8 @@ StealsAreSteps code inputs b b' c told.Stole =
 StealsAreSteps code inputs b b' c told.Waits = Unit {0}
 StealsAreSteps code inputs b b' c told.Skipped = Unit {0}
 
--- A choice by which a frame waits at its sync makes no step: a board that showed a state shows it still, with the worker idle.
+-- A choice by which a frame waits at its sync makes no step: if the scheduler showed a state, it
+-- still shows that state, with the worker idle.
 abbrev pub WaitsAreSteps : CodeView → List ℤ → Scheduler → Scheduler → Choice → Told → Type 0
 WaitsAreSteps code inputs b b' c (told.Did act) = Unit {0}
 WaitsAreSteps code inputs b b' c told.Stole = Unit {0}
@@ -144,7 +148,7 @@ WaitsAreSteps code inputs b b' c told.Waits =
     → (d' : WorkerTable) × Chooses p inputs s d c Waited s d' × ShowsBy code p inputs name b' d' s
 WaitsAreSteps code inputs b b' c told.Skipped = Unit {0}
 
--- A sync is a step of the free machine, in each state that steps or choices lead to.
+-- A sync is a step of the free machine, in each reachable state that the scheduler shows.
 abbrev pub SyncsAreSteps : CodeView → List ℤ → Scheduler → Scheduler → Choice → Told → Type 0
 SyncsAreSteps code inputs b b' c (told.Did act) =
     act.event ≡ events.Sync → (p : Source) (name : ℕ → Name) (d : WorkerTable) (s : State FrameEnv View) → IsShown code p inputs name b d s → HaveGoneOn s

@@ -1,4 +1,4 @@
--- What a script makes of a program's run.
+-- Playing a script: its tasks, its end, and the result that is reported.
 use Rattle.std.specs.Prelude.{◌≡◌, ◌-◌, ◌<◌, ℕ, zero, suc, ℤ, Bool, true, false, if◌then◌else◌, List, [], ◌∷◌, ◌++◌, length, map, slice_get, None, Some, Option, IfSome}
 use Rattle.std.specs.Option.{is_some}
 use Rattle.cilk_types.specs.declared.fault.Fault.{Fault}
@@ -36,15 +36,15 @@ use Rattle.cilk_schedule.specs.declared.fault.PlayFault.{PlayFault}
 use Rattle.cilk_schedule.specs.declared.fault.PlayFault.TheVariants as faults
 use Rattle.cilk_schedule.specs.declared.player.TheConstants.{MAX_ROUNDS}
 
--- what is to be done of a script
+-- a task of a script
 pub data Task : Type 0 where
-  -- a choice is made
+  -- one choice
   Choose : Choice → Task
-  -- a worker goes on with its frame, or takes the first continuation that is offered
+  -- a worker continues its frame, or steals the first continuation that is offered
   Turn : (worker : ℕ) → Task
-  -- rounds are made until the run has ended, at most so many
+  -- rounds until the run has ended, at most `count`
   Rounds : (count : ℕ) → Task
-  -- the choices of this line would go past the limit
+  -- the choices of this line would exceed the limit
   Pass : (line : ℕ) → Task
 
 abbrev pub task_of : Next → Task
@@ -53,11 +53,11 @@ task_of (nexts.Steal worker place) = Choose (choices.Steal worker place)
 task_of nexts.Rounds = Rounds MAX_ROUNDS
 task_of (nexts.Past line) = Pass line
 
--- what the steps of a script stand for
+-- the tasks of a script's steps
 abbrev pub tasks_of : List Step → List Task
 tasks_of steps = map task_of (choices_within MAX_CHOICES steps)
 
--- there is such a worker, and it has a frame
+-- there is such a worker, and it holds a frame
 abbrev pub has_frame : Option (Option Name) → Bool
 has_frame None = false
 has_frame (Some hand) = is_some hand
@@ -66,24 +66,25 @@ abbrev pub is_busy : WorkerTable → ℕ → Bool
 is_busy d zero = false
 is_busy d (suc w) = has_frame (slice_get d.hands w)
 
--- what a worker does in its turn
+-- a worker's choice in its turn
 abbrev pub turn_of : WorkerTable → ℕ → Choice
 turn_of d worker = if is_busy d worker then choices.Run worker else choices.Steal worker 0
 
--- a round: so many workers' turns, from this worker on
+-- the turns of a number of workers, from worker `first` on; a round is the turns of all
 abbrev pub turns : ℕ → ℕ → List Task
 turns first zero = []
 turns first (suc more) = Turn first ∷ turns (suc first) more
 
--- How a script ends: all of it is done, and the run has come to this state; a choice has stopped the run; or the choices of a line
--- would go past the limit.
+-- The end of a script: all of it is done, with the run in this state; a choice has stopped the run;
+-- or the choices of a line would exceed the limit.
 pub data End : Type 0 where
   Done : (state : State FrameEnv View) (desk : WorkerTable) → End
   Stopped : (stop : Stop) → End
   Passed : (line : ℕ) → End
 
 module _ (p : Source) (inputs : List ℤ) where
-  -- with so many workers these tasks, one after another, lead from a state and a desk of the free machine to this end
+  -- the tasks, one after another, lead from a state and a worker table of the free machine to this
+  -- end
   pub data Plays (workers : ℕ) : List Task → State FrameEnv View → WorkerTable → End → Type 0 where
     Finished : (s : State FrameEnv View) (d : WorkerTable) → Plays workers [] s d (Done s d)
     Chosen : (choice : Choice) (told : Comes) (rest : List Task) (s s' : State FrameEnv View) (d d' : WorkerTable) (e : End) → Chooses p inputs s d choice told s' d' → Plays workers rest s' d' e → Plays workers (Choose choice ∷ rest) s d e
@@ -94,80 +95,83 @@ module _ (p : Source) (inputs : List ℤ) where
     Round : (count : ℕ) (rest : List Task) (s : State FrameEnv View) (d : WorkerTable) (e : End) → ¬ (IsOver s) → Plays workers (turns 1 workers ++ (Rounds count ∷ rest)) s d e → Plays workers (Rounds (suc count) ∷ rest) s d e
     Passes : (line : ℕ) (rest : List Task) (s : State FrameEnv View) (d : WorkerTable) → Plays workers (Pass line ∷ rest) s d (Passed line)
 
-  -- The steps of a script lead from the opening state, in which the first of so many workers has the first frame, to this end.
+  -- The steps of a script lead to this end from the opening state, in which the first of the
+  -- workers holds the first frame.
   abbrev pub Ends : ℕ → List Step → End → Type 0
   Ends workers steps e = (s : State FrameEnv View) × IsFirst p inputs s × Plays workers (tasks_of steps) s (first_desk (workers - 1)) e
 
-  -- one end is the other, but for the views of frames that haven't begun
+  -- two ends are the same, up to the views of frames that haven't begun
   abbrev pub SameEnd : End → End → Type 0
   SameEnd (Done s d) (Done t d') = (d' ≡ d) × Agree s t
   SameEnd (Stopped stop) (Stopped stop') = stop' ≡ stop
   SameEnd (Passed line) (Passed line') = line' ≡ line
   SameEnd _ _ = ⊥
 
-  -- A script has at most one end, of a program on an input, with so many workers.
+  -- A script has at most one end, of a program on an input, with a number of workers.
   abbrev pub ScriptsHaveOneEnd : Type 0
   ScriptsHaveOneEnd = (workers : ℕ) (steps : List Step) (e e' : End) → Ends workers steps e → Ends workers steps e' → SameEnd e e'
 
--- what the steps of a script leave, all of which are done
+-- the outcome after all steps of a script are done, if the run has ended
 abbrev pub IsLeft : Source → List ℤ → ℕ → List Step → Option Outcome → Type 0
 IsLeft p inputs workers steps left = (s : State FrameEnv View) × (d : WorkerTable) × Ends p inputs workers steps (Done s d) × Leaves p s left
 
--- the run stops by this fault, in the strand of this name
+-- the run stops by this fault, in the strand with this name
 abbrev pub StopsBy : (End → Type 0) → Fault → List ℕ → Type 0
 StopsBy IsEnd fault name = (stop : Stop) × IsEnd (Stopped stop) × (fault ≡ stop.fault) × (name ≡ stop.frame ++ stop.strand ∷ [])
 
--- Of a stop the fault is told, and the strand's name: its frame's name, and then its number in its frame.
+-- The error that reports an end. For a stop it has the fault and the strand's name.
 abbrev pub IsFault : (End → Type 0) → PlayFault → Type 0
 IsFault IsEnd (faults.Line line) = IsEnd (Passed line)
 IsFault IsEnd (faults.Stop fault name) = StopsBy IsEnd fault (let n = name in n.items)
 IsFault IsEnd faults.Memory = Unit {0}
 
--- A strand's name by the names that a board's frames have: its frame's, and then the strand's number.
+-- A strand's name by the names of a scheduler's frames: its frame's name, then the strand's number.
 abbrev pub IsNameIn : Scheduler → Strand → List ℕ → Type 0
 IsNameIn b strand name =
     (names : ℕ → Name) (place : ℕ) → strand.frame ≡ suc place → AreNamed (let f = b.frames in f.items) names → place < length (let f = b.frames in f.items)
     → name ≡ names place ++ strand.number ∷ []
 
--- a fault tells of this stop at a board
+-- the error reports this stop of a scheduler
 abbrev pub IsFaultOf : Scheduler → stopping.Stop → PlayFault → Type 0
 IsFaultOf b stop (faults.Line line) = ⊥
 IsFaultOf b stop (faults.Stop fault name) = (strand : Strand) × (stop ≡ stops.At fault strand) × IsNameIn b strand (let n = name in n.items)
 IsFaultOf b stop faults.Memory = Unit {0}
 
--- these tasks come down to those, from another state and desk on
+-- to do these tasks is to do those that are left, from another state and worker table on
 abbrev pub Follows : Source → List ℤ → ℕ → List Task → State FrameEnv View → WorkerTable → List Task → State FrameEnv View → WorkerTable → Type 0
 Follows p inputs workers tasks s d left s' d' = (rest : List Task) (e : End) → Plays p inputs workers (left ++ rest) s' d' e → Plays p inputs workers (tasks ++ rest) s d e
 
--- The machine has its code and its input, and from each state that its board showed these tasks come down to those, from a state on that it shows.
+-- The machine keeps its code and its input. From each state shown before, to do these tasks is to
+-- do those that are left, from a state shown after.
 pub record Leads (workers : ℕ) (tasks : List Task) (m : Machine) (left : List Task) (m' : Machine) : Type 0 where
   pub code : m'.code ≡ m.code
   pub input : m'.input ≡ m.input
   pub reached : (p : Source) → IsCodeOf p (let c = m.code in c.now) → (h : IsAt m p) → (h' : IsAt m' p) × Follows p (let i = m.input in i.now) workers tasks h.state h.desk left h'.state h'.desk
 
--- one of these tasks comes to this fault
+-- one of the tasks ends with this error
 abbrev pub ComesToFault : ℕ → List Task → Machine → PlayFault → Type 0
 ComesToFault workers tasks m f = (p : Source) → IsCodeOf p (let c = m.code in c.now) → (h : IsAt m p) → (rest : List Task) → IsFault (λ e. Plays p (let i = m.input in i.now) workers (tasks ++ rest) h.state h.desk e) f
 
--- Where one serial run settles every parallel one, an outcome that is left is that run's.
+-- If one serial run settles every parallel one, an outcome is that run's.
 abbrev pub LeavesAsSettled : Source → List ℤ → Option Outcome → Type 0
 LeavesAsSettled p inputs left = (outcome : Outcome) → IsSettled p inputs outcome → IfSome left (λ o. o ≡ outcome)
 
--- a fault that no strand stopped by
+-- an error that isn't a stop of a strand
 abbrev pub IsNoStop : PlayFault → Type 0
 IsNoStop (faults.Line line) = Unit {0}
 IsNoStop (faults.Stop fault name) = ⊥
 IsNoStop faults.Memory = Unit {0}
 
--- Where one serial run settles every parallel one, no strand stops by a fault.
+-- If one serial run settles every parallel one, no strand stops by a fault.
 abbrev pub FailsAsSettled : Source → List ℤ → PlayFault → Type 0
 FailsAsSettled p inputs f = (outcome : Outcome) → IsSettled p inputs outcome → IsNoStop f
 
--- Where whatever steps are made the state is as one serial run, so is each state that a board shows, and to which steps lead.
+-- If every sequence of steps agrees with one serial run, so does each reachable state that a
+-- scheduler shows.
 abbrev pub SettlesEachState : Type 0
 SettlesEachState =
     (code : CodeView) (p : Source) (inputs : List ℤ) (b : Scheduler) (run : Transcript) (outcome : Outcome) (h : HasReached code p inputs b) → AlwaysAsSerial p inputs run outcome → IsAsSerial p inputs run outcome h.state
 
--- a board that shows the opening state shows one to which steps lead
+-- a scheduler that shows the opening state shows a reachable state
 abbrev pub OpeningsAreReached : Type 0
 OpeningsAreReached = (code : CodeView) (p : Source) (inputs : List ℤ) (b : Scheduler) (idle : ℕ) → HasOpened code p inputs b idle → HasReached code p inputs b

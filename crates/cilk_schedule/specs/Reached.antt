@@ -1,4 +1,4 @@
--- A board that shows a state to which steps of the free machine lead.
+-- Schedulers that show a reachable state of the free machine.
 use Rattle.std.specs.Prelude.{ℕ, ℤ, List, []}
 use Rattle.cilk_program.specs.Syntax.{Source}
 use Rattle.cilk_lower.specs.Behaves.{Behaves}
@@ -20,8 +20,9 @@ use Rattle.cilk_scheduler.specs.declared.choice.Told.{Told}
 use Rattle.cilk_scheduler.specs.declared.choice.Told.TheVariants as told
 
 module _ (code : CodeView) (p : Source) (inputs : List ℤ) where
-  -- The board shows this state, of which holds what holds of each that steps lead to: frames did as they asked, outlive their children, went on
-  -- behind those that they spawned, and run what was started under their names.
+  -- The scheduler shows this state, which keeps what each reachable state keeps: frames did what
+  -- they requested, outlive their children, continued after each child that they spawned, and run
+  -- what was started under their names.
   pub record IsReached (name : ℕ → Name) (b : Scheduler) (d : WorkerTable) (s : State FrameEnv View) : Type 0 where
     pub behaves : Behaves p code
     pub shown : IsShown code p inputs name b d s
@@ -29,12 +30,12 @@ module _ (code : CodeView) (p : Source) (inputs : List ℤ) where
     pub behind : HaveGoneOn s
     pub started : AreStarted p s
 
-  -- So it goes on to be after a choice, on the board that shows what comes of it.
+  -- A choice keeps this, for the scheduler that shows the state after it.
   abbrev pub ChoicesLeadOn : Type 0
   ChoicesLeadOn =
       (name name' : ℕ → Name) (b b' : Scheduler) (d d' : WorkerTable) (s s' : State FrameEnv View) (c : Choice) (t : Comes) → IsReached name b d s → Chooses p inputs s d c t s' d' → ShowsBy code p inputs name' b' d' s' → IsReached name' b' d' s'
 
--- Steps of the free machine lead to a state of the program on the inputs, and the board shows it.
+-- The scheduler shows a reachable state of the program on the inputs.
 pub record HasReached (code : CodeView) (p : Source) (inputs : List ℤ) (b : Scheduler) : Type 0 where
   pub steps : List Name
   pub state : State FrameEnv View
@@ -43,18 +44,20 @@ pub record HasReached (code : CodeView) (p : Source) (inputs : List ℤ) (b : Sc
   pub desk : WorkerTable
   pub shows : ShowsBy code p inputs name b desk state
 
--- what is told of a choice, as choices by names have it
+-- the result of a choice, in the rules of choices by names
 abbrev pub comes_of : Told → Comes
 comes_of (told.Did act) = Did
 comes_of told.Stole = Stole
 comes_of told.Waits = Waited
 comes_of told.Skipped = Skipped
 
--- Where steps lead to a state that the board shows, they lead to one that the next board shows, and the choice by names goes from the one to the other.
+-- If a scheduler shows a reachable state, so does the next one, and the choice by names leads from
+-- the one state to the other.
 abbrev pub LeadsOn : CodeView → Source → List ℤ → Scheduler → Scheduler → Choice → Told → Type 0
 LeadsOn code p inputs b b' c t = (h : HasReached code p inputs b) → (h' : HasReached code p inputs b') × Chooses p inputs h.state h.desk c (comes_of t) h'.state h'.desk
 
--- The board shows the opening state: the first worker has the first frame, beside so many idle ones.
+-- The scheduler shows the opening state: the first worker holds the first frame, and `idle` others
+-- are idle.
 pub record HasOpened (code : CodeView) (p : Source) (inputs : List ℤ) (b : Scheduler) (idle : ℕ) : Type 0 where
   pub state : State FrameEnv View
   pub first : IsFirst p inputs state

@@ -1,4 +1,5 @@
--- What is shown of a run: by numbers, and of a state of the free machine, by names that no schedule changes.
+-- The run that is shown: by numbers; and as a state of the free machine, by names that no schedule
+-- changes.
 use Rattle.std.specs.Prelude.{◌≡◌, ◌-◌, ◌<◌, ◌≤◌, ℕ, zero, suc, nat_eq, Bool, true, false, cond, ℤ, List, [], ◌∷◌, ◌++◌, length, slice_get, unwrap_or, Some, None}
 use Rattle.std.specs.Option.{option_map}
 use Rattle.cilk_types.specs.declared.event.Event.{Event}
@@ -32,7 +33,7 @@ use Rattle.cilk_schedule.specs.declared.showing.ShownFrame.{ShownFrame}
 
 -- ---- by numbers
 
--- the ordinal of the frame with a number, which counts frames from 1; 0 where there is none
+-- the ordinal of the frame with a number, from 1; 0 if there is none
 abbrev pub ordinal_of : List (Activation FrameState) → ℕ → ℕ
 ordinal_of frames zero = 0
 ordinal_of frames (suc k) = unwrap_or (option_map (λ (a : Activation FrameState). let x = a.cursor in x.ordinal) (slice_get frames k)) 0
@@ -41,17 +42,18 @@ ordinal_of frames (suc k) = unwrap_or (option_map (λ (a : Activation FrameState
 abbrev pub reducer_of : numbered.Instance → ReducerName
 reducer_of j = cond (nat_eq j.frame 0) reducers.Output (reducers.Own (j.frame - 1) (j.place - 1))
 
--- The cell with this number is of the frame at place k, or past its last: all frames up to that one begin at it or before, and all others past it.
+-- The cell with this number is of the frame at place k, or past its last cell: the cells of all
+-- frames up to that one begin at it or before it, and those of all later frames after it.
 pub record IsOwner (frames : List (Activation FrameState)) (k : ℕ) (x : Activation FrameState) (n : ℕ) : Type 0 where
   pub here : slice_get frames k ≡ Some x
   pub before : (j : ℕ) (y : Activation FrameState) → slice_get frames j ≡ Some y → j ≤ k → y.base ≤ n
   pub behind : (j : ℕ) (y : Activation FrameState) → slice_get frames j ≡ Some y → k < j → n < y.base
 
--- the name of the cell with this number, of which the first so many are global
+-- the name of the cell with this number; the first `globals` cells are global
 abbrev pub IsCellOf : List (Activation FrameState) → ℕ → ℕ → CellName → Type 0
 IsCellOf frames globals n q = (n < globals → q ≡ cells.Global n) × ((k : ℕ) (x : Activation FrameState) → globals ≤ n → IsOwner frames k x n → q ≡ cells.Own k (n - x.base))
 
--- an event by numbers, as it is named
+-- the name of an event by numbers
 abbrev pub IsNamedAs : List (Activation FrameState) → ℕ → Event → ShownEvent → Type 0
 IsNamedAs frames globals (events.Begin k) e = e ≡ shows.Begin
 IsNamedAs frames globals (events.Read n v) e = (q : CellName) × IsCellOf frames globals n q × (e ≡ shows.Read q v)
@@ -74,7 +76,7 @@ abbrev pub start_shown : Invocation → ℕ → ShownEvent
 start_shown Call q = shows.Call q
 start_shown Spawn q = shows.Spawn q
 
--- so many frames have begun, at places by which they have these names
+-- `count` frames have begun, with these names by place
 module _ (name : ℕ → Name) (count : ℕ) where
   abbrev pub IsCellShown : Cell → CellName → Type 0
   IsCellShown (Global g) q = q ≡ cells.Global g
@@ -100,7 +102,7 @@ module _ (name : ℕ → Name) (count : ℕ) where
   IsEventShown (Ends v gone) e = e ≡ shows.End
   IsEventShown (Passes m) e = IsMarkShown m e
 
-  -- These events are what frame n did, in order, where the next child that it starts has this ordinal.
+  -- These events are what frame n did, in order. Its next child has ordinal `next`.
   abbrev pub AreShown : Name → ℕ → List (Deed FrameEnv) → List ShownEvent → Type 0
   AreShown n next [] [] = Unit {0}
   AreShown n next [] (e ∷ es) = ⊥
@@ -108,8 +110,9 @@ module _ (name : ℕ → Name) (count : ℕ) where
   AreShown n next (Does d ∷ ds) (e ∷ es) = IsEventShown d e × AreShown n next ds es
   AreShown n next (Invokes k w ∷ ds) (e ∷ es) = (w.name ≡ n ++ next ∷ []) × (e ≡ start_shown k next) × AreShown n (suc next) ds es
 
--- Frames by links have these names: the first is the root, each other is known by an earlier one, its parent, and its ordinal there, and two have
--- two names. Each frame lists its children by their ordinals, from 1 on.
+-- Frames by links have these names. The first is the root. Each other frame has an earlier parent
+-- and is named by that and its ordinal there. Names differ. Each frame lists its children by their
+-- ordinals, from 1 on.
 pub record AreLinked (frames : List ShownFrame) (name : ℕ → Name) : Type 0 where
   pub root : name 0 ≡ []
   pub child : (k : ℕ) (f : ShownFrame) → slice_get frames (suc k) ≡ Some f → let l = f.link in (l.parent < suc k) × (name (suc k) ≡ name l.parent ++ l.ordinal ∷ [])
@@ -117,8 +120,8 @@ pub record AreLinked (frames : List ShownFrame) (name : ℕ → Name) : Type 0 w
   pub lists : (k q j : ℕ) (f : ShownFrame) → slice_get frames k ≡ Some f → (let c = f.children in slice_get c.items q ≡ Some j) → (j < length frames) × (name j ≡ name k ++ suc q ∷ [])
   pub listed : (k q j : ℕ) (f : ShownFrame) → slice_get frames k ≡ Some f → j < length frames → name j ≡ name k ++ q ∷ [] → (r : ℕ) × (q ≡ suc r) × (let c = f.children in slice_get c.items r ≡ Some j)
 
--- What is shown is this state of the free machine, by these names: what each frame did, which children were joined, each once, and the outcome
--- once the first frame has ended.
+-- The run shown is this state of the free machine, by these names: what each frame did, which
+-- children were joined, each once, and the outcome once the first frame has ended.
 pub record ShowsRun (p : Source) (name : ℕ → Name) (s : State FrameEnv View) (shown : Shown) : Type 0 where
   pub linked : let l = shown.frames in AreLinked l.items name
   pub events : (k : ℕ) (f : ShownFrame) → (let l = shown.frames in slice_get l.items k ≡ Some f)
@@ -128,8 +131,8 @@ pub record ShowsRun (p : Source) (name : ℕ → Name) (s : State FrameEnv View)
   pub going : shown.outcome ≡ None → ¬ (HasEnd (deeds_at (s.frames [])))
   pub over : (o : Outcome) → shown.outcome ≡ Some o → HasEnd (deeds_at (s.frames [])) × (o ≡ outcome_in p s)
 
--- What is shown of a board is each state that the board tells, of a program with so many global cells, where each child was started under its
--- parent's name and its ordinal.
+-- The run shown is right for every state that the scheduler records, of a program with `globals`
+-- global cells, if each child was started under its parent's name and its ordinal.
 abbrev pub ShowsScheduler : ℕ → Scheduler → Shown → Type 0
 ShowsScheduler globals b shown =
     (code : CodeView) (p : Source) (inputs : List ℤ) (name : ℕ → Name) (s : State FrameEnv View) → globals ≡ length p.openings → ChildrenAreNamed s → Tells code p inputs name b s → ShowsRun p name s shown
@@ -151,7 +154,7 @@ has_sync (shows.Set r v ∷ es) = has_sync es
 has_sync (shows.Value r v ∷ es) = has_sync es
 has_sync (shows.Print v ∷ es) = has_sync es
 
--- a sync stands behind the spawn of the child with this ordinal
+-- a sync follows the spawn of the child with this ordinal
 abbrev pub joins_child : ℕ → List ShownEvent → Bool
 joins_child k [] = false
 joins_child k (shows.Begin ∷ es) = joins_child k es

@@ -1,4 +1,4 @@
--- What a machine shows of its run.
+-- The run that a machine shows.
 use Rattle.std.specs.Prelude.{ℕ, ℤ, List}
 use Rattle.cilk_program.specs.Syntax.{Source}
 use Rattle.cilk_lower.specs.Code.{CodeView}
@@ -13,8 +13,9 @@ use Rattle.cilk_schedule.specs.Showing.{ShowsRun}
 use Rattle.cilk_schedule.specs.declared.showing.Shown.{Shown}
 use Rattle.cilk_schedule.specs.Sound.{IsCodeOf}
 
--- It is each state of the program on the inputs to which steps of the free machine lead and that the board tells: so it tells the state that it
--- shows, the one that a fault stopped, and, after a want of memory, the one before.
+-- The run shown is right for every reachable state, of the program on the inputs, that the
+-- scheduler records. Such a state is the one that the scheduler shows, the one that a fault
+-- stopped, or, out of memory, the one before.
 abbrev pub ShowsReached : CodeView → List ℤ → Scheduler → Shown → Type 0
 ShowsReached code inputs b shown =
     (p : Source) (steps : List Name) (name : ℕ → Name) (s : State FrameEnv View) → IsCodeOf p code → Reaches p inputs steps s → Tells code p inputs name b s → ShowsRun p name s shown

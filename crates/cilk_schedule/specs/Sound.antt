@@ -1,4 +1,4 @@
--- What a board keeps true, by its own numbers, so that its next choice is safe.
+-- The invariant of a scheduler's state, by its own numbers, which makes the next choice safe.
 use Rattle.std.specs.Prelude.{◌≡◌, ◌+◌, ◌-◌, ◌<◌, ◌≤◌, ℕ, IsTrue, ℤ, List, length, slice_get, Option, Some, None}
 use Rattle.cilk_types.specs.declared.event.Instance.{Instance}
 use Rattle.cilk_types.specs.declared.invocation.Invocation.{Invocation}
@@ -37,18 +37,18 @@ pub record IsCodeOf (p : Source) (code : CodeView) : Type 0 where
 abbrev pub IsCode : CodeView → Type 0
 IsCode code = (p : Source) × IsCodeOf p code
 
--- what a frame goes on with brings what its cursor is owed
+-- the frame continues with what its cursor is owed
 abbrev pub FitsDue : Owed → Due → Type 0
 FitsDue o due.Begin = o ≡ Nothing
 FitsDue o (due.Answer a) = Fits o a
 FitsDue o due.Sync = o ≡ Nothing
 
--- an activation as the frame that it stands for
+-- the frame of an activation
 abbrev pub frame_of : Callee → Scope ℕ Instance → Activation FrameState → Frame
 frame_of callee scope a = record { callee = callee; number = a.number; scope = scope; result = a.result }
 
 module _ (code : CodeView) (p : Source) (inputs : List ℤ) (frames : List (Activation FrameState)) (cells events : ℕ) where
-  -- A frame that hasn't ended runs this and sees this, and what it sees is there.
+  -- The body and the scope of a frame that hasn't ended. All cells and reducers in its sight exist.
   pub record Lives (a : Activation FrameState) : Type 0 where
     pub callee : Callee
     pub scope : Scope ℕ Instance
@@ -56,13 +56,13 @@ module _ (code : CodeView) (p : Source) (inputs : List ℤ) (frames : List (Acti
     pub links : HasScope frames a scope
     pub sees : Sees p (frame_of callee scope a) cells
 
-  -- Between two of its events its cursor stands at its history.
+  -- Between two of its events, its cursor is at its history.
   pub record Rests (a : Activation FrameState) (c : CursorView) : Type 0 where
     pub lives : Lives a
     pub stands : let x = a.cursor in Stands code inputs p lives.callee c lives.history x.took
     pub fits : let x = a.cursor in FitsDue c.owed x.due
 
-  -- It has come to this ask, and what that names is there.
+  -- The frame requests this, and what the request names exists.
   pub record Comes (a : Activation FrameState) (ask : Ask) : Type 0 where
     pub cursor : CursorView
     pub lives : Lives a
@@ -73,7 +73,7 @@ module _ (code : CodeView) (p : Source) (inputs : List ℤ) (frames : List (Acti
     pub named : AskIsThere p lives.callee ask
     pub may : (how : Invocation) (child : Callee) → ask ≡ asks.Invoke how child → CanInvoke lives.callee child
 
-  -- Its numbers are those of frames that are there, and within limits.
+  -- Its numbers are those of frames that exist, and are within limits.
   pub record Counts (a : Activation FrameState) : Type 0 where
     pub parent : let x = a.cursor in x.parent < length frames
     pub last : let x = a.cursor in x.last < length frames
@@ -84,7 +84,8 @@ module _ (code : CodeView) (p : Source) (inputs : List ℤ) (frames : List (Acti
     pub low : a.first < 65536
     pub creates : (function : ℕ) → a.creator ≡ Some function → let f = function_frame code.layout function in length f.reducers ≤ 64
 
-  -- All frames do so: the one whose turn it is, if any, has come to an ask, and the others rest.
+  -- The invariant of all frames: the one whose turn it is, if any, has made a request, and the
+  -- others rest.
   pub record Sound (turn : Option ℕ) (ask : Ask) : Type 0 where
     pub counts : (k : ℕ) (a : Activation FrameState) → slice_get frames k ≡ Some a → Counts a
     pub rests : (k : ℕ) (a : Activation FrameState) (c : CursorView) → slice_get frames k ≡ Some a → (turn ≡ Some k → ⊥) → (let x = a.cursor in x.cursor ≡ Some c) → Rests a c
@@ -94,30 +95,30 @@ module _ (code : CodeView) (p : Source) (inputs : List ℤ) (frames : List (Acti
     pub few_events : events ≤ MAX_EVENTS
     pub opened : length p.openings ≤ cells
 
--- a change of frames that leaves them all sound, whosever turn it is
+-- a change of frames that keeps them all sound, whosever turn it is
 abbrev pub Keeps : List (Activation FrameState) → List (Activation FrameState) → Type 0
 Keeps frames frames' =
     (code : CodeView) (p : Source) (inputs : List ℤ) (cells events : ℕ) (turn : Option ℕ) (ask : Ask) → Sound code p inputs frames cells events turn ask → Sound code p inputs frames' cells events turn ask
 
--- each frame has taken as many ticks, and as many of them are counted
+-- each frame has the same number of ticks, and the same number of them is counted
 abbrev pub SameTicks : List (Activation FrameState) → List (Activation FrameState) → Type 0
 SameTicks frames frames' =
     (k : ℕ) (a : Activation FrameState) → slice_get frames k ≡ Some a → (b : Activation FrameState) × (slice_get frames' k ≡ Some b) × (let x = a.cursor in let y = b.cursor in (y.took ≡ x.took) × (y.counted ≡ x.counted))
 
--- a quiet change: of where frames are and of what lies at their blocks
+-- a change only of where frames are and of what is at their blocks
 abbrev pub IsQuiet : List (Activation FrameState) → List (Activation FrameState) → Type 0
 IsQuiet frames frames' = Keeps frames frames' × SameTicks frames frames' × (length frames' ≡ length frames)
 
--- the frame at place k has come to this ask
+-- the frame at place k requests this
 abbrev pub HasCome : List (Activation FrameState) → ℕ → ℕ → Ask → Type 0
 HasCome frames cells k ask = (code : CodeView) × (p : Source) × (inputs : List ℤ) × (events : ℕ) × Sound code p inputs frames cells events (Some k) ask
 
--- the event that it has come to is made
+-- the event that the frame requested is made
 abbrev pub Settles : List (Activation FrameState) → List (Activation FrameState) → ℕ → ℕ → ℕ → Ask → Type 0
 Settles frames frames' cells cells' k ask =
     (code : CodeView) (p : Source) (inputs : List ℤ) (events : ℕ) → events + 1 ≤ MAX_EVENTS → Sound code p inputs frames cells events (Some k) ask → Sound code p inputs frames' cells' (events + 1) None asks.Begin
 
--- the board between two choices
+-- the scheduler between two choices
 pub record Runs (code : CodeView) (inputs : List ℤ) (b : Scheduler) : Type 0 where
   pub program : Source
   pub is_code : IsCodeOf program code
@@ -125,7 +126,7 @@ pub record Runs (code : CodeView) (inputs : List ℤ) (b : Scheduler) : Type 0 w
   pub ticks : b.ticks ≤ MAX_TICKS
   pub offers : let e = b.journal in b.offered ≤ length e.items
 
--- the frame at place k has come to what is asked for
+-- the frame at place k has made the current request
 pub record IsAsked (code : CodeView) (inputs : List ℤ) (b : Scheduler) (k : ℕ) : Type 0 where
   pub program : Source
   pub is_code : IsCodeOf program code
@@ -134,38 +135,38 @@ pub record IsAsked (code : CodeView) (inputs : List ℤ) (b : Scheduler) (k : �
   pub few_ticks : b.ticks ≤ MAX_TICKS
   pub offers : let e = b.journal in b.offered ≤ length e.items
 
--- No fault stands in place of what is asked for, with the ticks that the frame at place k has taken.
+-- The current request causes no fault, with the ticks that the frame at place k has used.
 pub record IsAccepted (code : CodeView) (b : Scheduler) (k : ℕ) : Type 0 where
   pub seat : Activation FrameState
   pub sits : let f = b.frames in slice_get f.items k ≡ Some seat
   pub accepted : let f = b.frames in let c = b.cells in let e = b.journal in let x = seat.cursor in refusal (b.ticks + (x.took - x.counted)) (length e.items) (length f.items) (length c.items) code.layout b.asked ≡ None
 
--- and no fault stands in place of its event
+-- the frame at place k has made the current request, which causes no fault
 pub record IsTurn (code : CodeView) (inputs : List ℤ) (b : Scheduler) (k : ℕ) : Type 0 where
   pub asked : IsAsked code inputs b k
   pub ticks : ℕ
   pub accepted : let f = b.frames in let c = b.cells in let e = b.journal in refusal ticks (length e.items) (length f.items) (length c.items) code.layout b.asked ≡ None
 
--- The event of what was asked for is made, and still to be written down.
+-- The requested event is made. It isn't in the journal yet.
 pub record IsMade (code : CodeView) (inputs : List ℤ) (b : Scheduler) : Type 0 where
   pub program : Source
   pub is_code : IsCodeOf program code
   pub sound : let f = b.frames in let c = b.cells in let e = b.journal in Sound code program inputs f.items (length c.items) (length e.items + 1) None asks.Begin
   pub offers : let e = b.journal in b.offered ≤ length e.items + 1
 
--- The events, the ticks counted, what is asked for, and why the run stopped, are as before.
+-- The journal, the counted ticks and the stop are unchanged.
 pub record SameRest (b b' : Scheduler) : Type 0 where
   pub journal : b'.journal ≡ b.journal
   pub ticks : b'.ticks ≡ b.ticks
   pub stopped : b'.stopped ≡ b.stopped
 
--- The workers, the events, what a run has left, and why it stopped, are as before.
+-- The workers, the journal, the outcome and the stop are unchanged.
 pub record SameShown (b b' : Scheduler) : Type 0 where
   pub workers : b'.workers ≡ b.workers
   pub journal : b'.journal ≡ b.journal
   pub outcome : b'.outcome ≡ b.outcome
   pub stopped : b'.stopped ≡ b.stopped
 
--- the frame's event is made, and no ticks are taken or counted
+-- the frame's event is made, and no ticks are used or counted
 abbrev pub Makes : CodeView → Scheduler → Scheduler → ℕ → Type 0
 Makes code b b' k = ((inputs : List ℤ) → IsTurn code inputs b k → IsMade code inputs b') × (let f = b.frames in let g = b'.frames in SameTicks f.items g.items)

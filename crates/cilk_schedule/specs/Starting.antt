@@ -1,4 +1,4 @@
--- A worker's frame starts another: by numbers, and as a step of the free machine.
+-- The start of a child by a worker's frame: by numbers, and as a step of the free machine.
 use Rattle.std.specs.Prelude.{◌≡◌, ◌+◌, ◌<◌, ℕ, suc, ℤ, List, length}
 use Rattle.cilk_types.specs.declared.event.Event as numbered
 use Rattle.cilk_types.specs.declared.event.Event.TheVariants as events
@@ -40,8 +40,8 @@ IsStart (events.Spawn k) = Unit {0}
 IsStart events.Sync = ⊥
 IsStart events.End = ⊥
 
--- The frame at place k, which worker w has, has come to an invocation, and the other has begun: its cells lie behind all others, and the worker
--- has it. The event is still to be written down.
+-- The frame at place k, which worker w holds, requests a child, and the child has begun. Its cells
+-- are after all others, and the worker holds it. The event isn't in the journal yet.
 pub record Started (code : CodeView) (b b' : Scheduler) (w k : ℕ) (event : numbered.Event) : Type 0 where
   pub how : Invocation
   pub callee : Callee
@@ -51,18 +51,18 @@ pub record Started (code : CodeView) (b b' : Scheduler) (w k : ℕ) (event : num
   pub begins : ChildBegins b b' w k how child (cells_in code.layout callee)
   pub event_is : let f = b.frames in event ≡ invocation how (suc (length f.items))
 
--- It is written down, and the ticks of the frame that started the other are counted.
+-- The same, with the event in the journal and the ticks of the parent counted.
 pub record WroteStart (code : CodeView) (b b' : Scheduler) (w k : ℕ) (event : numbered.Event) : Type 0 where
   pub made : Scheduler
   pub starts : Started code b made w k event
   pub noted : IsNoted made b' k event
 
--- what is told is an event of that frame, which starts another where it is such an event
+-- the result is an event of that frame; if it is a call or a spawn, the child has begun
 abbrev pub TellsStart : CodeView → Scheduler → Scheduler → ℕ → ℕ → Told → Type 0
 TellsStart code b b' w k t = (e : numbered.Event) × (t ≡ told.Did (record { frame = k + 1; event = e })) × (IsStart e → WroteStart code b b' w k e)
 
--- The choice is a step of the free machine, where it starts a frame: a board that showed a state shows what comes of it, by the names that frames
--- had and the new one's.
+-- A choice that starts a frame is a step of the free machine: if the scheduler showed a state, it
+-- shows the state after that step. Frames keep their names, and the new one has its own.
 abbrev pub StartsAreSteps : CodeView → List ℤ → Scheduler → Scheduler → Choice → Told → Type 0
 StartsAreSteps code inputs b b' c (told.Did act) =
     IsStart act.event → (p : Source) (name : ℕ → Name) (d : WorkerTable) (s : State FrameEnv View) → IsReached code p inputs name b d s

@@ -1,4 +1,4 @@
-//! Pieces that arrive at a block, and syncs.
+//! Views that arrive at a sync block, and the sync itself.
 
 ghost use Rattle.std.specs.Prelude.{◌≡◌, ◌<◌, ◌^◌, false, ℤ, List, Some, length, slice_get, IfOk, OnErr, OnOk};
 ghost use Rattle.cilk_types.specs.declared.event.Event.TheVariants as events;
@@ -24,7 +24,8 @@ use cilk_scheduler::scheduler::Scheduler;
 use cilk_types::event::Event;
 use std::alloc::{AllocError, Global};
 
-/// Whether the sync that a frame asks for has to wait for a stolen child, with the frame's own piece still to come.
+/// Returns whether a frame has to wait at its sync for a stolen child. False once its block has
+/// passed.
 pub fn must_wait(frames: &[Activation<FrameState>], frame: usize) -> bool
     requires { frame < length frames.now }
     ensures { (a : Activation FrameState) → slice_get frames.now frame ≡ Some a → result ≡ must_wait a.cursor }
@@ -39,7 +40,7 @@ pub fn must_wait(frames: &[Activation<FrameState>], frame: usize) -> bool
     }
 }
 
-/// The frame's own piece arrives at its sync, whose block isn't complete, and the worker is idle.
+/// Brings the frame's own views to its sync, whose block isn't complete, and makes the worker idle.
 pub fn wait_at(
     alloc: Global,
     board: &mut Scheduler,
@@ -61,7 +62,8 @@ pub fn wait_at(
     Ok(())
 }
 
-/// The frame's block is complete, and its worker has the block's views; another block begins.
+/// Makes the sync of a complete block: the worker has the whole block's views, and the next block
+/// begins.
 pub fn sync(
     alloc: Global,
     board: &mut Scheduler,
@@ -84,7 +86,7 @@ pub fn sync(
     Ok(Event::Sync)
 }
 
-// The frame's own piece arrives at its block, unless that has passed.
+// Brings the frame's own views to its block, unless the block has passed.
 fn bring_once(
     alloc: Global,
     frames: &mut Vec<Activation<FrameState>>,
@@ -106,7 +108,7 @@ fn bring_once(
     Ok(())
 }
 
-// The frame's own piece arrives at its block, if a continuation of that was stolen.
+// Brings the frame's own views to its block, if a continuation of it was stolen.
 fn bring_own(
     alloc: Global,
     frames: &mut Vec<Activation<FrameState>>,
@@ -126,8 +128,9 @@ fn bring_own(
     bring(alloc, frames, workers, worker, frame, key, true)
 }
 
-/// A worker's views arrive at a frame's block with this key, if pieces may arrive there. Whether the block passes: then the
-/// worker has the block's. Where memory is refused, they are lost.
+/// Brings a worker's views to a frame's block under this key, if they may arrive there. Returns
+/// whether the block passes; then the worker has the whole block's views. If memory runs out, the
+/// views are lost.
 pub fn bring(
     alloc: Global,
     frames: &mut Vec<Activation<FrameState>>,
@@ -149,7 +152,7 @@ pub fn bring(
     bring_to(alloc, &mut frames[frame].cursor, views, key, last)
 }
 
-// The same, of what is kept of the frame.
+// The same on the frame's state.
 fn bring_to(
     alloc: Global,
     seat: &mut FrameState,
@@ -170,7 +173,7 @@ fn bring_to(
     }
 }
 
-/// The worker is idle.
+/// Makes the worker idle.
 pub fn leave(workers: &mut Vec<Worker>, worker: usize)
     requires { worker < length workers.old.items }
     ensures count { length workers.new.items ≡ length workers.old.items }

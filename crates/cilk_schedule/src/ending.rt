@@ -1,4 +1,4 @@
-//! A frame ends.
+//! The end of a frame.
 
 ghost use Rattle.std.specs.Prelude.{◌≡◌, ◌<◌, ◌≤◌, ◌^◌, ℕ, ℤ, List, true, false, Some, length, slice_get, IfOk, OnErr, OnOk};
 ghost use Rattle.cilk_types.specs.declared.event.Event.TheVariants as events;
@@ -30,8 +30,8 @@ use cilk_scheduler::scheduler::Scheduler;
 use cilk_types::event::Event;
 use std::alloc::{AllocError, Global};
 
-/// The frame ends, and its own reducers with it. The worker goes on with the frame that waits for this one, if there is one, and
-/// else is idle.
+/// Ends a frame, and its own reducers with it. The worker continues the frame that waits for this
+/// one, if there is one, and is idle otherwise.
 pub fn end(
     alloc: Global,
     code: &Code,
@@ -59,7 +59,7 @@ pub fn end(
     Ok(Event::End)
 }
 
-// The views lose the reducers that the frame created.
+// Removes the reducers that the frame created from the views.
 fn retire_at(code: &Code, frames: &[Activation<FrameState>], views: &mut Hypermap, frame: usize)
     requires here { frame < length frames.now }
     requires low { (a : Activation FrameState) → slice_get frames.now frame ≡ Some a → a.first < 65536 }
@@ -69,7 +69,8 @@ fn retire_at(code: &Code, frames: &[Activation<FrameState>], views: &mut Hyperma
     retire_own(code.layout(), &frames[frame], views);
 }
 
-// The worker parts from a frame that ends: the run is over, or it goes on with the parent, or the piece comes to the parent's block.
+// The worker leaves a frame that ends: the run is over, or it continues the parent, or it brings
+// its views to the parent's block.
 fn depart(
     alloc: Global,
     code: &Code,
@@ -102,7 +103,7 @@ fn depart(
     Ok(())
 }
 
-// The first frame leaves the outcome, and the worker is idle.
+// Records the outcome at the first frame's end, and makes the worker idle.
 fn leave_run(
     alloc: Global,
     code: &Code,
@@ -127,8 +128,8 @@ fn leave_run(
     Ok(())
 }
 
-// The piece of a stolen child comes to its parent's block. The worker goes on with the parent, if the block passes, and else is
-// idle.
+// Brings the views of a stolen child to its parent's block. The worker continues the parent if the
+// block passes, and is idle otherwise.
 fn hand_in(
     alloc: Global,
     board: &mut Scheduler,
@@ -162,8 +163,9 @@ fn hand_in(
     Ok(())
 }
 
-// The piece of a stolen child comes to a block with this key, where it is awaited. Whether the block passes: then the views are the
-// whole block's. Where memory is refused, they are lost.
+// Brings the views of a stolen child to a block under this key, if they are awaited there. Returns
+// whether the block passes; then the views are the whole block's. If memory runs out, they are
+// lost.
 fn bring_awaited(
     alloc: Global,
     seat: &mut FrameState,
@@ -179,7 +181,7 @@ fn bring_awaited(
     bring(alloc, seat, views, key)
 }
 
-// Whether the piece of a stolen child may come to a block with this key.
+// Whether the views of a stolen child may arrive at a block under this key.
 fn may_bring(seat: &FrameState, key: u32) -> bool
     ensures yes { result ≡ true → MayBring seat.now key }
     ensures no { MayBring seat.now key → result ≡ true }
@@ -190,7 +192,8 @@ fn may_bring(seat: &FrameState, key: u32) -> bool
     }
 }
 
-// The worker goes on with the frame that waits for this one, whose continuation is no longer offered.
+// The worker continues the parent, which waits for this frame. Its continuation is no longer
+// offered.
 fn go_back(board: &mut Scheduler, worker: usize, frame: usize)
     requires child { 0 < frame }
     requires here { frame < length board.old.frames.items }
@@ -212,7 +215,8 @@ fn go_back(board: &mut Scheduler, worker: usize, frame: usize)
     hold(&mut board.frames, &mut board.workers, worker, parent);
 }
 
-// The continuation of a frame is no longer offered by the worker that its status names. How many are offered then.
+// Withdraws a frame's continuation from the worker that its status names. Returns how many are
+// offered then.
 fn reclaim(
     workers: &mut Vec<Worker>,
     frames: &[Activation<FrameState>],
@@ -230,7 +234,7 @@ fn reclaim(
     take_back(workers, frames, offered, status, frame)
 }
 
-// Whether the worker that offers a continuation, where one does, is one of so many.
+// Whether the worker that offers the continuation, if any, is one of `count` workers.
 fn offered_among(status: Status, count: usize) -> bool
     ensures yes { result ≡ true → IsOfferedAmong status count }
     ensures no { IsOfferedAmong status count → result ≡ true }
@@ -241,7 +245,7 @@ fn offered_among(status: Status, count: usize) -> bool
     }
 }
 
-/// A worker has a frame.
+/// Gives a frame to a worker.
 pub fn hold(
     frames: &mut Vec<Activation<FrameState>>,
     workers: &mut Vec<Worker>,

@@ -1,4 +1,4 @@
-//! Events of cells and reducers, as a frame asks for them.
+//! Events of cells and reducers that a frame requests.
 
 ghost use Rattle.std.specs.Prelude.{◌≡◌, ◌<◌, ℕ, ℤ, List, length, IfOk, OnErr, OnOk};
 ghost use Rattle.cilk_program.specs.declared.ask.Ask.TheVariants as asks;
@@ -16,7 +16,7 @@ use cilk_scheduler::{cells, reducers};
 use cilk_types::event::Event;
 use std::alloc::{AllocError, Global};
 
-/// The frame reads a cell.
+/// Makes the frame's read of the cell at `place`.
 pub fn read(
     frames: &mut Vec<Activation<FrameState>>,
     cells: &[i64],
@@ -33,7 +33,7 @@ pub fn read(
     cells::read(frames, cells, frame, cell)
 }
 
-/// The frame writes a cell.
+/// Makes the frame's write of `word` to the cell at `place`.
 pub fn write(
     frames: &mut Vec<Activation<FrameState>>,
     cells: &mut Vec<i64>,
@@ -51,7 +51,7 @@ pub fn write(
     cells::write(frames, cells, frame, cell, word)
 }
 
-/// The frame writes its result, into the cell that takes it.
+/// Makes the frame's write of its result, to the cell that receives it.
 pub fn write_result(
     frames: &mut Vec<Activation<FrameState>>,
     cells: &mut Vec<i64>,
@@ -70,7 +70,7 @@ pub fn write_result(
     cells::write(frames, cells, frame, cell, word)
 }
 
-/// The frame creates a reducer.
+/// Makes the frame's creation of a reducer.
 pub fn create(
     alloc: Global,
     frames: &mut Vec<Activation<FrameState>>,
@@ -89,7 +89,7 @@ pub fn create(
     reducers::create(alloc, frames, views, frame, instance, reducer.kind)
 }
 
-/// The frame updates a reducer.
+/// Makes the frame's update of a reducer.
 pub fn update(
     alloc: Global,
     frames: &mut Vec<Activation<FrameState>>,
@@ -109,7 +109,7 @@ pub fn update(
     reducers::update(alloc, frames, views, frame, instance, reducer.kind, word)
 }
 
-/// The frame sets a reducer.
+/// Makes the frame's set of a reducer.
 pub fn set(
     alloc: Global,
     frames: &mut Vec<Activation<FrameState>>,
@@ -129,7 +129,7 @@ pub fn set(
     reducers::set(alloc, frames, views, frame, instance, reducer.kind, word)
 }
 
-/// The frame reads the number of a reducer's view.
+/// Makes the frame's read of a reducer: the number of its view.
 pub fn value(
     alloc: Global,
     frames: &mut Vec<Activation<FrameState>>,
@@ -148,7 +148,7 @@ pub fn value(
     reducers::value(alloc, frames, views, frame, instance, reducer.kind)
 }
 
-/// The frame prints a number.
+/// Makes the frame's print of a number to the ordered output.
 pub fn print(
     alloc: Global,
     frames: &mut Vec<Activation<FrameState>>,

@@ -1,4 +1,4 @@
-//! Why a script doesn't come to its end.
+//! The error of [`crate::play`].
 
 ghost use Rattle.std.specs.Prelude.{◌≡◌};
 
@@ -6,16 +6,17 @@ use cilk_types::fault::Fault;
 use std::alloc::AllocError;
 use thiserror::Error;
 
-/// Why a script doesn't come to its end.
+/// The reason why a script wasn't played to its end.
 #[derive(Drop, Debug, Error)]
 pub enum PlayFault {
-    /// The choices of this line, from 1, would go past those that a script may order.
+    /// The choices of this line, from 1, would exceed the limit of a script.
     #[error("too many choices at line {0}")]
     Line(usize),
-    /// The run stops by a fault in the strand of this name: the path of its frame from the first one down, by ordinals, and
+    /// A fault stopped the run in the strand with this name: the path of its frame by ordinals,
     /// then the strand's number in its frame.
     #[error("{fault}")]
     Stop { fault: Fault, name: Vec<u32> },
+    /// Out of memory.
     #[error("no memory")]
     Memory,
 }

@@ -1,4 +1,5 @@
-//! A machine: a program's code, its input, and workers that are told one choice after another.
+//! The stepwise machine: a program's code, its input, and workers that make one choice after
+//! another.
 
 ghost use Rattle.std.specs.Prelude.{◌≡◌, ◌≢◌, ◌⊎◌, ◌-◌, ◌<◌, ◌++◌, ◌∷◌, [], ℕ, suc, length, Err, None, Ok, Some, IfOk, IfErr, OnOk};
 ghost use Rattle.std.specs.Option.{is_some};
@@ -34,7 +35,7 @@ use cilk_types::input::Input;
 use cilk_types::outcome::Outcome;
 use std::alloc::{AllocError, Global};
 
-/// A machine. It borrows code and input, and owns all else.
+/// A stepwise machine. It borrows the code and the input, and owns the rest.
 #[derive(Drop)]
 pub struct Machine<'a> {
     code: &'a Code,
@@ -43,7 +44,8 @@ pub struct Machine<'a> {
 }
 
 impl<'a> Machine<'a> {
-    /// A machine with so many workers before its first choice: the first worker holds the first frame.
+    /// Creates a machine with `workers` workers before its first choice. The first worker holds the
+    /// first frame.
     pub fn new(
         alloc: Global,
         code: &'a Code,
@@ -61,9 +63,12 @@ impl<'a> Machine<'a> {
         Ok(Machine { code, input, board })
     }
 
-    /// Makes a choice. A choice that can't be made is skipped and changes nothing. Once a choice has stopped the run, each
-    /// further one answers the same stop. Where steps of the free machine lead to a state that the board shows, so they do behind the
-    /// choice: each choice is one step, or none. After a stop the board still tells what it told before the choice.
+    /// Makes a choice. A choice that can't be made is skipped and changes nothing. Once the run has
+    /// stopped, each further choice returns the same stop.
+    ///
+    /// A choice is one step of the free machine, or none. If the machine's state represents a
+    /// reachable state of the free machine, it does so after the choice too. After a stop the
+    /// machine still shows the run before the choice.
     pub fn choose(&mut self, alloc: Global, choice: Choice) -> Result<Told, Stop>
         requires { self.old.board.stopped ≡ None → Runs self.old.code.now self.old.input.now self.old.board }
         ensures runs { self.new.board.stopped ≡ None → Runs self.new.code.now self.new.input.now self.new.board }
@@ -92,29 +97,30 @@ impl<'a> Machine<'a> {
         choose(alloc, self.code, self.input, &mut self.board, choice)
     }
 
-    /// Whether a worker holds a frame.
+    /// Returns whether a worker holds a frame. Workers count from 1.
     pub fn holds(&self, worker: u32) -> bool
         ensures { result ≡ is_some (held_by self.now.board.workers.items worker) }
     {
         held_by(self.board.workers.as_slice(), worker).is_some()
     }
 
-    /// How many continuations are offered.
+    /// Returns the number of continuations that are offered.
     pub fn offered(&self) -> usize
         ensures { result ≡ self.now.board.offered }
     {
         self.board.offered
     }
 
-    /// Whether the first frame has ended.
+    /// Returns whether the first frame has ended.
     pub fn ended(&self) -> bool
         ensures { result ≡ is_some self.now.board.outcome }
     {
         self.board.outcome.is_some()
     }
 
-    /// What the run shows so far: what its frames did, by paths that no schedule changes, which of them were joined, and the outcome.
-    /// After a stop it shows the run before the choice that stopped it.
+    /// Returns the run so far: what its frames did, which of them were joined, and the outcome.
+    /// Frames are found by paths, which no schedule changes. After a stop it is the run before the
+    /// choice that stopped it.
     pub fn shown(&self, alloc: Global) -> Result<Shown, AllocError>
         ensures outcome { IfOk result (λ shown. shown.outcome ≡ self.now.board.outcome) }
         ensures run { IfOk result (ShowsReached self.now.code.now self.now.input.now self.now.board) }
@@ -122,7 +128,7 @@ impl<'a> Machine<'a> {
         show(alloc, &self.board, self.code.layout().openings.len())
     }
 
-    /// What the first frame's end left, once it has ended.
+    /// Returns the outcome, or `None` if the first frame hasn't ended.
     pub fn into_outcome(self) -> Option<Outcome>
         ensures { result ≡ self.entry.board.outcome }
     {
@@ -134,8 +140,8 @@ impl<'a> Machine<'a> {
         board.into_outcome()
     }
 
-    /// The name of the strand that stopped: the path of its frame from the first one down, by ordinals, and then the strand's
-    /// number in its frame. Nothing, where memory was refused.
+    /// Returns the name of the strand that stopped: the path of its frame by ordinals, then the
+    /// strand's number in its frame. It is empty for [`Stop::Memory`].
     pub fn name(&self, alloc: Global, stop: Stop) -> Result<Vec<u32>, AllocError>
         ensures memory { stop ≡ stops.Memory → IfOk result (λ name. name.items ≡ []) }
         ensures name { (fault : Fault) (strand : Strand) (names : ℕ → Name) (place : ℕ) → stop ≡ stops.At fault strand → strand.frame ≡ suc place → AreNamed self.now.board.frames.items names → place < length self.now.board.frames.items
@@ -152,10 +158,12 @@ impl<'a> Machine<'a> {
     }
 }
 
-/// Makes these choices one after another. What is shown is the state of the free machine to which they lead; or one of them stops the run,
-/// where those before it lead. A stop comes with the name of its strand; where that finds no memory, as where a choice finds none, the
-/// stop is the want of memory, without a name. A list of choices has one end ([`crate::laws::lists_decide`]), so a run that is shown
-/// and one that a fault stops are told of that end.
+/// Makes `choices` one after another. Returns what the run shows at the state of the free machine
+/// to which they lead, or the stop of the choice that stopped the run.
+///
+/// A fault comes with the name of its strand. If memory runs out, even for that name, the stop is
+/// [`Stop::Memory`] without a name. A list of choices has at most one end
+/// ([`crate::laws::lists_decide`]), so every other result is that end.
 pub fn play(
     alloc: Global,
     code: &Code,
@@ -180,7 +188,7 @@ pub fn play(
     }
 }
 
-// These choices are made one after another, until one stops the run.
+// Makes the choices one after another, until one stops the run.
 fn choose_all(alloc: Global, machine: &mut Machine<'_>, choices: &[Choice]) -> Result<(), Stop>
     requires { IsUnstopped machine.old }
     ensures led { OnOk result (LeadOn choices.now machine.old machine.new) }
@@ -194,7 +202,7 @@ fn choose_all(alloc: Global, machine: &mut Machine<'_>, choices: &[Choice]) -> R
     Ok(())
 }
 
-// A stop with the name of its strand.
+// Adds the name of its strand to a stop.
 fn named(alloc: Global, machine: &Machine<'_>, stop: Stop) -> (Stop, Vec<u32>)
     ensures unnamed { result.0 ≡ stops.Memory → result.1.items ≡ [] }
     ensures same { (result.0 ≡ stop) ⊎ (result.0 ≡ stops.Memory) }

@@ -1,4 +1,4 @@
-//! What a frame asks for is done.
+//! The event that a frame requests.
 
 ghost use Rattle.std.specs.Prelude.{◌≡◌, ◌<◌, ◌^◌, ℤ, List, length, IfOk, OnErr, OnOk};
 ghost use Rattle.cilk_types.specs.declared.event.Event.TheVariants as events;
@@ -21,7 +21,7 @@ use cilk_scheduler::scheduler::Scheduler;
 use cilk_types::event::Event;
 use std::alloc::{AllocError, Global};
 
-/// What the worker's frame asks for is done. The event is still to be written down.
+/// Makes the event that the worker's frame requests. It isn't in the journal yet.
 pub fn make(
     alloc: Global,
     code: &Code,

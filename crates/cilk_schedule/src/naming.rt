@@ -1,4 +1,5 @@
-//! Events by the places of frames in the order in which they began, and the paths of frames, which no schedule changes.
+//! Events by the places of frames, which are in the order in which frames began; and the paths of
+//! frames, which no schedule changes.
 
 ghost use Rattle.std.specs.Prelude.{◌≡◌, ◌<◌, ℕ, length, IfOk};
 ghost use Rattle.cilk_scheduler.specs.Numbered.{AreNamed};
@@ -10,21 +11,23 @@ use cilk_scheduler::frame_state::FrameState;
 use cilk_types::event::{Cell, Event, FrameNo, Instance};
 use std::alloc::{AllocError, Global};
 
-/// A cell by its frame's place among all frames and its own place there, from 0; or a global one by its number.
+/// A global cell by its number; or a frame's cell by the place of the frame and its own place
+/// there, from 0.
 #[derive(Clone, Copy, PartialEq, Eq, Debug)]
 pub enum CellName {
     Global(u32),
     Own { frame: usize, place: u32 },
 }
 
-/// A reducer by the place of the frame that created it, and its own place there, from 0; or the ordered output.
+/// The ordered output; or a reducer by the place of the frame that created it and its own place
+/// there, from 0.
 #[derive(Clone, Copy, PartialEq, Eq, Debug)]
 pub enum ReducerName {
     Output,
     Own { frame: usize, place: u32 },
 }
 
-/// An event of a frame. A child is known by its ordinal.
+/// An event of a frame. A child is known by its ordinal among its parent's children, from 1.
 #[derive(Clone, Copy, PartialEq, Eq, Debug)]
 pub enum ShownEvent {
     Begin,
@@ -42,7 +45,7 @@ pub enum ShownEvent {
     Print { value: i64 },
 }
 
-/// An event by names. The first so many cells are global.
+/// Returns an event by names. The first `globals` cells are global.
 pub fn named(frames: &[Activation<FrameState>], globals: usize, event: Event) -> ShownEvent
     ensures { IsNamedAs frames.now globals event result }
 {
@@ -87,7 +90,7 @@ pub fn named(frames: &[Activation<FrameState>], globals: usize, event: Event) ->
     }
 }
 
-// The ordinal of the frame with this number; 0 where there is none.
+// The ordinal of the frame with this number, or 0 if there is none.
 fn ordinal(frames: &[Activation<FrameState>], number: FrameNo) -> u32
     ensures { result ≡ ordinal_of frames.now number }
 {
@@ -100,7 +103,7 @@ fn ordinal(frames: &[Activation<FrameState>], number: FrameNo) -> u32
     }
 }
 
-// A cell that isn't global is in the last frame whose first cell isn't past it.
+// A cell that isn't global is in the last frame whose cells begin at it or before it.
 fn named_cell(frames: &[Activation<FrameState>], globals: usize, cell: Cell) -> CellName
     ensures { IsCellOf frames.now globals cell result }
 {
@@ -118,7 +121,7 @@ fn named_cell(frames: &[Activation<FrameState>], globals: usize, cell: Cell) -> 
     }
 }
 
-// A reducer by its frame's place, and its own from 0.
+// A reducer by its frame's place and its own, both from 0.
 fn named_reducer(instance: Instance) -> ReducerName
     ensures { result ≡ reducer_of instance }
 {
@@ -131,7 +134,8 @@ fn named_reducer(instance: Instance) -> ReducerName
     }
 }
 
-/// The path of the frame at a place: the ordinals of the frames from the first one's child down to it.
+/// Returns the path of the frame at a place: the ordinals of the frames from the first one's child
+/// down to it.
 pub fn path(
     alloc: Global,
     frames: &[Activation<FrameState>],

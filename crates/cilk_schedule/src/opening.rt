@@ -1,4 +1,4 @@
-//! The state of a machine as it opens.
+//! The scheduler's state before the first choice.
 
 ghost use Rattle.std.specs.Prelude.{◌≡◌, ◌+◌, ◌-◌, ◌≤◌, ◌<◌, ◌++◌, ℕ, ℤ, pos, List, None, Some, length, replicate, slice_get, IfOk, OnOk};
 ghost use Rattle.cilk_scheduler.specs.Parts.{OpensAs};
@@ -19,7 +19,7 @@ use cilk_scheduler::scheduler::Scheduler;
 use cilk_types::invocation::Invocation;
 use std::alloc::{AllocError, Global};
 
-/// The first worker holds the first frame, and the others are idle.
+/// Returns the state in which the first worker holds the first frame and the others are idle.
 pub fn open(alloc: Global, code: &Code, workers: u32) -> Result<Scheduler, AllocError>
     requires { IsCode code.now }
     ensures runs { IfOk result (λ b. (inputs : List ℤ) → Runs code.now inputs b) }
@@ -48,7 +48,7 @@ pub fn open(alloc: Global, code: &Code, workers: u32) -> Result<Scheduler, Alloc
     })
 }
 
-// The first holds the first frame.
+// All workers. The first one holds the first frame.
 fn first_workers(alloc: Global, count: u32) -> Result<Vec<Worker>, AllocError>
     ensures count { IfOk result (λ list. length list.items ≡ count) }
     ensures opens { IfOk result (λ list. (v : ℕ) (u : seat.Worker) → slice_get list.items v ≡ Some u → OpensAs v u) }

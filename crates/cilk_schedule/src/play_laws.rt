@@ -1,30 +1,33 @@
-//! The limit of `all`, by number, that a script has one end, and what one serial run settles of a machine. Each is a function that does nothing: its contract is
-//! the law.
+//! Laws of scripts: the limit of `all`, that a script has one end, and what one serial run settles
+//! about a machine. Each law is the contract of a function that does nothing.
 
 ghost use Rattle.std.specs.Prelude.{◌≡◌, ℤ, List};
 ghost use Rattle.cilk_schedule.specs.Playing.{OpeningsAreReached, ScriptsHaveOneEnd, SettlesEachState};
 ghost use Rattle.cilk_program.specs.Syntax.{Source};
 ghost use Rattle.cilk_schedule.specs.declared.player.TheConstants.{MAX_ROUNDS};
 
-/// How many rounds `all` makes at most.
+/// The maximum number of rounds of one `all`.
 pub fn limits_are()
     ensures { MAX_ROUNDS ≡ 4000000 }
 {}
 
-/// A script has at most one end, of a program on an input with so many workers: the same state, or the same stop in the same strand, or
-/// the same line whose choices would go past the limit.
+/// A script has at most one end, of a program on an input with a number of workers: a state, a stop
+/// in a strand, or a line whose choices would exceed the limit. States are compared without the
+/// views of frames that haven't begun.
 pub fn script_has_one_end()
     ensures { (p : Source) (inputs : List ℤ) → ScriptsHaveOneEnd p inputs }
 {}
 
-/// A new machine shows a state to which steps of the free machine lead, none yet; `Machine::choose` keeps that there is such a state.
+/// A new machine represents a reachable state of the free machine, after no steps.
+/// `Machine::choose` keeps this.
 pub fn openings_are_reached()
     ensures { OpeningsAreReached }
 {}
 
-/// Where whatever steps are made the state is as one serial run, as of a program that `check` accepts and of one that `settle` settles, each state
-/// that a machine has come to is as that run: a consistent cut of it, which nothing has stopped, with each frame's events the first of its serial
-/// ones, with the same values.
+/// If every sequence of steps agrees with one serial run, each state that a machine reaches does
+/// too: it is a consistent cut of that run, nothing has stopped it, and each frame's events are the
+/// first of its serial events, with the same values. This applies to a program that `check` accepts
+/// or `settle` settles.
 pub fn each_state_is_settled()
     ensures { SettlesEachState }
 {}

@@ -1,4 +1,4 @@
-//! A script's choices are made, one after another.
+//! The player of scripts.
 
 ghost use Rattle.std.specs.Prelude.{◌≡◌, ◌<◌, ℕ, ◌∷◌, [], IfOk, IfErr, OnOk};
 ghost use Rattle.cilk_schedule.specs.Playing.{Choose, ComesToFault, Ends, FailsAsSettled, IsFault, IsFaultOf, IsLeft, Leads, LeavesAsSettled};
@@ -17,13 +17,15 @@ use cilk_types::input::Input;
 use cilk_types::outcome::Outcome;
 use std::alloc::Global;
 
-/// How many rounds of all workers `all` makes at most.
+/// The maximum number of rounds that one `all` makes.
 pub const MAX_ROUNDS: u32 = 4_000_000;
 
-/// Makes the choices of a script's steps, one after another, by a machine with so many workers: what the run leaves, or none
-/// where it hasn't ended. A stop ends the script. So it answers the one end that the script has by the rules of the free machine, or a want
-/// of memory. Of a program that one serial run settles, what is left is what that run leaves, and no strand stops by a fault. Beside what the
-/// machine takes, the time is linear in the choices.
+/// Makes the choices of a script's steps on a machine with `workers` workers. Returns the outcome,
+/// or `None` if the run hasn't ended. A stop ends the script.
+///
+/// Unless memory runs out, the result is the only end that the script has by the rules of the free
+/// machine. If one serial run settles the program, the outcome is that run's, and no strand stops
+/// by a fault. Apart from the choices' own cost, the time is linear in their number.
 pub fn play(
     alloc: Global,
     program: &Program,
@@ -42,7 +44,7 @@ pub fn play(
     Ok(machine.into_outcome())
 }
 
-// All that the steps stand for.
+// Makes all choices of the steps.
 fn make_all(
     alloc: Global,
     machine: &mut Machine<'_>,
@@ -60,7 +62,7 @@ fn make_all(
     Ok(())
 }
 
-// What comes next of a script.
+// Makes the next choice of a script, or its rounds.
 fn make(alloc: Global, machine: &mut Machine<'_>, workers: u32, next: Next) -> Result<(), PlayFault>
     requires { IsUnstopped machine.old }
     ensures going { OnOk result (IsUnstopped machine.new) }
@@ -75,7 +77,7 @@ fn make(alloc: Global, machine: &mut Machine<'_>, workers: u32, next: Next) -> R
     }
 }
 
-// Rounds of all workers until the run has ended.
+// Makes rounds of all workers until the run has ended, at most `MAX_ROUNDS`.
 fn rounds(alloc: Global, machine: &mut Machine<'_>, workers: u32) -> Result<(), PlayFault>
     requires { IsUnstopped machine.old }
     ensures going { OnOk result (IsUnstopped machine.new) }
@@ -91,7 +93,7 @@ fn rounds(alloc: Global, machine: &mut Machine<'_>, workers: u32) -> Result<(), 
     Ok(())
 }
 
-// One round: each worker's turn, from the first on.
+// Makes one round: a turn of each worker, in order.
 fn round(alloc: Global, machine: &mut Machine<'_>, workers: u32) -> Result<(), PlayFault>
     requires { IsUnstopped machine.old }
     ensures going { OnOk result (IsUnstopped machine.new) }
@@ -104,7 +106,7 @@ fn round(alloc: Global, machine: &mut Machine<'_>, workers: u32) -> Result<(), P
     Ok(())
 }
 
-// A worker's turn: it goes on with its frame, or takes the first continuation that is offered.
+// A worker's turn: it continues its frame, or steals the first continuation that is offered.
 fn turn(alloc: Global, machine: &mut Machine<'_>, worker: u32) -> Result<(), PlayFault>
     requires { IsUnstopped machine.old }
     ensures going { OnOk result (IsUnstopped machine.new) }
@@ -119,7 +121,7 @@ fn turn(alloc: Global, machine: &mut Machine<'_>, worker: u32) -> Result<(), Pla
     choose(alloc, machine, choice)
 }
 
-// A choice. A stop is told with the name of its strand.
+// Makes a choice. A stop is reported with the name of its strand.
 fn choose(alloc: Global, machine: &mut Machine<'_>, choice: Choice) -> Result<(), PlayFault>
     requires { IsUnstopped machine.old }
     ensures going { OnOk result (IsUnstopped machine.new) }
@@ -132,7 +134,7 @@ fn choose(alloc: Global, machine: &mut Machine<'_>, choice: Choice) -> Result<()
     }
 }
 
-// What is told of a stop.
+// The error that reports a stop.
 fn stopped(alloc: Global, machine: &Machine<'_>, stop: Stop) -> PlayFault
     ensures { IsFaultOf machine.now.board stop result }
 {

@@ -1,4 +1,4 @@
-//! A choice, and a worker that goes on with the frame that it holds.
+//! One choice, and a worker that continues its frame.
 
 ghost use Rattle.std.specs.Prelude.{◌≡◌, ◌≢◌, ◌+◌, ◌-◌, ◌<◌, ◌≤◌, ◌^◌, ℕ, ℤ, true, false, List, Err, None, Ok, Some, length, slice_get, IfOk, IfErr, IsTrue, MatchOption};
 ghost use Rattle.cilk_program.specs.declared.ask.Ask.TheVariants as asks;
@@ -39,7 +39,7 @@ use cilk_types::fault::Fault;
 use cilk_types::input::Input;
 use std::alloc::Global;
 
-/// Makes a choice. Once it has stopped the run, each further choice answers the same stop.
+/// Makes a choice. Once the run has stopped, each further choice returns the same stop.
 pub fn choose(
     alloc: Global,
     code: &Code,
@@ -122,7 +122,7 @@ fn run(
     act(alloc, code, board, worker, frame)
 }
 
-// The frame goes on to what it asks for next.
+// Steps the frame to its next request.
 fn come(code: &Code, input: &Input, board: &mut Scheduler, frame: u32)
     requires runs { Runs code.now input.now board.old }
     requires ready { (worker : ℕ) × IsReadyAt board.old worker frame }
@@ -139,7 +139,7 @@ fn come(code: &Code, input: &Input, board: &mut Scheduler, frame: u32)
     );
 }
 
-// The event that the frame asks for is made and written down, into room that was made before.
+// Makes the requested event and adds it to the journal, in room that is reserved first.
 fn act(
     alloc: Global,
     code: &Code,
@@ -178,7 +178,7 @@ fn act(
     }))
 }
 
-// The place of the frame that a worker holds and can go on with.
+// The place of the frame that a worker holds and can continue.
 fn ready(board: &Scheduler, worker: u32) -> Option<u32>
     ensures { MatchOption result ((k : ℕ) → IsReadyAt board.now worker k → ⊥) (λ k. IsReadyAt board.now worker k) }
 {
@@ -190,7 +190,7 @@ fn ready(board: &Scheduler, worker: u32) -> Option<u32>
     Some(frame)
 }
 
-// Whether the frame has come to a sync at which it has to wait.
+// Whether the frame is at a sync at which it has to wait.
 fn stays_behind(board: &Scheduler, frame: usize) -> bool
     requires { frame < length board.now.frames.items }
     ensures waits { IsTrue result → (board.now.asked ≡ asks.Sync)
@@ -201,7 +201,7 @@ fn stays_behind(board: &Scheduler, frame: usize) -> bool
     at_sync(&board.asked) && must_wait(board.frames.as_slice(), frame)
 }
 
-// Whether a sync is asked for.
+// Whether a sync is requested.
 fn at_sync(asked: &AskSlot) -> bool
     ensures is { IsTrue result → asked.now ≡ asks.Sync }
     ensures told { asked.now ≡ asks.Sync → result ≡ true }
@@ -212,7 +212,7 @@ fn at_sync(asked: &AskSlot) -> bool
     }
 }
 
-// The fault that stands in place of what a frame asks for, if any.
+// The fault that comes instead of the requested event, if any.
 fn refused(code: &Code, board: &Scheduler, frame: usize) -> Option<Fault>
     requires here { frame < length board.now.frames.items }
     requires few { (a : Activation FrameState) → slice_get board.now.frames.items frame ≡ Some a → (a.cursor.counted ≤ a.cursor.took) × (board.now.ticks + a.cursor.took < 2 ^ 32) }
@@ -232,7 +232,7 @@ fn refused(code: &Code, board: &Scheduler, frame: usize) -> Option<Fault>
     )
 }
 
-// The stop of a frame by a fault, at its latest strand.
+// The stop of a frame by a fault, in its latest strand.
 fn stop_at(frames: &[Activation<FrameState>], frame: u32, fault: Fault) -> Stop
     requires here { frame < length frames.now }
     requires few { length frames.now < 2 ^ 31 }

@@ -1,4 +1,5 @@
-//! What a run shows: the events of each frame by names that no schedule changes, which children were joined, and the outcome.
+//! A run by frames: the events of each frame, which children were joined, and the outcome. Frames
+//! are found by paths, which no schedule changes.
 
 ghost use Rattle.std.specs.Prelude.{◌≡◌, ◌<◌, ◌++◌, ◌∷◌, [], ℕ, None, Some, cond, false, length, slice_get, IfOk, IfSome, MatchOption, OnOk};
 ghost use Rattle.std.specs.Option.{option_map};
@@ -22,14 +23,15 @@ use cilk_scheduler::scheduler::Scheduler;
 use cilk_types::outcome::Outcome;
 use std::alloc::{AllocError, Global};
 
-/// A frame by links: the place of its parent among all frames, and its ordinal there, from 1; 0 for both of the first frame.
+/// A frame's link: the place of its parent among all frames, and its ordinal there, from 1. The
+/// first frame has 0 for both.
 #[derive(Clone, Copy, PartialEq, Eq)]
 pub struct Link {
     pub parent: u32,
     pub ordinal: u32,
 }
 
-/// A frame: its link, the places of the frames that it started, and its events, each in order.
+/// A frame: its link, the places of its children, and its events. Children and events are in order.
 #[derive(Drop)]
 struct ShownFrame {
     link: Link,
@@ -37,7 +39,8 @@ struct ShownFrame {
     events: Vec<ShownEvent>,
 }
 
-/// What a run shows.
+/// The events of a run by frames, and its outcome. Frames have places from 0, in the order in which
+/// they began.
 #[derive(Drop)]
 pub struct Shown {
     frames: Vec<ShownFrame>,
@@ -45,7 +48,7 @@ pub struct Shown {
 }
 
 impl Shown {
-    /// What the first frame's end left, once it has ended.
+    /// Returns the outcome, or `None` if the first frame hasn't ended.
     pub fn outcome(&self) -> Option<&Outcome>
         ensures kept { MatchOption result (self.now.outcome ≡ None) (λ left. self.now.outcome ≡ Some left.now) }
         ensures left { (p : Source) (name : ℕ → Name) (s : State FrameEnv View) → ShowsRun p name s self.now → MatchOption result (¬ (HasEnd (deeds_at (s.frames [])))) (λ left. HasEnd (deeds_at (s.frames [])) × (left.now ≡ outcome_in p s)) }
@@ -53,14 +56,14 @@ impl Shown {
         self.outcome.as_ref()
     }
 
-    /// How many frames have begun. They have places from 0 on, in the order in which they began.
+    /// Returns the number of frames that have begun.
     pub fn frames(&self) -> usize
         ensures { result ≡ length self.now.frames.items }
     {
         self.frames.len()
     }
 
-    /// The link of the frame at a place, if there is one.
+    /// Returns the link of the frame at a place, if there is one.
     pub fn link(&self, place: u32) -> Option<Link>
         ensures kept { result ≡ option_map (λ (f : ShownFrame). f.link) (slice_get self.now.frames.items place) }
         ensures named { (name : ℕ → Name) → AreLinked self.now.frames.items name → IfSome result (λ l. 0 < place → (l.parent < place) × (name place ≡ name l.parent ++ l.ordinal ∷ [])) }
@@ -69,8 +72,9 @@ impl Shown {
         Some(frame.link)
     }
 
-    /// The events of a frame in order, if it has begun: the frame by its path, which has an ordinal for each frame from the
-    /// first one's child down.
+    /// Returns the events of the frame with this path, in order, or `None` if it hasn't begun. A
+    /// path has an ordinal for each frame from the first one's child down; the first frame's is
+    /// empty.
     pub fn events(&self, path: &[u32]) -> Option<&[ShownEvent]>
         ensures { (p : Source) (name : ℕ → Name) (s : State FrameEnv View) → ShowsRun p name s self.now →
             MatchOption result (s.frames path.now ≡ None) (λ events. (x : Frame FrameEnv) × (s.frames path.now ≡ Some x) × AreShown name (length self.now.frames.items) path.now 1 x.deeds events.now) }
@@ -80,7 +84,8 @@ impl Shown {
         Some(frame.events.as_slice())
     }
 
-    /// Whether a frame has begun and a sync has joined it: the frame by its path. It takes the events of the frame's parent one by one.
+    /// Returns whether the frame with this path has begun and a sync has joined it. The time is
+    /// linear in the path and in the events of its parent.
     pub fn is_joined(&self, path: &[u32]) -> bool
         ensures joined { (p : Source) (name : ℕ → Name) (s : State FrameEnv View) (n : Name) (q : ℕ) → ShowsRun p name s self.now → path.now ≡ n ++ q ∷ [] → times path.now s.joins ≡ cond result 1 0 }
         ensures first { path.now ≡ [] → result ≡ false }
@@ -94,7 +99,7 @@ impl Shown {
         }
     }
 
-    /// The place of a frame among all, if it has begun: the frame by its path.
+    /// Returns the place of the frame with this path, or `None` if it hasn't begun.
     pub fn place(&self, path: &[u32]) -> Option<usize>
         ensures { (name : ℕ → Name) → AreLinked self.now.frames.items name → MatchOption result ((k : ℕ) → k < length self.now.frames.items → name k ≡ path.now → ⊥) (λ k. (k < length self.now.frames.items) × (name k ≡ path.now)) }
     {
@@ -106,7 +111,7 @@ impl Shown {
         Some(place)
     }
 
-    // The place of a frame's child.
+    // The place of a frame's child with this ordinal.
     fn child(&self, parent: usize, ordinal: u32) -> Option<usize>
         ensures { (name : ℕ → Name) → AreLinked self.now.frames.items name → parent < length self.now.frames.items
             → MatchOption result ((k : ℕ) → k < length self.now.frames.items → name k ≡ name parent ++ ordinal ∷ [] → ⊥) (λ k. (k < length self.now.frames.items) × (name k ≡ name parent ++ ordinal ∷ [])) }
@@ -118,7 +123,7 @@ impl Shown {
     }
 }
 
-// Whether a sync stands behind the spawn of the child with this ordinal.
+// Whether a sync follows the spawn of the child with this ordinal.
 fn joins_child(events: &[ShownEvent], ordinal: u32) -> bool
     ensures { result ≡ joins_child ordinal events.now }
 {
@@ -133,8 +138,8 @@ fn joins_child(events: &[ShownEvent], ordinal: u32) -> bool
     false
 }
 
-/// What a board shows. The first so many cells are global. The time is linear in frames and events, but for the search for a
-/// cell's frame.
+/// Returns what the scheduler's state shows. The first `globals` cells are global. The time is
+/// linear in frames and events, apart from a binary search for the frame of each cell.
 pub fn show(alloc: Global, board: &Scheduler, globals: usize) -> Result<Shown, AllocError>
     ensures outcome { IfOk result (λ shown. shown.outcome ≡ board.now.outcome) }
     ensures links { IfOk result (λ shown. links_in shown.frames.items ≡ links_of board.now.frames.items) }
@@ -148,7 +153,7 @@ pub fn show(alloc: Global, board: &Scheduler, globals: usize) -> Result<Shown, A
     Ok(Shown { frames, outcome })
 }
 
-// The same outcome, if there is one.
+// A copy of the outcome, if there is one.
 fn left(alloc: Global, outcome: &Option<Outcome>) -> Result<Option<Outcome>, AllocError>
     ensures { IfOk result (λ same. same ≡ outcome.now) }
 {
@@ -158,7 +163,7 @@ fn left(alloc: Global, outcome: &Option<Outcome>) -> Result<Option<Outcome>, All
     }
 }
 
-// The frames' links, with no events yet.
+// The frames with their links and children, without events.
 fn links(alloc: Global, frames: &[Activation<FrameState>]) -> Result<Vec<ShownFrame>, AllocError>
     ensures { IfOk result (λ list. HaveLinks frames.now (length frames.now) list.items) }
 {
@@ -178,7 +183,7 @@ fn links(alloc: Global, frames: &[Activation<FrameState>]) -> Result<Vec<ShownFr
     Ok(list)
 }
 
-// The next frame is a child of this one, but for the first frame, which has no parent.
+// Adds the next frame to the children of its parent. The first frame has none.
 fn add_child(list: &mut Vec<ShownFrame>, parent: u32) -> Result<(), AllocError>
     ensures { OnOk result (AddsChild list.old.items list.new.items parent) }
 {
@@ -192,7 +197,7 @@ fn add_child(list: &mut Vec<ShownFrame>, parent: u32) -> Result<(), AllocError>
     Ok(())
 }
 
-// An event goes to its frame.
+// Adds an event to its frame.
 fn place(
     frames: &[Activation<FrameState>],
     globals: usize,

@@ -1,4 +1,4 @@
-//! A frame starts another.
+//! The start of a child.
 
 ghost use Rattle.std.specs.Prelude.{◌≡◌, ◌<◌, ◌^◌, ℤ, List, length, IfOk, OnErr, OnOk};
 ghost use Rattle.cilk_types.specs.declared.event.Event.TheVariants as events;
@@ -18,7 +18,7 @@ use cilk_types::event::Event;
 use cilk_types::invocation::Invocation;
 use std::alloc::{AllocError, Global};
 
-/// The frame of the function that is asked for begins.
+/// Begins the frame of the function that is called or spawned.
 pub fn start_function(
     alloc: Global,
     code: &Code,
@@ -49,7 +49,7 @@ pub fn start_function(
     begin(board, worker as u32, frame, how, child, count)
 }
 
-/// The frame of the turns of a loop that are asked for begins.
+/// Begins the frame of the loop turns that are called or spawned.
 pub fn start_turns(
     alloc: Global,
     code: &Code,

@@ -1,4 +1,4 @@
-//! Workers that take continuations.
+//! Workers that steal continuations.
 
 ghost use Rattle.std.specs.Prelude.{◌≡◌, ◌<◌, ◌≤◌, ◌⊎◌, ℕ, ℤ, true, List, None, Ok, Some, length, slice_get, IfErr, IfOk, IfSome, IsTrue, MatchOption, OnErr, OnOk};
 ghost use Rattle.cilk_join.specs.Joins.{IsOpen};
@@ -29,7 +29,8 @@ use cilk_scheduler::stealing::await_last;
 use cilk_scheduler::workers::is_idle;
 use std::alloc::{AllocError, Global};
 
-/// An idle worker takes the continuation at this place, with no views, if there is one.
+/// Lets an idle worker steal the continuation at this place among all that are offered. The thief
+/// begins with no views. A steal that isn't possible is skipped.
 pub fn steal(alloc: Global, board: &mut Scheduler, worker: u32, place: usize) -> Result<Told, Stop>
     requires { (code : CodeView) × (inputs : List ℤ) × Runs code inputs board.old }
     ensures runs { IfOk result (λ told. (code : CodeView) (inputs : List ℤ) → Runs code inputs board.old → Runs code inputs board.new) }
@@ -57,7 +58,8 @@ pub fn steal(alloc: Global, board: &mut Scheduler, worker: u32, place: usize) ->
     Ok(Told::Stole)
 }
 
-// A continuation that is offered: the worker that offers it, its place in that worker's list, and its frame's place.
+// An offered continuation: the worker that offers it, its place in that worker's list, and its
+// frame's place.
 #[derive(Clone, Copy)]
 struct Offer {
     victim: usize,
@@ -65,7 +67,7 @@ struct Offer {
     frame: u32,
 }
 
-// The continuation at this place among all, if the worker is idle and may take it.
+// The continuation at this place among all, if the worker is idle and may steal it.
 fn find(board: &Scheduler, worker: u32, place: usize) -> Option<Offer>
     ensures can { MatchOption result ((k : ℕ) → CanSteal board.now worker place k → ⊥) (λ found. CanSteal board.now worker place found.frame) }
     ensures stands { IfSome result (λ found. (g : IsLocated board.now.workers.items place found.victim found.index) × (g.1 ≡ found.frame)) }
@@ -87,7 +89,7 @@ fn find(board: &Scheduler, worker: u32, place: usize) -> Option<Offer>
     })
 }
 
-// The last child of a frame loses the continuation beside it, and its piece is awaited at the frame's block.
+// Marks the last child of a frame as stolen, so that its views are awaited at the frame's block.
 fn rob_at(
     alloc: Global,
     frames: &mut Vec<Activation<FrameState>>,
@@ -106,7 +108,7 @@ fn rob_at(
     Ok(())
 }
 
-// The frame whose continuation stands at a place of a worker's list.
+// The frame of the continuation at a place of a worker's list.
 fn offered_at(workers: &[Worker], worker: usize, index: usize) -> Option<u32>
     ensures { (place : ℕ) → IsLocated workers.now place worker index → result ≡ slice_get (offers workers.now) place }
 {
@@ -114,7 +116,7 @@ fn offered_at(workers: &[Worker], worker: usize, index: usize) -> Option<u32>
     worker.offered.get(index)
 }
 
-// Whether a continuation of the frame may be stolen, beside its last child.
+// Whether the frame's continuation beside its last child may be stolen.
 fn may_steal(frames: &[Activation<FrameState>], frame: usize) -> bool
     ensures yes { IsTrue result → (a : Activation FrameState) × (slice_get frames.now frame ≡ Some a) × IsOpen (block_in a.cursor.join) a.cursor.children }
     ensures no { (a : Activation FrameState) → slice_get frames.now frame ≡ Some a → IsOpen (block_in a.cursor.join) a.cursor.children → result ≡ true }
@@ -129,7 +131,7 @@ fn may_steal(frames: &[Activation<FrameState>], frame: usize) -> bool
     }
 }
 
-// The worker has no views.
+// Replaces the worker's views by empty ones.
 fn clear(alloc: Global, workers: &mut Vec<Worker>, worker: usize)
     requires { worker < length workers.old.items }
     ensures count { length workers.new.items ≡ length workers.old.items }
@@ -138,7 +140,7 @@ fn clear(alloc: Global, workers: &mut Vec<Worker>, worker: usize)
     workers[worker].views = Hypermap::new(alloc);
 }
 
-// A worker no longer offers the continuation at a place of its list.
+// Removes the continuation at a place of a worker's list.
 fn withdraw_at(workers: &mut Vec<Worker>, worker: usize, index: usize)
     requires here { worker < length workers.old.items }
     requires stands { (u : Worker) → slice_get workers.old.items worker ≡ Some u → index < length u.offered.items }

@@ -1,8 +1,8 @@
 -- Workers of whom one changes, and a list without the element at a place.
 --
 -- - `altered_on`, `altered_from`: what each worker is after and before;
--- - `altered_map`, `altered_map_at`, `altered_set`, `altered_sum`: what is told of them;
--- - `skip`, `remove_get`, `skip_off`, `skip_one`, `remove_back`: places in a list without an element;
+-- - `altered_map`, `altered_map_at`, `altered_set`, `altered_sum`: lists made from them;
+-- - `skip`, `remove_get`, `skip_off`, `skip_one`, `remove_back`: places in a list without one;
 -- - `without_none`, `without_one`, `withdrawn_is`, `offered_are`: continuations by names.
 use Rattle.std.proofs.Common.{◌≡◌, ◌⊎◌, inl, inr, ◌+◌, ◌<◌, ℕ, zero, suc, true, false, List, [], ◌∷◌, ◌++◌, length, map, set, slice_get, sum, Some, None, refl, sym, ap, ap₂, ◌∙◌, arith}
 use Rattle.std.specs.Prelude.{remove}
@@ -21,7 +21,7 @@ same_of : (y : ℕ) (k l : List ℕ) → sum k + 1 ≡ sum l → sum (y ∷ k) +
 same_of y k l e = let g = sum_by-cons {X = ℕ} (λ a. a) y k in let h = sum_by-cons {X = ℕ} (λ a. a) y l in omega (arith, g, h, e)
 
 module _ (f : Worker → Worker) where
-  -- what a worker is after
+  -- a worker after the change
   abbrev pub Then : ℕ → ℕ → Worker → Worker → Type 0
   Then w v u u' = ((w ≡ v) × (u' ≡ f u)) ⊎ ((w ≡ v → ⊥) × (u' ≡ u))
 

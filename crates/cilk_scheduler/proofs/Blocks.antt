@@ -1,4 +1,4 @@
--- What lies at a block: an arrival, a steal, the whole product.
+-- The pieces at a block: an arrival, a steal, the whole product.
 --
 -- - `product_snoc`, `block_product`: the block's product is that of its stolen children's pieces;
 -- - `all_there`, `passes`: with nothing awaited, the one run is the whole product;
@@ -18,7 +18,7 @@ use Rattle.cilk_runs.specs.FrameEnvViews.{IsViewOf}
 use Rattle.cilk_runs.proofs.FrameEnvViews.{are_multiplied}
 use Rattle.cilk_scheduler.specs.Blocks.{stolen_in, IsRun, Lays, with_one, NotIn, Apart}
 
--- the product of these pieces, behind another
+-- the product of these pieces, after another
 abbrev pub product : {V : Type 0} → MonoidStructure V → (ℕ → V) → V → List ℕ → V
 product M kid acc [] = acc
 product M kid acc (k ∷ ks) = product M kid (M.combine acc (kid k)) ks
@@ -131,7 +131,7 @@ module _ (kind : MonoidKind) where
         (λ a. inl (other j true out.0 a.0, rw (same j out.0) (lays_same (M.combine acc (kid j)) js run waits out.1 a.1)))
         (λ b. inr (other j false out.0 b.0, b.1, b.2, b.3, b.4, lays_same M.unit js b.1 b.2 out.1 b.5)) h
 
-    -- a run that goes on to the left
+    -- the product of pieces further on the left
     lays_on : (a b : View) (x : ViewValue) (js : List ℕ) (run : Option ViewValue) (waits : List (Wait ViewValue)) → IsViewOf kind a x → NotIn k js → Lays kind kid there own b js run waits → Lays kind kid' (with_one there k) own (M.combine a b) js (Some (times x (or_unit unit times run))) waits
     lays_on a b x [] run waits is out h = (is_join a (M.combine b own) x (or_unit unit times run) is h.0, h.1)
     lays_on a b x (j ∷ js) run waits is out h = ⊎_elim

@@ -1,7 +1,7 @@
--- The views that go on with a frame.
+-- The views that a frame's worker has.
 --
 -- - `resuming_event`, `resuming_child`: whether the last deed starts a child;
--- - `plain`, `unused`: a frame that goes on with its own piece;
+-- - `plain`, `unused`: a frame whose worker has the views of its own piece;
 -- - `block_ext`, `carried_ext`: what the view is made of, and nothing else.
 use Rattle.std.proofs.Common.{◌≡◌, inl, inr, ⊎_elim, ℕ, suc, Bool, true, false, cond, List, [], ◌∷◌, ◌++◌, refl, sym, ap, ap₂, ◌∙◌}
 use Rattle.cilk_types.specs.declared.invocation.Invocation.TheVariants.{Call, Spawn}
@@ -26,7 +26,7 @@ module _ {W : Type 0} where
   resuming_child (Does a ∷ d ∷ ds) how w = resuming_child (d ∷ ds) how w
   resuming_child (Invokes k u ∷ d ∷ ds) how w = resuming_child (d ∷ ds) how w
 
-  -- a frame that is neither merged nor before a resume goes on with its own piece
+  -- a frame that is neither merged nor before a resume has its own piece's view
   pub plain : {V : Type 0} (M : MonoidStructure V) (piece : Name → V) (stolen : Name → Bool) (n : Name) (ds : List (Deed W)) (merged : Bool) → merged ≡ false → is_resuming ds ≡ false → carried M piece stolen n ds merged ≡ piece n
   plain M piece stolen n ds merged p q = rw (p, q) refl
 

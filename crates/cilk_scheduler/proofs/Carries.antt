@@ -1,9 +1,11 @@
--- Frames that stay where they are but for what is kept beside their places, and further frames behind them.
+-- Frames that keep their indices, cells and reducers while their states change, and new frames
+-- after them.
 --
 -- - `carries_same`, `carries_then`, `carries_changed`: which lists carry which;
 -- - `carried_back`: where none is added;
 -- - `scope_on`, `cell_on`, `instance_on`, `deeds_on`: what stays of them;
--- - `seen_on`, `ended_on`, `goes_on`, `block_on`, `keeps_on`: what frames see, wait for, and what lies at their blocks.
+-- - `seen_on`, `ended_on`, `goes_on`, `block_on`, `keeps_on`: what frames see and wait for, and the
+--   pieces at their blocks.
 use Rattle.std.proofs.Common.{◌≡◌, ◌<◌, ℕ, true, cond, ℤ, List, [], ◌∷◌, ◌++◌, length, slice_get, Option, Some, None, refl, sym, ap, ◌∙◌, subst}
 use Rattle.cilk_types.specs.declared.event.Event.{Event}
 use Rattle.cilk_types.specs.declared.event.Instance as numbered
@@ -144,7 +146,7 @@ module _ (code : CodeView) (p : Source) (inputs : List ℤ) (name : ℕ → Name
     bare_later = λ q a run at has. subst (λ z. IsBare z run) (sym same) (h.bare_later q a run at has);
   }
 
--- ---- what frames wait for, where as many have ended and nothing that was stolen is given back
+-- ---- waiting frames, where each ended frame stays ended and no steal is undone
 
 module _ (s s' : State FrameEnv View) (ends : (m : Name) → has_ended (deeds_at (s.frames m)) ≡ true → has_ended (deeds_at (s'.frames m)) ≡ true) where
   pub ended_on : (m : Name) → HasEnded FrameEnv View s m → HasEnded FrameEnv View s' m

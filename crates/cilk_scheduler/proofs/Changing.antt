@@ -1,7 +1,7 @@
 -- One frame of a list is changed.
 --
 -- - `changed_at`: by a write at its place;
--- - `changed_here`, `changed_off`, `changed_length`: what then stands where;
+-- - `changed_here`, `changed_off`, `changed_length`: the list after it;
 -- - `changed_twice`, `changed_known`: two changes at one place, and one that is known there.
 use Rattle.std.proofs.Common.{◌≡◌, ◌<◌, ℕ, zero, suc, List, [], ◌∷◌, length, slice_get, slice_index_or, slice_set, Some, None, refl, ap, subst, arith}
 use Rattle.cilk_frames.specs.declared.activation.Activation.{Activation}

@@ -1,10 +1,11 @@
--- What one more child leaves of its parent's deeds, of a block, of views and of lists.
+-- The parent after one more child: deeds, block, views and lists.
 --
 -- - `stolen_child`, `end_child`, `strands_child`: one deed more, that starts a child;
 -- - `lays_units`, `carried_unit`: a reducer of which no piece has a view;
 -- - `first_part`, `second_part`, `replicate_at`: places in lists;
 -- - `newest_is`, `sum_more`: a worker that offers one continuation more;
--- - `still_offered`, `was_offered`, `offered_length`, `offers_by`, `not_waiting`: by a call or a spawn.
+-- - `still_offered`, `was_offered`, `offered_length`, `offers_by`, `not_waiting`: offers by a call
+--   or a spawn.
 use Rattle.std.proofs.Common.{◌≡◌, ◌⊎◌, inl, inr, ⊎_elim, ◌+◌, ◌<◌, ℕ, zero, suc, Bool, true, false, cond, ℤ, pos, List, [], ◌∷◌, ◌++◌, length, map, replicate, slice_get, sum, Option, Some, None, refl, sym, ap, ap₂, ◌∙◌, subst, arith}
 use Rattle.std.proofs.lemmas.List.{length-replicate}
 use Rattle.std.proofs.lemmas.List.Sums.{sum_by-cons}

@@ -1,4 +1,4 @@
--- From what the functions of a board promise by numbers to a frame that ends.
+-- The end of a frame, put together from the contracts of the functions.
 --
 -- - `changed_apart`, `working_back`, `altered_known`: changes at two places;
 -- - `closed_by`, `frames_by`: a frame that is finished;
@@ -47,7 +47,7 @@ changed_apart f g (a ∷ list) (suc j) (suc k) ne = ap (λ l. a ∷ l) (changed_
 abbrev offering_as : Worker → Worker → Worker
 offering_as v u = record u { offered = v.offered }
 
--- one worker offers less, and one goes on with a frame, with these views
+-- one worker has one offer less, and one continues with a frame, with these views
 working_back : (up : ℕ) (views : Hypermap) (ws : List Worker) (w victim : ℕ) (without owner old : Worker) → slice_get (viewing views ws w) victim ≡ Some owner → slice_get ws victim ≡ Some old → without ≡ offering_as without owner
     → altered (working up) (altered (λ _. without) (viewing views ws w) victim) w ≡ altered (holding up views) (altered (λ _. offering_as without old) ws victim) w
 working_back up views [] w victim without owner old at was is = refl
@@ -149,7 +149,7 @@ module _ (code : CodeView) (p : Source) (inputs : List ℤ) where
         outcome = outcome;
       }
 
-  -- what a piece's arrival leaves of the parent, by whether its block passes
+  -- the parent's state after a piece's arrival, by whether its block passes
   held_by : (w up : ℕ) (joined : FrameState) (passes : Bool) (went brought held : List (Activation FrameState)) → brought ≡ changed (λ _. joined) went up → held ≡ cond passes (changed (moved_to (Held w)) (changed passed brought up) up) brought
       → held ≡ changed (λ _. cond passes (moved_to (Held w) (passed joined)) joined) went up
   held_by w up joined true went brought held e is =

@@ -1,10 +1,10 @@
 -- A worker's frame ends: what stays, whatever becomes of its worker and its parent.
 --
 -- - `sync_end`, `joined_end`, `end_last`: an end among deeds;
--- - `makes`, `own_are`, `left_views`, `left_bare`: the step of the free machine, and the views that are left;
--- - `Moved`: what becomes of seats and workers;
--- - `keeps_stays`, `where_else`, `other`, `itself`, `holds_at`: blocks, seats and workers;
--- - `waits_as`, `desk_kept`: the desk;
+-- - `makes`, `own_are`, `left_views`, `left_bare`: the step of the free machine and the views left;
+-- - `Moved`: the changes of frame states and workers;
+-- - `keeps_stays`, `where_else`, `other`, `itself`, `holds_at`: blocks, frame states and workers;
+-- - `waits_as`, `desk_kept`: the worker table;
 -- - `shown_after`: the whole.
 use Rattle.std.proofs.Common.{◌≡◌, inl, inr, ⊎_elim, ◌+◌, ◌<◌, ◌≤◌, ℕ, suc, nat_eq, eq-eqb, eqb-true, Bool, true, false, true≢false, cond, ℤ, List, [], ◌∷◌, ◌++◌, length, map, set, slice_get, sum, Option, Some, None, refl, sym, ap, ap₂, ◌∙◌, subst, arith}
 use Rattle.std.proofs.lemmas.Bool.{cases_Bool}
@@ -311,7 +311,7 @@ module _ (code : CodeView) (p : Source) (inputs : List ℤ) (name : ℕ → Name
     abbrev now : Activation FrameState
     now = let a = h.seat in record a { cursor = counted (finished h.came) }
 
-    -- what a worker has before and after, where the frame at this place may be offered no more
+    -- a worker before and after, where the frame at this index may no longer be offered
     pub record Had (up at : ℕ) (u u' : Worker) : Type 0 where
       pub frame_is : (w ≡ at → ⊥) → u'.frame ≡ u.frame
       pub views_are : (w ≡ at → ⊥) → u'.views ≡ u.views
@@ -333,7 +333,7 @@ module _ (code : CodeView) (p : Source) (inputs : List ℤ) (name : ℕ → Name
         let was : h.came ≡ (let y = h.came in record seat { cursor = y.cursor; took = y.took }) = stepped.kept code p inputs name b d s w k (asks.End v) lays sh h no_sync in
         subst (λ l. AreNamed l name) (changed_known J (λ _. counted (finished h.came)) old_seats k h.seat h.sits (sym (ap (λ (x : FrameState). counted (finished x)) was))) (named_changed J old_seats k name (λ x. (refl, refl)) named)
 
-    -- What becomes of seats and workers: this other one may change, the parent's, whose child alone the frame is.
+    -- The changes of frame states and workers. Only one other frame may change: the parent.
     pub record Moved (up : ℕ) : Type 0 where
       pub on : carries.Carries old_seats new_seats
       pub same_length : length new_seats ≡ length old_seats
@@ -433,7 +433,7 @@ module _ (code : CodeView) (p : Source) (inputs : List ℤ) (name : ℕ → Name
           (g.0, g.1, g.2, g.3, (λ y. g.4 (over_back (name j) (names_differ k j low there ne) (child_off j there ne') y)), goes_on (name j) ds g.5, g.6, g.7)
       where_else j ds x Finished ne ne' there g = g
 
-      -- ---- seats
+      -- ---- frame states
 
       abbrev entries : List JournalEntry
       entries = let l = b.journal in l.items
@@ -545,7 +545,7 @@ module _ (code : CodeView) (p : Source) (inputs : List ℤ) (name : ℕ → Name
             bare = subst (λ n. IsBare n (value_in u'.views)) (sym t.same_length) (subst (λ z. IsBare (length old_seats) (value_in z)) (sym views) g.bare);
           }
 
-      -- ---- the desk, where workers offer what they offered
+      -- ---- the worker table, where workers offer what they offered
 
       -- a frame that is offered isn't the one that ends
       pub offered_off : (at q j : ℕ) (u : Worker) → slice_get old_workers at ≡ Some u → (let o = u.offered in slice_get o.items q ≡ Some j) → k ≡ j → ⊥
@@ -557,7 +557,7 @@ module _ (code : CodeView) (p : Source) (inputs : List ℤ) (name : ℕ → Name
           let z : Held w ≡ Offered at = sym status_was ∙ ap (λ (a : Activation FrameState). let x = a.cursor in x.status) (sym same) ∙ g.2 in
           cc
 
-      -- the frames that wait, where this list is told of them
+      -- the frames that wait, where this is their list
       pub waits_as : (ws : List Name) → ((j : ℕ) → j < length old_seats → (up ≡ j → ⊥) → (IsIn (name j) ws → IsIn (name j) d.waiting) × (IsIn (name j) d.waiting → IsIn (name j) ws))
           → ((a : Activation FrameState) → (k ≡ up → ⊥) → slice_get new_seats up ≡ Some a → ((let x = a.cursor in x.status ≡ Waiting) → IsIn (name up) ws) × (IsIn (name up) ws → let x = a.cursor in x.status ≡ Waiting))
           → (IsIn (name k) ws → IsIn (name k) d.waiting)
@@ -626,7 +626,7 @@ module _ (code : CodeView) (p : Source) (inputs : List ℤ) (name : ℕ → Name
 
       -- ---- the whole
 
-      -- the parent's seat, who has it, and the desk
+      -- the parent's state, who has it, and the worker table
       pub record Settled (d' : WorkerTable) : Type 0 where
         pub parent : (a : Activation FrameState) → (k ≡ up → ⊥) → slice_get new_seats up ≡ Some a → Sits code p inputs name b' s' up a
         pub mine : (j : ℕ) (u : Worker) → slice_get new_workers w ≡ Some u → u.frame ≡ Some j → Holds code p inputs name b' s' w u j

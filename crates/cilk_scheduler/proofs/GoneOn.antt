@@ -1,9 +1,9 @@
--- A frame goes on behind each child that it spawned.
+-- A frame continues after each child that it spawned.
 --
 -- - `last_or_earlier`: a deed before the last of one deed more;
 -- - `fewer_started`: how many children the deeds before another have started;
 -- - `after_one`, `still_ended`: the frames after one more deed, and those that have ended;
--- - `behind_last`: the child that a frame goes on behind;
+-- - `behind_last`: the child that a frame continues after;
 -- - `gone_on_behind`: the law.
 use Rattle.std.proofs.Common.{◌≡◌, ◌⊎◌, inl, inr, ⊎_elim, ◌<◌, suc, Bool, true, false, true≢false, cond, ℤ, List, [], ◌∷◌, ◌++◌, Option, Some, None, refl, sym, ap, ◌∙◌, subst, append_assoc, arith}
 use Rattle.cilk_types.specs.declared.invocation.Invocation.{Invocation}
@@ -37,7 +37,7 @@ ending (d ∷ ds) = by (ending ds)
     by (inl e) = inr ([], d, ap (λ l. d ∷ l) e)
     by (inr (rest, x, e)) = inr (d ∷ rest, x, ap (λ l. d ∷ l) e)
 
--- where one deed has another behind it among these and one more, that is the last one, or there was one before
+-- of two neighbouring deeds among these and one more, the second is the new one, or both were there
 last_or_earlier : (ds : List (Deed FrameEnv)) (d : Deed FrameEnv) (before after : List (Deed FrameEnv)) (x y : Deed FrameEnv) → ds ++ d ∷ [] ≡ before ++ x ∷ y ∷ after
     → (ds ≡ before ++ x ∷ []) ⊎ ((rest : List (Deed FrameEnv)) × (ds ≡ before ++ x ∷ y ∷ rest))
 last_or_earlier ds d before after x y h = by (ending after)
@@ -85,7 +85,7 @@ module _ (frames : Frames FrameEnv) (n : Name) (f : Frame FrameEnv) where
           child true q = let z : Some (begun w) ≡ Some g = q in let same : begun w ≡ g = cc in inr (inl (ap (λ (x : Frame FrameEnv). x.deeds) (sym same)))
           child false q = grown (Invokes how w) (same_name n m) refl q
 
-  -- what has ended has still, but where a new frame has its name
+  -- a frame that has ended stays so, unless a new frame has its name
   still_ended : (d : Deed FrameEnv) (m : Name) → frames n ≡ Some f → (child_after n f.deeds ≡ m → ⊥) → has_ended (deeds_at (frames m)) ≡ true → has_ended (deeds_at (after_deed frames n f d m)) ≡ true
   still_ended d m here other h = by d
     where
@@ -101,7 +101,7 @@ module _ (frames : Frames FrameEnv) (n : Name) (f : Frame FrameEnv) where
       by (Does e) = grown (Does e) (same_name n m) refl
       by (Invokes how w) = child w (same_name (child_after n f.deeds) m) refl (cond (same_name n m) (Some (record f { deeds = f.deeds ++ Invokes how w ∷ [] })) (frames m)) (grown (Invokes how w) (same_name n m) refl)
 
--- ---- the child that a frame goes on behind
+-- ---- the child that a frame continues after
 
 -- its last child has ended or was stolen from
 abbrev IsPassed : State FrameEnv View → Name → List (Deed FrameEnv) → Type 0

@@ -1,4 +1,4 @@
--- Cells, and where frames' blocks lie among them, with one frame more behind all others.
+-- Cells, and where frames' cells are among them, with one frame more after all others.
 --
 -- - `Grows`: what is there then;
 -- - `grown`: from what was there.
@@ -19,7 +19,7 @@ pub record Grows (p : Source) (name : ℕ → Name) (old new : List (Activation 
   pub ascend : (i j : ℕ) (x y : Activation FrameState) → slice_get new i ≡ Some x → slice_get new j ≡ Some y → i < j → x.base + size_of p (s'.frames (name i)) ≤ y.base
   pub within : (j : ℕ) (x : Activation FrameState) → slice_get new j ≡ Some x → x.base + size_of p (s'.frames (name j)) ≤ length cells'
 
--- a seat was there, with its cells where they are
+-- a frame was there, with its cells where they are
 abbrev pub WasThere : List (Activation FrameState) → ℕ → Activation FrameState → Type 0
 WasThere old j a = (z : Activation FrameState) × (slice_get old j ≡ Some z) × (a.base ≡ z.base)
 

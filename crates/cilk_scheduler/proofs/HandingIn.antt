@@ -3,7 +3,8 @@
 -- - `child_is`, `spawn`, `among`: the parent, and this frame among its block's stolen children;
 -- - `kept_before`, `lays_now`, `kept_now`: what lies at the block before and after the arrival;
 -- - `unfinished`, `over_now`: whether the block is complete;
--- - `moved`, `parent_sits`, `holds_parent`, `desk_is`: workers, the parent's seat, who has it, the desk;
+-- - `moved`, `parent_sits`, `holds_parent`, `desk_is`: workers, the parent's state, who holds it,
+--   and the worker table;
 -- - `arrivals_are_shown`: the law.
 use Rattle.std.proofs.Common.{◌≡◌, ◌⊎◌, inl, inr, ⊎_elim, ◌+◌, ◌<◌, ◌≤◌, ℕ, suc, nat_eq, eq-eqb, eqb-true, Bool, true, false, true≢false, cond, ℤ, List, [], ◌∷◌, ◌++◌, length, set, slice_get, Option, Some, None, refl, sym, ap, ap₂, ◌∙◌, subst, append_assoc, arith}
 use Rattle.std.specs.Prelude.{if◌then◌else◌, nat_lt}
@@ -249,7 +250,7 @@ module _ (code : CodeView) (p : Source) (inputs : List ℤ) (name : ℕ → Name
   goes_where q = let o = sitting in let i = subst (λ z. IsWhere code p inputs name b s up (name up) deeds parent z) q o.is_where in (i.5, i.0)
 
   module _ (s' : State FrameEnv View) (m : Makes FrameEnv View monoid_of (Next p inputs) (costs p inputs) s (name (suc k)) s') where
-    -- ---- workers and seats
+    -- ---- workers and frame states
 
     abbrev mid : List (Activation FrameState)
     mid = changed (λ _. counted (finished h.came)) (let f = b.frames in f.items) (suc k)
@@ -438,7 +439,7 @@ module _ (code : CodeView) (p : Source) (inputs : List ℤ) (name : ℕ → Name
             let r = snoc_one before b1 (Invokes Spawn child) (Invokes Spawn what) (sym (at ∙ ap (λ l. before ++ Invokes Spawn child ∷ l) y) ∙ q) in
             stolen (subst (λ l. s.stolen (child_after (name up) l) ≡ true) (sym r.0) x)
 
-    -- ---- the parent's seat
+    -- ---- the parent's state
 
     abbrev Comes : Bool → Type 0
     Comes t = let j = g.joined in Arrives (let a = g.above in let y = a.cursor in block_in y.join) (let a = h.seat in let x = a.cursor in x.ordinal) false (product g.views) t (block_in j.join) g.left
@@ -525,7 +526,7 @@ module _ (code : CodeView) (p : Source) (inputs : List ℤ) (name : ℕ → Name
     parent_sits true e a = let o = sitting in ended.stays_with code p inputs name b d s w (suc k) v is_shown started_as h b' g.views g.closes s' m up moved up g.above (parent_with true) apart g.sits refl o (where_passes e a) (λ q. block_parent true a)
     parent_sits false e a = let o = sitting in ended.stays_with code p inputs name b d s w (suc k) v is_shown started_as h b' g.views g.closes s' m up moved up g.above (parent_with false) apart g.sits refl o (where_waits e a parent.status refl o.is_where) (λ q. block_parent false a)
 
-    -- ---- the worker that goes on with it
+    -- ---- the worker that continues with it
 
     lays_whole : Comes true → (i : Instance) (q : numbered.Instance) → IsInstance p old_seats name i q
         → Lays (kind_of i) (λ z. s'.piece (name up ++ z ∷ []) i) there_now (s'.piece (name up) i) (unit_of monoid_of i) (stolen_at_block code p inputs name b' s' (name up) deeds) (Some (product g.left (kind_of i) q)) []
@@ -570,7 +571,7 @@ module _ (code : CodeView) (p : Source) (inputs : List ℤ) (name : ℕ → Name
         used_now : (q : ℕ) → IsUsed s'.stolen (name up) (deeds_at (s'.frames (name up))) true q → there_now q ≡ true
         used_now q is = ⊎_elim (λ x. stolen_ended a q (sym (ended.stolen_at code p inputs name b d s w (suc k) v is_shown started_as h b' g.views g.closes s' m (name up ++ q ∷ [])) ∙ x.1)) (λ x. absurd (true≢false x.0)) is
 
-    -- ---- the desk
+    -- ---- the worker table
 
     abbrev waiting_with : Bool → List Name
     waiting_with t = cond t (without d.waiting (name up)) d.waiting

@@ -1,4 +1,4 @@
--- Frames do what they ask for, and so they begin and resume where they must.
+-- Frames do what they request, and so they begin and resume where they must.
 --
 -- - `turn`, `at_stage`: what may come at a stage of a frame, and which stage comes next;
 -- - `opening_sound`: the asks that open a frame are writes and creations;
@@ -38,7 +38,7 @@ use Rattle.cilk_scheduler.specs.Histories.{IsAnswered, AreAnswered, DidAsAsked, 
 use Rattle.cilk_scheduler.proofs.Carried.{resuming_event, resuming_child}
 use Rattle.cilk_scheduler.proofs.Within.{no_fault_then}
 
--- ---- which ask it is
+-- ---- kinds of requests
 
 abbrev begins : language.Ask → Bool
 begins asks.Begin = true
@@ -122,7 +122,7 @@ IsSound (Fresh due) = AreOpenings due
 IsSound (Due first due) = IsOpening first × AreOpenings due
 IsSound s = Unit {0}
 
--- the frame goes on at a stage of which this holds
+-- the frame continues at a stage of which this holds
 abbrev Turned : language.Ask → (Stage → Type 0) → Type 0
 Turned k go = (s : Stage) × go s × IsSound s × (resuming s ≡ starts k) × (fresh s ≡ false) × (ends k ≡ false)
 
@@ -209,7 +209,7 @@ closes_at (asks.Result v) go h = (refl, refl)
 closes_at (asks.End v) go h = (refl, refl)
 closes_at (asks.Fault f) go h = (refl, refl)
 
--- what may come at a stage
+-- the requests that may come at a stage
 at_stage : (s : Stage) (k : language.Ask) (go : Stage → Type 0) → IsSound s → follows s k go → (resumes k ≡ resuming s) × (begins k ≡ fresh s)
 at_stage (Fresh due) k go ok h = (ap resumes h.0, ap begins h.0)
 at_stage (Due first due) k go ok h = let plain = opening_plain first ok.0 in (ap resumes h.0 ∙ plain.1, ap begins h.0 ∙ plain.0)
@@ -251,7 +251,7 @@ event_plain Syncs = (refl, refl, refl)
 event_plain (Ends v gone) = (refl, refl, refl)
 event_plain (Passes m) = (refl, refl, refl)
 
--- a deed that answers an ask is of its kind
+-- a deed that answers a request is of its kind
 deed_marks : (d : Deed FrameEnv) (a : Ask FrameEnv) → Answers d a → (starts_child d ≡ named_starts a) × (is_end d ≡ named_ends a) × (named_fails a ≡ false)
 deed_marks (Does e) a h =
     let plain = event_plain e in
@@ -259,7 +259,7 @@ deed_marks (Does e) a h =
 deed_marks (Invokes how w) a h = (ap named_starts (sym h), ap named_ends (sym h), ap named_fails h)
 
 module _ (p : Source) (w : FrameEnv) (j : ℕ) where
-  -- by names an ask is of its kind
+  -- by names a request is of its kind
   ask_marks : (k : language.Ask) → (named_starts (named_ask p w j k) ≡ starts k) × (named_ends (named_ask p w j k) ≡ ends k) × (named_begins (named_ask p w j k) ≡ begins k) × (named_resumes (named_ask p w j k) ≡ resumes k)
   ask_marks asks.Begin = (refl, refl, refl, refl)
   ask_marks (asks.Read x) = (refl, refl, refl, refl)
@@ -276,7 +276,7 @@ module _ (p : Source) (w : FrameEnv) (j : ℕ) where
   ask_marks (asks.End v) = (refl, refl, refl, refl)
   ask_marks (asks.Fault f) = (refl, refl, refl, refl)
 
-  -- no fault, so what follows is told
+  -- no fault by name, so this follows
   told : (k : language.Ask) (P : Type 0) → ((f : Fault) → named_ask p w j k ≡ Fail f → ⊥) → unless_fault k P → P
   told asks.Begin P fine h = h
   told (asks.Read x) P fine h = h
@@ -391,7 +391,7 @@ module _ (p : Source) (inputs : List ℤ) (w : FrameEnv) where
   abbrev asked : Rest → language.Ask
   asked c = let q = c [] MAX_TICKS in q.ask
 
-  -- the next ask, where the frame goes on
+  -- the next request, where the frame continues
   next_is : (past : List (Deed FrameEnv)) (c : Rest) → IsLeft past c → has_ended past ≡ false → next p inputs w past ≡ Some (named_ask p w (suc (started past)) (asked c))
   next_is past c h going =
       going_next (has_ended past) going

@@ -1,4 +1,4 @@
--- A frame starts another: from a board that shows a state to one that shows what comes of it.
+-- A frame starts another: the scheduler shows a state before and the next one after.
 --
 -- - `renamed_low`: the names of frames that were there;
 -- - `invocations_are_shown`: the law.

@@ -1,9 +1,10 @@
 -- A frame starts another.
 --
--- - `else_at`, `here_at`, `kid_at`, `ends_same`: frames by name; `piece_kid`, `piece_off`: their views;
--- - `which`, `split_instance`: the seats and reducers of before, and the new frame's;
--- - `other`, `itself`: the seats of other frames, and of the one that starts the new one;
--- - `still_holds`, `desk_is`, `tells_is`: workers, the desk, what is told;
+-- - `else_at`, `here_at`, `kid_at`, `ends_same`, `piece_kid`, `piece_off`: frames by name, and
+--   their views;
+-- - `which`, `split_instance`: the earlier frames and reducers, and the new frame's;
+-- - `other`, `itself`: the states of other frames, and of the one that starts the new one;
+-- - `still_holds`, `desk_is`, `tells_is`: workers, the worker table, what is shown;
 -- - `shown_then`, `settles`: the whole, and the choice.
 use Rattle.std.proofs.Common.{◌≡◌, ◌⊎◌, inl, inr, ⊎_elim, ◌+◌, ◌<◌, ◌≤◌, ℕ, suc, nat_eq, eq-eqb, eqb-true, Bool, true, false, true≢false, cond, ℤ, pos, List, [], ◌∷◌, ◌++◌, length, map, replicate, set, slice_get, sum, Option, Some, None, refl, sym, ap, ap₂, ◌∙◌, subst, arith}
 use Rattle.std.specs.Option.{option_map}
@@ -208,7 +209,7 @@ module _ (code : CodeView) (p : Source) (inputs : List ℤ) (name : ℕ → Name
   size_kid : size_of p (s'.frames kid) ≡ cells_of p callee
   size_kid = forked.size_kid p s s' (name k) frame how child_is here fresh going made
 
-  -- no frame of the board had the new one's name
+  -- no frame of the scheduler had the new one's name
   kid_absent : IsAbsent old_seats name kid
   kid_absent j less same =
       let r = get_some old_seats j less in
@@ -239,7 +240,7 @@ module _ (code : CodeView) (p : Source) (inputs : List ℤ) (name : ℕ → Name
   kid_same : (i : Instance) (n : Name) → has_ended (deeds_at (s.frames n)) ≡ true → s'.piece n i ≡ s.piece n i
   kid_same i n there = piece_off i n (λ q. true≢false (sym there ∙ ap (λ z. has_ended (deeds_at (s.frames z))) (sym q) ∙ ap (λ f. has_ended (deeds_at f)) fresh))
 
-  -- ---- where seats stand
+  -- ---- where frames are
 
   abbrev left : FrameState
   left = let y = h.came in let a = h.seat in let x = a.cursor in
@@ -273,7 +274,7 @@ module _ (code : CodeView) (p : Source) (inputs : List ℤ) (name : ℕ → Name
   on = subst (λ l. carries.Carries old_seats l) (sym t.frames)
       (carries.carries_then old_seats (changed written_seat old_seats k) (changed written_seat old_seats k ++ t.child ∷ []) (carries.carries_changed written_seat old_seats k) (carries_more (changed written_seat old_seats k) t.child))
 
-  -- a seat is the frame's, the new one, or another that stays
+  -- a frame is this one, the new one, or another that stays
   pub data Which (j : ℕ) (a : Activation FrameState) : Type 0 where
     parent_is : k ≡ j → now ≡ a → Which j a
     new_is : last ≡ j → t.child ≡ a → Which j a
@@ -435,7 +436,7 @@ module _ (code : CodeView) (p : Source) (inputs : List ℤ) (name : ℕ → Name
   where_else j n ds x Waiting off ne ne' g = (g.0, g.1, g.2, g.3, (λ y. g.4 (over_back n ne ne' y)), carries.goes_on s s' (λ z e. ends_same z ∙ e) n (stolen_on n) ds g.5, g.6, g.7)
   where_else j n ds x Finished off ne ne' g = g
 
-  -- ---- what is written down
+  -- ---- the journal
 
   abbrev entries : List JournalEntry
   entries = let l = b.journal in l.items
@@ -455,7 +456,7 @@ module _ (code : CodeView) (p : Source) (inputs : List ℤ) (name : ℕ → Name
   event_is Call = (last, last_low, last_name ∙ ap (λ n. n ++ suc (started past) ∷ []) (let o = sh.sits k h.seat h.sits in sym o.named), refl)
   event_is Spawn = (last, last_low, last_name ∙ ap (λ n. n ++ suc (started past) ∷ []) (let o = sh.sits k h.seat h.sits in sym o.named), refl)
 
-  -- ---- seats
+  -- ---- frame states
 
   there_at : (j : ℕ) → j < last → IsAbsent old_seats name (name j) → ⊥
   there_at j less none = none j less refl
@@ -629,7 +630,7 @@ module _ (code : CodeView) (p : Source) (inputs : List ℤ) (name : ℕ → Name
           let z : Held w ≡ Held v = sym status_was ∙ ap (λ (a : Activation FrameState). let c = a.cursor in c.status) x ∙ o.held in
           cc
 
-  -- ---- the desk
+  -- ---- the worker table
 
   abbrev pub desk_now : WorkerTable
   desk_now = record { hands = set d.hands w (Some kid); offered = offers_by how d.offered w (name k); waiting = d.waiting }
@@ -714,7 +715,7 @@ module _ (code : CodeView) (p : Source) (inputs : List ℤ) (name : ℕ → Name
   child_base : (let a = t.child in a.base) ≡ length cells
   child_base = let i = t.is_child in i.base_is
 
-  -- ---- what is told
+  -- ---- what is shown
 
   named_now : AreNamed new_seats name
   named_now =

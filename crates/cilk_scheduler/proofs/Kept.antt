@@ -1,9 +1,10 @@
--- What stays as it is where one frame of a board is changed beside its place, and where one event more is written down.
+-- All else stays the same when one frame's state changes, and when one more event is recorded.
 --
--- - `changed_get`, `changed_from`: what stands at each place before and after;
+-- - `changed_get`, `changed_from`: the state at each index before and after;
 -- - `links_changed`, `scope_changed`, `sees_changed`: what frames see;
 -- - `named_changed`, `absent_changed`, `present_changed`: names;
--- - `cell_changed`, `instance_changed`, `deeds_changed`: numbers of cells and reducers, and the deeds of frames;
+-- - `cell_changed`, `instance_changed`, `deeds_changed`: numbers of cells and reducers, and deeds
+--   of frames;
 -- - `events_more`, `deeds_more`: one event more.
 use Rattle.std.proofs.Common.{◌≡◌, ◌<◌, ◌⊎◌, inl, inr, ⊎_elim, ℕ, zero, suc, nat_eq, Bool, true, false, cond, List, [], ◌∷◌, ◌++◌, length, slice_get, Option, Some, None, refl, sym, ap, ap₂, ◌∙◌, subst}
 use Rattle.cilk_types.specs.declared.event.Event.{Event}

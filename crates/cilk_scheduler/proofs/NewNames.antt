@@ -1,6 +1,6 @@
--- The names of frames with one frame more behind all others.
+-- The names of frames with one frame more after all others.
 --
--- - `all_started`: a frame's children have all their places on the board;
+-- - `all_started`: all of a frame's children are in the list;
 -- - `named_more`: names and ordinals with one frame more.
 use Rattle.std.proofs.Common.{◌≡◌, ◌⊎◌, ⊎_elim, ◌<◌, ◌≤◌, ℕ, zero, suc, ℤ, List, [], ◌∷◌, ◌++◌, length, slice_get, Option, Some, refl, sym, ap, ap₂, ◌∙◌, subst, arith}
 use Rattle.std.specs.Option.{option_map}

@@ -1,6 +1,6 @@
--- A board whose parts were made one after the other is new.
+-- A scheduler made in these parts is new.
 --
--- - `get_behind`, `get_zero`: what stands behind a list, and in one of zeros;
+-- - `get_behind`, `get_zero`: a place past a list, and in one of zeros;
 -- - `root_is`: the first frame's activation;
 -- - `boards_are_new`: the law.
 use Rattle.std.proofs.Common.{◌≡◌, ⊎_elim, ◌+◌, ◌<◌, ℕ, zero, suc, nat_eq, eqb-true, false, if◌then◌else◌, ℤ, pos, List, [], ◌∷◌, ◌++◌, length, replicate, slice_get, Option, Some, None, refl, sym, ap, ap₂, ◌∙◌, subst, length-append, arith}

@@ -1,4 +1,4 @@
--- A kept frame's next ask is the free machine's.
+-- A frame's next request is that of the free machine.
 --
 -- - `named_next`: the law.
 use Rattle.std.proofs.Common.{◌≡◌, ◌+◌, ◌-◌, suc, false, ℤ, List, Some, sym, ap, ◌∙◌, subst, arith}

@@ -1,7 +1,8 @@
--- From what the functions promise by numbers to a frame that has come to an ask, and to an event that is noted.
+-- Events, put together from the contracts of the functions: a frame reaches its request, and its
+-- event is recorded.
 --
 -- - `sight_stays`: what a frame sees that has gone on;
--- - `is_ready`: a frame may go on;
+-- - `is_ready`: a frame may continue;
 -- - `taken_more`, `ticks_more`: ticks are counted no faster than they are taken;
 -- - `refused_low`, `frames_come`: a frame has come to an ask;
 -- - `read_there`, `write_there`, `result_there`, `reducer_there`: cells and reducers are there;

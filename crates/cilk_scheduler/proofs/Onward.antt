@@ -1,4 +1,4 @@
--- What stays as it is in a state where one frame has made one event more, that is not its end.
+-- A state after one frame has made one more event, which isn't its end: all else is the same.
 --
 -- - `name_off`, `longer`: names that differ;
 -- - `ends_in`, `ended_in`: the end among a frame's deeds;

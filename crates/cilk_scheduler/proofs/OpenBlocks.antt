@@ -2,7 +2,8 @@
 --
 -- - `kept`: what lies there;
 -- - `own_fresh`, `last_open`: the keys that may come next;
--- - `keys_not`, `placed_empty`, `own_passes`: a block passes with the own piece where nothing is awaited.
+-- - `keys_not`, `placed_empty`, `own_passes`: a block passes with the own piece if nothing is
+--   awaited.
 use Rattle.std.proofs.Common.{◌≡◌, inl, inr, ⊎_elim, ◌+◌, ℕ, suc, Bool, true, false, true≢false, cond, if◌then◌else◌, ℤ, List, [], ◌∷◌, ◌++◌, Option, refl, sym, ap, ◌∙◌, subst, arith}
 use Rattle.std.proofs.lemmas.Bool.{cases_Bool}
 use Rattle.cilk_types.specs.declared.event.Instance as numbered
@@ -45,7 +46,7 @@ keys_at : (kind : MonoidKind) (i : numbered.Instance) (ws : List (Wait Product))
 keys_at kind i [] = refl
 keys_at kind i (w ∷ ws) = ap (λ l. w.key ∷ l) (keys_at kind i ws)
 
--- a piece behind all leaves as many awaited
+-- a piece after all others leaves the number of awaited ones
 placed_empty : (run : Option Product) (ws : List (Wait Product)) (z : ℕ) (x : Product) → NotIn z (keys ws) → is_empty (let r = placed nothing times run ws z x in r.waits) ≡ is_empty ws
 placed_empty run [] z x none = refl
 placed_empty run (w ∷ ws) z x none = rw none.0 refl

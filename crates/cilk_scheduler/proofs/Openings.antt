@@ -1,4 +1,4 @@
--- A new board shows the first state.
+-- A new scheduler shows the first state.
 --
 -- - `openings_fit`: what is used before the first event;
 -- - `openings_are_shown`: the law.
@@ -191,7 +191,7 @@ module _ (code : CodeView) (p : Source) (inputs : List ℤ) (well : IsTrue (is_w
           subst (λ i. Holds code p inputs name b s 0 u i) c (mine e)
       by (suc v) q = let no : None ≡ Some k = sym (h.idles v u q) ∙ has in let f : ⊥ = cc in absurd f
 
-  -- ---- the desk
+  -- ---- the worker table
 
   no_offer : (v q j : ℕ) (u : Worker) → (let l = b.workers in slice_get l.items v ≡ Some u) → (let f = u.offered in slice_get f.items q ≡ Some j) → ⊥
   no_offer v q j u at has = let no : None ≡ Some j = ap (λ l. slice_get l q) (sym (h.offers v u (worker_is v u at))) ∙ has in cc

@@ -1,7 +1,8 @@
 -- The children of a frame are counted from 1 on.
 --
 -- - `next_is_none`: the next child isn't there yet;
--- - `more_counted`, `child_counted`, `deed_counted`: one frame has started no fewer; one child more; one deed more;
+-- - `more_counted`, `child_counted`, `deed_counted`: one frame has started no fewer, one child
+--   more, one deed more;
 -- - `children_are_counted`: the law.
 use Rattle.std.proofs.Common.{◌≡◌, ⊎_elim, ◌<◌, ◌≤◌, ℕ, suc, Bool, true, false, cond, ℤ, List, [], ◌∷◌, ◌++◌, Option, Some, None, refl, sym, ap, ◌∙◌, subst, arith}
 use Rattle.cilk_program.specs.Syntax.{Source}
@@ -30,7 +31,7 @@ next_is_none frames n f h here = by (frames (n ++ suc (started f.deeds) ∷ []))
         absurd (omega (arith, most, same))
 
 module _ (frames : Frames FrameEnv) (n : Name) (f g : Frame FrameEnv) (here : frames n ≡ Some f) (more : started f.deeds ≤ started g.deeds) where
-  -- what is there was there
+  -- each frame of this name was there before
   was_there : (m : Name) (x : Frame FrameEnv) → with_frame frames n g m ≡ Some x → (y : Frame FrameEnv) × (frames m ≡ Some y)
   was_there m x = by (same_name n m) refl
     where

@@ -1,6 +1,7 @@
--- What a run leaves by its cells and views is what the free machine's state has made.
+-- The outcome of a run, by its cells and views, is that of the free machine's state.
 --
--- - `globals_same`, `output_same`, `finals_same`: global cells, the output, the last values of global reducers;
+-- - `globals_same`, `output_same`, `finals_same`: global cells, the output, last values of global
+--   reducers;
 -- - `left_is`: the outcome.
 use Rattle.std.proofs.Common.{◌≡◌, ◌+◌, ◌<◌, ℕ, zero, suc, ℤ, List, [], ◌∷◌, length, take, slice_get, Option, Some, None, refl, sym, ap, ap₂, ◌∙◌, arith}
 use Rattle.std.specs.Option.{option_map}

@@ -59,7 +59,7 @@ own_then : (frames : Frames FrameEnv) (n : Name) (x g : Frame FrameEnv) (m : Nam
 own_then frames n x g m true at = (x, refl)
 own_then frames n x g m false at = (g, at)
 
--- what is there stays there
+-- a frame stays
 pub there_then : (frames : Frames FrameEnv) (n : Name) (f : Frame FrameEnv) (d : Deed FrameEnv) (m : Name) (g : Frame FrameEnv) → frames m ≡ Some g → (y : Frame FrameEnv) × (after_deed frames n f d m ≡ Some y)
 there_then frames n f (Does e) m g at = own_then frames n (record f { deeds = f.deeds ++ Does e ∷ [] }) g m (same_name n m) at
 there_then frames n f (Invokes how w) m g at = by (same_name (n ++ suc (started f.deeds) ∷ []) m) (own_then frames n (record f { deeds = f.deeds ++ Invokes how w ∷ [] }) g m (same_name n m) at)
@@ -69,7 +69,7 @@ there_then frames n f (Invokes how w) m g at = by (same_name (n ++ suc (started 
     by true r = (begun w, refl)
     by false r = r
 
--- what had ended has
+-- a frame that had ended stays so
 ended_then : (frames : Frames FrameEnv) (n : Name) (f : Frame FrameEnv) (d : Deed FrameEnv) (m : Name) → frames n ≡ Some f → has_ended f.deeds ≡ false → frames (n ++ suc (started f.deeds) ∷ []) ≡ None → has_ended (deeds_at (frames m)) ≡ true
     → has_ended (deeds_at (after_deed frames n f d m)) ≡ true
 ended_then frames n f d m here going fresh is = by d
@@ -134,7 +134,7 @@ no_deeds : (before : List (Deed FrameEnv)) (d : Deed FrameEnv) (after : List (De
 no_deeds [] d after e = let z : [] ≡ d ∷ after = e in cc
 no_deeds (b ∷ before) d after e = let z : [] ≡ b ∷ (before ++ d ∷ after) = e in cc
 
--- an ask is a sync, an end, or neither
+-- a request is a sync, an end, or neither
 data AskIs (memory : Cell → ℤ) (number : Instance → ℤ) (a : Ask FrameEnv) : Type 0 where
   is_sync : a ≡ Sync → AskIs memory number a
   is_ending : (v : ℤ) (gone : List Instance) → a ≡ End v gone → AskIs memory number a
@@ -176,7 +176,7 @@ named_invoke p w j (asks.End v) how what q = let f : ⊥ = cc in absurd f
 named_invoke p w j (asks.Fault x) how what q = let f : ⊥ = cc in absurd f
 
 module _ (p : Source) (inputs : List ℤ) where
-  -- a frame that asks hasn't ended, and asks for this
+  -- a frame that requests this hasn't ended
   next_goes : (w : FrameEnv) (ds : List (Deed FrameEnv)) (a : Ask FrameEnv) → next p inputs w ds ≡ Some a → (has_ended ds ≡ false) × ((k : language.Ask) × (named_ask p w (suc (started ds)) k ≡ a))
   next_goes w ds a = by (has_ended ds)
     where
@@ -224,7 +224,7 @@ module _ (p : Source) (inputs : List ℤ) where
               (subst (λ (x : Frame FrameEnv). (sight : Sight) × (let w = x.what in w ≡ world_of p (n ++ suc (started f.deeds) ∷ []) sight w.callee)) (sym is)
               (w.sight, kid ∙ ap (λ z. world_of p (n ++ suc (started f.deeds) ∷ []) w.sight z) (sym (ap (λ (z : FrameEnv). z.callee) kid))))
 
-  -- a deed that stands behind others answers what was asked for after them
+  -- a deed after others answers the request after them
   answered_behind : (w : FrameEnv) (past before : List (Deed FrameEnv)) (d : Deed FrameEnv) (after : List (Deed FrameEnv)) → AreAnswered p inputs w past (before ++ d ∷ after) → IsAnswered p inputs w (past ++ before) d
   answered_behind w past [] d after h = subst (λ l. IsAnswered p inputs w l d) (sym (append-nil past)) h.0
   answered_behind w past (e ∷ before) d after h = subst (λ l. IsAnswered p inputs w l d) (append_assoc past (e ∷ []) before) (answered_behind w (past ++ e ∷ []) before d after h.1)

@@ -1,7 +1,8 @@
--- From what the functions of a board promise by numbers to a continuation that is taken over, a frame that waits, and one that makes its sync.
+-- Steals, waits and syncs, put together from the contracts of the functions.
 --
 -- - `altered_viewing`, `altered_at`: workers of whom one changes;
--- - `taken`, `offered`: a continuation that is located is offered, and taken over by what the functions change;
+-- - `taken`, `offered`: a continuation that is located is offered, and stolen by what the functions
+--   change;
 -- - `calm`, `may_arrive`: a frame that has come to its sync;
 -- - `stays`, `passes_on`: it waits, or its block passes and it makes its sync.
 use Rattle.std.proofs.Common.{◌≡◌, inr, ◌+◌, ◌<◌, ℕ, zero, suc, Bool, true, false, true≢false, if◌then◌else◌, ℤ, List, [], ◌∷◌, ◌++◌, length, slice_get, slice_index_or, slice_set, Option, Some, None, refl, sym, ap, ap₂, ◌∙◌, subst, arith}
@@ -277,7 +278,7 @@ module _ (code : CodeView) (p : Source) (inputs : List ℤ) where
         passed true on g = g
         passed false on g = absurd (true≢false (sym on ∙ g.0))
 
-    -- its own piece changes nothing that stays behind the sync
+    -- its own piece changes nothing that stays after the sync
     same_sync : (let u = h.worker in BringsOwn now u.views brought views) → synced brought ≡ synced now
     same_sync (Passed q same views_same) = ap (λ y. synced y) same
     same_sync (Alone q none same views_same) = ap (λ y. synced y) same

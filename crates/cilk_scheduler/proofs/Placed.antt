@@ -1,6 +1,6 @@
 -- Places in lists, and the continuations that workers offer.
 --
--- - `there_is`, `get_there`, `there_at`: what stands at a place, and what a look-up tells of it;
+-- - `there_is`, `get_there`, `there_at`: the element at a place, and a look-up of it;
 -- - `get_some`, `get_first`, `get_second`: a place in a list, and in two;
 -- - `offers_at`, `located`, `passed_by`: the continuations from one worker on.
 use Rattle.std.proofs.Common.{◌≡◌, ◌-◌, ◌<◌, ◌≤◌, ℕ, zero, suc, true, List, [], ◌∷◌, ◌++◌, length, drop, slice_get, slice_index_or, nat_lt, Some, None, refl, sym, ap, ◌∙◌, arith}
@@ -42,14 +42,14 @@ offers_at [] v u h = let no : None ≡ Some u = h in cc
 offers_at (x ∷ ws) zero u h = let same : Some x ≡ Some u = h in let is : x ≡ u = cc in ap (λ (y : Worker). (let o = y.offered in o.items) ++ offers ws) is
 offers_at (x ∷ ws) (suc v) u h = offers_at ws v u h
 
--- it stands in this worker's list
+-- it is in this worker's list
 pub located : (ws : List Worker) (place v rest : ℕ) (u : Worker) → slice_get (offers (drop v ws)) rest ≡ slice_get (offers ws) place → slice_get ws v ≡ Some u → (let o = u.offered in rest < length o.items) → IsLocated ws place v rest
 located ws place v rest u inv at low =
     let o = u.offered in
     let it = get_some o.items rest low in
     (u, it.0, at, it.1, sym inv ∙ ap (λ l. slice_get l rest) (offers_at ws v u at) ∙ get_first o.items (offers (drop (suc v) ws)) rest low ∙ it.1)
 
--- it stands in a later one's
+-- it is in a later one's
 pub passed_by : (ws : List Worker) (place v rest next : ℕ) (u : Worker) → slice_get (offers (drop v ws)) rest ≡ slice_get (offers ws) place → slice_get ws v ≡ Some u → (let o = u.offered in length o.items ≤ rest) → next ≡ suc v
     → (let o = u.offered in slice_get (offers (drop next ws)) (rest - length o.items) ≡ slice_get (offers ws) place)
 passed_by ws place v rest next u inv at low is =

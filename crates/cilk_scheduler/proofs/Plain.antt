@@ -1,4 +1,4 @@
--- Deeds with one more at their end that is no sync and no end, and what lies at a block whose pieces stay.
+-- One more deed that is no sync and no end, and a block whose pieces stay.
 --
 -- - `plain_lasts`, `stolen_plain`, `joined_plain`, `end_plain`: one more deed;
 -- - `stolen_sync`, `end_sync`: one more deed that is a sync;

@@ -1,9 +1,12 @@
--- What is known of a worker's frame that has come to an ask which is neither a resume nor a sync.
+-- A worker's frame that has reached a request other than a resume or a sync.
 --
 -- - `strands_stay`: an event that begins no strand leaves their number;
--- - `in_turn`, `quiet`: the frame begins and resumes where it must, and otherwise its last deed starts no child;
--- - `own_views`, `own_bare`: the worker's views are the frame's piece, and hold nothing of frames that haven't begun;
--- - `there`, `means_cell`, `means_reducer`, `result_lies`: what the ask names is there, and has the number that its place means.
+-- - `in_turn`, `quiet`: it begins and resumes where it must, and otherwise its last deed starts no
+--   child;
+-- - `own_views`, `own_bare`: the worker's views are the frame's piece, with nothing of frames that
+--   haven't begun;
+-- - `there`, `means_cell`, `means_reducer`, `result_lies`: what the request names exists, with the
+--   number that its place means.
 use Rattle.std.proofs.Common.{◌≡◌, ℕ, suc, Bool, true, false, cond, IsTrue, ℤ, List, [], ◌∷◌, ◌++◌, unwrap_or, Some, refl, sym, ap, ◌∙◌, subst}
 use Rattle.std.specs.Option.{option_map}
 use Rattle.cilk_types.specs.declared.event.Instance as numbered

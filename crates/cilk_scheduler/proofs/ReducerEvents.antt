@@ -1,7 +1,8 @@
 -- A frame creates, updates, sets and reads a reducer, and prints.
 --
 -- - `number_low`: a reducer's number is that of a frame that has begun;
--- - `views_then`, `bare_then`, `bare_piece`: the worker's views and the frame's piece after an event of one reducer;
+-- - `views_then`, `bare_then`, `bare_piece`: the worker's views and the frame's piece after an
+--   event of a reducer;
 -- - `creates`, `updates`, `sets`, `reads_value`, `prints`: the laws.
 use Rattle.std.proofs.Common.{◌≡◌, ◌≤◌, ℕ, Bool, true, false, cond, ℤ, List, length, Some, refl, sym, ap, ◌∙◌, subst, arith}
 use Rattle.std.specs.Prelude.{◌&&◌}

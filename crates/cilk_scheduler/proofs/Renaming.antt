@@ -1,4 +1,4 @@
--- A board shows a state by other names too, where those of its frames are the same.
+-- A scheduler shows a state by other names too, where those of its frames are the same.
 --
 -- - `cell_as`, `instance_as`, `deeds_as`, `seen_as`: what names and numbers say;
 -- - `keeps_as`, `block_as`, `sits_as`, `holds_as`: frames and workers;

@@ -37,7 +37,7 @@ use Rattle.cilk_scheduler.specs.Retired.{without_own}
 use Rattle.cilk_scheduler.specs.Numbered.{AreNamed, IsInstance}
 use Rattle.cilk_scheduler.proofs.Viewed.{one_instance, one_number}
 
--- what a body's own reducers are, they are there
+-- the own reducers of a body exist
 pub own_there : (p : Source) (callee : Callee) (n : ℕ) (k : MonoidKind) → slice_get (own_reducers p callee) n ≡ Some k → IsTrue (is_whole callee) × IsTrue (reducer_is_there p (body_of p callee) (places.Own 0 n) k)
 own_there p callees.Root n k at = (refl, subst (λ o. IsTrue (is_kind o k)) (sym at) (kind_itself k))
 own_there p (callees.Function c) n k at = (refl, subst (λ o. IsTrue (is_kind o k)) (sym at) (kind_itself k))
@@ -121,7 +121,7 @@ module _ (p : Source) (frames : List (Activation FrameState)) (name : ℕ → Na
         by true = let m = are_multiplied in m.unit (kind_of i)
         by false = before
 
--- what is a unit stays one
+-- a unit stays a unit
 lost_unit : (frame place : ℕ) (ks : List MonoidKind) (k : MonoidKind) (j : numbered.Instance) (v : Option ViewValue) → or_unit (structure_of k) v ≡ (structure_of k).unit → or_unit (structure_of k) (without_own frame place ks k j v) ≡ (structure_of k).unit
 lost_unit frame place [] k j v h = h
 lost_unit frame place (own ∷ ks) k j v h = lost_unit frame (suc place) ks k j (cond (same_kind own k && ranges.same_instance (record { frame = frame; place = place }) j) None v) (by (same_kind own k && ranges.same_instance (record { frame = frame; place = place }) j))

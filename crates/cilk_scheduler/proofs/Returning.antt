@@ -1,10 +1,10 @@
--- A frame ends beside which no continuation was stolen: its worker goes on with the parent.
+-- A frame ends beside which no continuation was stolen: its worker continues with the parent.
 --
 -- - `end_true`: an end among deeds;
 -- - `child_is`, `last_deed`, `awaits`: the parent waits for this frame;
--- - `Had`, `moved`: what becomes of workers and seats;
--- - `parent_sits`, `holds_parent`: the parent's seat, and the worker that has it;
--- - `desk_called`, `desk_offered`: the desk;
+-- - `Had`, `moved`: the changes of workers and frame states;
+-- - `parent_sits`, `holds_parent`: the parent's state, and the worker that has it;
+-- - `desk_called`, `desk_offered`: the worker table;
 -- - `returns_are_shown`: the law.
 use Rattle.std.proofs.Common.{◌≡◌, ◌⊎◌, inl, inr, ⊎_elim, ◌+◌, ◌-◌, ◌<◌, ℕ, suc, Bool, true, false, true≢false, cond, ℤ, List, [], ◌∷◌, ◌++◌, length, map, set, slice_get, sum, Some, None, refl, sym, ap, ◌∙◌, subst, arith}
 use Rattle.std.specs.Prelude.{remove}
@@ -65,7 +65,7 @@ end_true (Does (Ends v gone) ∷ ds) h = refl
 end_true (Does (Passes m) ∷ ds) h = end_true ds h
 end_true (Invokes how w ∷ ds) h = end_true ds h
 
--- a worker goes on with the piece of the child that it has just run
+-- a worker continues with the piece of the child that it has just run
 taken_on : {V : Type 0} (S : MonoidStructure V) (piece : Name → V) (stolen : Name → Bool) (n : Name) (ds : List (Deed FrameEnv)) (merged : Bool) → merged ≡ false → is_resuming ds ≡ true → stolen (n ++ started ds ∷ []) ≡ false
     → carried S piece stolen n ds merged ≡ piece (n ++ started ds ∷ [])
 taken_on S piece stolen n ds merged a b c = rw (a, b, c) refl
@@ -146,7 +146,7 @@ module _ (code : CodeView) (p : Source) (inputs : List ℤ) (name : ℕ → Name
   starts : started deeds ≡ seat.ordinal
   starts = let l = last_deed in ap (λ ds. started ds) l.3 ∙ started_invokes l.0 l.1 l.2 ∙ sym l.4
 
-  -- so the parent doesn't go on
+  -- so the parent doesn't continue
   no_goes : GoesOn FrameEnv View s (name up) deeds → ⊥
   no_goes (AtBegin q) = let l = last_deed in nil_snoc l.0 (Invokes l.1 l.2) (sym q ∙ l.3)
   no_goes (AfterEvent before e q) =
@@ -229,12 +229,12 @@ module _ (code : CodeView) (p : Source) (inputs : List ℤ) (name : ℕ → Name
       by (WasOffered victim owner free found e at f x z o n) = found_by victim owner free found e at f x z o n
 
   module _ (s' : State FrameEnv View) (m : Makes FrameEnv View monoid_of (Next p inputs) (costs p inputs) s (name (suc k)) s') where
-    -- ---- seats
+    -- ---- frame states
 
     abbrev mid : List (Activation FrameState)
     mid = changed (λ _. counted (finished h.came)) (let f = b.frames in f.items) (suc k)
 
-    -- what a worker has while the continuation is taken back
+    -- a worker while the continuation is withdrawn
     pub record Mid (at : ℕ) (u x : Worker) : Type 0 where
       pub frame_is : x.frame ≡ u.frame
       pub views_are : x.views ≡ u.views
@@ -325,7 +325,7 @@ module _ (code : CodeView) (p : Source) (inputs : List ℤ) (name : ℕ → Name
     child_ended : has_ended (deeds_at (s'.frames (name up ++ seat.ordinal ∷ []))) ≡ true
     child_ended = let c = child_is in ap (λ n. has_ended (deeds_at (s'.frames n))) (sym c.1) ∙ ended.ended_here code p inputs name b d s w (suc k) v is_shown started_as h b' g.views g.closes s' m
 
-    -- ---- the parent's seat
+    -- ---- the parent's state
 
     where_parent : IsWhere code p inputs name b' s' up (name up) deeds parent_now (Held w)
     where_parent =
@@ -387,7 +387,7 @@ module _ (code : CodeView) (p : Source) (inputs : List ℤ) (name : ℕ → Name
             ⊎_elim (λ a. absurd (true≢false (sym a.0 ∙ z.unmerged)))
             (λ a. let e : q ≡ seat.ordinal = a.2 ∙ ap (λ f. started (deeds_at f)) parent_frame ∙ starts in ap (λ n. has_ended (deeds_at (s'.frames (name up ++ n ∷ [])))) e ∙ child_ended) is
 
-    -- ---- the desk
+    -- ---- the worker table
 
     abbrev desk_now : WorkerTable
     desk_now = holds (record d { offered = withdrawn d.offered (name up) }) w (name up)

@@ -43,7 +43,7 @@ pub no_snoc : (n : Name) (z : ℕ) → [] ≡ n ++ z ∷ [] → ⊥
 no_snoc [] z e = let f : [] ≡ z ∷ [] = e in cc
 no_snoc (j ∷ n) z e = let f : [] ≡ j ∷ (n ++ z ∷ []) = e in cc
 
--- what an end gives
+-- the result of an end
 result_end : (ds : List (Deed FrameEnv)) (v : ℤ) (gone : List Instance) → has_ended ds ≡ false → result_in (ds ++ Does (Ends v gone) ∷ []) ≡ v
 result_end [] v gone h = refl
 result_end (Does (Reads c x) ∷ ds) v gone h = result_end ds v gone h

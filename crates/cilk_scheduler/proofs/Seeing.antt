@@ -1,7 +1,8 @@
--- What places mean to a frame, by names and by numbers.
+-- The meaning of places to a frame, by names and by numbers.
 --
--- - `cell_named`, `cell_numbered`, `reducer_named`, `reducer_numbered`: what is meant by names and by numbers at once, by either;
--- - `asked_there`: what a frame has come to ask for is there;
+-- - `cell_named`, `cell_numbered`, `reducer_named`, `reducer_numbered`: what a place means by names
+--   and by numbers at once;
+-- - `asked_there`: what a frame requests exists;
 -- - `one_cell_number`, `one_cell`: a cell has one number, and a number one cell;
 -- - `no_absent_cell`, `no_absent_reducer`: what has a number isn't of a frame that hasn't begun.
 use Rattle.std.proofs.Common.{◌≡◌, ⊎_elim, ◌+◌, ◌-◌, ◌<◌, ◌≤◌, ℕ, zero, suc, Bool, true, false, IsTrue, ℤ, List, [], ◌∷◌, ◌++◌, length, map, slice_get, unwrap_or, Some, None, refl, sym, ap, ◌∙◌, subst, arith}
@@ -83,7 +84,7 @@ reducer_numbered [] (reducers.Given up n) = refl
 reducer_numbered (h ∷ scope) (reducers.Given zero n) = given_numbered h.given n n
 reducer_numbered (h ∷ scope) (reducers.Given (suc up) n) = reducer_numbered scope (reducers.Given up n)
 
--- ---- what is asked for is there
+-- ---- what is requested exists
 
 module _ (code : CodeView) (p : Source) (inputs : List ℤ) where
   pub asked_there : (w : FrameEnv) (past : List (Deed FrameEnv)) (x came : FrameState) (c : CursorView) (k : language.Ask) (d : Due) → IsTrue (is_well_named p) → CalleeIsFit p w.callee

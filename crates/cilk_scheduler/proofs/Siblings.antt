@@ -1,6 +1,6 @@
 -- The frames that one frame started, in the order of their places.
 --
--- - `among_same`, `among_below`: they hang on who started each frame alone;
+-- - `among_same`, `among_below`: they depend only on who started each frame;
 -- - `among_here`, `among_past`, `among_grows`: one place more;
 -- - `latest_child`: the last of them has the greatest ordinal;
 -- - `all_counted`: there are as many as the greatest ordinal says.
@@ -18,7 +18,7 @@ pub among_same : (old new : List (Activation FrameState)) → ((j : ℕ) → par
 among_same old new same k zero = refl
 among_same old new same k (suc n) = ap₂ (λ l o. l ++ child_at o k n) (among_same old new same k n) (same n)
 
--- among the first so many, it hangs on these alone
+-- among the first n, it depends only on these
 pub among_below : (old new : List (Activation FrameState)) (m : ℕ) → ((j : ℕ) → j < m → parent_at new j ≡ parent_at old j) → (k n : ℕ) → n ≤ m → children_among new k n ≡ children_among old k n
 among_below old new m same k zero low = refl
 among_below old new m same k (suc n) low = ap₂ (λ l o. l ++ child_at o k n) (among_below old new m same k n (omega (arith, low))) (same n (omega (arith, low)))

@@ -1,7 +1,7 @@
 -- Slots of what was offered, and their tally.
 --
--- - `total`, `before`, `sought`: sums of the tally, and how many stand;
--- - `at_standing`, `in_slot`: a slot, and its place among those that stand;
+-- - `total`, `before`, `sought`: sums of the tally, and numbers of open offers;
+-- - `at_standing`, `in_slot`: a slot, and its place among the open offers;
 -- - `left`, `lowered`, `tallied_without`: an offer goes;
 -- - `tallied_with`, `tallied_dead`, `none_tallied`: one more slot, and none.
 use Rattle.std.proofs.Common.{◌≡◌, ◌+◌, ◌-◌, ◌<◌, ◌≤◌, ◌++◌, ◌⊎◌, inl, inr, ℕ, zero, suc, Bool, true, false, cond, List, [], ◌∷◌, length, map, take, set, sum, get_or, replicate, remove, slice_get, Some, None, refl, sym, ap, ◌∙◌, subst, arith}
@@ -24,7 +24,7 @@ zeros : (n : ℕ) → sum (replicate n 0) ≡ 0
 zeros zero = refl
 zeros (suc n) = let more = sum_by-cons (λ (x : ℕ). x) 0 (replicate n 0) in let rest = zeros n in omega (arith, more, rest)
 
--- the sum of a tally is how many stand
+-- the sum of a tally is the number of open offers
 pub total : (slots : List Slot) (tally : List ℕ) → IsTallied slots tally → sum tally ≡ length (standing slots)
 total slots tally t =
     let both = sum_by-append (λ (x : ℕ). x) (map counted slots) (replicate t.spare 0) in
@@ -33,7 +33,7 @@ total slots tally t =
     let is = ap sum t.is in
     omega (arith, both, none, all, is)
 
--- the sum before a slot is how many stand ahead of it
+-- the sum before a slot is the number of open offers before it
 pub before : (slots : List Slot) (tally : List ℕ) (at : ℕ) → IsTallied slots tally → at ≤ length slots → sum (take at tally) ≡ ahead slots at
 before slots tally at t low =
     let len = length-map slots counted in
@@ -103,7 +103,7 @@ first_stands : (b : Bool) (f : ℕ) (rest : List ℕ) → b ≡ true → cond b 
 first_stands true f rest e = refl
 first_stands false f rest e = let z : ⊥ = cc in absurd z
 
--- the offer in a slot, among those that stand
+-- the offer in a slot, among the open ones
 pub at_standing : (slots : List Slot) (at : ℕ) (s : Slot) → slice_get slots at ≡ Some s → s.stands ≡ true → slice_get (standing slots) (ahead slots at) ≡ Some s.frame
 at_standing [] at s e stands = let no : None ≡ Some s = e in let z : ⊥ = cc in absurd z
 at_standing (x ∷ slots) zero s e stands =
@@ -112,7 +112,7 @@ at_standing (x ∷ slots) zero s e stands =
     ap (λ (z : Slot). slice_get (standing (z ∷ slots)) 0) is ∙ ap (λ l. slice_get l 0) (first_stands s.stands s.frame (standing slots) stands)
 at_standing (x ∷ slots) (suc at) s e stands = here_after x.stands x.frame s.frame (standing slots) (standing (take at slots)) (at_standing slots at s e stands)
 
--- one of those that stand has a slot
+-- one of the open offers has a slot
 pub in_slot : (slots : List Slot) (at k : ℕ) → slice_get (standing slots) at ≡ Some k → (j : ℕ) × StandsIn slots j k
 in_slot [] at k e = let no : None ≡ Some k = e in let z : ⊥ = cc in absurd z
 in_slot (s ∷ slots) at k e = by s.stands refl at e (λ (i : ℕ) h. in_slot slots i k h) where
@@ -121,7 +121,7 @@ in_slot (s ∷ slots) at k e = by s.stands refl at e (λ (i : ℕ) h. in_slot sl
   by true is (suc i) h rest = let g = rest i h in (suc g.0, g.1)
   by false is i h rest = let g = rest i h in (suc g.0, g.1)
 
--- its offer no longer stands
+-- its offer is closed
 abbrev pub gone : Slot → Slot
 gone s = record s { stands = false }
 
@@ -129,7 +129,7 @@ goes_after : (b : Bool) (f : ℕ) (rest first less : List ℕ) → less ≡ remo
 goes_after true f rest first less h = ap (λ l. f ∷ l) h
 goes_after false f rest first less h = h
 
--- an offer goes from those that stand
+-- an offer leaves the open ones
 pub left : (slots : List Slot) (at : ℕ) (s : Slot) → slice_get slots at ≡ Some s → s.stands ≡ true → standing (set slots at (gone s)) ≡ remove (standing slots) (ahead slots at)
 left [] at s e stands = let no : None ≡ Some s = e in let z : ⊥ = cc in absurd z
 left (x ∷ slots) zero s e stands =
@@ -154,7 +154,7 @@ lowered slots tally at s t here stands =
       is = ap (λ n. set tally at n) none ∙ ap (λ l. set l at 0) t.is ∙ set-append_left (map counted slots) (replicate t.spare 0) at 0 (omega (arith, low, len)) ∙ ap (λ l. l ++ replicate t.spare 0) (sym (map-set counted slots at (gone s)));
     }
 
--- the newest slot, where no offer stands
+-- the newest slot, whose offer is closed
 pub standing_dead : (slots : List Slot) (s : Slot) → s.stands ≡ false → standing (slots ++ s ∷ []) ≡ standing slots
 standing_dead [] s e = ap (λ b. cond b (s.frame ∷ []) []) e
 standing_dead (x ∷ slots) s e = ap (λ l. cond x.stands (x.frame ∷ l) l) (standing_dead slots s e)
@@ -181,7 +181,7 @@ some_spare slots tally t room = by t.spare t.is where
   by zero is = let len = ap length is ∙ ap length (append-nil (map counted slots)) ∙ length-map slots counted in absurd (omega (arith, room, len))
   by (suc n) is = (n, is)
 
--- one more slot, where an offer stands
+-- one more slot, whose offer is open
 pub tallied_with : (slots : List Slot) (s : Slot) (tally : List ℕ) (at : ℕ) → s.stands ≡ true → IsTallied slots tally → length slots < length tally → at ≡ length slots → IsTallied (slots ++ s ∷ []) (set tally at (get_or tally at 0 + 1))
 tallied_with slots s tally at e t room is =
     let g = some_spare slots tally t room in
@@ -194,7 +194,7 @@ tallied_with slots s tally at e t room is =
       is = ap (λ n. set tally at n) one ∙ ap (λ l. set l at 1) g.1 ∙ set_at (map counted slots) 0 rest 1 at len ∙ sym (map_push slots s 1 (counted_once s e) rest);
     }
 
--- one more slot, where none stands
+-- one more slot, whose offer is closed
 pub tallied_dead : (slots : List Slot) (s : Slot) (tally : List ℕ) → s.stands ≡ false → IsTallied slots tally → length slots < length tally → IsTallied (slots ++ s ∷ []) tally
 tallied_dead slots s tally e t room =
     let g = some_spare slots tally t room in
@@ -211,7 +211,7 @@ tallied_long slots tally t =
     let some = length-map slots counted in
     omega (arith, len, some)
 
--- what a look-up tells
+-- the result of a look-up
 pub same_slot : (slots : List Slot) (at : ℕ) (d s : Slot) → d ≡ get_or slots at d → slice_get slots at ≡ Some s → d ≡ s
 same_slot [] at d s e h = let no : None ≡ Some s = h in let z : ⊥ = cc in absurd z
 same_slot (x ∷ slots) zero d s e h = let same : Some x ≡ Some s = h in cc

@@ -1,4 +1,4 @@
--- A frame ends only where it has made a sync behind each child that it started.
+-- A frame ends only where it has made a sync after each child that it started.
 --
 -- - `is_open`, `open_behind`: a child was started with no sync since;
 -- - `turn`, `at_end`: which stage comes next, and where a frame may end;
@@ -98,7 +98,7 @@ event_marks t Syncs = (refl, refl, refl)
 event_marks t (Ends v gone) = (refl, refl, refl)
 event_marks t (Passes m) = (refl, refl, refl)
 
--- a deed that answers an ask is of its kind
+-- a deed that answers a request is of its kind
 deed_marks : (t : Bool) (d : Deed FrameEnv) (a : Ask FrameEnv) → Answers d a → (opens_with t d ≡ opens_named t a) × (is_end d ≡ ends_named a) × (fails a ≡ false)
 deed_marks t (Does e) a h = let m = event_marks t e in (sym m.0 ∙ ap (opens_named t) (sym h), sym m.1 ∙ ap ends_named (sym h), ap fails h ∙ m.2)
 deed_marks t (Invokes how w) a h = (ap (opens_named t) (sym h), ap ends_named (sym h), ap fails h)
@@ -120,7 +120,7 @@ module _ (p : Source) (w : FrameEnv) (j : ℕ) where
   ask_marks t (asks.End v) = (refl, refl)
   ask_marks t (asks.Fault f) = (refl, refl)
 
-  -- no fault, so what follows is told
+  -- no fault by name, so this follows
   told : (k : language.Ask) (P : Type 0) → ((f : Fault) → named_ask p w j k ≡ Fail f → ⊥) → unless_fault k P → P
   told asks.Begin P fine h = h
   told (asks.Read x) P fine h = h
@@ -145,7 +145,8 @@ may_be_open (Going w) = true
 may_be_open (Resuming w) = true
 may_be_open s = false
 
--- the frame goes on at a stage of which this holds, and which tells whether children may have been started with no sync since
+-- the frame continues at a stage of which this holds, with whether it may have started children
+-- since its last sync
 abbrev Turned : Stage → language.Ask → (Stage → Type 0) → Type 0
 Turned from k go = (s : Stage) × go s × IsSound s × (ends k ≡ false) × ((t : Bool) → (t ≡ true → may_be_open from ≡ true) → opens_ask t k ≡ true → may_be_open s ≡ true)
 
@@ -261,7 +262,7 @@ module _ (p : Source) (inputs : List ℤ) (w : FrameEnv) where
   abbrev asked : Rest → language.Ask
   asked c = let q = c [] MAX_TICKS in q.ask
 
-  -- the next ask, where the frame goes on
+  -- the next request, where the frame continues
   next_is : (past : List (Deed FrameEnv)) (c : Rest) → IsLeft past c → has_ended past ≡ false → next p inputs w past ≡ Some (named_ask p w (suc (started past)) (asked c))
   next_is past c h going =
       going_next (has_ended past) going
@@ -325,7 +326,7 @@ module _ (p : Source) (inputs : List ℤ) (w : FrameEnv) where
         open_so = λ q. q;
       }) h
 
-  -- where the next ask is the end, a sync was made behind each child that was started
+  -- where the next request is the end, a sync was made after each child
   pub synced_before_end : (ds : List (Deed FrameEnv)) (v : ℤ) (gone : List Instance) → AreAnswered p inputs w [] ds → has_ended ds ≡ false → next p inputs w ds ≡ Some (End v gone)
       → (before : List (Deed FrameEnv)) (how : Invocation) (what : FrameEnv) (after : List (Deed FrameEnv)) → ds ≡ before ++ Invokes how what ∷ after → HasNoSync after → ⊥
   synced_before_end ds v gone h going q before how what later e none = ⊎_elim (λ over. true≢false (sym over ∙ going)) at (has_come ds h)

@@ -1,9 +1,11 @@
--- What a new frame sees.
+-- The scope of a new frame.
 --
--- - `carries_more`: a list with one frame behind it carries what it had; `last_there`, `more_length`: that frame;
+-- - `carries_more`, `last_there`, `more_length`: a list with one frame more keeps what it had; that
+--   frame;
 -- - `named_else`, `named_here`: names, where one place has a new one;
 -- - `sizes_more`: frames have the cells that they had;
--- - `drop_named`, `drop_numbered`, `given_names`, `given_numbers`, `result_named_as`, `result_numbered_as`: names and numbers at once;
+-- - `drop_named`, `drop_numbered`, `given_names`, `given_numbers`, `result_named_as`,
+--   `result_numbered_as`: names and numbers at once;
 -- - `children_see`, `children_sit`, `names_stay_apart`: the laws.
 use Rattle.std.proofs.Common.{◌≡◌, inl, ⊎_elim, ◌+◌, ◌-◌, ◌<◌, ◌≤◌, ℕ, zero, suc, nat_eq, eq-eqb, eqb-true, Bool, true, false, true≢false, cond, ℤ, List, [], ◌∷◌, ◌++◌, length, drop, map, slice_get, Option, Some, None, refl, sym, ap, ap₂, ◌∙◌, subst, arith}
 use Rattle.std.specs.Option.{option_map}
@@ -135,7 +137,7 @@ result_numbered_as scope (Some x) = ap Some (sym (cell_numbered scope x))
 -- ---- the laws
 
 module _ (code : CodeView) (p : Source) (inputs : List ℤ) where
-  -- a frame asks for no child but one that it can invoke
+  -- a frame requests only a child that it can invoke
   may_invoke : (w : FrameEnv) (past : List (Deed FrameEnv)) (x came : FrameState) (c : CursorView) (how : Invocation) (callee : Callee) (d : Due) → x.cursor ≡ Some c → IsDue code p inputs w past d c x.took
       → WentOnFrom code inputs d x (asks.Invoke how callee) came → CanInvoke w.callee callee
   may_invoke w past x came c how callee due.Begin at is h = let no : asks.Invoke how callee ≡ asks.Begin = h.0 in let z : ⊥ = cc in absurd z
@@ -276,7 +278,7 @@ module _ (code : CodeView) (p : Source) (inputs : List ℤ) where
     scope_is : (scope : Scope ℕ numbered.Instance) → HasScope went t.child scope → HasScope new t.child scope
     scope_is scope h = let a = t.child in scope_on went new on_went a a.cursor scope h
 
-    -- no frame of the board has the new one's name
+    -- no frame of the scheduler has the new one's name
     absent : IsAbsent old name child_name
     absent j less same =
         let r = get_some old j less in
@@ -373,7 +375,7 @@ children_see code p inputs name b b' d s s' w k how callees.Root x t = absurd (c
 children_see code p inputs name b b' d s s' w k how (callees.Function c) x t = function_seen code p inputs name b b' d s s' w k how c x t
 children_see code p inputs name b b' d s s' w k how (callees.Loop c) x t = turns_seen code p inputs name b b' d s s' w k how c x t
 
--- what a frame creates
+-- the reducers that a frame creates
 creates_as : (code : CodeView) (p : Source) (lays : LaysOut p code.layout) (callee : Callee) (o : Option ℕ) → o ≡ creator_of callee → (function : ℕ) → o ≡ Some function → (let f = function_frame code.layout function in f.reducers) ≡ own_reducers p callee
 creates_as code p lays callees.Root o is function at = let no : None ≡ Some function = sym is ∙ at in let z : ⊥ = cc in absurd z
 creates_as code p lays (callees.Function c) o is function at = let e : c.function ≡ function = (let z : Some c.function ≡ Some function = sym is ∙ at in cc) in ap (λ n. let f = function_frame code.layout n in f.reducers) (sym e) ∙ lays.own (callees.Function c)

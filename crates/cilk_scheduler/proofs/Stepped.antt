@@ -1,8 +1,8 @@
--- A worker's frame that has come to an ask which starts and ends no frame and no block makes the free machine's step.
+-- A request that starts and ends no frame and no block is a step of the free machine.
 --
--- - `kept_by`, `standing`: what going on leaves of a seat, and where its cursor stands;
+-- - `kept_by`, `standing`: the frame's state after it continues, and the place of its cursor;
 -- - `named_as`, `no_fault`, `makes`: the step of the free machine;
--- - `done`: the choice, and that the board shows what comes of it.
+-- - `done`: the choice, and that the scheduler shows the result.
 use Rattle.std.proofs.Common.{◌≡◌, ⊎_elim, ◌+◌, ◌-◌, ◌<◌, ◌≤◌, ℕ, zero, suc, Bool, true, false, cond, ℤ, List, [], ◌∷◌, ◌++◌, length, map, slice_get, Option, Some, None, refl, sym, ap, ap₂, ◌∙◌, subst, arith}
 use Rattle.std.proofs.lemmas.Bool.{cases_Bool}
 use Rattle.std.specs.Option.{option_map}
@@ -62,7 +62,7 @@ module _ (code : CodeView) (p : Source) (inputs : List ℤ) where
   kept_by x came k (due.Answer a) h = subst (λ (z : FrameState). z ≡ record x { cursor = z.cursor; took = z.took }) (sym h.now) refl
   kept_by x came k due.Sync h = subst (λ (z : FrameState). z ≡ record x { cursor = z.cursor; took = z.took }) (sym h.1) refl
 
-  -- where the cursor of a frame stands that has come to an ask
+  -- the place of the cursor of a frame that has reached a request
   pub record Standing (w : FrameEnv) (past : List (Deed FrameEnv)) (came : FrameState) (k : language.Ask) : Type 0 where
     pub cursor : CursorView
     pub is : came.cursor ≡ Some cursor
@@ -166,7 +166,7 @@ module _ (code : CodeView) (p : Source) (inputs : List ℤ) where
         ∙ subst (λ n. refusal spent n (s.totals FrameTotal) (s.totals CellTotal) code.layout ask ≡ None) (sym sh.events)
         (subst (λ n. refusal spent (length e.items) n (s.totals CellTotal) code.layout ask ≡ None) (sym sh.frames) (subst (λ n. refusal spent (length e.items) (length f.items) n code.layout ask ≡ None) (sym sh.cells) h.accepted))
 
-    -- the free machine's step, where the ask is no sync by name either
+    -- the free machine's step, where the request is no sync by name either
     pub makes : (named ≡ Sync → ⊥) → HasNext FrameEnv View monoid_of (Next p inputs) (costs p inputs) s (name k) frame named
     makes other =
         let P = progress FrameEnv View monoid_of (Next p inputs) (costs p inputs) in
@@ -184,7 +184,7 @@ module _ (code : CodeView) (p : Source) (inputs : List ℤ) where
         mapped (u ∷ ws) zero q = let same : u ≡ h.worker = (let z : Some u ≡ Some h.worker = q in cc) in ap (λ (y : Worker). Some (option_map name y.frame)) same ∙ ap (λ o. Some (option_map name o)) h.has
         mapped (u ∷ ws) (suc v) q = mapped ws v q
 
-    -- the view that goes on with the frame is the worker's
+    -- the view that the frame continues with is the worker's
     pub carries : (i : Instance) (j : numbered.Instance) → (let f = b.frames in IsInstance p f.items name i j) → IsViewOf (kind_of i) (carried (monoid_of i) (λ m. s.piece m i) s.stolen (name k) past false) (let u = h.worker in value_in u.views (kind_of i) j)
     carries i j is =
         let g = sh.holds w k h.worker h.at h.has in
@@ -203,7 +203,7 @@ module _ (code : CodeView) (p : Source) (inputs : List ℤ) where
     pub low : (let f = b.frames in k < length f.items)
     low = let f = b.frames in get_low f.items k h.seat h.sits
 
-    -- The event, and what the board has after it.
+    -- The event, and the scheduler after it.
     module _ (b' : Scheduler) (e : Event) (begun : ℕ) (answer : Answer) (next_seat : FrameState) (event : numbered_event.Event) (cells : List ℤ) (views : Hypermap) (notes : Notes code p inputs b b' w k h.came next_seat event cells views)
         (deed_is : deed_of s.memory (numbers_of monoid_of (s.piece (name k))) named ≡ Does e) (is_plain : IsPlain e) (no_joins : joined_by named (name k) past ≡ []) (no_frame : frame_cost named ≡ 0) (no_cells : (let C = costs p inputs in cells_of C.cells named) ≡ 0)
         (not_sync : named ≡ Sync → ⊥) (not_call : (v : FrameEnv) → named ≡ Invoke Call v → ⊥) (not_spawn : (v : FrameEnv) → named ≡ Invoke Spawn v → ⊥) (not_end : (v : ℤ) (gone : List Instance) → named ≡ End v gone → ⊥)

@@ -1,6 +1,6 @@
 -- Choices that stop the run, and those that can't be made.
 --
--- - `tellings_stay`: what a board tells stays told;
+-- - `tellings_stay`: what a scheduler shows stays;
 -- - `sync_named`, `asking`: a frame whose next ask is refused;
 -- - `stops_are_shown`: a fault in place of an event;
 -- - `blocks_are_over`: a sync that need not wait;
@@ -54,7 +54,7 @@ use Rattle.cilk_scheduler.proofs.Refused.{refused_is}
 use Rattle.cilk_scheduler.proofs.Siblings.{among_same}
 use Rattle.cilk_scheduler.proofs.Stepped.{kept_by}
 
--- ---- what is told
+-- ---- what is shown
 
 module _ (code : CodeView) (p : Source) (inputs : List ℤ) where
   module _ (name : ℕ → Name) (b b' : Scheduler) (s : State FrameEnv View) (stopped : Option Stop) (t : Tells code p inputs name b s) (same : (let f = b.frames in let g = b'.frames in StandAsBefore f.items g.items))
@@ -138,7 +138,7 @@ module _ (code : CodeView) (p : Source) (inputs : List ℤ) where
 -- ---- a fault in place of an event
 
 module _ (p : Source) (w : FrameEnv) (j : ℕ) where
-  -- an ask that is a sync by name is one
+  -- a request that is a sync by name is a sync
   sync_named : (k : language.Ask) → named_ask p w j k ≡ Sync → k ≡ asks.Sync
   sync_named asks.Sync q = refl
   sync_named asks.Begin q = absurd (let f : ⊥ = cc in f)
@@ -155,7 +155,7 @@ module _ (p : Source) (w : FrameEnv) (j : ℕ) where
   sync_named (asks.End v) q = absurd (let f : ⊥ = cc in f)
   sync_named (asks.Fault x) q = absurd (let f : ⊥ = cc in f)
 
--- a frame that may ask, and whose ask is refused, asks
+-- a frame that may make a request, which isn't accepted, still makes it
 module _ (p : Source) (inputs : List ℤ) (s : State FrameEnv View) (n : Name) (f : Frame FrameEnv) (a : Ask FrameEnv) (on : s.stopped ≡ None) (may : MayAsk FrameEnv View monoid_of (Next p inputs) (costs p inputs) s n f a) where
   abbrev Asks : Type 0
   Asks = IsAsking FrameEnv View monoid_of (Next p inputs) (costs p inputs) s n f a
@@ -275,7 +275,7 @@ module _ (code : CodeView) (p : Source) (inputs : List ℤ) (name : ℕ → Name
       let l = b.workers in
       ap (λ hs. slice_get hs w) o.hands ∙ slice_get-map (hand_of name) l.items w ∙ ap (λ u. option_map (hand_of name) u) h.at ∙ ap (λ f. Some (option_map name f)) h.has
 
-  -- the frame stands where it stood
+  -- the frame is where it was
   stand : (let f = b.frames in let g = b'.frames in g.items ≡ changed (λ _. h.came) f.items k) → (let f = b.frames in let g = b'.frames in StandAsBefore f.items g.items)
   stand is =
       let f = b.frames in

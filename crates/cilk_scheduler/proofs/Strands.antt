@@ -1,4 +1,4 @@
--- A frame begins, and goes on after a child.
+-- A frame begins, and continues after a child.
 --
 -- - `strands_begin`, `strands_resume`: another strand;
 -- - `begins`, `resumes`: the laws.

@@ -2,7 +2,8 @@
 --
 -- - `stays_in`, `stands_in`: the stolen children of a block, by the deeds that started them;
 -- - `block_unit`: a block whose pieces are units;
--- - `had_passed`, `nothing_stolen`, `all_arrived`: the views that go on, in the three ways in which a block passes;
+-- - `had_passed`, `nothing_stolen`, `all_arrived`: the views after it, in the three ways in which a
+--   block passes;
 -- - `syncs_are_shown`: the law.
 use Rattle.std.proofs.Common.{◌≡◌, inl, inr, ⊎_elim, ◌+◌, ◌-◌, ◌<◌, ℕ, suc, Bool, true, false, true≢false, cond, ℤ, List, [], ◌∷◌, ◌++◌, length, slice_get, Option, Some, None, refl, sym, ap, ap₂, ◌∙◌, subst, arith}
 use Rattle.std.specs.Option.{option_map}
@@ -232,7 +233,7 @@ module _ (code : CodeView) (p : Source) (inputs : List ℤ) (name : ℕ → Name
           absurd z
       by false e = e
 
-  -- ---- the views that go on, and that each child has ended
+  -- ---- the views after it, and that each child has ended
 
   pub record Merges (views : Hypermap) : Type 0 where
     pub views_are : (i : Instance) (j : numbered.Instance) → IsInstance p seats name i j

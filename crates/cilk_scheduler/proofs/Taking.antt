@@ -1,9 +1,10 @@
--- A thief takes a continuation: what changes of seats, workers and the desk.
+-- A steal: the changes of frame states, workers and the worker table.
 --
--- - `was`, `starts`, `not_yet`, `thief_goes`: the frame that offers the continuation, and the free machine's step;
--- - `now_at`, `which`, `seat_later`, `same_length`, `on`: the seats before and after;
+-- - `was`, `starts`, `not_yet`, `thief_goes`: the frame that is offered, and the free machine's
+--   step;
+-- - `now_at`, `which`, `seat_later`, `same_length`, `on`: the frame states before and after;
 -- - `worker_on`, `worker_was`, `not_thief`: the workers before and after;
--- - `desk_is`, `named_now`: the desk, and the names of frames;
+-- - `desk_is`, `named_now`: the worker table, and the names of frames;
 -- - `hand_is`, `offered_is`: the choice.
 use Rattle.std.proofs.Common.{◌≡◌, ◌⊎◌, inl, inr, ⊎_elim, ◌+◌, ◌<◌, ℕ, suc, nat_eq, eq-eqb, eqb-true, Bool, true, false, true≢false, ℤ, List, [], ◌∷◌, ◌++◌, length, map, set, slice_get, sum, Option, Some, None, refl, sym, ap, ◌∙◌, subst, arith}
 use Rattle.std.specs.Prelude.{remove}
@@ -116,7 +117,7 @@ module _ (code : CodeView) (p : Source) (inputs : List ℤ) (name : ℕ → Name
       let o = sh.sits k h.seat h.sits in
       P.steals s (name k) frame was.0 was.1 sh.running o.here was.2 not_yet
 
-  -- ---- names of seats
+  -- ---- names of frames
 
   pub names_differ : (i j : ℕ) → i < length old_seats → j < length old_seats → (i ≡ j → ⊥) → name i ≡ name j → ⊥
   names_differ i j at at' ne q = ne (named.apart i j at at' q)
@@ -124,7 +125,7 @@ module _ (code : CodeView) (p : Source) (inputs : List ℤ) (name : ℕ → Name
   child_apart : k ≡ seat.last → ⊥
   child_apart q = longer (name k) ordinal (sym last_is.1 ∙ ap name (sym q))
 
-  -- ---- where seats stand
+  -- ---- where frames are
 
   abbrev pub taken : FrameState
   taken = record seat { status = Held w; join = (let y = t.awaiting in y.join) }
@@ -162,7 +163,7 @@ module _ (code : CodeView) (p : Source) (inputs : List ℤ) (name : ℕ → Name
       (carries.carries_then old_seats mid (changed (moved_to (Held w)) later k) (carries.carries_changed (λ _. t.awaiting) old_seats k)
       (carries.carries_then mid later (changed (moved_to (Held w)) later k) (carries.carries_changed robbed mid seat.last) (carries.carries_changed (moved_to (Held w)) later k)))
 
-  -- a seat is the frame's, its last child's, or another that stays
+  -- a frame is this one, its last child, or another that stays
   pub data Which (j : ℕ) (a : Activation FrameState) : Type 0 where
     taken_over : k ≡ j → now ≡ a → Which j a
     marked : (x : Activation FrameState) → (k ≡ j → ⊥) → slice_get old_seats j ≡ Some x → seat.last ≡ j → a ≡ record x { cursor = robbed x.cursor } → Which j a
@@ -254,7 +255,7 @@ module _ (code : CodeView) (p : Source) (inputs : List ℤ) (name : ℕ → Name
           (record a { cursor = robbed a.cursor }, ap (λ i. slice_get new_seats i) (sym same) ∙ child_at a (ap (λ i. slice_get old_seats i) same ∙ at), refl, refl)
       by false q = (a, else_at j ne (λ z. true≢false (sym (eq-eqb seat.last j z) ∙ q)) ∙ at, refl, refl)
 
-  -- ---- the desk
+  -- ---- the worker table
 
   abbrev pub desk_now : WorkerTable
   desk_now = holds (record d { offered = withdrawn d.offered (name k) }) w (name k)

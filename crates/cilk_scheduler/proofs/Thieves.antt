@@ -1,8 +1,8 @@
--- The board shows what comes of a thief's choice.
+-- A steal: the scheduler shows the next state.
 --
 -- - `snoc_name`, `some_join`, `block_of`, `opening_keeps`: names, and what lies at a block;
--- - `other`, `itself`: the seats of other frames, and of the one that is taken over;
--- - `still_holds`, `tells_is`: what workers hold, and what is told;
+-- - `other`, `itself`: the states of other frames, and of the stolen one;
+-- - `still_holds`, `tells_is`: what workers hold, and what is shown;
 -- - `steals_are_shown`: the law.
 use Rattle.std.proofs.Common.{◌≡◌, ◌⊎◌, inl, inr, ⊎_elim, ◌+◌, ◌<◌, ◌≤◌, Box, ℕ, zero, suc, nat_eq, eq-eqb, eqb-true, Bool, true, false, true≢false, cond, ℤ, List, [], ◌∷◌, ◌++◌, length, slice_get, Option, Some, None, refl, sym, ap, ap₂, ◌∙◌, subst, arith}
 use Rattle.std.proofs.lemmas.Bool.{cases_Bool}
@@ -108,7 +108,7 @@ module _ (code : CodeView) (p : Source) (inputs : List ℤ) (name : ℕ → Name
     bare_later = λ q a run at has. let no : None ≡ Some a = at in let z : ⊥ = cc in absurd z;
   }
 
--- a thief goes on with the frame's own piece
+-- a thief continues with the frame's own piece
 taken_up : {V : Type 0} (S : MonoidStructure V) (piece : Name → V) (stolen : Name → Bool) (n : Name) (ds : List (Deed FrameEnv)) (merged : Bool) → merged ≡ false → is_resuming ds ≡ true → stolen (n ++ started ds ∷ []) ≡ true → carried S piece stolen n ds merged ≡ piece n
 taken_up S piece stolen n ds merged a b c = rw (a, b, c) refl
 
@@ -343,7 +343,7 @@ module _ (code : CodeView) (p : Source) (inputs : List ℤ) (name : ℕ → Name
     abbrev written_now : (j : ℕ) → (let e = b'.journal in events_of j e.items) ≡ (let e = b.journal in events_of j e.items)
     written_now j = ap (λ l. events_of j l) t.journal
 
-    -- ---- seats
+    -- ---- frame states
 
     other : (j : ℕ) (a : Activation FrameState) (flag : Bool) → (k ≡ j → ⊥) → slice_get old_seats j ≡ Some a → s'.stolen (name j) ≡ flag → Sits code p inputs name b s j a
         → Sits code p inputs name b' s' j (let x = a.cursor in record a { cursor = record x { stolen = flag } })
@@ -582,7 +582,7 @@ module _ (code : CodeView) (p : Source) (inputs : List ℤ) (name : ℕ → Name
             let z : Offered h.victim ≡ Held v = sym status_was ∙ ap (λ (a : Activation FrameState). let c = a.cursor in c.status) x ∙ g.held in let f : ⊥ = cc in f) in
             holds_else v j r.0 u off (o.views_are ne) g
 
-    -- ---- what is told
+    -- ---- what is shown
 
     base_was : (j : ℕ) (a : Activation FrameState) → slice_get new_seats j ≡ Some a → (z : Activation FrameState) × (slice_get old_seats j ≡ Some z) × (a.base ≡ z.base)
     base_was j a at = let r = carries.carried_back old_seats new_seats on same_length j a at in (r.0, r.1, ap (λ (z : Activation FrameState). z.base) r.2)

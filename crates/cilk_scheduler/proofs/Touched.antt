@@ -1,9 +1,10 @@
--- A board that shows a state shows the next one after an event that starts and ends no frame: a sync too, which begins another block.
+-- An event that starts and ends no frame, or a sync, leads from a state shown to the next state
+-- shown.
 --
 -- - `joined_child`: how often a child is joined, by its parent's deeds;
--- - `other`: each other frame's seat stays;
--- - `itself`: the frame's own seat;
--- - `still_holds`, `desk_is`, `tells_is`: workers, the desk, what is told;
+-- - `other`: each other frame's state stays;
+-- - `itself`: the frame's own state;
+-- - `still_holds`, `desk_is`, `tells_is`: workers, the worker table, what is shown;
 -- - `touched_is`: the law.
 use Rattle.std.proofs.Common.{◌≡◌, inl, inr, ⊎_elim, ◌+◌, ◌<◌, ◌≤◌, ℕ, nat_eq, eq-eqb, eqb-true, Bool, true, false, true≢false, cond, ℤ, List, [], ◌∷◌, ◌++◌, length, map, slice_get, sum, Some, None, refl, sym, ap, ◌∙◌, subst, arith}
 use Rattle.std.proofs.lemmas.Bool.{cases_Bool}
@@ -128,7 +129,7 @@ module _ (code : CodeView) (p : Source) (inputs : List ℤ) (name : ℕ → Name
   cell_on : (c : Cell) (n : ℕ) → IsCell p old_seats name s c n → IsCell p new_seats name s' c n
   cell_on c n h = subst (λ l. IsCell p l name s' c n) (sym t.seats_are) (cell_changed change old_seats k name p s s' sizes c n h)
 
-  -- a seat was one before
+  -- a frame was one before
   pub record Was (j : ℕ) (a : Activation FrameState) : Type 0 where
     pub before : Activation FrameState
     pub there : slice_get old_seats j ≡ Some before
@@ -154,7 +155,7 @@ module _ (code : CodeView) (p : Source) (inputs : List ℤ) (name : ℕ → Name
   absent_on : (n : Name) → IsAbsent old_seats name n → IsAbsent new_seats name n
   absent_on n none = λ j at. none j (subst (λ z. j < z) same_length at)
 
-  -- where seats stand
+  -- where frames are
   off_at : (j : ℕ) (a : Activation FrameState) → (k ≡ j → ⊥) → slice_get old_seats j ≡ Some a → slice_get new_seats j ≡ Some a
   off_at j a ne at = ap (λ l. slice_get l j) t.seats_are ∙ changed_off change old_seats k j ne ∙ at
 
@@ -234,7 +235,7 @@ module _ (code : CodeView) (p : Source) (inputs : List ℤ) (name : ℕ → Name
   where_else j n ds x Waiting ne h = (h.0, h.1, h.2, h.3, (λ g. h.4 (over_back n ne g)), goes_on s s' (name k) t.frame e t.here t.goes lasting t.frames t.stolen n ds h.5, h.6, h.7)
   where_else j n ds x Finished ne h = h
 
-  -- ---- what is written down
+  -- ---- the journal
 
   abbrev entries : List JournalEntry
   entries = let l = b.journal in l.items
@@ -251,7 +252,7 @@ module _ (code : CodeView) (p : Source) (inputs : List ℤ) (name : ℕ → Name
   written_here : (let l = b'.journal in events_of k l.items) ≡ events_of k entries ++ entry.event ∷ []
   written_here = ap (λ l. events_of k l) t.written ∙ events_more k entries entry ∙ ap (λ c. cond c (events_of k entries ++ entry.event ∷ []) (events_of k entries)) (eq-eqb entry.frame k t.by_frame)
 
-  -- ---- seats
+  -- ---- frame states
 
   pub other : (j : ℕ) (a : Activation FrameState) → (k ≡ j → ⊥) → slice_get old_seats j ≡ Some a → Sits code p inputs name b s j a → Sits code p inputs name b' s' j a
   other j a ne at o =
@@ -433,7 +434,7 @@ module _ (code : CodeView) (p : Source) (inputs : List ℤ) (name : ℕ → Name
           let views : u.views ≡ (let y = r.0 in y.views) = ⊎_elim (λ g. absurd (not_mine g.0)) (λ g. g.1) r.4 in
           holds_else v j r.0 u ne views o
 
-  -- ---- the desk
+  -- ---- the worker table
 
   status_on : (j : ℕ) (a : Activation FrameState) → slice_get old_seats j ≡ Some a → (a' : Activation FrameState) × (slice_get new_seats j ≡ Some a') × ((let x = a'.cursor in x.status) ≡ (let x = a.cursor in x.status))
   status_on j a at = by (nat_eq k j) refl
@@ -465,7 +466,7 @@ module _ (code : CodeView) (p : Source) (inputs : List ℤ) (name : ℕ → Name
         present = λ n is none. o.present n is (absent_back n none);
       }
 
-  -- ---- what is told
+  -- ---- what is shown
 
   more_deeds : (P : List (Deed FrameEnv) → Type 0) → (P longer_past → P past) → (m : Name) → P (deeds_at (s'.frames m)) → P (deeds_at (s.frames m))
   more_deeds P back m h = by (same_name (name k) m) refl

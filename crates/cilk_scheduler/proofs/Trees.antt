@@ -10,7 +10,7 @@ use Rattle.std.proofs.lemmas.List.Sums.{sum_by_more}
 use Rattle.std.proofs.lemmas.Bool.{cases_eq, cases_lt}
 use Rattle.cilk_scheduler.specs.Tallies.{Doubles, stays, twice, AddsUp, IsTree}
 
--- the sum of so many nodes from one on
+-- the sum of n nodes from one on
 abbrev pub from : List ℕ → ℕ → ℕ → ℕ
 from nodes w zero = 0
 from nodes w (suc k) = from nodes w k + get_or nodes (w + k) 0
@@ -25,7 +25,7 @@ from_is_sum nodes w (suc k) h =
     let is : suc k ≡ k + 1 = omega arith in
     ap (λ n. n + get_or nodes (w + k) 0) before ∙ ap (λ n. sum (take k (drop w nodes)) + n) (sym (get_or-drop w nodes k 0)) ∙ sym more ∙ ap (λ n. sum (take n (drop w nodes))) (sym is)
 
--- so many nodes of a level, and twice as many of the next
+-- n nodes of a level, and 2n of the next
 pub halves : (nodes : List ℕ) (count w k : ℕ) → ((i : ℕ) → 0 < i → i < count → AddsUp nodes i) → 0 < w → w + k ≤ count → from nodes (w + w) (k + k) ≡ from nodes w k
 halves nodes count w zero sums some low = refl
 halves nodes count w (suc k) sums some low =
@@ -68,7 +68,7 @@ none_long : (xs : List ℕ) (rest : ℕ) → length xs ≡ 0 → rest < sum xs �
 none_long [] rest e l = omega (arith, l)
 none_long (x ∷ xs) rest e l = omega (arith, e)
 
--- nothing is in a tree over nothing
+-- a tree with a positive sum has numbers
 pub nothing : (nodes : List ℕ) (count rest : ℕ) → IsTree nodes count → rest < sum (drop count nodes) → 0 < count
 nothing nodes zero rest t h = let none = t.long in absurd (none_long nodes rest (omega (arith, none)) h)
 nothing nodes (suc n) rest t h = omega arith
@@ -99,7 +99,8 @@ below nodes count (suc n) i t h some low = by (cases_eq i 1) (λ (p : ℕ) a b c
 pub below_top : (nodes : List ℕ) (count i : ℕ) → IsTree nodes count → 0 < i → i < count + count → get_or nodes i 0 ≤ get_or nodes 1 0
 below_top nodes count i t some low = below nodes count i i t (omega arith) some low
 
--- On the way down to a number: node k of a level of so many, whose number is after this one among the numbers below it.
+-- On the way down to a number: node k of a level. The sum before it and `rest` make up the sum
+-- sought, and `rest` is less than the node's own sum.
 pub record Stands (nodes : List ℕ) (count place node rest : ℕ) : Type 0 where
   pub wide : ℕ
   pub k : ℕ
@@ -178,7 +179,8 @@ arrives nodes count place node rest t h last =
     let len = length-drop count nodes in
     record { here = omega arith; before = omega (arith, sum_is, same'); above = omega (arith, sum_is, same', it, low) }
 
--- On the way up from a number that has changed: the node there still is to take what the number took, `a` more or `b` less.
+-- On the way up from a number that has changed: this node's sum is still to rise by a and fall by
+-- b.
 pub record Owes (nodes : List ℕ) (count node a b : ℕ) : Type 0 where
   pub others : (i : ℕ) → 0 < i → i < count → i ≢ node → AddsUp nodes i
   pub this : 0 < node → get_or nodes node 0 + a ≡ get_or nodes (node + node) 0 + get_or nodes (node + node + 1) 0 + b
@@ -282,7 +284,7 @@ lifts_next nodes count node top v numbers a b l some e =
           omega (arith, other, top));
     }
 
--- what a node still holds, where it is to hold one less
+-- a node is positive if it is to become one less
 pub holds_some : (nodes : List ℕ) (count node top : ℕ) (numbers : List ℕ) → Lifts nodes count node top numbers 0 1 → 0 < node → 0 < get_or nodes node 0
 holds_some nodes count node top numbers l some = let o = l.owes in let this = (let own = o.this in own some) in omega (arith, this)
 

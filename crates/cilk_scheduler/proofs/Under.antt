@@ -1,8 +1,8 @@
 -- A frame's parent, by its deeds.
 --
 -- - `split_at`: the deed that started a child of an ordinal;
--- - `IsUnder`, `under_of`: a child that hasn't ended stands beside its parent;
--- - `last_of`, `more_started`, `none_after`: deeds behind another.
+-- - `IsUnder`, `under_of`: a child that hasn't ended, and its parent;
+-- - `last_of`, `more_started`, `none_after`: deeds after another.
 use Rattle.std.proofs.Common.{◌≡◌, ◌⊎◌, inl, inr, ⊎_elim, ◌<◌, ◌≤◌, ℕ, zero, suc, nat_eq, eqb-true, Bool, true, false, true≢false, List, [], ◌∷◌, ◌++◌, Option, Some, None, refl, sym, ap, ◌∙◌, arith}
 use Rattle.cilk_types.specs.declared.invocation.Invocation.{Invocation}
 use Rattle.cilk_types.specs.declared.invocation.Invocation.TheVariants.{Spawn}
@@ -85,7 +85,7 @@ under_of s o m q f here going = by (s.frames m) refl
           since = ⊎_elim (λ y. inl y) (λ y. inr (y.0, y.1, ap s.stolen (sym at) ∙ y.2)) x.since;
         }) (o.outlive m g r.before r.how r.what r.after e r.starts)
 
--- ---- deeds behind another
+-- ---- deeds after another
 
 pub none_after : HasNoSync {W = FrameEnv} []
 none_after [] after e = let z : [] ≡ Does Syncs ∷ after = e in cc

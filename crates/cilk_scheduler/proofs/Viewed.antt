@@ -1,7 +1,8 @@
--- The views of a hypermap, which knows reducers by number, and those of a piece, which knows them by name.
+-- The views of a hypermap, by numbers of reducers, and those of a piece, by names.
 --
--- - `one_instance`, `one_number`: a number of a kind belongs to one reducer, and a reducer has one number;
--- - `changed_here`, `changed_off`: what a hypermap that was changed has;
+-- - `one_instance`, `one_number`: a number of a monoid belongs to one reducer, which has one
+--   number;
+-- - `changed_here`, `changed_off`: the views of a hypermap that was changed;
 -- - `views_after`: after a reducer's event.
 use Rattle.std.proofs.Common.{◌≡◌, ℕ, suc, Bool, true, false, cond, List, Some, refl, sym, ap, ap₂, ◌∙◌, subst, arith}
 use Rattle.std.specs.Prelude.{◌&&◌}
@@ -60,7 +61,8 @@ module _ (old new : Hypermap) (kind : MonoidKind) (j : numbered.Instance) (y : V
   pub changed_off : (k : MonoidKind) (i : numbered.Instance) → (same_kind kind k && ranges.same_instance j i) ≡ false → value_in new k i ≡ value_in old k i
   changed_off k i e = ap (or_unit (structure_of k)) (view_is k i ∙ ap (λ b. cond b (Some y) (view_in old k i)) e)
 
--- A piece's views of the board's reducers, after an event of reducer i0 that makes of its view the one of y, and leaves the others.
+-- A piece's views after an event of reducer i0 that changes its view to that of y and leaves the
+-- others.
 module _ (p : Source) (frames : List (Activation FrameState)) (name : ℕ → Name) (named : AreNamed frames name) (old new : Hypermap) (i0 : Instance) (j0 : numbered.Instance) (y : ViewValue) (v v' : Instance → View)
     (at : IsInstance p frames name i0 j0) (changes : ChangesIn old new (kind_of i0) j0 (Some y)) (hit : IsViewOf (kind_of i0) (v' i0) y) (miss : (i : Instance) → same_instance i0 i ≡ false → v' i ≡ v i)
     (before : (i : Instance) (j : numbered.Instance) → IsInstance p frames name i j → IsViewOf (kind_of i) (v i) (value_in old (kind_of i) j)) where

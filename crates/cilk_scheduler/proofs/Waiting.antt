@@ -1,8 +1,8 @@
 -- A frame waits at its sync.
 --
--- - `placed_row`, `placed_bare`, `awaited_one`: a piece comes to its place in a row of all reducers;
+-- - `placed_row`, `placed_bare`, `awaited_one`: a piece's place in a row of all reducers;
 -- - `split`, `not_among`: the stolen children of a block, and the deeds that started them;
--- - `itself`, `desk_is`, `tells_is`: the frame's seat, the desk, what is told;
+-- - `itself`, `desk_is`, `tells_is`: the frame's state, the worker table, what is shown;
 -- - `waits_are_shown`: the law.
 use Rattle.std.proofs.Common.{◌≡◌, ◌⊎◌, inl, inr, ⊎_elim, ◌+◌, ◌<◌, ◌≤◌, Box, ℕ, zero, suc, nat_eq, eq-eqb, eqb-true, Bool, true, false, true≢false, cond, ℤ, List, [], ◌∷◌, ◌++◌, length, map, set, slice_get, sum, Option, Some, None, refl, sym, ap, ap₂, ◌∙◌, subst, arith}
 use Rattle.std.specs.Option.{option_map}
@@ -140,7 +140,7 @@ sync_later : (d : Deed FrameEnv) (ds : List (Deed FrameEnv)) → (d ≡ Does Syn
 sync_later d ds off none [] after q = let e : d ≡ Does Syncs = cc in off e
 sync_later d ds off none (b ∷ before) after q = let e : ds ≡ before ++ Does Syncs ∷ after = cc in none before after e
 
--- the spawn of this child, with no sync behind it
+-- the spawn of this child, with no sync after it
 abbrev pub Spawns : ℕ → List (Deed FrameEnv) → ℕ → Type 0
 Spawns k ds q = (before : List (Deed FrameEnv)) × (after : List (Deed FrameEnv)) × (what : FrameEnv) × (ds ≡ before ++ Invokes Spawn what ∷ after) × HasNoSync after × (q ≡ k + started before)
 
@@ -235,7 +235,7 @@ module _ (code : CodeView) (p : Source) (inputs : List ℤ) (name : ℕ → Name
   was : IsWhere code p inputs name b s k (name k) past seat (Held w)
   was = let o = sh.sits k h.seat h.sits in subst (λ z. IsWhere code p inputs name b s k (name k) past seat z) status_was o.is_where
 
-  -- ---- the frame's ask
+  -- ---- the frame's request
 
   dues : (c : CursorView) × (seat.cursor ≡ Some c) × IsDue code p inputs what past seat.due c seat.took
   dues = let o = sh.sits k h.seat h.sits in o.due was.4
@@ -249,7 +249,7 @@ module _ (code : CodeView) (p : Source) (inputs : List ℤ) (name : ℕ → Name
       let n = named_next code p inputs what past seat h.came dues.0 asks.Sync was.4 dues.1 dues.2 h.went in
       (z.cursor, z.is, (z.stands tt, z.owes tt, n.0, n.1, z.small))
 
-  -- ---- where seats stand
+  -- ---- where frames are
 
   abbrev behind : FrameState
   behind = let y = h.came in let z = h.after in record seat { status = Waiting; due = due.Sync; cursor = y.cursor; took = y.took; join = z.join }
@@ -495,7 +495,7 @@ module _ (code : CodeView) (p : Source) (inputs : List ℤ) (name : ℕ → Name
       by (behind_is same is) = subst (λ i. Sits code p inputs name b' s i a) same (subst (λ z. Sits code p inputs name b' s k z) is itself)
       by (stays ne at') = other j a ne (sh.sits j a at')
 
-  -- a seat that a worker has is another's
+  -- a frame that a worker holds is another
   still_holds : (v j : ℕ) (u : Worker) → slice_get new_workers v ≡ Some u → u.frame ≡ Some j → Holds code p inputs name b' s v u j
   still_holds v j u at has =
       let r = worker_was v u at in
@@ -514,7 +514,7 @@ module _ (code : CodeView) (p : Source) (inputs : List ℤ) (name : ℕ → Name
             bare = subst (λ n. IsBare n (value_in z.views)) (sym same_length) g.bare;
           }
 
-  -- ---- the desk
+  -- ---- the worker table
 
   abbrev desk_now : WorkerTable
   desk_now = idle (record d { waiting = name k ∷ d.waiting }) w
@@ -550,7 +550,7 @@ module _ (code : CodeView) (p : Source) (inputs : List ℤ) (name : ℕ → Name
               let n = t.named in
               ((λ q. inr (g.0 q)), (λ q. ⊎_elim (λ e. absurd (ne (n.apart k j low (get_low old_seats j a at') e))) (λ y. g.1 y) q))
 
-  -- ---- what is told
+  -- ---- what is shown
 
   base_was : (j : ℕ) (a : Activation FrameState) → slice_get new_seats j ≡ Some a → (z : Activation FrameState) × (slice_get old_seats j ≡ Some z) × (a.base ≡ z.base)
   base_was j a at = let r = carries.carried_back old_seats new_seats on same_length j a at in (r.0, r.1, ap (λ (z : Activation FrameState). z.base) r.2)

@@ -1,4 +1,4 @@
--- An ask in whose place no fault stands is none, and keeps each total within its limit.
+-- A request without a fault in its place keeps each total within its limit.
 --
 -- - `no_fault_then`: both.
 use Rattle.std.proofs.Common.{◌≡◌, ◌+◌, ◌≤◌, ℕ, Bool, true, false, cond, List, Option, Some, None, refl}

@@ -1,5 +1,4 @@
--- A worker's frame that has come to an ask which touches a cell, a reducer or the output makes its event: the board before and after, by
--- numbers.
+-- Events that touch a cell, a reducer or the output: the scheduler before and after, by numbers.
 use Rattle.std.specs.Prelude.{◌≡◌, ℕ, IsTrue, ℤ, List, slice_get, slice_set, Some}
 use Rattle.cilk_types.specs.declared.event.Event.TheVariants as events
 use Rattle.cilk_types.specs.declared.event.Instance.{Instance}
@@ -32,16 +31,17 @@ use Rattle.cilk_scheduler.specs.Histories.{DidAsAsked}
 use Rattle.cilk_scheduler.specs.FrameStates.{answered}
 use Rattle.cilk_scheduler.specs.Steps.{HasCome, IsDone, Notes}
 
--- the place means this cell to the frame at place k
+-- the place means this cell to frame k
 abbrev pub MeansCell : Scheduler → ℕ → Place → ℕ → Type 0
 MeansCell b k x n = (scope : Scope ℕ Instance) → (let f = b.frames in SeesAt f.items k scope) → n ≡ cell_in itself scope x
 
--- the place means this reducer to the frame at place k
+-- the place means this reducer to frame k
 abbrev pub MeansReducer : Scheduler → ℕ → ReducerPlace → Instance → Type 0
 MeansReducer b k r j = (scope : Scope ℕ Instance) → (let f = b.frames in SeesAt f.items k scope) → j ≡ instance_in global_reducer scope r
 
 module _ (code : CodeView) (p : Source) (inputs : List ℤ) where
-  -- The board shows this state, to which frames came as they asked, of a program in which each name means something that is there.
+  -- The scheduler shows this state, in which each frame did what it requested. Each name of the
+  -- program means something.
   pub record IsShown (name : ℕ → Name) (b : Scheduler) (d : WorkerTable) (s : State FrameEnv View) : Type 0 where
     pub well : IsTrue (is_well_named p)
     pub lays : LaysOut p code.layout
@@ -60,7 +60,7 @@ module _ (code : CodeView) (p : Source) (inputs : List ℤ) where
       (name : ℕ → Name) (b b' : Scheduler) (d : WorkerTable) (s : State FrameEnv View) (w k : ℕ) (x : Place) (n : ℕ) (v : ℤ) → IsShown name b d s → (h : HasCome code p inputs b w k (asks.Write x v)) → MeansCell b k x n
       → (let c = b.cells in let u = h.worker in Notes code p inputs b b' w k h.came (answered answers.Done h.came) (events.Write n v) (slice_set c.items n v) u.views) → IsDone code p inputs name b' d s w
 
-  -- a frame's result goes to the cell that its caller takes it in
+  -- a frame's result is stored in the cell for it
   abbrev pub ResultsAreShown : Type 0
   ResultsAreShown =
       (name : ℕ → Name) (b b' : Scheduler) (d : WorkerTable) (s : State FrameEnv View) (w k n : ℕ) (v : ℤ) → IsShown name b d s → (h : HasCome code p inputs b w k (asks.Result v)) → (let a = h.seat in a.result ≡ Some n)
@@ -73,14 +73,14 @@ module _ (code : CodeView) (p : Source) (inputs : List ℤ) where
       → (let u = h.worker in ChangesIn u.views views r.kind j (Some (structure_of r.kind).unit))
       → (let c = b.cells in Notes code p inputs b b' w k h.came (answered answers.Done h.came) (events.Create j) c.items views) → IsDone code p inputs name b' d s w
 
-  -- a frame updates a reducer: its view is multiplied by a number's from the right
+  -- a frame updates a reducer: its view is multiplied from the right by the view of a number
   abbrev pub UpdatesAreShown : Type 0
   UpdatesAreShown =
       (name : ℕ → Name) (b b' : Scheduler) (d : WorkerTable) (s : State FrameEnv View) (w k : ℕ) (r : Reducer) (v : ℤ) (j : Instance) (views : Hypermap) → IsShown name b d s → (h : HasCome code p inputs b w k (asks.Update r v)) → IsWord v → MeansReducer b k r.place j
       → (let u = h.worker in ChangesIn u.views views r.kind j (Some ((structure_of r.kind).combine (value_in u.views r.kind j) ((structure_of r.kind).single v))))
       → (let c = b.cells in Notes code p inputs b b' w k h.came (answered answers.Done h.came) (events.Update j v) c.items views) → IsDone code p inputs name b' d s w
 
-  -- a frame sets a reducer: its view becomes that of a number
+  -- a frame sets a reducer: its view becomes the view of a number
   abbrev pub SetsAreShown : Type 0
   SetsAreShown =
       (name : ℕ → Name) (b b' : Scheduler) (d : WorkerTable) (s : State FrameEnv View) (w k : ℕ) (r : Reducer) (v : ℤ) (j : Instance) (views : Hypermap) → IsShown name b d s → (h : HasCome code p inputs b w k (asks.Set r v)) → IsWord v → MeansReducer b k r.place j

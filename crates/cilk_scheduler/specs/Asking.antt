@@ -1,4 +1,4 @@
--- How a frame that is kept comes to what it asks for next, and what stands in its place.
+-- The next request of a frame, and the fault in its place.
 use Rattle.std.specs.Prelude.{◌≡◌, ◌+◌, ◌-◌, ◌≤◌, ℕ, suc, nat_lt, if◌then◌else◌, ℤ, List, Option, Some, None}
 use Rattle.std.specs.Option.{option_map}
 use Rattle.cilk_types.specs.declared.fault.Fault.{Fault}
@@ -25,7 +25,7 @@ use Rattle.cilk_scheduler.specs.declared.frame_state.Due.TheVariants as due
 use Rattle.cilk_scheduler.specs.declared.frame_state.FrameState.{FrameState}
 
 module _ (code : CodeView) (inputs : List ℤ) where
-  -- it can go on
+  -- it can continue
   abbrev pub IsReadyFor : FrameState → Due → Type 0
   IsReadyFor x due.Begin = Unit {0}
   IsReadyFor x (due.Answer a) = (c : CursorView) × (x.cursor ≡ Some c) × Runs code inputs c × Fits c.owed a × (x.took ≤ MAX_TICKS)
@@ -34,7 +34,8 @@ module _ (code : CodeView) (inputs : List ℤ) where
   abbrev pub IsReady : FrameState → Type 0
   IsReady x = IsReadyFor x x.due
 
-  -- The cursor has come to this ask, with so many ticks left of all those of a run but those that the frame took before.
+  -- The cursor has reached this request, with `left` ticks left of those that the frame had not
+  -- used.
   pub record Came (x : FrameState) (a : Answer) (k : Ask) (x' : FrameState) : Type 0 where
     pub before : CursorView
     pub after : CursorView
@@ -44,7 +45,7 @@ module _ (code : CodeView) (inputs : List ℤ) where
     pub now : x' ≡ record x { cursor = Some after; took = MAX_TICKS - left }
     pub goes_on : (p : Source) (callee : Callee) (history : List ℤ) (took : ℕ) → Stands code inputs p callee before history took → GoesOn code inputs before a (MAX_TICKS - x.took) k after left p callee history took
 
-  -- it has gone on to this ask
+  -- it has reached this request
   abbrev pub WentOnFrom : Due → FrameState → Ask → FrameState → Type 0
   WentOnFrom due.Begin x k x' = (k ≡ asks.Begin) × (x' ≡ x)
   WentOnFrom (due.Answer a) x k x' = Came x a k x'
@@ -70,23 +71,24 @@ own_fault (asks.Result v) other = other
 own_fault (asks.End v) other = other
 own_fault (asks.Fault f) other = Some f
 
--- how many cells the frame has that an ask begins
+-- the number of cells of the frame that a request starts
 abbrev pub cells_asked : Layout → Ask → Option ℕ
 cells_asked l k = option_map (cells_in l) (child_of k)
 
--- one more frame, with so many cells, is one too many, or its cells are
+-- one more frame with n cells exceeds the limit of frames or of cells
 abbrev pub crowded : ℕ → ℕ → Option ℕ → Option Fault
 crowded frames cells None = None
 crowded frames cells (Some n) = if nat_lt MAX_FRAMES (frames + 1) then Some TooManyFrames else (if nat_lt MAX_CELLS (cells + n) then Some TooManyCells else None)
 
--- The fault that stands in place of an ask's event, where so many ticks would be counted, and so many events, frames and cells are: too many
--- ticks before the frame's own fault, before too many events, frames, cells.
+-- The fault in place of a request's event, by the ticks counted with it and the events, frames and
+-- cells before it. The first that applies is found: too many ticks, the frame's own fault, too many
+-- events, too many frames, too many cells.
 abbrev pub refusal : ℕ → ℕ → ℕ → ℕ → Layout → Ask → Option Fault
 refusal ticks events frames cells l k =
     if nat_lt MAX_TICKS ticks then Some TooManyEvents
     else own_fault k (if nat_lt MAX_EVENTS (events + 1) then Some TooManyEvents else crowded frames cells (cells_asked l k))
 
--- The refusal is the fault by which the free machine stops, where so many events, frames and cells are, and so many ticks with the frame's own.
+-- The refusal is the fault by which the free machine stops, at these totals and ticks.
 abbrev pub RefusalsAreFaults : Source → List ℤ → Layout → Type 0
 RefusalsAreFaults p inputs l =
     (w : FrameEnv) (deeds : List (Deed FrameEnv)) (k : Ask) (totals : Total → ℕ) (ticks : ℕ) → ticks ≡ (let C = costs p inputs in totals TickTotal + C.ticks w deeds)

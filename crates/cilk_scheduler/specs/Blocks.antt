@@ -1,4 +1,5 @@
--- What lies at a sync block: the pieces of its stolen children that have arrived, multiplied as far as no awaited one stands between.
+-- The pieces at a sync block: those of stolen children that have arrived, multiplied wherever no
+-- awaited piece is between them.
 use Rattle.std.specs.Prelude.{◌≡◌, ℕ, suc, nat_eq, Bool, true, false, cond, ◌⊎◌, List, [], ◌∷◌, ◌++◌, Option, None}
 use Rattle.cilk_types.specs.declared.invocation.Invocation.TheVariants.{Call, Spawn}
 use Rattle.cilk_monoid.specs.declared.kind.MonoidKind.{MonoidKind}
@@ -10,7 +11,7 @@ use Rattle.cilk_join.specs.Rows.{Wait, Stands, wait, or_unit, placed}
 use Rattle.cilk_runs.specs.Reducers.{View, views_of}
 use Rattle.cilk_runs.specs.FrameEnvViews.{IsViewOf}
 
--- the ordinals of the stolen children of the block that is open at the end of the deeds, in ascending order
+-- the ordinals of the stolen children of the block that is open after the deeds, in ascending order
 abbrev pub stolen_in : {W : Type 0} → (ℕ → Bool) → ℕ → List ℕ → List (Deed W) → List ℕ
 stolen_in loose k ks [] = ks
 stolen_in loose k ks (Does (Reads c v) ∷ ds) = stolen_in loose k ks ds
@@ -22,12 +23,13 @@ stolen_in loose k ks (Invokes Call w ∷ ds) = stolen_in loose (suc k) ks ds
 stolen_in loose k ks (Invokes Spawn w ∷ ds) = stolen_in loose (suc k) (cond (loose k) (ks ++ k ∷ []) ks) ds
 
 module _ (kind : MonoidKind) where
-  -- The free machine's product of a run of pieces is the view of a kept run, where no run counts as the unit.
+  -- The free machine's product v of consecutive pieces is the view of `run`; none counts as the
+  -- unit.
   abbrev pub IsRun : View → Option ViewValue → Type 0
   IsRun v run = IsViewOf kind v (or_unit ((structure_of kind).unit) ((structure_of kind).combine) run)
 
-  -- A row has the pieces of those of these children that are there: acc is the product of the run so far, and own the frame's own piece
-  -- where it has arrived, else the unit.
+  -- A row has the pieces of those of these children that are there. acc is the product of the
+  -- pieces so far. own is the frame's own piece once it has arrived, and the unit before.
   abbrev pub Lays : (ℕ → View) → (ℕ → Bool) → View → View → List ℕ → Option ViewValue → List (Wait ViewValue) → Type 0
   Lays kid there own acc [] run waits = IsRun ((views_of kind).combine acc own) run × (waits ≡ [])
   Lays kid there own acc (k ∷ ks) run waits =
@@ -47,7 +49,7 @@ abbrev pub Apart : List ℕ → Type 0
 Apart [] = Unit {0}
 Apart (k ∷ ks) = NotIn k ks × Apart ks
 
--- ---- laws of what lies at a block
+-- ---- laws of the pieces at a block
 
 module _ (kind : MonoidKind) where
   abbrev unit_value : ViewValue
@@ -56,7 +58,7 @@ module _ (kind : MonoidKind) where
   abbrev times_value : ViewValue → ViewValue → ViewValue
   times_value = (structure_of kind).combine
 
-  -- a continuation is stolen, as long as the own piece hasn't arrived: its child's piece is awaited
+  -- a continuation is stolen before the own piece has arrived: its child's piece is awaited
   abbrev pub StealsLay : Type 0
   StealsLay = (kid : ℕ → View) (there : ℕ → Bool) (acc : View) (ks : List ℕ) (run : Option ViewValue) (waits : List (Wait ViewValue)) (k : ℕ) → there k ≡ false
       → Lays kind kid there ((views_of kind).unit) acc ks run waits → Lays kind kid there ((views_of kind).unit) acc (ks ++ k ∷ []) run (waits ++ wait k None ∷ [])
@@ -72,7 +74,8 @@ module _ (kind : MonoidKind) where
   OwnLays = (kid : ℕ → View) (there : ℕ → Bool) (acc : View) (ks : List ℕ) (run : Option ViewValue) (waits : List (Wait ViewValue)) (k : ℕ) (v : View) (x : ViewValue) → IsViewOf kind v x → NotIn k ks
       → Lays kind kid there ((views_of kind).unit) acc ks run waits → Lays kind kid there v acc ks (let r = placed unit_value times_value run waits k x in r.run) (let r = placed unit_value times_value run waits k x in r.waits)
 
-  -- with nothing awaited, the one run is the free machine's product of the block, and the own piece
+  -- with nothing awaited, the one product left is the free machine's for the block, times the own
+  -- piece
   abbrev pub BlockPasses : Type 0 → Type 0
   BlockPasses W = (kid : ℕ → View) (loose there : ℕ → Bool) (own : View) (ds : List (Deed W)) (run : Option ViewValue) → Lays kind kid there own ((views_of kind).unit) (stolen_in loose 1 [] ds) run []
       → IsRun kind ((views_of kind).combine (block_view (views_of kind) kid loose ((views_of kind).unit) 1 ds) own) run

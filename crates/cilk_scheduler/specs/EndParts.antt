@@ -1,4 +1,4 @@
--- From what the functions of a board promise by numbers to a frame that ends.
+-- The end of a frame, put together from the contracts of the functions.
 use Rattle.std.specs.Prelude.{◌≡◌, ◌+◌, ◌-◌, ℕ, suc, Bool, true, false, cond, ℤ, List, [], ◌∷◌, ◌++◌, slice_get, Some}
 use Rattle.cilk_types.specs.declared.event.Event.TheVariants as events
 use Rattle.cilk_program.specs.declared.ask.Ask.TheVariants as asks
@@ -31,7 +31,7 @@ use Rattle.cilk_scheduler.specs.Steps.{HasCome}
 use Rattle.cilk_scheduler.specs.Workers.{altered, viewing}
 use Rattle.cilk_scheduler.specs.OfferLists.{Withdraws}
 
--- The frame at place k of these is finished, its ticks are counted, and its end is written down.
+-- Frame k of these is marked as ended, its ticks are counted, and its end is recorded.
 pub record IsFinished (b b' : Scheduler) (k : ℕ) (frames : List (Activation FrameState)) : Type 0 where
   pub acted : List (Activation FrameState)
   pub finishes : acted ≡ changed finished frames k
@@ -40,30 +40,31 @@ pub record IsFinished (b b' : Scheduler) (k : ℕ) (frames : List (Activation Fr
   pub journal : let e = b.journal in let l = b'.journal in l.items ≡ e.items ++ (record { frame = k; event = events.End }) ∷ []
   pub cells : let c = b.cells in let d = b'.cells in d.items ≡ c.items
 
--- The continuation of the frame at place k is sought in the list of the worker that offers it, if one does; so many are offered then.
+-- The continuation of frame k is withdrawn from the worker that offers it, if one does.
 pub data Seeks (k : ℕ) (status : Status) (workers after : List Worker) (before offered : ℕ) : Type 0 where
   NotOffered : ((v : ℕ) → status ≡ Offered v → ⊥) → after ≡ workers → offered ≡ before → Seeks k status workers after before offered
   OfferedBy : (v : ℕ) (owner without : Worker) (found : Bool) → status ≡ Offered v → slice_get workers v ≡ Some owner → without ≡ record owner { offered = without.offered } → (let o = owner.offered in let l = without.offered in Withdraws o.items k found l.items)
       → after ≡ altered (λ _. without) workers v → offered ≡ cond found (before - 1) before → Seeks k status workers after before offered
 
--- A piece arrives at the block of a frame that this is kept of, with this key, and this is kept of it then.
+-- A piece with this key arrives at the block of a frame, whose state is x before and x' after.
 pub data Brings (x : FrameState) (key : ℕ) (piece : Hypermap) (passes : Bool) (x' : FrameState) (left : Hypermap) : Type 0 where
   ToJoin : (l l' : _) → x.join ≡ Some l → x' ≡ record x { join = Some l' } → Arrives (shown l.value) key false (product piece) passes (shown l'.value) left → Brings x key piece passes x' left
 
 module _ (code : CodeView) (p : Source) (inputs : List ℤ) where
-  -- Worker w's frame has gone on to its end, and the worker's views have lost its reducers.
+  -- Worker w's frame has reached its end, and the worker's views have lost its reducers.
   pub record HasRetired (b : Scheduler) (w k : ℕ) (v : ℤ) (h : HasCome code p inputs b w k (asks.End v)) (went : List (Activation FrameState)) (views : Hypermap) : Type 0 where
     pub goes : let l = b.frames in went ≡ changed (λ _. h.came) l.items k
     pub retires : (top : Activation FrameState) → slice_get went k ≡ Some top → let u = h.worker in RetiresOwn code.layout top u.views views
 
-  -- The first frame: an outcome is left, with these views, and the worker is idle.
+  -- The first frame: the outcome is kept, with these views, and the worker is idle.
   abbrev pub RunsAreLeft : Type 0
   RunsAreLeft =
       (b b' : Scheduler) (w : ℕ) (v : ℤ) (h : HasCome code p inputs b w 0 (asks.End v)) (went : List (Activation FrameState)) (views left : Hypermap) (viewed : List Worker) → HasRetired b w 0 v h went views
       → (let c = b.cells in b'.outcome ≡ Some (outcome_of code.layout c.items views v)) → (let l = b.workers in viewed ≡ viewing left l.items w) → (let l = b'.workers in l.items ≡ altered freed viewed w) → b'.offered ≡ b.offered
       → IsFinished b b' 0 went → EndsRun code p inputs b b' w v h
 
-  -- A frame beside which no continuation was stolen: the worker has the parent, whose continuation is no longer offered.
+  -- A frame beside which no continuation was stolen: the worker holds the parent, whose
+  -- continuation is no longer offered.
   abbrev pub FramesGoBack : Type 0
   FramesGoBack =
       (name : ℕ → Name) (b b' : Scheduler) (d : WorkerTable) (s : State FrameEnv View) (w k : ℕ) (v : ℤ) → ShowsBy code p inputs name b d s → (h : HasCome code p inputs b w (suc k) (asks.End v)) (went held : List (Activation FrameState)) (views : Hypermap) (viewed others : List Worker) (above : Activation FrameState)
@@ -71,7 +72,8 @@ module _ (code : CodeView) (p : Source) (inputs : List ℤ) where
       → (let a = h.seat in let x = a.cursor in let y = above.cursor in Seeks x.parent y.status viewed others b.offered b'.offered) → (let a = h.seat in let x = a.cursor in held ≡ changed (moved_to (Held w)) went x.parent)
       → (let a = h.seat in let x = a.cursor in let l = b'.workers in l.items ≡ altered (working x.parent) others w) → b'.outcome ≡ b.outcome → IsFinished b b' (suc k) held → GoesBack code p inputs b b' w (suc k) v h
 
-  -- A frame beside which the continuation was stolen: its piece has arrived at its parent's block, and where that passes, the worker has the parent.
+  -- A frame beside which the continuation was stolen: its piece has arrived at its parent's block.
+  -- If the block passes, the worker holds the parent.
   abbrev pub PiecesAreHandedIn : Type 0
   PiecesAreHandedIn =
       (name : ℕ → Name) (b b' : Scheduler) (d : WorkerTable) (s : State FrameEnv View) (w k : ℕ) (v : ℤ) → ShowsBy code p inputs name b d s → (h : HasCome code p inputs b w (suc k) (asks.End v)) (went brought held : List (Activation FrameState)) (views left : Hypermap) (viewed : List Worker) (above : Activation FrameState) (joined : FrameState) (passes : Bool)
@@ -80,8 +82,8 @@ module _ (code : CodeView) (p : Source) (inputs : List ℤ) where
       → (let a = h.seat in let x = a.cursor in held ≡ cond passes (changed (moved_to (Held w)) (changed passed brought x.parent) x.parent) brought) → (let l = b.workers in viewed ≡ viewing left l.items w)
       → (let a = h.seat in let x = a.cursor in let l = b'.workers in l.items ≡ altered (cond passes (working x.parent) freed) viewed w) → b'.offered ≡ b.offered → b'.outcome ≡ b.outcome → IsFinished b b' (suc k) held → HandsIn code p inputs b b' w (suc k) v h
 
-  -- The parent of a frame that a worker has is there; and where the continuation beside the frame was stolen, its piece may arrive at the parent's
-  -- block.
+  -- The parent of a frame that a worker holds is in the list. If the continuation beside the frame
+  -- was stolen, its piece may arrive at the parent's block.
   abbrev pub PiecesMayArrive : Type 0
   PiecesMayArrive =
       (name : ℕ → Name) (b : Scheduler) (d : WorkerTable) (s : State FrameEnv View) (w k : ℕ) (v : ℤ) → IsShown code p inputs name b d s → OutliveChildren s → (h : HasCome code p inputs b w (suc k) (asks.End v))

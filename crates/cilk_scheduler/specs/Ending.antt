@@ -1,4 +1,4 @@
--- A worker's frame ends: the board before and after, by numbers.
+-- The end of a worker's frame: the scheduler before and after, by numbers.
 use Rattle.std.specs.Prelude.{◌≡◌, ◌+◌, ◌-◌, ℕ, suc, Bool, true, false, cond, ℤ, List, [], ◌∷◌, ◌++◌, slice_get, Option, Some, None}
 use Rattle.cilk_types.specs.declared.event.Event.TheVariants as events
 use Rattle.cilk_types.specs.declared.event.Instance.{Instance}
@@ -35,16 +35,16 @@ use Rattle.cilk_scheduler.specs.Waiting.{idling}
 use Rattle.cilk_scheduler.specs.Workers.{altered, holding}
 use Rattle.cilk_scheduler.specs.OfferLists.{Withdraws}
 
--- the monoids of the reducers that a frame with this creator made for itself
+-- the monoids of the reducers that a frame with this creator created for itself
 abbrev pub created_by : Layout → Option ℕ → List MonoidKind
 created_by l None = []
 created_by l (Some function) = let f = function_frame l function in f.reducers
 
--- views without those of the reducers that a frame made for itself
+-- the views without those of the reducers that a frame created for itself
 abbrev pub RetiresOwn : Layout → Activation FrameState → Hypermap → Hypermap → Type 0
 RetiresOwn l a old new = (k : MonoidKind) (j : Instance) → view_in new k j ≡ without_own a.number a.first (created_by l a.creator) k j (view_in old k j)
 
--- The continuation of the frame at place k is taken back, from the worker that offers it; else workers stay. So many are offered then.
+-- The continuation of frame k is withdrawn from the worker that offers it; else workers stay.
 pub data TakesBack (b : Scheduler) (k : ℕ) (status : Status) (workers : List Worker) (offered : ℕ) : Type 0 where
   WasNotOffered : ((v : ℕ) → status ≡ Offered v → ⊥) → (let l = b.workers in workers ≡ l.items) → offered ≡ b.offered → TakesBack b k status workers offered
   WasOffered : (v : ℕ) (owner without : Worker) (found : Bool) → status ≡ Offered v → (let l = b.workers in slice_get l.items v ≡ Some owner) → without.frame ≡ owner.frame → without.views ≡ owner.views
@@ -52,14 +52,15 @@ pub data TakesBack (b : Scheduler) (k : ℕ) (status : Status) (workers : List W
       → TakesBack b k status workers offered
 
 module _ (code : CodeView) (p : Source) (inputs : List ℤ) where
-  -- The worker's views lose the frame's own reducers, its event is written down, and its ticks are counted.
+  -- The worker's views lose the frame's own reducers, its end is recorded, and its ticks are
+  -- counted.
   pub record Closes (b b' : Scheduler) (w k : ℕ) (v : ℤ) (h : HasCome code p inputs b w k (asks.End v)) (views : Hypermap) : Type 0 where
     pub retires : let u = h.worker in RetiresOwn code.layout h.seat u.views views
     pub journal : let e = b.journal in let l = b'.journal in l.items ≡ e.items ++ (record { frame = k; event = events.End }) ∷ []
     pub cells : let c = b.cells in let d = b'.cells in d.items ≡ c.items
     pub ticks : let x = h.came in b'.ticks ≡ b.ticks + (x.took - x.counted)
 
-  -- The first frame ends: the run leaves an outcome, and the worker is idle.
+  -- The first frame ends: the run has an outcome, and the worker is idle.
   pub record EndsRun (b b' : Scheduler) (w : ℕ) (v : ℤ) (h : HasCome code p inputs b w 0 (asks.End v)) : Type 0 where
     pub views : Hypermap
     pub left : Hypermap
@@ -69,7 +70,8 @@ module _ (code : CodeView) (p : Source) (inputs : List ℤ) where
     pub offered : b'.offered ≡ b.offered
     pub outcome : let c = b.cells in b'.outcome ≡ Some (outcome_of code.layout c.items views v)
 
-  -- A frame ends beside which no continuation was stolen: the worker goes on with the parent, with the child's views.
+  -- A frame ends beside which no continuation was stolen: the worker continues with the parent and
+  -- the child's views.
   pub record GoesBack (b b' : Scheduler) (w k : ℕ) (v : ℤ) (h : HasCome code p inputs b w k (asks.End v)) : Type 0 where
     pub views : Hypermap
     pub above : Activation FrameState
@@ -82,8 +84,9 @@ module _ (code : CodeView) (p : Source) (inputs : List ℤ) where
     pub workers : let a = h.seat in let x = a.cursor in let m = b'.workers in m.items ≡ altered (holding x.parent views) others w
     pub outcome : b'.outcome ≡ b.outcome
 
-  -- A frame ends beside which the continuation was stolen: its piece arrives at its parent's block. Where that passes, the worker goes on with the
-  -- parent, with the block's views; else it is idle.
+  -- A frame ends beside which the continuation was stolen: its piece arrives at its parent's block.
+  -- If the block passes, the worker continues with the parent and the block's views; else it is
+  -- idle.
   pub record HandsIn (b b' : Scheduler) (w k : ℕ) (v : ℤ) (h : HasCome code p inputs b w k (asks.End v)) : Type 0 where
     pub views : Hypermap
     pub left : Hypermap
@@ -100,7 +103,7 @@ module _ (code : CodeView) (p : Source) (inputs : List ℤ) where
     pub offered : b'.offered ≡ b.offered
     pub outcome : b'.outcome ≡ b.outcome
 
-  -- what the worker's choice does to a state that the board shows, and that the board shows what comes of it
+  -- what the worker's choice does to a state shown, and that the scheduler shows the result
   abbrev pub IsEnded : (ℕ → Name) → Scheduler → WorkerTable → State FrameEnv View → ℕ → Type 0
   IsEnded name b' d s w = (s' : State FrameEnv View) × (d' : WorkerTable) × Chooses p inputs s d (Run (suc w)) Did s' d' × ShowsBy code p inputs name b' d' s'
 
@@ -110,7 +113,7 @@ module _ (code : CodeView) (p : Source) (inputs : List ℤ) where
       (name : ℕ → Name) (b b' : Scheduler) (d : WorkerTable) (s : State FrameEnv View) (w : ℕ) (v : ℤ) → IsShown code p inputs name b d s → AreStarted p s
       → (h : HasCome code p inputs b w 0 (asks.End v)) → EndsRun b b' w v h → IsEnded name b' d s w
 
-  -- a frame ends that was called, or beside which nobody took the continuation
+  -- a frame ends that was called, or beside which the continuation wasn't stolen
   abbrev pub ReturnsAreShown : Type 0
   ReturnsAreShown =
       (name : ℕ → Name) (b b' : Scheduler) (d : WorkerTable) (s : State FrameEnv View) (w k : ℕ) (v : ℤ) → IsShown code p inputs name b d s → AreStarted p s → OutliveChildren s

@@ -1,4 +1,4 @@
--- What changes of a frame that is kept in a list.
+-- Changes of a frame's state.
 use Rattle.std.specs.Prelude.{◌+◌, ℕ, zero, suc, true, false, List, [], ◌∷◌, Some, None}
 use Rattle.cilk_types.specs.declared.invocation.Invocation.{Invocation}
 use Rattle.cilk_frames.specs.declared.activation.Activation.{Activation}
@@ -10,13 +10,13 @@ use Rattle.cilk_scheduler.specs.declared.frame_state.FrameState.{FrameState}
 use Rattle.cilk_scheduler.specs.declared.frame_state.Status.{Status}
 use Rattle.cilk_scheduler.specs.declared.frame_state.Status.TheVariants.{Held, Waiting, Finished}
 
--- what is kept beside the place of one frame changes
+-- the state of frame k changes, and where its cells and reducers are stays
 abbrev pub changed : {C : Type 0} → (C → C) → List (Activation C) → ℕ → List (Activation C)
 changed f [] k = []
 changed f (a ∷ list) zero = record a { cursor = f a.cursor } ∷ list
 changed f (a ∷ list) (suc k) = a ∷ changed f list k
 
--- a frame that a worker has, before its begin
+-- a frame that a worker holds, before its begin
 abbrev pub seated : ℕ → ℕ → Invocation → ℕ → CursorView → FrameState
 seated parent ordinal how worker c = record {
   parent = parent;
@@ -35,7 +35,7 @@ seated parent ordinal how worker c = record {
   join = None;
 }
 
--- it goes on with this answer
+-- it continues with this answer
 abbrev pub answered : Answer → FrameState → FrameState
 answered a x = record x { due = due.Answer a }
 
@@ -47,7 +47,7 @@ stranded x = record x { strands = x.strands + 1; due = due.Answer Done }
 abbrev pub synced : FrameState → FrameState
 synced x = record x { join = None; merged = false; strands = x.strands + 1; due = due.Answer Done }
 
--- it is somewhere else
+-- its status changes
 abbrev pub moved_to : Status → FrameState → FrameState
 moved_to t x = record x { status = t }
 
@@ -67,7 +67,7 @@ finished x = record x { status = Finished; cursor = None }
 abbrev pub robbed : FrameState → FrameState
 robbed x = record x { stolen = true }
 
--- it has started the frame at this place
+-- it has started the frame at this index
 abbrev pub started_at : Status → ℕ → FrameState → FrameState
 started_at t place x = record x { children = x.children + 1; last = place; due = due.Answer Done; status = t }
 

@@ -1,4 +1,4 @@
--- A frame goes on behind each child that it spawned, in each state that steps lead to.
+-- A frame continues after each child that it spawned, in each reachable state.
 use Rattle.std.specs.Prelude.{◌≡◌, ◌⊎◌, true, ℤ, List, ◌∷◌, ◌++◌, Some, None}
 use Rattle.cilk_types.specs.declared.invocation.Invocation.TheVariants.{Spawn}
 use Rattle.cilk_program.specs.Syntax.{Source}
@@ -11,18 +11,19 @@ use Rattle.cilk_runs.specs.FrameEnvs.{FrameEnv}
 use Rattle.cilk_scheduler.specs.declared.choice.Choice.{Choice}
 use Rattle.cilk_scheduler.specs.WorkerTables.{WorkerTable, Chooses, Comes}
 
--- Each child that frame n spawned has ended, or the continuation beside it was stolen: the frame went on behind each.
+-- Each child that frame n spawned has ended, or the continuation beside it was stolen.
 abbrev pub WentOnBehind : State FrameEnv View → Name → List (Deed FrameEnv) → Type 0
 WentOnBehind s n deeds = (before after : List (Deed FrameEnv)) (what : FrameEnv) → deeds ≡ before ++ Invokes Spawn what ∷ after → HasEnded FrameEnv View s (child_after n before) ⊎ (s.stolen (child_after n before) ≡ true)
 
--- So it is of each child that a frame spawned before its last deed, for each frame.
+-- This holds of each child that a frame spawned before its last deed, for each frame.
 abbrev pub HaveGoneOn : State FrameEnv View → Type 0
 HaveGoneOn s =
     (n : Name) (f : Frame FrameEnv) → s.frames n ≡ Some f → (before after : List (Deed FrameEnv)) (what : FrameEnv) (d : Deed FrameEnv) → f.deeds ≡ before ++ Invokes Spawn what ∷ d ∷ after
     → HasEnded FrameEnv View s (child_after n before) ⊎ (s.stolen (child_after n before) ≡ true)
 
 module _ (p : Source) (inputs : List ℤ) where
-  -- It is so in each state that steps lead to, and in each that a choice leads to; and a frame that goes on went on behind its last child too.
+  -- It holds in each state that steps or choices lead to. A frame that continues has continued
+  -- after its last child too.
   pub record FramesGoOnBehind : Type 0 where
     pub opens : (s : State FrameEnv View) → IsFirst p inputs s → HaveGoneOn s
     pub keeps : (s s' : State FrameEnv View) (n : Name) → HaveGoneOn s → OneStep p inputs s n s' → HaveGoneOn s'

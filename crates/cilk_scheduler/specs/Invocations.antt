@@ -1,4 +1,4 @@
--- A worker's frame starts another, by a call or a spawn: the board before and after, by numbers.
+-- A call or a spawn by a worker's frame: the scheduler before and after, by numbers.
 use Rattle.std.specs.Prelude.{◌≡◌, ◌+◌, ◌-◌, ℕ, suc, ℤ, pos, List, [], ◌∷◌, ◌++◌, length, replicate, slice_get, Some}
 use Rattle.cilk_types.specs.declared.event.Event.{Event}
 use Rattle.cilk_types.specs.declared.invocation.Invocation.{Invocation}
@@ -31,12 +31,12 @@ use Rattle.cilk_scheduler.specs.Starting.{named_at}
 use Rattle.cilk_scheduler.specs.Steps.{HasCome}
 use Rattle.cilk_scheduler.specs.Workers.{altered}
 
--- where a frame is that has started another
+-- the status of a frame that has started another
 abbrev pub left_at : Invocation → ℕ → Status
 left_at Call w = Calling
 left_at Spawn w = Offered w
 
--- what its worker offers then: after a spawn the frame's continuation too, as its newest
+-- the worker's offers then: a spawn adds the frame's continuation as the newest
 abbrev pub offering : Invocation → ℕ → List ℕ → List ℕ
 offering Call k ks = ks
 offering Spawn k ks = ks ++ k ∷ []
@@ -45,11 +45,12 @@ abbrev pub newly_offered : Invocation → ℕ
 newly_offered Call = 0
 newly_offered Spawn = 1
 
--- the worker goes on with the frame at a place, and offers the continuation of the one that it had, at place k, where that spawned it
+-- The worker continues with the frame at this index. After a spawn it offers the continuation of
+-- frame k.
 abbrev pub HandsOver : Invocation → ℕ → ℕ → Worker → Worker → Type 0
 HandsOver how k place u v = (v.frame ≡ Some place) × (v.views ≡ u.views) × (let o = u.offered in let q = v.offered in q.items ≡ offering how k o.items)
 
--- The frame at place k has gone on as this seat, and nothing else has changed.
+-- Frame k has reached its request with this state, and nothing else has changed.
 pub record HasGoneOn (b b' : Scheduler) (k : ℕ) (came : FrameState) : Type 0 where
   pub frames : let f = b.frames in let g = b'.frames in g.items ≡ changed (λ _. came) f.items k
   pub cells : let c = b.cells in let d = b'.cells in d.items ≡ c.items
@@ -59,7 +60,8 @@ pub record HasGoneOn (b b' : Scheduler) (k : ℕ) (came : FrameState) : Type 0 w
   pub ticks : b'.ticks ≡ b.ticks
   pub outcome : b'.outcome ≡ b.outcome
 
--- A frame that the one at place k has started begins, with so many cells: worker w goes on with it, and the starter is elsewhere.
+-- A child of frame k with n cells begins: worker w continues with it, and the parent's status
+-- changes.
 pub record ChildBegins (b b' : Scheduler) (w k : ℕ) (how : Invocation) (child : Activation FrameState) (count : ℕ) : Type 0 where
   pub before : Worker
   pub after : Worker
@@ -73,7 +75,7 @@ pub record ChildBegins (b b' : Scheduler) (w k : ℕ) (how : Invocation) (child 
   pub ticks : b'.ticks ≡ b.ticks
   pub outcome : b'.outcome ≡ b.outcome
 
--- An event of the frame at place k is written down, its ticks are counted, and nothing else has changed.
+-- An event of frame k is recorded, its ticks are counted, and nothing else has changed.
 pub record IsNoted (b b' : Scheduler) (k : ℕ) (event : Event) : Type 0 where
   pub frames : let f = b.frames in let g = b'.frames in g.items ≡ changed counted f.items k
   pub journal : let e = b.journal in let l = b'.journal in l.items ≡ e.items ++ (record { frame = k; event = event }) ∷ []
@@ -84,8 +86,8 @@ pub record IsNoted (b b' : Scheduler) (k : ℕ) (event : Event) : Type 0 where
   pub outcome : b'.outcome ≡ b.outcome
 
 module _ (code : CodeView) (p : Source) (inputs : List ℤ) where
-  -- Worker w has the frame at place k, which has come to an invocation. The new frame is the last then, with its cells behind all others, each 0;
-  -- the worker has it, with the views that it had.
+  -- Worker w holds frame k, whose request is a call or a spawn. The new frame is the last then, and
+  -- its cells come after all others and hold 0. The worker holds it with the views that it had.
   pub record GoesToChild (b b' : Scheduler) (w k : ℕ) (how : Invocation) (callee : Callee) (h : HasCome code p inputs b w k (asks.Invoke how callee)) : Type 0 where
     pub child : Activation FrameState
     pub worker : Worker
@@ -101,16 +103,16 @@ module _ (code : CodeView) (p : Source) (inputs : List ℤ) where
     pub ticks : let y = h.came in b'.ticks ≡ b.ticks + (y.took - y.counted)
     pub outcome : b'.outcome ≡ b.outcome
 
-  -- So does a board where the frame has gone on, the other was made and begun, the event was written down and its ticks were counted, one after
-  -- the other.
+  -- The steps of the code lead there: the frame continues, the child is made and begun, the event
+  -- is recorded and its ticks are counted.
   abbrev pub InvocationsAreNoted : Type 0
   InvocationsAreNoted =
       (b went begun b' : Scheduler) (w k : ℕ) (how : Invocation) (callee : Callee) (h : HasCome code p inputs b w k (asks.Invoke how callee)) (child : Activation FrameState)
       → HasGoneOn b went k h.came → (let f = went.frames in let c = went.cells in IsChild code f.items k w (length c.items) how callee child) → ChildBegins went begun w k how child (cells_in code.layout callee)
       → IsNoted begun b' k (let f = went.frames in invocation how (suc (length f.items))) → GoesToChild b b' w k how callee h
 
-  -- A worker's frame that has come to an invocation starts the other: a step of the free machine, and the choice of that worker, by names. The
-  -- board shows what comes of it, by the names that it had and the new frame's.
+  -- A call or a spawn is a step of the free machine by the worker's choice. The scheduler shows the
+  -- result, by its old names and the new frame's.
   abbrev pub InvocationsAreShown : Type 0
   InvocationsAreShown =
       (name : ℕ → Name) (b b' : Scheduler) (d : WorkerTable) (s : State FrameEnv View) (w k : ℕ) (how : Invocation) (callee : Callee) → Behaves p code → IsShown code p inputs name b d s → AreCounted s.frames

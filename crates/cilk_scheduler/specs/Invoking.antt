@@ -1,4 +1,4 @@
--- A frame that another starts, before it begins.
+-- A child frame before it begins.
 use Rattle.std.specs.Prelude.{◌≡◌, ◌+◌, ◌≤◌, ℕ, ℤ, List, [], ◌∷◌, length, slice_get, Option, Some, None}
 use Rattle.cilk_types.specs.declared.event.Instance.{Instance}
 use Rattle.cilk_types.specs.declared.invocation.Invocation.{Invocation}
@@ -19,7 +19,7 @@ use Rattle.cilk_scheduler.specs.declared.frame_state.FrameState.{FrameState}
 use Rattle.cilk_scheduler.specs.Events.{SeesAt}
 use Rattle.cilk_scheduler.specs.FrameStates.{seated}
 
--- what a callee is given is there, for a frame that sees this
+-- what a callee is given exists, for a frame with this scope
 abbrev pub MayBegin : Scope ℕ Instance → Callee → Type 0
 MayBegin scope callees.Root = ⊥
 MayBegin scope (callees.Function c) = AreSmall c.reducers × ResultFits scope c.result
@@ -31,8 +31,8 @@ creator_of callees.Root = None
 creator_of (callees.Function c) = Some c.function
 creator_of (callees.Loop l) = None
 
--- The frame of a callee that frame k starts, for a worker, with its first cell at a place: it is the next of all frames, stands before its
--- begin, and sees what the callee's frame sees.
+-- The frame of a callee that frame k starts for a worker, with its first cell at this index. It is
+-- the next of all frames, is before its begin, and sees what the callee's frame sees.
 pub record IsChild (code : CodeView) (frames : List (Activation FrameState)) (k worker base : ℕ) (how : Invocation) (callee : Callee) (a : Activation FrameState) : Type 0 where
   pub cursor : CursorView
   pub stands : (p : Source) (inputs : List ℤ) → Behaves p code → CalleeIsFit p callee → Stands code inputs p callee cursor [] 0

@@ -1,4 +1,5 @@
--- From what the functions promise by numbers: a frame may go on, it has come to an ask, what it names is there, and its event is noted.
+-- Events, put together from the contracts of the functions: a frame may continue, it has reached
+-- its request, what this names exists, and its event is recorded.
 use Rattle.std.specs.Prelude.{◌≡◌, ◌⊎◌, ◌+◌, ◌-◌, ◌<◌, ◌≤◌, ℕ, ℤ, List, [], ◌∷◌, ◌++◌, length, slice_get, slice_set, Option, Some, None}
 use Rattle.cilk_types.specs.declared.event.Event as numbered
 use Rattle.cilk_types.specs.declared.event.Instance.{Instance}
@@ -29,7 +30,7 @@ use Rattle.cilk_scheduler.specs.Events.{SeesAt}
 use Rattle.cilk_scheduler.specs.FrameStates.{changed, counted}
 use Rattle.cilk_scheduler.specs.Steps.{HasCome, Notes}
 
--- worker w has the frame at place k
+-- worker w holds frame k
 pub record HasFrame (b : Scheduler) (w k : ℕ) : Type 0 where
   pub worker : Worker
   pub seat : Activation FrameState
@@ -37,11 +38,11 @@ pub record HasFrame (b : Scheduler) (w k : ℕ) : Type 0 where
   pub has : worker.frame ≡ Some k
   pub sits : let f = b.frames in slice_get f.items k ≡ Some seat
 
--- the place means a cell of the board to the frame at place k
+-- the place means a cell of the scheduler to frame k
 abbrev pub CellIsThere : Scheduler → ℕ → Place → Type 0
 CellIsThere b k x = (scope : Scope ℕ Instance) × (let f = b.frames in SeesAt f.items k scope) × (let c = b.cells in cell_in itself scope x < length c.items)
 
--- the reducer that an ask names
+-- the reducer that a request names
 abbrev pub reducer_asked : Ask → Option Reducer
 reducer_asked asks.Begin = None
 reducer_asked (asks.Read x) = None
@@ -58,28 +59,28 @@ reducer_asked (asks.Result v) = None
 reducer_asked (asks.End v) = None
 reducer_asked (asks.Fault f) = None
 
--- the frame at place k sees something, and the place of a reducer has a small number there
+-- frame k has a scope, and the place of a reducer has a small number there
 abbrev pub ReducerIsThere : Scheduler → ℕ → ReducerPlace → Type 0
 ReducerIsThere b k r = ((scope : Scope ℕ Instance) × (let f = b.frames in SeesAt f.items k scope)) × (number_in r < 65536)
 
--- A frame that has gone on sees what it saw, and its result goes where it went.
+-- A frame that has continued has the same scope and the same cell for its result.
 abbrev pub SightStays : Type 0
 SightStays =
     (frames went : List (Activation FrameState)) (k : ℕ) (came : FrameState) → went ≡ changed (λ _. came) frames k
     → ((scope : Scope ℕ Instance) → SeesAt frames k scope → SeesAt went k scope) × ((a : Activation FrameState) → slice_get frames k ≡ Some a → slice_get went k ≡ Some (record a { cursor = came }))
 
 module _ (code : CodeView) (p : Source) (inputs : List ℤ) where
-  -- the frame that a worker has may go on
+  -- the frame that a worker holds may continue
   abbrev pub FramesAreReady : Type 0
   FramesAreReady = (name : ℕ → Name) (b : Scheduler) (d : WorkerTable) (s : State FrameEnv View) (w k : ℕ) → ShowsBy code p inputs name b d s → (f : HasFrame b w k) → (let a = f.seat in IsReady code inputs a.cursor)
 
-  -- once it has gone on, it took no fewer ticks than were counted
+  -- once it has continued, no more ticks are counted than it used
   abbrev pub TicksAreMore : Type 0
   TicksAreMore =
       (name : ℕ → Name) (b : Scheduler) (d : WorkerTable) (s : State FrameEnv View) (w k : ℕ) (ask : Ask) (came : FrameState) → ShowsBy code p inputs name b d s → (f : HasFrame b w k) → (let a = f.seat in WentOn code inputs a.cursor ask came) → came.counted ≤ came.took
 
-  -- It has come to the ask where it has gone on to that, and where with its uncounted ticks no fault stands in place of the event; the ticks
-  -- are within their limit then.
+  -- It has reached its request if its code leads there and no fault comes in place of the event.
+  -- The ticks are within their limit then.
   abbrev pub FramesCome : Type 0
   FramesCome =
       (b : Scheduler) (w k ticks : ℕ) (ask : Ask) (came : FrameState) (went : List (Activation FrameState)) (f : HasFrame b w k) → b.outcome ≡ None → (let a = f.seat in WentOn code inputs a.cursor ask came)
@@ -87,7 +88,7 @@ module _ (code : CodeView) (p : Source) (inputs : List ℤ) where
       → (let e = b.journal in let c = b.cells in refusal (b.ticks + ticks) (length e.items) (length went) (length c.items) code.layout ask ≡ None)
       → (h : HasCome code p inputs b w k ask) × (h.worker ≡ f.worker) × (h.seat ≡ f.seat) × (h.came ≡ came) × (b.ticks + (came.took - came.counted) ≤ MAX_TICKS)
 
-  -- the cells that are read, written and take results are there
+  -- the cells that are read, written and used for results exist
   abbrev pub ReadCellsAreThere : Type 0
   ReadCellsAreThere = (name : ℕ → Name) (b : Scheduler) (d : WorkerTable) (s : State FrameEnv View) (w k : ℕ) (x : Place) → IsShown code p inputs name b d s → HasCome code p inputs b w k (asks.Read x) → CellIsThere b k x
 
@@ -99,13 +100,13 @@ module _ (code : CodeView) (p : Source) (inputs : List ℤ) where
       (name : ℕ → Name) (b : Scheduler) (d : WorkerTable) (s : State FrameEnv View) (w k : ℕ) (v : ℤ) → IsShown code p inputs name b d s → (h : HasCome code p inputs b w k (asks.Result v))
       → (n : ℕ) × (let a = h.seat in a.result ≡ Some n) × (let c = b.cells in n < length c.items)
 
-  -- the reducers that asks name are there
+  -- the reducers that requests name exist
   abbrev pub ReducersAreThere : Type 0
   ReducersAreThere =
       (name : ℕ → Name) (b : Scheduler) (d : WorkerTable) (s : State FrameEnv View) (w k : ℕ) (ask : Ask) (r : Reducer) → IsShown code p inputs name b d s → HasCome code p inputs b w k ask → reducer_asked ask ≡ Some r → ReducerIsThere b k r.place
 
-  -- An event is noted where the frame has gone on, acted and had its ticks counted, one after the other, and the worker has the views that
-  -- it had or these.
+  -- An event is recorded in these parts: the frame continues and acts, its ticks are counted, and
+  -- the worker has the views that it had or these.
   abbrev pub EventsAreNoted : Type 0
   EventsAreNoted =
       (b b' : Scheduler) (w k : ℕ) (ask : Ask) (h : HasCome code p inputs b w k ask) (act : FrameState → FrameState) (event : numbered.Event) (cells : List ℤ) (views : Hypermap) (went acted : List (Activation FrameState))

@@ -1,4 +1,4 @@
--- The numbers that a board gives to frames, cells and reducers, which the free machine knows by names.
+-- The scheduler's numbers of frames, cells and reducers, which the free machine knows by names.
 use Rattle.std.specs.Prelude.{◌≡◌, ◌+◌, ◌<◌, ℕ, zero, suc, nat_eq, cond, List, [], ◌∷◌, ◌++◌, length, map, slice_get, Option, Some, None}
 use Rattle.std.specs.Option.{option_map}
 use Rattle.cilk_types.specs.declared.event.Event.{Event}
@@ -16,30 +16,31 @@ use Rattle.cilk_runs.specs.FrameEnvs.{FrameEnv, Reducers, Sight, global_named}
 use Rattle.cilk_scheduler.specs.declared.frame_state.JournalEntry.{JournalEntry}
 use Rattle.cilk_scheduler.specs.declared.frame_state.FrameState.{FrameState}
 
--- the place of the frame that started the one at this place, if one stands there
+-- the parent of the frame at this index, if there is such a frame
 abbrev pub parent_at : List (Activation FrameState) → ℕ → Option ℕ
 parent_at frames n = option_map (λ (a : Activation FrameState). let x = a.cursor in x.parent) (slice_get frames n)
 
--- this place, where the frame there was started by frame k; the first frame was by none
+-- this index, if the frame there is a child of frame k; the first frame has no parent
 abbrev pub child_at : Option ℕ → ℕ → ℕ → List ℕ
 child_at None k n = []
 child_at (Some m) k zero = []
 child_at (Some m) k (suc n) = cond (nat_eq m k) (suc n ∷ []) []
 
--- the places of the frames that frame k started, in order, among the first so many
+-- the indices of the children of frame k among the first n frames, in order
 abbrev pub children_among : List (Activation FrameState) → ℕ → ℕ → List ℕ
 children_among frames k zero = []
 children_among frames k (suc n) = children_among frames k n ++ child_at (parent_at frames n) k n
 
--- The frames of a board in the order in which they began, and the names that they have: the first is the root, each other is known by an
--- earlier one, its parent, and its ordinal there, which counts the frames that its parent has started from 1 on, and two have two names.
+-- The frames of a scheduler, in the order in which they began, and their names. The first is the
+-- root. Each other frame has an earlier parent, and an ordinal that counts the parent's children
+-- from 1 on. Different frames have different names.
 pub record AreNamed (frames : List (Activation FrameState)) (name : ℕ → Name) : Type 0 where
   pub root : name 0 ≡ []
   pub child : (k : ℕ) (x : Activation FrameState) → slice_get frames (suc k) ≡ Some x → (let s = x.cursor in (s.parent < suc k) × (name (suc k) ≡ name s.parent ++ s.ordinal ∷ []))
   pub ordinal : (k : ℕ) (x : Activation FrameState) → slice_get frames (suc k) ≡ Some x → (let s = x.cursor in s.ordinal ≡ suc (length (children_among frames s.parent (suc k))))
   pub apart : (j k : ℕ) → j < length frames → k < length frames → name j ≡ name k → j ≡ k
 
--- no frame of the board has this name
+-- no frame of the scheduler has this name
 abbrev pub IsAbsent : List (Activation FrameState) → (ℕ → Name) → Name → Type 0
 IsAbsent frames name n = (k : ℕ) → k < length frames → name k ≡ n → ⊥
 
@@ -54,7 +55,7 @@ module _ (p : Source) (frames : List (Activation FrameState)) (name : ℕ → Na
   IsCell s (Global g) n = (n ≡ g) × (g < length p.openings)
   IsCell s (Own m q) n = (k : ℕ) × (x : Activation FrameState) × (slice_get frames k ≡ Some x) × (name k ≡ m) × (n ≡ x.base + q) × (q < size_of p (s.frames m))
 
-  -- a reducer has this number; it names the frame that created it
+  -- a reducer has this number, which names the frame that created it
   abbrev pub IsInstance : Instance → numbered.Instance → Type 0
   IsInstance Output j = (j.frame ≡ 0) × (j.place ≡ 0)
   IsInstance (Reducer m q kind) j = (k : ℕ) × (k < length frames) × (name k ≡ m) × (j.frame ≡ suc k) × (j.place ≡ suc q)

@@ -1,4 +1,4 @@
--- A new board, by numbers, and what a program uses before its first event.
+-- A new scheduler, by numbers, and the resources that a program uses before its first event.
 use Rattle.std.specs.Prelude.{◌≡◌, ◌+◌, ◌<◌, ◌≤◌, IsTrue, ℕ, ℤ, pos, List, [], ◌∷◌, length, replicate, slice_get, Some, None}
 use Rattle.cilk_types.specs.declared.event.Instance.{Instance}
 use Rattle.cilk_types.specs.declared.invocation.Invocation.TheVariants.{Call}
@@ -27,20 +27,22 @@ use Rattle.cilk_scheduler.specs.Schedulers.{ShowsBy}
 use Rattle.cilk_scheduler.specs.WorkerTables.{WorkerTable}
 use Rattle.cilk_scheduler.specs.FrameStates.{seated}
 
--- the first worker has the first frame, beside so many idle ones, and nothing is offered
+-- the first worker holds the first frame, the others are idle, and nothing is offered
 abbrev pub first_desk : ℕ → WorkerTable
 first_desk idle = record { hands = Some [] ∷ replicate idle None; offered = [] ∷ replicate idle []; waiting = [] }
 
--- the first frame's seat
+-- the first frame before its begin
 abbrev pub first_seat : CodeView → Source → CursorView → Activation FrameState → Activation FrameState
 first_seat code p c a = record a { cursor = seated 0 0 Call 0 c; number = 1; base = length p.openings; result = None; creator = Some (let l = code.layout in l.main) }
 
--- A well-named program uses no more before its first event than a run may: 1,000,000 globals and 256 cells of a frame.
+-- A well-named program is within the limits before its first event: 1,000,000 globals and 256 cells
+-- of a frame.
 abbrev pub OpeningsFit : Source → List ℤ → Type 0
 OpeningsFit p inputs = IsTrue (is_well_named p) → (total : Total) → used p inputs total ≤ limit p inputs total
 
 module _ (code : CodeView) (p : Source) (inputs : List ℤ) where
-  -- The first frame alone is there, before its begin, which the first worker has; the cells have their opening values; no worker has a view.
+  -- The first frame alone exists, and the first worker holds it before its begin. The cells have
+  -- their opening values, and no worker has a view.
   pub record IsNew (b : Scheduler) : Type 0 where
     pub root : Activation FrameState
     pub cursor : CursorView
@@ -63,6 +65,6 @@ module _ (code : CodeView) (p : Source) (inputs : List ℤ) where
     pub ticks : b.ticks ≡ 0
     pub outcome : b.outcome ≡ None
 
-  -- A new board shows the first state of the free machine.
+  -- A new scheduler shows the first state of the free machine.
   abbrev pub OpeningsAreShown : Type 0
   OpeningsAreShown = IsTrue (is_well_named p) → LaysOut p code.layout → (b : Scheduler) (h : IsNew b) → (s : State FrameEnv View) × IsFirst p inputs s × (let l = h.others in ShowsBy code p inputs (λ n. []) b (first_desk (length l)) s)

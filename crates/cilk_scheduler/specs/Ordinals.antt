@@ -1,4 +1,4 @@
--- The children of a frame are counted from 1 on, in each state that steps lead to.
+-- The children of a frame are numbered from 1 on, in each reachable state.
 use Rattle.std.specs.Prelude.{◌≡◌, ◌<◌, ◌≤◌, ℕ, suc, ℤ, List, [], ◌∷◌, ◌++◌, Some, None}
 use Rattle.cilk_program.specs.Syntax.{Source}
 use Rattle.cilk_runs.specs.Machine.{Frame, Frames, State, deeds_at, started}
@@ -12,7 +12,7 @@ abbrev pub AreCounted : Frames FrameEnv → Type 0
 AreCounted frames = (n : Name) (q : ℕ) (f : Frame FrameEnv) → frames (n ++ q ∷ []) ≡ Some f → (0 < q) × (q ≤ started (deeds_at (frames n)))
 
 module _ (p : Source) (inputs : List ℤ) where
-  -- They have, in each state that steps lead to, and so a frame's next child isn't there yet.
+  -- They have in each reachable state, so a frame's next child isn't there yet.
   pub record ChildrenAreCounted : Type 0 where
     pub opens : (s : State FrameEnv View) → IsFirst p inputs s → AreCounted s.frames
     pub keeps : (s s' : State FrameEnv View) (n : Name) → AreCounted s.frames → OneStep p inputs s n s' → AreCounted s'.frames

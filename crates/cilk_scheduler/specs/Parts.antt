@@ -1,5 +1,4 @@
--- From what the functions of a board promise by numbers to a continuation that is taken over, a frame that waits, one that makes its sync, and
--- a new board.
+-- Steals, waits, syncs and a new scheduler, put together from the contracts of the functions.
 use Rattle.std.specs.Prelude.{◌≡◌, ◌+◌, ◌-◌, ◌<◌, Bool, true, false, if◌then◌else◌, ℕ, suc, nat_eq, ℤ, pos, List, [], ◌∷◌, ◌++◌, length, replicate, remove, slice_get, Some, None}
 use Rattle.cilk_types.specs.declared.event.Event.TheVariants as events
 use Rattle.cilk_types.specs.declared.event.Instance.{Instance}
@@ -42,31 +41,31 @@ use Rattle.cilk_scheduler.specs.Thieves.{IsOffered, TakesOver}
 use Rattle.cilk_scheduler.specs.Waiting.{StaysBehind}
 use Rattle.cilk_scheduler.specs.Workers.{IsLocated, altered, is_idle, viewing}
 
--- a worker has this frame
+-- the worker holds frame k
 abbrev pub working : ℕ → Worker → Worker
 working k u = record u { frame = Some k }
 
--- a worker has no frame
+-- the worker is idle
 abbrev pub freed : Worker → Worker
 freed u = record u { frame = None }
 
--- the sync that a frame asks for has to wait for a stolen child, and the frame's own piece is still to come
+-- the frame's sync has to wait for a stolen child, and its own piece hasn't arrived
 abbrev pub must_wait : FrameState → Bool
 must_wait x = if x.merged then false else has_awaited (block_in x.join)
 
--- What is kept of a frame, and its worker's views, where its own piece has come to its block: the block had passed already; or no
--- continuation of it was stolen; or the piece has arrived.
+-- The frame's state and its worker's views once its own piece is at its block. The block had passed
+-- already, no continuation of it was stolen, or the piece has arrived.
 pub data BringsOwn (x : FrameState) (old : Hypermap) (x' : FrameState) (new : Hypermap) : Type 0 where
   Passed : x.merged ≡ true → x' ≡ x → new ≡ old → BringsOwn x old x' new
   Alone : x.merged ≡ false → x.join ≡ None → x' ≡ x → new ≡ old → BringsOwn x old x' new
   Brought : x.merged ≡ false → (l l' : _) (passes : Bool) → x.join ≡ Some l → x' ≡ record x { join = Some l' } → Arrives (shown l.value) (x.children + 1) true (product old) passes (shown l'.value) new → BringsOwn x old x' new
 
--- a worker of a new board, at this place: the first has the first frame, none has a view or offers anything
+-- worker v of a new scheduler: the first holds the first frame, none has a view or an offer
 abbrev pub OpensAs : ℕ → Worker → Type 0
 OpensAs v u = (u.frame ≡ (if nat_eq v 0 then Some 0 else None)) × (let o = u.offered in o.items ≡ []) × (let h = u.views in EachKind (λ q. (j : Instance) → view_in h q j ≡ None))
 
--- An idle worker takes over the continuation that is offered: the child's piece is awaited, the child is marked, the continuation is withdrawn,
--- and the worker has the frame, with no views.
+-- An idle worker steals the continuation that is offered: the child's piece is awaited, the child
+-- is marked, the continuation is withdrawn, and the worker holds the frame without views.
 abbrev pub ContinuationsAreTaken : Type 0
 ContinuationsAreTaken =
     (b b' : Scheduler) (w place k : ℕ) (h : IsOffered b w place k) (awaiting : FrameState) (without : Worker) (views : Hypermap) (awaited marked : List (Activation FrameState)) (withdrawn cleared : List Worker)
@@ -77,20 +76,21 @@ ContinuationsAreTaken =
     → TakesOver b b' w place k h
 
 module _ (code : CodeView) (p : Source) (inputs : List ℤ) where
-  -- A continuation that is located is offered; the piece of its frame's last child may be awaited, and that child is there.
+  -- A continuation that is located is offered. The piece of its frame's newest child may be
+  -- awaited, and that child exists.
   abbrev pub ContinuationsAreOffered : Type 0
   ContinuationsAreOffered =
       (name : ℕ → Name) (b : Scheduler) (d : WorkerTable) (s : State FrameEnv View) (w place victim at : ℕ) → ShowsBy code p inputs name b d s → b.outcome ≡ None → (let l = b.workers in is_idle l.items (suc w) ≡ true) → (g : (let l = b.workers in IsLocated l.items place victim at))
       → (h : IsOffered b w place g.1) × (h.owner ≡ g.0) × (h.victim ≡ victim) × (h.at ≡ at) × (let a = h.seat in let x = a.cursor in let f = b.frames in IsOpen (block_in x.join) x.children × (x.last < length f.items))
 
-  -- A frame that a worker has, and that has come to a sync, started no child with its last event; and its own piece may arrive at its block, where
-  -- that hasn't passed.
+  -- A worker's frame at a sync started no child with its last event. Its own piece may arrive at
+  -- its block, if that hasn't passed.
   abbrev pub OwnPiecesMayArrive : Type 0
   OwnPiecesMayArrive =
       (name : ℕ → Name) (b : Scheduler) (d : WorkerTable) (s : State FrameEnv View) (w k : ℕ) (came : FrameState) → IsShown code p inputs name b d s → (f : HasFrame b w k) → (let a = f.seat in WentOn code inputs a.cursor asks.Sync came)
       → (is_resuming (deeds_at (s.frames (name k))) ≡ false) × (came.merged ≡ false → MayArrive (block_in came.join) (came.children + 1) true)
 
-  -- It waits, where it must.
+  -- It waits if it must.
   abbrev pub FramesStayBehind : Type 0
   FramesStayBehind =
       (name : ℕ → Name) (b b' : Scheduler) (d : WorkerTable) (s : State FrameEnv View) (w k : ℕ) (came brought : FrameState) (views : Hypermap) (went arrived : List (Activation FrameState)) (viewed : List Worker) → ShowsBy code p inputs name b d s → (f : HasFrame b w k) → b.outcome ≡ None
@@ -109,8 +109,8 @@ module _ (code : CodeView) (p : Source) (inputs : List ℤ) where
       → b'.offered ≡ b.offered → b'.outcome ≡ b.outcome
       → (let a = h.seat in let u = h.worker in PassesWith a.cursor u.views views) × (let c = b.cells in Notes code p inputs b b' w k h.came (synced h.came) events.Sync c.items views)
 
-  -- A board whose parts were made one after the other is a new one: the first frame's cursor, its activation, the cells of openings and of
-  -- that frame, which hold 0, and workers of whom the first alone has it.
+  -- A scheduler is new if it was made of the first frame's cursor and activation, the global cells
+  -- and that frame's cells, which hold 0, and workers, of which the first alone holds the frame.
   abbrev pub SchedulersAreNew : Type 0
   SchedulersAreNew =
       (b : Scheduler) (c : CursorView) (root : Activation FrameState) (count : ℕ) → LaysOut p code.layout → Stands code inputs p callees.Root c [] 0 → c.owed ≡ Nothing

@@ -1,4 +1,4 @@
--- A board, and the state of the free machine that it shows.
+-- The simulation relation: the state of the free machine that a scheduler shows.
 use Rattle.std.specs.Prelude.{◌≡◌, ◌⊎◌, ◌+◌, ◌<◌, ◌≤◌, ℕ, suc, Bool, true, false, cond, ℤ, pos, List, [], ◌∷◌, ◌++◌, length, map, slice_get, sum, Option, Some, None}
 use Rattle.std.specs.Option.{option_map}
 use Rattle.cilk_types.specs.declared.event.Instance as numbered
@@ -57,20 +57,21 @@ is_resuming (Does e ∷ []) = false
 is_resuming (Invokes k w ∷ []) = true
 is_resuming (d ∷ e ∷ ds) = is_resuming (e ∷ ds)
 
--- The view that goes on with a frame: that of its own piece; before its resume the last child's, unless a thief goes on; and once its
--- block has passed, the product of the block's with its own.
+-- The view that a frame's worker has. It is the view of the frame's own piece. Before the resume it
+-- is the newest child's, unless the continuation was stolen. Once the block has passed it is the
+-- product of the block with the own piece.
 abbrev pub carried : {W V : Type 0} → MonoidStructure V → (Name → V) → (Name → Bool) → Name → List (Deed W) → Bool → V
 carried M piece stolen n ds merged =
     cond merged
     (M.combine (block_view M (λ k. piece (n ++ k ∷ [])) (λ k. stolen (n ++ k ∷ [])) M.unit 1 ds) (piece n))
     (cond (is_resuming ds) (cond (stolen (n ++ started ds ∷ [])) (piece n) (piece (n ++ started ds ∷ []))) (piece n))
 
--- the children whose pieces that view is made of
+-- the children whose pieces are in that view
 abbrev pub IsUsed : {W : Type 0} → (Name → Bool) → Name → List (Deed W) → Bool → ℕ → Type 0
 IsUsed stolen n ds merged q =
     ((merged ≡ true) × (stolen (n ++ q ∷ []) ≡ true)) ⊎ ((merged ≡ false) × (is_resuming ds ≡ true) × (q ≡ started ds) × (stolen (n ++ q ∷ []) ≡ false))
 
--- the runs of a row, of one reducer
+-- the products of a row, for one reducer
 abbrev pub run_at : MonoidKind → numbered.Instance → Option Product → Option ViewValue
 run_at k j run = option_map (λ (v : Product). v k j) run
 
@@ -83,11 +84,11 @@ greatest [] = 0
 greatest (k ∷ []) = k
 greatest (k ∷ j ∷ ks) = greatest (j ∷ ks)
 
--- no view of a frame that hasn't begun
+-- no view belongs to a frame that hasn't begun
 abbrev pub IsBare : ℕ → (MonoidKind → numbered.Instance → ViewValue) → Type 0
 IsBare frames views = (k : MonoidKind) (j : numbered.Instance) → frames < j.frame → views k j ≡ (structure_of k).unit
 
--- the name of the frame that a worker has
+-- the name of the frame that a worker holds
 abbrev pub hand_of : (ℕ → Name) → Worker → Option Name
 hand_of name w = option_map name w.frame
 
@@ -95,7 +96,7 @@ abbrev pub offers_of : (ℕ → Name) → Worker → List Name
 offers_of name w = let o = w.offered in map name o.items
 
 module _ (code : CodeView) (p : Source) (inputs : List ℤ) where
-  -- What a frame goes on with: its begin, the answer to its last event, or a sync that it asked for.
+  -- Where a frame continues: its begin, the answer to its last event, or a sync that it requested.
   abbrev pub IsDue : FrameEnv → List (Deed FrameEnv) → Due → CursorView → ℕ → Type 0
   IsDue w deeds due.Begin c took = (deeds ≡ []) × Stands code inputs p w.callee c [] 0 × (c.owed ≡ Nothing) × (took ≡ 0)
   IsDue w deeds (due.Answer a) c took = IsTold code p inputs w deeds c a took
@@ -105,14 +106,14 @@ module _ (code : CodeView) (p : Source) (inputs : List ℤ) where
     abbrev pub seats : List (Activation FrameState)
     seats = let f = b.frames in f.items
 
-    -- a cell of the board's, and a reducer of a frame of the board's, by name and by number
+    -- a cell of the scheduler, and a reducer of one of its frames, by name and by number
     abbrev pub HasCell : CellBoth → Type 0
     HasCell c = IsCell p seats name s c.0 c.1
 
     abbrev pub HasReducer : ReducerBoth → MonoidKind → Type 0
     HasReducer r k = (kind_of (r.0 k) ≡ k) × IsInstance p seats name (r.0 k) r.1
 
-    -- What a frame sees, by names and by numbers at once, is there.
+    -- All that a frame sees, by names and by numbers at once, exists.
     pub record Seen (x : Activation FrameState) (w : FrameEnv) : Type 0 where
       pub scope : Scope CellBoth ReducerBoth
       pub target : Option CellBoth
@@ -122,14 +123,14 @@ module _ (code : CodeView) (p : Source) (inputs : List ℤ) where
       pub lies_at : x.result ≡ option_map (λ (c : CellBoth). c.1) target
       pub sees : FrameSees p global_cell global_both HasCell HasReducer w.callee scope target
 
-    -- the ordinals of a frame's children that have ended
+    -- child q of frame n has ended
     abbrev pub is_there : Name → ℕ → Bool
     is_there n q = has_ended (deeds_at (s.frames (n ++ q ∷ [])))
 
     abbrev pub stolen_at_block : Name → List (Deed FrameEnv) → List ℕ
     stolen_at_block n deeds = stolen_in (λ q. s.stolen (n ++ q ∷ [])) 1 [] deeds
 
-    -- What lies at a frame's block: its own piece too, once that has arrived.
+    -- The pieces at a frame's block, with its own once that has arrived.
     pub record Keeps (n : Name) (deeds : List (Deed FrameEnv)) (j : JoinView) : Type 0 where
       pub lays : (i : Instance) (k : numbered.Instance) → IsInstance p seats name i k → let r = j.row in
           Lays (kind_of i) (λ q. s.piece (n ++ q ∷ []) i) (is_there n) (cond j.closed (s.piece n i) (unit_of monoid_of i)) (unit_of monoid_of i) (stolen_at_block n deeds) (run_at (kind_of i) k r.run) (waits_at (kind_of i) k r.waits)
@@ -138,12 +139,14 @@ module _ (code : CodeView) (p : Source) (inputs : List ℤ) where
       pub bare : let r = j.row in (run : Product) → (r.run ≡ Some run → IsBare (length seats) run)
       pub bare_later : let r = j.row in (q : ℕ) (a : Wait Product) (run : Product) → slice_get r.waits q ≡ Some a → a.run ≡ Some run → IsBare (length seats) run
 
-    -- The join that lies at a block, where a continuation of that was stolen. The frame's own piece has arrived there only where the frame waits.
+    -- A block has a join if a continuation of it was stolen. The frame's own piece has arrived
+    -- there only if the frame waits or the block has passed.
     abbrev pub HasBlock : Name → List (Deed FrameEnv) → FrameState → Type 0
     HasBlock n deeds x = ((x.join ≡ None) × (stolen_at_block n deeds ≡ []) × (x.merged ≡ false))
         ⊎ ((l : _) × (x.join ≡ Some l) × ((x.merged ≡ true) ⊎ (Keeps n deeds (shown l.value) × ((let j = shown l.value in j.closed ≡ true) → x.status ≡ Waiting))))
 
-    -- Where a frame is, by its deeds: held by a worker, waiting for the child that it called or spawned last, at a sync, or ended.
+    -- The status of a frame, by its deeds: held by a worker, waiting for the child that it called
+    -- or spawned last, waiting at a sync, or ended.
     abbrev pub IsWhere : ℕ → Name → List (Deed FrameEnv) → FrameState → Status → Type 0
     IsWhere k n deeds x (Held w) =
         (v : Worker) × (let l = b.workers in slice_get l.items w ≡ Some v) × (v.frame ≡ Some k) × GoesOn FrameEnv View s n deeds × (has_ended deeds ≡ false) × (x.merged ≡ true → (x.due ≡ due.Sync) × BlockIsOver s n)
@@ -155,7 +158,7 @@ module _ (code : CodeView) (p : Source) (inputs : List ℤ) where
     IsWhere k n deeds x Waiting = (x.due ≡ due.Sync) × (l : _) × (x.join ≡ Some l) × (let j = shown l.value in j.closed ≡ true) × ¬ (BlockIsOver s n) × GoesOn FrameEnv View s n deeds × (has_ended deeds ≡ false) × (x.merged ≡ false)
     IsWhere k n deeds x Finished = HasEnd deeds
 
-    -- A frame of the board is a frame of the state.
+    -- A frame of the scheduler is a frame of the state.
     pub record Sits (k : ℕ) (x : Activation FrameState) : Type 0 where
       pub frame : Frame FrameEnv
       pub here : s.frames (name k) ≡ Some frame
@@ -174,7 +177,7 @@ module _ (code : CodeView) (p : Source) (inputs : List ℤ) where
       pub block : let a = x.cursor in has_ended frame.deeds ≡ false → HasBlock (name k) frame.deeds a
       pub written : let e = b.journal in AreDeeds p seats name s k frame.deeds (events_of k e.items)
 
-    -- a worker that has a frame has the views that go on with it
+    -- a worker that holds a frame has the views of that frame
     pub record Holds (w : ℕ) (u : Worker) (k : ℕ) : Type 0 where
       pub seat : Activation FrameState
       pub here : slice_get seats k ≡ Some seat
@@ -184,7 +187,7 @@ module _ (code : CodeView) (p : Source) (inputs : List ℤ) where
       pub used : let a = seat.cursor in (q : ℕ) → IsUsed s.stolen (name k) (deeds_at (s.frames (name k))) a.merged q → is_there (name k) q ≡ true
       pub bare : IsBare (length seats) (value_in u.views)
 
-  -- The desk by names is the board's workers.
+  -- The worker table has the scheduler's workers, by names.
   pub record IsWorkerTable (name : ℕ → Name) (b : Scheduler) (d : WorkerTable) : Type 0 where
     pub hands : let l = b.workers in d.hands ≡ map (hand_of name) l.items
     pub offered : let l = b.workers in d.offered ≡ map (offers_of name) l.items
@@ -192,11 +195,12 @@ module _ (code : CodeView) (p : Source) (inputs : List ℤ) where
     pub places : (w q k : ℕ) (u : Worker) → (let l = b.workers in slice_get l.items w ≡ Some u) → (let o = u.offered in slice_get o.items q ≡ Some k) → (x : Activation FrameState) × (let f = b.frames in slice_get f.items k ≡ Some x) × (let a = x.cursor in a.status ≡ Offered w)
     pub once : (w q r k : ℕ) (u : Worker) → (let l = b.workers in slice_get l.items w ≡ Some u) → (let o = u.offered in slice_get o.items q ≡ Some k) → (let o = u.offered in slice_get o.items r ≡ Some k) → q ≡ r
     pub waiting : (k : ℕ) (x : Activation FrameState) → (let f = b.frames in slice_get f.items k ≡ Some x) → ((let a = x.cursor in a.status ≡ Waiting) → IsIn (name k) d.waiting) × (IsIn (name k) d.waiting → let a = x.cursor in a.status ≡ Waiting)
-    -- Each frame that waits is there.
+    -- Each frame that waits exists.
     pub present : (n : Name) → IsIn n d.waiting → (let f = b.frames in IsAbsent f.items name n) → ⊥
 
-  -- What is left to be seen of a board after a stop too: frames with what they did, the joins, the outcome once the first frame has ended, and
-  -- how frames' blocks of cells lie, past the global ones and each past those of earlier frames.
+  -- The part that is shown after a stop too: the frames with their deeds, the joins, and the
+  -- outcome once the first frame has ended. Frames' cells come after the global ones, in the order
+  -- of frames.
   pub record Tells (name : ℕ → Name) (b : Scheduler) (s : State FrameEnv View) : Type 0 where
     pub named : let f = b.frames in AreNamed f.items name
     pub here : (k : ℕ) (x : Activation FrameState) → (let f = b.frames in slice_get f.items k ≡ Some x) → (f : Frame FrameEnv) × (s.frames (name k) ≡ Some f) × (let e = b.journal in let l = b.frames in AreDeeds p l.items name s k f.deeds (events_of k e.items))
@@ -207,36 +211,38 @@ module _ (code : CodeView) (p : Source) (inputs : List ℤ) where
     pub first : (x : Activation FrameState) → (let f = b.frames in slice_get f.items 0 ≡ Some x) → length p.openings ≤ x.base
     pub ascend : (j k : ℕ) (x y : Activation FrameState) → (let f = b.frames in slice_get f.items j ≡ Some x) → (let f = b.frames in slice_get f.items k ≡ Some y) → j < k → x.base + size_of p (s.frames (name j)) ≤ y.base
 
-  -- The board shows this state, by these names.
+  -- The scheduler shows this state, by these names.
   pub record ShowsBy (name : ℕ → Name) (b : Scheduler) (d : WorkerTable) (s : State FrameEnv View) : Type 0 where
     pub tells : Tells name b s
     pub running : s.stopped ≡ None
     pub sits : (k : ℕ) (x : Activation FrameState) → slice_get (seats name b s) k ≡ Some x → Sits name b s k x
-    -- A frame that hasn't begun has nothing: no cell of its has a value, and no piece a view of its reducers.
+    -- A frame that hasn't begun has nothing: its cells hold 0, and no piece has a view of its
+    -- reducers.
     pub unstolen : (n : Name) → IsAbsent (seats name b s) name n → s.stolen n ≡ false
     pub unwritten : (n : Name) (q : ℕ) → IsAbsent (seats name b s) name n → s.memory (Own n q) ≡ pos 0
     pub bare : (n m : Name) (q : ℕ) (kind : MonoidKind) → IsAbsent (seats name b s) name n → (IsAbsent (seats name b s) name m → ⊥) → s.piece m (Reducer n q kind) ≡ unit_of monoid_of (Reducer n q kind)
-    -- The cells, within which frames' blocks lie.
+    -- The cells, with those of all frames among them.
     pub memory : (c : Cell) (n : ℕ) → IsCell p (seats name b s) name s c n → (let l = b.cells in slice_get l.items n ≡ Some (s.memory c))
     pub within : (k : ℕ) (x : Activation FrameState) → slice_get (seats name b s) k ≡ Some x → (let l = b.cells in x.base + size_of p (s.frames (name k)) ≤ length l.items)
     -- The workers.
     pub holds : (w k : ℕ) (u : Worker) → (let l = b.workers in slice_get l.items w ≡ Some u) → u.frame ≡ Some k → Holds name b s w u k
     pub desk : IsWorkerTable name b d
-    -- What is counted.
+    -- The totals.
     pub ticks : s.totals TickTotal ≡ b.ticks
     pub events : let e = b.journal in s.totals EventTotal ≡ length e.items
     pub frames : s.totals FrameTotal ≡ length (seats name b s)
     pub cells : let l = b.cells in s.totals CellTotal ≡ length l.items
     pub few_frames : s.totals FrameTotal ≤ MAX_FRAMES
     pub few_cells : s.totals CellTotal ≤ MAX_CELLS
-    -- No event is of a frame that isn't there.
+    -- No event belongs to a frame that doesn't exist.
     pub eventless : (j : ℕ) → length (seats name b s) ≤ j → let e = b.journal in events_of j e.items ≡ []
 
-  -- The board shows this state of the free machine, and who has what by names.
+  -- The scheduler shows this state of the free machine and this worker table.
   abbrev pub Shows : Scheduler → WorkerTable → State FrameEnv View → Type 0
   Shows b d s = (name : ℕ → Name) × ShowsBy name b d s
 
-  -- A kept frame that goes on comes to its next ask by names, and the ticks that it took are those of that ask.
+  -- The next request of a frame is that of the free machine, by names, and the ticks used are those
+  -- that it counts up to that request.
   abbrev pub AsksAreNamed : Type 0
   AsksAreNamed = (w : FrameEnv) (deeds : List (Deed FrameEnv)) (x x' : FrameState) (c : CursorView) (k : language.Ask) → has_ended deeds ≡ false → x.cursor ≡ Some c → IsDue w deeds x.due c x.took → WentOn code inputs x k x'
       → (next p inputs w deeds ≡ Some (named_ask p w (suc (started deeds)) k)) × (x'.took ≡ taken p inputs w deeds)

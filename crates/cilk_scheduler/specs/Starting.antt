@@ -1,4 +1,4 @@
--- A worker's frame starts another, by a call or a spawn: names and numbers of what the new frame sees.
+-- A call or a spawn by a worker's frame: what the new frame sees, by names and by numbers.
 use Rattle.std.specs.Prelude.{◌≡◌, ◌<◌, ℕ, suc, nat_eq, cond, ℤ, List, [], ◌∷◌, ◌++◌, length, slice_get, Some, None}
 use Rattle.cilk_types.specs.declared.invocation.Invocation.{Invocation}
 use Rattle.cilk_program.specs.SerialRun.{invocation}
@@ -23,13 +23,14 @@ use Rattle.cilk_scheduler.specs.Invoking.{IsChild}
 use Rattle.cilk_scheduler.specs.FrameStates.{changed, counted, started_at}
 use Rattle.cilk_scheduler.specs.Steps.{HasCome}
 
--- the names of frames, where the one at this place has a new one
+-- the names of frames, with a new one at this index
 abbrev pub named_at : (ℕ → Name) → ℕ → Name → ℕ → Name
 named_at name k n j = cond (nat_eq k j) n (name j)
 
 module _ (code : CodeView) (p : Source) (inputs : List ℤ) where
-  -- Worker w's frame, at place k, has come to an invocation. The frame that it starts is the last of the board's then, with its cells behind all
-  -- others; the frame itself is elsewhere. No frame had the new one's name.
+  -- Worker w's frame k has reached a call or a spawn. The frame that it starts is the last then,
+  -- and its cells come after all others. Frame k has another status. No frame had the new one's
+  -- name.
   pub record Starts (name : ℕ → Name) (b b' : Scheduler) (s s' : State FrameEnv View) (w k : ℕ) (how : Invocation) (callee : Callee) : Type 0 where
     pub comes : HasCome code p inputs b w k (asks.Invoke how callee)
     pub frame : Frame FrameEnv
@@ -41,7 +42,8 @@ module _ (code : CodeView) (p : Source) (inputs : List ℤ) where
     pub is_child : let f = b.frames in let c = b.cells in IsChild code (changed (λ _. comes.came) f.items k) k w (length c.items) how callee child
     pub seats_are : let f = b.frames in let g = b'.frames in g.items ≡ changed (λ _. counted (started_at status (length f.items) comes.came)) f.items k ++ child ∷ []
 
-  -- The worker has the new frame then; its parent's event is written down, and no continuation is stolen.
+  -- The worker holds the new frame then, its parent's event is recorded, and no continuation is
+  -- stolen.
   pub record TakesTurn (b b' : Scheduler) (s s' : State FrameEnv View) (w k : ℕ) (how : Invocation) : Type 0 where
     pub worker : Worker
     pub at : let l = b'.workers in slice_get l.items w ≡ Some worker
@@ -49,7 +51,8 @@ module _ (code : CodeView) (p : Source) (inputs : List ℤ) where
     pub stolen : s'.stolen ≡ s.stolen
     pub written : let f = b.frames in let e = b.journal in let l = b'.journal in l.items ≡ e.items ++ (record { frame = k; event = invocation how (suc (length f.items)) }) ∷ []
 
-  -- The new frame sees, by names and by numbers at once, what its callee names, and all of it is there.
+  -- The new frame sees, by names and by numbers at once, what its callee names, and all of it
+  -- exists.
   abbrev pub ChildrenSee : Type 0
   ChildrenSee =
       (name : ℕ → Name) (b b' : Scheduler) (d : WorkerTable) (s s' : State FrameEnv View) (w k : ℕ) (how : Invocation) (callee : Callee) → IsShown code p inputs name b d s → (t : Starts name b b' s s' w k how callee)
@@ -58,7 +61,7 @@ module _ (code : CodeView) (p : Source) (inputs : List ℤ) where
       let n = name k ++ suc (started g.deeds) ∷ [] in
       Seen code p inputs (named_at name (length f.items) n) b' s' t.child (child_world p g.what (suc (started g.deeds)) callee)
 
-  -- The new frame's seat is that of the free machine's frame of that name, which has done nothing.
+  -- The new frame's state is that of the free machine's frame of that name, which has done nothing.
   abbrev pub ChildrenSit : Type 0
   ChildrenSit =
       (name : ℕ → Name) (b b' : Scheduler) (d : WorkerTable) (s s' : State FrameEnv View) (w k : ℕ) (how : Invocation) (callee : Callee) → Behaves p code → IsShown code p inputs name b d s
@@ -68,7 +71,7 @@ module _ (code : CodeView) (p : Source) (inputs : List ℤ) where
       let n = name k ++ suc (started g.deeds) ∷ [] in
       Sits code p inputs (named_at name (length f.items) n) b' s' (length f.items) t.child
 
-  -- Two frames of the board have two names then too.
+  -- Different frames still have different names then.
   abbrev pub NamesStayApart : Type 0
   NamesStayApart =
       (name : ℕ → Name) (b b' : Scheduler) (d : WorkerTable) (s s' : State FrameEnv View) (w k : ℕ) (how : Invocation) (callee : Callee) → IsShown code p inputs name b d s → (t : Starts name b b' s s' w k how callee)

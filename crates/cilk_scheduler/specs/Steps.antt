@@ -1,4 +1,5 @@
--- A worker's frame that has come to an ask makes its event: the board before and after, by numbers.
+-- The event of a worker's frame that has reached its request: the scheduler before and after, by
+-- numbers.
 use Rattle.std.specs.Prelude.{◌≡◌, ◌+◌, ◌-◌, ℕ, suc, ℤ, List, [], ◌∷◌, ◌++◌, length, slice_get, Some, None}
 use Rattle.cilk_types.specs.declared.event.Event as numbered
 use Rattle.cilk_types.specs.declared.event.Event.TheVariants as events
@@ -25,7 +26,8 @@ use Rattle.cilk_scheduler.specs.FrameStates.{changed, counted, stranded}
 use Rattle.cilk_scheduler.specs.Workers.{viewing}
 
 module _ (code : CodeView) (p : Source) (inputs : List ℤ) where
-  -- Worker w has the frame at place k, which has gone on to this ask, and nothing stands in place of its event.
+  -- Worker w holds frame k, which has reached this request, and no fault comes in place of its
+  -- event.
   pub record HasCome (b : Scheduler) (w k : ℕ) (ask : Ask) : Type 0 where
     pub worker : Worker
     pub seat : Activation FrameState
@@ -37,7 +39,8 @@ module _ (code : CodeView) (p : Source) (inputs : List ℤ) where
     pub went : let x = seat.cursor in WentOn code inputs x ask came
     pub accepted : let e = b.journal in let f = b.frames in let c = b.cells in refusal (b.ticks + (came.took - came.counted)) (length e.items) (length f.items) (length c.items) code.layout ask ≡ None
 
-  -- The frame goes on as this seat, its event is written down and its ticks are counted; cells and the worker's views are these then.
+  -- The frame continues in this state, its event is recorded and its ticks are counted. The cells
+  -- and the worker's views are these then.
   pub record Notes (b b' : Scheduler) (w k : ℕ) (came next : FrameState) (event : numbered.Event) (cells : List ℤ) (views : Hypermap) : Type 0 where
     pub frames : let f = b.frames in let g = b'.frames in g.items ≡ changed (λ _. counted next) f.items k
     pub journal : let e = b.journal in let l = b'.journal in l.items ≡ e.items ++ (record { frame = k; event = event }) ∷ []
@@ -47,7 +50,7 @@ module _ (code : CodeView) (p : Source) (inputs : List ℤ) where
     pub outcome : b'.outcome ≡ b.outcome
     pub ticks : b'.ticks ≡ b.ticks + (came.took - came.counted)
 
-  -- what the worker's choice does to a state that the board shows, and that the board shows what comes of it
+  -- what the worker's choice does to a state shown, and that the scheduler shows the result
   abbrev pub IsDone : (ℕ → Name) → Scheduler → WorkerTable → State FrameEnv View → ℕ → Type 0
   IsDone name b' d s w = (s' : State FrameEnv View) × Chooses p inputs s d (Run (suc w)) Did s' d × ShowsBy code p inputs name b' d s'
 
@@ -57,7 +60,7 @@ module _ (code : CodeView) (p : Source) (inputs : List ℤ) where
       (name : ℕ → Name) (b b' : Scheduler) (d : WorkerTable) (s : State FrameEnv View) (w k : ℕ) → LaysOut p code.layout → ShowsBy code p inputs name b d s → DidAsAsked p inputs s → (h : HasCome b w k asks.Begin)
       → (let c = b.cells in let u = h.worker in Notes b b' w k h.came (stranded h.came) (events.Begin (suc k)) c.items u.views) → IsDone name b' d s w
 
-  -- a frame goes on after a child, with the child's views or without a thief's
+  -- a frame resumes after a child, with the child's views, or with its own piece's after a steal
   abbrev pub ResumesAreShown : Type 0
   ResumesAreShown =
       (name : ℕ → Name) (b b' : Scheduler) (d : WorkerTable) (s : State FrameEnv View) (w k : ℕ) → LaysOut p code.layout → ShowsBy code p inputs name b d s → DidAsAsked p inputs s → (h : HasCome b w k asks.Resume)

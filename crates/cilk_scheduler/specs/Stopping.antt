@@ -1,4 +1,4 @@
--- Choices that stop the run, and those that can't be made: the board before and after, by numbers.
+-- Choices that stop the run or are skipped: the scheduler before and after, by numbers.
 use Rattle.std.specs.Prelude.{◌≡◌, ◌+◌, ◌-◌, ◌≤◌, ℕ, suc, nat_eq, false, cond, ℤ, List, length, slice_get, Option, Some, None}
 use Rattle.cilk_types.specs.declared.fault.Fault.{Fault}
 use Rattle.cilk_types.specs.declared.outcome.Outcome.{Outcome}
@@ -27,17 +27,18 @@ use Rattle.cilk_scheduler.specs.Parts.{must_wait}
 use Rattle.cilk_scheduler.specs.FrameStates.{changed}
 use Rattle.cilk_scheduler.specs.Workers.{held_by, is_idle, offers}
 
--- the latest strand of a frame that has begun so many, and the first before its begin
+-- the latest strand of a frame that has begun n strands, and the first if it has begun none
 abbrev pub latest : ℕ → ℕ
 latest begun = cond (nat_eq begun 0) 1 begun
 
--- The frames of the one list stand in the other, each at its place and started by the same frame, with something else beside.
+-- Both lists have the same frames, each at its index and with its parent. Their states may differ.
 pub record StandAsBefore (old new : List (Activation FrameState)) : Type 0 where
   pub as_many : length new ≡ length old
   pub each : (j : ℕ) (a : Activation FrameState) → slice_get new j ≡ Some a → (z : Activation FrameState) × (slice_get old j ≡ Some z) × (a ≡ record z { cursor = a.cursor }) × (let x = a.cursor in let y = z.cursor in (x.parent ≡ y.parent) × (x.ordinal ≡ y.ordinal))
 
 module _ (code : CodeView) (p : Source) (inputs : List ℤ) where
-  -- Worker w has the frame at place k, which has gone on to this ask, and this fault stands in place of its event.
+  -- Worker w holds frame k, which has reached this request, and this fault comes in place of its
+  -- event.
   pub record IsRefused (b : Scheduler) (w k : ℕ) (ask : Ask) (fault : Fault) : Type 0 where
     pub worker : Worker
     pub seat : Activation FrameState
@@ -48,28 +49,30 @@ module _ (code : CodeView) (p : Source) (inputs : List ℤ) where
     pub went : let x = seat.cursor in WentOn code inputs x ask came
     pub refused : let e = b.journal in let f = b.frames in let c = b.cells in refusal (b.ticks + (came.took - came.counted)) (length e.items) (length f.items) (length c.items) code.layout ask ≡ Some fault
 
-  -- What a board tells is told as long as its frames stay where they are, no event is made and the run isn't over; so a run that stops there, or
-  -- that was refused memory, shows what it had shown.
+  -- All that a scheduler shows stays as long as frames keep their indices and parents, no event is
+  -- made and the run isn't over. So after a stop, or out of memory, it shows what it had shown.
   abbrev pub TellingsStay : Type 0
   TellingsStay =
       (name : ℕ → Name) (b b' : Scheduler) (s : State FrameEnv View) (stopped : Option Stop) → Tells code p inputs name b s → (let f = b.frames in let g = b'.frames in StandAsBefore f.items g.items) → (let e = b.journal in let l = b'.journal in l.items ≡ e.items) → b'.outcome ≡ b.outcome
       → Tells code p inputs name b' (record s { stopped = stopped })
 
-  -- A fault that is found in place of an event stops the free machine, at the frame's latest strand; and the board tells what it told.
+  -- A fault in place of an event stops the free machine, at the frame's latest strand. The
+  -- scheduler still shows what it had shown.
   abbrev pub StopsAreShown : Type 0
   StopsAreShown =
       (name : ℕ → Name) (b b' : Scheduler) (d : WorkerTable) (s : State FrameEnv View) (w k : ℕ) (ask : Ask) (fault : Fault) → LaysOut p code.layout → ShowsBy code p inputs name b d s → (h : IsRefused b w k ask fault) → (ask ≡ asks.Sync → BlockIsOver s (name k))
       → (let f = b.frames in let g = b'.frames in g.items ≡ changed (λ _. h.came) f.items k) → (let e = b.journal in let l = b'.journal in l.items ≡ e.items) → b'.outcome ≡ b.outcome
       → (s' : State FrameEnv View) × StopsAt p inputs s d (Run (suc w)) s' × (let a = h.seat in let x = a.cursor in s'.stopped ≡ Some (record { frame = name k; strand = latest x.strands; fault = fault })) × Tells code p inputs name b' s'
 
-  -- The block of a frame that has come to its sync is over, where the sync need not wait.
+  -- The block of a frame at its sync is over, if the sync need not wait.
   abbrev pub BlocksAreOver : Type 0
   BlocksAreOver =
       (name : ℕ → Name) (b : Scheduler) (d : WorkerTable) (s : State FrameEnv View) (w k : ℕ) (came : FrameState) → ShowsBy code p inputs name b d s → HaveGoneOn s → (f : HasFrame b w k) → (let a = f.seat in WentOn code inputs a.cursor asks.Sync came) → must_wait came ≡ false
       → BlockIsOver s (name k)
 
-  -- A choice is skipped where its worker has no frame, or is to steal and isn't idle, or no continuation is offered at that place, or the run is
-  -- over; and a frame that a worker has is there, with its cursor.
+  -- A choice is skipped if its worker holds no frame, is to steal and isn't idle, no continuation
+  -- is offered at that index, or the run is over. A frame that a worker holds is in the list, with
+  -- its cursor.
   pub record SkipsAreShown : Type 0 where
     pub nobody : (name : ℕ → Name) (b : Scheduler) (d : WorkerTable) (s : State FrameEnv View) (w : ℕ) → ShowsBy code p inputs name b d s → (let l = b.workers in held_by l.items w ≡ None) → Chooses p inputs s d (Run w) Skipped s d
     pub busy : (name : ℕ → Name) (b : Scheduler) (d : WorkerTable) (s : State FrameEnv View) (w place : ℕ) → ShowsBy code p inputs name b d s → (let l = b.workers in is_idle l.items w ≡ false) → Chooses p inputs s d (Steal w place) Skipped s d

@@ -1,4 +1,4 @@
--- A worker's frame makes a sync: the board before and after, by numbers.
+-- The sync of a worker's frame: the scheduler before and after, by numbers.
 use Rattle.std.specs.Prelude.{◌≡◌, ◌+◌, ℕ, true, false, ℤ, List, None}
 use Rattle.cilk_types.specs.declared.event.Event.TheVariants as events
 use Rattle.cilk_program.specs.declared.ask.Ask.TheVariants as asks
@@ -22,15 +22,15 @@ use Rattle.cilk_scheduler.specs.Histories.{DidAsAsked}
 use Rattle.cilk_scheduler.specs.FrameStates.{synced}
 use Rattle.cilk_scheduler.specs.Steps.{HasCome, IsDone, Notes}
 
--- With which views a frame goes on after its sync, that had these before it: its block had passed already; or no continuation of the block
--- was stolen; or all pieces of the block have arrived once its own arrives.
+-- The views of a frame's worker before and after its sync. The block had passed already, no
+-- continuation of it was stolen, or all its pieces have arrived once the frame's own does.
 pub data PassesWith (x : FrameState) (old new : Hypermap) : Type 0 where
   HadPassed : x.merged ≡ true → new ≡ old → PassesWith x old new
   NothingStolen : x.merged ≡ false → x.join ≡ None → new ≡ old → PassesWith x old new
   AllArrived : x.merged ≡ false → (after : JoinView) → Arrives (block_in x.join) (x.children + 1) true (product old) true after new → PassesWith x old new
 
 module _ (code : CodeView) (p : Source) (inputs : List ℤ) where
-  -- A worker's frame that has come to a sync, and whose block passes, makes it: the sync is a step of the free machine.
+  -- A sync whose block passes is a step of the free machine.
   abbrev pub SyncsAreShown : Type 0
   SyncsAreShown =
       (name : ℕ → Name) (b b' : Scheduler) (d : WorkerTable) (s : State FrameEnv View) (w k : ℕ) → LaysOut p code.layout → ShowsBy code p inputs name b d s → DidAsAsked p inputs s → HaveGoneOn s → (h : HasCome code p inputs b w k asks.Sync)

@@ -1,4 +1,4 @@
--- An idle worker takes a continuation: the board before and after, by numbers.
+-- A steal by an idle worker: the scheduler before and after, by numbers.
 use Rattle.std.specs.Prelude.{◌≡◌, ◌-◌, ℕ, suc, ℤ, List, slice_get, remove, Some, None}
 use Rattle.cilk_types.specs.declared.event.Instance.{Instance}
 use Rattle.cilk_program.specs.Syntax.{Source}
@@ -21,7 +21,8 @@ use Rattle.cilk_scheduler.specs.Events.{AwaitsLast}
 use Rattle.cilk_scheduler.specs.FrameStates.{changed, moved_to, robbed}
 use Rattle.cilk_scheduler.specs.Workers.{altered, holding, offers}
 
--- Worker w is idle. The frame at place k offers the continuation at this place among all, by this worker at this place of his list.
+-- Worker w is idle. The continuation at this index among all is that of frame k, at index `at` of
+-- the victim's list.
 pub record IsOffered (b : Scheduler) (w place k : ℕ) : Type 0 where
   pub thief : Worker
   pub owner : Worker
@@ -36,7 +37,8 @@ pub record IsOffered (b : Scheduler) (w place k : ℕ) : Type 0 where
   pub sits : let f = b.frames in slice_get f.items k ≡ Some seat
   pub was_open : b.outcome ≡ None
 
--- The worker has the frame then, with no views; its last child is marked, and that child's piece is awaited at its block.
+-- The worker holds the frame then, without views. The frame's newest child is marked as stolen
+-- from, and that child's piece is awaited at the block.
 pub record TakesOver (b b' : Scheduler) (w place k : ℕ) (h : IsOffered b w place k) : Type 0 where
   pub awaiting : FrameState
   pub awaits : let a = h.seat in AwaitsLast a.cursor awaiting
@@ -55,7 +57,7 @@ pub record TakesOver (b b' : Scheduler) (w place k : ℕ) (h : IsOffered b w pla
   pub outcome : b'.outcome ≡ b.outcome
 
 module _ (code : CodeView) (p : Source) (inputs : List ℤ) where
-  -- A thief's choice is a step of the free machine from a state that the board shows, and the board shows what comes of it.
+  -- A steal is a step of the free machine from the state shown, and the scheduler shows the result.
   abbrev pub StealsAreShown : Type 0
   StealsAreShown =
       (name : ℕ → Name) (b b' : Scheduler) (d : WorkerTable) (s : State FrameEnv View) (w place k : ℕ) → ShowsBy code p inputs name b d s → (h : IsOffered b w place k) → TakesOver b b' w place k h

@@ -1,4 +1,5 @@
--- An event of a worker's frame that starts and ends no frame: it leaves the frame's block as it is, or it is a sync, which begins another.
+-- An event that starts and ends no frame: it keeps the frame's block, or it is a sync, which begins
+-- another.
 use Rattle.std.specs.Prelude.{◌≡◌, ◌+◌, ℕ, Bool, true, false, cond, ℤ, List, [], ◌∷◌, ◌++◌, length, slice_get, Some, None}
 use Rattle.cilk_types.specs.declared.event.Instance as numbered
 use Rattle.cilk_monoid.specs.declared.kind.MonoidKind.{MonoidKind}
@@ -29,7 +30,7 @@ use Rattle.cilk_scheduler.specs.Numbered.{IsAbsent, IsCell, IsInstance, IsDeed}
 use Rattle.cilk_scheduler.specs.FrameStates.{changed}
 use Rattle.cilk_scheduler.specs.Workers.{viewing}
 
--- the event is no sync and no end
+-- the event is neither a sync nor an end
 abbrev pub IsPlain : Event → Type 0
 IsPlain (Reads c v) = Unit {0}
 IsPlain (Writes c v) = Unit {0}
@@ -37,28 +38,30 @@ IsPlain Syncs = ⊥
 IsPlain (Ends v gone) = ⊥
 IsPlain (Passes m) = Unit {0}
 
--- an event that leaves the frame's block as it is, or a sync
+-- an event that keeps the frame's block, or a sync
 abbrev pub IsInBlock : Bool → Event → Type 0
 IsInBlock true e = IsPlain e
 IsInBlock false e = e ≡ Syncs
 
--- the children that enter the joins with it
+-- the children that are joined by it
 abbrev pub joined_with : Bool → Name → List (Deed FrameEnv) → List Name
 joined_with true n deeds = []
 joined_with false n deeds = joined_by {W = FrameEnv} Sync n deeds
 
--- the frame has begun so many strands, took so many ticks, which are counted, and goes on with this answer, in the same block or in another
+-- The frame has begun this number of strands, and all ticks that it used are counted. It continues
+-- with this answer, in the same block or in another.
 abbrev pub touched : Bool → ℕ → ℕ → CursorView → Answer → FrameState → FrameState
 touched same begun took c a x = record x { strands = begun; took = took; counted = took; due = due.Answer a; cursor = Some c; join = cond same x.join None; merged = cond same x.merged false }
 
 module _ (code : CodeView) (p : Source) (inputs : List ℤ) where
   module _ (name : ℕ → Name) (b b' : Scheduler) (s s' : State FrameEnv View) where
-    -- Worker w's frame, at place k, makes this event: what it leaves of the state and of the board.
+    -- Worker w's frame k makes this event: the state and the scheduler before and after.
     pub record Touches (w k : ℕ) (e : Event) (entry : JournalEntry) : Type 0 where
       pub worker : Worker
       pub seat : Activation FrameState
       pub frame : Frame FrameEnv
-      -- The worker has the frame, which goes on; its block hasn't passed, unless it begins another.
+      -- The worker holds the frame, which continues. Its block hasn't passed, unless it begins
+      -- another.
       pub at : let l = b.workers in slice_get l.items w ≡ Some worker
       pub has : worker.frame ≡ Some k
       pub sits : let f = b.frames in slice_get f.items k ≡ Some seat
@@ -67,7 +70,8 @@ module _ (code : CodeView) (p : Source) (inputs : List ℤ) where
       pub unmerged : same_block ≡ true → let x = seat.cursor in x.merged ≡ false
       pub goes : has_ended frame.deeds ≡ false
       pub is_plain : IsInBlock same_block e
-      -- The frame has one more deed; flags stay, and so does each other frame's piece; a sync's children enter the joins.
+      -- The frame has one more deed. Flags and the pieces of other frames stay, and a sync joins
+      -- children.
       pub frames : s'.frames ≡ after_deed s.frames (name k) frame (Does e)
       pub stolen : s'.stolen ≡ s.stolen
       pub joins : s'.joins ≡ joined_with same_block (name k) frame.deeds ++ s.joins
@@ -82,11 +86,11 @@ module _ (code : CodeView) (p : Source) (inputs : List ℤ) where
       pub told : IsTold code p inputs frame.what (frame.deeds ++ Does e ∷ []) cursor answer took
       pub took_is : took ≡ taken p inputs frame.what frame.deeds
       pub strands_are : strands (frame.deeds ++ Does e ∷ []) ≡ begun
-      -- The event is written down.
+      -- The event is recorded.
       pub written : let l = b'.journal in let j = b.journal in l.items ≡ j.items ++ entry ∷ []
       pub by_frame : entry.frame ≡ k
       pub means : let f = b.frames in IsDeed p f.items name s k (Does e) entry.event
-      -- The cells are the state's.
+      -- The cells are those of the state.
       pub cells : let l = b'.cells in let m = b.cells in length l.items ≡ length m.items
       pub memory : let f = b.frames in (c : Cell) (n : ℕ) → IsCell p f.items name s c n → let l = b'.cells in slice_get l.items n ≡ Some (s'.memory c)
       pub unwritten : let f = b.frames in (n : Name) (q : ℕ) → IsAbsent f.items name n → s'.memory (Own n q) ≡ s.memory (Own n q)
@@ -99,13 +103,14 @@ module _ (code : CodeView) (p : Source) (inputs : List ℤ) where
       pub offered : b'.offered ≡ b.offered
       pub was_open : b.outcome ≡ None
       pub is_open : b'.outcome ≡ None
-      -- What is counted.
+      -- The totals.
       pub ticks : s'.totals TickTotal ≡ b'.ticks
       pub events : s'.totals EventTotal ≡ s.totals EventTotal + 1
       pub frame_total : s'.totals FrameTotal ≡ s.totals FrameTotal
       pub cell_total : s'.totals CellTotal ≡ s.totals CellTotal
 
-  -- A board that shows a state shows the next one after such an event, by the same names and with the same desk.
+  -- A scheduler that shows a state shows the next one after such an event, by the same names and
+  -- with the same worker table.
   abbrev pub TouchesAreShown : Type 0
   TouchesAreShown =
       (name : ℕ → Name) (b b' : Scheduler) (d : WorkerTable) (s s' : State FrameEnv View) (w k : ℕ) (e : Event) (entry : JournalEntry) → ShowsBy code p inputs name b d s → Touches name b b' s s' w k e entry → ShowsBy code p inputs name b' d s'

@@ -1,4 +1,4 @@
--- A worker's frame waits at its sync: the board before and after, by numbers.
+-- A worker's frame waits at its sync: the scheduler before and after, by numbers.
 use Rattle.std.specs.Prelude.{◌≡◌, ◌+◌, ℕ, suc, true, false, ℤ, List, slice_get, Some, None}
 use Rattle.cilk_program.specs.declared.ask.Ask.TheVariants as asks
 use Rattle.cilk_program.specs.Syntax.{Source}
@@ -26,8 +26,8 @@ abbrev pub idling : Hypermap → Worker → Worker
 idling views u = record u { frame = None; views = views }
 
 module _ (code : CodeView) (p : Source) (inputs : List ℤ) where
-  -- Worker w has the frame at place k, which has come to a sync. Its views arrive at the block as its own piece, and the block doesn't pass:
-  -- the frame waits, and the worker is idle.
+  -- Worker w holds frame k, which has reached a sync. Its views arrive at the block as its own
+  -- piece, and the block doesn't pass. The frame waits, and the worker is idle.
   pub record StaysBehind (b b' : Scheduler) (w k : ℕ) : Type 0 where
     pub worker : Worker
     pub seat : Activation FrameState
@@ -50,8 +50,8 @@ module _ (code : CodeView) (p : Source) (inputs : List ℤ) where
     pub ticks : b'.ticks ≡ b.ticks
     pub outcome : b'.outcome ≡ b.outcome
 
-  -- A choice by which a frame waits makes no event: the board shows the same state, in which the worker is idle and the frame waits. The frame's last
-  -- event started no child.
+  -- A wait makes no event: the scheduler shows the same state, in which the worker is idle and the
+  -- frame waits. The frame's last event started no child.
   abbrev pub WaitsAreShown : Type 0
   WaitsAreShown =
       (name : ℕ → Name) (b b' : Scheduler) (d : WorkerTable) (s : State FrameEnv View) (w k : ℕ) → ShowsBy code p inputs name b d s → is_resuming (deeds_at (s.frames (name k))) ≡ false → StaysBehind b b' w k

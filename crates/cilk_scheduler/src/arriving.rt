@@ -1,4 +1,4 @@
-//! Pieces that arrive at a block.
+//! Arrivals of pieces at a sync block.
 
 ghost use Rattle.std.specs.Prelude.{◌≡◌, IfOk, OnErr};
 ghost use Rattle.cilk_join.specs.Joins.{MayArrive};
@@ -11,8 +11,9 @@ use cilk_join::join::{Arrival, Join};
 use std::alloc::{AllocError, Global};
 use std::mem;
 
-/// These views arrive with this key. Whether the block passes: then they are the whole block's, and else there are none left.
-/// Where memory is refused, they are lost, and the block is as it was.
+/// Hands views in at a block, as the piece with this key. Returns whether the block passes: then
+/// `views` are those of the whole block, else none are left in it. If out of memory, the views are
+/// lost and the block is unchanged.
 pub fn arrive(
     alloc: Global,
     join: &mut Join,

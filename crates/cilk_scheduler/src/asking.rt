@@ -1,4 +1,4 @@
-//! How a frame comes to what it asks for next, and what stands in its place.
+//! The next event of a frame, and the fault in its place.
 
 ghost use Rattle.std.specs.Prelude.{◌≡◌, ◌+◌, ◌<◌, ◌^◌, IfSome, None, Option, Some, length, slice_get};
 ghost use Rattle.cilk_frames.specs.declared.activation.Activation.{Activation};
@@ -19,8 +19,8 @@ use cilk_types::fault::Fault;
 use cilk_types::input::Input;
 use cilk_types::limits::{MAX_CELLS, MAX_EVENTS, MAX_FRAMES, MAX_TICKS};
 
-/// The frame at a place goes on to what it asks for next. It takes ticks as if it had all those of a run but those that it took
-/// itself.
+/// Runs a frame to its next event, which is left in `asked`. The frame's own limit of ticks is the
+/// whole run's; [`refusal`] checks the ticks of all frames together.
 pub fn go_on(
     code: &Code,
     input: &Input,
@@ -35,7 +35,7 @@ pub fn go_on(
     advance(code, input, &mut frames[frame].cursor, asked);
 }
 
-// The same of what is kept of a frame.
+// `go_on` for the state of one frame.
 fn advance(code: &Code, input: &Input, seat: &mut FrameState, asked: &mut AskSlot)
     requires { IsReady code.now input.now seat.old }
     ensures { WentOn code.now input.now seat.old asked.new seat.new }
@@ -54,7 +54,7 @@ fn advance(code: &Code, input: &Input, seat: &mut FrameState, asked: &mut AskSlo
     }
 }
 
-/// How many cells the frame has that is asked for, if one is.
+/// Returns the number of cells of the frame that the request starts, or `None` if it starts none.
 pub fn cells_asked(layout: &Layout, asked: &AskSlot) -> Option<u32>
     ensures { result ≡ cells_asked layout.now asked.now }
 {
@@ -65,8 +65,10 @@ pub fn cells_asked(layout: &Layout, asked: &AskSlot) -> Option<u32>
     }
 }
 
-/// The fault that stands in place of what is asked for, where so many ticks would be counted, and so many events, frames and
-/// cells are: too many ticks before the frame's own fault, before too many events, frames, cells.
+/// Returns the fault in place of the requested event, if there is one. `ticks` includes the frame's
+/// uncounted ones; the other numbers are those before the request. The first that applies is
+/// returned: too many ticks (as [`Fault::TooManyEvents`]), the frame's own fault, too many events,
+/// too many frames, too many cells.
 pub fn refusal(
     ticks: u32,
     events: usize,
@@ -103,7 +105,7 @@ fn own_fault(asked: &AskSlot) -> Option<Fault>
     }
 }
 
-// One more frame, with so many cells, is one too many, or its cells are.
+// Whether one more frame with these cells exceeds the limit of frames or of cells.
 fn crowded(frames: usize, cells: usize, child: Option<u32>) -> Option<Fault>
     requires frames { frames < 2 ^ 63 }
     requires cells { cells < 2 ^ 63 }

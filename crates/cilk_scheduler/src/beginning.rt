@@ -1,4 +1,4 @@
-//! A frame that another starts begins.
+//! The start of a child frame.
 
 ghost use Rattle.std.specs.Prelude.{◌≡◌, ◌+◌, ◌<◌, ◌^◌, ◌++◌, suc, pos, Some, length, replicate, slice_get, IfOk, OnErr, OnOk, ℤ, List};
 ghost use Rattle.cilk_program.specs.SerialRun.{invocation};
@@ -16,7 +16,7 @@ use cilk_types::event::Event;
 use cilk_types::invocation::Invocation;
 use std::alloc::AllocError;
 
-/// So many cells more, which hold 0.
+/// Adds `count` cells that hold 0.
 pub fn add_cells(cells: &mut Vec<i64>, count: u32) -> Result<(), AllocError>
     ensures { OnOk result (cells.new.items ≡ cells.old.items ++ replicate count (pos 0)) }
 {
@@ -26,7 +26,7 @@ pub fn add_cells(cells: &mut Vec<i64>, count: u32) -> Result<(), AllocError>
     Ok(())
 }
 
-/// The worker offers the continuation of a frame that starts a child, its newest, where that is a spawn.
+/// Offers the continuation of a frame that spawns, as the worker's newest. A call offers nothing.
 pub fn offer(own: &mut Worker, how: Invocation, frame: u32, child: u32) -> Result<(), AllocError>
     ensures offers { OnOk result (own.new.offered.items ≡ offering how frame own.old.offered.items) }
     ensures frame { own.new.frame ≡ own.old.frame }
@@ -41,9 +41,9 @@ pub fn offer(own: &mut Worker, how: Invocation, frame: u32, child: u32) -> Resul
     }
 }
 
-/// The frame begins that the one at the place of the list has started, with so many cells: the worker goes on with it, and the starter
-/// waits for it or offers its continuation. The event, which is still to be written down. Where memory is refused, frames, journal,
-/// ticks, outcome and stop are as they were.
+/// Starts a child frame with `count` new cells: the worker continues with it, and the parent waits
+/// for it or is offered. Returns the event, which isn't recorded yet. If out of memory, frames,
+/// journal, ticks, outcome and stop are unchanged; cells and offers may not be.
 pub fn begin(
     board: &mut Scheduler,
     worker: u32,
@@ -88,8 +88,9 @@ pub fn begin(
     }
 }
 
-/// A worker's frame that has gone on to an invocation, where the other was made and begun, and where the event was written down and its ticks
-/// were counted, has started the other as the law of invocations wants it.
+/// A worker's frame whose request is a call or a spawn starts its child as the law of invocations
+/// requires. The premises are the steps of the code: the child is made and begun, the event is
+/// recorded and its ticks are counted.
 pub fn invocations_are_noted()
     ensures { (code : CodeView) (p : Source) (inputs : List ℤ) → InvocationsAreNoted code p inputs }
 {}

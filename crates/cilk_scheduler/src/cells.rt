@@ -1,4 +1,4 @@
-//! Events that touch cells.
+//! Events on cells.
 
 ghost use Rattle.std.specs.Prelude.{◌≡◌, ◌<◌, ◌^◌, ℕ, ℤ, Some, length, slice_get, slice_set};
 ghost use Rattle.cilk_types.specs.declared.event.Event.TheVariants as events;
@@ -17,7 +17,7 @@ use cilk_frames::places::cell;
 use cilk_program::syntax::Place;
 use cilk_types::event::{Cell, Event};
 
-/// The cell that a place means to the frame at a place of the list.
+/// Returns the number of the cell that a place means to a frame.
 pub fn cell_at(frames: &[Activation<FrameState>], frame: usize, place: Place) -> Cell
     requires here { frame < length frames.now }
     requires sees { (scope : Scope ℕ Instance) × SeesAt frames.now frame scope × (cell_in itself scope place < 2 ^ 32) }
@@ -26,7 +26,7 @@ pub fn cell_at(frames: &[Activation<FrameState>], frame: usize, place: Place) ->
     cell(frames, &frames[frame], place)
 }
 
-/// The frame at a place reads a cell.
+/// Reads a cell for a frame, whose answer is the value.
 pub fn read(
     frames: &mut Vec<Activation<FrameState>>,
     cells: &[i64],
@@ -42,7 +42,7 @@ pub fn read(
     Event::Read { cell, value }
 }
 
-/// The frame at a place writes a cell.
+/// Writes a cell for a frame.
 pub fn write(
     frames: &mut Vec<Activation<FrameState>>,
     cells: &mut Vec<i64>,
@@ -61,7 +61,6 @@ pub fn write(
     Event::Write { cell, value }
 }
 
-// The value of a cell.
 fn value_at(cells: &[i64], cell: Cell) -> i64
     requires { cell < length cells.now }
     ensures { slice_get cells.now cell ≡ Some result }

@@ -1,4 +1,4 @@
-//! What a worker may be told to do, and what comes of it.
+//! Choices, and what comes of them.
 
 ghost use Rattle.std.specs.Prelude.{◌≡◌};
 ghost use Rattle.cilk_scheduler.specs.declared.choice.Stop.TheVariants.{Memory};
@@ -7,49 +7,51 @@ use cilk_types::event::{Event, FrameNo};
 use cilk_types::fault::Fault;
 use std::alloc::{AllocError, AllocFailed};
 
-/// What a worker is to do. Workers count from 1.
+/// A scheduling choice. Workers count from 1.
 #[derive(Clone, Copy, PartialEq, Eq, Debug)]
 pub enum Choice {
-    /// It goes on with the frame that it holds.
+    /// The worker continues with the frame that it holds.
     Run(u32),
-    /// It takes a continuation: the one at this place, from 0, among all that are offered, by worker, each worker's oldest
-    /// first.
+    /// The idle worker steals the continuation at this index, from 0, among all that are offered:
+    /// worker by worker, each worker's oldest first.
     Steal(u32, usize),
 }
 
-/// An event of a frame, by the machine's own numbers: frames count from 1 as this run begins them.
+/// An event of a frame. Frames are numbered from 1 as this run begins them, so the number depends
+/// on the schedule.
 #[derive(Clone, Copy, PartialEq, Eq, Debug)]
 pub struct Act {
     pub frame: FrameNo,
     pub event: Event,
 }
 
-/// What comes of a choice.
+/// The result of a choice.
 #[derive(Clone, Copy, PartialEq, Eq, Debug)]
 pub enum Told {
     /// The worker's frame made its next event.
     Did(Act),
-    /// The worker took the continuation.
+    /// The worker stole the continuation.
     Stole,
-    /// The frame came to a sync whose block isn't complete, and the worker is idle. No event was made.
+    /// The frame came to a sync whose block isn't complete, and its worker is idle. No event was
+    /// made.
     Waits,
     /// The choice can't be made, and nothing changed.
     Skipped,
 }
 
-/// A strand, by the machine's own number of its frame, and its place among the frame's strands, from 1.
+/// A strand, by its frame's number in this run and its own place among the frame's strands, from 1.
 #[derive(Clone, Copy, PartialEq, Eq, Debug)]
 pub struct Strand {
     pub frame: FrameNo,
     pub number: u32,
 }
 
-/// Why a run stopped for good.
+/// The reason why a run stopped for good.
 #[derive(Clone, Copy, PartialEq, Eq, Debug)]
 pub enum Stop {
-    /// Memory was refused.
+    /// Out of memory.
     Memory,
-    /// A fault stands in place of the strand's next event.
+    /// A fault in place of the strand's next event.
     At { fault: Fault, strand: Strand },
 }
 

@@ -1,4 +1,4 @@
-//! A frame that ends.
+//! The end of a frame.
 
 ghost use Rattle.std.specs.Prelude.{◌≡◌, ◌<◌, ◌≤◌, ℕ, false, Some, length, IfOk};
 ghost use Rattle.cilk_join.specs.Joins.{MayArrive};
@@ -16,7 +16,7 @@ use cilk_hypermap::hypermap::Hypermap;
 use cilk_lower::layout::Layout;
 use std::alloc::{AllocError, Global};
 
-/// The views lose the reducers that a frame made for itself.
+/// Removes the views of the reducers that a frame created for itself.
 pub fn retire_own(layout: &Layout, top: &Activation<FrameState>, views: &mut Hypermap)
     requires low { top.now.first < 65536 }
     requires few { length (created_by layout.now top.now.creator) ≤ 64 }
@@ -27,7 +27,8 @@ pub fn retire_own(layout: &Layout, top: &Activation<FrameState>, views: &mut Hyp
     retire(views, top.number, top.first, kinds);
 }
 
-/// The continuation of the frame at a place, which is where its status says, is no longer offered. How many are offered then.
+/// Withdraws the continuation of a frame from the worker that offers it, if one does. Returns the
+/// number of continuations that are offered then.
 pub fn take_back(
     workers: &mut Vec<Worker>,
     frames: &[Activation<FrameState>],
@@ -50,8 +51,8 @@ pub fn take_back(
     }
 }
 
-/// These views arrive with this key at the block of a frame, where its piece may come. Whether the block passes: then they are the whole
-/// block's. Where memory is refused, they are lost.
+/// Hands a child's views in at its parent's block. Returns whether the block passes: then `views`
+/// are those of the whole block. If out of memory, the views are lost.
 pub fn bring(
     alloc: Global,
     seat: &mut FrameState,

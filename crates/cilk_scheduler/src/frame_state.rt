@@ -1,4 +1,4 @@
-//! What is kept of a frame, of a worker, and of an event.
+//! The state of frames and workers, and the entries of the journal.
 
 ghost use Rattle.std.specs.Prelude.{◌≡◌};
 ghost use Rattle.cilk_scheduler.specs.FrameStates.{seated};
@@ -10,37 +10,42 @@ use cilk_join::join::Join;
 use cilk_types::event::Event;
 use cilk_types::invocation::Invocation;
 
-/// Where a frame is. Workers count from 0 here.
+/// The place of a frame in the schedule. Workers count from 0 here.
 #[derive(Clone, Copy)]
 pub enum Status {
-    /// A worker has it.
+    /// A worker holds it.
     Held(u32),
     /// It waits for the child that it called last.
     Calling,
-    /// Its continuation stands in a worker's list, while the child that it spawned last runs.
+    /// A worker offers its continuation, while the child that it spawned last runs.
     Offered(u32),
-    /// Its own piece has arrived at its sync, and a stolen child is still to come.
+    /// It waits at its sync: its own piece has arrived, and a stolen child's is awaited.
     Waiting,
-    /// It has ended.
     Finished,
 }
 
-/// What a frame goes on with.
+/// The point from which a frame continues.
 #[derive(Clone, Copy)]
 pub enum Due {
     /// Its begin.
     Begin,
     /// The answer to its last event.
     Answer(Answer),
-    /// A sync that it has asked for.
+    /// A sync that it has requested.
     Sync,
 }
 
-/// What is kept of a frame beside where its cells and reducers lie: the place of the frame that started it, its ordinal there
-/// and how; where it is; whether the continuation beside it was stolen; whether its block has passed, so that its holder has the
-/// block's views; how many frames it has started, and the place of the last; how many strands it has begun; the ticks that it
-/// took, and how many of them are counted; what it goes on with; its cursor until it has ended; and what lies at its block, once
-/// a continuation of that was stolen.
+/// The state of a frame, apart from where its cells and reducers are.
+///
+/// - `parent`, `ordinal`, `how`: the index of its parent, its number among the parent's children
+///   from 1 (0 for the first frame), and whether it was called or spawned;
+/// - `stolen`: whether the continuation beside it was stolen;
+/// - `merged`: whether its block has passed, so that its worker has the block's views;
+/// - `children`, `last`: the number of frames that it has started, and the index of the newest;
+/// - `strands`: the number of strands that it has begun;
+/// - `took`, `counted`: the ticks that it has used, and those that the run has counted;
+/// - `due`, `cursor`: where it continues, and its cursor until it has ended;
+/// - `join`: the join of its block, once a continuation of that block was stolen.
 #[derive(Drop)]
 pub struct FrameState {
     pub parent: u32,
@@ -60,7 +65,7 @@ pub struct FrameState {
 }
 
 impl FrameState {
-    /// A frame that begins, held by a worker.
+    /// Returns a frame before its begin, held by a worker.
     pub fn new(
         parent: u32,
         ordinal: u32,
@@ -89,8 +94,8 @@ impl FrameState {
     }
 }
 
-/// A worker: the place of the frame that it holds, the views that it holds, and the places of the frames whose continuations
-/// it offers, oldest first.
+/// A worker: the index of the frame that it holds, its reducer views, and the frames whose
+/// continuations it offers.
 #[derive(Drop)]
 pub struct Worker {
     pub frame: Option<u32>,
@@ -98,7 +103,7 @@ pub struct Worker {
     pub offered: Offers,
 }
 
-/// An event, and the place of the frame that made it.
+/// An event, and the index of the frame that made it.
 #[derive(Clone, Copy)]
 pub struct JournalEntry {
     pub frame: u32,

@@ -1,4 +1,4 @@
-//! Changes of a frame that is kept in a list.
+//! Changes of one frame's state in a list of frames.
 
 ghost use Rattle.std.specs.Prelude.{◌≡◌, ◌+◌, ◌<◌, ◌^◌, Some, length, slice_get};
 ghost use Rattle.cilk_frames.specs.declared.activation.Activation.{Activation};
@@ -9,7 +9,7 @@ use crate::frame_state::{Due, FrameState, Status};
 use cilk_frames::activation::Activation;
 use cilk_frames::cursor::Answer;
 
-/// The frame goes on with this answer.
+/// Sets the answer from which the frame continues.
 pub fn answer(frames: &mut Vec<Activation<FrameState>>, frame: usize, answer: Answer)
     requires { frame < length frames.old.items }
     ensures { frames.new.items ≡ changed (answered answer) frames.old.items frame }
@@ -17,7 +17,7 @@ pub fn answer(frames: &mut Vec<Activation<FrameState>>, frame: usize, answer: An
     frames[frame].cursor.due = Due::Answer(answer);
 }
 
-/// The frame begins another strand, and goes on without a value.
+/// Begins another strand of the frame, which continues without a value.
 pub fn begin_strand(frames: &mut Vec<Activation<FrameState>>, frame: usize)
     requires here { frame < length frames.old.items }
     requires few { (a : Activation FrameState) → slice_get frames.old.items frame ≡ Some a → a.cursor.strands < 2 ^ 31 }
@@ -28,7 +28,7 @@ pub fn begin_strand(frames: &mut Vec<Activation<FrameState>>, frame: usize)
     seat.due = Due::Answer(Answer::Done);
 }
 
-/// The frame's block is complete, and it begins another, with another strand.
+/// Begins another block of the frame, and a strand with it.
 pub fn begin_block(frames: &mut Vec<Activation<FrameState>>, frame: usize)
     requires here { frame < length frames.old.items }
     requires few { (a : Activation FrameState) → slice_get frames.old.items frame ≡ Some a → a.cursor.strands < 2 ^ 31 }
@@ -40,7 +40,7 @@ pub fn begin_block(frames: &mut Vec<Activation<FrameState>>, frame: usize)
     begin_strand(frames, frame);
 }
 
-/// The frame is somewhere else.
+/// Moves the frame to another status.
 pub fn move_to(frames: &mut Vec<Activation<FrameState>>, frame: usize, status: Status)
     requires { frame < length frames.old.items }
     ensures { frames.new.items ≡ changed (moved_to status) frames.old.items frame }
@@ -48,7 +48,7 @@ pub fn move_to(frames: &mut Vec<Activation<FrameState>>, frame: usize, status: S
     frames[frame].cursor.status = status;
 }
 
-/// The frame's block has passed.
+/// Marks the frame's block as passed.
 pub fn pass(frames: &mut Vec<Activation<FrameState>>, frame: usize)
     requires { frame < length frames.old.items }
     ensures { frames.new.items ≡ changed passed frames.old.items frame }
@@ -56,7 +56,7 @@ pub fn pass(frames: &mut Vec<Activation<FrameState>>, frame: usize)
     frames[frame].cursor.merged = true;
 }
 
-/// The frame waits at its sync.
+/// Lets the frame wait at its sync.
 pub fn wait(frames: &mut Vec<Activation<FrameState>>, frame: usize)
     requires { frame < length frames.old.items }
     ensures { frames.new.items ≡ changed waiting frames.old.items frame }
@@ -66,7 +66,7 @@ pub fn wait(frames: &mut Vec<Activation<FrameState>>, frame: usize)
     seat.due = Due::Sync;
 }
 
-/// The frame has ended, and its cursor goes.
+/// Marks the frame as ended and drops its cursor.
 pub fn finish(frames: &mut Vec<Activation<FrameState>>, frame: usize)
     requires { frame < length frames.old.items }
     ensures { frames.new.items ≡ changed finished frames.old.items frame }
@@ -76,7 +76,7 @@ pub fn finish(frames: &mut Vec<Activation<FrameState>>, frame: usize)
     seat.cursor = None;
 }
 
-/// The continuation beside the frame was stolen.
+/// Marks the continuation beside the frame as stolen.
 pub fn rob(frames: &mut Vec<Activation<FrameState>>, frame: usize)
     requires { frame < length frames.old.items }
     ensures { frames.new.items ≡ changed robbed frames.old.items frame }
@@ -84,7 +84,7 @@ pub fn rob(frames: &mut Vec<Activation<FrameState>>, frame: usize)
     frames[frame].cursor.stolen = true;
 }
 
-/// The frame has started the one at this place, and is somewhere else.
+/// Counts the child at `place` as the frame's newest, and moves the frame to another status.
 pub fn start(frames: &mut Vec<Activation<FrameState>>, frame: usize, place: u32, status: Status)
     requires here { frame < length frames.old.items }
     requires few { (a : Activation FrameState) → slice_get frames.old.items frame ≡ Some a → a.cursor.children < 2 ^ 31 }
@@ -97,7 +97,7 @@ pub fn start(frames: &mut Vec<Activation<FrameState>>, frame: usize, place: u32,
     seat.status = status;
 }
 
-/// The frame's ticks are counted.
+/// Marks all ticks of the frame as counted.
 pub fn count(frames: &mut Vec<Activation<FrameState>>, frame: usize)
     requires { frame < length frames.old.items }
     ensures { frames.new.items ≡ changed counted frames.old.items frame }

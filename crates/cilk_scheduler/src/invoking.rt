@@ -1,4 +1,4 @@
-//! Frames that others start.
+//! Child frames before they begin.
 
 ghost use Rattle.std.specs.Prelude.{◌≡◌, ◌<◌, ◌^◌, ◌≤◌, ℕ, Some, length, slice_get, IfOk};
 ghost use Rattle.cilk_types.specs.declared.event.Instance.{Instance};
@@ -20,7 +20,8 @@ use cilk_types::event::Cell;
 use cilk_types::invocation::Invocation;
 use std::alloc::{AllocError, Global};
 
-/// Who starts a frame: the place of the frame that does, and the worker that has it; and where the new frame's cells begin.
+/// The start of a frame: the index of its parent, the worker that holds the parent, and the number
+/// of the new frame's first cell.
 #[derive(Clone, Copy)]
 pub struct Starter {
     pub frame: u32,
@@ -28,7 +29,7 @@ pub struct Starter {
     pub base: Cell,
 }
 
-/// The frame of a function.
+/// Returns the frame of a called or spawned function. It isn't in the list of frames yet.
 pub fn function_child(
     alloc: Global,
     code: &Code,
@@ -53,7 +54,7 @@ pub fn function_child(
     Ok(child)
 }
 
-/// The frame of some turns of a loop.
+/// Returns the frame of some turns of a loop. It isn't in the list of frames yet.
 pub fn turns_child(
     alloc: Global,
     code: &Code,

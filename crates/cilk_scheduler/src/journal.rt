@@ -1,4 +1,4 @@
-//! Events that are written down.
+//! The journal: the events of the run so far.
 
 ghost use Rattle.std.specs.Prelude.{◌≡◌, ◌+◌, ◌-◌, ◌<◌, ◌≤◌, ◌^◌, ◌∷◌, ◌++◌, [], Some, length, slice_get};
 ghost use Rattle.std.specs.Vec.{vec_capacity, vec_len};
@@ -11,8 +11,8 @@ use crate::frame_states::count;
 use cilk_frames::activation::Activation;
 use cilk_types::event::Event;
 
-/// An event of the frame at a place is written down, into room that was made, and the frame's ticks are counted. How many are
-/// counted then.
+/// Records an event of a frame and counts the frame's ticks. Returns the ticks of the run then. The
+/// journal must have room, so this can't fail.
 pub fn note(
     frames: &mut Vec<Activation<FrameState>>,
     journal: &mut Vec<JournalEntry>,
@@ -34,7 +34,7 @@ pub fn note(
     ticks
 }
 
-/// The ticks of the frame at a place that aren't counted yet.
+/// Returns the ticks of a frame that aren't counted yet.
 pub fn uncounted(frames: &[Activation<FrameState>], frame: usize) -> u32
     requires here { frame < length frames.now }
     requires more { (a : Activation FrameState) → slice_get frames.now frame ≡ Some a → a.cursor.counted ≤ a.cursor.took }

@@ -1,4 +1,4 @@
-//! Laws of what a board keeps. Each is a function that does nothing: its contract is the law.
+//! Laws of the scheduler's state. Each law is the contract of an empty function.
 
 ghost use Rattle.std.specs.Prelude.{ℤ, List};
 ghost use Rattle.cilk_lower.specs.Code.{CodeView};
@@ -12,8 +12,9 @@ ghost use Rattle.cilk_scheduler.specs.Steps.{BeginsAreShown, ResumesAreShown};
 ghost use Rattle.cilk_scheduler.specs.Touching.{TouchesAreShown};
 ghost use Rattle.cilk_scheduler.specs.Blocks.{BlockPasses, ChildrenLay, OwnLays, StealsLay};
 
-/// What a join keeps of a block's pieces goes on to be theirs: after a steal, after a stolen child's arrival, and after that of
-/// the frame's own piece. Once nothing is awaited, the one run that is left is what the free machine multiplies at the sync.
+/// A join keeps the right products of a block's pieces: after a steal, after a stolen child's
+/// arrival, and after that of the frame's own piece. Once nothing is awaited, the one product that
+/// is left is that of the free machine at the sync.
 pub fn pieces_lie_at_blocks()
     ensures steal { (kind : MonoidKind) → StealsLay kind }
     ensures child { (kind : MonoidKind) → ChildrenLay kind }
@@ -21,27 +22,29 @@ pub fn pieces_lie_at_blocks()
     ensures passes { (kind : MonoidKind) → BlockPasses kind FrameEnv }
 {}
 
-/// What a kept frame comes to, as it goes on with its begin, the answer to its last event or its sync, is what the free machine's
-/// frame asks for next, by names; and the ticks that it has taken then are those that the free machine counts up to that ask.
+/// The next event of a frame, from its begin, the answer to its last event or its sync, is the next
+/// request of the free machine's frame, by names. The ticks used are those that the free machine
+/// counts up to that request.
 pub fn asks_are_named()
     ensures { (code : CodeView) (p : Source) (inputs : List ℤ) → AsksAreNamed code p inputs }
 {}
 
-/// The fault that is found in place of an event, by the numbers of events, frames and cells and by the ticks that would be
-/// counted, is the fault by which the free machine stops there; and where none is found it goes on.
+/// The fault that is found from the numbers of events, frames, cells and ticks is the one by which
+/// the free machine stops. Where none is found, the free machine continues.
 pub fn refusals_are_faults()
     ensures { (p : Source) (inputs : List ℤ) (l : Layout) → RefusalsAreFaults p inputs l }
 {}
 
-/// A board that shows a state of the free machine shows the next one after an event of a worker's frame that starts and ends no frame:
-/// every other frame's seat stays, the frame's own has one deed more, and workers, desk, cells and totals are the state's. A sync is one too,
-/// by which the frame begins another block and its spawned children enter the joins.
+/// An event that starts and ends no frame leads from a state shown to the next state shown. Every
+/// other frame's state stays, the frame itself has one deed more, and workers, worker table, cells
+/// and totals agree. A sync is such an event: the frame begins another block, and its spawned
+/// children are joined.
 pub fn events_are_shown()
     ensures { (code : CodeView) (p : Source) (inputs : List ℤ) → TouchesAreShown code p inputs }
 {}
 
-/// A worker's frame that has come to its begin or to a resume, and in whose place no fault stands, makes a step of the free machine:
-/// the choice of that worker, by names, and the board that has its event shows what comes of it.
+/// A begin or a resume of a worker's frame, with no fault in its place, is a step of the free
+/// machine. The scheduler's state with the event shows the machine's next state.
 pub fn strands_are_begun()
     ensures begin { (code : CodeView) (p : Source) (inputs : List ℤ) → BeginsAreShown code p inputs }
     ensures resume { (code : CodeView) (p : Source) (inputs : List ℤ) → ResumesAreShown code p inputs }

@@ -1,4 +1,4 @@
-//! Laws of continuations and blocks. Each is a function that does nothing: its contract is the law.
+//! Laws of steals and syncs. Each law is the contract of an empty function.
 
 ghost use Rattle.std.specs.Prelude.{ℤ, List};
 ghost use Rattle.cilk_lower.specs.Code.{CodeView};
@@ -7,20 +7,22 @@ ghost use Rattle.cilk_scheduler.specs.Syncing.{SyncsAreShown};
 ghost use Rattle.cilk_scheduler.specs.Thieves.{StealsAreShown};
 ghost use Rattle.cilk_scheduler.specs.Waiting.{WaitsAreShown};
 
-/// An idle worker that takes a continuation makes a step of the free machine: its choice, by names. The board on which it has the frame, with
-/// no views, on which the frame's last child is marked and that child's piece is awaited at the block, shows what comes of it.
+/// A steal by an idle worker is a step of the free machine. Then the thief holds the frame without
+/// views, the frame's newest child is marked as stolen from, and that child's piece is awaited at
+/// the block.
 pub fn steals_are_shown()
     ensures { (code : CodeView) (p : Source) (inputs : List ℤ) → StealsAreShown code p inputs }
 {}
 
-/// A worker's frame that has come to a sync where a stolen child is still to come waits: its own piece arrives at the block, the worker is
-/// idle, and no event is made. The board shows the same state then, as the choice of that worker, by names, leaves it.
+/// A frame at a sync waits where a stolen child's piece is awaited: its own piece arrives at the
+/// block and its worker becomes idle. No event is made, so the scheduler shows the same state, with
+/// the worker table that the choice leads to.
 pub fn waits_are_shown()
     ensures { (code : CodeView) (p : Source) (inputs : List ℤ) → WaitsAreShown code p inputs }
 {}
 
-/// A worker's frame that has come to a sync, and whose block passes, makes a step of the free machine: the choice of that worker, by names.
-/// The board on which the frame begins another block, with the block's views multiplied by its own, shows what comes of it.
+/// A sync whose block passes is a step of the free machine. Then the frame begins another block,
+/// with the block's views multiplied by its own.
 pub fn syncs_are_shown()
     ensures { (code : CodeView) (p : Source) (inputs : List ℤ) → SyncsAreShown code p inputs }
 {}

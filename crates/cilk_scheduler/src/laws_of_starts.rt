@@ -1,4 +1,4 @@
-//! Laws of frames that others start. Each is a function that does nothing: its contract is the law.
+//! Laws of child frames. Each law is the contract of an empty function.
 
 ghost use Rattle.std.specs.Prelude.{ℤ, List};
 ghost use Rattle.cilk_lower.specs.Code.{CodeView};
@@ -7,31 +7,32 @@ ghost use Rattle.cilk_scheduler.specs.Invocations.{InvocationsAreShown};
 ghost use Rattle.cilk_scheduler.specs.Ordinals.{ChildrenAreCounted};
 ghost use Rattle.cilk_scheduler.specs.Starting.{ChildrenSee, ChildrenSit, NamesStayApart};
 
-/// A frame that a worker's frame starts, by a call or a spawn, sees by names and by numbers at once what its callee names: its own cells
-/// behind all others, the reducers that it creates and is given, where its result goes, and, for turns of a loop, what the loop stands in.
+/// A called or spawned frame sees what its callee names, by names and by numbers at once: its own
+/// cells after all others, the reducers that it creates and is given, the cell for its result, and
+/// for turns of a loop what surrounds the loop.
 pub fn children_see()
     ensures { (code : CodeView) (p : Source) (inputs : List ℤ) → ChildrenSee code p inputs }
 {}
 
-/// Its seat is that of the free machine's frame of that name, which has done nothing: the worker has it, before its begin.
+/// The new frame's state is that of the free machine's frame of that name, which has done nothing.
+/// The worker holds it before its begin.
 pub fn children_sit()
     ensures { (code : CodeView) (p : Source) (inputs : List ℤ) → ChildrenSit code p inputs }
 {}
 
-/// In each state of the free machine that steps lead to, a frame's children are counted from 1 to as many as it has started; so no frame
-/// has the name of its next child.
+/// In each reachable state of the free machine, a frame's children are numbered from 1 to the
+/// number of frames that it has started. So no frame has the name of its next child.
 pub fn children_are_counted()
     ensures { (p : Source) (inputs : List ℤ) → ChildrenAreCounted p inputs }
 {}
 
-/// Two frames of the board have two names then too.
+/// After a start, different frames still have different names.
 pub fn names_stay_apart()
     ensures { (code : CodeView) (p : Source) (inputs : List ℤ) → NamesStayApart code p inputs }
 {}
 
-/// A worker's frame that has come to an invocation starts the other frame: a step of the free machine, and the choice of that worker, by
-/// names. The board on which the worker has the new frame, behind all others and before its begin, and on which the starter waits for it
-/// or offers its continuation, shows what comes of it.
+/// A call or a spawn is a step of the free machine. The worker then holds the new frame, the last
+/// of all and before its begin, and the parent waits for it or is offered.
 pub fn invocations_are_shown()
     ensures { (code : CodeView) (p : Source) (inputs : List ℤ) → InvocationsAreShown code p inputs }
 {}

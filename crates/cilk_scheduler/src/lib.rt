@@ -1,23 +1,41 @@
-//! Parts of a stepwise machine: workers that are told one choice after another.
+//! The state of a stepwise work-stealing scheduler, and the operations on its parts.
 //!
-//! A worker goes on with the frame that it has, or takes a continuation that another one offers (work stealing: Frigo, Leiserson
-//! and Randall 1998). A [`scheduler::Scheduler`] keeps all frames of a run, its cells, its workers with their views, and the events so
-//! far, by numbers that the run gives as frames begin. [`choice`] has the choices and what comes of them.
+//! A run is driven by a list of [`choice::Choice`]s. Each names a worker, which either continues
+//! the frame that it holds or steals a continuation that another worker offers (Frigo, Leiserson
+//! and Randall 1998). No threads are involved: one value, a [`scheduler::Scheduler`], holds all
+//! frames, cells and workers of the run with its events so far, and a choice changes that value by
+//! one event at most.
 //!
-//! What is here acts on parts of a board, and each contract says exactly what changes: a frame goes on to what it asks for,
-//! and a fault may stand in its place; cells and reducers are touched; a piece arrives at a block; a frame starts another;
-//! continuations are found and withdrawn; a run leaves an outcome. The choices themselves stand in the crate above, which puts
-//! these together.
+//! A spawn works as in Cilk: the worker continues with the child and offers the parent's
+//! continuation. A thief starts with no reducer views. The child's views are then one piece of the
+//! parent's sync block, and the block's [`cilk_join::join::Join`] multiplies the pieces in serial
+//! order (Frigo, Halpern, Leiserson and Lewin-Berlin 2009).
 //!
-//! Above it stand definitions by names that no schedule changes. `specs/WorkerTables.antt`: what a choice does, as a step of the free
-//! machine of `cilk_runs` or none. `specs/Schedulers.antt`: which state of that machine a board shows. [`laws`] has what is proved
-//! of these.
+//! | Part | Calls |
+//! |---|---|
+//! | state | [`scheduler::Scheduler`], [`frame_state::FrameState`], [`frame_state::Worker`] |
+//! | next event of a frame | [`asking::go_on`], [`asking::refusal`] for the fault in its place |
+//! | cells and reducers | [`cells::read`], [`cells::write`], the functions of [`reducers`] |
+//! | call and spawn | the functions of [`invoking`], [`beginning::begin`] |
+//! | steal | [`offers::locate`], [`stealing::await_last`] |
+//! | sync and end | [`arriving::arrive`], [`ending::bring`], [`ending::take_back`] |
+//! | record of events | [`journal::note`] |
 //!
-//! The continuations that a worker of the stepwise machine offers, in order, with an order statistic.
+//! ```text
+//! go_on(&code, &input, &mut state.frames, frame, &mut state.asked);      // its next event
+//! if let Some(SmallAsk::Read(place)) = state.asked.brief() {
+//!     let cell = cell_at(state.frames.as_slice(), frame, *place);
+//!     let event = read(&mut state.frames, state.cells.as_slice(), frame, cell);
+//!     // into room that was reserved in the journal
+//!     state.ticks = note(&mut state.frames, &mut state.journal, state.ticks, frame as u32, event);
+//! }
+//! ```
 //!
-//! [`offer_list::Offers`] is a list of the frames whose continuations a worker offers, oldest first. To add the newest, to find or to
-//! take the one at a place, and to take that of a given frame costs the logarithm of how many were offered since nothing was:
-//! [`tally::Tally`] keeps how many of its slots still stand, by a tree of sums.
+//! `cilk_schedule` puts these calls together into whole choices. The laws, in [`laws`], [`acting`],
+//! [`noting`], [`orders`] and the `laws_of_..` modules, are contracts of empty functions. They
+//! relate the state to the free machine of `cilk_runs`, where any frame that isn't waiting may make
+//! its next event. The relation is `Shows` of `specs/Schedulers.antt`, and
+//! `specs/WorkerTables.antt` has the rules of a choice by names that no schedule changes.
 #![tactic(auto)]
 
 pub mod acting;

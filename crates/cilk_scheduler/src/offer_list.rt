@@ -1,4 +1,4 @@
-//! Continuations that a worker offers.
+//! The continuations that one worker offers.
 
 ghost use Rattle.std.specs.Prelude.{◌≡◌, ◌++◌, ◌∷◌, ◌<◌, [], ℕ, List, true, length, remove, slice_get, IfOk, MatchOption, OnErr, OnOk};
 ghost use Rattle.cilk_scheduler.specs.Slots.{IsTallied, StandsIn, ahead, standing};
@@ -8,11 +8,13 @@ use crate::tally::Tally;
 use std::alloc::{AllocError, Global};
 use std::marker::Model;
 
-/// The frames whose continuations a worker offers, oldest first, by their places. To add the newest, to find or to take the one at
-/// a place, and to take that of a given frame costs the logarithm of how many were offered since nothing was.
+/// The frames whose continuations a worker offers, oldest first, by their indices: a deque with
+/// access by rank.
 ///
-/// Each has a slot, in the order in which they were offered, and a tally tells how many of the slots still stand. The newest slot
-/// stands.
+/// An offer keeps its slot until it and all newer ones are gone, and a [`Tally`] counts the slots
+/// whose offers are still open. So [`Offers::get`] costs the logarithm of the greatest number of
+/// slots so far. [`Offers::push`] and [`Offers::remove`] cost the same, amortized. The newest
+/// slot's offer is open.
 #[derive(Drop, Debug)]
 pub struct Offers {
     slots: Vec<Slot>,
@@ -31,7 +33,7 @@ impl Model for Offers {
     ghost invariant = { λ o. IsTallied o.slots.items o.tally };
 }
 
-// An offer: the place of the frame, that of the child which it spawned last, and whether it still stands.
+// An offer: the index of the frame, that of its newest child, and whether it is still open.
 #[derive(Clone, Copy, Debug)]
 struct Slot {
     frame: u32,
@@ -40,7 +42,7 @@ struct Slot {
 }
 
 impl Offers {
-    /// Nothing is offered.
+    /// Returns an empty list.
     pub fn new(alloc: Global) -> Offers
         ensures { result.items ≡ [] }
     {
@@ -50,14 +52,14 @@ impl Offers {
         }
     }
 
-    /// How many are offered.
+    /// Returns the number of offers.
     pub fn len(&self) -> usize
         ensures { result ≡ length self.now.items }
     {
         self.tally.total()
     }
 
-    /// The frame at a place, from the oldest on.
+    /// Returns the frame of the offer at an index, from the oldest on.
     pub fn get(&self, place: usize) -> Option<u32>
         ensures { result ≡ slice_get self.now.items place }
     {
@@ -67,7 +69,9 @@ impl Offers {
         Some(self.slots[self.tally.find(place)].frame)
     }
 
-    /// The frame's continuation is offered, beside a child that is newer than those of all that were offered before.
+    /// Offers a frame's continuation beside the child that it has just spawned. The child must be
+    /// newer than those of all earlier offers, or [`Offers::withdraw`] is slow; nothing else relies
+    /// on it.
     pub fn push(&mut self, frame: u32, child: u32) -> Result<(), AllocError>
         ensures added { OnOk result (self.new.items ≡ self.old.items ++ frame ∷ []) }
         ensures same { OnErr result (self.new.items ≡ self.old.items) }
@@ -83,7 +87,7 @@ impl Offers {
         Ok(())
     }
 
-    /// The one at a place is no longer offered.
+    /// Removes the offer at an index.
     pub fn remove(&mut self, place: usize)
         requires { place < length self.old.items }
         ensures { self.new.items ≡ remove self.old.items place }
@@ -92,7 +96,9 @@ impl Offers {
         leave(&mut self.slots, &mut self.tally, at);
     }
 
-    /// The frame's continuation is no longer offered, beside this child. Whether it was.
+    /// Withdraws a frame's offer beside its newest child. Returns whether there was one. Costs the
+    /// same as [`Offers::remove`] if the binary search for `child` finds the offer, else up to a
+    /// step for each slot.
     pub fn withdraw(&mut self, frame: u32, child: u32) -> bool
         ensures { Withdraws self.old.items frame result self.new.items }
     {
@@ -106,7 +112,7 @@ impl Offers {
     }
 }
 
-// The tally of the slots has room for one more.
+// Grows the tally if it has no number for one more slot.
 fn make_room(slots: &Vec<Slot>, tally: &mut Tally) -> Result<(), AllocError>
     requires { IsTallied slots.now.items tally.old }
     ensures tallied { IsTallied slots.now.items tally.new }
@@ -118,7 +124,7 @@ fn make_room(slots: &Vec<Slot>, tally: &mut Tally) -> Result<(), AllocError>
     Ok(())
 }
 
-// A tally of the slots with room for one more.
+// Returns a tally of the same slots with a number for at least one more.
 fn grown(slots: &Vec<Slot>, tally: &Tally) -> Result<Tally, AllocError>
     requires { IsTallied slots.now.items tally.now }
     ensures tallied { IfOk result (λ t. IsTallied slots.now.items t) }
@@ -133,7 +139,7 @@ fn grown(slots: &Vec<Slot>, tally: &Tally) -> Result<Tally, AllocError>
     Ok(wider)
 }
 
-// The offer in a slot no longer stands, and the newest slots go as far as none stands there.
+// Closes the offer in a slot, and drops the newest slots whose offers are closed.
 fn leave(slots: &mut Vec<Slot>, tally: &mut Tally, at: usize)
     requires tallied { IsTallied slots.old.items tally.old }
     requires stands { (frame : ℕ) × StandsIn slots.old.items at frame }
@@ -145,7 +151,7 @@ fn leave(slots: &mut Vec<Slot>, tally: &mut Tally, at: usize)
     trim(slots);
 }
 
-// The newest slots go as far as no offer stands there.
+// Drops the newest slots, down to the first whose offer is open.
 fn trim(slots: &mut Vec<Slot>)
     ensures standing { standing slots.new.items ≡ standing slots.old.items }
     ensures tallied { (tally : List ℕ) → IsTallied slots.old.items tally → IsTallied slots.new.items tally }
@@ -158,10 +164,11 @@ fn trim(slots: &mut Vec<Slot>)
     }
 }
 
-// The slot where the offer of a frame beside its last child stands, if there is one.
+// The slot of a frame's open offer, if there is one.
 //
-// A frame is offered when it has started its last child, the newest frame of all then, and starts no other while it is offered.
-// So slots are in the order of last children, and the first look finds what is there; the search behind it is for others.
+// A frame is offered right after it has spawned its newest child, the newest frame of all then, and
+// starts no other child while it is offered. So slots are ordered by their children, and the binary
+// search for that child finds the offer. The linear search covers all other cases.
 fn seek(slots: &[Slot], frame: u32, child: u32) -> Option<usize>
     ensures { MatchOption result ((at : ℕ) → StandsIn slots.now at frame → ⊥) (λ at. StandsIn slots.now at frame) }
 {
@@ -179,7 +186,7 @@ fn seek(slots: &[Slot], frame: u32, child: u32) -> Option<usize>
     None
 }
 
-// Whether the offer of a frame stands in a slot.
+// Whether the slot's offer is open and of this frame.
 fn is_of(slot: &Slot, frame: u32) -> bool
     ensures yes { result ≡ true → (slot.now.stands ≡ true) × (slot.now.frame ≡ frame) }
     ensures no { slot.now.stands ≡ true → slot.now.frame ≡ frame → result ≡ true }

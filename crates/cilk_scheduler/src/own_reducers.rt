@@ -10,7 +10,8 @@ use cilk_hypermap::hypermap::Hypermap;
 use cilk_monoid::kind::MonoidKind;
 use cilk_types::event::{FrameNo, Instance};
 
-/// The reducers with these monoids that a frame created for itself are retired, from this place on.
+/// Removes the views of the reducers that a frame created for itself: those with these monoids, at
+/// consecutive places from `first` on.
 pub fn retire(views: &mut Hypermap, frame: FrameNo, first: u32, kinds: &[MonoidKind])
     requires few { length kinds.now ≤ 64 }
     requires low { first < 65536 }

@@ -1,4 +1,4 @@
-//! Events that touch views.
+//! Events on reducers and the output.
 
 ghost use Rattle.std.specs.Prelude.{◌≡◌, ◌<◌, ℕ, Some, length, IfOk, OnErr, OnOk};
 ghost use Rattle.cilk_types.specs.declared.event.Event.TheVariants as events;
@@ -25,7 +25,7 @@ use cilk_program::syntax::ReducerPlace;
 use cilk_types::event::{Event, Instance};
 use std::alloc::{AllocError, Global};
 
-/// The reducer that a place means to the frame at a place of the list.
+/// Returns the reducer that a place means to a frame.
 pub fn instance_at(frames: &[Activation<FrameState>], frame: usize, place: ReducerPlace) -> Instance
     requires here { frame < length frames.now }
     requires sees { (scope : Scope ℕ Instance) × SeesAt frames.now frame scope }
@@ -35,7 +35,7 @@ pub fn instance_at(frames: &[Activation<FrameState>], frame: usize, place: Reduc
     instance(frames, &frames[frame], place)
 }
 
-/// The frame at a place creates a reducer, which begins with its monoid's unit.
+/// Creates a reducer, whose view is its monoid's unit.
 pub fn create(
     alloc: Global,
     frames: &mut Vec<Activation<FrameState>>,
@@ -55,7 +55,7 @@ pub fn create(
     Ok(Event::Create { instance })
 }
 
-/// The frame at a place updates a reducer: its view is multiplied by a number from the right.
+/// Updates a reducer: multiplies its view from the right by the view of a number.
 pub fn update(
     alloc: Global,
     frames: &mut Vec<Activation<FrameState>>,
@@ -76,7 +76,7 @@ pub fn update(
     Ok(Event::Update { instance, value })
 }
 
-/// The frame at a place sets a reducer: its view becomes that of a number alone.
+/// Sets a reducer: its view becomes that of a number alone.
 pub fn set(
     alloc: Global,
     frames: &mut Vec<Activation<FrameState>>,
@@ -97,7 +97,7 @@ pub fn set(
     Ok(Event::Set { instance, value })
 }
 
-/// The frame at a place reads the number of a reducer's view.
+/// Reads the number of a reducer's view. A view that is absent becomes the unit.
 pub fn value(
     alloc: Global,
     frames: &mut Vec<Activation<FrameState>>,
@@ -117,7 +117,7 @@ pub fn value(
     Ok(Event::Value { instance, value })
 }
 
-/// The frame at a place prints a number.
+/// Prints a number: appends it to the worker's view of the output.
 pub fn print(
     alloc: Global,
     frames: &mut Vec<Activation<FrameState>>,

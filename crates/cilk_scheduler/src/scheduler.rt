@@ -1,4 +1,4 @@
-//! The state of a machine.
+//! The state of a run.
 
 ghost use Rattle.std.specs.Prelude.{◌≡◌};
 
@@ -8,8 +8,9 @@ use cilk_frames::activation::Activation;
 use cilk_frames::asked::AskSlot;
 use cilk_types::outcome::Outcome;
 
-/// All frames in the order in which they began, the cells, the workers, how many continuations they offer, the events so far, the
-/// ticks counted, what was asked for last, the outcome once the first frame has ended, and why the run stopped.
+/// The state of a run: all frames in the order in which they began, the cells, the workers and the
+/// number of continuations that they offer. It also has the events and ticks so far, the latest
+/// request, the outcome once the first frame has ended, and the reason why the run stopped.
 pub struct Scheduler {
     pub frames: Vec<Activation<FrameState>>,
     pub cells: Vec<i64>,
@@ -22,7 +23,7 @@ pub struct Scheduler {
     pub stopped: Option<Stop>,
 }
 
-// A function of its own, so that a proof follows one call where a board is dropped.
+// A function of its own, so that a proof follows one call where a scheduler is dropped.
 impl Drop for Scheduler {
     fn drop(self) {
         let Scheduler {
@@ -40,7 +41,7 @@ impl Drop for Scheduler {
 }
 
 impl Scheduler {
-    /// What the first frame's end left, once it has ended.
+    /// Returns the outcome, if the first frame has ended.
     pub fn into_outcome(self) -> Option<Outcome>
         ensures { result ≡ self.outcome }
     {

@@ -1,4 +1,4 @@
-//! A child whose continuation is stolen.
+//! The block of a frame whose continuation is stolen.
 
 ghost use Rattle.std.specs.Prelude.{◌≡◌, OnOk};
 ghost use Rattle.cilk_join.specs.Joins.{IsOpen};
@@ -8,7 +8,8 @@ use crate::frame_state::FrameState;
 use cilk_join::join::Join;
 use std::alloc::{AllocError, Global};
 
-/// The piece of the frame's last child is awaited at its block.
+/// Lets the frame's block await the piece of its newest child. Makes the join at the block's first
+/// steal. If out of memory, only the join may have changed.
 pub fn await_last(alloc: Global, seat: &mut FrameState) -> Result<(), AllocError>
     requires { IsOpen (block_in seat.old.join) seat.old.children }
     ensures awaits { OnOk result (AwaitsLast seat.old seat.new) }

@@ -1,15 +1,16 @@
-//! Numbers in a row, with a tree of sums.
+//! A list of numbers with prefix sums.
 
 ghost use Rattle.std.specs.Prelude.{◌≡◌, ◌+◌, ◌-◌, ◌<◌, ◌≤◌, ◌^◌, [], sum, take, set, max, replicate, length, slice_index, IfOk};
 
 use std::alloc::{AllocError, Global};
 use std::marker::Model;
 
-/// Numbers in a row, whose sums from the first on are found by halving: to find one, raise one or lower one costs the logarithm
-/// of their number. A tree over them keeps the sum of all, of each half, of each quarter and so on.
+/// A list of numbers with a tree of sums over it. Finding a number by its prefix sum, raising one
+/// and lowering one costs the logarithm of their count.
 #[derive(Drop, Debug)]
 pub struct Tally {
-    // Node 1 is the sum of all, node `i` that of the nodes `2i` and `2i + 1`. The numbers are the nodes from `count` on.
+    // Node 1 is the sum of all, and node `i` the sum of the nodes `2i` and `2i + 1`. The numbers
+    // are the nodes from `count` on.
     nodes: Vec<usize>,
     count: usize,
 }
@@ -26,7 +27,7 @@ impl Model for Tally {
 }
 
 impl Tally {
-    /// No numbers.
+    /// Returns an empty list.
     pub fn new(alloc: Global) -> Tally
         ensures { result ≡ [] }
     {
@@ -36,7 +37,7 @@ impl Tally {
         }
     }
 
-    /// Twice as many numbers, or one where there are none: each is 0.
+    /// Returns a list of zeros of twice this one's length, or of one zero if this one is empty.
     pub fn zeros_of_twice(&self, alloc: Global) -> Result<Tally, AllocError>
         ensures { IfOk result (λ t. t ≡ replicate (max 1 (length self.now + length self.now)) 0) }
     {
@@ -48,14 +49,14 @@ impl Tally {
         Ok(Tally { nodes, count })
     }
 
-    /// How many numbers there are.
+    /// Returns how many numbers there are.
     pub fn len(&self) -> usize
         ensures { result ≡ length self.now }
     {
         self.count
     }
 
-    /// Their sum.
+    /// Returns the sum of all numbers.
     pub fn total(&self) -> usize
         ensures { result ≡ sum self.now }
     {
@@ -65,7 +66,7 @@ impl Tally {
         }
     }
 
-    /// The place of the number that takes the sum from the first on above this one.
+    /// Returns the index of the number with which the prefix sum first exceeds `rest`.
     pub fn find(&self, rest: usize) -> usize
         requires { rest < sum self.now }
         ensures here { result < length self.now }
@@ -85,7 +86,7 @@ impl Tally {
         node - self.count
     }
 
-    /// The number at a place is one more.
+    /// Adds 1 to a number.
     pub fn raise(&mut self, at: usize)
         requires here { at < length self.old }
         requires few { sum self.old < 2 ^ 63 }
@@ -100,7 +101,7 @@ impl Tally {
         }
     }
 
-    /// The number at a place is one less.
+    /// Subtracts 1 from a number.
     pub fn lower(&mut self, at: usize)
         requires here { at < length self.old }
         requires some { 0 < slice_index self.old at }

@@ -1,11 +1,12 @@
-//! Which frames workers have, and which continuations they offer.
+//! The frames that workers hold.
 
 ghost use Rattle.std.specs.Prelude.{◌≡◌, ◌+◌, ◌<◌, None, Some, length, slice_get, MatchOption};
 ghost use Rattle.cilk_scheduler.specs.Workers.{held_by, is_idle, offers};
 
 use crate::frame_state::Worker;
 
-/// The place of the frame that a worker has, if there is such a worker and it has one. Workers count from 1.
+/// Returns the index of the frame that a worker holds. `None` if it is idle or there is no such
+/// worker. Workers count from 1.
 pub fn held_by(workers: &[Worker], worker: u32) -> Option<u32>
     ensures { result ≡ held_by workers.now worker }
 {
@@ -18,7 +19,7 @@ pub fn held_by(workers: &[Worker], worker: u32) -> Option<u32>
     }
 }
 
-/// Whether there is such a worker, and it has no frame.
+/// Whether a worker exists and holds no frame. Workers count from 1.
 pub fn is_idle(workers: &[Worker], worker: u32) -> bool
     ensures { result ≡ is_idle workers.now worker }
 {

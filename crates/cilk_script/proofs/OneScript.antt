@@ -1,4 +1,4 @@
--- A text orders one list of steps, or fails at one line.
+-- A text has one list of steps, or fails at one line.
 --
 -- - `not_both`: a line has a form or not;
 -- - `one_order`, `one_failure`, `apart`: from a line on;

@@ -1,9 +1,9 @@
--- Laws of what a script's text orders.
+-- Laws of the syntax of scripts.
 --
--- - `nothing`, `parted`: what is short is empty; what is not has a first;
--- - `handed`: a fault that is handed on;
--- - `last_bad`, `line_bad`: a line of another form, by its fault;
--- - `longer`: a line more.
+-- - `nothing`, `parted`: a list is empty or has a first element;
+-- - `handed`: a fault that is passed on;
+-- - `last_bad`, `line_bad`: a line without a valid form, by its fault;
+-- - `longer`: one line more.
 use Rattle.std.proofs.Common.{◌≡◌, ◌-◌, ◌<◌, ◌≤◌, ℕ, suc, List, [], ◌∷◌, ◌++◌, length, take, drop, refl, sym, ap, ◌∙◌, subst, arith, append_assoc}
 use Rattle.std.specs.Prelude.{Result, Ok, Err, IfErr, IsErrAnd}
 use Rattle.cilk_syntax.specs.Lexing.{behind, front_of}
@@ -17,7 +17,7 @@ pub nothing : (l : List ℕ) → length l < 1 → l ≡ []
 nothing [] h = refl
 nothing (b ∷ l) h = absurd (omega (arith, h))
 
--- a list with one element or more, by its first and the others
+-- a list with at least one element, by its first and the others
 pub parted : (l : List ℕ) → 1 ≤ length l → (b : ℕ) × (l ≡ b ∷ take (length l - 1) (drop 1 l))
 parted [] h = absurd (omega (arith, h))
 parted (b ∷ l) h =
@@ -41,7 +41,7 @@ module _ (text : List ℕ) (n room : ℕ) (rest : List ℕ) (fails : (at : ℕ) 
   line_bad b after ends few line is faults.Memory h = tt
   line_bad b after ends few line is (faults.Line at) h = fails at (subst (λ k. FailsAtLine n room rest k) (sym h.0) (BadLine ends few (subst IsBadLine is h.1)))
 
--- what a line more says of the steps so far
+-- the steps with one line more
 pub longer : (text : List ℕ) (n room : ℕ) (rest : List ℕ) (steps steps' : List Step) → ((more : List Step) → Orders n room rest more → IsScript text (steps ++ more))
     → (b : ℕ) (after : List ℕ) → behind Line rest ≡ b ∷ after → length (front_of Line rest) < room → (line : List ℕ) → line ≡ without_return (front_of Line rest) → IsLine line → steps' ≡ steps ++ steps_of n line (order_in line)
     → (more : List Step) → Orders (suc n) (room - suc (length (front_of Line rest))) after more → IsScript text (steps' ++ more)

@@ -1,4 +1,4 @@
--- Which choices the steps of a script stand for.
+-- The choices of a script's steps.
 use Rattle.std.specs.Prelude.{◌≡◌, ◌-◌, ℕ, nat_lt, if◌then◌else◌, List, [], ◌∷◌, ◌++◌, replicate, Option, Some, None}
 use Rattle.cilk_script.specs.declared.choices.Choices.{Choices}
 use Rattle.cilk_script.specs.declared.choices.Next.{Next}
@@ -7,7 +7,7 @@ use Rattle.cilk_script.specs.declared.script.LineOrder.{LineOrder}
 use Rattle.cilk_script.specs.declared.script.LineOrder.TheVariants.{Run, Steal, All}
 use Rattle.cilk_script.specs.declared.script.Step.{Step}
 
--- how many choices an order makes; those of `all` don't count
+-- the number of choices of an order; those of `all` don't count
 abbrev pub count_of : LineOrder → ℕ
 count_of (Run w n) = n
 count_of (Steal w k) = 1
@@ -19,17 +19,18 @@ choices_of (Run w n) = replicate n (nexts.Run w)
 choices_of (Steal w k) = nexts.Steal w k ∷ []
 choices_of All = nexts.Rounds ∷ []
 
--- The choices of steps, where so many may be made: the first line whose choices would go past them ends the script.
+-- The choices of steps. At most `room` are allowed, and the first line with too many ends the
+-- script.
 abbrev pub choices_within : ℕ → List Step → List Next
 choices_within room [] = []
 choices_within room (s ∷ ss) =
     if nat_lt room (count_of s.order) then nexts.Past s.line ∷ [] else choices_of s.order ++ choices_within (room - count_of s.order) ss
 
--- the choices that are left: those of the last `run`, and of the steps behind it
+-- the remaining choices: those of the current `run`, then those of the steps after it
 abbrev pub choices_left : Choices → List Next
 choices_left c = replicate c.left (nexts.Run c.worker) ++ choices_within c.room c.steps.now
 
--- the first of these is the next, and the others are left behind it
+-- `next` is the first of the choices `before`, and `after` has the others
 abbrev pub IsNextChoice : List Next → Option Next → List Next → Type 0
 IsNextChoice before None after = (before ≡ []) × (after ≡ [])
 IsNextChoice before (Some next) after = before ≡ next ∷ after

@@ -3,7 +3,7 @@ use Rattle.std.specs.Prelude.{◌≡◌, ℕ, List}
 use Rattle.cilk_script.specs.Scripts.{IsNoScript, IsScript}
 use Rattle.cilk_script.specs.declared.script.Step.{Step}
 
--- A text orders one list of steps, or fails at one line, and not both.
+-- A text has at most one list of steps, fails at most at one line, and never both.
 pub record ScriptIsOne : Type 0 where
   pub steps : (text : List ℕ) (steps steps' : List Step) → IsScript text steps → IsScript text steps' → steps' ≡ steps
   pub lines : (text : List ℕ) (at at' : ℕ) → IsNoScript text at → IsNoScript text at' → at' ≡ at

@@ -1,39 +1,39 @@
-//! The choices that a script's steps stand for, one by one.
+//! Expansion of a script's steps into single choices.
 
 ghost use Rattle.std.specs.Prelude.{◌≡◌};
 ghost use Rattle.cilk_script.specs.Choices.{IsNextChoice, choices_left, choices_within, count_of};
 
 use crate::script::{LineOrder, Step};
 
-/// The most choices that a script may order, those of `all` not counted.
+/// The maximum number of choices of a script, without those of `all`.
 pub const MAX_CHOICES: u32 = 16_000_000;
 
-/// What a script orders next. Workers count from 1, and continuations from 0.
+/// The next choice of a script. Workers count from 1, continuations from 0.
 #[derive(Clone, Copy, PartialEq, Eq, Debug)]
 pub enum Next {
-    /// The worker goes on with the frame that it holds.
+    /// The worker continues its frame.
     Run(u32),
-    /// The worker takes the continuation at a place.
+    /// The worker steals the continuation at this place among all that are offered.
     Steal(u32, u32),
     /// Rounds of all workers, until the run has ended.
     Rounds,
-    /// The choices of this line would go past the limit. Nothing comes behind it.
+    /// The choices of this line would exceed [`MAX_CHOICES`]. It is the last item.
     Past(usize),
 }
 
-/// What is left of a script's choices. It takes no memory.
+/// The remaining choices of a script. It borrows the steps and allocates nothing.
 #[derive(Drop, Debug)]
 pub struct Choices<'a> {
     steps: &'a [Step],
-    // The worker of the last `run`, and how many of its choices are left.
+    // The worker of the current `run`, and the number of its remaining choices.
     worker: u32,
     left: u32,
-    // How many choices the steps may have.
+    // How many choices the remaining steps may have.
     room: u32,
 }
 
 impl<'a> Choices<'a> {
-    /// With all choices of the steps left.
+    /// Starts before the first choice of the steps.
     pub fn new(steps: &'a [Step]) -> Self
         ensures { choices_left result ≡ choices_within MAX_CHOICES steps.entry.now }
     {
@@ -45,7 +45,7 @@ impl<'a> Choices<'a> {
         }
     }
 
-    /// The next choice, `None` where none is left.
+    /// Returns the next choice, or `None` after the last one.
     pub fn next(&mut self) -> Option<Next>
         ensures { IsNextChoice (choices_left self.old) result (choices_left self.new) }
     {
@@ -74,7 +74,7 @@ impl<'a> Choices<'a> {
     }
 }
 
-// How many choices an order makes; those of `all` don't count.
+// The number of choices of an order. Those of `all` don't count.
 fn count_of(order: LineOrder) -> u32
     ensures { result ≡ count_of order }
 {

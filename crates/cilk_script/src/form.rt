@@ -1,4 +1,4 @@
-//! The form of a line.
+//! Parsing of one line.
 
 ghost use Rattle.std.specs.Prelude.{◌≡◌};
 ghost use Rattle.cilk_script.specs.Scripts.{behind_word, number, order_in, run_order, steal_order, trimmed, word, words_order};
@@ -6,7 +6,7 @@ ghost use Rattle.cilk_script.specs.Scripts.{behind_word, number, order_in, run_o
 use crate::script::{LineOrder, MAX_NUMBER};
 use cilk_syntax::lexer::{Class, all_digits, split, value_of};
 
-/// What a line with words orders, if it has one of the forms.
+/// Parses a line into its order, or returns `None` if it has no valid form.
 pub fn order(line: &[u8]) -> Option<LineOrder>
     ensures { result ≡ order_in line.now }
 {
@@ -19,7 +19,7 @@ pub fn order(line: &[u8]) -> Option<LineOrder>
     words_order(verb, first, second)
 }
 
-// What up to three words order. A word that isn't there is empty.
+// The order of up to three words. A missing word is empty.
 fn words_order(verb: &[u8], first: &[u8], second: &[u8]) -> Option<LineOrder>
     ensures { result ≡ words_order verb.now first.now second.now }
 {
@@ -68,7 +68,7 @@ fn steal_order(worker: Option<u32>, place: Option<u32>) -> Option<LineOrder>
     Some(LineOrder::Steal { worker, place })
 }
 
-// The next word, which is empty where there is none, and what is behind it.
+// Splits off the next word, which is empty at the end of the line.
 fn next_word(line: &[u8]) -> (&[u8], &[u8])
     ensures word { result.0.now ≡ word line.now }
     ensures rest { result.1.now ≡ behind_word line.now }
@@ -76,7 +76,7 @@ fn next_word(line: &[u8]) -> (&[u8], &[u8])
     split(Class::Solid, trimmed(line))
 }
 
-// Without the spaces ahead.
+// Skips leading spaces.
 fn trimmed(line: &[u8]) -> &[u8]
     ensures { result.now ≡ trimmed line.now }
 {
@@ -90,7 +90,7 @@ fn trimmed(line: &[u8]) -> &[u8]
     rest
 }
 
-// The number that digits spell, if they are digits and it isn't too great.
+// The number of these digits, if it is at most `MAX_NUMBER`.
 fn number(digits: &[u8]) -> Option<u32>
     ensures { result ≡ number digits.now }
 {

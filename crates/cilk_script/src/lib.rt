@@ -1,15 +1,31 @@
-//! Scripts of choices: a text of lines, each of which tells a worker of a stepwise machine what to do.
+//! Schedule scripts: short texts that choose what the workers of a stepwise Cilk machine do.
+//!
+//! A work-stealing run isn't repeatable: which worker moves next and which continuation a thief
+//! steals depend on timing. A script fixes these choices in advance, so that one schedule can be
+//! replayed and examined. This crate reads scripts; `cilk_schedule` makes their choices.
+//!
+//! | Line | Choice |
+//! |---|---|
+//! | `run W` | Worker W continues its frame. |
+//! | `run W N` | The same choice N times. |
+//! | `steal W K` | Worker W steals the continuation at place K among all that are offered. |
+//! | `all` | Rounds of all workers, until the run has ended. |
+//!
+//! Workers count from 1, places from 0. Words are separated by spaces. Empty lines and lines that
+//! begin with `#` are ignored. A line ends with LF or CR LF; the last one may end with the text.
+//!
+//! | Item | Use |
+//! |---|---|
+//! | [`script::read`] | Parses a text into [`script::Step`]s, or reports its first bad line. |
+//! | [`choices::Choices`] | Expands steps into single choices, without allocating. |
+//! | [`laws`] | The limits by number, and that a text has one meaning. |
 //!
 //! ```text
-//! # the first worker makes four events; the second takes the continuation that is offered
-//! run 1 4
-//! steal 2 0
-//! all
+//! // Worker 1 makes four choices, worker 2 steals the first continuation, then all run to the end.
+//! let steps = read(alloc, b"run 1 4\nsteal 2 0\nall\n")?;
+//! let mut choices = Choices::new(steps.as_slice());
+//! choices.next()      // Some(Run(1)), four times; then Some(Steal(2, 0)), Some(Rounds), None
 //! ```
-//!
-//! `run W` and `run W N` are one choice and N choices of worker W to go on with its frame; `steal W K` is its choice to take the
-//! continuation at place K among all that are offered, from 0; `all` is rounds of all workers until the run has ended. Empty lines
-//! and lines that begin with `#` say nothing. Words are parted by spaces.
 #![tactic(auto)]
 
 pub mod choices;

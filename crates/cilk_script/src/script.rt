@@ -1,4 +1,4 @@
-//! A script.
+//! The steps of a script, and the reader of its text.
 
 ghost use Rattle.std.specs.Prelude.{◌≡◌, ◌≢◌, ◌+◌, ◌++◌, ◌≤◌, length, IfOk, IfErr, OnOk};
 ghost use Rattle.cilk_script.specs.Scripts.{IsBadAt, IsFaultOf, IsLine, IsScript, order_in, steps_of, without_return};
@@ -10,32 +10,33 @@ use std::alloc::{AllocError, AllocFailed, Global};
 /// The greatest number in a script.
 pub const MAX_NUMBER: u64 = 1_000_000;
 
-/// The greatest size of a script.
+/// The maximum size of a script in bytes.
 pub const MAX_SCRIPT: usize = 1_048_576;
 
-/// What a line orders. Workers count from 1, and continuations from 0.
+/// The order of a line. Workers count from 1, continuations from 0.
 #[derive(Clone, Copy, PartialEq, Eq, Debug)]
 pub enum LineOrder {
-    /// So many times, the worker goes on with the frame that it holds.
+    /// The worker continues its frame, `count` times.
     Run { worker: u32, count: u32 },
-    /// The worker takes the continuation at a place.
+    /// The worker steals the continuation at `place` among all that are offered.
     Steal { worker: u32, place: u32 },
     /// Rounds of all workers, until the run has ended.
     All,
 }
 
-/// An order, and the number of its line, from 1.
+/// An order with its line number, from 1.
 #[derive(Clone, Copy, PartialEq, Eq, Debug)]
 pub struct Step {
     pub line: usize,
     pub order: LineOrder,
 }
 
-/// Why a text is no script.
+/// Why a text couldn't be read as a script.
 #[derive(Clone, Copy, PartialEq, Eq, Debug)]
 pub enum ScriptFault {
-    /// The first line that has another form, or goes past the greatest size, from 1.
+    /// The first line, from 1, that has no valid form or exceeds [`MAX_SCRIPT`].
     Line(usize),
+    /// Out of memory.
     Memory,
 }
 
@@ -59,7 +60,7 @@ impl<T: Drop> From<AllocFailed<T>> for ScriptFault {
     }
 }
 
-/// The orders of a text, in order. The time is linear in the text.
+/// Parses a text into its steps, in order. The time is linear in the text.
 pub fn read(alloc: Global, text: &[u8]) -> Result<Vec<Step>, ScriptFault>
     ensures script { IfOk result (λ steps. IsScript text.now steps.items) }
     ensures none { IfErr result (λ e. IsFaultOf text.now e) }
@@ -91,7 +92,7 @@ pub fn read(alloc: Global, text: &[u8]) -> Result<Vec<Step>, ScriptFault>
     }
 }
 
-// The step of a line is added, if it has one.
+// Appends the step of a line. Empty lines and comments have none.
 fn push_step(steps: &mut Vec<Step>, line: usize, text: &[u8]) -> Result<(), ScriptFault>
     ensures steps { OnOk result (IsLine text.now × (steps.new.items ≡ steps.old.items ++ steps_of line text.now (order_in text.now))) }
     ensures fault { IfErr result (λ e. IsBadAt line text.now e) }
@@ -109,7 +110,7 @@ fn push_step(steps: &mut Vec<Step>, line: usize, text: &[u8]) -> Result<(), Scri
     }
 }
 
-// A line without the carriage return that ends it.
+// The line without a carriage return at its end.
 fn without_return(line: &[u8]) -> &[u8]
     ensures { result.now ≡ without_return line.now }
 {

@@ -1,4 +1,4 @@
--- What a frame is told, from what the store did.
+-- The answer to a frame, from the effect on the store.
 use Rattle.std.proofs.Common.{◌≡◌, ℤ, pos, Result, Ok, Err, IfOk, MatchResult, OnOk, sym, ap, ◌∙◌, subst}
 use Rattle.cilk_types.specs.declared.event.Event.{Event}
 use Rattle.cilk_types.specs.declared.event.Instance.{Instance}
@@ -23,7 +23,7 @@ module _ (p : Source) (fr : Frame) (s s' : State) (k : Ask) (word : Memory → �
       let d = makes m h in
       (d.0 ∙ words m, subst (λ (x : Store Instance). EventMade s s' (event_of fr m k) (with_store m x)) (stores m) (subst (λ (e : Event). EventMade s s' e (with_store m (store m))) (events m) d.1))
 
-  -- nothing is told
+  -- an answer without a word
   pub tells_nothing : {E : Type 0} (r : Result Answer E) → Fits (owed_for k) Done → IfOk r (λ a. a ≡ Done) → OnOk r (Makes s s' word (pos 0) event store) → IfOk r (λ a. Answers p fr s s' k a)
   tells_nothing (Ok a) fits done makes = record {
     fits = subst (λ (a : Answer). Fits (owed_for k) a) (sym done) fits;
@@ -31,7 +31,7 @@ module _ (p : Source) (fr : Frame) (s s' : State) (k : Ask) (word : Memory → �
   }
   tells_nothing (Err e) fits done makes = tt
 
-  -- a word is told
+  -- an answer with a word
   pub tells_word : {E : Type 0} (r : Result Answer E) → ((v : ℤ) → Fits (owed_for k) (Value v)) → IfOk r (λ a. a ≡ Value (word_in a)) → IfOk r (λ a. Makes s s' word (word_in a) event store) → IfOk r (λ a. Answers p fr s s' k a)
   tells_word (Ok a) fits value makes = record {
     fits = subst (λ (a : Answer). Fits (owed_for k) a) (sym value) (fits (word_in a));
@@ -39,7 +39,7 @@ module _ (p : Source) (fr : Frame) (s s' : State) (k : Ask) (word : Memory → �
   }
   tells_word (Err e) fits value makes = tt
 
--- the frame goes on with what its store answered
+-- the frame continues with the answer of its store
 pub told : {E : Type 0} (p : Source) (fr : Frame) (s s' : State) (b : SmallAsk) (k : Ask) (r : Result Answer E) (r' : Result Told E) → k ≡ in_full b → IsInner k → MatchResult r (λ a. r' ≡ Ok (Goes a)) (λ e. r' ≡ Err e) → IfOk r (λ a. Answers p fr s s' k a)
     → IfOk r' (λ t. Tells p fr s s' (in_full b) t)
 told {E} p fr s s' b k (Ok a) r' same inner is h = subst (λ (k : Ask). IfOk r' (λ t. Tells p fr s s' k t)) same (subst (λ (x : Result Told E). IfOk x (λ t. Tells p fr s s' k t)) (sym is) (inner, h))

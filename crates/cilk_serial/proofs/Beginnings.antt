@@ -1,4 +1,4 @@
--- Frames as they begin and end.
+-- Frames that begin or end.
 use Rattle.std.proofs.Common.{◌≡◌, ℕ, zero, suc, ◌<◌, ◌≤◌, IsTrue, ℤ, List, [], ◌∷◌, length, drop, Option, Some, None, option_map, refl, sym, ap, ◌∙◌, subst, arith}
 use Rattle.cilk_program.specs.declared.ask.FunctionCall.{FunctionCall}
 use Rattle.cilk_program.specs.declared.ask.LoopPart.{LoopPart}
@@ -52,7 +52,7 @@ function_scoped p fr m parents c a number base given outer result first creator 
       creates = ap (kinds_of p) (sym creator);
     }
 
--- what the static link of a loop's frame leads to
+-- the scope at the end of a loop frame's static link
 leads_up : (p : Source) (frames : Frames) (fr : Frame) (parents : List Parent) (q : Parent) (up : ℕ) (o : Option ℕ) → Seen p frames fr parents → q.frame ≡ fr → up ≤ 1
     → (up ≡ 0 → o ≡ Some (length (waiting frames))) → (up ≡ 1 → o ≡ frames.top.outer) → Leads (q ∷ parents) o (drop up fr.scope)
 leads_up p frames fr parents q zero o seen same low here there =

@@ -1,4 +1,4 @@
--- A run that goes on, from one event to the next.
+-- A run in progress, from one event to the next.
 use Rattle.std.proofs.Common.{◌≡◌, ◌⊎◌, inl, inr, ⊎_elim, ℕ, suc, ◌+◌, ◌-◌, ◌<◌, ◌≤◌, nat_eq, nat_lt, ℤ, pos, if◌then◌else◌, List, [], ◌∷◌, ◌++◌, length, reverse, get_or, Some, None, refl, sym, ap, ◌∙◌, subst, arith, length-append, append_assoc, append-nil}
 use Rattle.std.proofs.lemmas.Bool.{cases_Bool, ltb-true, ltb-false}
 use Rattle.std.proofs.lemmas.Option.{unwrap_or-slice_get}
@@ -76,7 +76,7 @@ going_there code p inputs r well g =
     let s = g.shows in
     subst (λ n. IsThere p g.frame n r.ask) s.cells (asked_there p well inputs g.frame g.memory.cells g.sees g.history (g.took + r.left) r.ask r.left g.asking.asks)
 
--- ---- what is allowed
+-- ---- allowed events
 
 crowded_not : (p : Source) (callee : Callee) (m : Memory) → crowded p callee m ≡ None → (m.frames < MAX_FRAMES) × (m.cells + cells_of p callee ≤ MAX_CELLS)
 crowded_not p callee m e = elim (cases_Bool (nat_eq m.room 0)) [
@@ -123,7 +123,7 @@ cursor_moves p a c fr parents s = record {
   creates = s.creates;
 }
 
--- one event more is counted
+-- one more event is counted
 one_more : (s s' : State) (m : Memory) (e : Event) → Shows s m → 0 < m.room → s'.events.items ≡ s.events.items ++ e ∷ [] → length s'.events.items ≤ MAX_EVENTS
 one_more s s' m e h some events =
     let l = ap length events ∙ length-append s.events.items (e ∷ []) in
@@ -133,7 +133,7 @@ one_more s s' m e h some events =
 behind : (es es' : List Event) (e : Event) (more : List Event) → es' ≡ es ++ e ∷ [] → es' ++ more ≡ es ++ e ∷ more
 behind es es' e more is = ap (λ l. l ++ more) is ∙ append_assoc es (e ∷ []) more
 
--- ---- the frame goes on at once
+-- ---- the frame continues at once
 
 pub answers : (code : CodeView) (p : Source) (inputs : List ℤ) (r : Running) (s' : State) (a : Answer) (c' : CursorView) (k' : Ask) (left' : ℕ) → (g : Going code p inputs r) → IsAllowed p r.state r.ask → IsInner r.ask
     → Answers p g.frame r.state s' r.ask a
@@ -240,7 +240,7 @@ invokes code p inputs r s' frames how callee well g allowed is made wait stands 
 
 -- ---- a frame ends
 
--- what is known once it has
+-- the state after the end
 pub record Closes (code : CodeView) (p : Source) (inputs : List ℤ) (s' : State) (v : ℤ) (left : ℕ) (below : List Activation) : Type 0 where
   pub memory : Memory
   pub parents : List Parent
@@ -295,7 +295,7 @@ last_ends code p inputs s' v left below c none = all_end c.parents c.completes (
     all_end [] whole wait = record { left = left; memory = c.memory; callees = c.callees; shows = c.shows; opened = c.opened; counted = c.counted; whole = whole }
     all_end (q ∷ qs) whole wait = absurd wait
 
--- the one that waits goes on
+-- the waiting frame continues
 pub resumes : (code : CodeView) (p : Source) (inputs : List ℤ) (s' : State) (v : ℤ) (left : ℕ) (below : List Activation) (frames : Frames) (c' : CursorView) (k' : Ask) (left' : ℕ) → Closes code p inputs s' v left below → below ≡ frames.top ∷ waiting frames
     → ((callee : Callee) (history : List ℤ) (took : ℕ) → Stands code inputs p callee frames.top.cursor history took → GoesOn code inputs frames.top.cursor Done left k' c' left' p callee history took)
     → Going code p inputs (record { state = s'; frames = record frames { top = record frames.top { cursor = c' } }; ask = k'; left = left' })
@@ -343,7 +343,7 @@ limit_or_not TooManyEvents = inl tt
 limit_or_not TooManyFrames = inl tt
 limit_or_not TooManyCells = inl tt
 
--- the whole run is what was made so far, where a fault stands in place of the next event
+-- the whole run is the run so far, if a fault replaces the next event
 pub stopped_here : (code : CodeView) (p : Source) (inputs : List ℤ) (r : Running) (f : Fault) → (g : Going code p inputs r) → Some f ≡ refused p g.memory r.ask → Whole p inputs r.state.events.items (g.callees ++ []) (Stopped f)
 stopped_here code p inputs r f g fault =
     let es = r.state.events.items in
@@ -363,9 +363,9 @@ stops code p inputs r f well g fault =
       elision = ⊎_elim (λ h. inr h) (λ h. inl (ends_as_elided p inputs well MAX_TICKS MAX_EVENTS w.run es (StopsBy f) run h)) (limit_or_not f);
     }
 
--- ---- what a step and an invocation need
+-- ---- the requirements of a step and of an invocation
 
--- what a frame may begin
+-- the children that a frame may begin
 pub may_begin : (code : CodeView) (p : Source) (inputs : List ℤ) (r : Running) (how : Invocation) (callee : Callee) → IsTrue (is_well_named p) → (g : Going code p inputs r) → r.ask ≡ asks.Invoke how callee → MayBegin p g.frame (length r.state.cells.items) callee
 may_begin code p inputs r how callee well g is = subst (λ k. IsThere p g.frame (length r.state.cells.items) k) is (going_there code p inputs r well g)
 
@@ -378,7 +378,7 @@ not_crowded code p inputs r how callee g allowed is =
     let h = crowded_not p callee g.memory (subst (λ k. refused p g.memory k ≡ None) is (allowed g.memory s)) in
     (subst (λ n. n < MAX_FRAMES) s.frames h.0, subst (λ n. n ≤ MAX_CELLS) s.cells g.small)
 
--- a child begins, as the code says it
+-- a child begins, in the form of the code
 pub begins_child : (code : CodeView) (p : Source) (inputs : List ℤ) (r r' : Running) (a : Activation) (how : Invocation) (callee : Callee) (count : ℕ) → IsTrue (is_well_named p) → (g : Going code p inputs r) → IsAllowed p r.state r.ask
     → r.ask ≡ asks.Invoke how callee → count ≡ cells_of p callee → IsChild code r.state r.frames callee a → HasBegun r r' how count a → Progresses code p inputs r steps.Made r'
 begins_child code p inputs r r' a how callee count well g allowed is cells next did =
@@ -437,13 +437,13 @@ goes_first code p inputs s frames a well behaves shows events stands owes scoped
       behaves = behaves;
     }
 
--- what came of an ask, by another name of each
+-- the effect of a request, with each part renamed
 pub told_as : (p : Source) (fr : Frame) (s s' : State) (k k' : Ask) (t t' : Told) → k ≡ k' → t ≡ t' → Tells p fr s s' k' t → Tells p fr s s' k t'
 told_as p fr s s' k k' t t' ask told h = subst (λ (t : Told). Tells p fr s s' k t) told (subst (λ (k : Ask). Tells p fr s s' k t) (sym ask) h)
 
--- ---- what an ask needs
+-- ---- the requirements of a request
 
--- nothing stands in place of a child's beginning, or this fault
+-- the fault that replaces a child's beginning, or none
 pub uncrowded : (p : Source) (s : State) (k : Ask) (how : Invocation) (callee : Callee) (n : ℕ) → k ≡ asks.Invoke how callee → n ≡ cells_of p callee
     → ((p : Source) (callee : Callee) (m : Memory) → n ≡ cells_of p callee → Shows s m → None ≡ crowded p callee m) → IsAllowed p s k
 uncrowded p s k how callee n is cells none m h = subst (λ k. refused p m k ≡ None) (sym is) (sym (none p callee m cells h))
@@ -452,7 +452,7 @@ pub crowd_refuses : (p : Source) (s : State) (k : Ask) (how : Invocation) (calle
     → ((p : Source) (callee : Callee) (m : Memory) → n ≡ cells_of p callee → Shows s m → Some f ≡ crowded p callee m) → (m : Memory) → Shows s m → Some f ≡ refused p m k
 crowd_refuses p s k how callee n f is cells some m h = subst (λ k. Some f ≡ refused p m k) (sym is) (some p callee m cells h)
 
--- what lets the frame go on at once needs but room for an event
+-- a request after which the frame continues at once needs only room for an event
 pub allowed_inner : (p : Source) (m : Memory) (k : Ask) → IsInner k → full m ≡ None → refused p m k ≡ None
 allowed_inner p m asks.Begin h room = room
 allowed_inner p m (asks.Read x) h room = room
@@ -469,6 +469,6 @@ allowed_inner p m (asks.Result v) h room = room
 allowed_inner p m (asks.End v) h room = absurd h
 allowed_inner p m (asks.Fault f) h room = absurd h
 
--- the same state by another name
+-- the same state, renamed
 pub ended_as : (p : Source) (inputs : List ℤ) (s s' : State) (v w : ℤ) → s' ≡ s → w ≡ v → HasEnded p inputs s v → HasEnded p inputs s' w
 ended_as p inputs s s' v w same value h = subst (λ (s : State). HasEnded p inputs s w) (sym same) (subst (λ v. HasEnded p inputs s v) (sym value) h)

@@ -1,5 +1,8 @@
--- What a frame sees, by its activation and those below it: `scoped_at`, the frame of one of them; `seen_scope`, the scope; `on_top`, the same with its number; `waiting_more`,
--- those that wait once another frame runs.
+-- The scope of a frame, by its activation and those below it.
+-- `scoped_at`      the frame of a waiting activation
+-- `seen_scope`     the scope of the running frame
+-- `on_top`         the same, with its number
+-- `waiting_more`   the waiting frames once another frame runs
 use Rattle.std.proofs.Common.{◌≡◌, ℕ, suc, ◌+◌, ◌<◌, ◌≤◌, if◌then◌else◌, List, [], ◌∷◌, ◌++◌, length, reverse, slice_get, Option, Some, None, refl, sym, ap, ◌∙◌, subst, arith, inl, inr, eq-eqb}
 use Rattle.std.proofs.lemmas.Bool.{ne_eqb}
 use Rattle.std.proofs.lemmas.Bool.Decides.{eqb_tells}
@@ -58,7 +61,7 @@ pub leads_more : (parents more : List Parent) (o : Option ℕ) (scope : Scope �
 leads_more parents more None scope part h = h
 leads_more parents more (Some n) scope part h = (h.0, part n h.0 h.1, h.2)
 
--- what stands in a stack so far down
+-- the item at this depth of a stack
 standing : {A : Type 0} (xs : List A) (n : ℕ) → n < length xs → (x : A) × (from_bottom xs n ≡ Some x)
 standing [] n low = absurd (omega (arith, low))
 standing (x ∷ xs) n low = elim (eqb_tells n (length xs)) [
@@ -115,7 +118,7 @@ links p below parents (Some n) (x ∷ rest) waits h =
     let parts = cut x (home_at s.frame) rest s.outer s.scope_is in
     (s.frame, s.there, parts.0, s.low, links p below parents s.frame.outer rest waits (subst (λ scope. Leads parents s.frame.outer scope) (sym parts.1) s.leads))
 
--- what the frame that runs sees, by the activations
+-- the scope of the running frame, by the activations
 pub seen_scope : (p : Source) (frames : Frames) (fr : Frame) (parents : List Parent) → Seen p frames fr parents → HasScope frames.below.items frames.top fr.scope
 seen_scope p frames fr parents seen =
     let s = seen.scoped in

@@ -47,7 +47,7 @@ view_changes s s' e k i w m h cells output frames events changes = record {
   events = events;
 }
 
--- a view that becomes what it is
+-- a view is set to its own value
 same_chosen : (v : MonoidKind → Instance → ViewValue) (k k' : MonoidKind) (i j : Instance) (b : Bool) → same_kind k k' && same_instance i j ≡ b → (if b then v k i else v k' j) ≡ v k' j
 same_chosen v k k' i j true h = let q = and_parts (same_kind k k') (same_instance i j) h in ap (λ k. v k i) (same_kind-eq k k' q.0) ∙ ap (v k') (same_from_true i j q.1)
 same_chosen v k k' i j false h = refl
@@ -80,14 +80,14 @@ view_tells s s' k i x y m h cells output frames same number events changes =
       },
     )
 
--- one cell more
+-- one more cell
 pub zero_more : (cells : List ℤ) (n : ℕ) → get_or (cells ++ pos 0 ∷ []) n (pos 0) ≡ get_or cells n (pos 0)
 zero_more [] zero = refl
 zero_more [] (suc n) = refl
 zero_more (x ∷ cells) zero = refl
 zero_more (x ∷ cells) (suc n) = zero_more cells n
 
--- one reducer more is retired
+-- one more reducer is retired
 cleared_more : (own : ℕ → Instance) (from : ℕ) (ks : List MonoidKind) (k : MonoidKind) (m : Store Instance) → clear_all same_instance own from (ks ++ k ∷ []) m ≡ clear same_instance k (own (from + length ks)) (clear_all same_instance own from ks m)
 cleared_more own from [] k m = let e : from ≡ from + 0 = omega arith in ap (λ n. clear same_instance k (own n) m) e
 cleared_more own from (k' ∷ ks) k m =
@@ -117,6 +117,6 @@ updates s s' e k i x y m h cells output frames events same changes =
     (subst (λ v. EventMade s s' e (with_store m (put_view same_instance k i ((structure_of k).combine v ((structure_of k).single x)) m.store))) (sym (h.view k i))
     (view_changes s s' e k i ((structure_of k).combine (value_in s.views k i) ((structure_of k).single x)) m h cells output frames events changes))
 
--- an event of another value, which is the same
+-- an event with an equal value
 pub event_is : (s s' : State) (e e' : Event) (m' : Memory) → e ≡ e' → EventMade s s' e m' → EventMade s s' e' m'
 event_is s s' e e' m' same made = subst (λ e. EventMade s s' e m') same made

@@ -1,4 +1,4 @@
--- What a frame of a well-named program names is there.
+-- Everything that a frame of a well-named program names exists.
 use Rattle.std.proofs.Common.{◌≡◌, inl, inr, ℕ, zero, suc, ◌+◌, ◌<◌, ◌≤◌, ℤ, Bool, true, IsTrue, if◌then◌else◌, List, [], ◌∷◌, length, slice_get, unwrap_or, Option, Some, None, refl, sym, ap, ◌∙◌, subst, arith}
 use Rattle.std.proofs.lemmas.Bool.{and_parts, false≢true, cases_lt}
 use Rattle.std.proofs.lemmas.Option.{slice_get_past}
@@ -41,7 +41,7 @@ globals_there p n opened = record { cells = below; reducers = λ k kind is. tt }
     below : (k : ℕ) → k < length p.openings → k < n
     below k less = omega (arith, opened, less)
 
--- only a part of the parent's own loop, where the parent halves turns
+-- only a part of the parent's own loop, if the parent halves turns
 pub begins : (p : Source) (inputs : List ℤ) (parent : Callee) (history : List ℤ) (start left : ℕ) (how : Invocation) (callee : Callee) → frame_asks p inputs parent history start ≡ asks_for (asks.Invoke how callee) left → CanInvoke parent callee
 begins = can_invoke
 
@@ -81,7 +81,7 @@ reducers_small p named b (r ∷ rs) h =
     let q = and_parts (reducer_is_there p b r.place r.kind) (reducers_are_there p b rs) h in
     (reducer_small p named b r.place r.kind q.0, reducers_small p named b rs q.1)
 
--- ---- asks
+-- ---- requests
 
 result_fits : (p : Source) (fr : Frame) (n : ℕ) → Sees p fr n → IsTrue (is_whole fr.callee) → (o : Option Place) → IsTrue (result_is_there p (body_of p fr.callee) o) → ResultFits fr n o
 result_fits p fr n sees whole None h = tt
@@ -112,7 +112,7 @@ is_there p well fr n sees (asks.Result v) h may = sees.result h
 is_there p well fr n sees (asks.End v) h may = tt
 is_there p well fr n sees (asks.Fault f) h may = tt
 
--- what a frame asks for
+-- the requests of a frame
 pub asked : (p : Source) → IsTrue (is_well_named p) → (inputs : List ℤ) (callee : Callee) → CalleeIsFit p callee → (history : List ℤ) (start : ℕ) (k : Ask) (left : ℕ) → frame_asks p inputs callee history start ≡ asks_for k left → AskIsThere p callee k
 asked p well inputs callee fit history start k left e = subst (λ (q : OpenAsk). AskIsThere p callee q.ask) e (asks_there p well callee fit inputs history start)
 

@@ -1,10 +1,10 @@
--- A run that goes on makes the beginning of the serial run: from what completes it to the whole.
+-- A run in progress has made a prefix of the serial run: from its completions to the whole.
 --
---   kept_so_far    the events that were made begin those of the serial run
---   is_short       and are no more than a run may make
---   ends           a run that has ended leaves the elision's outcome
---   begins_next    what the frame runs that the next event begins, by what is asked for
---   begins_none    after the end no frame begins
+-- kept_so_far    the events made are a prefix of those of the serial run
+-- is_short       and are within the limit
+-- ends           a run that has ended has the elision's outcome
+-- begins_next    the callee of the frame that the next event begins, by the request
+-- begins_none    after the end no frame begins
 use Rattle.std.proofs.Common.{◌≡◌, ℕ, suc, ◌+◌, ◌-◌, ◌≤◌, ℤ, pos, IsTrue, List, [], ◌∷◌, ◌++◌, length, take, slice_get, Option, Some, None, refl, sym, ap, ◌∙◌, subst, arith, append_assoc, append-nil, length-append}
 use Rattle.std.proofs.lemmas.Option.{slice_get_past}
 use Rattle.cilk_types.specs.declared.event.Event.{Event}
@@ -41,7 +41,7 @@ use Rattle.cilk_serial.proofs.Endings.{leaves}
 
 -- ---- the whole
 
--- a run with these events and callees first
+-- a run that begins with these events and callees
 record Completed (p : Source) (inputs : List ℤ) (es : List Event) (cs : List Callee) : Type 0 where
   rest : List Event
   more : List Callee
@@ -58,7 +58,7 @@ further p inputs es es' cs cs' c = record {
   whole = subst (λ (l : List Event). Whole p inputs l (cs ++ (cs' ++ c.more)) c.end) (append_assoc es es' c.rest) (subst (λ (l : List Callee). Whole p inputs ((es ++ es') ++ c.rest) l c.end) (append_assoc cs cs' c.more) c.whole);
 }
 
--- the frames that wait go on to their ends
+-- the waiting frames continue to their ends
 completed : (p : Source) (inputs : List ℤ) (parents : List Parent) (es : List Event) (cs : List Callee) (end : Ending)
     → Completes p inputs parents es cs end → Completed p inputs es cs
 completed p inputs [] es cs end whole = record {
@@ -102,7 +102,7 @@ kept_so_far code p inputs r stages.Going h intact = so_far code p inputs r h
 kept_so_far code p inputs r (stages.Ended v) h intact = all_so_far p inputs r.state v h
 kept_so_far code p inputs r stages.Failed h intact = absurd intact
 
--- there are no more than a run may make
+-- the events are within the limit
 pub is_short : (p : Source) (inputs : List ℤ) (es : List Event) → IsSoFar p inputs es → length es ≤ MAX_EVENTS
 is_short p inputs es s =
     let rest = s.rest in
@@ -122,7 +122,7 @@ ends p well inputs s v h =
 
 -- ---- the frame that begins next
 
--- what lies between two lists
+-- the part between two lists
 between : {A : Type 0} (xs ys zs : List A) (y : A) → slice_get ((xs ++ y ∷ ys) ++ zs) (length xs) ≡ Some y
 between [] ys zs y = refl
 between (x ∷ xs) ys zs y = between xs ys zs y
@@ -130,7 +130,7 @@ between (x ∷ xs) ys zs y = between xs ys zs y
 same_some : {A : Type 0} {x y : A} → Some x ≡ Some y → x ≡ y
 same_some e = cc
 
--- the first event of what a frame does, and what the frame runs that it begins
+-- the first event of a frame, and the callee of the frame that it begins
 record First (m : Memory) (k : Ask) (r : Transcript) (es : List Event) : Type 0 where
   event : Event
   later : List Event
@@ -187,7 +187,7 @@ first {p = p} (Refused {m = m} k left f q bad) k' left' q' ok' =
     let same : k ≡ k' = ap (λ (a : OpenAsk). a.ask) (sym q ∙ q') in
     none_some (sym bad ∙ ap (refused p m) same ∙ ok')
 
--- of another serial run of the same program
+-- the same for another serial run of the same program
 transferred : (p : Source) (inputs : List ℤ) (es : List Event) (cs : List Callee) (end : Ending)
     → (w : Whole p inputs es cs end) → (run : Transcript) (all : List Event) (c : Conclusion)
     → IsSerialRun p inputs run all c → (all ≡ es) × (callees_of run ≡ Root ∷ cs)
@@ -195,7 +195,7 @@ transferred p inputs es cs end w run all c s =
     let one = serial_run_is_one p inputs MAX_TICKS MAX_EVENTS run w.run all es c (conclusion_of p inputs end) s (is_run p inputs es cs end w) in
     (one.1, ap callees_of one.0 ∙ ap (λ (l : List Callee). Root ∷ l) w.begins)
 
--- no event comes after these
+-- no event follows these
 no_event : (p : Source) (inputs : List ℤ) (es : List Event) (cs : List Callee) (end : Ending)
     → Whole p inputs es cs end → (o : Option Callee) → BeginsNext p inputs es o
 no_event p inputs es cs end w o run all c e s at =

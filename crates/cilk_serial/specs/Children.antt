@@ -1,4 +1,4 @@
--- Frames that are made and have not begun.
+-- Frames that have been made but haven't begun.
 use Rattle.std.specs.Prelude.{◌≡◌, ℤ, List, [], ◌∷◌, length}
 use Rattle.cilk_program.specs.declared.ask.Ask.TheVariants.{Begin}
 use Rattle.cilk_program.specs.declared.ask.Callee.{Callee}
@@ -12,7 +12,7 @@ use Rattle.cilk_serial.specs.declared.state.State.{State}
 use Rattle.cilk_serial.specs.Scoped.{Activation, Frames, MayBegin, Parent, Scoped, Seen}
 use Rattle.cilk_serial.specs.States.{Shows}
 
--- the frame of a callee that the frame on top begins, with the next number and the next cells
+-- the frame of a callee that the running frame begins, with the next number and the next cells
 pub record IsChild (code : CodeView) (s : State) (frames : Frames) (callee : Callee) (a : Activation) : Type 0 where
   pub stands : (p : Source) (inputs : List ℤ) → Behaves p code → CalleeIsFit p callee → Stands code inputs p callee a.cursor [] 0
   pub owes : a.cursor.owed ≡ owed_for Begin

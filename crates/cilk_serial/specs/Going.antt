@@ -1,4 +1,4 @@
--- A serial run that goes on: whatever completes the rest completes the whole.
+-- A serial run in progress: every completion of the rest completes the whole.
 use Rattle.std.specs.Prelude.{◌≡◌, ◌+◌, ◌≤◌, ℕ, suc, ℤ, pos, List, [], ◌∷◌, ◌++◌, length, None}
 use Rattle.cilk_types.specs.declared.event.Event.{Event}
 use Rattle.cilk_types.specs.declared.invocation.Invocation.{Invocation}
@@ -27,14 +27,15 @@ use Rattle.cilk_serial.specs.Scoped.{Parent, Scoped, Sees, waiting}
 use Rattle.cilk_serial.specs.SoFar.{begun_in}
 use Rattle.cilk_serial.specs.States.{Begins, Shows}
 
--- the root's frame did this, made these events, began frames that run these and ended so
+-- the root's frame had this run, with these events, these callees and this end
 pub record Whole (p : Source) (inputs : List ℤ) (events : List Event) (callees : List Callee) (end : Ending) : Type 0 where
   pub run : Transcript
   pub begins : begun_in run ≡ callees
   pub serial : Serial p inputs (root_frame p inputs) MAX_TICKS [] (begun p Root (before_root p inputs MAX_EVENTS)) run events end
 
--- Once the frame at hand has ended so, after these events and the beginnings of frames that run these: the whole run has,
--- where no frame waits; else the uppermost goes on, and a fault stops them all.
+-- Suppose the running frame has ended in this way, after these events and callees. If no frame
+-- waits, the whole run has ended. Otherwise the topmost waiting frame continues, or a fault stops
+-- them all.
 abbrev pub Completes : Source → List ℤ → List Parent → List Event → List Callee → Ending → Type 0
 Completes p inputs [] events callees end = Whole p inputs events callees end
 Completes p inputs (q ∷ qs) events callees (Finished v left m) =
@@ -75,7 +76,8 @@ pub record Going (code : CodeView) (p : Source) (inputs : List ℤ) (running : R
   pub small : memory.cells ≤ MAX_CELLS
   pub behaves : Behaves p code
 
--- the event of an invocation is made, the child with so many cells runs, and the frame that invoked it waits
+-- the event of an invocation is made, the child with these cells runs, and the frame that invoked
+-- it waits
 pub record HasBegun (r r' : Running) (how : Invocation) (cells : ℕ) (child : Activation) : Type 0 where
   pub state : Begins r.state r'.state how cells
   pub top : r'.frames.top ≡ child
@@ -93,19 +95,19 @@ pub record HasEnded (p : Source) (inputs : List ℤ) (s : State) (v : ℤ) : Typ
   pub counted : length s.events.items ≤ MAX_EVENTS
   pub whole : Whole p inputs s.events.items callees (Finished v left memory)
 
--- no fault stands in place of the next event
+-- no fault replaces the next event
 abbrev pub IsAllowed : Source → State → Ask → Type 0
 IsAllowed p s k = (m : Memory) → Shows s m → refused p m k ≡ None
 
--- one event more
+-- one more event
 abbrev pub IsLonger : State → State → Type 0
 IsLonger s s' = (e : Event) × (s'.events.items ≡ s.events.items ++ e ∷ [])
 
--- further events
+-- more events, or none
 abbrev pub IsLater : State → State → Type 0
 IsLater s s' = (more : List Event) × (s'.events.items ≡ s.events.items ++ more)
 
--- what a step comes to
+-- the result of a step
 abbrev pub Progresses : CodeView → Source → List ℤ → Running → Step → Running → Type 0
 Progresses code p inputs r steps.Made r' = Going code p inputs r' × IsLonger r.state r'.state
 Progresses code p inputs r (steps.Last v) r' = HasEnded p inputs r'.state v × IsLonger r.state r'.state
@@ -116,7 +118,7 @@ abbrev pub Halts : CodeView → Source → List ℤ → Running → Halt → Typ
 Halts code p inputs r (halts.Ended v) = HasEnded p inputs r.state v
 Halts code p inputs r (halts.Stopped f) = Going code p inputs r × StopsAfter p inputs r.state.events.items f
 
--- what a run keeps true, as far as it has come
+-- the invariant of a run at each stage
 abbrev pub Keeps : CodeView → Source → List ℤ → Running → Stage → Type 0
 Keeps code p inputs r stages.Going = Going code p inputs r
 Keeps code p inputs r (stages.Ended v) = HasEnded p inputs r.state v

@@ -1,4 +1,5 @@
--- What the code's activations stand for: the frame at hand, and the frames that wait for their children.
+-- The frames that the code's activations represent: the running frame, and the frames that wait for
+-- their children.
 use Rattle.std.specs.Prelude.{◌≡◌, ◌+◌, ◌<◌, ◌≤◌, ℕ, ℤ, List, [], ◌∷◌, length, reverse, Option, Some, None}
 use Rattle.cilk_types.specs.declared.event.Instance.{Instance}
 use Rattle.cilk_monoid.specs.declared.kind.MonoidKind.{MonoidKind}
@@ -23,21 +24,21 @@ pub use Rattle.cilk_frames.specs.Sight.{AreSmall, number_in}
 abbrev pub Activation : Type 0
 Activation = activations.Activation CursorView
 
--- the frame that runs, and those that wait
+-- the running frame, and those that wait
 abbrev pub Frames : Type 0
 Frames = call_stacks.CallStack CursorView
 
--- those that wait, the uppermost first
+-- the waiting frames, the topmost first
 abbrev pub waiting : Frames → List Activation
 waiting frames = reverse frames.below.items
 
--- a frame that waits for a child: the answers that it had, and the ticks that it took
+-- a frame that waits for a child: its answers so far, and the ticks that it has used
 pub record Parent : Type 0 where
   pub frame : Frame
   pub history : List ℤ
   pub took : ℕ
 
--- what a static link leads to
+-- the scope at the end of a static link
 abbrev pub Leads : List Parent → Option ℕ → Scope ℕ Instance → Type 0
 Leads parents None scope = scope ≡ []
 Leads parents (Some n) scope = (q : Parent) × (from_bottom parents n ≡ Some q) × (scope ≡ q.frame.scope)
@@ -47,12 +48,12 @@ abbrev pub kinds_of : Source → Option ℕ → List MonoidKind
 kinds_of p None = []
 kinds_of p (Some k) = let f = function_at p k in f.reducers
 
--- a function that is there, if any
+-- a function that exists, if any
 abbrev pub IsCreator : Source → Option ℕ → Type 0
 IsCreator p None = Unit {0}
 IsCreator p (Some k) = (k < length p.functions) × (length (kinds_of p (Some k)) ≤ 64)
 
--- an activation stands for a frame, above these that wait
+-- an activation represents a frame, above these waiting frames
 pub record Scoped (p : Source) (a : Activation) (fr : Frame) (parents : List Parent) : Type 0 where
   pub number : fr.number ≡ a.number
   pub outer : Scope ℕ Instance
@@ -64,33 +65,33 @@ pub record Scoped (p : Source) (a : Activation) (fr : Frame) (parents : List Par
   pub creator : IsCreator p a.creator
   pub creates : own_reducers p fr.callee ≡ kinds_of p a.creator
 
--- and each that waits does
+-- each waiting activation represents its frame
 abbrev pub AreScoped : Source → List Activation → List Parent → Type 0
 AreScoped p [] [] = Unit {0}
 AreScoped p [] (q ∷ qs) = ⊥
 AreScoped p (a ∷ list) [] = ⊥
 AreScoped p (a ∷ list) (q ∷ qs) = Scoped p a q.frame qs × AreScoped p list qs
 
--- the frame that runs, and those below it
+-- the running frame and the waiting frames are represented
 pub record Seen (p : Source) (frames : Frames) (fr : Frame) (parents : List Parent) : Type 0 where
   pub scoped : Scoped p frames.top fr parents
   pub waits : AreScoped p (waiting frames) parents
 
--- a frame runs on top of these activations, whatever is kept of their cursors
+-- the frame runs on top of these activations, for any type of cursor
 pub record IsOnTop {C : Type 0} (frames : call_stacks.CallStack C) (fr : Frame) : Type 0 where
   pub number : fr.number ≡ frames.top.number
   pub scope : HasScope frames.below.items frames.top fr.scope
   pub result : fr.result ≡ frames.top.result
 
--- a cell is among the first so many
+-- a cell is among the first n
 abbrev pub Below : ℕ → ℕ → Type 0
 Below n c = c < n
 
--- of reducers nothing is said here
+-- no condition on reducers
 abbrev pub Any : Instance → MonoidKind → Type 0
 Any i k = Unit {0}
 
--- what a frame names is there, once there are so many cells
+-- everything that a frame names exists, if there are n cells
 abbrev pub Sees : Source → Frame → ℕ → Type 0
 Sees p fr n = FrameSees p itself global_reducer (Below n) Any fr.callee fr.scope fr.result
 
@@ -98,13 +99,14 @@ abbrev pub ResultFits : Frame → ℕ → Option Place → Type 0
 ResultFits fr n None = Unit {0}
 ResultFits fr n (Some x) = cell_at fr x < n
 
--- what a frame begins: a function's reducers and result are there, and a loop's static link is short
+-- The callees that a frame may begin. A function's reducers and result exist, and a loop's static
+-- link is short.
 abbrev pub MayBegin : Source → Frame → ℕ → Callee → Type 0
 MayBegin p fr n callees.Root = ⊥
 MayBegin p fr n (callees.Function c) = AreSmall c.reducers × ResultFits fr n c.result × IsCreator p (Some c.function)
 MayBegin p fr n (callees.Loop l) = l.up ≤ 1
 
--- what an ask names is there
+-- everything that a request names exists
 abbrev pub IsThere : Source → Frame → ℕ → Ask → Type 0
 IsThere p fr n asks.Begin = Unit {0}
 IsThere p fr n (asks.Read x) = cell_at fr x < n
@@ -121,7 +123,7 @@ IsThere p fr n (asks.Result v) = (c : ℕ) × (fr.result ≡ Some c) × (c < n)
 IsThere p fr n (asks.End v) = Unit {0}
 IsThere p fr n (asks.Fault f) = Unit {0}
 
--- a callee that an ask begins fits what it runs
+-- the callee of a request is valid
 abbrev pub IsBegunRightly : Source → Ask → Type 0
 IsBegunRightly p asks.Begin = Unit {0}
 IsBegunRightly p (asks.Read x) = Unit {0}

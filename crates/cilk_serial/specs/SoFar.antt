@@ -1,4 +1,4 @@
--- A serial run while it is made, event by event.
+-- A serial run that is made one event at a time.
 use Rattle.std.specs.Prelude.{◌≡◌, ◌-◌, ℤ, List, [], ◌∷◌, ◌++◌, length, slice_get, Option, None, Some, refl}
 use Rattle.std.specs.Coded.{Coded, code_by, coded×, coded_list, coded_ℤ}
 use Rattle.cilk_types.specs.contracts.event.Event as event
@@ -21,24 +21,24 @@ use Rattle.cilk_serial.specs.declared.serial_run.Stage.{Stage}
 use Rattle.cilk_serial.specs.declared.serial_run.Stage.TheVariants as stages
 use Rattle.cilk_serial.specs.Ran.{Ran, StopsAfter}
 
--- The serial run makes these events first: they begin the events of the whole, which ends by itself or by a fault.
+-- These events are a prefix of the events of the serial run, which ends by itself or by a fault.
 pub record IsSoFar (p : Source) (inputs : List ℤ) (es : List Event) : Type 0 where
   pub run : Transcript
   pub rest : List Event
   pub conclusion : Conclusion
   pub serial : IsSerialRun p inputs run (es ++ rest) conclusion
 
--- what the frames run that a frame and its children begin, in order of their numbers
+-- the callees of the frames that a frame and its children begin, in order of their numbers
 abbrev pub begun_in : Transcript → List Callee
 begun_in stop = []
 begun_in (act k a r) = begun_in r
 begun_in (child how callee u r) = callee ∷ (begun_in u ++ begun_in r)
 
--- what each frame of a run of the first frame runs, in order of their numbers
+-- the callees of all frames of a run, in order of their numbers
 abbrev pub callees_of : Transcript → List Callee
 callees_of r = Root ∷ begun_in r
 
--- what the frame runs that an event begins, if it begins one
+-- the callee of the frame that an event begins, if it begins one
 abbrev pub callee_at : List Callee → Event → Option Callee
 callee_at callees (events.Begin n) = None
 callee_at callees (events.Spawn n) = slice_get callees (n - 1)
@@ -54,13 +54,13 @@ callee_at callees (events.Set i v) = None
 callee_at callees (events.Value i v) = None
 callee_at callees (events.Print v) = None
 
--- in the serial run the event after these begins a frame that runs this, or none
+-- in the serial run, the event after these begins a frame with this callee, or none
 abbrev pub BeginsNext : Source → List ℤ → List Event → Option Callee → Type 0
 BeginsNext p inputs es callee =
     (run : Transcript) (all : List Event) (c : Conclusion) (e : Event)
     → IsSerialRun p inputs run all c → slice_get all (length es) ≡ Some e → callee_at (callees_of run) e ≡ callee
 
--- what callers see of a run that is being made: its program and inputs, the events so far, and how far it has come
+-- A run in progress, as callers see it: its program and inputs, the events so far, and its stage.
 pub record RunView : Type 0 where
   pub program : Program
   pub inputs : List ℤ
@@ -87,37 +87,37 @@ IsIntact stages.Going = Unit {0}
 IsIntact (stages.Ended v) = Unit {0}
 IsIntact stages.Failed = ⊥
 
--- one event more is made, and is the serial run's next
+-- one more event is made, which is the next one of the serial run
 pub record MakesNext (v : RunView) (e : Event) (v' : RunView) : Type 0 where
   pub program : v'.program ≡ v.program
   pub inputs : v'.inputs ≡ v.inputs
   pub events : v'.events ≡ v.events ++ e ∷ []
   pub so_far : IsSoFar (source v.program) v.inputs v'.events
 
--- the events so far are all, and the run leaves the elision's outcome
+-- the events so far are all, and the outcome is the elision's
 pub record EndsNext (v v' : RunView) : Type 0 where
   pub same : v' ≡ v
   pub over : IsOver v.stage
   pub outcome : Outcome
   pub ran : Ran (source v.program) v.inputs outcome v.events
 
--- the events so far are all, and the run stops by a fault
+-- the events so far are all, and a fault stops the run
 pub record StopsNext (v : RunView) (fault : Fault) (v' : RunView) : Type 0 where
   pub same : v' ≡ v
   pub stops : StopsAfter (source v.program) v.inputs v.events fault
 
--- what comes next
+-- the meaning of the next step
 abbrev pub Comes : RunView → Next → RunView → Type 0
 Comes v (next.Made e) v' = MakesNext v e v'
 Comes v next.Ended v' = EndsNext v v'
 Comes v (next.Stops fault) v' = StopsNext v fault v'
 
--- a run halts here: it is over, or stops by a fault
+-- a run halts here: it has ended, or a fault stops it
 abbrev pub HaltsHere : RunView → Option Fault → Type 0
 HaltsHere v None = EndsNext v v
 HaltsHere v (Some fault) = StopsNext v fault v
 
--- the events that were left are made, up to the end or a fault
+-- the remaining events are made, up to the end or a fault
 pub record MakesRest (v : RunView) (fault : Option Fault) (v' : RunView) : Type 0 where
   pub program : v'.program ≡ v.program
   pub inputs : v'.inputs ≡ v.inputs

@@ -1,4 +1,4 @@
--- What the code's store, counters and events stand for.
+-- The memory that the code's store, counters and events represent.
 use Rattle.std.specs.Prelude.{◌≡◌, ℕ, suc, ◌+◌, ◌-◌, false, ℤ, pos, [], ◌∷◌, ◌++◌, length, slice_index_or}
 use Rattle.cilk_types.specs.declared.event.Event.{Event}
 use Rattle.cilk_types.specs.declared.event.Instance.{Instance}
@@ -20,7 +20,8 @@ use Rattle.cilk_serial.specs.declared.answer.Told.{Told}
 use Rattle.cilk_serial.specs.declared.answer.Told.TheVariants.{Goes, Turns, Ends, Stops}
 use Rattle.cilk_serial.specs.declared.state.State.{State}
 
--- Cells that no frame has yet are 0, and an absent view counts as the unit.
+-- A state represents a memory. Cells that no frame has yet are 0, and an absent view counts as the
+-- unit.
 pub record Shows (s : State) (m : Memory) : Type 0 where
   pub cell : (n : ℕ) → m.store.cells n ≡ slice_index_or s.cells.items n (pos 0)
   pub view : (k : MonoidKind) (i : Instance) → m.store.views k i ≡ value_in s.views k i
@@ -29,32 +30,32 @@ pub record Shows (s : State) (m : Memory) : Type 0 where
   pub cells : m.cells ≡ length s.cells.items
   pub room : m.room ≡ MAX_EVENTS - length s.events.items
 
--- the code made one event, whatever memory it stood for
+-- the code made one event, and then represents this memory
 pub record EventMade (s s' : State) (event : Event) (m' : Memory) : Type 0 where
   pub shows : Shows s' m'
   pub events : s'.events.items ≡ s.events.items ++ event ∷ []
 
--- an event that tells a word, and the store after it
+-- for any memory represented before: the answer `word`, the event made, and the store after it
 abbrev pub Makes : State → State → (Memory → ℤ) → ℤ → (Memory → Event) → (Memory → Store Instance) → Type 0
 Makes s s' word told event store = (m : Memory) → Shows s m → (told ≡ word m) × EventMade s s' (event m) (with_store m (store m))
 
--- what a frame is told, the event of its ask, and the memory then
+-- the answer to a frame's request, its event, and the memory after it
 pub record Answers (p : Source) (fr : Frame) (s s' : State) (k : Ask) (a : Answer) : Type 0 where
   pub fits : Fits (owed_for k) a
   pub makes : Makes s s' (λ m. answer_to fr m k) (word_in a) (λ m. event_of fr m k) (λ m. stored p fr m k)
 
--- what comes of an ask: only where the frame goes on at once is anything changed
+-- The effect of a request. The state changes only if the frame continues at once.
 abbrev pub Tells : Source → Frame → State → State → Ask → Told → Type 0
 Tells p fr s s' k (Goes a) = IsInner k × Answers p fr s s' k a
 Tells p fr s s' k (Turns how part) = (s' ≡ s) × (k ≡ Invoke how (Loop part))
 Tells p fr s s' k (Ends v) = (s' ≡ s) × (k ≡ End v)
 Tells p fr s s' k (Stops f) = (s' ≡ s) × (k ≡ Fault f)
 
--- a reducer is retired, and no event is made
+-- a reducer is retired, without an event
 abbrev pub Retires : State → State → Instance → MonoidKind → Type 0
 Retires s s' i k = (m : Memory) → Shows s m → Shows s' (record { store = clear same_instance k i m.store; frames = m.frames; cells = m.cells; room = m.room })
 
--- there are so many cells more, and nothing else is changed
+-- there are `count` more cells, and nothing else changes
 pub record Extends (s s' : State) (count : ℕ) : Type 0 where
   pub cells : (n : ℕ) → slice_index_or s'.cells.items n (pos 0) ≡ slice_index_or s.cells.items n (pos 0)
   pub more : length s'.cells.items ≡ length s.cells.items + count
@@ -63,14 +64,14 @@ pub record Extends (s s' : State) (count : ℕ) : Type 0 where
   pub events : s'.events ≡ s.events
   pub frames : s'.frames ≡ s.frames
 
--- an invocation, after which the child's cells are there
+-- an invocation, after which the child's cells exist
 abbrev pub Begins : State → State → Invocation → ℕ → Type 0
 Begins s s' how count = (m : Memory) → Shows s m → EventMade s s' (invocation how (suc m.frames)) (record { store = m.store; frames = suc m.frames; cells = m.cells + count; room = m.room - 1 })
 
--- the views of a store, where an absent one counts as the unit
+-- the hypermap represents the views of a store, where an absent view counts as the unit
 abbrev pub ShowsViews : Hypermap → Store Instance → Type 0
 ShowsViews h m = (k : MonoidKind) (i : Instance) → m.views k i ≡ value_in h k i
 
--- the values of all other reducers are as they were
+-- the values of all other reducers are unchanged
 abbrev pub KeepsOthers : Hypermap → Hypermap → Instance → Type 0
 KeepsOthers old new i = (k : MonoidKind) (j : Instance) → same_instance i j ≡ false → value_in new k j ≡ value_in old k j

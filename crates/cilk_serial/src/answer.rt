@@ -1,4 +1,4 @@
-// What comes of what a frame asks for.
+// The answer to a frame's request.
 
 ghost use Rattle.std.specs.Prelude.{◌≡◌, ◌≤◌, length, Ok, Err, IfOk, MatchResult};
 ghost use Rattle.cilk_types.specs.declared.limits.TheConstants.{MAX_CELLS};
@@ -19,20 +19,21 @@ use cilk_types::fault::Fault;
 use cilk_types::invocation::Invocation;
 use std::alloc::{AllocError, Global};
 
-/// What comes of an ask, where there is room for one more event.
+/// The effect of a request, if there is room for one more event.
 #[derive(Clone, Copy)]
 pub enum Told {
-    /// Its event is made, and the frame goes on with this answer.
+    /// Its event was made, and the frame continues with this answer.
     Goes(Answer),
-    /// The frame of these turns of a loop begins.
+    /// The frame of some turns of a loop is to begin.
     Turns(Invocation, LoopPart),
     /// The frame ends with this result.
     Ends(i64),
-    /// The frame can't go on.
+    /// The frame stops by a fault.
     Stops(Fault),
 }
 
-/// Makes the event of an ask of the frame on top, if it goes on at once.
+/// Makes the event of a request of the running frame, if the frame continues at once. Changes
+/// nothing otherwise.
 #[inline(always)]
 pub fn answer<C>(
     alloc: Global,
@@ -81,7 +82,6 @@ pub fn answer<C>(
     }
 }
 
-// The frame goes on with this answer.
 #[inline(always)]
 fn goes(answer: Result<Answer, AllocError>) -> Result<Told, AllocError>
     ensures { MatchResult answer (λ a. result ≡ Ok (Goes a)) (λ e. result ≡ Err e) }

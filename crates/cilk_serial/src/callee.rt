@@ -1,4 +1,4 @@
-// What the frame of a callee has, by its program.
+// The callee of a request, and the cells of its frame.
 
 ghost use Rattle.std.specs.Prelude.{◌≡◌, ◌<◌, length};
 ghost use Rattle.cilk_program.specs.Syntax.{function_at, loop_at};
@@ -12,7 +12,7 @@ use cilk_frames::halves::has_one;
 use cilk_program::ask::{Ask, Callee, LoopPart};
 use cilk_program::program::Program;
 
-/// What the frame runs that an ask begins, if it begins one.
+/// Returns the callee of an invocation; none for other requests.
 pub fn callee_asked(ask: &AskSlot) -> Option<Callee>
     ensures { result ≡ child_of ask.now }
 {
@@ -22,7 +22,7 @@ pub fn callee_asked(ask: &AskSlot) -> Option<Callee>
     }
 }
 
-/// How many cells a function's frame has.
+/// Returns the number of cells of a function's frame.
 pub fn function_cells(program: &Program, function: u32) -> u32
     requires { let p = source program.now in function < length p.functions }
     ensures { let f = function_at (source program.now) function in result ≡ f.cells }
@@ -30,7 +30,7 @@ pub fn function_cells(program: &Program, function: u32) -> u32
     program.functions[function as usize].cells
 }
 
-/// How many cells a frame of turns has: those of its one turn, or none where it is halved.
+/// Returns the number of cells of a frame of a loop's turns, which is 0 if it has several.
 pub fn turn_cells(program: &Program, part: &LoopPart) -> u32
     requires { let p = source program.now in part.now.number < length p.loops }
     ensures { result ≡ cells_of (source program.now) (Loop part.now) }
@@ -42,7 +42,7 @@ pub fn turn_cells(program: &Program, part: &LoopPart) -> u32
     }
 }
 
-// The cells of one turn's frame.
+// The number of cells of one turn's frame.
 fn loop_cells(program: &Program, number: u32) -> u32
     requires { number < length program.now.loops.items }
     ensures { let l = loop_at (source program.now) number in result ≡ l.cells }

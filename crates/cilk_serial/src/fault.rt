@@ -1,4 +1,4 @@
-//! Why there is no outcome.
+//! The error of a run without an outcome.
 
 ghost use Rattle.std.specs.Prelude.{◌≡◌};
 ghost use Rattle.cilk_serial.specs.declared.fault.RunFault.TheVariants.{Memory};
@@ -8,13 +8,13 @@ use cilk_types::fault::Fault;
 use std::alloc::{AllocError, AllocFailed};
 use thiserror::Error;
 
-/// Why a run has no outcome.
+/// The reason why a run has no outcome.
 #[derive(Drop, Debug, Error)]
 pub enum RunFault {
-    /// Memory was refused.
+    /// Memory was refused, which says nothing about the program.
     #[error("no memory")]
     Memory,
-    /// The program's run stops by a fault, in place of the event at this position.
+    /// The run stopped by a fault, in place of the event at this position.
     #[error("{fault} at {at}")]
     At { fault: Fault, at: Pos },
 }

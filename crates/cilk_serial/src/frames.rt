@@ -1,4 +1,4 @@
-// Frames as they begin and end.
+// Frames that begin or end.
 
 ghost use Rattle.std.specs.Prelude.{◌≡◌, ◌<◌, ◌≤◌, [], List, ℤ, length, IfOk};
 ghost use Rattle.cilk_monoid.specs.Ranges.{same_instance};
@@ -27,7 +27,7 @@ use cilk_program::program::Program;
 use cilk_types::event::{Cell, Instance};
 use std::alloc::{AllocError, Global};
 
-/// The root's frame.
+/// Returns the root's frame before it begins.
 pub fn root(alloc: Global, program: &Program, code: &Code) -> Result<Activation<Cursor>, AllocError>
     ensures stands { IfOk result (λ a. (inputs : List ℤ) → Behaves (source program.now) code.now → Stands code.now inputs (source program.now) callees.Root a.cursor [] 0) }
     ensures owes { IfOk result (λ a. a.cursor.owed ≡ owed_for Begin) }
@@ -46,7 +46,7 @@ pub fn root(alloc: Global, program: &Program, code: &Code) -> Result<Activation<
     ))
 }
 
-/// The frame of a function that the frame on top invokes, before it begins.
+/// Returns the frame of a function that the running frame invokes, before it begins.
 pub fn function(
     alloc: Global,
     code: &Code,
@@ -74,7 +74,7 @@ pub fn function(
     Ok(frame)
 }
 
-/// The frame of some turns of a loop that the frame on top invokes, before it begins.
+/// Returns the frame of some turns of a loop that the running frame invokes, before it begins.
 pub fn turns(
     alloc: Global,
     code: &Code,
@@ -95,7 +95,7 @@ pub fn turns(
     Ok(frame)
 }
 
-/// The reducers of a frame that ends are retired.
+/// Retires the reducers of a frame that ends.
 pub fn retire<C>(program: &Program, state: &mut State, top: &Activation<C>)
     requires there { IsCreator (source program.now) top.now.creator }
     requires low { top.now.first < 65536 }
@@ -110,7 +110,7 @@ pub fn retire<C>(program: &Program, state: &mut State, top: &Activation<C>)
     )
 }
 
-// Those with these monoids, from a frame's first on.
+// Retires the reducers with these monoids, from a frame's first own one on.
 fn retire_all<C>(state: &mut State, top: &Activation<C>, kinds: &[MonoidKind])
     requires few { length kinds.now ≤ 64 }
     requires low { top.now.first < 65536 }
@@ -126,7 +126,7 @@ fn retire_all<C>(state: &mut State, top: &Activation<C>, kinds: &[MonoidKind])
     }
 }
 
-// A program has few globals and few global reducers.
+// For the proof only: a program has few globals and few global reducers.
 fn few(program: &Program)
     ensures globals { length program.now.globals ≤ 1000000 }
     ensures reducers { length program.now.reducers.items ≤ 64 }

@@ -1,33 +1,38 @@
-//! The serial run of a program: its outcome, and the list of its events in serial order.
+//! The serial run of a Cilk program: its outcome, and its events in serial order.
 //!
-//! [`serial_run::SerialRun`] makes the run event by event: it drives [`cilk_frames::stepping::step_into`] over one store of
-//! cells, one hypermap and a stack of frames. A child runs where it is called or spawned, and its parent waits below
-//! it. Nothing recurses on the depth of the run, and no list is scanned for an event: a frame knows its first cell, the
-//! reducers that it was given, and by a static link the frame that its body stands in. [`run::run`] makes it to the
-//! end.
+//! The serial run is the execution on one worker. A child runs as soon as it is called or spawned,
+//! and its parent waits below it on the stack. The outcome is that of the serial elision, the
+//! program without its parallel keywords (Frigo, Leiserson and Randall 1998). The trace, which is
+//! the list of all events, is the input of the race and determinacy checks.
 //!
-//! The answer is the one that the program's definitions say: the outcome is that of the serial elision, the trace is
-//! that of the serial run, and a fault comes with the position in whose place it stands. On the way the events so far
-//! are the first ones of the serial run.
+//! The run steps frames with [`cilk_frames::stepping::step_into`], over one store of cells, one
+//! hypermap of views and a stack of frames. It doesn't recurse on the depth of the run, and no
+//! event costs the scan of a list: each frame has its first cell, reducers and static link.
+//!
+//! | Item | Purpose |
+//! |---|---|
+//! | [`run::run`] | the whole run: its outcome and trace, or a fault |
+//! | [`serial_run::SerialRun`] | the same run, one event at a time |
+//! | [`serial_run::Next`] | the next event, the end or a fault |
+//! | [`fault::RunFault`] | out of memory, or a fault and its position |
 //!
 //! ```text
-//! let (outcome, trace) = run(alloc, &program, &input)?;   // of `int main(){return 0;}`: result 0; begin, sync, end
-//! ```
+//! let (outcome, trace) = run(alloc, &program, &input)?;
 //!
-//! The same, with each event at hand as it is made:
-//!
-//! ```text
 //! let code = lower(alloc, &program)?;
 //! let mut serial = SerialRun::new(alloc, &program, &code, &input)?;
 //! loop {
-//!     let callee = serial.callee();                // what the frame runs that the next event begins, if it begins one
+//!     let callee = serial.callee();                // of the frame that the next event begins
 //!     match serial.next()? {
 //!         Next::Made(event) => show(event, callee),
 //!         Next::Ended => return serial.finish(),   // the outcome and the trace
-//!         Next::Stops(fault) => return Err(fault), // serial.into_trace() keeps the events before it
+//!         Next::Stops(fault) => return Err(fault), // into_trace() keeps the events before it
 //!     }
 //! }
 //! ```
+//!
+//! The contracts say that the outcome is the elision's, and that the events so far are a prefix of
+//! the serial run's unless memory is refused.
 #![tactic(auto)]
 
 pub mod answer;

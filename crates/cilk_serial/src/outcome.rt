@@ -1,4 +1,4 @@
-// What a run that has ended leaves.
+// The outcome of a run that has ended.
 
 ghost use Rattle.std.specs.Prelude.{◌≡◌, ◌≤◌, ℤ, List, length, map, IfOk, OnOk};
 ghost use Rattle.cilk_types.specs.declared.event.Instance.{Instance};
@@ -22,7 +22,7 @@ use cilk_types::sequence::Sequence;
 use cilk_types::trace::Trace;
 use std::alloc::{AllocError, Global};
 
-/// The outcome and the trace.
+/// Returns the outcome and the trace.
 pub fn outcome(
     alloc: Global,
     program: &Program,
@@ -71,7 +71,7 @@ fn finals(
     Ok(list)
 }
 
-// The value that a reducer leaves.
+// The last value of a reducer, taken out of its view.
 fn last(
     alloc: Global,
     views: &mut Hypermap,

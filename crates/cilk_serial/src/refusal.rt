@@ -13,7 +13,7 @@ use cilk_program::ask::Ask;
 use cilk_types::fault::Fault;
 use cilk_types::limits::{MAX_CELLS, MAX_EVENTS, MAX_FRAMES};
 
-/// Whether the run has made as many events as it may.
+/// Returns whether the run has as many events as it may have.
 #[inline(always)]
 pub fn is_full(state: &State) -> bool
     ensures full { result ≡ true → (m : Memory) → Shows state.now m → full m ≡ Some TooManyEvents }
@@ -22,7 +22,7 @@ pub fn is_full(state: &State) -> bool
     state.events.len() >= MAX_EVENTS as usize
 }
 
-/// The fault that stands in place of an ask's event, where no more events may be made.
+/// Returns the fault that replaces a request's event when no more events may be made.
 #[cold]
 pub fn fault_when_full(ask: &AskSlot) -> Fault
     ensures { (p : Source) (m : Memory) → full m ≡ Some TooManyEvents → refused p m ask.now ≡ Some result }
@@ -33,7 +33,7 @@ pub fn fault_when_full(ask: &AskSlot) -> Fault
     }
 }
 
-/// The fault that stands in place of one more frame, with so many cells.
+/// Returns the fault that replaces one more frame with `cells` cells, if any.
 pub fn crowded(state: &State, cells: u32) -> Option<Fault>
     ensures { (p : Source) (callee : Callee) (m : Memory) → cells ≡ cells_of p callee → Shows state.now m → result ≡ crowded p callee m }
 {

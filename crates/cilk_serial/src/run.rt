@@ -1,4 +1,4 @@
-//! The serial run.
+//! The whole serial run.
 
 ghost use Rattle.std.specs.Prelude.{◌≡◌, ◌+◌, ◌≤◌, length, IfOk, IfErr};
 ghost use Rattle.cilk_types.specs.declared.limits.TheConstants.{MAX_EVENTS};
@@ -17,8 +17,9 @@ use cilk_types::outcome::Outcome;
 use cilk_types::trace::Trace;
 use std::alloc::Global;
 
-/// The outcome of the program's serial elision on this input, and the trace of its serial run. A fault comes with the
-/// position in whose place it stands. Cost: linear in the ticks; memory linear in the events, the cells and the frames that wait.
+/// Returns the outcome of the program's serial elision on this input, and the trace of its serial
+/// run. A fault comes with the position of the event that it replaces. Cost: time linear in the
+/// ticks; memory linear in the events, the cells and the depth of frames.
 pub fn run(alloc: Global, program: &Program, input: &Input) -> Result<(Outcome, Trace), RunFault>
     ensures ok { IfOk result (λ r. Ran (source program.now) input.now r.0 r.1) }
     ensures fault { IfErr result (λ e. IsRunFault (source program.now) input.now e) }
@@ -27,7 +28,7 @@ pub fn run(alloc: Global, program: &Program, input: &Input) -> Result<(Outcome, 
     run_code(alloc, program, &code, input)
 }
 
-// The same by the program's code.
+// Runs the code of a program.
 fn run_code(
     alloc: Global,
     program: &Program,

@@ -1,4 +1,4 @@
-// A run that goes on.
+// A run in progress.
 
 ghost use Rattle.std.specs.Prelude.{◌≡◌, ◌<◌, ℤ, List, [], IfOk, OnOk};
 ghost use Rattle.cilk_types.specs.declared.limits.TheConstants.{MAX_FRAMES};
@@ -31,7 +31,7 @@ use cilk_types::invocation::Invocation;
 use cilk_types::limits::MAX_TICKS;
 use std::alloc::{AllocError, Global};
 
-/// The store, the frame that runs and those that wait, what it asks for, and the ticks that are left.
+/// The store, the frames, the request of the running frame, and the ticks left.
 #[derive(Drop)]
 pub struct Running {
     pub state: State,
@@ -40,14 +40,14 @@ pub struct Running {
     pub left: u32,
 }
 
-/// What a step of a run comes to.
+/// The result of a step.
 #[derive(Clone, Copy)]
 pub enum Step {
-    /// An event, and the run goes on.
+    /// An event was made, and the run continues.
     Made,
-    /// The last event: the main function has ended with this result.
+    /// The last event was made: the main function has ended with this result.
     Last(i64),
-    /// A fault in place of the next event.
+    /// A fault stops the run in place of the next event.
     Stops(Fault),
 }
 
@@ -56,12 +56,12 @@ pub enum Step {
 pub enum Halt {
     /// The main function has ended with this result.
     Ended(i64),
-    /// A fault stands in place of the next event.
+    /// A fault stops the run in place of the next event.
     Stopped(Fault),
 }
 
 impl Running {
-    /// The root's frame, before it begins.
+    /// Returns the run before the root's frame begins.
     pub fn new(alloc: Global, program: &Program, code: &Code) -> Result<Running, AllocError>
         requires { Behaves (source program.now) code.now }
         ensures going { (inputs : List ℤ) → IfOk result (λ running. Going code.now (source program.now) inputs running) }
@@ -84,8 +84,8 @@ impl Running {
         })
     }
 
-    /// Makes the next event, if no fault stands in its place. A step that a call gives is taken out of its result, so that
-    /// what all others come to stays in registers.
+    /// Makes the next event, or returns the fault that replaces it. The steps that calls return are
+    /// unwrapped first, so that the result of all other steps stays in registers.
     #[inline(always)]
     pub fn step(
         &mut self,
@@ -128,7 +128,7 @@ impl Running {
         }
     }
 
-    /// Makes the events that are left, up to the end or a fault.
+    /// Makes all remaining events, up to the end or a fault.
     pub fn complete(
         &mut self,
         alloc: Global,
@@ -149,7 +149,7 @@ impl Running {
         }
     }
 
-    /// The state alone.
+    /// Returns the state.
     pub fn into_state(self) -> State
         ensures { result ≡ self.state }
     {
@@ -162,7 +162,8 @@ impl Running {
         state
     }
 
-    /// The frame of the function that is asked for begins, if there may be one more frame with its cells.
+    /// Begins the frame of the requested function, unless a limit of events, frames or cells is
+    /// met.
     #[inline(never)]
     pub fn invoke_function(
         &mut self,
@@ -184,7 +185,7 @@ impl Running {
         Ok(Step::Made)
     }
 
-    /// The frame of some turns of a loop begins, if there may be one more frame with its cells.
+    /// Begins the frame of some turns of a loop, unless a limit of events, frames or cells is met.
     #[inline(never)]
     pub fn invoke_turns(
         &mut self,
@@ -207,7 +208,7 @@ impl Running {
         Ok(Step::Made)
     }
 
-    // A child with so many cells begins, and the frame that asked for it waits.
+    // Begins a child with `cells` cells. The frame that requested it waits.
     #[inline(always)]
     fn begin(
         &mut self,
@@ -224,7 +225,8 @@ impl Running {
         Ok(())
     }
 
-    /// The frame ends with a value, and the one that waits for it goes on, if there is one.
+    /// Ends the running frame with a value, and continues the frame that waits for it, if there is
+    /// one.
     #[inline(never)]
     pub fn end(
         &mut self,

@@ -1,4 +1,4 @@
-//! The serial run, event by event.
+//! The serial run, one event at a time.
 
 ghost use Rattle.std.specs.Prelude.{◌≡◌, [], IfOk, IfSome, IsSome, OnOk, OnErr};
 ghost use Rattle.cilk_program.specs.Sources.{source};
@@ -21,30 +21,29 @@ use cilk_types::trace::Trace;
 use std::alloc::{AllocError, Global};
 use std::marker::Model;
 
-/// What comes next in a run.
+/// The next step of a run.
 #[derive(Clone, Copy, Debug)]
 pub enum Next {
-    /// This event, which is made now.
+    /// This event, which has just been made.
     Made(Event),
-    /// The end: all events are made, and [`SerialRun::finish`] gives the outcome.
+    /// The end. All events are made, and [`SerialRun::finish`] returns the outcome.
     Ended,
-    /// This fault, in place of another event. No more events come.
+    /// This fault, in place of another event. No more events follow.
     Stops(Fault),
 }
 
-/// How far a run has come.
+/// The progress of a run.
 #[derive(Clone, Copy)]
 pub enum Stage {
-    /// There is another event, or a fault.
+    /// Another event or a fault follows.
     Going,
     /// The main function has ended with this result.
     Ended(i64),
-    /// Memory was refused on the way to an event.
+    /// Memory was refused during an event.
     Failed,
 }
 
 impl Stage {
-    // The main function's result, once it has ended.
     fn result(self) -> Option<i64>
         ensures over { IsOver self → IsSome result }
         ensures value { IfSome result (λ v. self ≡ Ended v) }
@@ -56,8 +55,8 @@ impl Stage {
     }
 }
 
-/// A serial run that is made event by event. It borrows the program, its code and the input, and owns the store, the
-/// frames that wait, and the events so far.
+/// A serial run that is made one event at a time. It borrows the program, its code and the input,
+/// and owns the store, the frames and the events so far.
 pub struct SerialRun<'a> {
     alloc: Global,
     program: &'a Program,
@@ -67,7 +66,7 @@ pub struct SerialRun<'a> {
     stage: Stage,
 }
 
-// A function of its own, so that a proof follows one call where a run is dropped.
+// A separate function, so that a proof follows one call where a run is dropped.
 impl Drop for SerialRun<'_> {
     fn drop(self) {
         let SerialRun {
@@ -97,7 +96,7 @@ impl<'a> Model for SerialRun<'a> {
 }
 
 impl<'a> SerialRun<'a> {
-    /// The run before its first event.
+    /// Returns the run before its first event. `code` must be the code of `program`.
     pub fn new(
         alloc: Global,
         program: &'a Program,
@@ -118,8 +117,8 @@ impl<'a> SerialRun<'a> {
         })
     }
 
-    /// Makes the next event of the serial run, or says how the run ends. Once it has ended, or a fault stands in place
-    /// of the next event, each further call says so again. Where memory is refused, this call and each further one
+    /// Makes the next event, or returns how the run ends. Once the run has ended or met a fault,
+    /// each further call returns the same. If memory is refused, this call and each further one
     /// fail. Cost: linear in the ticks up to the event.
     pub fn next(&mut self) -> Result<Next, AllocError>
         ensures ok { IfOk result (λ next. Comes self.old next self.new) }
@@ -148,9 +147,9 @@ impl<'a> SerialRun<'a> {
         }
     }
 
-    /// Makes the events that are left, and gives the fault in place of another event if one stopped the run. Once the run
-    /// has ended, or a fault stands in place of the next event, each further call says so again. Where memory is refused,
-    /// this call and each further one fail. Cost: linear in the ticks.
+    /// Makes all remaining events, and returns the fault that stopped the run, if any. Once the run
+    /// has ended or met a fault, each further call returns the same. If memory is refused, this
+    /// call and each further one fail. Cost: linear in the ticks.
     pub fn complete(&mut self) -> Result<Option<Fault>, AllocError>
         ensures ok { IfOk result (λ fault. MakesRest self.old fault self.new) }
         ensures err { OnErr result (self.new.stage ≡ Failed) }
@@ -177,7 +176,7 @@ impl<'a> SerialRun<'a> {
         }
     }
 
-    /// The events so far.
+    /// Returns the events so far.
     pub fn events(&self) -> &[Event]
         ensures events { result.now ≡ self.now.events }
         ensures so_far { IsIntact self.now.stage → IsSoFar (source self.now.program) self.now.inputs self.now.events }
@@ -185,7 +184,8 @@ impl<'a> SerialRun<'a> {
         self.running.state.events.as_slice()
     }
 
-    /// What the frame runs that the next event begins, if it begins one: to be asked before the event is made.
+    /// Returns the callee of the frame that the next event begins, if it begins one. To be called
+    /// before that event is made.
     pub fn callee(&self) -> Option<Callee>
         ensures { IsIntact self.now.stage → BeginsNext (source self.now.program) self.now.inputs self.now.events result }
     {
@@ -196,7 +196,7 @@ impl<'a> SerialRun<'a> {
         }
     }
 
-    /// The outcome and the trace of a run that has ended.
+    /// Returns the outcome and the trace of a run that has ended.
     pub fn finish(self) -> Result<(Outcome, Trace), AllocError>
         requires { IsOver self.stage }
         ensures ran { IfOk result (λ r. Ran (source self.entry.program) self.entry.inputs r.0 r.1) }
@@ -214,7 +214,7 @@ impl<'a> SerialRun<'a> {
         outcome(alloc, program, running.into_state(), result)
     }
 
-    /// The events so far as a trace, as of a run that a fault has stopped.
+    /// Returns the events so far as a trace. Meant for a run that a fault has stopped.
     pub fn into_trace(self) -> Trace
         requires { IsIntact self.stage }
         ensures { result ≡ self.entry.events }

@@ -1,4 +1,4 @@
-// The store, the counters and the events of a run that goes on.
+// The store, the counters and the events of a run in progress.
 
 ghost use Rattle.std.specs.Prelude.{◌≡◌, ◌<◌, ℤ, List, pos, [], ◌∷◌, ◌++◌, length, slice_index_or, IfOk, OnOk};
 ghost use Rattle.cilk_types.specs.declared.event.Event.{Event};
@@ -18,7 +18,8 @@ use cilk_types::event::{Cell, Event, FrameNo, Instance};
 use cilk_types::invocation::Invocation;
 use std::alloc::{AllocError, Global};
 
-/// The cells of all frames, the reducers' views, the printed numbers and the events so far, and how many frames have begun.
+/// The cells of all frames, the reducers' views, the printed numbers and the events so far.
+/// `frames` counts the frames that have begun.
 #[derive(Drop)]
 pub struct State {
     pub cells: Vec<i64>,
@@ -29,7 +30,7 @@ pub struct State {
 }
 
 impl State {
-    /// The event that was made last.
+    /// Returns the last event.
     pub fn last_event(&self) -> Event
         requires { 0 < length self.now.events.items }
         ensures { (es : List Event) (e : Event) → self.now.events.items ≡ es ++ e ∷ [] → result ≡ e }
@@ -37,7 +38,7 @@ impl State {
         last(self.events.as_slice())
     }
 
-    /// Makes an event that changes nothing, and tells nothing.
+    /// Makes an event without effect on the store.
     #[inline(always)]
     pub fn make(&mut self, event: Event) -> Result<Answer, AllocError>
         ensures done { IfOk result (λ a. a ≡ answers.Done) }
@@ -72,7 +73,7 @@ impl State {
         Ok(Answer::Done)
     }
 
-    /// A reducer begins with its monoid's unit.
+    /// Creates a reducer, whose view is its monoid's unit.
     #[inline(always)]
     pub fn create(
         &mut self,
@@ -88,7 +89,7 @@ impl State {
         Ok(Answer::Done)
     }
 
-    /// A reducer's view is multiplied by a number from the right.
+    /// Combines a reducer's view with a number on the right.
     #[inline(always)]
     pub fn update(
         &mut self,
@@ -105,7 +106,7 @@ impl State {
         Ok(Answer::Done)
     }
 
-    /// A reducer's view becomes that of a number alone.
+    /// Replaces a reducer's view by that of a number alone.
     #[inline(always)]
     pub fn set(
         &mut self,
@@ -122,7 +123,7 @@ impl State {
         Ok(Answer::Done)
     }
 
-    /// The number of a reducer's view.
+    /// Reads the number of a reducer's view.
     #[inline(always)]
     pub fn value(
         &mut self,
@@ -149,7 +150,7 @@ impl State {
         Ok(Answer::Done)
     }
 
-    /// A reducer is retired.
+    /// Retires a reducer, and drops its view.
     pub fn retire(&mut self, instance: Instance, kind: MonoidKind)
         ensures shows { Retires self.old self.new instance kind }
         ensures events { self.new.events.items ≡ self.old.events.items }
@@ -157,7 +158,7 @@ impl State {
         let _last = self.views.take(instance, kind);
     }
 
-    /// Makes the event of an invocation; the child has so many cells.
+    /// Makes the event of an invocation, and adds the child's cells.
     pub fn begin(&mut self, how: Invocation, cells: u32) -> Result<(), AllocError>
         requires { self.old.frames < MAX_FRAMES }
         ensures { OnOk result (Begins self.old self.new how cells) }
@@ -172,7 +173,7 @@ impl State {
         self.extend(cells)
     }
 
-    /// A frame's cells begin, as 0.
+    /// Adds `count` cells with the value 0.
     pub fn extend(&mut self, count: u32) -> Result<(), AllocError>
         ensures { OnOk result (Extends self.old self.new count) }
     {
@@ -183,7 +184,7 @@ impl State {
     }
 }
 
-// One event more. Most events find room, so this is no call.
+// Appends an event. Most events find room, so this is inlined.
 #[inline(always)]
 fn add_event(events: &mut Vec<Event>, event: Event) -> Result<(), AllocError>
     ensures { OnOk result (events.new.items ≡ events.old.items ++ event ∷ []) }
@@ -195,7 +196,6 @@ fn add_event(events: &mut Vec<Event>, event: Event) -> Result<(), AllocError>
     Ok(())
 }
 
-// The value of a cell.
 fn value_at(cells: &[i64], cell: Cell) -> i64
     requires { cell < length cells.now }
     ensures { result ≡ slice_index_or cells.now cell result }
@@ -203,7 +203,6 @@ fn value_at(cells: &[i64], cell: Cell) -> i64
     cells[cell as usize]
 }
 
-// The last of some events.
 fn last(events: &[Event]) -> Event
     requires { 0 < length events.now }
     ensures { (es : List Event) (e : Event) → events.now ≡ es ++ e ∷ [] → result ≡ e }

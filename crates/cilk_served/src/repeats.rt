@@ -1,8 +1,8 @@
-//! Long texts, built of parts.
+//! Long texts of repeated parts.
 
 use std::alloc::{AllocError, Global};
 
-/// Each of the parts as often as it says.
+/// Returns each part as often as its count says, one after the other.
 pub fn repeated(alloc: Global, parts: &[(&[u8], usize)]) -> Result<Vec<u8>, AllocError> {
     let mut text = Vec::new(alloc);
     for (part, count) in parts {

@@ -1,4 +1,4 @@
-//! The tool over files, readers and writers of the tests.
+//! Calls of the tool over files, readers and writers in memory.
 
 ghost use Rattle.std.specs.Prelude.{◌≡◌, ◌<◌, IfErr, OnOk};
 
@@ -9,8 +9,8 @@ use std::alloc::Global;
 use std::io;
 use std::io::{ErrorKind, Read, Write};
 
-/// A program text, an input text, a certificate's and a script's, by these paths, and no other file. It counts the reads.
-/// After so many parts each further one fails.
+/// A folder of a program, an input, a certificate and a script. It counts the reads. Once `parts`
+/// parts were read, each further one fails.
 #[derive(Drop)]
 pub struct Folder<'a> {
     program: &'a [u8],
@@ -23,7 +23,7 @@ pub struct Folder<'a> {
 }
 
 impl<'a> Folder<'a> {
-    /// A folder with these texts, of which nothing was read yet.
+    /// Creates a folder with these texts.
     pub fn new(
         program: &'a [u8],
         input: &'a [u8],
@@ -43,7 +43,7 @@ impl<'a> Folder<'a> {
         }
     }
 
-    /// The text of a path. A path without one counts as a failure.
+    /// Returns the text of a path. An unknown path counts as a failure.
     fn text(&mut self, path: &str) -> Result<&'a [u8], FileFault>
         requires { self.old.failures < 18446744073709551615 }
         ensures counted { IfErr result (λ _. self.old.failures < self.new.failures) }
@@ -104,7 +104,7 @@ impl Read for Broken {
     }
 }
 
-/// A reader that gives some bytes, and then fails.
+/// A reader of some bytes that fails after the last one.
 #[derive(Drop)]
 pub struct Torn<'a> {
     pub rest: &'a [u8],
@@ -119,7 +119,7 @@ impl Read for Torn<'_> {
     }
 }
 
-/// A reader that gives one byte at a time, and counts how often it is read.
+/// A reader of one byte at a time, which counts its reads.
 #[derive(Drop)]
 pub struct Drip<'a> {
     pub rest: &'a [u8],
@@ -134,7 +134,8 @@ impl Read for Drip<'_> {
     }
 }
 
-/// A writer that takes so many bytes, one by one, and then none: it fails, or takes nothing.
+/// A writer with room for a number of bytes, which it accepts one by one. After that it fails, or
+/// accepts 0 bytes.
 #[derive(Drop)]
 pub struct Short {
     pub taken: Vec<u8>,
@@ -168,7 +169,7 @@ pub fn short_writer(alloc: Global, room: usize, fails: bool) -> Short {
     }
 }
 
-/// What a call of the tool showed: its status, the bytes on both streams, and how many files it read.
+/// The result of a call: its status, the bytes on both streams, and the number of reads.
 #[derive(Drop)]
 pub struct Ended {
     pub status: u8,
@@ -178,7 +179,7 @@ pub struct Ended {
 }
 
 impl Ended {
-    /// Whether this is all that was shown.
+    /// Returns whether this status and these texts were shown.
     pub fn is(&self, status: u8, out: &str, err: &str) -> bool {
         self.status == status
             && self.out.as_slice() == out.as_bytes()
@@ -186,7 +187,7 @@ impl Ended {
     }
 }
 
-/// A call with these words, over a folder with the program and the input, and with standard input.
+/// Makes a call over a folder with the program and the input, and with standard input.
 pub fn shown<R: Read>(
     alloc: Global,
     words: &[&str],
@@ -202,7 +203,7 @@ pub fn shown<R: Read>(
     )
 }
 
-/// A check of a certificate of this program, where the certificate's file fails after so many parts.
+/// Checks a program's certificate. Reads of the certificate's file fail after `parts` parts.
 pub fn checked_in_parts(alloc: Global, program: &[u8], certificate: &[u8], parts: u64) -> Ended {
     let words = ["check", "program", "certificate"];
     let mut files = Folder::new(program, b"", certificate, b"");
@@ -210,13 +211,13 @@ pub fn checked_in_parts(alloc: Global, program: &[u8], certificate: &[u8], parts
     served(alloc, &words, files, &mut Broken)
 }
 
-/// A call with these words, over a folder with the program, the input and the script.
+/// Makes a call over a folder with the program, the input and the script.
 pub fn played(alloc: Global, words: &[&str], program: &[u8], input: &[u8], script: &[u8]) -> Ended {
     let files = Folder::new(program, input, b"", script);
     served(alloc, words, files, &mut Broken)
 }
 
-/// A call with these words, over a folder of which nothing was read yet, and with standard input.
+/// Makes a call over an unread folder and standard input.
 fn served<R: Read>(alloc: Global, words: &[&str], mut files: Folder<'_>, standard: &mut R) -> Ended
     requires { files.failures ≡ 0 }
 {
@@ -230,7 +231,7 @@ fn served<R: Read>(alloc: Global, words: &[&str], mut files: Folder<'_>, standar
     }
 }
 
-/// The status of a call without words, over standard input and these two writers.
+/// Returns the status of a call without words, over standard input and these two writers.
 pub fn status_of<O: Write, E: Write>(
     alloc: Global,
     standard: &mut &[u8],
@@ -241,7 +242,7 @@ pub fn status_of<O: Write, E: Write>(
     serve(alloc, &[], &mut files, standard, out, err)
 }
 
-/// The same, with whether all that goes to standard error went out.
+/// Returns the same with whether all of standard error was written.
 pub fn served_over<O: Write, E: Write>(
     alloc: Global,
     standard: &mut &[u8],
@@ -252,7 +253,7 @@ pub fn served_over<O: Write, E: Write>(
     serve_and_tell(alloc, &[], &mut files, standard, out, err)
 }
 
-/// The status of a call with these words, over a program and a certificate and these two writers.
+/// Returns the status of a call over a program and a certificate and these two writers.
 pub fn status_with<O: Write, E: Write>(
     alloc: Global,
     words: &[&str],

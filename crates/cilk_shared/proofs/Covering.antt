@@ -1,6 +1,7 @@
 -- A piece keeps the views of its range.
 --
--- - `covers_first`, `covers_none`: the piece of the first event, and an empty one; `covers_kept`: other views with the same values;
+-- - `covers_first`, `covers_none`: the piece of the first event, and an empty one; `covers_kept`:
+--   other views with the same values;
 -- - `covers_on`, `covers_quiet`, `covers_taken`: one event more;
 -- - `covers_event`, `after_..`, `covers_read`, `number_read`, `covers_end`: events of reducers;
 -- - `covers_both`, `covers_three`: pieces that adjoin;
@@ -153,7 +154,7 @@ covers_read h h' r g c next i v is k kind changes g' eq =
     covers_quiet h h' r g c next.0.0 (inr next.0.3) (quiet_value g.story r g.upto i v is)
     (shows_read (kind_in r) h h' i (value_in h k i) (subst (λ n. ChangesIn h h' n i (Some (value_in h k i))) kind changes) (events_over g.story r g.from g.upto) (ap (λ n. value_in h n i) kind) c.shows) g' eq
 
--- its number is that of its view over all events ahead
+-- its number is that of its view over all events before
 pub number_read : (h : Hypermap) (r : Reducers) (g : SegmentValue) → IsOrderly g.story → Covers h r g → CanPass g → (i : Instance) (v : ℤ) → event g.story g.upto ≡ Some (events.Value i v)
     → (k : MonoidKind) → k ≡ kind_in r i → (n : ℤ) → n ≡ (structure_of k).number (value_in h k i) → n ≡ number_ahead (piece_of r g) i
 number_read h r g law c next i v is k kind n n_is =
@@ -192,7 +193,7 @@ right_start s a b c low lt meet start = ⊎_elim
     (λ (h : (k : ℕ) × (what s c ≡ resume k)). h)
     start.1
 
--- a segment of another value of the same story
+-- a segment with another value, of the same event order
 spans_along : (r : Reducers) (g h : SegmentValue) → h.story ≡ g.story → Spans r h → Spans r (record { of = g.of; story = g.story; from = h.from; upto = h.upto })
 spans_along r g h same c = record {
   settled = subst (λ (z : EventOrder). AreSettled z r) same c.settled;
@@ -297,7 +298,7 @@ of_piece P e h = subst P (sym e) h
 pub two_pieces : {p q p' q' : PieceValue} (P : PieceValue → PieceValue → Type 0) → p ≡ p' → q ≡ q' → P p' q' → P p q
 two_pieces P e f h = subst (λ (x : PieceValue × PieceValue). P x.0 x.1) (λ i. (sym e i, sym f i)) h
 
--- one event more, by a step on a shared word that goes on from the one ahead
+-- one event more, by a step on a shared word right after the last one
 pub covers_line : (y : YardValue) → IsOrderly y.story → (h : Hypermap) (r : Reducers) (g : SegmentValue) → OfYard y g → Covers h r g → g.from < g.upto → IsLine (what y.story g.upto) → events_at y.story r g.upto ≡ []
     → (g' : SegmentValue) → g' ≡ moved_on g → Covers h r g'
 covers_line y law h r g of c some line quiet g' e =

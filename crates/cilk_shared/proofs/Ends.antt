@@ -1,7 +1,7 @@
 -- The ends of a frame's reducers.
 --
 -- - `ends_step`: one reducer after another;
--- - `value_retired`: what one end leaves of each view.
+-- - `value_retired`: each view after one end.
 use Rattle.std.proofs.Common.{◌≡◌, ◌∷◌, ℕ, suc, ◌-◌, ◌<◌, Bool, true, false, cond, None, refl, ap, ◌∙◌, arith}
 use Rattle.cilk_types.specs.declared.event.Instance.{Instance}
 use Rattle.cilk_monoid.specs.declared.kind.MonoidKind.{MonoidKind}

@@ -1,7 +1,9 @@
--- What may be passed.
+-- The events that may be passed.
 --
--- - `earliest_next`: the earliest of what comes right before a segment's next event; `holds_all`, `holds_from`: what the segment holds by it;
--- - `refused`, `has_no_next`, `is_past`, `is_step`, `is_passed`: whether the next event may be passed.
+-- - `earliest_next`: the earliest of what comes right before a segment's next event; `holds_all`,
+--   `holds_from`: what the segment holds by it;
+-- - `refused`, `has_no_next`, `is_past`, `is_step`, `is_passed`: whether the next event may be
+--   passed.
 use Rattle.std.proofs.Common.{◌≡◌, ◌↔◌, ℕ, ◌<◌, ◌≤◌, length, List, Bool, false, true, Option, Some, None, IsTrue, refl, sym, ap, subst, arith}
 use Rattle.std.proofs.lemmas.Bool.{leb-true, le-leb}
 use lib.Dec.{leb}

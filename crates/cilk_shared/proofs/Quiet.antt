@@ -1,6 +1,7 @@
 -- Which events are events of reducers, and of whose.
 --
--- - `quiet_read`, `quiet_write`, `quiet_spawn`, `quiet_resume`, `quiet_value`: events of no reducer;
+-- - `quiet_read`, `quiet_write`, `quiet_spawn`, `quiet_resume`, `quiet_value`: events of no
+--   reducer;
 -- - `finish_event`: the root's `end` is an `end`;
 -- - `words_ends`, `words_one`: numbers are words;
 -- - `in_frame`: whose frame an event is in.

@@ -1,7 +1,8 @@
 -- The events of reducers in ranges of positions.
 --
 -- - `spanned_both`, `spanned_left`, `spanned_right`: the range of two ranges;
--- - `none_over`, `over_on`, `over_both`, `over_spanned`: of no position, of one more, of two ranges that adjoin;
+-- - `none_over`, `over_on`, `over_both`, `over_spanned`: of no position, of one more, of two ranges
+--   that adjoin;
 -- - `words_both`: numbers are words;
 -- - `mention_in`, `reset_in`: where in a range an event of a reducer, or one that resets it, is.
 use Rattle.std.proofs.Common.{◌≡◌, ◌⊎◌, ⊎_elim, ℕ, zero, suc, ◌+◌, ◌-◌, ◌<◌, ◌≤◌, List, [], ◌∷◌, ◌++◌, inl, inr, sym, ap, ◌∙◌, arith, append_assoc, append-nil, cond, ltb}

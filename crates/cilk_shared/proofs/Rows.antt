@@ -1,9 +1,11 @@
--- What a step does to the views.
+-- The views of the seats after a step.
 --
 -- - `at_short`, `at_once`: a seat has one view;
 -- - `done_into`, `done_here`, `done_keep`, `parted_set`: one view grows;
--- - `past`, `gap`, `fresh_line`: nobody else has a segment's next event, nor what lies between its view and it;
--- - `reach`, `ready_line`: what comes before an event of a segment, and before its next one, is done.
+-- - `past`, `gap`, `fresh_line`: no other seat has a segment's next event, or an event between its
+--   view and that;
+-- - `reach`, `ready_line`: what comes before an event of a segment, and before its next one, is
+--   done.
 use Rattle.std.proofs.Common.{◌≡◌, ◌≢◌, ◌⊎◌, ℕ, zero, suc, ◌-◌, ◌<◌, ◌≤◌, List, [], ◌∷◌, length, set, inl, inr, ⊎_elim, sym, ◌∙◌, subst, arith}
 use mathlib.Core.Logic.{dite}
 use mathlib.Core.Option.{some, some-injective, some-ne-none}

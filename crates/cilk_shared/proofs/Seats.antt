@@ -2,7 +2,8 @@
 --
 -- - `cut_along`, `told_along`, `reached_along`: the same events are done;
 -- - `splits`: an empty seat comes;
--- - `was`, `parted_joined`, `kept_joined`, `joins`, `spans`, `joins_at`, `spans_at`: two seats become one;
+-- - `was`, `parted_joined`, `kept_joined`, `joins`, `spans`, `joins_at`, `spans_at`: two seats
+--   become one;
 -- - `starts`, `up_first`, `first_sits`: the first state;
 -- - `whole_run`: what the words say of the whole run.
 use Rattle.std.proofs.Common.{◌≡◌, ◌≢◌, ◌⊎◌, ℕ, zero, suc, ◌+◌, ◌<◌, ◌≤◌, List, [], ◌∷◌, ◌++◌, length, get_or, set, inl, inr, ⊎_elim, refl, sym, ap, ◌∙◌, subst, arith, cond, ltb, length-append, replicate, map, pos}

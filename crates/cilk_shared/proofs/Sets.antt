@@ -1,10 +1,13 @@
--- What a step on the words does to what they say of the events done, a predicate D of positions.
+-- The words after a step, for the events done, a predicate D of positions.
 --
 -- - `word_of_read` and so on: what is a step on a word;
 -- - `shows_once`, `shows_along`: a cell has one word, and only its writes count;
--- - `below`, `found`: a done access that conflicts with a step comes before it, so what a load finds is the run's own word;
--- - `cut_more`, `shows_more`, `shows_written`, `cont_more`, `over_more`, `cont_opened`, `cont_taken`: one step more is done;
--- - `told_read`, `told_written`, `told_opened`, `told_taken`, `told_finished`: the words after a step of each kind.
+-- - `below`, `found`: a done access that conflicts with a step comes before it, so what a load
+--   finds is the run's own word;
+-- - `cut_more`, `shows_more`, `shows_written`, `cont_more`, `over_more`, `cont_opened`,
+--   `cont_taken`: one step more is done;
+-- - `told_read`, `told_written`, `told_opened`, `told_taken`, `told_finished`: the words after a
+--   step of each kind.
 use Rattle.std.proofs.Common.{◌≡◌, ◌≢◌, ◌⊎◌, ℕ, ◌+◌, ◌<◌, ◌≤◌, List, length, get_or, set, inl, inr, ⊎_elim, refl, sym, ap, ◌∙◌, subst, arith, length-set, get_or-set_same, get_or-set_other}
 use mathlib.Core.Logic.{dite}
 use native.Mathlib.Decide.{dec_le, ℕ_discrete}

@@ -1,7 +1,8 @@
--- What a range that begins where a continuation is resumed says of reducers: it resets and reads those alone that it creates.
+-- A range that begins where a continuation is resumed resets and reads only the reducers that it
+-- creates.
 --
 -- - `resets_none`: of ranges that adjoin, the right one resets nothing that the left one mentions;
--- - `view_ahead`: the view that an event of a range reads is that of all events ahead.
+-- - `view_ahead`: the view that an event of a range reads is that of all events before it.
 use Rattle.std.proofs.Common.{◌≡◌, ⊎_elim, ℕ, ◌+◌, ◌-◌, ◌<◌, ◌≤◌, inr, sym, ap, ◌∙◌, arith}
 use mathlib.Core.Logic.{dite}
 use native.Mathlib.Decide.{dec_le}
@@ -37,7 +38,7 @@ module _ (s : EventOrder) (law : IsOrderly s) (r : Reducers) (settled : AreSettl
       let none : plain ≡ resume k = sym (settled.begins (b - 1) is) ∙ ap (what s) at ∙ begins in
       cc none
 
-  -- no event of such a range comes after what stands right ahead of it
+  -- no event of such a range comes after the event right before the range
   ahead : (d : ℕ) → Whole s b d → {q : ℕ} → b ≤ q → q < d → Before s (b - 1) q → ⊥
   ahead d whole {q} le lt (direct there) = ⊎_elim
       (λ (h : (j : ℕ) × (what s q ≡ resume j)).

@@ -1,7 +1,9 @@
 -- Views of a range with one event more.
 --
--- - `shows_none`: without events there are no views; `shows_kept`, `shows_same`: views or values as before;
--- - `shows_change`: one event of a reducer; `shows_read`: its value is read; `shows_ends`: a frame's reducers end;
+-- - `shows_none`: without events there are no views; `shows_kept`, `shows_same`: views or values as
+--   before;
+-- - `shows_change`: one event of a reducer; `shows_read`: its value is read; `shows_ends`: a
+--   frame's reducers end;
 -- - `shows_joined`, `shows_three`: ranges that adjoin.
 use Rattle.std.proofs.Common.{◌≡◌, Bool, true, false, cond, ◌&&◌, List, [], ◌∷◌, ◌++◌, ⊎_elim, Some, None, refl, sym, ap, ◌∙◌}
 use Rattle.cilk_types.specs.declared.event.Instance.{Instance}

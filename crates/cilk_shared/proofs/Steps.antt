@@ -1,14 +1,16 @@
 -- Each step of a yard keeps its rule.
 --
 -- - `next_once`: there is one next step on a word;
--- - `up_on`, `up_resume`, `up_line`, `up_event`: what comes before an event is asked for;
+-- - `up_on`, `up_resume`, `up_line`, `up_event`: what comes before an event is requested;
 -- - `sits_on`, `sits_next`, `wider_..`: a segment and its view with one event more;
 -- - `kept_at`, `kept_written`, `kept_opened`, `kept_taken`, `kept_finished`: the rule after a step;
--- - `allows_..`, and `load_at`, `store_at`, `offer_at`, `take_at`, `finish_at` of a seat as a segment has it;
--- - `stands`, `is_inside`, `has_room`, `moves`, `moved_at`: a segment whose frame goes on by a step on a word, and the segment after it;
+-- - `allows_..`, and `load_at`, `store_at`, `offer_at`, `take_at`, `finish_at` of a seat as a
+--   segment has it;
+-- - `stands`, `is_inside`, `has_room`, `moves`, `moved_at`: a segment whose next event is a step on
+--   a word, and the segment after it;
 -- - `sits_taken`, `passes`: the segment after a take, and past an event that is no step on a word;
 -- - `both`, `along`, `both_along`: a fact of what contracts see is one of the fields;
--- - `ended_at`: a look at the end; `spawn_within`: where a spawn stands;
+-- - `ended_at`: a look at the end; `spawn_within`: the position of a spawn;
 -- - `departing`: where the run departs.
 use Rattle.std.proofs.Common.{◌≡◌, ◌≢◌, ◌⊎◌, ℕ, ◌+◌, ◌-◌, ◌^◌, ◌<◌, ◌≤◌, List, [], length, get_or, set, inl, inr, ⊎_elim, refl, sym, ap, ◌∙◌, subst, arith, cond, eqb, ltb, eq-eqb, ne_eqb, Some}
 use Rattle.std.proofs.lemmas.List.{set-get_or}
@@ -143,7 +145,7 @@ module _ (s : EventOrder) (law : IsOrderly s) (v : View) (a p : ℕ) (sits : Sit
           (p, subst (λ z. IsNext z v.upto p) (sym sits.story) (is_next word), refl, subst (λ z. what z p ≡ read c (get_or t.words c 0)) (sym sits.story) (is ∙ ap (λ k. read c k) (sym value))),
         )
 
-  -- the rule after a step at p that leaves the words ws
+  -- the rule after a step at p, after which the words are ws
   module _ (id : ℕ) (t : State (Unit {0}) View) (kept : Kept s t) (at : get_elem? t.views id ≡ some v) (fresh : Done t.views p → ⊥) (ready : (q : ℕ) → IsWord (what s q) → Before s q p → Done t.views q) (up : IsFollowed s p) where
     pub kept_at : (i n : ℕ) → Told s (Done (set t.views id (view v.story v.from (p + 1)))) (set t.words i n) → Kept s (stepped t i n id [] (view v.story v.from (p + 1)) keeps)
     kept_at i n told = record {
@@ -224,7 +226,7 @@ ended_at s law slots id i me same bare there =
     ) in
     subst (λ j. Goal j me.1) (sym there) (subst (λ xs. Goal (cells s) xs) (sym bare) here)
 
--- a spawn that is resumed stands within the run
+-- a spawn that is resumed is within the run
 pub spawn_within : (s : EventOrder) → IsOrderly s → (k p : ℕ) → what s p ≡ resume k → k ≤ length s.events
 spawn_within s law k p is = (law.inside k (word_of_spawn (what s k) (law.resumed p k is).0)).1
 
@@ -257,7 +259,7 @@ module _ (s : EventOrder) (law : IsOrderly s) (k p : ℕ) (is : what s p ≡ res
   small_spawn : k ≤ length s.events
   small_spawn = spawn_within s law k p is
 
-  -- a segment goes on
+  -- a segment continues
   take_on : (a : ℕ) → Sits s v a p → a < p → Kept s (stepped t (cells s + k) 2 id [] (view v.story v.from (p + 1)) keeps)
   take_on a sits some_done = kept_taken s law v a p sits some_done id t kept at take_fresh take_ready up k is small_spawn
 
@@ -285,7 +287,7 @@ module _ (s : EventOrder) (law : IsOrderly s) (k p : ℕ) (is : what s p ≡ res
       reached = λ j word d. ⊎_elim (λ (old : Done t.views j). kept.reached j word old) (λ (same : j ≡ p). subst (λ i. IsFollowed s i) (sym same) up) (fresh_into j word d);
     }
 
--- a seat whose segment is empty, or goes on at p
+-- a seat whose segment is empty, or continues at p
 abbrev pub Goes : EventOrder → View → ℕ → ℕ → Type 0
 Goes s v a p = (v.upto ≤ v.from) ⊎ ((a < p) × Sits s v a p)
 
@@ -321,7 +323,7 @@ allows_take s law k p is fits v same a g slots id t kept _ at _ =
       ((λ (hit : x ≡ 1). absurd (miss hit)), λ _. refl),
     ))
 
--- a seat as a segment from a up to p has it, whose frame goes on by a step on a word at p
+-- a seat of a segment from a up to p, whose next event is a step on a word at p
 pub record Stands (s : EventOrder) (me : Me (Unit {0}) View) (a p : ℕ) : Type 0 where
   pub law : IsOrderly s
   pub bare : me.1 ≡ []
@@ -414,7 +416,7 @@ sits_new s z k p is up same = record {
   known = λ x le lt. let here : x ≡ p = omega arith in subst (λ j. IsFollowed s j) (sym here) up;
 }
 
--- a segment that is empty, or goes on at p
+-- a segment that is empty, or continues at p
 abbrev pub Ready : ℕ → ℕ → ℕ → Type 0
 Ready a b p = (b ≤ a) ⊎ ((a < b) × (p ≡ b))
 

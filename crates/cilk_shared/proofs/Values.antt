@@ -1,7 +1,7 @@
--- What cells hold, by words and by values.
+-- The contents of cells, by words and by values.
 --
 -- - `shows_value`: the word of a cell is that of its value;
--- - `reads_shows`: what a read gives is what the word shows ahead of it;
+-- - `reads_shows`: a read gives what the word shows before it;
 -- - `final_value`: what the word shows after all events is the cell's last value;
 -- - `read_back`: a value from its word;
 -- - `copied`: one more value is copied.

@@ -15,7 +15,7 @@ use Rattle.cilk_shared.specs.Worked.{two_updates, one_sum, TwoUpdatesAreSettled}
 abbrev s : EventOrder
 s = planned two_updates []
 
--- nothing stands past the last position
+-- there is no event past the last position
 past : (n : ℕ) → event s (suc (suc (suc (suc (suc (suc (suc (suc (suc (suc (suc (suc (suc (suc n)))))))))))))) ≡ None
 past n = let e : (suc (suc (suc (suc (suc (suc (suc (suc (suc (suc (suc (suc (suc (suc n)))))))))))))) - 1 ≡ (suc (suc (suc (suc (suc (suc (suc (suc (suc (suc (suc (suc (suc n))))))))))))) = omega arith in ap (λ (k : ℕ). slice_get two_updates k) e
 

@@ -1,4 +1,4 @@
--- What a run reads from its reducers.
+-- The values that a run reads from its reducers.
 use Rattle.std.specs.Prelude.{◌≡◌, ℕ, ℤ, Some}
 use Rattle.cilk_types.specs.declared.event.Event.TheVariants.{Value}
 use Rattle.cilk_types.specs.declared.event.Instance.{Instance}
@@ -10,10 +10,10 @@ use Rattle.cilk_tree.specs.Word.{event}
 use Rattle.cilk_shared.specs.declared.reducers.Reducers.{Reducers}
 use Rattle.cilk_shared.specs.Reducers.{events_over, kind_in}
 
--- the value at a position is the number of its reducer's view over the events ahead of it
+-- the value at a position is the number of its reducer's view over the events before it
 abbrev pub IsNumberAt : EventOrder → Reducers → ℕ → Instance → ℤ → Type 0
 IsNumberAt s r p i v = v ≡ (structure_of (kind_in r i)).number (view_of (structure_of (kind_in r i)) i (events_over s r 1 p))
 
--- so it is where the run follows its story
+-- this holds at each position up to which the run follows its event order
 abbrev pub HasNumbers : EventOrder → Reducers → Type 0
 HasNumbers s r = (p : ℕ) (i : Instance) (v : ℤ) → IsFollowed s p → event s p ≡ Some (Value i v) → IsNumberAt s r p i v

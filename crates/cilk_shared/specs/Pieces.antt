@@ -1,4 +1,4 @@
--- What contracts see of a piece, and what its type keeps.
+-- The value of a piece in contracts, and the invariant of its type.
 use Rattle.std.specs.Prelude.{◌≡◌, ℕ, ℤ, ◌<◌, Some}
 use Rattle.atomic_table.specs.Seated.{TableId}
 use Rattle.cilk_types.specs.declared.event.Event.{Event}
@@ -31,8 +31,9 @@ piece_of r g = record { of = g.of; story = g.story; reducers = r; from = g.from;
 abbrev pub segment_of : PieceValue → SegmentValue
 segment_of p = record { of = p.of; story = p.story; from = p.from; upto = p.upto }
 
--- These views are those of the segment's range. It begins where the run does or a continuation is resumed, and what comes right before
--- each of its events but such a resumption is in it.
+-- The views are those of the segment's range. The range begins at the start of the run or where a
+-- continuation is resumed. The immediate predecessors of each of its events are in it, except those
+-- of such a resumption.
 pub record Covers (views : Hypermap) (r : Reducers) (g : SegmentValue) : Type 0 where
   pub settled : AreSettled g.story r
   pub begins : g.from < g.upto → IsStart g.story g.from
@@ -48,7 +49,7 @@ IsPieceOf y p = OfYard y (segment_of p)
 abbrev pub AreOfOne : YardValue → PieceValue → PieceValue → Type 0
 AreOfOne y p q = IsPieceOf y p × IsPieceOf y q × (q.reducers ≡ p.reducers)
 
--- one event more
+-- the piece with one more event
 abbrev pub grown : PieceValue → PieceValue
 grown p = piece_of p.reducers (moved_on (segment_of p))
 
@@ -56,22 +57,22 @@ grown p = piece_of p.reducers (moved_on (segment_of p))
 abbrev pub none_beside : PieceValue → PieceValue
 none_beside p = piece_of p.reducers (empty_beside (segment_of p))
 
--- one piece of two that adjoin
+-- the piece of two that adjoin
 abbrev pub joined : PieceValue → PieceValue → PieceValue
 joined p q = piece_of p.reducers (both_of (segment_of p) (segment_of q))
 
 abbrev pub Adjoining : PieceValue → PieceValue → Type 0
 Adjoining p q = Adjoin (segment_of p) (segment_of q)
 
--- the continuation after the spawn at k is taken, and p has become q, or nothing has changed
+-- the continuation of the spawn at k is taken and p has become q, or nothing has changed
 abbrev pub IsPieceTaken : YardValue → PieceValue → ℕ → PieceValue → Taken → Type 0
 IsPieceTaken y p k q Yes = (at : ℕ) × (what y.story at ≡ resume k) × (q ≡ piece_of p.reducers (taken_at (segment_of p) at))
 IsPieceTaken y p k q No = q ≡ p
 
--- the piece's frame goes on by this event, which is no step on a shared word
+-- this is the piece's next event, the frame requests it, and it is no step on a shared word
 abbrev pub PassesOn : PieceValue → Event → Type 0
 PassesOn p e = CanPass (segment_of p) × (event p.story p.upto ≡ Some e)
 
--- the number of a reducer's view over the events of the run ahead of the next one
+-- the number of a reducer's view over the events of the run before the next one
 abbrev pub number_ahead : PieceValue → Instance → ℤ
 number_ahead p i = (structure_of (kind_in p.reducers i)).number (view_of (structure_of (kind_in p.reducers i)) i (events_over p.story p.reducers 1 p.upto))

@@ -1,4 +1,4 @@
--- The rule of the shared words.
+-- The rule of the shared words: what they hold at each moment, and what each step does.
 use Rattle.std.specs.Prelude.{◌≡◌, ◌≢◌, ℕ, ◌+◌, ◌<◌, ◌≤◌, ◌⊎◌, pos, List, [], length, slice_index, slice_index_or, cond, nat_lt}
 use mathlib.Core.Option.{some}
 use lib.ListN.{get_elem?}
@@ -15,25 +15,26 @@ view s a b = record { story = s; from = a; upto = b }
 abbrev pub In : View → ℕ → Type 0
 In v p = (v.from ≤ p) × (p < v.upto)
 
--- the events that the seats have done
+-- the events done by any seat
 abbrev pub Done : List View → ℕ → Type 0
 Done views p = (i : ℕ) × (v : View) × (get_elem? views i ≡ some v) × In v p
 
--- where a range may begin
+-- a range may begin at the first event or at the `resume` after a spawn
 abbrev pub IsStart : EventOrder → ℕ → Type 0
 IsStart s p = (1 ≤ p) × ((p ≡ 1) ⊎ ((q : ℕ) × (what s p ≡ resume q)))
 
 abbrev pub cells : EventOrder → ℕ
 cells s = length s.opening
 
--- the cell's word after the events of D is n: that of the last write among them, or of the opening value
+-- the cell's word after the events of D is n: the value of the last write among them, or the
+-- opening value
 abbrev pub Shows : EventOrder → (ℕ → Type 0) → ℕ → ℕ → Type 0
 Shows s D c n =
     ((n ≡ word (slice_index_or s.opening c (pos 0))) × ((q v : ℕ) → D q → what s q ≡ write c v → ⊥))
     ⊎ ((q : ℕ) × D q × (what s q ≡ write c n) × ((r v : ℕ) → D r → what s r ≡ write c v → r ≤ q))
 
--- The word of the continuation after the spawn at p, once the events of D are done: 0 before the spawn, 1 after it, 2 once the
--- continuation was resumed.
+-- The word of the continuation of the spawn at p, once the events of D are done: 0 before the
+-- spawn, 1 after it, 2 once the continuation is resumed.
 abbrev pub Cont : EventOrder → (ℕ → Type 0) → ℕ → ℕ → Type 0
 Cont s D p n =
     ((n ≡ 0) × (D p → ⊥))
@@ -44,14 +45,15 @@ Cont s D p n =
 abbrev pub Over : EventOrder → (ℕ → Type 0) → ℕ → Type 0
 Over s D n = ((n ≡ 0) × ((q : ℕ) → what s q ≡ finish → D q → ⊥)) ⊎ ((n ≡ 1) × ((q : ℕ) → what s q ≡ finish → D q))
 
--- What the words say of the events of D: first a word for each cell, then the word of the end, then one for each position.
+-- The words after the events of D: one for each cell, then the word of the end, then one for each
+-- position.
 pub record Told (s : EventOrder) (D : ℕ → Type 0) (words : List ℕ) : Type 0 where
   pub wide : length words ≡ cells s + (length s.events + 1)
   pub each_cell : (c : ℕ) → c < cells s → Shows s D c (slice_index words c)
   pub over : Over s D (slice_index words (cells s))
   pub each_spawn : (p : ℕ) → what s p ≡ spawn → Cont s D p (slice_index words (cells s + p))
 
--- what the views are
+-- the views of the seats: each begins at a start, and no two overlap
 pub record Parted (s : EventOrder) (views : List View) : Type 0 where
   pub begins : (i : ℕ) (v : View) → get_elem? views i ≡ some v → v.from < v.upto → IsStart s v.from
   pub apart : (i j : ℕ) (v w : View) (p : ℕ) → get_elem? views i ≡ some v → get_elem? views j ≡ some w → In v p → In w p → i ≡ j
@@ -60,7 +62,7 @@ pub record Parted (s : EventOrder) (views : List View) : Type 0 where
 abbrev pub IsCut : EventOrder → (ℕ → Type 0) → Type 0
 IsCut s D = (p q : ℕ) → D p → IsWord (what s p) → IsWord (what s q) → Before s q p → D q
 
--- each step on a word that is done, and what comes before it, is what the frames ask for
+-- the frames request each done step on a word, and everything before it
 abbrev pub HasReached : EventOrder → (ℕ → Type 0) → Type 0
 HasReached s D = (k : ℕ) → IsWord (what s k) → D k → IsFollowed s k
 
@@ -77,7 +79,7 @@ IsNext s a p = (a ≤ p) × IsWord (what s p) × ((q : ℕ) → a ≤ q → q < 
 abbrev Sat : Type 0
 Sat = Me (Unit {0}) View
 
--- the seat has done the next step on a word, at p, too
+-- the seat after it has done the next step on a word, at p
 abbrev pub moved : Sat → ℕ → Sat
 moved m p = (view m.0.story m.0.from (p + 1), m.1)
 
@@ -90,11 +92,12 @@ Moves m m' = (p : ℕ) × IsNext m.0.story m.0.upto p × (m' ≡ moved m p)
 abbrev pub stores : Step (Unit {0}) → Sat → ℕ → Sat → Type 0
 stores st m n m' = Moves m m'
 
--- nothing changed, and where the run's end was found each of its events is what the frames ask for
+-- nothing changes; if the word of the end is 1, the frames request each event of the run
 abbrev pub ends : Step (Unit {0}) → Sat → ℕ → Sat → Type 0
 ends st m n m' = (m' ≡ m) × (n ≡ 1 → IsFollowed m.0.story (length m.0.story.events))
 
--- each event of the range comes right after events of the range, or is the resumption after a spawn
+-- the immediate predecessors of each event of the range are in the range, or the event is the
+-- resumption after a spawn
 abbrev pub Whole : EventOrder → ℕ → ℕ → Type 0
 Whole s a b = (x : ℕ) → a ≤ x → x < b → ((q : ℕ) × (what s x ≡ resume q)) ⊎ ((e : ℕ) → Among e (after s x) → a ≤ e)
 
@@ -107,7 +110,7 @@ pub record Sits (s : EventOrder) (v : View) (a b : ℕ) : Type 0 where
   pub whole : Whole s a b
   pub known : (x : ℕ) → a ≤ x → x < b → IsFollowed s x
 
--- the continuation after the spawn at k was taken, where the word was 1, and else nothing changed
+-- the continuation of the spawn at k is taken if its word is 1, and else nothing changes
 abbrev pub takes : Step (Unit {0}) → Sat → ℕ → Sat → Type 0
 takes st m n m' =
     (n ≡ 1 → (k : ℕ) × (p : ℕ) × (cells m.0.story + k ≡ st.word) × (what m.0.story p ≡ resume k) × IsFollowed m.0.story k × (m' ≡ (view m.0.story (cond (nat_lt m.0.from m.0.upto) m.0.from p) (p + 1), m.1)))
@@ -120,6 +123,6 @@ beside v = view v.story 0 0
 abbrev pub spent : View
 spent = view (record { events = []; preceding = []; opening = []; asked = [] }) 0 0
 
--- one range of two that adjoin
+-- the union of two ranges that adjoin
 abbrev pub joined : View → View → View
 joined v w = cond (nat_lt v.from v.upto) (cond (nat_lt w.from w.upto) (view v.story v.from w.upto) v) (view v.story w.from w.upto)

@@ -1,4 +1,4 @@
--- What a run's views rest on, whatever its values are.
+-- The condition on reducers under which pieces have the right views, whatever the run's values are.
 use Rattle.std.specs.Prelude.{◌≡◌, ℕ, ℤ, ◌+◌, ◌<◌, ◌≤◌, ◌⊎◌, Some}
 use Rattle.cilk_types.specs.declared.event.Event.TheVariants.{Value}
 use Rattle.cilk_types.specs.declared.event.Instance.{Instance}
@@ -12,9 +12,10 @@ use Rattle.cilk_shared.specs.Reducers.{events_at}
 abbrev pub Settles : EventOrder → Reducers → ℕ → Instance → Type 0
 Settles s r q i = ((v : ℤ) × (event s q ≡ Some (Value i v))) ⊎ Resets i (events_at s r q)
 
--- So it is in a run without a view-read race: nothing that lies between an event of a reducer and a later one that reads or resets it runs
--- beside the later one, for it would not have run beside the reducer's creation (Lee and Schardl 2015).
+-- The reducers are settled. This holds in a run without a view-read race: no event between an event
+-- of a reducer and a later one that reads or resets it is parallel to the later one, since it would
+-- not be parallel to the reducer's creation (Lee and Schardl 2015).
 pub record AreSettled (s : EventOrder) (r : Reducers) : Type 0 where
   pub settled : (p x q : ℕ) (i : Instance) → Mentions i (events_at s r p) → Settles s r q i → p ≤ x → x < q → Before s x q
-  -- the child begins right behind its spawn
+  -- the child begins right after its spawn
   pub begins : (k : ℕ) → what s k ≡ spawn → what s (k + 1) ≡ plain

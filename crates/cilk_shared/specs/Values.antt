@@ -1,4 +1,4 @@
--- What contracts see of a yard and of a segment.
+-- The values of a yard and of a segment in contracts.
 use Rattle.std.specs.Prelude.{◌≡◌, ◌≢◌, ℕ, ◌+◌, ◌<◌, ◌≤◌, ◌⊎◌, cond, nat_lt, ℤ, Some, length}
 use Rattle.atomic_table.specs.Seated.{TableId}
 use Rattle.cilk_types.specs.declared.event.Event.TheVariants.{Read, Write}
@@ -21,14 +21,14 @@ pub record SegmentValue : Type 0 where
   pub from : ℕ
   pub upto : ℕ
 
--- it belongs to the yard
+-- the segment belongs to the yard
 abbrev pub OfYard : YardValue → SegmentValue → Type 0
 OfYard y g = (g.of ≡ y.of) × (g.story ≡ y.story)
 
 abbrev pub moved_on : SegmentValue → SegmentValue
 moved_on g = record { of = g.of; story = g.story; from = g.from; upto = g.upto + 1 }
 
--- the segment isn't empty, and the frame asks for its next event
+-- the segment isn't empty, and the frame requests its next event
 abbrev pub GoesOn : YardValue → SegmentValue → Type 0
 GoesOn y g = (g.from < g.upto) × IsAsked y.story g.upto
 
@@ -48,33 +48,33 @@ NextSpawn y g = GoesOn y g × (what y.story g.upto ≡ spawn)
 abbrev pub NextFinish : YardValue → SegmentValue → Type 0
 NextFinish y g = GoesOn y g × (what y.story g.upto ≡ finish)
 
--- The segment is empty, or the `resume` after the spawn at k is its next event, as it is behind the `end` of the spawned child. Where no
--- spawn stands at k there is no such event.
+-- The segment is empty, or the `resume` after the spawn at k is its next event, as it is after the
+-- `end` of the spawned child. If there is no spawn at k, there is no such event.
 abbrev pub CanTake : YardValue → SegmentValue → ℕ → Type 0
 CanTake y g k = (p : ℕ) → what y.story p ≡ resume k → IsAsked y.story p × ((g.upto ≤ g.from) ⊎ ((g.from < g.upto) × (p ≡ g.upto)))
 
--- the segment goes on at p
+-- the segment continued at p
 abbrev pub taken_at : SegmentValue → ℕ → SegmentValue
 taken_at g p = record { of = g.of; story = g.story; from = cond (nat_lt g.from g.upto) g.from p; upto = p + 1 }
 
--- the continuation after the spawn at k is taken, and g has become h, or nothing has changed
+-- the continuation of the spawn at k is taken and g has become h, or nothing has changed
 abbrev pub IsTaken : YardValue → SegmentValue → ℕ → SegmentValue → Taken → Type 0
 IsTaken y g k h Yes = (p : ℕ) × (what y.story p ≡ resume k) × (h ≡ taken_at g p)
 IsTaken y g k h No = h ≡ g
 
--- what comes right before the next event is not ahead of where the segment begins
+-- the immediate predecessors of the next event are not before the start of the segment
 abbrev pub HoldsPreceding : SegmentValue → Type 0
 HoldsPreceding g = (e : ℕ) → Among e (after g.story g.upto) → g.from ≤ e
 
--- there is a next event, it is no step on a word, and what comes right before it is in the segment
+-- there is a next event, it is no step on a word, and its immediate predecessors are in the segment
 abbrev pub MayPass : SegmentValue → Type 0
 MayPass g = (g.from < g.upto) × (g.upto ≤ length g.story.events) × (what g.story g.upto ≡ plain) × HoldsPreceding g
 
--- and the frame asks for it
+-- and the frame requests it
 abbrev pub CanPass : SegmentValue → Type 0
 CanPass g = MayPass g × IsAsked g.story g.upto
 
--- the segment isn't empty, and its next event resumes nothing that a spawn left
+-- the segment isn't empty, and its next event isn't the `resume` after a spawn
 abbrev pub IsAhead : SegmentValue → Type 0
 IsAhead g = (g.from < g.upto) × ((k : ℕ) → what g.story g.upto ≢ resume k)
 

@@ -1,4 +1,4 @@
--- A small run whose reducers are settled.
+-- A worked case: a small run whose reducers are settled.
 use Rattle.std.specs.Prelude.{List, [], ◌∷◌, pos}
 use Rattle.cilk_types.specs.declared.event.Event.{Event}
 use Rattle.cilk_types.specs.declared.event.Event.TheVariants.{Begin, Spawn, Resume, Sync, End, Create, Update, Value}
@@ -11,7 +11,7 @@ use Rattle.cilk_shared.specs.Settled.{AreSettled}
 abbrev pub total : Instance
 total = record { frame = 1; place = 1 }
 
--- A sum is updated by a spawned function and by its parent beside it, and read once both are there.
+-- A spawned function and its parent update a sum in parallel, which is read after the sync.
 abbrev pub two_updates : List Event
 two_updates =
     Begin 1 ∷ Create total ∷ Spawn 2 ∷ Begin 2 ∷ Update total (pos 5) ∷ Sync ∷ End ∷ Resume 1 ∷ Update total (pos 7) ∷ Sync ∷ Value total (pos 12) ∷ Sync ∷ End ∷ []

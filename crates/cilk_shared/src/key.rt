@@ -1,4 +1,4 @@
-//! The story that a yard's words are about. No memory is kept of it: contracts alone see it.
+//! The event order of a yard's run. It exists in contracts alone and takes no memory.
 
 ghost use Rattle.std.specs.Prelude.{◌≡◌, ℤ, List};
 ghost use Rattle.std.specs.Borrow.{ftrue};
@@ -7,7 +7,7 @@ ghost use Rattle.cilk_tree.specs.declared.event_order.EventOrder.{EventOrder};
 use cilk_types::input::Input;
 use std::marker::Model;
 
-/// A yard's story. It takes no bytes.
+/// The event order of a yard's run. It takes no bytes.
 #[derive(Drop)]
 pub struct EventOrderKey {
     pub ghost story: { EventOrder },
@@ -18,7 +18,7 @@ impl Model for EventOrderKey {
 }
 
 impl EventOrderKey {
-    /// The story of the run on this input, where each input has one.
+    /// Returns the event order of the run on this input, where `along` gives one for each input.
     pub(crate) fn of(input: &Input) -> EventOrderKey
         ghost along: { List ℤ → EventOrder }
         ensures { result.story ≡ along input.now }

@@ -1,34 +1,33 @@
-//! The words that the threads of a run share: its cells, a word for each continuation, and one for its end.
+//! The words that the threads of a parallel run share, and the pieces of the run that workers hold.
 //!
-//! A [`yard::Yard`] is made from a plan and an input: its story is that of the run on this input, as far as the run follows the plan.
-//! A [`yard::Segment`] is a stretch of the run's positions that one piece of the run has done; it is
-//! the only way to a word. The rule of the words says that segments lie apart, that what is before a done step on a word is done, and
-//! what each word is then. So a load answers the value of the run's own read, whatever other threads do, a continuation is taken
-//! once, and the words of the cells are the run's last values when one segment has all positions.
+//! A program runs in parallel along a plan ([`cilk_tree::plan::Plan`]): the events of a serial run
+//! in which no two accesses race, without their values. A [`yard::Yard`] is the memory of one such
+//! run: an atomic word for each cell, one for each continuation and one for the run's end. A
+//! [`yard::Segment`] is a range of the run's positions that one worker has done; words are read and
+//! written only through a segment. Segments never overlap, and each step on a word that comes
+//! before a done one is done too. So a load returns the value that the run's event order has there,
+//! whatever other threads do, and a continuation is taken at most once.
+//!
+//! A [`piece::Piece`] is a segment with the reducer views of its events. A worker's piece grows by
+//! one event at a time. A thief begins with an empty piece, and pieces that meet at a `sync` are
+//! joined in serial order (Frigo, Halpern, Leiserson and Lewin-Berlin 2009). Whatever is stolen,
+//! the piece of the whole run has the views of all events in serial order.
+//!
+//! | Call | Does |
+//! |---|---|
+//! | [`yard::Yard::new`] | makes the words of a run on an input, and the first segment |
+//! | [`piece::Piece::load`], [`piece::Piece::store`] | a read or a write of a cell |
+//! | [`piece::Piece::offer`], [`piece::Piece::take`] | offers a continuation, or takes one |
+//! | [`piece::Piece::update`] and others | an event of a reducer |
+//! | [`piece::Piece::join`], [`piece::Piece::join3`] | make one piece of adjoining ones |
+//! | [`yard::Yard::globals`] | the last values of the cells, after the whole run |
 //!
 //! ```text
-//! let (yard, mut segment) = Yard::new(alloc, &plan, &input)?;
-//! yard.store(&mut segment, 0, 7);                  // where the next event writes 7 to cell 0
-//! let ticket = yard.offer(&mut segment);           // where it is a spawn
-//! ```
-//!
-//! Pieces of a parallel run: a stretch of its positions that one worker has done, and the views of reducers that were made there.
-//!
-//! While a program runs in parallel, each worker holds one piece. A piece grows by one event after another; a thief begins with an
-//! empty one, and where pieces meet at a sync, in the order of the run, they become one (Frigo, Halpern, Leiserson and Lewin-Berlin
-//! 2009). A [`piece::Piece`] keeps in its type that its views are those of the events in its range, whatever was stolen: of each
-//! reducer what the range's creations, updates, sets and ends make of the unit. So the piece that covers the whole run has the views
-//! of the serial run.
-//!
-//! ```text
+//! let (yard, segment) = Yard::new(alloc, &plan, &input)?;
 //! let mut piece = Piece::new(alloc, &yard, segment, &reducers);
-//! piece.update(alloc, &yard, list, MonoidKind::Append, 7)?;      // where the next event updates a list with 7
-//! let ticket = piece.offer(&yard);                               // where it is a spawn
-//! ..
-//! match Piece::join(alloc, &yard, left, right) {
-//!     Ok(both) => ..,                                            // one piece, of both ranges
-//!     Err((left, right)) => ..,                                  // no memory: both come back
-//! }
+//! piece.store(&yard, 0, 7);                                 // the next event writes 7 to cell 0
+//! piece.update(alloc, &yard, list, MonoidKind::Append, 7)?; // the next one updates a list
+//! let ticket = piece.offer(&yard);                          // the next one is a spawn
 //! ```
 #![tactic(auto)]
 

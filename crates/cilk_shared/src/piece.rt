@@ -22,8 +22,9 @@ use std::alloc::{AllocError, Global};
 use std::marker::Model;
 use std::snapshot::Snapshot;
 
-/// A stretch of the run's positions that one worker has done, and the views that were made there. To a contract it is its range; the views
-/// are those of the range's events.
+/// A range of the run's positions that one worker has done, with the reducer views of its events.
+///
+/// Contracts see its range; its type keeps that the views are those of the range's events.
 #[derive(Drop)]
 pub struct Piece {
     views: Hypermap,
@@ -41,7 +42,7 @@ impl Model for Piece {
     ghost invariant = { λ p. Covers p.views p.reducers.value p.segment };
 }
 
-/// What a piece has.
+/// The parts of a piece.
 #[derive(Drop)]
 pub struct Parts {
     pub views: Hypermap,
@@ -49,7 +50,7 @@ pub struct Parts {
 }
 
 impl Piece {
-    /// The piece of a yard's first segment.
+    /// Makes the piece of a yard's first segment, the one of the run's first event.
     pub fn new(alloc: Global, yard: &Yard, segment: Segment, reducers: &Reducers) -> Piece
         requires yard { OfYard yard.now segment }
         requires first { (segment.from ≡ 1) × (segment.upto ≡ 2) }
@@ -65,7 +66,7 @@ impl Piece {
         }
     }
 
-    /// The views, and the segment.
+    /// Returns the views and the segment.
     pub fn parted(self) -> Parts
         ensures views { ShowsRange (kind_in self.reducers) result.views (events_over self.story self.reducers self.from self.upto) }
         ensures segment { result.segment ≡ segment_of self }
@@ -76,7 +77,7 @@ impl Piece {
         }
     }
 
-    /// The piece, and an empty one.
+    /// Returns the piece unchanged, and an empty piece for another worker.
     pub fn apart(self, alloc: Global, yard: &Yard, reducers: &Reducers) -> (Piece, Piece)
         requires yard { IsPieceOf yard.now self }
         requires reducers { reducers.now ≡ self.reducers }
@@ -103,28 +104,29 @@ impl Piece {
         )
     }
 
-    /// The segment.
+    /// Returns the segment.
     pub fn segment(&self) -> &Segment
         ensures { result.now ≡ segment_of self.now }
     {
         &self.segment
     }
 
-    /// The first position, where there is one.
+    /// Returns the first position, if the piece has events.
     pub fn from(&self) -> Pos
         ensures { result ≡ self.now.from }
     {
         self.segment.from()
     }
 
-    /// The position after the last one.
+    /// Returns the position after the last one, which is that of the next event.
     pub fn upto(&self) -> Pos
         ensures { result ≡ self.now.upto }
     {
         self.segment.upto()
     }
 
-    /// The value that the run reads at the piece's next event, a read of the cell.
+    /// Loads the cell, as the piece's next event does: returns the value of that read in the run's
+    /// event order.
     pub fn load(&mut self, yard: &Yard, cell: Cell) -> i64
         requires yard { IsPieceOf yard.now self.old }
         requires next { NextRead yard.now (segment_of self.old) cell }
@@ -135,7 +137,7 @@ impl Piece {
         yard.load(&mut self.segment, cell)
     }
 
-    /// Writes the value to the cell, as the piece's next event does.
+    /// Stores the value in the cell, as the piece's next event does.
     pub fn store(&mut self, yard: &Yard, cell: Cell, value: i64)
         requires yard { IsPieceOf yard.now self.old }
         requires next { NextWrite yard.now (segment_of self.old) cell value }
@@ -145,7 +147,8 @@ impl Piece {
         yard.store(&mut self.segment, cell, value);
     }
 
-    /// Lets any thread take the continuation after the spawn that is the piece's next event. The ticket is the spawn's position.
+    /// Offers the continuation of the spawn that is the piece's next event, so that any thread may
+    /// take it. Returns its ticket, the spawn's position.
     pub fn offer(&mut self, yard: &Yard) -> Pos
         requires yard { IsPieceOf yard.now self.old }
         requires next { NextSpawn yard.now (segment_of self.old) }
@@ -156,7 +159,8 @@ impl Piece {
         yard.offer(&mut self.segment)
     }
 
-    /// Takes the continuation after the spawn at `ticket`, unless it was taken: then the piece goes on with its `resume`.
+    /// Takes the continuation of the spawn at `ticket`, unless it was taken. On success the piece
+    /// continues with its `resume`.
     pub fn take(&mut self, yard: &Yard, ticket: Pos) -> Taken
         requires yard { IsPieceOf yard.now self.old }
         requires next { CanTake yard.now (segment_of self.old) ticket }
@@ -166,7 +170,8 @@ impl Piece {
         yard.take(&mut self.segment, ticket)
     }
 
-    /// Whether the run was seen to have ended; a thread may see the end late. Then its frames asked for each of its events.
+    /// Returns whether the run is seen to have ended. A thread may see the end late. If true, the
+    /// frames requested each event of the run.
     pub fn ended(&mut self, yard: &Yard) -> bool
         requires { IsPieceOf yard.now self.old }
         ensures piece { self.new ≡ self.old }
@@ -185,7 +190,8 @@ impl Piece {
         self.segment.pass(yard);
     }
 
-    /// Begins the reducer with its monoid's unit, as the next event does. Without memory nothing changes; so for the events below.
+    /// Creates the reducer with its monoid's unit, as the next event does. If memory runs out,
+    /// nothing changes; the same holds for the events below.
     pub fn create(
         &mut self,
         alloc: Global,
@@ -224,7 +230,7 @@ impl Piece {
         Ok(())
     }
 
-    /// Makes the reducer's view that of the number alone, as the next event does.
+    /// Sets the reducer's view to that of the single number, as the next event does.
     pub fn set(
         &mut self,
         alloc: Global,
@@ -244,7 +250,8 @@ impl Piece {
         Ok(())
     }
 
-    /// The number of the reducer's view over all events of the run ahead of the next one, which reads it: the piece has all of the reducer's.
+    /// Returns the number of the reducer's view over all events of the run before the next one,
+    /// which reads it. The piece has all of that view.
     pub fn value(
         &mut self,
         alloc: Global,
@@ -277,7 +284,7 @@ impl Piece {
         Ok(())
     }
 
-    /// Ends the frame, as the next event does: its reducers have no view from then on.
+    /// Ends the frame, as the next event does, and drops the views of its reducers.
     pub fn end(&mut self, yard: &Yard, reducers: &Reducers, frame: FrameNo)
         requires yard { IsPieceOf yard.now self.old }
         requires reducers { (reducers.now ≡ self.old.reducers) × HasFew reducers.now }
@@ -289,7 +296,8 @@ impl Piece {
         self.segment.pass(yard);
     }
 
-    /// Ends the run, where the next event is the root's `end`; the reducers that outlive the root keep their views.
+    /// Ends the run: the next event is the root's `end`. The reducers that outlive the root keep
+    /// their views.
     pub fn finish(&mut self, yard: &Yard, reducers: &Reducers, root: FrameNo)
         requires yard { IsPieceOf yard.now self.old }
         requires reducers { (reducers.now ≡ self.old.reducers) × HasFew reducers.now }
@@ -302,7 +310,7 @@ impl Piece {
         yard.finish(&mut self.segment);
     }
 
-    /// One piece of two that adjoin. Without memory both come back.
+    /// Makes one piece of two that adjoin. If memory runs out, both come back.
     pub fn join(
         alloc: Global,
         yard: &Yard,
@@ -345,7 +353,7 @@ impl Piece {
         }
     }
 
-    /// One piece of three that adjoin. Without memory all come back.
+    /// Makes one piece of three that adjoin. If memory runs out, all come back.
     pub fn join3(
         alloc: Global,
         yard: &Yard,

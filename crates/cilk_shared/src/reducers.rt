@@ -1,10 +1,11 @@
-//! Which reducers the frames of a run create.
+//! The reducers that the frames of a run create.
 
 use cilk_monoid::kind::MonoidKind;
 use cilk_types::sequence::Sequence;
 
-/// The reducers that a frame creates: their monoids, by their place from 1 on. The first ones may outlive the frame, as the global
-/// reducers do the root's; its `end` retires the others.
+/// The reducers that a frame creates: their monoids, by their place from 1 on. The first `outlive`
+/// of them outlive the frame, as the global reducers do the root; the frame's `end` retires the
+/// others.
 #[derive(Drop)]
 pub struct FrameReducers {
     pub kinds: Sequence<MonoidKind>,

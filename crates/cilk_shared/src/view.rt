@@ -1,8 +1,8 @@
-//! What a seat has done, of which no value is made.
+//! The range that a seat of the table has done. It exists in contracts alone.
 
 use cilk_tree::event_order::EventOrder;
 
-/// The positions from `from` up to `upto`, `upto` itself not among them.
+/// The positions from `from` up to `upto`, without `upto` itself.
 pub struct View {
     pub story: EventOrder,
     pub from: u64,

@@ -1,4 +1,4 @@
-//! Views of a frame that ends.
+//! The views of a frame that ends.
 
 ghost use Rattle.std.specs.Prelude.{◌<◌, ◌^◌, length};
 ghost use Rattle.cilk_shared.specs.Reducers.{HasEnded, HasFew, own};
@@ -7,7 +7,7 @@ use crate::reducers::{FrameReducers, Reducers};
 use cilk_hypermap::hypermap::Hypermap;
 use cilk_types::event::{FrameNo, Instance};
 
-/// The views lose those of a frame's reducers that don't outlive it.
+/// Retires the views of the frame's reducers that don't outlive it.
 pub fn retire(views: &mut Hypermap, frame: FrameNo, own: &FrameReducers)
     requires { length own.now.kinds < 2 ^ 32 }
     ensures { HasEnded frame own.now views.old views.new }
@@ -20,7 +20,7 @@ pub fn retire(views: &mut Hypermap, frame: FrameNo, own: &FrameReducers)
     }
 }
 
-/// The same of the frame with this number.
+/// The same for the frame with this number.
 pub fn retire_own(views: &mut Hypermap, reducers: &Reducers, frame: FrameNo)
     requires { HasFew reducers.now }
     ensures { HasEnded frame (own reducers.now frame) views.old views.new }

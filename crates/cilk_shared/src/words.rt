@@ -1,4 +1,4 @@
-//! Values of words.
+//! The values of cells, from their words.
 
 ghost use Rattle.std.specs.Prelude.{◌≡◌, ℕ, ◌<◌, ◌≤◌, slice_index, slice_index_or, pos, vec_len, vec_capacity};
 ghost use Rattle.std.specs.Int.{cast_signed, w64};
@@ -7,7 +7,7 @@ ghost use Rattle.std.specs.Slots.{slots_items, slots_len, IsFull};
 use atomic_table::Closed;
 use std::alloc::Global;
 
-/// The values of the first words, one for each cell.
+/// Returns the values of the first words, one for each cell.
 pub(crate) fn last_values(
     closed: &Closed<(), Global>,
     cells: usize,

@@ -1,4 +1,4 @@
-//! A yard and its segments.
+//! The shared words of a run, and the segments through which they are read and written.
 
 ghost use Rattle.std.specs.Prelude.{◌≡◌, ◌↔◌, ℕ, ◌+◌, ◌<◌, ◌≤◌, ℤ, List, Option, Some, None, length, slice_index_or, cond, nat_lt, IfErr, IfOk, IsTrue};
 ghost use Rattle.cilk_types.specs.declared.event.Event.TheVariants.{Read};
@@ -82,14 +82,15 @@ impl Join<View> for Halves {
     ghost spent = { spent };
 }
 
-/// The words of a run, shared by its threads. To a contract it is the run's story, and which yard it is.
+/// The words of a run, shared by its threads. Contracts see the run's event order, and which yard
+/// it is.
 pub struct Yard {
     table: Table<(), View, EventOrderKey, Words, Global>,
     cells: usize,
     resumptions: Vec<Pos>,
 }
 
-// A function of its own, so that a proof follows one call where a yard is dropped.
+// A separate function, so that a proof follows one call where a yard is dropped.
 impl Drop for Yard {
     fn drop(self) {
         let Yard {
@@ -114,7 +115,7 @@ impl Model for Yard {
     ghost invariant = { λ y. IsOrderly y.table.shared.key.story × (0 < y.table.shared.table_id.words) × (y.table.shared.table_id.slots ≡ 0) × (y.table.shared.table_id.words ≡ length y.table.shared.key.story.opening + (length y.table.shared.key.story.events + 1)) × (y.cells ≡ length y.table.shared.key.story.opening) × (y.cells + length y.table.shared.key.story.events + 1 < 2 ^ 34) × HasValues y.table.shared.key.story × AreResumptions y.table.shared.key.story y.resumptions.items };
 }
 
-/// A stretch of the run's positions that one piece has done.
+/// A range of the run's positions that one worker has done.
 #[derive(Drop)]
 pub struct Segment {
     seat: Seat<(), View>,
@@ -137,8 +138,8 @@ impl Model for Segment {
 impl Yard {
     ghost use Rattle.cilk_shared.specs.Values.{OfYard, NextRead, NextWrite, NextSpawn, NextFinish, CanTake, IsTaken, moved_on, empty_beside, Adjoin, both_of};
 
-    /// The words of a run along the plan on this input, and the segment of its first event. `along` says what runs on each input make
-    /// of the plan: on the input of the plan's own run it is the plan.
+    /// Makes the words of a run along the plan on this input, and the segment of its first event.
+    /// `along` gives the event order of the run on each input.
     pub fn new(alloc: Global, plan: &Plan, input: &Input) -> Result<(Yard, Segment), AllocError>
         ghost along: { List ℤ → EventOrder }
         requires plan { IsAlong plan.now (along input.now) }
@@ -150,7 +151,7 @@ impl Yard {
         Yard::with_resumptions(alloc, plan, input, column)
     }
 
-    /// The same, where it is known at which position each continuation is resumed.
+    /// The same, where `column` gives the position at which each continuation is resumed.
     pub fn with_resumptions(
         alloc: Global,
         plan: &Plan,
@@ -181,7 +182,7 @@ impl Yard {
         Ok((yard, segment))
     }
 
-    /// What holds of the yard's story.
+    /// The laws that the run's event order obeys.
     pub fn laws(&self)
         ensures order { IsOrderly self.now.story }
         ensures values { HasValues self.now.story }
@@ -189,7 +190,8 @@ impl Yard {
         let _cells = self.cells;
     }
 
-    /// The value that the run reads at the segment's next event, a read of the cell.
+    /// Loads the cell, as the segment's next event does: returns the value of that read in the
+    /// run's event order.
     pub fn load(&self, segment: &mut Segment, cell: Cell) -> i64
         requires yard { OfYard self.now segment.old }
         requires next { NextRead self.now segment.old cell }
@@ -204,7 +206,7 @@ impl Yard {
         found.cast_signed()
     }
 
-    /// Writes the value to the cell, as the segment's next event does.
+    /// Stores the value in the cell, as the segment's next event does.
     pub fn store(&self, segment: &mut Segment, cell: Cell, value: i64)
         requires yard { OfYard self.now segment.old }
         requires next { NextWrite self.now segment.old cell value }
@@ -217,7 +219,8 @@ impl Yard {
         segment.upto += 1;
     }
 
-    /// Lets any thread take the continuation after the spawn that is the segment's next event. The ticket is the spawn's position.
+    /// Offers the continuation of the spawn that is the segment's next event, so that any thread
+    /// may take it. Returns its ticket, the spawn's position.
     pub fn offer(&self, segment: &mut Segment) -> Pos
         requires yard { OfYard self.now segment.old }
         requires next { NextSpawn self.now segment.old }
@@ -232,8 +235,8 @@ impl Yard {
         ticket
     }
 
-    /// Takes the continuation after the spawn at `ticket`, unless it was taken: then the segment goes on with its `resume`. Where the plan
-    /// has no spawn there, nothing is taken.
+    /// Takes the continuation of the spawn at `ticket`, unless it was taken. On success the segment
+    /// continues with its `resume`. Nothing is taken if the plan has no spawn there.
     pub fn take(&self, segment: &mut Segment, ticket: Pos) -> Taken
         requires yard { OfYard self.now segment.old }
         requires next { CanTake self.now segment.old ticket }
@@ -254,7 +257,8 @@ impl Yard {
         Taken::Yes
     }
 
-    /// The position of the `resume` after the spawn at `ticket`; none where the plan has no spawn there.
+    /// Returns the position of the `resume` after the spawn at `ticket`, or `None` if the plan has
+    /// no spawn there.
     pub fn resumption(&self, ticket: Pos) -> Option<Pos>
         ensures { (p : ℕ) → (result ≡ Some p) ↔ (what self.now.story p ≡ resume ticket) }
     {
@@ -262,7 +266,7 @@ impl Yard {
         if at == 0 { None } else { Some(at) }
     }
 
-    /// Ends the run, where the segment's next event is the root's `end`.
+    /// Ends the run: the segment's next event is the root's `end`.
     pub fn finish(&self, segment: &mut Segment)
         requires yard { OfYard self.now segment.old }
         requires next { NextFinish self.now segment.old }
@@ -274,7 +278,8 @@ impl Yard {
         segment.upto += 1;
     }
 
-    /// Whether the run was seen to have ended; a thread may see the end late. Then its frames asked for each of its events.
+    /// Returns whether the run is seen to have ended. A thread may see the end late. If true, the
+    /// frames requested each event of the run.
     pub fn ended(&self, segment: &mut Segment) -> bool
         requires { OfYard self.now segment.old }
         ensures segment { segment.new ≡ segment.old }
@@ -287,7 +292,7 @@ impl Yard {
         found == 1
     }
 
-    /// The segment, and an empty one.
+    /// Returns the segment unchanged, and an empty segment.
     pub fn apart(&self, segment: Segment) -> (Segment, Segment)
         requires { OfYard self.now segment }
         ensures first { result.0 ≡ segment }
@@ -309,7 +314,7 @@ impl Yard {
         )
     }
 
-    /// One segment of two that adjoin.
+    /// Makes one segment of two that adjoin.
     pub fn together(&self, first: Segment, second: Segment) -> Segment
         requires yard { OfYard self.now first × OfYard self.now second }
         requires near { Adjoin first second }
@@ -334,7 +339,8 @@ impl Yard {
         }
     }
 
-    /// The cells' values after the whole run, which the segment holds. Without memory, the yard and the segment come back.
+    /// Returns the cells' values after the whole run, which the segment covers. If memory runs out,
+    /// the yard and the segment come back.
     pub fn globals(self, alloc: Global, segment: Segment) -> Result<Vec<i64>, (Yard, Segment)>
         requires yard { OfYard self segment }
         requires all { (segment.from ≡ 1) × (segment.upto ≡ length self.story.events + 1) }
@@ -360,7 +366,7 @@ impl Yard {
         Ok(values)
     }
 
-    /// Whether `together` may be called.
+    /// Returns whether [`Yard::together`] may be called.
     pub fn adjoins(&self, first: &Segment, second: &Segment) -> bool
         ensures { IsTrue result ↔ Adjoin first.now second.now }
     {
@@ -368,7 +374,7 @@ impl Yard {
     }
 }
 
-// What a column has at a place; 0 past its end.
+// The entry of a column at a place; 0 past its end.
 fn entry(column: &[Pos], place: usize) -> Pos
     ensures { result ≡ slice_index_or column.now place 0 }
 {
@@ -378,14 +384,14 @@ fn entry(column: &[Pos], place: usize) -> Pos
     }
 }
 
-// Where a segment begins that goes on at `at`.
+// The start of a segment that continues at `at`.
 fn start(from: Pos, upto: Pos, at: Pos) -> Pos
     ensures { result ≡ cond (nat_lt from upto) from at }
 {
     if from < upto { from } else { at }
 }
 
-// The range of two ranges that adjoin.
+// The union of two ranges that adjoin.
 fn span(from: Pos, upto: Pos, begin: Pos, end: Pos) -> (Pos, Pos)
     ensures { result ≡ spanned from upto begin end }
 {
@@ -417,14 +423,14 @@ impl Segment {
         self.upto += 1;
     }
 
-    /// The first position, where there is one.
+    /// Returns the first position, if the segment has events.
     pub fn from(&self) -> Pos
         ensures { result ≡ self.now.from }
     {
         self.from
     }
 
-    /// The last position, 0 where there is none.
+    /// Returns the last position, or 0 if the segment is empty.
     pub fn last(&self) -> Pos
         ensures none { self.now.upto ≤ self.now.from → result ≡ 0 }
         ensures some { self.now.from < self.now.upto → result + 1 ≡ self.now.upto }
@@ -436,7 +442,7 @@ impl Segment {
         }
     }
 
-    /// The position after the last one.
+    /// Returns the position after the last one, which is that of the next event.
     pub fn upto(&self) -> Pos
         ensures { result ≡ self.now.upto }
     {
@@ -444,8 +450,9 @@ impl Segment {
         *upto
     }
 
-    /// Whether what comes right before the next event is in the segment, as `pass` asks: before a `sync` come the event ahead of it and the
-    /// `end`s of the children that were spawned in its block.
+    /// Returns whether the immediate predecessors of the next event are in the segment, as
+    /// [`Segment::pass`] requires. Those of a `sync` are the event before it and the `end`s of the
+    /// children spawned in its block.
     pub fn holds_preceding(&self, plan: &Plan) -> bool
         requires { IsAlong plan.now self.now.story }
         ensures { IsTrue result ↔ HoldsPreceding self.now }
@@ -456,8 +463,8 @@ impl Segment {
         }
     }
 
-    /// Whether `pass` may be called where the frame asks for the next event: there is one, it is no step on a shared word, and what comes
-    /// right before it is in the segment.
+    /// Returns whether [`Segment::pass`] may be called if the frame requests the next event: there
+    /// is one, it is no step on a shared word, and its immediate predecessors are in the segment.
     pub fn may_pass(&self, plan: &Plan) -> bool
         requires { IsAlong plan.now self.now.story }
         ensures { IsTrue result ↔ MayPass self.now }
@@ -474,7 +481,7 @@ impl Segment {
         self.holds_preceding(plan)
     }
 
-    /// The run follows the plan up to the segment's last event.
+    /// A law: the frames request the segment's last event and each event before it.
     pub fn has_followed(&self)
         requires { self.now.from < self.now.upto }
         ensures { IsFollowed self.now.story (self.now.upto - 1) }
@@ -482,7 +489,8 @@ impl Segment {
         let _from = self.from;
     }
 
-    /// Where the frame asks for the next event, and that is no `sync`, the run follows the plan there.
+    /// A law: if the frame requests the next event and that is no `sync`, the frames also request
+    /// each event before it.
     pub fn follows(&self, yard: &Yard)
         requires yard { OfYard yard.now self.now }
         requires next { IsAhead self.now }
@@ -494,7 +502,8 @@ impl Segment {
         let _from = self.from;
     }
 
-    /// Where there is a next event that the frame doesn't ask for, the run departs from the plan there: that position.
+    /// Returns the position at which the run departs from the plan: that of the next event, which
+    /// the frame doesn't request.
     pub fn departs(&self, yard: &Yard) -> Pos
         requires yard { OfYard yard.now self.now }
         requires next { IsAhead self.now }

@@ -1,4 +1,4 @@
-//! The passes over a trace beside their definitions.
+//! The passes over a trace, compared with the definitions.
 
 use crate::brute_force;
 use crate::brute_force::Strands;
@@ -14,7 +14,7 @@ use cilk_types::trace::Trace;
 use std::alloc::{AllocError, Global};
 use std::test::Fail;
 
-// Whether labels and classes are what the definitions say.
+// Whether labels and peer classes agree with the definitions.
 fn strands_agree(alloc: Global, tree: &SpTree, strands: &Strands) -> Result<bool, AllocError> {
     let labels = label(alloc, tree)?;
     let found = classes(alloc, tree)?;
@@ -36,7 +36,7 @@ fn strands_agree(alloc: Global, tree: &SpTree, strands: &Strands) -> Result<bool
     Ok(true)
 }
 
-// Whether races, view-read races and the span are what the definitions say.
+// Whether races, view-read races and the span agree with the definitions.
 fn events_agree(
     alloc: Global,
     trace: &Trace,
@@ -57,7 +57,7 @@ fn events_agree(
     )
 }
 
-/// Whether tree, labels, classes, races and span of a trace are what the definitions say.
+/// Returns whether tree, labels, classes, races and span of a trace agree with the definitions.
 pub fn agrees(alloc: Global, trace: &Trace) -> Result<bool, AllocError> {
     let tree = tree_of(alloc, trace)?;
     let strands = Strands::new(alloc, tree.as_slice())?;

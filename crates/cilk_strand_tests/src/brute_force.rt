@@ -1,10 +1,11 @@
-//! What the passes over a trace find, by plain search from the definitions: slow, for small traces.
+//! The results of the passes over a trace, by plain search from the definitions. Slow, for small
+//! traces.
 
 use cilk_tree::tree::Node;
 use cilk_types::event::{Cell, Event, Instance};
 use std::alloc::{AllocError, Global};
 
-// How one strand stands to another: by their lowest common node, and by which of them stands left under it.
+// The relation of two strands, by their lowest common node and their sides of it.
 #[derive(Clone, Copy, PartialEq, Eq)]
 enum Relation {
     Same,
@@ -14,7 +15,7 @@ enum Relation {
     BesideOnTheRight,
 }
 
-// A node above a strand: which node it is, whether it is a P node, and whether the strand stands on its right.
+// An ancestor of a strand, and whether the strand is on its right.
 #[derive(Clone, Copy, PartialEq, Eq)]
 struct Above {
     node: usize,
@@ -22,7 +23,7 @@ struct Above {
     is_right: bool,
 }
 
-/// The strands of a tree, each by the nodes above it, from the root down.
+/// The strands of a tree, each by its ancestors from the root down.
 #[derive(Drop)]
 pub struct Strands {
     paths: Vec<Vec<Above>>,
@@ -125,7 +126,7 @@ impl Strands {
         self.relation(one, other) == Relation::Before
     }
 
-    // How many strands come first where right comes before left at P nodes, this one among them.
+    // The strand's number in the order that visits the right side of P nodes first.
     pub fn hebrew(&self, strand: u32) -> u32 {
         let mut number: u32 = 1;
         for other in 1..self.count().saturating_add(1) {
@@ -146,7 +147,7 @@ impl Strands {
         true
     }
 
-    // The lowest child of a P node that holds the strand, by that node and side.
+    // The lowest child of a P node around the strand, by that node and side.
     fn lowest_child(&self, strand: u32) -> Option<Above> {
         let mut lowest = None;
         let path = self
@@ -168,7 +169,7 @@ impl Strands {
         }
     }
 
-    // The first strand of that child, 0 where there is none.
+    // The first strand of that child, or 0 where there is none.
     pub fn class(&self, strand: u32) -> u32 {
         let Some(child) = self.lowest_child(strand) else {
             return 0;
@@ -198,7 +199,7 @@ pub fn strands_of(alloc: Global, events: &[Event]) -> Result<Vec<u32>, AllocErro
     Ok(strands)
 }
 
-// The cell that an event accesses, and whether it writes it.
+// The cell that an event accesses, and whether it is written.
 fn access(event: &Event) -> Option<(Cell, bool)> {
     match *event {
         Event::Read { cell, .. } => Some((cell, false)),
@@ -232,7 +233,8 @@ fn reads_one(one: &Event, other: &Event) -> bool {
     }
 }
 
-// The first race: the least later position, and of the earlier ones that of greatest Hebrew number, then the earliest.
+// The first race: the least later position; then the earlier one of greatest Hebrew number; then
+// the earliest.
 pub fn race(strands: &Strands, events: &[Event], of_events: &[u32]) -> Option<(u32, u32)> {
     for (later, (event, strand)) in events.iter().zip(of_events).enumerate() {
         let mut found: Option<(u32, u32)> = None;
@@ -257,7 +259,7 @@ pub fn race(strands: &Strands, events: &[Event], of_events: &[u32]) -> Option<(u
     None
 }
 
-// The first view-read race: the least later position, and the first reducer-read of its instance.
+// The first view-read race: the least later position, and the first read of the same reducer.
 pub fn view_race(strands: &Strands, events: &[Event], of_events: &[u32]) -> Option<(u32, u32)> {
     for (later, (event, strand)) in events.iter().zip(of_events).enumerate() {
         let mut first: Option<u32> = None;
@@ -280,7 +282,7 @@ pub fn view_race(strands: &Strands, events: &[Event], of_events: &[u32]) -> Opti
     None
 }
 
-// The greatest number of events of which each is before the next.
+// The length of the longest chain of events.
 pub fn span(alloc: Global, strands: &Strands, of_events: &[u32]) -> Result<u64, AllocError> {
     let mut chains: Vec<u64> = Vec::new(alloc);
     let mut greatest = 0;

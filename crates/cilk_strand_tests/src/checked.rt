@@ -1,5 +1,5 @@
-//! Certificates checked against the runs of worked programs, whole and in pieces. More of them, refused by each number,
-//! are cases of `cilk_rows`.
+//! Certificates checked against the runs of worked programs, whole and in pieces. Cases of
+//! `cilk_rows` cover every refusal number.
 
 use crate::pieces::Pieces;
 use crate::programs::{no_input, program_of};
@@ -16,8 +16,8 @@ use std::alloc::Global;
 use std::process::Abort;
 use std::test::Fail;
 
-// Texts of a program, an input and a certificate, and by which number these are refused (0: it is accepted) with which
-// places.
+// Texts of a program, an input and a certificate, with the refusal number and its places. 0 is
+// acceptance.
 const CHECKS: [(&str, &str, &str, u16, Fields); 6] = [
     (EMPTY, "", EMPTY_CERTIFICATE, 0, Fields::None),
     (
@@ -39,7 +39,7 @@ const CHECKS: [(&str, &str, &str, u16, Fields); 6] = [
     ("int main(){return x;}", "x", "x", 111, Fields::One(18)),
 ];
 
-// Whether this is answered: by number 0 where the certificate is accepted.
+// Whether this is the answer. Number 0 is acceptance.
 fn is_answer(answer: Result<Accepted, Refusal>, number: u16, fields: Fields) -> bool {
     match answer {
         Ok(_) => number == 0,
@@ -47,7 +47,7 @@ fn is_answer(answer: Result<Accepted, Refusal>, number: u16, fields: Fields) -> 
     }
 }
 
-// Whether this is answered of a certificate, whole and in pieces, whatever their size is.
+// Whether this is the answer to a certificate, whole and in pieces of several sizes.
 fn is_answered(
     alloc: Global,
     texts: (&str, &str),
@@ -87,7 +87,7 @@ fn certificates_are_judged(rt: HostRuntime) {
     }
 }
 
-// The text of the certificate of a program without an input.
+// The text of the certificate of a program without input.
 fn made(rt: &impl Abort, alloc: Global, text: &str) -> Result<Vec<u8>, Fail> {
     let program = program_of(rt, alloc, text);
     let input = no_input(rt, alloc);
@@ -150,7 +150,7 @@ fn nothing_is_pulled_behind_a_certain_fault(rt: HostRuntime) {
     assert_eq!(rt; source.failures(), 0);
 }
 
-// What is shown of each refusal.
+// The message of each refusal.
 const MESSAGES: [(Refusal, &str); 16] = [
     (
         Refusal::Program(SyntaxErrorKind::BadToken, 3),

@@ -1,15 +1,27 @@
-//! Tests of serial runs, their strands and races, and of the determinacy theorem.
+//! Tests of serial runs, their races, their certificates and their plans, on small worked programs.
 //!
-//! [`rows`] has worked programs as texts. [`worked`] takes some from their texts to outcome, trace, tree, labels, classes,
-//! races and span, [`settled`] to the settled outcome, and [`certified`] to the certificate. [`checked`] checks
-//! certificates, whole and in [`pieces`]. [`agreement`] compares the passes with the definitions, by plain search, on
-//! these traces and on random ones. [`listed`] has what a certificate lists of a run. What the tool shows of more
-//! programs is compared by the cases of `cilk_rows`.
+//! Each test begins with the text of a program. [`rows`] and [`texts`] hold these texts, and
+//! [`programs`] parses and runs them. The expected outcomes, traces, labels, races and spans of
+//! small programs are written out in the tests. [`brute_force`] computes the others
+//! by plain search from the definitions: two strands are parallel if their lowest common node in
+//! the series-parallel tree is a P node (Feng and Leiserson 1997). [`agreement`] compares the fast
+//! passes with that search, on worked runs and on 300 random traces.
 //!
-//! Tests of the plans of programs, and of yards on other inputs, from the programs' texts.
+//! | Module | Tests |
+//! |---|---|
+//! | [`worked`], [`settled`] | outcomes, traces, trees, labels, peer classes, races and spans |
+//! | [`certified`], [`listed`] | certificates, and what they list of a run |
+//! | [`checked`] | the check of certificates, whole and in small [`pieces`] |
+//! | [`plans`] | the plan that is made of an accepted run |
+//! | [`runs`] | where runs on other inputs leave the plan |
+//! | [`yards`] | the shared words (`Yard`) for such runs |
 //!
-//! [`texts`] makes accepted programs. [`plans`] looks at what a program's plan tells of its run, [`runs`] finds where runs on other inputs
-//! depart from it, and [`yards`] makes the yards of such inputs.
+//! ```text
+//! let trace = trace_of(rt.alloc(), seed, 8 + seed % 25)?;
+//! assert!(rt; agrees(rt.alloc(), &trace)?, "seed {seed}");
+//! ```
+//!
+//! Whole calls of the tool on more programs are cases of `cilk_rows`.
 #![tactic(auto)]
 
 #[cfg(test)]

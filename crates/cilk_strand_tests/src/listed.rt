@@ -1,4 +1,4 @@
-//! What a certificate lists of a run, and what a text is judged to be.
+//! The frames and strands in a certificate, and how program texts are judged.
 
 use crate::programs::run_of;
 use cilk_cert_maker::columns::columns;

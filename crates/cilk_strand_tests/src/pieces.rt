@@ -1,10 +1,10 @@
-//! A source of the tests.
+//! A source of text for tests.
 
 ghost use Rattle.std.specs.Prelude.{◌≡◌};
 
 use cilk_checker::source::{PullFault, Source};
 
-/// A text that comes in pieces of at most so many bytes. At its end the device fails, or it has ended.
+/// A text in pieces of at most `size` bytes. At its end the device fails, or the text ends.
 #[derive(Drop)]
 pub struct Pieces<'a> {
     pub rest: &'a [u8],
@@ -14,7 +14,7 @@ pub struct Pieces<'a> {
 }
 
 impl<'a> Pieces<'a> {
-    /// All of a text is still to come, in pieces of at most so many bytes.
+    /// Creates a source of a text in pieces of at most `size` bytes.
     pub fn new(text: &'a [u8], size: usize) -> Self
         ensures { result.failures ≡ 0 }
     {
@@ -26,7 +26,7 @@ impl<'a> Pieces<'a> {
         }
     }
 
-    /// A text, behind which the device fails.
+    /// Creates such a source whose device fails at the end.
     pub fn broken(text: &'a [u8], size: usize) -> Self
         ensures { result.failures ≡ 0 }
     {

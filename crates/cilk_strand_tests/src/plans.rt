@@ -1,4 +1,4 @@
-//! What the plan of a worked program tells of its run.
+//! The plans of worked programs.
 
 use crate::texts::{GETS, PUTS, TURNS, accepted};
 use cilk_checker::accepted::Accepted;
@@ -11,7 +11,7 @@ use cilk_types::event::{Cell, FrameNo, Instance, Pos};
 use std::alloc::Global;
 use std::process::Abort;
 
-// The events of the two calls' run, without their values, and their frames.
+// The events of the run of two calls, without values, each with its frame.
 const GETS_EVENTS: [(FrameNo, Kind); 22] = [
     (1, Kind::Begin { frame: 1 }),
     (1, Kind::Write { cell: 1 }),
@@ -40,7 +40,8 @@ const GETS_EVENTS: [(FrameNo, Kind); 22] = [
 // The first reducer that the first frame creates.
 const LIST: Instance = Instance { frame: 1, place: 1 };
 
-// The events of the run whose spawned call is given a list: each event of that reducer names it so, whichever frame makes it.
+// The events of a run whose spawned call gets a list. Every event of that reducer has the same
+// instance, whichever frame makes it.
 const PUTS_EVENTS: [(FrameNo, Kind); 16] = [
     (1, Kind::Begin { frame: 1 }),
     (1, Kind::Create { instance: LIST }),
@@ -60,7 +61,8 @@ const PUTS_EVENTS: [(FrameNo, Kind); 16] = [
     (1, Kind::End),
 ];
 
-// The positions of the two calls' events that are steps on shared words; the last is the root's `end`.
+// The positions of events that are steps on shared words, in the run of two calls. The last is the
+// root's `end`.
 const GETS_WORDS: [Pos; 13] = [2, 3, 4, 6, 8, 10, 11, 13, 15, 17, 19, 20, 22];
 
 fn planned<'a>(rt: &impl Abort, alloc: Global, accepted: &'a Accepted) -> ProgramPlan<'a> {
@@ -70,7 +72,7 @@ fn planned<'a>(rt: &impl Abort, alloc: Global, accepted: &'a Accepted) -> Progra
     plan
 }
 
-// Whether the plan has these events, one after another, and no others.
+// Whether the plan has exactly these events, in order.
 fn has_events(plan: &Plan, events: &[(FrameNo, Kind)]) -> bool {
     let mut after: Pos = 0;
     for (frame, kind) in events {
@@ -86,7 +88,7 @@ fn next_of(frame: FrameNo, kind: Kind) -> Asked {
     Asked::Next { frame, kind }
 }
 
-// Whether exactly these events are steps on shared words, and nothing past the last is one.
+// Whether exactly these positions are steps on shared words.
 fn has_words(plan: &Plan, words: &[Pos]) -> bool {
     let mut at: Pos = 0;
     for _ in 0..plan.count() {
@@ -98,8 +100,8 @@ fn has_words(plan: &Plan, words: &[Pos]) -> bool {
     !plan.is_word(at.saturating_add(1))
 }
 
-// The position of the earliest event that comes right before one of that run: the spawn before a `resume`, the first child's end before the
-// `sync` of both, and the event ahead of any other.
+// The earliest event directly before one of that run: the spawn for a `resume`, the first child's
+// end for the `sync` of both, and the previous event for all others.
 fn earliest_before(at: Pos) -> Pos {
     match at {
         10 => 4,
@@ -109,7 +111,7 @@ fn earliest_before(at: Pos) -> Pos {
     }
 }
 
-// Whether each event but the first has the earliest event right before it there.
+// Whether each event has that earliest event directly before it, and the first has none.
 fn has_order(plan: &Plan) -> bool {
     let mut at: Pos = 1;
     for _ in 1..plan.count() {
@@ -121,7 +123,7 @@ fn has_order(plan: &Plan) -> bool {
     plan.earliest_before(1).is_none()
 }
 
-// Whether this is the plan of the two calls' events.
+// Whether this is the plan of the run of two calls.
 fn is_of_gets(plan: &Plan) -> bool {
     has_events(plan, GETS_EVENTS.as_slice())
         && has_words(plan, GETS_WORDS.as_slice())
@@ -129,20 +131,20 @@ fn is_of_gets(plan: &Plan) -> bool {
         && plan.opening() == [7, 0, 0].as_slice()
 }
 
-// Whether the spawn at a position goes on at a `resume`, in a block that ends at a `sync`, and that `resume` is after this spawn.
+// Whether the spawn at a position continues at this `resume`, and its block ends at this `sync`.
 fn has_continuation(plan: &ProgramPlan<'_>, spawn: Pos, resume: Pos, sync: Pos) -> bool {
     plan.continuation(spawn) == Some(Continuation { resume, sync })
         && plan.events().resumed_by(resume) == Some(spawn)
 }
 
-// Whether both spawns of the two calls go on, and nothing else does.
+// Whether both spawns of the two calls have a continuation, and the `sync` has none.
 fn has_continuations(plan: &ProgramPlan<'_>) -> bool {
     has_continuation(plan, 4, 10, 18)
         && has_continuation(plan, 11, 17, 18)
         && plan.continuation(18).is_none()
 }
 
-// Whether the strands begin at these positions, and no other is there.
+// Whether the strands begin at exactly these positions.
 fn has_strands(plan: &ProgramPlan<'_>, starts: &[Pos]) -> bool {
     let mut number: u32 = 0;
     for start in starts {
@@ -154,7 +156,7 @@ fn has_strands(plan: &ProgramPlan<'_>, starts: &[Pos]) -> bool {
     plan.strand(0).is_none() && plan.strand(number.saturating_add(1)).is_none()
 }
 
-// Whether the frame with a number runs this, with its first cell there.
+// Whether a frame runs this body, with this first cell.
 fn has_frame(plan: &ProgramPlan<'_>, number: FrameNo, body: Body, first_cell: Cell) -> bool {
     match plan.frame(number) {
         Some(frame) => frame.body == body && frame.first_cell == first_cell,
@@ -162,7 +164,7 @@ fn has_frame(plan: &ProgramPlan<'_>, number: FrameNo, body: Body, first_cell: Ce
     }
 }
 
-// Whether the frames, by their numbers from 1, run these, with their first cells there, and no other is there.
+// Whether these are all frames, numbered from 1, with their bodies and first cells.
 fn has_frames(plan: &ProgramPlan<'_>, frames: &[(Body, Cell)]) -> bool {
     let mut number: FrameNo = 0;
     for (body, first_cell) in frames {
@@ -182,7 +184,7 @@ const GETS_FRAMES: [(Body, Cell); 3] = [
 
 const TURNS_FRAMES: [(Body, Cell); 2] = [(Body::Function(0), 7), (Body::Loop(0), 8)];
 
-// What is looked at of a plan.
+// The part of a plan that a test looks at.
 #[derive(Clone, Copy)]
 enum Look {
     Events,
@@ -206,7 +208,8 @@ fn is_as_wanted(plan: &ProgramPlan<'_>, look: Look) -> bool {
     }
 }
 
-// What is looked at of a program's plan is as wanted. This alone holds the program and its plan, so that each test is proved at once.
+// Whether a part of a program's plan is as expected. Only this function holds the program and its
+// plan, so each test has a short proof.
 fn has(rt: &impl Abort, alloc: Global, text: &str, numbers: &str, look: Look) -> bool {
     let accepted = accepted(rt, alloc, text, numbers);
     let plan = planned(rt, alloc, &accepted);

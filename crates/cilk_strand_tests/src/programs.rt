@@ -1,4 +1,4 @@
-//! From texts to programs and their serial runs.
+//! Programs and their serial runs, from texts.
 
 use cilk_names::resolve::resolve;
 use cilk_parser::parse::parse;
@@ -12,7 +12,7 @@ use cilk_types::word_list::WordList;
 use std::alloc::Global;
 use std::process::Abort;
 
-/// The program of a text.
+/// Returns the program of a text.
 pub fn program_of(rt: &impl Abort, alloc: Global, text: &str) -> Program {
     let Ok(tree) = parse(alloc, text.as_bytes()) else {
         panic!(rt; "no tree: {text}");
@@ -23,14 +23,14 @@ pub fn program_of(rt: &impl Abort, alloc: Global, text: &str) -> Program {
     program
 }
 
-/// The input without a number.
+/// Returns the empty input.
 pub fn no_input(rt: &impl Abort, alloc: Global) -> Input {
     let list = WordList::new(alloc);
     assert!(rt; list.len() <= MAX_INPUTS);
     Input::new(list)
 }
 
-/// What the serial run of a text without an input leaves, and its trace.
+/// Runs a text without input; returns its outcome and trace.
 pub fn run_of(rt: &impl Abort, alloc: Global, text: &str) -> (Outcome, Trace) {
     let program = program_of(rt, alloc, text);
     let input = no_input(rt, alloc);

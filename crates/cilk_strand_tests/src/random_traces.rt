@@ -1,11 +1,11 @@
-//! Traces made from a seed.
+//! Traces that are made from a seed.
 
 use cilk_types::event::{Event, Instance};
 use cilk_types::limits::MAX_EVENTS;
 use cilk_types::trace::Trace;
 use std::alloc::{AllocError, Global};
 
-// A trace that is being made: its events, and the frames that have not ended, the innermost last.
+// A trace in the making: its events, and its open frames with the innermost last.
 #[derive(Drop)]
 struct Maker {
     events: Vec<Event>,
@@ -24,7 +24,7 @@ impl Maker {
         }
     }
 
-    // The next number of a fixed sequence, below `below`, which is not 0.
+    // The next number of a fixed sequence, less than `below`, which isn't 0.
     fn next(&mut self, below: u32) -> u32 {
         self.state = self
             .state
@@ -51,7 +51,8 @@ impl Maker {
         self.begin()
     }
 
-    // The innermost frame ends, and its parent goes on. Some frames end without a sync, which the definitions allow.
+    // Ends the innermost frame; its parent continues. Some frames end without a sync, which the
+    // definitions allow.
     fn end(&mut self, is_synced: bool) -> Result<(), AllocError> {
         if is_synced {
             self.events.push(Event::Sync)?;
@@ -99,7 +100,7 @@ impl Maker {
     }
 }
 
-// The trace of a seed, of that many steps and the ends of the frames that are open then.
+// The trace of a seed: `steps` steps, then the ends of all open frames.
 pub fn trace_of(alloc: Global, seed: u32, steps: u32) -> Result<Trace, AllocError> {
     let mut maker = Maker::new(alloc, seed);
     maker.begin()?;

@@ -1,4 +1,5 @@
-//! Where runs on other inputs depart from the plan of a run: at the first event that is of another kind, or that a fault replaces.
+//! Where runs on other inputs depart from the plan of a run: at the first event of another kind, or
+//! at a fault.
 
 use crate::texts::{SQUARES, TURNS, input_of, program_of};
 use cilk_serial::fault::RunFault;
@@ -9,7 +10,8 @@ use cilk_types::trace::Trace;
 use std::alloc::Global;
 use std::process::Abort;
 
-// What the serial run on an input leaves as its result, and its events; or the position of the event that a fault replaces.
+// The result and the events of the serial run on an input, or the position at which a fault stops
+// it.
 fn ran(rt: &impl Abort, alloc: Global, text: &str, numbers: &str) -> Result<(i64, Trace), Pos> {
     let program = program_of(rt, alloc, text);
     let input = input_of(rt, alloc, numbers);
@@ -40,7 +42,7 @@ fn parting(plan: &[Event], other: &[Event]) -> Option<Pos> {
     None
 }
 
-// On another input than its plan's the run departs nowhere, and has this result.
+// The run on another input follows the plan and has this result.
 fn stays(rt: &impl Abort, alloc: Global, text: &str, own: &str, other: &str, wanted: i64) {
     let plan = planned(rt, alloc, text, own);
     let Ok((value, made)) = ran(rt, alloc, text, other) else {
@@ -51,7 +53,7 @@ fn stays(rt: &impl Abort, alloc: Global, text: &str, own: &str, other: &str, wan
     assert_eq!(rt; parting(plan.as_slice(), made.as_slice()), None, "{text}");
 }
 
-// On another input the run departs at this position.
+// The run on another input departs at this position.
 fn departs(rt: &impl Abort, alloc: Global, text: &str, own: &str, other: &str, wanted: Pos) {
     let plan = planned(rt, alloc, text, own);
     let place = match ran(rt, alloc, text, other) {

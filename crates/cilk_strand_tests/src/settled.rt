@@ -9,7 +9,7 @@ use cilk_types::outcome::{Final, Outcome};
 use std::alloc::Global;
 use std::process::Abort;
 
-// What settles the program of a text without an input.
+// The settled outcome of a text without input.
 fn told(rt: &impl Abort, alloc: Global, text: &str) -> Result<Option<Outcome>, RunFault> {
     let program = program_of(rt, alloc, text);
     let input = no_input(rt, alloc);
@@ -17,7 +17,7 @@ fn told(rt: &impl Abort, alloc: Global, text: &str) -> Result<Option<Outcome>, R
     settle(alloc, &program, &input)
 }
 
-// Whether a text with one list is settled, with this result and list.
+// Whether a text with one list is settled with this result and list.
 fn settles(rt: &impl Abort, alloc: Global, text: &str, number: i64, list: &[i64]) -> bool {
     let Ok(Some(outcome)) = told(rt, alloc, text) else {
         return false;

@@ -1,4 +1,4 @@
-//! Programs from their texts: certified by their serial runs, and checked.
+//! Accepted programs: certified by their serial runs, and checked.
 
 use cilk_cert_maker::make::make;
 use cilk_cert_text::write::write;
@@ -19,11 +19,11 @@ pub const GETS: &str =
 pub const SQUARES: &str =
     "int a[4]; int main() { cilk_for (int i = 0; i < 4; i++) { a[i] = input(i) * input(i); } return a[0] + a[3]; }";
 
-/// A spawned call is given a list of its caller's.
+/// A spawned call gets a list of its caller.
 pub const PUTS: &str = "void put(int cilk_reducer(append) l, int x) { update(l, x); } \
     int main() { int cilk_reducer(append) a; set(a, 7); cilk_spawn put(a, 1); cilk_sync; print(value(a)); return 0; }";
 
-/// As many turns of a loop as the input says.
+/// A loop with as many turns as the input says.
 pub const TURNS: &str =
     "int a[7]; int main() { int n = input(0); cilk_for (int i = 0; i < n; i++) { a[i] = i; } return a[6]; }";
 
@@ -54,7 +54,7 @@ fn certificate(rt: &impl Abort, alloc: Global, text: &str, numbers: &str) -> Vec
     bytes
 }
 
-/// The program of a text on the input of a text, whose certificate is accepted.
+/// Certifies and checks a program's run on an input.
 pub fn accepted(rt: &impl Abort, alloc: Global, text: &str, numbers: &str) -> Accepted {
     let certificate = certificate(rt, alloc, text, numbers);
     let (text, numbers, certificate) = (

@@ -1,4 +1,4 @@
-//! Worked programs from their texts: outcomes, traces, trees, labels, classes, races and spans.
+//! Worked programs: outcomes, traces, trees, labels, peer classes, races and spans.
 
 use crate::agreement::agrees;
 use crate::programs::run_of;
@@ -113,7 +113,7 @@ fn hebrew_numbers_and_classes(rt: HostRuntime) -> Result<(), Fail> {
     Ok(())
 }
 
-// The strands of a text's run that are parallel, in pairs.
+// The pairs of parallel strands in a text's run.
 fn parallel(rt: &impl Abort, alloc: Global, text: &str) -> Result<Vec<(u32, u32)>, Fail> {
     let (_, trace) = run_of(rt, alloc, text);
     let labels = label(alloc, &tree_of(alloc, &trace)?)?;
@@ -138,7 +138,7 @@ fn a_child_is_parallel_to_the_rest_of_its_block(rt: HostRuntime) -> Result<(), F
     Ok(())
 }
 
-// Whether the run of a text with one list leaves this result, list and output.
+// Whether the run of a text with one list has this result, list and output.
 fn leaves(
     rt: &impl Abort,
     alloc: Global,

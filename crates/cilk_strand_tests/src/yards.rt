@@ -1,4 +1,4 @@
-//! Yards of worked programs on their own inputs and on others.
+//! The shared words of worked programs, on their own inputs and on others.
 
 use crate::texts::{GETS, SQUARES, TURNS, accepted, input_of};
 use cilk_plan::program_plan::plan;
@@ -6,7 +6,7 @@ use cilk_plan::yards::yard;
 use std::alloc::Global;
 use std::process::Abort;
 
-// A yard is made on the other input, and holds its first event alone.
+// A yard can be made for the other input; its segment holds the first event alone.
 fn has_yard(rt: &impl Abort, alloc: Global, text: &str, own: &str, other: &str) {
     let accepted = accepted(rt, alloc, text, own);
     let input = input_of(rt, alloc, other);

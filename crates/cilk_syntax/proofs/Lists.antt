@@ -25,7 +25,7 @@ pub spells_push : (list : List Stmt) (s : Stmt) (ts ts1 rest : List Token) → S
 spells_push [] s ts ts1 rest h k = (rest, subst (λ x. SpellsStmt (statement s) x rest) (sym h) k, refl)
 spells_push (a ∷ list) s ts ts1 rest h k = (h.0, h.1, spells_push list s h.0 ts1 rest h.2 k)
 
--- a row in a tree is the list that it was made of
+-- a row of statements in a tree is the list that it was made from
 row_is : (n : _) (row : Row_of-Stmt n) → row_view row ≡ statements (items-the_row-Stmt n row)
 row_is _ end_of-Stmt = refl
 row_is _ (more_of-Stmt s row) = ap (λ x. Then (statement s) x) (row_is _ row)
@@ -37,7 +37,7 @@ block_is v =
 pub spells_block : (v : Vec Stmt Global) (ts ts1 ts2 rest : List Token) → Is kinds.OpenBrace ts ts1 → SpellsAll (statements v.items) ts1 ts2 → Is kinds.CloseBrace ts2 rest → SpellsStmt (statement (Block v)) ts rest
 spells_block v ts ts1 ts2 rest first all close = subst (λ s. SpellsStmt s ts rest) (sym (block_is v)) (ts1, ts2, first, all, close)
 
--- where a statement begins, a list of them is one and more
+-- where a statement begins, a list of statements is one statement and more
 with_form : (d : ℕ) (x : Kind) (stack : List Symbol) (n : ℕ) (below below' : After) → begins_statement x ≡ true → chosen (followed (Statements d ∷ []) (move_statement d x)) stack n below ≡ chosen (move_statement d x) (Statements d ∷ stack) n below'
 with_form d kinds.OpenBrace stack n below below' h = refl
 with_form d kinds.Semicolon stack n below below' h = refl
@@ -66,7 +66,7 @@ pub repeats : (d : ℕ) (ts : List Token) (stack : List Symbol) (n : ℕ) → fi
 repeats d [] stack n h = cc
 repeats d (t ∷ ts) stack n h = ap (λ a. settled a (run ts) (t ∷ ts)) (form_repeats d t.kind stack n h)
 
--- a literal behind its `=`
+-- a literal after its `=`
 pub spells_initial : (i : Initializer) (ts ts1 rest : List Token) → Is kinds.Assign ts ts1 → SpellsLiteral i ts1 rest → SpellsInitializer i ts rest
 spells_initial initializers.Absent ts ts1 rest h k = absurd k
 spells_initial (initializers.Number n) ts ts1 rest h k = (ts1, h, k)
@@ -90,7 +90,7 @@ pub arguments_push : (list : List declared_arguments.Argument) (a : declared_arg
 arguments_push [] a ts ts1 ts2 rest h c k = absurd h
 arguments_push (b ∷ list) a ts ts1 ts2 rest h c k = (h.0, h.1, more_arguments_push list a h.0 ts1 ts2 rest h.2 c k)
 
--- and the parenthesis behind them
+-- and the parenthesis after them
 pub spells_arguments : (list : List Argument) (ts ts1 rest : List Token) → SpellsSome list ts ts1 → Is kinds.Close ts1 rest → SpellsArguments list ts rest
 spells_arguments [] ts ts1 rest h c = absurd h
 spells_arguments (a ∷ list) ts ts1 rest h c = (ts1, h, c)
@@ -113,7 +113,7 @@ pub parameters_push : (list : List Parameter) (p : Parameter) (ts ts1 ts2 ts3 re
 parameters_push [] p ts ts1 ts2 ts3 rest h c n k = absurd h
 parameters_push (b ∷ list) p ts ts1 ts2 ts3 rest h c n k = (h.0, h.1, more_parameters_push list p h.0 ts1 ts2 ts3 rest h.2 c n k)
 
--- with the `int` in front of them and the parenthesis behind them
+-- with the first `int` before them and the parenthesis after them
 pub spells_parameters : (list : List Parameter) (ts ts1 ts2 rest : List Token) → Is kinds.Int ts ts1 → SpellsListed list ts1 ts2 → Is kinds.Close ts2 rest → SpellsParameters list ts rest
 spells_parameters [] ts ts1 ts2 rest int h c = absurd h
 spells_parameters (p ∷ list) ts ts1 ts2 rest int h c = (ts1, ts2, int, h, c)
@@ -123,6 +123,6 @@ pub items_push : (list : List declared.Item) (i : declared.Item) (ts ts1 rest : 
 items_push [] i ts ts1 rest h k = (rest, subst (λ x. SpellsItem (item i) x rest) (sym h) k, refl)
 items_push (a ∷ list) i ts ts1 rest h k = (h.0, h.1, items_push list i h.0 ts1 rest h.2 k)
 
--- a reducer behind its word
+-- a reducer after its word
 pub spells_reducer : (r : Reducer) (ts ts1 rest : List Token) → Is kinds.CilkReducer ts ts1 → SpellsReducerRest r ts1 rest → SpellsReducer r ts rest
 spells_reducer r ts ts1 rest is h = subst (λ x. SpellsReducer r x rest) (sym is.1) (h is.0 is.2)

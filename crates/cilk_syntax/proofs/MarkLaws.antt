@@ -1,4 +1,4 @@
--- A kind that fits a mark is the mark's.
+-- A kind that fits a mark is the mark's kind.
 use Rattle.std.proofs.Common.{◌≡◌, ◌≢◌, true, false, refl, ap, ◌∙◌}
 use Rattle.cilk_syntax.specs.declared.token.Kind.{Kind}
 use Rattle.cilk_syntax.specs.declared.token.Kind.TheVariants as kinds
@@ -32,6 +32,6 @@ fits_own Assign = refl
 fits_own Less = refl
 fits_own Int = refl
 
--- so one that doesn't fit is another
+-- so a kind that doesn't fit is another
 pub not_mark : (m : Punct) (k : Kind) → fits m k ≡ false → k ≢ kind_of m
 not_mark m k h = λ e. let t : fits m k ≡ true = ap (λ x. fits m x) e ∙ fits_own m in cc

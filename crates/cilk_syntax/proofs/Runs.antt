@@ -1,4 +1,4 @@
--- How the reading of tokens goes on.
+-- How the reading of tokens continues.
 use Rattle.std.proofs.Common.{◌≡◌, ◌≢◌, ℕ, ◌+◌, ◌<◌, ◌≤◌, true, false, cond, ◌&&◌, ◌||◌, List, [], ◌∷◌, Option, Some, None, refl, sym, ap, ◌∙◌, arith, lit≤}
 use Rattle.cilk_syntax.specs.declared.token.Token.{Token}
 use Rattle.cilk_syntax.specs.declared.token.Kind.{Kind}
@@ -27,12 +27,12 @@ no_level kinds.Slash = lit≤ tt
 no_level kinds.Percent = lit≤ tt
 no_level _ = tt
 
--- no operator is tighter than the tightest
+-- no operator is tighter than the tightest level
 pub tightest : (ts : List Token) → NoOperator 6 ts
 tightest [] = tt
 tightest (t ∷ ts) = no_level t.kind
 
--- operators are counted anew
+-- the count of operators starts again
 pub anew : (ts : List Token) (stack : List Symbol) (n : ℕ) → run ts (Anew ∷ stack) n ≡ run ts stack 0
 anew [] stack n = refl
 anew (t ∷ ts) stack n = refl
@@ -46,7 +46,7 @@ pub tail_ends : (ts : List Token) (d : ℕ) (stack : List Symbol) (n : ℕ) → 
 tail_ends [] d stack n h = refl
 tail_ends (t ∷ ts) d stack n h = ap (λ a. settled a (run ts) (t ∷ ts)) (no_operator (level_of t.kind) d stack n (after stack n t.kind) h)
 
--- and operators are counted anew
+-- and the count of operators starts again
 pub ends_anew : (ts : List Token) (d : ℕ) (stack : List Symbol) (n : ℕ) → NoOperator 0 ts → run ts (Tail d ∷ Anew ∷ stack) n ≡ run ts stack 0
 ends_anew ts d stack n h = tail_ends ts d (Anew ∷ stack) n h ∙ anew ts stack n
 
@@ -63,7 +63,7 @@ subscript_after : (k : Kind) (d : ℕ) (stack : List Symbol) (n : ℕ) (below : 
 subscript_after kinds.OpenBracket d stack n below h = absurd (h refl)
 subscript_after _ d stack n below h = refl
 
--- and so where it is written to
+-- the same for a place that is written
 pub no_subscript : (ts : List Token) (d : ℕ) (stack : List Symbol) (n : ℕ) → NotFirst kinds.OpenBracket ts → run ts (Subscript d ∷ stack) n ≡ run ts stack n
 no_subscript [] d stack n h = refl
 no_subscript (t ∷ ts) d stack n h = ap (λ a. settled a (run ts) (t ∷ ts)) (subscript_after t.kind d stack n (after stack n t.kind) h)
@@ -72,7 +72,7 @@ source_after : (k : Kind) (d : ℕ) (stack : List Symbol) (n : ℕ) (below : Aft
 source_after kinds.Assign d stack n below h = absurd (h refl)
 source_after _ d stack n below h = refl
 
--- where no `=` follows, a variable takes nothing
+-- where no `=` follows, a variable has no initializer
 pub no_source : (ts : List Token) (d : ℕ) (stack : List Symbol) (n : ℕ) → NotFirst kinds.Assign ts → run ts (LocalInitial d ∷ stack) n ≡ run ts stack n
 no_source [] d stack n h = refl
 no_source (t ∷ ts) d stack n h = ap (λ a. settled a (run ts) (t ∷ ts)) (source_after t.kind d stack n (after stack n t.kind) h)
@@ -89,7 +89,7 @@ value_after kinds.Name d stack n below below' h = refl
 value_after (kinds.Number v) d stack n below below' h = refl
 value_after _ d stack n below below' h = refl
 
--- what isn't a semicolon begins a value
+-- a token that isn't a semicolon begins a value
 pub some_value : (ts : List Token) (d : ℕ) (stack : List Symbol) (n : ℕ) → NotFirst kinds.Semicolon ts → run ts (Optional d ∷ stack) n ≡ run ts (Operand d ∷ Tail d ∷ Anew ∷ One Semicolon ∷ stack) n
 some_value [] d stack n h = refl
 some_value (t ∷ ts) d stack n h = ap (λ a. settled a (run ts) (t ∷ ts)) (value_after t.kind d stack n _ _ h)
@@ -106,7 +106,7 @@ argument_after kinds.Name d stack n below below' h = refl
 argument_after (kinds.Number v) d stack n below below' h = refl
 argument_after _ d stack n below below' h = refl
 
--- what isn't a parenthesis begins an argument
+-- a token that isn't a parenthesis begins an argument
 pub some_argument : (ts : List Token) (d : ℕ) (stack : List Symbol) (n : ℕ) → NotFirst kinds.Close ts → run ts (Arguments d ∷ stack) n ≡ run ts (Operand d ∷ Tail d ∷ Anew ∷ MoreArguments d ∷ stack) n
 some_argument [] d stack n h = refl
 some_argument (t ∷ ts) d stack n h = ap (λ a. settled a (run ts) (t ∷ ts)) (argument_after t.kind d stack n _ _ h)
@@ -119,7 +119,7 @@ assignment_after kinds.Increment d stack n below below' h0 h1 = refl
 assignment_after kinds.Decrement d stack n below below' h0 h1 = refl
 assignment_after _ d stack n below below' h0 h1 = refl
 
--- what isn't a semicolon and no `int` begins an assignment
+-- a token that isn't a semicolon or `int` begins an assignment
 pub begins_assigning : (ts : List Token) (d : ℕ) (stack : List Symbol) (n : ℕ) → NotFirst kinds.Semicolon ts → NotFirst kinds.Int ts → run ts (Beginning d ∷ stack) n ≡ run ts (Assignment d ∷ One Semicolon ∷ stack) n
 begins_assigning [] d stack n h0 h1 = refl
 begins_assigning (t ∷ ts) d stack n h0 h1 = ap (λ a. settled a (run ts) (t ∷ ts)) (assignment_after t.kind d stack n _ _ h0 h1)
@@ -131,7 +131,7 @@ step_after kinds.Increment d stack n below below' h = refl
 step_after kinds.Decrement d stack n below below' h = refl
 step_after _ d stack n below below' h = refl
 
--- and what isn't a parenthesis
+-- the same for a token that isn't a parenthesis
 pub steps_assigning : (ts : List Token) (d : ℕ) (stack : List Symbol) (n : ℕ) → NotFirst kinds.Close ts → run ts (Step d ∷ stack) n ≡ run ts (Assignment d ∷ One Close ∷ stack) n
 steps_assigning [] d stack n h = refl
 steps_assigning (t ∷ ts) d stack n h = ap (λ a. settled a (run ts) (t ∷ ts)) (step_after t.kind d stack n _ _ h)
@@ -141,7 +141,7 @@ locals_after kinds.CilkReducer d stack n below below' h = absurd (h refl)
 locals_after kinds.Name d stack n below below' h = refl
 locals_after _ d stack n below below' h = refl
 
--- what isn't `cilk_reducer` is a variable's name
+-- a token that isn't `cilk_reducer` is a variable's name
 pub declares_locals : (ts : List Token) (d : ℕ) (stack : List Symbol) (n : ℕ) → NotFirst kinds.CilkReducer ts → run ts (Declaration d ∷ stack) n ≡ run ts (Named ∷ LocalInitial d ∷ Locals d ∷ stack) n
 declares_locals [] d stack n h = refl
 declares_locals (t ∷ ts) d stack n h = ap (λ a. settled a (run ts) (t ∷ ts)) (locals_after t.kind d stack n _ _ h)
@@ -151,7 +151,7 @@ name_after kinds.CilkReducer stack n below below' h = absurd (h refl)
 name_after kinds.Name stack n below below' h = refl
 name_after _ stack n below below' h = refl
 
--- and so outside functions
+-- the same outside functions
 pub declares_name : (ts : List Token) (stack : List Symbol) (n : ℕ) → NotFirst kinds.CilkReducer ts → run ts (Item ∷ stack) n ≡ run ts (Named ∷ Declared ∷ stack) n
 declares_name [] stack n h = refl
 declares_name (t ∷ ts) stack n h = ap (λ a. settled a (run ts) (t ∷ ts)) (name_after t.kind stack n _ _ h)
@@ -164,7 +164,7 @@ variables_after kinds.Comma stack n below below' h = refl
 variables_after kinds.Semicolon stack n below below' h = refl
 variables_after _ stack n below below' h = refl
 
--- what isn't a parenthesis behind the name of an `int` goes on with variables
+-- if no parenthesis follows the name after an `int`, variables are declared
 pub declares_variables : (ts : List Token) (stack : List Symbol) (n : ℕ) → NotFirst kinds.Open ts → run ts (Declared ∷ stack) n ≡ run ts (Initial ∷ Variables ∷ stack) n
 declares_variables [] stack n h = refl
 declares_variables (t ∷ ts) stack n h = ap (λ a. settled a (run ts) (t ∷ ts)) (variables_after t.kind stack n _ _ h)
@@ -180,7 +180,7 @@ assigns_after kinds.Increment d stack n below below' h0 h1 = refl
 assigns_after kinds.Decrement d stack n below below' h0 h1 = refl
 assigns_after _ d stack n below below' h0 h1 = refl
 
--- what is no parenthesis and no `=` behind a name goes on with a place
+-- a name that no parenthesis or `=` follows begins a place
 pub assigns : (ts : List Token) (d : ℕ) (stack : List Symbol) (n : ℕ) → NotFirst kinds.Open ts → NotFirst kinds.Assign ts → run ts (AfterName d ∷ stack) n ≡ run ts (Subscript d ∷ Operation d ∷ One Semicolon ∷ stack) n
 assigns [] d stack n h0 h1 = refl
 assigns (t ∷ ts) d stack n h0 h1 = ap (λ a. settled a (run ts) (t ∷ ts)) (assigns_after t.kind d stack n _ _ h0 h1)
@@ -188,7 +188,7 @@ assigns (t ∷ ts) d stack n h0 h1 = ap (λ a. settled a (run ts) (t ∷ ts)) (a
 pub shallow : (d : ℕ) → d ≤ 64 → is_deep d ≡ false
 shallow d h = search arith
 
--- a token of a known kind is taken
+-- a token of a known kind is read
 pub takes : (kind : Kind) (ts ts1 : List Token) (stack stack' : List Symbol) (n n' : ℕ) → Is kind ts ts1 → after stack n kind ≡ Goes false stack' n' → run ts stack n ≡ run ts1 stack' n'
 takes kind ts ts1 stack stack' n n' is h =
     ap (λ x. run x stack n) is.1
@@ -208,7 +208,7 @@ many n h = search arith
 few : (n : ℕ) → n ≤ 256 → is_many n ≡ false
 few n h = search arith
 
--- a sign is taken
+-- a unary operator is read
 pub takes_sign : (op : UnaryOperator) (ts ts1 : List Token) (d : ℕ) (stack : List Symbol) (n : ℕ) → Is (sign_of op) ts ts1 → d ≤ 64 → n + 1 ≤ 256 → run ts (Operand d ∷ stack) n ≡ run ts1 (Operand (d + 1) ∷ stack) (n + 1)
 takes_sign op ts ts1 d stack n is h l =
     ap (λ x. run x (Operand d ∷ stack) n) is.1
@@ -228,7 +228,7 @@ call_source kinds.Name kinds.Open d t' ts here stack n e h deep =
     ∙ sym (takes kinds.Open (t' ∷ ts) ts (One Open ∷ Arguments d ∷ stack) (Arguments d ∷ stack) n n (t', refl, e) refl))
 call_source _ _ d t' ts here stack n e h deep = cc
 
--- a name and a parenthesis behind an `=` begin a call
+-- a name and a parenthesis after an `=` begin a call
 pub called_source : (ts : List Token) (d : ℕ) (stack : List Symbol) (n : ℕ) → begins_call ts ≡ true → d ≤ 64 → run ts (Source d ∷ stack) n ≡ run ts (Named ∷ One Open ∷ Arguments d ∷ stack) n
 called_source [] d stack n h l = cc
 called_source (t ∷ []) d stack n h l = cc
@@ -275,7 +275,7 @@ no_call : (t : Token) (ts : List Token) → begins_call (t ∷ ts) ≡ false →
 no_call t [] h e = tt
 no_call t (t' ∷ ts) h e = not_open t.kind t'.kind h e
 
--- and what is neither that nor a spawn is an expression
+-- any other right side that isn't a spawn is an expression
 pub plain_source : (ts : List Token) (d : ℕ) (stack : List Symbol) (n : ℕ) → begins_call ts ≡ false → NotFirst kinds.CilkSpawn ts → run ts (Source d ∷ stack) n ≡ run ts (Operand d ∷ Tail d ∷ Anew ∷ stack) n
 plain_source [] d stack n h k = refl
 plain_source (t ∷ ts) d stack n h k = source_kind t.kind d ts (t ∷ ts) stack n _ _ k (λ e. no_call t ts h e)
@@ -290,7 +290,7 @@ pub items_end : (ts : List Token) (stack : List Symbol) (n : ℕ) → NotFirst k
 items_end [] stack n h v = refl
 items_end (t ∷ ts) stack n h v = ap (λ a. settled a (run ts) (t ∷ ts)) (no_item t.kind stack n (after stack n t.kind) h v)
 
--- a statement that begins otherwise holds no others
+-- a statement that begins with another token contains no statements
 pub holds_none : (k : Kind) → k ≢ kinds.OpenBrace → k ≢ kinds.If → k ≢ kinds.While → k ≢ kinds.For → k ≢ kinds.CilkFor → nests k ≡ false
 holds_none kinds.OpenBrace a b c d e = absurd (a refl)
 holds_none kinds.If a b c d e = absurd (b refl)

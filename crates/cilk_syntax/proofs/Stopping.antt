@@ -1,4 +1,4 @@
--- Answers that are handed on.
+-- Results that are passed on to the caller.
 use Rattle.std.proofs.Common.{◌≡◌, ◌≤◌, List, [], ◌∷◌, length, refl, sym, ap, subst, arith, IfOk, IfErr, IsErrAnd, Result, Ok, Err, slice_index_or, take, drop, ◌-◌}
 use Rattle.std.proofs.lemmas.List.{take_rest}
 use Rattle.cilk_syntax.specs.declared.token.Kind.{Kind}
@@ -8,22 +8,22 @@ use Rattle.cilk_syntax.specs.declared.stop.Stop.{Stop}
 use Rattle.cilk_syntax.specs.Expected.{Symbol, run}
 use Rattle.cilk_syntax.specs.Stops.{IsStop}
 
--- an error that was handed on
+-- an error that is passed on
 pub handed : {T : Type 0} (x : Result T Stop) (e : Stop) (P : Stop → Type 0) → IsErrAnd x (λ y. y ≡ e) → P e → IfErr x P
 handed (Ok v) e P h p = absurd h
 handed (Err y) e P h p = subst P (sym h) p
 
--- what a call gives is what is wanted
+-- the result of a call satisfies the caller's clause
 pub if_ok : {T E : Type 0} (x : Result T E) (P Q : T → Type 0) → ((v : T) → P v → Q v) → IfOk x P → IfOk x Q
 if_ok (Ok v) P Q f h = f v h
 if_ok (Err e) P Q f h = h
 
--- and an error of a call is what is wanted
+-- an error of a call satisfies the caller's clause
 pub if_err : {T E : Type 0} (x : Result T E) (P Q : E → Type 0) → ((e : E) → P e → Q e) → IfErr x P → IfErr x Q
 if_err (Ok v) P Q f h = h
 if_err (Err e) P Q f h = f e h
 
--- reading stops where it stops further on
+-- reading stops where it stops after a step
 pub along : (e : Stop) (ts ts1 : List Token) (front behind : List Symbol) → run ts front 0 ≡ run ts1 behind 0 → IsStop e (run ts1 behind 0) → IsStop e (run ts front 0)
 along e ts ts1 front behind h s = subst (λ v. IsStop e v) (sym h) s
 

@@ -1,4 +1,4 @@
--- One text has one list of tokens: what stands first in it is a function of its bytes.
+-- A text has only one list of tokens: its first piece is a function of its bytes.
 use Rattle.std.proofs.Common.{◌≡◌, ◌≢◌, ℕ, ◌+◌, ◌<◌, Bool, true, false, cond, ◌||◌, ◌&&◌, ◌==◌, nat_lt, if◌then◌else◌, List, [], ◌∷◌, length, drop, Option, Some, None, pos, ◌⊎◌, inl, inr, refl, sym, ap, ◌∙◌, subst, arith}
 use Rattle.std.proofs.lemmas.Bool.Decides.{nat_tests}
 use Rattle.cilk_syntax.specs.declared.token.Kind.{Kind}
@@ -86,7 +86,7 @@ sign b bs = cond (b == 35) (Skips false (behind classes.Line bs)) (mark b bs)
 abbrev blank_or_sign : Bool → ℕ → List ℕ → Front
 blank_or_sign fresh b bs = cond (is_blank b) (Skips (fresh || b == 10) bs) (sign b bs)
 
--- what stands first
+-- the first piece
 abbrev pub front : Bool → List ℕ → Front
 front fresh [] = Stops
 front fresh (b ∷ bs) = cond (is_letter b) (cut_word b bs) (cond (is_digit b) (cut_number b bs) (blank_or_sign fresh b bs))
@@ -200,7 +200,7 @@ word_starts kinds.Input h = refl
 word_starts kinds.InputCount h = refl
 word_starts _ h = cc
 
--- a word that is no reserved one is a name
+-- a word that isn't reserved is a name
 pub not_same : (t : Bool) → (t ≡ true → ⊥) → t ≡ false
 not_same true h = absurd (h refl)
 not_same false h = refl
@@ -294,7 +294,7 @@ passes_front gaps.BlockComment fresh bytes fresh' rest h =
 passes_front gaps.Directive fresh bytes fresh' rest h =
     ap (front fresh) h.1 ∙ (ap (λ x. Skips false x) (sym h.4) ∙ ap (λ x. Skips x rest) (sym h.5))
 
--- what a list of tokens of the bytes begins with
+-- the first piece of bytes that have a list of tokens
 data View (total : ℕ) (fresh : Bool) (bytes : List ℕ) (ts : List Token) : Type 0 where
   Nothing : bytes ≡ [] → ts ≡ [] → View total fresh bytes ts
   Gapped : (fresh' : Bool) (rest : List ℕ) → front fresh bytes ≡ Skips fresh' rest → Lexes total fresh' rest ts → View total fresh bytes ts
@@ -347,6 +347,6 @@ one_list total fresh bytes ts us (Skipped {fresh' = f} {rest = r} gap p h) k =
 one_list total fresh bytes _ us (Found {rest = r} {ts = more} t s at end h) k =
     token_step total fresh bytes t r more us (spells_front t.kind fresh bytes r s) at end (λ vs j. one_list total false r more vs h j) (view total fresh bytes us k)
 
--- one text has one list of tokens
+-- a text has only one list of tokens
 pub unique : (text : List ℕ) (ts us : List Token) → AreTokens text ts → AreTokens text us → ts ≡ us
 unique text ts us h k = one_list (length text) true text ts us h k

@@ -1,4 +1,4 @@
--- Laws of the runs of a class of bytes.
+-- Laws of maximal runs of bytes of a class.
 use Rattle.std.proofs.Common.{◌≡◌, ℕ, ◌+◌, ◌-◌, ◌*◌, ◌≤◌, ◌<◌, Bool, true, false, cond, ◌||◌, List, [], ◌∷◌, length, take, get_or, refl, sym, ap, ◌∙◌, arith}
 use Rattle.cilk_syntax.specs.declared.lexer.Class.{Class}
 use Rattle.cilk_syntax.specs.declared.lexer.Class.TheVariants as classes
@@ -8,12 +8,12 @@ chosen_front : (c : Class) (b : ℕ) (bs : List ℕ) (t : Bool) → take (length
 chosen_front c b bs true h = ap (λ x. b ∷ x) h
 chosen_front c b bs false h = refl
 
--- the first bytes, as many as the run has, are the run
+-- the run is the first bytes, of the run's length
 pub take_front : (c : Class) (bs : List ℕ) → take (length (front_of c bs)) bs ≡ front_of c bs
 take_front c [] = refl
 take_front c (b ∷ bs) = chosen_front c b bs (belongs c b) (take_front c bs)
 
--- more digits make no smaller number
+-- more digits give no smaller number
 pub value_grows : (n : ℕ) (ds : List ℕ) → n ≤ value_from n ds
 value_grows n [] = omega arith
 value_grows n (d ∷ ds) = omega (arith, value_grows (10 * n + (d - 48)) ds)
@@ -38,7 +38,7 @@ word_shorter : (b : ℕ) (bs : List ℕ) (t : Bool) → t ≡ true → length (b
 word_shorter b bs true h k = omega (arith, k)
 word_shorter b bs false h k = cc
 
--- a word takes a byte at least
+-- a word has at least one byte
 pub letter_behind : (bs : List ℕ) → starts_letter bs ≡ true → length (behind classes.Word bs) < length bs
 letter_behind [] h = cc
 letter_behind (b ∷ bs) h = word_shorter b bs (belongs classes.Word b) (or_true (is_letter b) (is_digit b) h) (behind_shorter classes.Word bs)
@@ -47,7 +47,7 @@ pub digit_behind : (bs : List ℕ) → starts_digit bs ≡ true → length (behi
 digit_behind [] h = cc
 digit_behind (b ∷ bs) h = word_shorter b bs (belongs classes.Word b) (or_right (is_letter b) (is_digit b) h) (behind_shorter classes.Word bs)
 
--- the bytes read so far are the run, where it ends here
+-- the bytes read so far are the run if it ends here
 pub cut_front : (c : Class) (bytes rest : List ℕ) → front_of c rest ≡ [] → length bytes + length (front_of c rest) ≡ length rest + length (front_of c bytes) → length rest ≤ length bytes → take (length bytes - length rest) bytes ≡ front_of c bytes
 cut_front c bytes rest e h k =
     let n : length bytes - length rest ≡ length (front_of c bytes) = omega (arith, ap length e) in

@@ -1,5 +1,6 @@
--- What may come next. A list of symbols is what is still expected; each token is taken by the first symbol that it fits.
--- Beside it stands how many operators of the present expression have been read.
+-- Which tokens may come next. The expected symbols are a list; each token is read by the first
+-- symbol that it fits. The number of operators read in the current expression is counted along with
+-- it.
 use Rattle.std.specs.Prelude.{ℕ, pos, Bool, true, false, ◌+◌, ◌||◌, ◌&&◌, if◌then◌else◌, List, [], ◌∷◌, ◌++◌, Option, Some, None}
 use Rattle.std.specs.Ordering.{int_eq}
 use Rattle.cilk_syntax.specs.declared.token.Kind.{Kind}
@@ -23,7 +24,7 @@ kind_of Assign = kinds.Assign
 kind_of Less = kinds.Less
 kind_of Int = kinds.Int
 
--- the kind is that of the mark
+-- the kind is the mark's
 abbrev pub fits : Punct → Kind → Bool
 fits Open kinds.Open = true
 fits Close kinds.Close = true
@@ -37,45 +38,45 @@ fits Less kinds.Less = true
 fits Int kinds.Int = true
 fits _ _ = false
 
--- what is expected, with the number of statements and parts that it stands in
+-- an expected symbol, with the number of statements and parts of expressions that it is nested in
 pub data Symbol : Type 0 where
   One : (mark : Punct) → Symbol
   Named : Symbol
   Numeral : Symbol
   -- the number 1
   Single : Symbol
-  -- a part of an expression without operators between
+  -- a part of an expression, without operators between operands
   Operand : (depth : ℕ) → Symbol
   -- the index of an element that is read, or nothing
   Index : (depth : ℕ) → Symbol
-  -- the operators that follow, each with its right side
+  -- the operators that follow, each with its right operand
   Tail : (depth : ℕ) → Symbol
-  -- an expression ends, and operators are counted anew
+  -- an expression ends, and the count of operators starts again
   Anew : Symbol
   -- an expression and a semicolon, or the semicolon alone
   Optional : (depth : ℕ) → Symbol
   Statement : (depth : ℕ) → Symbol
   Statements : (depth : ℕ) → Symbol
   ElsePart : (depth : ℕ) → Symbol
-  -- what follows a name that begins a statement
+  -- the rest of a statement that begins with a name
   AfterName : (depth : ℕ) → Symbol
   Assignment : (depth : ℕ) → Symbol
   -- the index of an element that is written, or nothing
   Subscript : (depth : ℕ) → Symbol
-  -- what is done to a place in front of it
+  -- an operation on the place before it
   Operation : (depth : ℕ) → Symbol
-  -- what a variable takes: an expression, or a call
+  -- the right side of an assignment or initializer: an expression or a call
   Source : (depth : ℕ) → Symbol
-  -- what follows a name that such begins with
+  -- the rest of a right side that begins with a name
   SourceRest : (depth : ℕ) → Symbol
-  -- the arguments of a call, up to the parenthesis
+  -- the arguments of a call, with the closing parenthesis
   Arguments : (depth : ℕ) → Symbol
   MoreArguments : (depth : ℕ) → Symbol
-  -- what follows the `int` of a statement
+  -- the rest of a statement that begins with `int`
   Declaration : (depth : ℕ) → Symbol
-  -- `=` and what the variable takes, or nothing
+  -- `=` and a right side, or nothing
   LocalInitial : (depth : ℕ) → Symbol
-  -- the end of a line of local variables, or a comma and more
+  -- the end of a line of local variables, or a comma and more variables
   Locals : (depth : ℕ) → Symbol
   -- the first part of the head of a `for`, with its semicolon
   Beginning : (depth : ℕ) → Symbol
@@ -84,34 +85,35 @@ pub data Symbol : Type 0 where
   -- the last part of the head of a `cilk_for`
   UnitStep : Symbol
   UnitStepRest : Symbol
-  -- what follows the `int` of an item
+  -- the rest of an item that begins with `int`
   Item : Symbol
-  -- what follows the `int` and the name of an item
+  -- the rest of an item that begins with `int` and a name
   Declared : Symbol
   -- a number, or a minus and a number
   Literal : Symbol
-  -- `=` and such a literal, the length of an array, or nothing
+  -- `=` and a literal, the length of an array, or nothing
   Initial : Symbol
-  -- the end of a line of variables, or a comma and more
+  -- the end of a line of variables, or a comma and more variables
   Variables : Symbol
-  -- the parameters of a function, up to the parenthesis
+  -- the parameters of a function, with the closing parenthesis
   Parameters : Symbol
-  -- what follows the `int` of a parameter
+  -- the rest of a parameter after its `int`
   Parameter : Symbol
   MoreParameters : Symbol
   Items : Symbol
 
 -- what a symbol does with a token
 pub data Move : Type 0 where
-  -- takes it as the first of what stands so deep, or 0 where nothing begins, and expects these in its own place
+  -- reads it, and is replaced by these symbols; depth is that of the part that begins here, or 0 if
+  -- none begins
   Takes : (depth : ℕ) (symbols : List Symbol) → Move
-  -- the same, and it is an operator
+  -- the same, for an operator
   Counts : (depth : ℕ) (symbols : List Symbol) → Move
-  -- needs nothing more, so the next symbol is asked
+  -- needs no more tokens, so the next symbol gets the token
   Passes : Move
   Refuses : Move
 
--- the level of an operator, the weakest first; none for other tokens
+-- the level of an operator, from 0 for the weakest; none for other tokens
 abbrev pub level_of : Kind → Option ℕ
 level_of kinds.Or = Some 0
 level_of kinds.And = Some 1
@@ -128,7 +130,7 @@ level_of kinds.Slash = Some 5
 level_of kinds.Percent = Some 5
 level_of _ = None
 
--- a part of an expression may begin with it
+-- a part of an expression can begin with it
 abbrev pub begins_part : Kind → Bool
 begins_part (kinds.Number n) = true
 begins_part kinds.Name = true
@@ -175,7 +177,7 @@ abbrev pub move_tail : ℕ → Option ℕ → Move
 move_tail d (Some level) = Counts 0 (Operand d ∷ Tail d ∷ [])
 move_tail d None = Passes
 
--- and then more
+-- the same move, with more symbols after it
 abbrev pub followed : List Symbol → Move → Move
 followed more (Takes d symbols) = Takes d (symbols ++ more)
 followed more (Counts d symbols) = Counts d (symbols ++ more)
@@ -269,7 +271,7 @@ move_unit_step_rest kinds.Increment = Takes 0 []
 move_unit_step_rest kinds.PlusAssign = Takes 0 (Single ∷ [])
 move_unit_step_rest _ = Refuses
 
--- a statement may begin with it
+-- a statement can begin with it
 abbrev pub begins_statement : Kind → Bool
 begins_statement kinds.OpenBrace = true
 begins_statement kinds.Semicolon = true
@@ -293,7 +295,7 @@ abbrev pub first_begins : List Token → Bool
 first_begins [] = false
 first_begins (t ∷ ts) = begins_statement t.kind
 
--- a statement that begins with it holds others
+-- a statement that begins with it contains other statements
 abbrev pub nests : Kind → Bool
 nests kinds.OpenBrace = true
 nests kinds.If = true
@@ -306,7 +308,7 @@ abbrev pub first_nests : List Token → Bool
 first_nests [] = false
 first_nests (t ∷ ts) = nests t.kind
 
--- a name and a parenthesis come next
+-- the kind is a name
 abbrev pub is_name : Kind → Bool
 is_name kinds.Name = true
 is_name _ = false
@@ -395,7 +397,7 @@ move_more_parameters kinds.Comma = Takes 0 (One Int ∷ Parameter ∷ MoreParame
 move_more_parameters kinds.Close = Takes 0 []
 move_more_parameters _ = Refuses
 
--- behind the type that an item begins with
+-- the symbols after the type that an item begins with
 abbrev pub behind_type : ReturnType → List Symbol → List Symbol
 behind_type types.Int stack = Item ∷ stack
 behind_type types.Void stack = Named ∷ One Open ∷ Parameters ∷ One OpenBrace ∷ Statements 0 ∷ One CloseBrace ∷ stack
@@ -443,13 +445,14 @@ move Parameter x = move_parameter x
 move MoreParameters x = move_more_parameters x
 move Items x = move_items x
 
--- how many operators count behind a symbol that passes a token on
+-- the count of operators after a symbol passes a token on
 abbrev pub passed : Symbol → ℕ → ℕ
 passed Anew n = 0
 passed (SourceRest d) n = 0
 passed s n = n
 
--- what is expected after a token, and whether it goes past a limit; or it isn't expected
+-- the expected symbols after a token, and whether it is past a limit; or a token that isn't
+-- expected
 pub data After : Type 0 where
   Goes : (past : Bool) (stack : List Symbol) (count : ℕ) → After
   Fails : After
@@ -460,18 +463,18 @@ chosen (Counts d symbols) stack n below = Goes (is_deep d || is_many (n + 1)) (s
 chosen Passes stack n below = below
 chosen Refuses stack n below = Fails
 
--- each symbol that passes the token on hands it to the next
+-- a symbol that passes the token on hands it to the next symbol
 abbrev pub after : List Symbol → ℕ → Kind → After
 after [] n x = Fails
 after (s ∷ stack) n x = chosen (move s x) stack n (after stack (passed s n) x)
 
--- where a text ends, goes past a limit, or stops being one
+-- how reading ends: at the end of the text, at a token that isn't expected, or at one past a limit
 pub data Verdict : Type 0 where
   Whole : Verdict
   Unexpected : (rest : List Token) → Verdict
   PastLimit : (rest : List Token) → Verdict
 
--- what a symbol may stand for at the end
+-- the symbol may be empty at the end of a text
 abbrev pub may_end : Symbol → Bool
 may_end (Index d) = true
 may_end (Tail d) = true
@@ -493,7 +496,7 @@ abbrev pub settled : After → (List Symbol → ℕ → Verdict) → List Token 
 settled (Goes past stack n) go here = if past then PastLimit here else go stack n
 settled Fails go here = Unexpected here
 
--- what these tokens come to, where these symbols are expected
+-- how reading these tokens ends, if these symbols are expected
 abbrev pub run : List Token → List Symbol → ℕ → Verdict
 run [] stack n = at_end stack
 run (t ∷ ts) stack n = settled (after stack n t.kind) (run ts) (t ∷ ts)

@@ -1,4 +1,4 @@
--- What the lexer's functions say of the bytes that they look at.
+-- The results of the lexer's functions on the bytes that they read.
 use Rattle.std.specs.Prelude.{ℕ, ◌<◌, Bool, List, length}
 use Rattle.cilk_syntax.specs.declared.lexer.Front.{Front}
 use Rattle.cilk_syntax.specs.declared.lexer.Front.TheVariants.{Skip, Word, Fault}
@@ -12,7 +12,7 @@ IsFront fresh bytes (Skip fresh' rest) = (gap : Gap) × Passes gap fresh bytes f
 IsFront fresh bytes (Word kind rest) = Spells kind bytes rest.now
 IsFront fresh bytes (Fault bad) = IsBad fresh bad bytes
 
--- what is left is shorter than this
+-- the rest is shorter than this
 abbrev pub IsBefore : ℕ → Front → Type 0
 IsBefore n (Skip fresh' rest) = length rest.now < n
 IsBefore n (Word kind rest) = length rest.now < n

@@ -1,4 +1,4 @@
--- What stands between tokens.
+-- The gaps between tokens.
 
 pub data Gap : Type 0 where
   Blank : Gap

@@ -1,4 +1,4 @@
--- The kinds of tokens, and how each is written.
+-- The kinds of tokens, and their spelling.
 use Rattle.std.specs.Prelude.{ℕ, Bool, true, false, not, List, [], ◌∷◌}
 use Rattle.cilk_syntax.specs.declared.token.Kind.{Kind}
 use Rattle.cilk_syntax.specs.declared.token.Kind.TheVariants.{Number, Name, Int, Void, If, Else, While, For, Return, CilkSpawn, CilkSync, CilkFor, CilkReducer, Print, Update, Set, Value, Input, InputCount, Open, Close, OpenBrace, CloseBrace, OpenBracket, CloseBracket, Semicolon, Comma, Assign, Plus, Minus, Star, Slash, Percent, Less, Greater, Not, LessEqual, GreaterEqual, Equal, NotEqual, And, Or, PlusAssign, MinusAssign, StarAssign, Increment, Decrement}

@@ -21,7 +21,7 @@ is_digit b = nat_lt 47 b && nat_lt b 58
 abbrev pub is_letter : ℕ → Bool
 is_letter b = (nat_lt 64 b && nat_lt b 91) || (nat_lt 96 b && nat_lt b 123) || b == 95
 
--- letters, digits and `_`; what isn't the end of a line; the blanks within a line; what isn't space, tab, LF or CR
+-- letters, digits and `_`; all but LF; the blanks but LF; all but space, tab, LF and CR
 abbrev pub belongs : Class → ℕ → Bool
 belongs classes.Word b = is_letter b || is_digit b
 belongs classes.Line b = if b == 10 then false else true
@@ -33,7 +33,7 @@ abbrev pub front_of : Class → List ℕ → List ℕ
 front_of c [] = []
 front_of c (b ∷ bs) = if belongs c b then b ∷ front_of c bs else []
 
--- the bytes from the first on that isn't of the class
+-- the bytes from the first that isn't of the class on
 abbrev pub behind : Class → List ℕ → List ℕ
 behind c [] = []
 behind c (b ∷ bs) = if belongs c b then behind c bs else b ∷ bs
@@ -42,7 +42,7 @@ abbrev pub begins_with : ℕ → List ℕ → Bool
 begins_with a [] = false
 begins_with a (b ∷ bs) = b == a
 
--- the bytes behind the first `*/`
+-- the bytes after the first `*/`
 abbrev pub after_close : List ℕ → Option (List ℕ)
 after_close [] = None
 after_close (b ∷ bs) = if b == 42 && begins_with 47 bs then Some (drop 1 bs) else after_close bs
@@ -51,11 +51,11 @@ after_close (b ∷ bs) = if b == 42 && begins_with 47 bs then Some (drop 1 bs) e
 abbrev pub Directs : List ℕ → Type 0
 Directs word = (word ≡ 105 ∷ 110 ∷ 99 ∷ 108 ∷ 117 ∷ 100 ∷ 101 ∷ []) ⊎ (word ≡ 112 ∷ 114 ∷ 97 ∷ 103 ∷ 109 ∷ 97 ∷ [])
 
--- the word behind the `#` of a line
+-- the word after the `#` of a line
 abbrev pub directive_of : List ℕ → List ℕ
 directive_of tail = front_of classes.Word (behind classes.Inline tail)
 
--- Bytes that no token holds stand before rest. A line is fresh as long as it holds blanks alone.
+-- The bytes before rest are a gap. The flags tell whether a `#` line may begin before and after it.
 abbrev pub Passes : Gap → Bool → List ℕ → Bool → List ℕ → Type 0
 Passes gaps.Blank fresh bytes fresh' rest =
     (b : ℕ) × (bytes ≡ b ∷ rest) × (is_blank b ≡ true) × (fresh' ≡ (fresh || b == 10))
@@ -94,7 +94,7 @@ starts_letter (b ∷ bs) = is_letter b
 abbrev pub NotNext : ℕ → List ℕ → Type 0
 NotNext a bytes = begins_with a bytes ≡ false
 
--- with rest behind it, the mark is no longer mark, and begins no comment
+-- the mark before rest isn't part of a longer mark or of the beginning of a comment
 abbrev pub NoLonger : Kind → List ℕ → Type 0
 NoLonger kinds.Less rest = NotNext 61 rest
 NoLonger kinds.Greater rest = NotNext 61 rest
@@ -118,12 +118,12 @@ Spells kinds.Name bytes rest =
     (starts_letter bytes ≡ true) × (rest ≡ behind classes.Word bytes) × ((k : Kind) → is_reserved k ≡ true → front_of classes.Word bytes ≢ spelling k)
 Spells k bytes rest = Reads (is_reserved k) k bytes rest
 
--- No mark, blank, word or line to be skipped begins with the byte.
+-- No mark, blank, word or skipped line begins with the byte.
 abbrev pub BeginsNone : ℕ → List ℕ → Type 0
 BeginsNone b tail =
     (is_blank b ≡ false) × (belongs classes.Word b ≡ false) × (b ≢ 35) × ((k : Kind) (rest : List ℕ) → is_mark k ≡ true → b ∷ tail ≢ spelling k ++ rest)
 
--- Why neither a token nor anything that is skipped begins here.
+-- Why neither a token nor a gap begins here.
 abbrev pub IsBad : Bool → LexErrorKind → List ℕ → Type 0
 IsBad fresh bads.NotAscii bytes = (b : ℕ) × (tail : List ℕ) × (bytes ≡ b ∷ tail) × (127 < b)
 IsBad fresh bads.Unclosed bytes = (tail : List ℕ) × (bytes ≡ 47 ∷ 42 ∷ tail) × (after_close tail ≡ None)
@@ -141,7 +141,7 @@ pub data Lexes (total : ℕ) : Bool → List ℕ → List Token → Type 0 where
   Skipped : {fresh fresh' : Bool} {bytes rest : List ℕ} {ts : List Token} (gap : Gap) → Passes gap fresh bytes fresh' rest → Lexes total fresh' rest ts → Lexes total fresh bytes ts
   Found : {fresh : Bool} {bytes rest : List ℕ} {ts : List Token} (t : Token) → Spells t.kind bytes rest → t.at + length bytes ≡ total → t.end + length rest ≡ total → Lexes total false rest ts → Lexes total fresh bytes (t ∷ ts)
 
--- All before the place is cut, and here it can't go on.
+-- The bytes before the place are tokens and gaps, and at the place neither begins.
 pub data Faults (total : ℕ) : Bool → List ℕ → LexErrorKind → ℕ → Type 0 where
   Here : {fresh : Bool} {bytes : List ℕ} {bad : LexErrorKind} {place : ℕ} → IsBad fresh bad bytes → place + length bytes ≡ total → Faults total fresh bytes bad place
   Behind : {fresh fresh' : Bool} {bytes rest : List ℕ} {bad : LexErrorKind} {place : ℕ} (gap : Gap) → Passes gap fresh bytes fresh' rest → Faults total fresh' rest bad place → Faults total fresh bytes bad place

@@ -1,6 +1,6 @@
--- Limits of a text: no statement and no part of an expression stands more than 64 deep in others, and no expression has
--- more than 256 operators. For each token it is told whether it goes past a limit: what begins with it stands deeper
--- than 64, or it is an operator and not among the first 256 of its expression.
+-- Limits of a text: statements and parts of expressions are nested at most 64 deep, and an
+-- expression has at most 256 operators. A token is past a limit if it begins something that is
+-- nested deeper, or is an operator after the first 256 of its expression.
 use Rattle.std.specs.Prelude.{◌≡◌, ℕ, ◌+◌, Bool, true, false, ◌||◌, if◌then◌else◌, nat_lt, List, [], ◌∷◌, Option, Some, None}
 use Rattle.cilk_syntax.specs.declared.token.Kind.{Kind}
 use Rattle.cilk_syntax.specs.declared.token.Kind.TheVariants as kinds
@@ -22,7 +22,8 @@ is_deep depth = nat_lt 64 depth
 abbrev pub is_many : ℕ → Bool
 is_many number = nat_lt 256 number
 
--- how many operators an expression has, those of its groups, of its indexes and of the places of its inputs too
+-- the number of operators in an expression, including its groups, its indexes and the places of its
+-- inputs
 abbrev pub operators : Expression → ℕ
 operators (Number v) = 0
 operators (Expression.Variable name) = 0
@@ -34,21 +35,21 @@ operators (Expression.Value name) = 0
 operators (Input e) = operators e
 operators InputCount = 0
 
--- for each of the tokens that are left, whether it goes past a limit
+-- for each token that is left, whether it is past a limit
 abbrev pub Flags : Type 0
 Flags = List Token → List Bool
 
--- so for the first of the tokens, and then more
+-- the flag of one token, and then more
 abbrev pub flag : Bool → Flags → Flags
 flag b more [] = []
 flag b more (t ∷ ts) = b ∷ more ts
 
--- the first where a token of such a kind comes next, else the second
+-- the first if the next token is of such a kind, else the second
 abbrev pub where_next : (Kind → Bool) → Flags → Flags → Flags
 where_next is first second [] = second []
 where_next is first second (t ∷ ts) = if is t.kind then first (t ∷ ts) else second (t ∷ ts)
 
--- the tokens of an expression d deep, behind n operators of the whole expression, and then more
+-- an expression at depth d, after n operators of the whole expression, and then more
 abbrev pub excess : Expression → ℕ → ℕ → Flags → Flags
 excess (Number v) d n more = flag (is_deep d) more
 excess (Expression.Variable name) d n more = flag (is_deep d) more
@@ -61,21 +62,21 @@ excess (Expression.Value name) d n more = flag (is_deep d) (flag false (flag fal
 excess (Input e) d n more = flag (is_deep d) (flag false (excess e (d + 1) n (flag false more)))
 excess InputCount d n more = flag (is_deep d) (flag false (flag false more))
 
--- an expression whose operators are counted apart, between two tokens
+-- an expression between two tokens, whose operators are counted separately
 abbrev pub excess_inside : Expression → ℕ → Flags → Flags
 excess_inside e d more = flag false (excess e d 0 (flag false more))
 
--- an expression or none, and the token behind it
+-- an expression or none, and the token after it
 abbrev pub excess_optional : Option Expression → ℕ → Flags → Flags
 excess_optional None d more = flag false more
 excess_optional (Some e) d more = excess e d 0 (flag false more)
 
--- further arguments, each behind a comma
+-- further arguments, each after a comma
 abbrev pub excess_arguments : List Argument → ℕ → Flags → Flags
 excess_arguments [] d more = more
 excess_arguments (a ∷ list) d more = flag false (excess a.value d 0 (excess_arguments list d more))
 
--- a call from behind its name on
+-- the rest of a call after its name
 abbrev pub excess_called : List Argument → ℕ → Flags → Flags
 excess_called [] d more = flag false (flag false more)
 excess_called (a ∷ list) d more = flag false (excess a.value d 0 (excess_arguments list d (flag false more)))
@@ -85,7 +86,7 @@ abbrev pub excess_invoked : Invocation → Call → ℕ → Flags → Flags
 excess_invoked invocations.Call c d more = flag (is_deep d) (excess_called c.arguments d more)
 excess_invoked invocations.Spawn c d more = flag (is_deep d) (flag false (excess_called c.arguments d more))
 
--- what is written to, where b tells of its first token
+-- the target of an assignment, where b is the flag of its first token
 abbrev pub excess_place : trees.Lvalue → Bool → ℕ → Flags → Flags
 excess_place (trees.Lvalue.Variable name) b d more = flag b more
 excess_place (trees.Lvalue.Element name e) b d more = flag b (excess_inside e (d + 1) more)
@@ -95,7 +96,7 @@ is_step kinds.Increment = true
 is_step kinds.Decrement = true
 is_step _ = false
 
--- a place with `++` or `--` in front of it or behind it
+-- a place with `++` or `--` before or after it
 abbrev pub excess_stepped : trees.Lvalue → Bool → ℕ → Flags → Flags
 excess_stepped p b d more = where_next is_step (flag b (excess_place p false d more)) (excess_place p b d (flag false more))
 
@@ -110,18 +111,18 @@ excess_local_initializer trees.Absent d more = more
 excess_local_initializer (LocalInitializer.Value e) d more = flag false (excess e d 0 more)
 excess_local_initializer (LocalInitializer.Invoke how c) d more = flag false (excess_invoked how c d more)
 
--- a line of local variables, each behind a token
+-- local variables, each after a token
 abbrev pub excess_locals : List Local → ℕ → Flags → Flags
 excess_locals [] d more = more
 excess_locals (l ∷ list) d more =
     flag false (flag false (excess_local_initializer l.initializer d (excess_locals list d more)))
 
--- a line of local variables behind its `int`
+-- a line of local variables after its `int`
 abbrev pub excess_declaration : List Local → ℕ → Flags → Flags
 excess_declaration [] d more = more
 excess_declaration (l ∷ list) d more = flag false (excess_local_initializer l.initializer d (excess_locals list d more))
 
--- a reducer behind its `int`
+-- a reducer after its `int`
 abbrev pub excess_reducer : Flags → Flags
 excess_reducer more = flag false (flag false (flag false (flag false (flag false more))))
 
@@ -132,7 +133,7 @@ excess_beginning (Some (trees.Declares name e)) d more =
     flag false (flag false (flag false (excess e d 0 (flag false more))))
 excess_beginning (Some (trees.Assigns a)) d more = excess_assignment a false d (flag false more)
 
--- and the last
+-- the last part
 abbrev pub excess_step : Option Assignment → ℕ → Flags → Flags
 excess_step None d more = flag false more
 excess_step (Some a) d more = excess_assignment a false d (flag false more)
@@ -151,7 +152,7 @@ excess_bounds b d more =
     flag false (flag false (flag false (flag false (excess b.low d 0 (flag false (flag false (flag false
     (excess b.high d 0 (flag false (excess_unit_step (flag false more)))))))))))
 
--- a name and an expression between parentheses, and a semicolon
+-- a name and an expression in parentheses, and a semicolon
 abbrev pub excess_update : Expression → ℕ → Flags → Flags
 excess_update e d more = flag false (flag false (flag false (excess e d 0 (flag false (flag false more)))))
 
@@ -186,7 +187,7 @@ excess_initializer initializers.Absent more = more
 excess_initializer (initializers.Number n) more = flag false (flag false more)
 excess_initializer (initializers.Negative n) more = flag false (flag false (flag false more))
 
--- what stands behind a global variable's name
+-- the rest of a global variable after its name
 abbrev pub excess_global : GlobalVariable → Flags → Flags
 excess_global (globals.Variable name i) more = excess_initializer i more
 excess_global (globals.Array name n) more = flag false (flag false (flag false more))
@@ -195,12 +196,12 @@ abbrev pub excess_more : List GlobalVariable → Flags → Flags
 excess_more [] more = more
 excess_more (v ∷ list) more = flag false (flag false (excess_global v (excess_more list more)))
 
--- behind `int` and a name
+-- global variables after `int` and the name of the first
 abbrev pub excess_variables : List GlobalVariable → Flags → Flags
 excess_variables [] more = more
 excess_variables (v ∷ list) more = excess_global v (excess_more list more)
 
--- a parameter behind its `int`
+-- a parameter after its `int`
 abbrev pub excess_parameter : Parameter → Flags → Flags
 excess_parameter (parameters.Variable name) more = flag false more
 excess_parameter (parameters.Reducer r) more = excess_reducer more
@@ -213,12 +214,12 @@ abbrev pub is_void : Kind → Bool
 is_void kinds.Void = true
 is_void _ = false
 
--- the parameters of a function and the parenthesis
+-- the parameters of a function and the closing parenthesis
 abbrev pub excess_parameters : List Parameter → Flags → Flags
 excess_parameters [] more = where_next is_void (flag false (flag false more)) (flag false more)
 excess_parameters (p ∷ list) more = flag false (excess_parameter p (excess_more_parameters list (flag false more)))
 
--- a function from behind its first parenthesis on
+-- a function after its opening parenthesis
 abbrev pub excess_function : List Parameter → Statements → Flags → Flags
 excess_function list row more = excess_parameters list (flag false (excess_all row 0 (flag false more)))
 
@@ -228,18 +229,18 @@ excess_item (trees.Item.Reducer r) more = flag false (excess_reducer (flag false
 excess_item (trees.Function returns name list row) more =
     flag false (flag false (flag false (excess_function list row more)))
 
--- for each token of a program, whether it goes past a limit
+-- for each token of a program, whether it is past a limit
 abbrev pub excess_items : List trees.Item → Flags
 excess_items [] = λ ts. []
 excess_items (i ∷ list) = excess_item i (excess_items list)
 
--- the tokens of used, which the program begins with, keep the limits
+-- none of the tokens of used, which the program begins with, is past a limit
 abbrev pub Within : List Token → List Bool → Type 0
 Within [] past = Unit {0}
 Within (t ∷ used) [] = Unit {0}
 Within (t ∷ used) (b ∷ past) = (b ≡ false) × Within used past
 
--- the token behind those of used is the first that goes past a limit
+-- the token after those of used is the first that is past a limit
 abbrev pub IsFirstPast : List Token → List Bool → Type 0
 IsFirstPast used [] = ⊥
 IsFirstPast [] (b ∷ past) = b ≡ true

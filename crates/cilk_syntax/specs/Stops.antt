@@ -1,4 +1,4 @@
--- Where the parser's functions stop, and what they know of the tokens that are left.
+-- Where the parser's functions stop, and facts about the tokens that are left.
 use Rattle.std.specs.Prelude.{◌≡◌, ◌≢◌, ℕ, ◌+◌, ◌≤◌, List, [], ◌∷◌, Option, Some, None}
 use Rattle.cilk_syntax.specs.declared.token.Kind.{Kind}
 use Rattle.cilk_syntax.specs.declared.token.Token.{Token}
@@ -6,7 +6,7 @@ use Rattle.cilk_syntax.specs.declared.stop.Stop.{Stop}
 use Rattle.cilk_syntax.specs.declared.stop.Stop.TheVariants as stops
 use Rattle.cilk_syntax.specs.Expected.{Verdict, Unexpected, PastLimit, level_of}
 
--- a stop of the code is the verdict's, unless memory ran out
+-- the code stops where the verdict says, unless memory ran out
 abbrev pub IsStop : Stop → Verdict → Type 0
 IsStop stops.Memory v = Unit {0}
 IsStop (stops.Unexpected rest) v = v ≡ Unexpected rest.now
@@ -16,7 +16,7 @@ abbrev pub Loose : ℕ → Option ℕ → Type 0
 Loose l None = Unit {0}
 Loose l (Some k) = k + 1 ≤ l
 
--- no operator of this level or a tighter one comes first
+-- the first token is no operator of this level or a tighter one
 abbrev pub NoOperator : ℕ → List Token → Type 0
 NoOperator l [] = Unit {0}
 NoOperator l (t ∷ ts) = Loose l (level_of t.kind)

@@ -1,4 +1,5 @@
--- Trees without where they lie in memory: the data that meanings are defined on.
+-- Syntax trees as plain data, without their layout in memory. The grammar and the scope rules are
+-- defined on them.
 use Rattle.std.specs.Prelude.{ℕ, List, [], ◌∷◌, ◌-◌, ℤ, pos, neg_ℤ, Option, Some, None, Box, take, drop}
 use Rattle.std.specs.declared.alloc.Global.{Global}
 use Rattle.cilk_types.specs.Word.{word_of}
@@ -42,7 +43,7 @@ pub data Expression : Type 0 where
   Input : (place : Expression) → Expression
   InputCount : Expression
 
--- an argument of a call, and the place of its first byte
+-- an argument of a call, with the place of its first byte
 pub record Argument : Type 0 where
   pub at : ℕ
   pub value : Expression
@@ -51,7 +52,7 @@ pub record Call : Type 0 where
   pub name : Name
   pub arguments : List Argument
 
--- what an assignment writes to
+-- the target of an assignment
 pub data Lvalue : Type 0 where
   Variable : (name : Name) → Lvalue
   Element : (name : Name) (index : Expression) → Lvalue
@@ -62,7 +63,7 @@ pub data Assignment : Type 0 where
   Increment : (place : Lvalue) → Assignment
   Decrement : (place : Lvalue) → Assignment
 
--- what stands behind a local variable's name
+-- the initializer of a local variable
 pub data LocalInitializer : Type 0 where
   Absent : LocalInitializer
   Value : (value : Expression) → LocalInitializer
@@ -72,12 +73,12 @@ pub record Local : Type 0 where
   pub name : Name
   pub initializer : LocalInitializer
 
--- what the head of a `for` begins with
+-- the first part of the head of a `for`
 pub data Beginning : Type 0 where
   Declares : (name : Name) (value : Expression) → Beginning
   Assigns : (assignment : Assignment) → Beginning
 
--- the head of a parallel loop, with the three names that have to be one
+-- the head of a `cilk_for`, with three names that must be equal
 pub record Bounds : Type 0 where
   pub variable : Name
   pub low : Expression
@@ -115,7 +116,7 @@ pub data Item : Type 0 where
   Reducer : (reducer : reducers.Reducer) → Item
   Function : (returns : ReturnType) (name : Name) (parameters : List Parameter) (body : Statements) → Item
 
--- what a code tree's expression is
+-- the expression in memory, as plain data
 abbrev pub expression : exprs.Expr → Expression
 expression (exprs.Number n) = Number n
 expression (exprs.Variable name) = Expression.Variable name
@@ -202,7 +203,7 @@ abbrev mutual
   row_view stmts.end_of-Stmt = End
   row_view (stmts.more_of-Stmt s row) = Then (statement s) (row_view row)
 
--- one after the other
+-- a list of statements
 abbrev pub statements : List stmts.Stmt → Statements
 statements [] = End
 statements (s ∷ list) = Then (statement s) (statements list)
@@ -224,7 +225,7 @@ program t = items_of t.items.items
 abbrev pub bytes_of : List ℕ → Name → List ℕ
 bytes_of text name = take (name.end - name.at) (drop name.at text)
 
--- what a global variable opens with
+-- the value that a global variable has as a run begins
 abbrev pub opening_value : Initializer → ℤ
 opening_value initializers.Absent = pos 0
 opening_value (initializers.Number n) = n

@@ -1,4 +1,4 @@
-//! What the first of the tokens may begin.
+//! Predicates on the next tokens.
 
 ghost use Rattle.std.specs.Prelude.{◌≡◌};
 ghost use Rattle.cilk_syntax.specs.Expected;
@@ -6,7 +6,7 @@ ghost use Rattle.cilk_syntax.specs.Expected.{first_begins};
 
 use crate::token::{Kind, Token};
 
-/// Tells whether a part of an expression may begin with this token.
+/// Tells whether a part of an expression can begin with this token.
 pub fn begins_part(kind: Kind) -> bool
     ensures { result ≡ Expected.begins_part kind }
 {
@@ -23,7 +23,7 @@ pub fn begins_part(kind: Kind) -> bool
     )
 }
 
-/// Tells whether a name and a parenthesis come next.
+/// Tells whether the tokens begin with a name and an opening parenthesis.
 pub fn begins_call(tokens: &[Token]) -> bool
     ensures { result ≡ Expected.begins_call tokens.now }
 {
@@ -33,7 +33,7 @@ pub fn begins_call(tokens: &[Token]) -> bool
     matches!((first.kind, second.kind), (Kind::Name, Kind::Open))
 }
 
-/// Tells whether a statement may begin with the first of the tokens.
+/// Tells whether a statement can begin with the first token.
 pub fn may_begin(tokens: &[Token]) -> bool
     ensures { result ≡ first_begins tokens.now }
 {
@@ -43,7 +43,7 @@ pub fn may_begin(tokens: &[Token]) -> bool
     }
 }
 
-/// Tells whether a statement may begin with this token.
+/// Tells whether a statement can begin with this token.
 pub fn begins_statement(kind: Kind) -> bool
     ensures { result ≡ Expected.begins_statement kind }
 {

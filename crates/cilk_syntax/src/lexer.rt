@@ -1,4 +1,8 @@
-//! From bytes to tokens.
+//! The lexer: from the bytes of a text to its tokens.
+//!
+//! A text is tokens with gaps between them: blanks, comments, and lines that begin with `#include`
+//! or `#pragma`. A word is a maximal run of letters, digits and `_`; it must be a number, a
+//! reserved word or a name. Of the marks that fit, the longest is chosen.
 
 ghost use Rattle.std.specs.Prelude.{◌≡◌, ◌≢◌, ℕ, ◌+◌, ◌<◌, ◌≤◌, Bool, true, false, List, ◌∷◌, IfOk, IfErr, IfSome, IfNone, length, None, Some, pos};
 ghost use Rattle.cilk_syntax.specs.declared.lexer.LexErrorKind.TheVariants as bads;
@@ -16,8 +20,8 @@ use crate::token::{Kind, Token};
 use std::alloc::{AllocError, AllocFailed, Global};
 use thiserror::Error;
 
-/// A class of bytes: letters, digits and `_`; what isn't the end of a line; the blanks within a line; what isn't space,
-/// tab, LF or CR.
+/// A class of bytes. `Word` holds letters, digits and `_`; `Line` all bytes but LF; `Inline` the
+/// blanks but LF; `Solid` all bytes but space, tab, LF and CR.
 #[derive(Clone, Copy, Debug)]
 pub enum Class {
     Word,
@@ -26,7 +30,7 @@ pub enum Class {
     Solid,
 }
 
-/// Why a text can't be cut into tokens.
+/// The reasons why a text can't be cut into tokens.
 #[derive(Clone, Copy, Debug, Error)]
 pub enum LexErrorKind {
     #[error("a byte over 127")]
@@ -43,7 +47,8 @@ pub enum LexErrorKind {
     TooLarge,
 }
 
-/// What stands first: something between tokens, and whether a `#` line may begin behind it; a token; or neither.
+/// The first piece of the bytes that are left: a gap, with whether a `#` line may begin after it; a
+/// token; or a fault. The slice is the rest.
 #[derive(Drop)]
 enum Front<'a> {
     Skip(bool, &'a [u8]),
@@ -81,7 +86,7 @@ pub fn belongs(class: Class, byte: u8) -> bool
     }
 }
 
-/// The bytes up to the first that isn't of the class, and those from it on.
+/// Splits the bytes at the first that isn't of the class.
 #[tactic(auto, using(crate::proofs::Words::take_front))]
 pub fn split(class: Class, bytes: &[u8]) -> (&[u8], &[u8])
     ensures front { result.0.now ≡ front_of class bytes.now }
@@ -98,7 +103,7 @@ pub fn split(class: Class, bytes: &[u8]) -> (&[u8], &[u8])
     (bytes, rest)
 }
 
-/// The bytes behind the first `*/`.
+/// Returns the bytes after the first `*/`.
 fn after_close(bytes: &[u8]) -> Option<&[u8]>
     ensures found { IfSome result (λ rest. after_close bytes.now ≡ Some rest.now) }
     ensures shorter { IfSome result (λ rest. length rest.now ≤ length bytes.now) }
@@ -116,7 +121,7 @@ fn after_close(bytes: &[u8]) -> Option<&[u8]>
     None
 }
 
-/// The bytes behind this one.
+/// Returns the bytes after this one, if they begin with it.
 fn strip(byte: u8, bytes: &[u8]) -> Option<&[u8]>
     ensures found { IfSome result (λ rest. bytes.now ≡ byte ∷ rest.now) }
     ensures none { IfNone result (NotNext byte bytes.now) }
@@ -127,7 +132,7 @@ fn strip(byte: u8, bytes: &[u8]) -> Option<&[u8]>
     }
 }
 
-/// A line that begins with `#`.
+/// Reads a line that begins with `#`.
 fn directive(fresh: bool, tail: &[u8]) -> Front<'_>
     ensures front { IsFront fresh (35 ∷ tail.now) result }
     ensures shorter { IsBefore (length tail.now + 1) result }
@@ -150,7 +155,7 @@ fn directs(word: &[u8]) -> bool
     word == b"include".as_slice() || word == b"pragma".as_slice()
 }
 
-/// A comment or the mark `/`.
+/// Reads a comment or the mark `/`.
 fn slash(fresh: bool, tail: &[u8]) -> Front<'_>
     ensures front { IsFront fresh (47 ∷ tail.now) result }
     ensures shorter { IsBefore (length tail.now + 1) result }
@@ -168,7 +173,7 @@ fn slash(fresh: bool, tail: &[u8]) -> Front<'_>
     Front::Word(Kind::Slash, tail)
 }
 
-/// The reserved word with this spelling.
+/// Returns the reserved word with this spelling.
 fn reserved(word: &[u8]) -> Option<Kind>
     ensures found { IfSome result (λ k. (word.now ≡ spelling k) × (is_reserved k ≡ true)) }
     ensures none { IfNone result ((k : Kind) → is_reserved k ≡ true → word.now ≢ spelling k) }
@@ -227,7 +232,7 @@ fn reserved(word: &[u8]) -> Option<Kind>
     None
 }
 
-/// A name or a reserved word.
+/// Reads a name or a reserved word.
 #[tactic(auto, using(crate::proofs::Words::letter_behind))]
 fn word(fresh: bool, bytes: &[u8]) -> Front<'_>
     requires { starts_letter bytes.now ≡ true }
@@ -241,7 +246,7 @@ fn word(fresh: bool, bytes: &[u8]) -> Front<'_>
     }
 }
 
-/// The value of digits, if it is at most 2^63.
+/// Returns the value of digits, or none if it is over 2^63.
 #[tactic(auto, using(crate::proofs::Words::value_grows))]
 pub fn value_of(digits: &[u8]) -> Option<u64>
     requires { Lexing.all_digits digits.now ≡ true }
@@ -277,7 +282,7 @@ pub fn all_digits(bytes: &[u8]) -> bool
     true
 }
 
-/// Tells whether the word is `0`, or digits that don't begin with 0.
+/// Tells whether the word is `0`, or digits that don't begin with `0`.
 fn is_numeral(word: &[u8]) -> bool
     ensures tells { result ≡ is_numeral word.now }
     ensures digits { result ≡ true → Lexing.all_digits word.now ≡ true }
@@ -289,7 +294,7 @@ fn is_numeral(word: &[u8]) -> bool
     }
 }
 
-/// A number, or a fault where the word is none.
+/// Reads a number, or gives a fault if the word is no number.
 #[tactic(auto, using(crate::proofs::Words::digit_behind))]
 fn number(fresh: bool, bytes: &[u8]) -> Front<'_>
     requires { starts_digit bytes.now ≡ true }
@@ -306,7 +311,7 @@ fn number(fresh: bool, bytes: &[u8]) -> Front<'_>
     }
 }
 
-/// The longest mark.
+/// Reads the longest mark that fits.
 fn mark(fresh: bool, first: u8, tail: &[u8]) -> Front<'_>
     requires ascii { first ≤ 127 }
     requires blank { Lexing.is_blank first ≡ false }
@@ -375,7 +380,7 @@ fn mark(fresh: bool, first: u8, tail: &[u8]) -> Front<'_>
     }
 }
 
-/// What the bytes begin with.
+/// Reads the first piece of the bytes.
 fn piece<'a>(fresh: bool, first: u8, tail: &'a [u8], bytes: &'a [u8]) -> Front<'a>
     requires { bytes.now ≡ first ∷ tail.now }
     ensures front { IsFront fresh bytes.now result }
@@ -400,7 +405,7 @@ fn piece<'a>(fresh: bool, first: u8, tail: &'a [u8], bytes: &'a [u8]) -> Front<'
     }
 }
 
-/// Why there are no tokens: memory ran out, or what is wrong at which byte, counted from 0.
+/// Why there are no tokens: out of memory, or a reason and the byte where it applies, from 0.
 #[derive(Debug, Drop, Error)]
 pub enum LexFault {
     #[error("no memory")]
@@ -425,7 +430,8 @@ impl<T: Drop> From<AllocFailed<T>> for LexFault {
     }
 }
 
-/// The tokens of a text, or the first place at which it can't be cut on. Looks at each byte a few times.
+/// Cuts a text into tokens, or returns the first byte at which no token and no gap begins. Linear
+/// in the text's length.
 pub fn lex(alloc: Global, text: &[u8]) -> Result<Vec<Token>, LexFault>
     ensures tokens { IfOk result (λ v. AreTokens text.now v.items) }
     ensures fault { IfErr result (λ e. IsLexFault e text.now) }
@@ -456,7 +462,7 @@ pub fn lex(alloc: Global, text: &[u8]) -> Result<Vec<Token>, LexFault>
     Ok(tokens)
 }
 
-/// One text has one list of tokens.
+/// Proves that a text has only one list of tokens. It does nothing at run time.
 #[tactic(auto, using(crate::proofs::Unique::unique))]
 pub fn tokens_are_one()
     ensures { (text : List ℕ) (ts us : List Token) → AreTokens text ts → AreTokens text us → ts ≡ us }

@@ -1,4 +1,4 @@
-//! Tokens that the grammar asks for at one place.
+//! Readers of single tokens. Each returns the tokens that follow.
 
 ghost use Rattle.std.specs.Prelude.{◌≡◌, ℕ, pos, ◌<◌, List, ◌∷◌, IfOk, IfErr, IfSome, IfNone, length};
 ghost use Rattle.cilk_syntax.specs.Expected.{Symbol, One, Named, Numeral, Single, run, kind_of, fits};
@@ -10,7 +10,7 @@ use crate::stop::Stop;
 use crate::token::{Kind, Token};
 use crate::tree::Name;
 
-/// A mark or a reserved word that stands at a fixed place of a form.
+/// A mark or a reserved word that the grammar requires at a fixed place.
 #[derive(Clone, Copy)]
 pub enum Punct {
     Open,
@@ -44,7 +44,7 @@ fn fits(mark: Punct, kind: Kind) -> bool
     )
 }
 
-/// The tokens behind this mark.
+/// Reads this mark.
 #[tactic(auto, using(crate::proofs::MarkLaws::is_mark))]
 pub fn one<'a>(tokens: &'a [Token], mark: Punct) -> Result<&'a [Token], Stop<'a>>
     ensures token { IfOk result (λ rest. Is (kind_of mark) tokens.now rest.now) }
@@ -64,7 +64,7 @@ pub fn one<'a>(tokens: &'a [Token], mark: Punct) -> Result<&'a [Token], Stop<'a>
     }
 }
 
-/// A value that was read, and the tokens behind this mark, which follows it.
+/// Reads this mark after a value, and passes the value on.
 pub fn then_one<'a, T: Drop>(
     value: T,
     tokens: &'a [Token],
@@ -82,7 +82,7 @@ pub fn then_one<'a, T: Drop>(
     Ok((value, rest))
 }
 
-/// The tokens behind this mark, if they begin with it.
+/// Reads this mark if it is the first token.
 #[tactic(auto, using(crate::proofs::MarkLaws::is_mark, crate::proofs::MarkLaws::not_mark))]
 pub fn behind<'a>(tokens: &'a [Token], mark: Punct) -> Option<&'a [Token]>
     ensures found { IfSome result (λ rest. Is (kind_of mark) tokens.now rest.now) }
@@ -95,7 +95,7 @@ pub fn behind<'a>(tokens: &'a [Token], mark: Punct) -> Option<&'a [Token]>
     }
 }
 
-/// A name, and the tokens behind it.
+/// Reads a name.
 pub fn name<'a>(tokens: &'a [Token]) -> Result<(Name, &'a [Token]), Stop<'a>>
     ensures token { IfOk result (λ x. IsName x.0 tokens.now x.1.now) }
     ensures shorter { IfOk result (λ x. length x.1.now < length tokens.now) }
@@ -117,7 +117,7 @@ pub fn name<'a>(tokens: &'a [Token]) -> Result<(Name, &'a [Token]), Stop<'a>>
     }
 }
 
-/// A number, and the tokens behind it.
+/// Reads a number.
 pub fn numeral<'a>(tokens: &'a [Token]) -> Result<(i64, &'a [Token]), Stop<'a>>
     ensures token { IfOk result (λ x. Is (kinds.Number x.0) tokens.now x.1.now) }
     ensures shorter { IfOk result (λ x. length x.1.now < length tokens.now) }
@@ -138,7 +138,7 @@ pub fn numeral<'a>(tokens: &'a [Token]) -> Result<(i64, &'a [Token]), Stop<'a>>
     }
 }
 
-/// The tokens behind the number 1.
+/// Reads the number 1.
 pub fn single<'a>(tokens: &'a [Token]) -> Result<&'a [Token], Stop<'a>>
     ensures token { IfOk result (λ rest. Is (kinds.Number (pos 1)) tokens.now rest.now) }
     ensures shorter { IfOk result (λ rest. length rest.now < length tokens.now) }

@@ -1,4 +1,4 @@
-//! The operators between operands.
+//! The operators between operands, and their levels.
 
 ghost use Rattle.std.specs.Prelude.{◌≡◌, ℕ, ◌+◌, if◌then◌else◌, List, ◌∷◌, IfSome, IfNone, drop, None};
 ghost use Rattle.cilk_syntax.specs.Expected.{Symbol, Operand, Tail, PastLimit, run, level_of};
@@ -9,7 +9,7 @@ ghost use Rattle.cilk_syntax.specs.Stops.{NotOfLevel};
 use crate::token::{Kind, Token};
 use crate::tree::BinaryOperator;
 
-/// The operator that a mark stands for.
+/// Returns the operator that a mark denotes.
 fn operator_of(kind: Kind) -> Option<BinaryOperator>
     ensures found { IfSome result (λ op. mark_of op ≡ kind) }
     ensures none { IfNone result (level_of kind ≡ None) }
@@ -32,7 +32,7 @@ fn operator_of(kind: Kind) -> Option<BinaryOperator>
     }
 }
 
-/// The level of an operator, the weakest 0.
+/// Returns the level of an operator, from 0 for the weakest.
 fn level_of(operator: BinaryOperator) -> u32
     ensures { result ≡ level operator }
 {
@@ -49,7 +49,7 @@ fn level_of(operator: BinaryOperator) -> u32
     }
 }
 
-/// The operator of this level that the tokens begin with.
+/// Returns the first token's operator, if it is of this level.
 pub fn next_operator(tokens: &[Token], wanted: u32) -> Option<BinaryOperator>
     ensures found { IfSome result (λ op. Is (mark_of op) tokens.now (drop 1 tokens.now) × (level op ≡ wanted)) }
     ensures none { IfNone result (NotOfLevel wanted tokens.now) }

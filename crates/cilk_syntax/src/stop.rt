@@ -1,4 +1,4 @@
-//! Where reading stops, and the limits at which it does.
+//! Why reading stops, and the limits on nesting and operators.
 
 ghost use Rattle.std.specs.Prelude.{◌≡◌};
 ghost use Rattle.cilk_syntax.specs.declared.stop.Stop.TheVariants.{Memory};
@@ -6,13 +6,14 @@ ghost use Rattle.cilk_syntax.specs.declared.stop.Stop.TheVariants.{Memory};
 use crate::token::Token;
 use std::alloc::{AllocError, AllocFailed};
 
-/// How deep statements and parts of an expression may stand in one another.
+/// Most statements and parts of an expression that may be nested in one another.
 pub const DEEPEST: u32 = 64;
 
-/// How many operators an expression may have.
+/// Most operators of an expression.
 pub const MOST_OPERATORS: u32 = 256;
 
-/// Why reading stopped: no memory, or the tokens from a refused one on, or from one on that goes past a limit.
+/// Why reading stopped: out of memory, a token that isn't expected, or a token past a limit. The
+/// slice holds the tokens from that one on; it is empty at the end of the text.
 #[derive(Drop)]
 pub enum Stop<'a> {
     Memory,

@@ -1,6 +1,6 @@
 //! The tokens of a program text.
 
-/// What a token is: a number, a name, a reserved word or a mark.
+/// The kind of a token: a number, a name, a reserved word or a mark.
 #[derive(Clone, Copy, Debug)]
 pub enum Kind {
     Number(i64),
@@ -52,7 +52,7 @@ pub enum Kind {
     Decrement,
 }
 
-/// A token, with the places of its first byte and of the byte behind it.
+/// A token that covers the bytes `at..end` of the text.
 #[derive(Clone, Copy)]
 pub struct Token {
     pub kind: Kind,

@@ -1,8 +1,53 @@
-//! The tree of a program text.
+//! The syntax tree of a program text, and the grammar.
 //!
-//! A [`Tree`] owns the text, and a [`Name`] is a range of its bytes, so names take no memory of their own. Lists are
-//! `Vec`s; nesting is bounded, since a text's statements and parts of expressions stand at most 64 deep in one another.
-//! An expression stands in a box of its own wherever it is held, so a statement is small and is dropped in few steps.
+//! A [`Tree`] owns the text, and a [`Name`] is a range of its bytes, so names need no memory of
+//! their own. Lists are `Vec`s, and each expression is in a box of its own, so a statement is small
+//! and is dropped in few steps. `specs/Trees.antt` has the same trees as plain data, without their
+//! layout in memory; the grammar and the scope rules are defined on it.
+//!
+//! ```text
+//! program = { item }
+//! item    = "int" glob {"," glob} ";" | reducer
+//!         | ("int"|"void") NAME "(" params ")" block
+//! glob    = NAME [ "=" ["-"] NUMBER ] | NAME "[" NUMBER "]"
+//! reducer = "int" "cilk_reducer" "(" NAME ")" NAME ";"
+//! params  = [ "void" | param {"," param} ]
+//! param   = "int" NAME | "int" "cilk_reducer" "(" NAME ")" NAME
+//! block   = "{" {stmt} "}"
+//! stmt    = block | ";" | "int" loc {"," loc} ";" | reducer
+//!         | assign ";" | ["cilk_spawn"] call ";"
+//!         | NAME "=" ["cilk_spawn"] call ";" | "cilk_sync" ";"
+//!         | "if" "(" expr ")" stmt [ "else" stmt ]
+//!         | "while" "(" expr ")" stmt
+//!         | "for" "(" [ "int" NAME "=" expr | assign ] ";"
+//!           [expr] ";" [assign] ")" stmt
+//!         | "cilk_for" "(" "int" NAME "=" expr ";" NAME "<" expr ";"
+//!           ( NAME "++" | "++" NAME | NAME "+=" "1" ) ")" stmt
+//!         | "return" [expr] ";" | "print" "(" expr ")" ";"
+//!         | ("update"|"set") "(" NAME "," expr ")" ";"
+//! loc     = NAME [ "=" ( expr | ["cilk_spawn"] call ) ]
+//! assign  = place ("="|"+="|"-="|"*=") expr | place ("++"|"--")
+//!         | ("++"|"--") place
+//! place   = NAME [ "[" expr "]" ]
+//! call    = NAME "(" [ expr {"," expr} ] ")"
+//! expr    = levels, weakest first, left to right: || ; && ; == != ;
+//!           < <= > >= ; + - ; * / % ; unary - ! ; primary
+//! primary = NUMBER | place | "(" expr ")" | "value" "(" NAME ")"
+//!         | "input" "(" expr ")" | "input_count" "(" ")"
+//! ```
+//!
+//! An `else` belongs to the nearest `if`. Directly after the `=` of the statement `NAME = ..` or of
+//! a `loc`, a name and a parenthesis begin a call. No other expression has that parenthesis.
+//!
+//! Statements and parts of expressions are nested at most 64 deep. Each enclosing statement counts
+//! one, and so does each pair of parentheses or brackets, each `input(` and each unary operator of
+//! an expression. The parentheses of calls, `if`, `while`, `for`, `print`, `update`, `set` and
+//! `value` don't count. An expression has at most 256 operators, including those of its groups and
+//! indexes. An argument, and the index of an element that is written, are expressions of their own.
+//!
+//! ```text
+//! int g = -7;    // Item::Globals([GlobalVariable::Variable(name, Initializer::Negative(7))])
+//! ```
 
 ghost use Rattle.std.specs.Prelude.{◌≡◌};
 ghost use Rattle.cilk_syntax.specs.Trees;
@@ -11,21 +56,21 @@ use cilk_types::compound::Compound;
 use cilk_types::invocation::Invocation;
 use cilk_types::word::neg;
 
-/// A name: the places of its first byte and of the byte behind it.
+/// A name: the bytes `at..end` of the text.
 #[derive(Clone, Copy, Debug)]
 pub struct Name {
     pub at: usize,
     pub end: usize,
 }
 
-/// An operator in front of its operand.
+/// A unary operator.
 #[derive(Clone, Copy)]
 pub enum UnaryOperator {
     Negate,
     Not,
 }
 
-/// An operator between its operands.
+/// A binary operator.
 #[derive(Clone, Copy, Debug)]
 pub enum BinaryOperator {
     Or,
@@ -43,22 +88,22 @@ pub enum BinaryOperator {
     Remainder,
 }
 
-/// What a function returns.
+/// The return type of a function.
 #[derive(Clone, Copy, Debug)]
 pub enum ReturnType {
     Int,
     Void,
 }
 
-/// A reducer that is declared, or that a function takes: the name of its monoid, and its own.
+/// A reducer that is declared or is a parameter: the name of its monoid, and its own name.
 #[derive(Clone, Copy, Debug)]
 pub struct Reducer {
     pub monoid: Name,
     pub name: Name,
 }
 
-/// An expression. `Element` is an element of an array, `Group` an expression between parentheses, `Value` the value of a
-/// reducer, and `Input` asks for the input number at a place.
+/// An expression. `Element` is an element of an array, `Group` an expression in parentheses,
+/// `Value` the value of a reducer, and `Input` the input number at a place.
 pub enum Expr {
     Number(i64),
     Variable(Name),
@@ -87,14 +132,14 @@ impl Drop for Expr {
     }
 }
 
-/// An argument of a call, and the place of its first byte.
+/// An argument of a call, with the place of its first byte.
 #[derive(Drop)]
 pub struct Argument {
     pub at: usize,
     pub value: Box<Expr>,
 }
 
-/// A call: the function's name, and the arguments in order.
+/// A call: the name of the function, and the arguments in order.
 pub struct Call {
     pub name: Name,
     pub arguments: Vec<Argument>,
@@ -109,7 +154,7 @@ impl Drop for Call {
     }
 }
 
-/// What an assignment writes to: a variable, or an element of an array.
+/// The target of an assignment: a variable, or an element of an array.
 pub enum Lvalue {
     Variable(Name),
     Element(Name, Box<Expr>),
@@ -124,7 +169,7 @@ impl Drop for Lvalue {
     }
 }
 
-/// An assignment: `=`, one of `+=`, `-=` and `*=`, `++`, or `--`.
+/// An assignment: `=`, a compound one (`+=`, `-=`, `*=`), `++`, or `--`.
 pub enum Assignment {
     Set(Lvalue, Box<Expr>),
     Compound(Compound, Lvalue, Box<Expr>),
@@ -143,7 +188,7 @@ impl Drop for Assignment {
     }
 }
 
-/// What stands behind a local variable's name: nothing, `=` and an expression, or `=` and a call.
+/// The initializer of a local variable: none, an expression, or a call.
 pub enum LocalInitializer {
     Absent,
     Value(Box<Expr>),
@@ -160,14 +205,14 @@ impl Drop for LocalInitializer {
     }
 }
 
-/// A local variable that is declared.
+/// A declaration of a local variable.
 #[derive(Drop)]
 pub struct Local {
     pub name: Name,
     pub initializer: LocalInitializer,
 }
 
-/// What the head of a `for` begins with: `int` and a variable with its value, or an assignment.
+/// The first part of the head of a `for`: `int` and a variable with its value, or an assignment.
 pub enum Beginning {
     Declares(Name, Box<Expr>),
     Assigns(Assignment),
@@ -182,8 +227,8 @@ impl Drop for Beginning {
     }
 }
 
-/// The head of a `cilk_for`: `int variable = low; tested < high; stepped++`. The three names have to be one, which the
-/// grammar doesn't say.
+/// The head of a `cilk_for`: `int variable = low; tested < high; stepped++`. The three names must
+/// be equal, which names resolution checks and the grammar doesn't.
 pub struct Bounds {
     pub variable: Name,
     pub low: Box<Expr>,
@@ -204,7 +249,8 @@ impl Drop for Bounds {
     }
 }
 
-/// A statement. `Return` holds the place of its first byte. `AssignCall` is a call whose result the variable takes.
+/// A statement. `Return` has the place of its first byte. `AssignCall` assigns a call's result to a
+/// variable.
 pub enum Stmt {
     Empty,
     Block(Vec<Stmt>),
@@ -249,7 +295,7 @@ impl Drop for Stmt {
     }
 }
 
-/// What stands behind a global variable's name: nothing, `= n`, or `= -n`.
+/// The initializer of a global variable: none, `= n`, or `= -n`.
 #[derive(Clone, Copy)]
 pub enum Initializer {
     Absent,
@@ -258,7 +304,7 @@ pub enum Initializer {
 }
 
 impl Initializer {
-    /// The value that the variable opens with.
+    /// Returns the value that the variable has as a run begins.
     pub fn value(self) -> i64
         ensures { result ≡ Trees.opening_value self }
     {
@@ -270,7 +316,7 @@ impl Initializer {
     }
 }
 
-/// A global variable, or a global array with the number of its elements.
+/// A global variable, or a global array with its length.
 #[derive(Clone, Copy)]
 pub enum GlobalVariable {
     Variable(Name, Initializer),
@@ -284,7 +330,7 @@ pub enum Parameter {
     Reducer(Reducer),
 }
 
-/// A line of global variables, a global reducer, or a function.
+/// An item: a line of global variables, a global reducer, or a function.
 pub enum Item {
     Globals(Vec<GlobalVariable>),
     Reducer(Reducer),
@@ -301,7 +347,7 @@ impl Drop for Item {
     }
 }
 
-/// A program: its items, and the text that its names stand in.
+/// A program: its items, and the text that its names refer to.
 pub struct Tree {
     pub text: Vec<u8>,
     pub items: Vec<Item>,

@@ -1,4 +1,4 @@
-//! Certificates over devices that fail: a writer that takes no more, and a file that fails at a later part.
+//! Certificates over devices that fail: a full writer, and a file that fails at a later part.
 
 use cilk_served::served::{Broken, Ended, checked_in_parts, short_writer, shown, status_with};
 use std::alloc::Global;
@@ -17,7 +17,8 @@ fn certified(alloc: Global, program: &str) -> Ended {
     shown(alloc, &words, program.as_bytes(), b"", &mut Broken)
 }
 
-/// Standard output fails at each byte of what is shown: what went out begins it, and the call says so.
+/// Standard output fails at each byte in turn. The written bytes are a beginning of the text, and
+/// the call reports the failure.
 fn fails_at_each_byte(
     rt: &impl Abort,
     alloc: Global,
@@ -98,6 +99,6 @@ fn a_file_that_fails_at_a_later_part(rt: HostRuntime) {
             assert!(rt; answer.is(0, "accepted\n", ""), "after {parts} parts");
         }
     }
-    // A part has at most 32,768 bytes, and the last tells the file's end.
+    // A part has at most 32,768 bytes. One more read finds the file's end.
     assert_eq!(rt; told, made.out.len().div_ceil(32_768) as u64 + 1);
 }

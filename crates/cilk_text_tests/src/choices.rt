@@ -1,4 +1,4 @@
-//! Steps, and the choices that they stand for.
+//! Steps of a script, and the choices that they encode.
 
 use cilk_script::choices::{Choices, MAX_CHOICES, Next};
 use cilk_script::script::{LineOrder, Step};

@@ -1,9 +1,9 @@
-//! The files of the system, as far as each system has them.
+//! The system's files, as far as every system has them.
 
 use cilk_commands::disk::{Disk, MAX_FILE};
 use cilk_commands::files::{FileFault, Files};
 
-/// What can't be read as a file.
+/// Paths that can't be read as files.
 const NO_FILES: [&str; 4] = ["", "/", "/no/such/file", "/dev/null/file"];
 
 #[test]

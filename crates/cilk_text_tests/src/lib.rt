@@ -1,6 +1,28 @@
-//! Tests of what no whole call shows: the trees of texts, what names resolve to, scripts and their choices, and the words of faults.
+//! Tests of the parts that read texts and report faults: the parser, the names, the scripts, the
+//! messages, and the tool's reads and writes.
 //!
-//! Tests of the tool that no whole call of its program shows: files, readers and writers that fail, and how much is read.
+//! Whole calls of the tool are compared by `cilk_rows`. This crate has the tests that such a call
+//! can't make. Some of them look at values inside: the tree of a text, the resolved program, the
+//! steps of a script. Others let a device fail: a writer that is full, a file that fails at its
+//! second part. The rest count reads, since a text has to be judged before the next file is read.
+//!
+//! | Module | Tests |
+//! |---|---|
+//! | [`texts`] | which texts the parser accepts, and their trees |
+//! | [`names`] | the programs that small texts resolve to |
+//! | [`scripts`], [`choices`] | the steps of scripts, and the choices that they encode |
+//! | [`messages`] | the messages and numbers of faults |
+//! | [`places`] | line and column of a byte |
+//! | [`reads`] | the number of files and bytes that a call reads |
+//! | [`streams`], [`certificates`] | replies where a reader, writer or file fails |
+//! | [`disk`] | paths that aren't files |
+//!
+//! The calls are made by `cilk_served`, over files and streams in memory.
+//!
+//! ```text
+//! let ended = shown(alloc, &["run", "program"], b"int main() {", b"", &mut Broken);
+//! assert_eq!(rt; ended.status, 2);
+//! ```
 #![tactic(auto)]
 
 #[cfg(test)]

@@ -1,4 +1,4 @@
-//! What faults show of themselves, and their numbers.
+//! The messages of faults, and their numbers.
 
 use cilk_cert_text::fault::CertFault;
 use cilk_commands::files::FileFault;

@@ -1,4 +1,4 @@
-//! What small texts resolve to.
+//! The programs that small texts resolve to.
 
 use cilk_monoid::kind::MonoidKind;
 use cilk_names::fault::NameFault;
@@ -9,7 +9,7 @@ use cilk_program::syntax::{Expr, Place, ReducerPlace, Stmt, Target};
 use std::alloc::Global;
 use std::process::Abort;
 
-/// What a text resolves to; none where it is no text or memory runs out.
+/// Resolves a text. `None` where it doesn't parse or memory runs out.
 fn resolved(alloc: Global, text: &str) -> Option<Result<Program, NameFault>> {
     match parse(alloc, text.as_bytes()) {
         Ok(tree) => Some(resolve(alloc, &tree)),
@@ -17,7 +17,7 @@ fn resolved(alloc: Global, text: &str) -> Option<Result<Program, NameFault>> {
     }
 }
 
-/// The program of a text; a fault fails the test.
+/// Returns the program of a text. A fault fails the test.
 fn program(alloc: Global, rt: &impl Abort, text: &str) -> Program {
     match resolved(alloc, text) {
         Some(Ok(program)) => program,

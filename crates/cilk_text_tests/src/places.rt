@@ -1,4 +1,4 @@
-//! Places of texts by line and column.
+//! Lines and columns of places in texts.
 
 use cilk_messages::place::{Location, locate};
 use std::process::Abort;

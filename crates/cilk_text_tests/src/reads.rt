@@ -1,4 +1,5 @@
-//! How many files and bytes are read: a text is judged before the next one is read, and wrong words read none.
+//! The number of files and bytes that are read. A text is judged before the next one is read, and
+//! an invalid command line reads nothing.
 
 use cilk_served::repeats::repeated;
 use cilk_served::served::{Broken, Drip, played, shown};
@@ -183,7 +184,8 @@ fn a_wrong_number_of_workers_reads_no_file(rt: HostRuntime) {
 #[test]
 fn reads_of_standard_input(rt: HostRuntime) -> Result<(), AllocError> {
     let alloc = rt.alloc();
-    // Byte by byte: one read tells that the longest text has ended, and none comes behind the first byte too many.
+    // Byte by byte: one more read finds the end of the longest text. Nothing is read after the
+    // first byte too many.
     for (count, status) in [(262_132, 0), (262_133, 2), (300_000, 2)] {
         let text = repeated(alloc, &[(b"int main(){", 1), (b";", count), (b"}", 1)])?;
         let mut drip = Drip {

@@ -1,4 +1,4 @@
-//! Texts, and the steps that they order, or the line that has another form.
+//! Scripts: the steps in them, or the line that isn't valid.
 
 use cilk_script::script::{LineOrder, MAX_SCRIPT, ScriptFault, Step, read};
 use std::process::Abort;

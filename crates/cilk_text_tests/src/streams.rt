@@ -1,4 +1,4 @@
-//! Streams that fail: what is shown then, and the status.
+//! Streams that fail: the reply and the status.
 
 use cilk_served::served::{Broken, Torn, served_over, short_writer, shown, status_of};
 

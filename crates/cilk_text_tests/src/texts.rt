@@ -1,4 +1,4 @@
-//! Texts by the parser: which are read, and their trees.
+//! The parser: which texts it accepts, and their trees.
 
 use cilk_parser::fault::TextFault;
 use cilk_parser::input::parse_input;
@@ -11,12 +11,12 @@ use cilk_types::compound::Compound;
 use cilk_types::invocation::Invocation;
 use std::alloc::Global;
 
-/// The text in a message.
+/// The text for a message.
 fn readable(text: &[u8]) -> &str {
     std::str::from_utf8(text).unwrap_or("a text that isn't UTF-8")
 }
 
-/// The number and the place of a program's fault, or 0 and the number of its items.
+/// The number and the place of a program's fault, or 0 and its count of items.
 fn told(alloc: Global, text: &[u8]) -> (u16, usize) {
     match parse(alloc, text) {
         Ok(tree) => (0, tree.items.len()),
@@ -49,7 +49,7 @@ fn texts_are_read(rt: HostRuntime) {
     }
 }
 
-/// The number and the place of the fault of such a text.
+/// The number and the place of the fault in a text of repeated parts.
 fn repeated_told(alloc: Global, parts: &[(&[u8], usize)]) -> (u16, usize) {
     match repeated(alloc, parts) {
         Ok(text) => told(alloc, &text),

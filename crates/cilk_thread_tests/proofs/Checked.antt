@@ -1,8 +1,8 @@
--- Values that are right by computing.
+-- Facts that are shown by computation.
 --
--- - `right_reads`: each read gives what was last written to its cell, where a test of each event says so;
+-- - `right_reads`: each read has the value last written to its cell, if a test of each event holds;
 -- - `right_words`: each value is a word;
--- - `valued`: a story that begins has values.
+-- - `valued`: an event order that begins has values.
 use Rattle.std.proofs.Common.{◌≡◌, ℕ, zero, suc, ◌+◌, ◌-◌, ◌^◌, ◌<◌, ◌⊎◌, ⊎_elim, ℤ, pos, negsuc, nat_lt, Bool, true, false, ◌&&◌, List, [], ◌∷◌, Option, Some, None, slice_get, slice_index_or, refl, sym, ap, ◌∙◌, subst, arith}
 use Rattle.std.specs.Prelude.{FitsSigned}
 use Rattle.std.specs.Int.{w64}
@@ -42,7 +42,7 @@ has_word (Read c v) = is_small v
 has_word (Write c v) = is_small v
 has_word _ = true
 
--- a test of each event of a list, behind n others
+-- a test of each event of a list, after n others
 abbrev each : (ℕ → Event → Bool) → List Event → ℕ → Bool
 each f [] n = true
 each f (e ∷ es) n = f n e && each f es (suc n)
@@ -65,7 +65,7 @@ write_from : (o : Option Event) (c : ℕ) → Writes o c → o ≡ Some (Write c
 write_from (Some (Write d v)) c h = ap (λ (x : ℕ). Some (Write x v)) h
 write_from o c h = absurd h
 
--- what the cell's last write says is its value
+-- the cell's last write has its value
 has_value : (s : EventOrder) (c n m : ℕ) (v : ℤ) → last_write s.events c n ≡ m → v ≡ shown s.events s.opening c m → HasValue s c n v
 has_value s c n zero v last is = record { opened = λ _. is; written = λ q h. absurd (omega (arith, last, h)) }
 has_value s c n (suc k) v last is = record {

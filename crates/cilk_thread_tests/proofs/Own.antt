@@ -1,4 +1,5 @@
--- A program on its own input: `own_are_of`, and of a plan that is moved out of a program's: `own_are_of_whole`.
+-- A program on its own input: `own_are_of`. For a plan that is moved out of a program's:
+-- `own_are_of_whole`.
 use Rattle.std.proofs.Common.{ℤ, ◌≡◌, true, Bool, List, [], ◌∷◌, length, replicate, refl, sym, ap, ◌∙◌, subst}
 use Rattle.cilk_types.specs.declared.event.Event.{Event}
 use Rattle.cilk_tree.specs.declared.event_order.EventOrder.{EventOrder}

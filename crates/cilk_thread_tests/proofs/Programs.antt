@@ -1,4 +1,4 @@
--- The worked stories, computed: `stories_are_of_programs`.
+-- The event orders that are written out, by computation: `stories_are_of_programs`.
 use Rattle.std.proofs.Common.{refl}
 use Rattle.std.specs.Int.{int_wrap}
 use Rattle.cilk_thread_tests.specs.Programs.{EventOrdersAreOfPrograms}

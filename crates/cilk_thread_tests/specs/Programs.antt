@@ -1,4 +1,4 @@
--- The worked stories are what programs make of their plans.
+-- The event orders that are written out are those of the programs along their plans.
 use Rattle.std.specs.Prelude.{◌≡◌, pos, [], ◌∷◌}
 use Rattle.cilk_replay.specs.Worked.{filled_on}
 use Rattle.cilk_thread_tests.specs.Others.{four, squares_on, squares_plan, three, turns_on, turns_plan}

@@ -1,5 +1,7 @@
--- The program whose loop squares four numbers of the input, and what it makes of the plan of its run on 1 2 3 4.
--- int a[4]; int main() { cilk_for (int i = 0; i < 4; i++) { a[i] = input(i) * input(i); } return a[0] + a[3]; }
+-- The program whose loop squares four numbers of the input, and its runs along the plan of its run
+-- on 1 2 3 4.
+-- int a[4]; int main() { cilk_for (int i = 0; i < 4; i++) { a[i] = input(i) * input(i); }
+--   return a[0] + a[3]; }
 use Rattle.std.specs.Prelude.{ℕ, ℤ, pos, List, [], ◌∷◌}
 use Rattle.cilk_types.specs.declared.invocation.Invocation.TheVariants.{Call, Spawn}
 use Rattle.cilk_program.specs.declared.ask.Ask.TheVariants as asks
@@ -45,6 +47,6 @@ squared_run =
     (act asks.Resume (pos 0) (act (asks.Read (places.Global 0)) (pos 1) (act (asks.Read (places.Global 3)) (pos 16)
     (act asks.Sync (pos 0) (act (asks.End (pos 17)) (pos 0) stop))))))
 
--- the story of the program on these numbers along that plan
+-- the event order of the program on these numbers along that plan
 abbrev pub squared_on : List ℤ → EventOrder
 squared_on numbers = story_on squared numbers squared_run (squares (pos 1) (pos 4) (pos 9) (pos 16)) squares_opening

@@ -65,7 +65,7 @@ impl Watch for Hold {
     }
 }
 
-// Checks the certificate of two spawned calls with frame 2 held, and says whether the hold was opened.
+// Whether the hold ends early in a check of two spawned calls with frame 2 held.
 fn opens<R: Abort + Threads + Sync>(rt: &R, alloc: Global, helpers: u32) -> bool
     requires some { 0 < helpers }
     requires most { helpers ≤ 16 }
@@ -106,7 +106,7 @@ impl Counting {
         Ok(Counting { begun })
     }
 
-    // How many frames have begun so often.
+    // The number of frames that have begun that many times.
     fn count(&self, times: u32) -> usize {
         let mut count: usize = 0;
         for begun in self.begun.as_slice() {
@@ -135,7 +135,7 @@ const TURNS: &str =
 const GIVEN: &str =
     "int a[4]; int cilk_reducer(append) seen; void put(int cilk_reducer(max) m, int at, int n) { a[at] = n; update(m, n); update(seen, a[at]); } int twice(int n) { return n + n; } int main() { int cilk_reducer(max) m; int n = twice(4); cilk_spawn put(m, 0, n); cilk_spawn put(m, 1, n + n); put(m, 2, 3); cilk_sync; put(m, 3, a[1]); return value(m) + a[0]; }";
 
-// The run of a text's program is retold from its certificate, each frame replayed once, and is the serial run.
+// The run that is built from a certificate is the serial run, and each frame is replayed once.
 fn is_retold<R: Abort + Threads + Sync>(
     rt: &R,
     alloc: Global,
@@ -180,7 +180,7 @@ fn runs_are_retold(rt: HostRuntime) -> Result<(), Fail> {
     Ok(())
 }
 
-// Changes the first value that a certificate of two spawned calls says is read, from 7 to 8.
+// Changes the first read value from 7 to 8, in a certificate of two spawned calls.
 fn change<R: Abort>(rt: &R, text: &mut Vec<u8>) {
     let line = b"read 0 7 ";
     let found = text
@@ -192,7 +192,7 @@ fn change<R: Abort>(rt: &R, text: &mut Vec<u8>) {
     }
 }
 
-// What is refused so.
+// The refusal of an answer.
 fn refusal<R: Abort>(rt: &R, answer: Result<Accepted, Refusal>) -> Refusal {
     match answer {
         Ok(_) => panic!(rt; "accepted"),
@@ -216,7 +216,7 @@ fn another_word_is_refused_as_without_helpers(rt: HostRuntime) {
     assert_eq!(rt; many.fields(), one.fields());
 }
 
-// Twenty frames, each of which takes all ticks that there are if it reads anything but 0.
+// Twenty frames. Each one uses up all ticks if it reads anything but 0.
 const LONG: &str =
     "int g; void work() { if (g) { while (1) { } } } int main() { cilk_for (int i = 0; i < 20; i++) { work(); } return 0; }";
 

@@ -1,13 +1,29 @@
-//! Tests of a yard with two real threads, and of plans on other inputs.
+//! Tests of the words that the threads of a run share, of runs on other inputs, and of checks by
+//! helpers.
 //!
-//! [`texts`] makes accepted programs from texts. [`two_threads`] forces an order of the events of two threads by messages, each of which
-//! is waited for at most ten seconds. [`written_out`] compares the runs of `cilk_thread_tests`, which are written out, with the runs of the
-//! programs' texts, and [`other_inputs`] makes them on a yard. In [`helpers`] certificates are checked by several helpers.
+//! A parallel run works on a `Yard` of `cilk_shared`: its cells, a word for each continuation, and
+//! a word for its end. A thread holds a `Segment`, the range of positions whose events it made.
+//! These tests drive a yard step by step, without the scheduler, so that each order of events can
+//! be forced. [`two_threads`] forces an order of two threads by messages: a thief takes the
+//! continuation of a spawn while the child runs (Frigo, Leiserson and Randall 1998). A message that
+//! doesn't come within ten seconds fails the test.
 //!
-//! Runs with known plans and yards, for tests with threads.
+//! [`others`] has the events of two programs written out, on the input of their plan and on other
+//! inputs. Their contracts state that these events are what the programs do. [`written_out`]
+//! compares them with the runs of the programs' texts.
 //!
-//! [`settings`] makes the plans and yards of accepted programs, and [`steps`] a segment's next event as the yard's run does. [`others`] has
-//! two programs' runs written out, with those on other inputs as stories.
+//! | Item | Purpose |
+//! |---|---|
+//! | [`settings::Setting`] | a plan, a yard, its first segment, and the events of its run |
+//! | [`steps::step`] | makes the next event of a segment, if the yard allows it |
+//! | [`steps::take`] | takes a continuation, if it isn't taken yet |
+//! | [`other_inputs`] | runs on other inputs, which end or depart from the plan |
+//! | [`helpers`] | certificates checked by several helpers |
+//!
+//! ```text
+//! let Setting { plan, yard, mut segment, events, asked } = squares_on_four(alloc)?;
+//! step(&yard, &plan, events.as_slice(), asked.as_slice(), &mut segment)    // Done::Passed
+//! ```
 #![tactic(auto)]
 
 #[cfg(test)]

@@ -13,8 +13,8 @@ use cilk_types::event::{Event, Pos};
 use std::process::Abort;
 use std::test::Fail;
 
-// Makes the events up to a position, as far as the run asks for them, and takes each continuation at its child's end. Gives what was
-// done last.
+// Makes the events up to a position, as far as the run has them, and takes each continuation at its
+// child's end. Returns the last result.
 fn make_up_to(
     yard: &Yard,
     plan: &Plan,
@@ -51,7 +51,7 @@ fn next(yard: &Yard, plan: &Plan, events: &[Event], asked: &[bool], segment: &mu
     }
 }
 
-// The run departs at this position, and its end isn't seen.
+// The run departs at this position and doesn't reach its end.
 fn departs_at<R: Abort>(rt: &R, setting: Setting, place: Pos)
     requires segment { OfYard setting.yard setting.segment }
     requires run { AreOf setting.yard.story setting.plan setting.events setting.asked.items }

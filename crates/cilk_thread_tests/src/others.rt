@@ -1,4 +1,4 @@
-//! Worked programs whose runs read an input: their plans, and what they make of them on other inputs.
+//! Worked programs whose runs read an input: their plans, and their runs on other inputs.
 
 ghost use Rattle.std.specs.Prelude.{◌≡◌, ◌⊎◌, ◌++◌, ◌∷◌, [], pos, IfOk};
 ghost use Rattle.cilk_tree.specs.Along.{IsAlong};
@@ -13,18 +13,19 @@ use cilk_types::input::Input;
 use cilk_types::trace::Trace;
 use std::alloc::{AllocError, Global};
 
-/// Both programs' runs have a plan.
+/// States that both programs' runs have a plan.
 pub fn both_have_plans()
     ensures squares { SquaresHavePlan }
     ensures turns { TurnsHavePlan }
 {}
 
-/// The stories of both programs are those of their definition, on their own inputs and on the others.
+/// States that the event orders written out are those of the programs, on their own inputs and on
+/// others.
 pub fn stories_are_of_programs()
     ensures { EventOrdersAreOfPrograms }
 {}
 
-/// The events of the first program's run on four numbers with these squares.
+/// Returns the events of the first program's run on four numbers with these squares.
 pub fn squares(alloc: Global, a: i64, b: i64, c: i64, d: i64) -> Result<Trace, AllocError>
     ensures { IfOk result (λ trace. trace ≡ squares a b c d) }
 {
@@ -93,7 +94,8 @@ pub fn squares(alloc: Global, a: i64, b: i64, c: i64, d: i64) -> Result<Trace, A
     Ok(Trace::new(events))
 }
 
-/// The events of the second program's run on the input 1, where the first number read is `n`.
+/// Returns the events of the second program's run on the input 1, with `n` as the first number
+/// read.
 pub fn turns(alloc: Global, n: i64) -> Result<Trace, AllocError>
     ensures { IfOk result (λ trace. trace ≡ turns n) }
 {
@@ -117,7 +119,7 @@ pub fn turns(alloc: Global, n: i64) -> Result<Trace, AllocError>
     Ok(Trace::new(events))
 }
 
-/// The plan of the first program's run on 1 2 3 4.
+/// Returns the plan of the first program's run on 1 2 3 4.
 pub fn squares_plan(alloc: Global) -> Result<Plan, AllocError>
     ensures { IfOk result (λ plan. plan ≡ squares_plan) }
 {
@@ -126,7 +128,7 @@ pub fn squares_plan(alloc: Global) -> Result<Plan, AllocError>
     Plan::of(alloc, &trace, Vec::from_elem(alloc, 0, 8)?)
 }
 
-/// The plan of the second program's run on 1.
+/// Returns the plan of the second program's run on 1.
 pub fn turns_plan(alloc: Global) -> Result<Plan, AllocError>
     ensures { IfOk result (λ plan. plan ≡ turns_plan) }
 {
@@ -135,7 +137,7 @@ pub fn turns_plan(alloc: Global) -> Result<Plan, AllocError>
     Plan::of(alloc, &trace, Vec::from_elem(alloc, 0, 9)?)
 }
 
-/// The yard of the first program's run along its plan on 5 6 7 8, or on 5 6 7.
+/// Creates the yard of the first program's run along its plan on 5 6 7 8 or 5 6 7.
 pub fn squares_yard(
     alloc: Global,
     plan: &Plan,
@@ -151,7 +153,7 @@ pub fn squares_yard(
     Yard::new(alloc, plan, input)
 }
 
-/// The yard of the second program's run along its plan on 0, or on 7.
+/// Creates the yard of the second program's run along its plan on 0 or 7.
 pub fn turns_yard(alloc: Global, plan: &Plan, input: &Input) -> Result<(Yard, Segment), AllocError>
     requires plan { plan.now ≡ turns_plan }
     requires input { (input.now ≡ pos 0 ∷ []) ⊎ (input.now ≡ pos 7 ∷ []) }
@@ -163,7 +165,7 @@ pub fn turns_yard(alloc: Global, plan: &Plan, input: &Input) -> Result<(Yard, Se
     Yard::new(alloc, plan, input)
 }
 
-/// Of so many events, that the first ones are asked for, then others aren't, and then the rest is.
+/// Returns a list that is true for `first` events, false for `others`, and true for `rest`.
 pub fn asked_but_for(
     alloc: Global,
     first: Pos,
@@ -180,7 +182,7 @@ pub fn asked_but_for(
     Ok(asked)
 }
 
-/// Of the events of the second program's plan, those that its run on 0 asks for.
+/// Returns which events of the second program's plan its run on 0 makes.
 pub fn asked_on_none(alloc: Global) -> Result<Vec<bool>, AllocError>
     ensures { IfOk result (λ asked. asked.items ≡ but_for 3 1 7 ++ but_for 0 3 1) }
 {

@@ -1,5 +1,5 @@
-//! Plans and yards of worked programs: of an accepted program on its own input, and of two programs whose runs
-//! are written out, on others.
+//! Plans and yards of worked programs: an accepted program on its own input, and two written out
+//! programs on other inputs.
 
 ghost use Rattle.std.specs.Prelude.{◌≡◌, ◌∷◌, [], pos, true, replicate, IfOk};
 ghost use Rattle.cilk_shared.specs.Values.{OfYard};
@@ -20,7 +20,8 @@ use cilk_types::trace::Trace;
 use cilk_types::word_list::WordList;
 use std::alloc::{AllocError, Global};
 
-/// A yard, its first segment, the plan that its story is along, that story's events, and which of them it asks for.
+/// A plan, a yard whose event order follows it, the yard's first segment and events, and which
+/// events its run makes.
 #[derive(Drop)]
 pub struct Setting {
     pub plan: Plan,
@@ -30,7 +31,7 @@ pub struct Setting {
     pub asked: Vec<bool>,
 }
 
-/// An accepted program along its plan, on its own input: it asks for each event.
+/// Returns the setting of an accepted program on its own input, whose run makes every event.
 pub fn on_its_own(alloc: Global, accepted: &Accepted) -> Result<Setting, AllocError>
     ensures segment { IfOk result (λ s. OfYard s.yard s.segment) }
     ensures run { IfOk result (λ s. AreOf s.yard.story s.plan s.events s.asked.items) }
@@ -49,7 +50,7 @@ pub fn on_its_own(alloc: Global, accepted: &Accepted) -> Result<Setting, AllocEr
     })
 }
 
-// The same events once more.
+// A copy of the events.
 fn copied(alloc: Global, trace: &Trace) -> Result<Trace, AllocError>
     ensures { IfOk result (λ copy. copy ≡ trace.now) }
 {
@@ -58,14 +59,14 @@ fn copied(alloc: Global, trace: &Trace) -> Result<Trace, AllocError>
     Ok(Trace::new(events))
 }
 
-// So many events, each of which is asked for.
+// A list for `count` events, which are all made.
 fn all_asked(alloc: Global, count: usize) -> Result<Vec<bool>, AllocError>
     ensures { IfOk result (λ asked. asked.items ≡ replicate count true) }
 {
     Vec::from_elem(alloc, true, count)
 }
 
-/// The first program on 5 6 7 8, along its run on 1 2 3 4.
+/// Returns the setting of the first program on 5 6 7 8, along its run on 1 2 3 4.
 pub fn squares_on_four(alloc: Global) -> Result<Setting, AllocError>
     ensures segment { IfOk result (λ s. OfYard s.yard s.segment) }
     ensures run { IfOk result (λ s. AreOf s.yard.story s.plan s.events s.asked.items) }
@@ -83,7 +84,8 @@ pub fn squares_on_four(alloc: Global) -> Result<Setting, AllocError>
     })
 }
 
-/// The first program on 5 6 7, along the same run: the frame of the last turn asks for none of its events past the 45th.
+/// Returns the setting of the first program on 5 6 7, along the same run. The frame of the last
+/// turn makes none of its events after the 45th.
 pub fn squares_on_three(alloc: Global) -> Result<Setting, AllocError>
     ensures segment { IfOk result (λ s. OfYard s.yard s.segment) }
     ensures run { IfOk result (λ s. AreOf s.yard.story s.plan s.events s.asked.items) }
@@ -101,7 +103,7 @@ pub fn squares_on_three(alloc: Global) -> Result<Setting, AllocError>
     })
 }
 
-/// The second program on 0, along its run on 1.
+/// Returns the setting of the second program on 0, along its run on 1.
 pub fn turns_on_none(alloc: Global) -> Result<Setting, AllocError>
     ensures segment { IfOk result (λ s. OfYard s.yard s.segment) }
     ensures run { IfOk result (λ s. AreOf s.yard.story s.plan s.events s.asked.items) }
@@ -119,7 +121,7 @@ pub fn turns_on_none(alloc: Global) -> Result<Setting, AllocError>
     })
 }
 
-/// The second program on 7, along its run on 1.
+/// Returns the setting of the second program on 7, along its run on 1.
 pub fn turns_on_seven(alloc: Global) -> Result<Setting, AllocError>
     ensures segment { IfOk result (λ s. OfYard s.yard s.segment) }
     ensures run { IfOk result (λ s. AreOf s.yard.story s.plan s.events s.asked.items) }

@@ -1,4 +1,4 @@
-//! A segment's next event, made as a yard's story has it.
+//! The next event of a segment, made according to the yard's event order.
 
 ghost use Rattle.std.specs.Prelude.{◌≡◌, ◌↔◌, ℕ, ◌<◌, length, IfSome, IsSome, IsTrue};
 ghost use Rattle.cilk_tree.specs.Runs.{IsAsked};
@@ -13,26 +13,27 @@ use cilk_tree::plan::Plan;
 use cilk_types::event::{Cell, Event, Pos};
 use std::alloc::Global;
 
-/// What was done.
+/// The result of a step.
 #[derive(Clone, Copy, PartialEq, Eq, Debug)]
 pub enum Done {
-    /// A read gave this value.
+    /// A read returned this value.
     Loaded(i64),
     Stored,
     /// A spawn was offered under this ticket.
     Offered(Pos),
-    /// An event that is no step on a shared word was passed.
+    /// An event that isn't a step on a shared word was passed.
     Passed,
     /// The root's `end` was made.
     Finished,
-    /// The run doesn't ask for the event at this position.
+    /// The run doesn't make the event at this position.
     Departed(Pos),
     /// The next event can't be made here.
     Nothing,
 }
 
-/// Makes the segment's next event, unless it is the `resume` after a spawn, where the yard lets it. `events` are those of the yard's
-/// story, and `asked` says which of them it asks for.
+/// Makes the segment's next event where the yard allows it, unless the event is the `resume` after
+/// a spawn. `events` are those of the yard's event order, and `asked` says which of them the run
+/// makes.
 pub fn step(
     yard: &Yard,
     plan: &Plan,
@@ -55,7 +56,7 @@ pub fn step(
     }
 }
 
-// Makes the next event, which is asked for.
+// Makes the next event, which the run has.
 fn made(yard: &Yard, plan: &Plan, events: &[Event], segment: &mut Segment) -> Done
     requires yard { OfYard yard.now segment.old }
     requires along { IsAlong plan.now yard.now.story }
@@ -85,7 +86,8 @@ fn made(yard: &Yard, plan: &Plan, events: &[Event], segment: &mut Segment) -> Do
     }
 }
 
-// Passes the next event, which is asked for, where it is no step on a shared word and the segment holds what comes right before it.
+// Passes the next event, which the run has. It must not be a step on a shared word, and the segment
+// has to hold the event directly before it.
 fn passed(yard: &Yard, plan: &Plan, segment: &mut Segment) -> Done
     requires yard { OfYard yard.now segment.old }
     requires along { IsAlong plan.now segment.old.story }
@@ -100,8 +102,9 @@ fn passed(yard: &Yard, plan: &Plan, segment: &mut Segment) -> Done
     }
 }
 
-/// Takes the continuation after the spawn at a position, for a segment that is empty or that ends right before the `resume`: what the yard
-/// answers. None where the yard isn't asked, and then its `take` couldn't be called, or no spawn stands there.
+/// Takes the continuation after the spawn `ticket`, for a segment that is empty or ends just before
+/// the `resume`. Returns the yard's answer, or `None` where the continuation can't be requested or
+/// there is no such spawn.
 pub fn take(yard: &Yard, asked: &[bool], segment: &mut Segment, ticket: Pos) -> Option<Taken>
     requires yard { OfYard yard.now segment.old }
     requires asked { asked.now ≡ yard.now.story.asked }
@@ -120,7 +123,8 @@ pub fn take(yard: &Yard, asked: &[bool], segment: &mut Segment, ticket: Pos) -> 
     Some(yard.take(segment, ticket))
 }
 
-/// The cells' values after the run, where the segment has all of it and there is memory for them.
+/// Returns the cells' values after the run, if the segment covers the run and there is memory for
+/// them.
 pub fn last_values(
     alloc: Global,
     yard: Yard,
@@ -145,7 +149,7 @@ fn event_at(yard: &Yard, events: &[Event], at: Pos) -> Option<Event>
     events.get(at.saturating_sub(1) as usize).copied()
 }
 
-// Whether the event at a position is asked for.
+// Whether the run makes the event at a position.
 fn is_asked(yard: &Yard, asked: &[bool], at: Pos) -> bool
     requires { asked.now ≡ yard.now.story.asked }
     ensures { IsTrue result ↔ IsAsked yard.now.story at }

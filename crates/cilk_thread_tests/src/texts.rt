@@ -1,4 +1,4 @@
-//! Programs from their texts: certified by their serial runs, and checked.
+//! Accepted programs: certified by their serial runs, and checked.
 
 use cilk_cert_maker::make::make;
 use cilk_cert_text::write::write;
@@ -17,11 +17,11 @@ pub const GETS: &str =
 pub const SQUARES: &str =
     "int a[4]; int main() { cilk_for (int i = 0; i < 4; i++) { a[i] = input(i) * input(i); } return a[0] + a[3]; }";
 
-/// As many turns of a loop as the input says.
+/// A loop with as many turns as the input says.
 pub const TURNS: &str =
     "int a[7]; int main() { int n = input(0); cilk_for (int i = 0; i < n; i++) { a[i] = i; } return a[6]; }";
 
-/// The text of the certificate of a program's run on an input.
+/// Returns the text of the certificate of a program's run on an input.
 pub fn certificate<R: Abort>(rt: &R, alloc: Global, text: &str, numbers: &str) -> Vec<u8> {
     let Ok(program) = program(alloc, text.as_bytes()) else {
         panic!(rt; "no program: {text}");
@@ -38,7 +38,7 @@ pub fn certificate<R: Abort>(rt: &R, alloc: Global, text: &str, numbers: &str) -
     }
 }
 
-/// The program of a text on the input of a text, whose certificate is accepted.
+/// Certifies and checks a program's run on an input.
 pub fn accepted<R: Abort>(rt: &R, alloc: Global, text: &str, numbers: &str) -> Accepted {
     let certificate = certificate(rt, alloc, text, numbers);
     match check(

@@ -19,10 +19,10 @@ use std::test::Fail;
 use std::thread;
 use std::time::{Clock, Duration};
 
-// How many seconds a message is waited for.
+// The seconds to wait for a message.
 const PATIENCE: u64 = 10;
 
-// Makes the events up to a position, each of which can be made, and gives the last one's answer.
+// Makes the events up to a position, all of which have to succeed. Returns the last result.
 fn make_up_to<R: Abort>(
     rt: &R,
     yard: &Yard,
@@ -44,7 +44,8 @@ fn make_up_to<R: Abort>(
     done
 }
 
-// The thread that makes the first child: it offers the rest, waits until that was taken, and is told No at the child's end.
+// The thread of the first child. It offers the continuation, waits until that is taken, and gets
+// the answer No at the child's end.
 fn makes_the_child<R: Abort + Wait + Clock>(
     rt: &R,
     yard: &Yard,
@@ -75,8 +76,9 @@ fn makes_the_child<R: Abort + Wait + Clock>(
     segment
 }
 
-// The thread that takes the rest: it offers again, makes the second child, and takes its own continuation. The `sync`
-// behind that it can't pass, since the first child's `end` is in the other segment.
+// The thread that takes the continuation. It offers the next one, makes the second child, and takes
+// its own continuation back. It can't pass the `sync` after that: the first child's `end` is in the
+// other segment.
 fn takes_the_rest<R: Abort + Wait + Clock>(
     rt: &R,
     yard: &Yard,
@@ -108,7 +110,7 @@ fn takes_the_rest<R: Abort + Wait + Clock>(
     segment
 }
 
-// Ends the run from the `sync` of the two spawns on, and tells what the cells have then.
+// Ends the run from the `sync` of the two spawns on, and compares the cells' last values.
 fn ends_with<R: Abort>(
     rt: &R,
     alloc: Global,

@@ -9,13 +9,13 @@ use std::alloc::Global;
 use std::process::Abort;
 use std::test::Fail;
 
-// The accepted run of a text's program has these events.
+// The accepted run of a text has these events.
 fn has_events(rt: &impl Abort, alloc: Global, text: &str, numbers: &str, events: &Trace) {
     let accepted = accepted(rt, alloc, text, numbers);
     assert_eq!(rt; accepted.trace().as_slice(), events.as_slice());
 }
 
-// The plan of a text's program has as many events as this one, with cells that open as its do.
+// The plan of a text has as many events as this one and the same initial cells.
 fn has_plan(rt: &impl Abort, alloc: Global, text: &str, numbers: &str, written: &Plan) {
     let accepted = accepted(rt, alloc, text, numbers);
     let Ok(plan) = plan(alloc, &accepted) else {

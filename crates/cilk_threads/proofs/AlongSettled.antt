@@ -1,4 +1,5 @@
--- Where the reducers of a plan are settled, so they are in each story along it: `along_settled`.
+-- If the reducers of a plan are settled, they are settled in each event order along it:
+-- `along_settled`.
 --
 -- - `mentions_is`, `resets_is`: which reducers an event is of, by its kind;
 -- - `frames_same`: events of the same kinds are in the same frames.

@@ -1,7 +1,8 @@
--- Values of reducers that are asked for, in a list of events: `numbers_at`.
+-- The requested values of reducers, in a list of events: `numbers_at`.
 --
 -- - `felt`, `held_after`: what each reducer's view is after an event, and after a list;
--- - `AreAskedNumbers`: each value that is asked for is the number of its reducer's view; `numbers_both`: so it is of a list and what follows it.
+-- - `AreAskedNumbers`: each requested value is the number of its reducer's view; `numbers_both`:
+--   the same for a list and what follows it.
 use Rattle.std.proofs.Common.{◌≡◌, ℕ, zero, suc, ℤ, Bool, true, false, List, [], ◌∷◌, ◌++◌, length, take, Some, None, slice_get, slice_index_or, refl, sym, ap, ◌∙◌, subst, arith}
 use Rattle.cilk_types.specs.declared.event.Event.{Event}
 use Rattle.cilk_types.specs.declared.event.Event.TheVariants as events
@@ -22,7 +23,7 @@ Held = Instance → ViewValue
 abbrev pub felt : Reducers → ℕ → Event → Held → Held
 felt r f e h = λ j. view_after (structure_of (kind_in r j)) j (of_event r f (Some e)) (h j)
 
--- after a list, ahead of which this frame is at hand
+-- after a list, before which this frame is the current one
 abbrev pub held_after : Reducers → ℕ → List Event → Held → Held
 held_after r g [] h = h
 held_after r g (e ∷ es) h = held_after r (entered e g) es (felt r (entered e g) e h)

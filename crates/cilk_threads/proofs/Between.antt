@@ -1,4 +1,5 @@
--- What lies between two positions whose strands have the same peers comes before the later one: `between`.
+-- An event between two positions whose strands have the same peers comes before the later one:
+-- `between`.
 use Rattle.std.proofs.Common.{◌≡◌, ◌≢◌, inl, inr, ⊎_elim, ℕ, ◌<◌, ◌≤◌, List, length, subst, arith}
 use mathlib.Core.Logic.{dite}
 use native.Mathlib.Decide.{ℕ_discrete}
@@ -15,7 +16,7 @@ use Rattle.cilk_tree.proofs.Strands.{strand_grows, strand_held}
 use Rattle.cilk_tree.proofs.Tied.{before_is_reached}
 use Rattle.cilk_peers.specs.Peers.{SamePeers}
 
--- of three leaves in order, the first is parallel to the last where the middle one is to both
+-- of three leaves in order, the first is parallel to the last if the middle one is parallel to both
 across : (t : Tree) (u v w : ℕ) → Holds t 1 u → Holds t 1 v → Holds t 1 w → u < v → v < w → Parallel t 1 u v → Parallel t 1 v w → Parallel t 1 u w
 across t u v w hu hv hw less less' one other =
     let x = (parallel_by_order t u v hu hv less).1 one in

@@ -1,4 +1,4 @@
--- The cells that a story along a plan names open with values: `cells_along`.
+-- The cells named in an event order along a plan open with values: `cells_along`.
 use Rattle.std.proofs.Common.{◌≡◌, ◌⊎◌, inl, inr, ℕ, ℤ, ◌-◌, ◌<◌, List, length, Option, Some, refl, sym, ap, ◌∙◌, subst}
 use Rattle.cilk_types.specs.declared.event.Event.{Event}
 use Rattle.cilk_types.specs.declared.event.Event.TheVariants as events

@@ -1,4 +1,4 @@
--- What a story leaves is what the run by names of its course leaves: `course_left`.
+-- The outcome of an event order is that of the run by names of its course: `course_left`.
 --
 -- - `held_is`: a reducer's view after a list is that of the list's reducer events;
 -- - `value_is`: the views of all events are those of the run by names.

@@ -1,4 +1,4 @@
--- What may go to another thread.
+-- The values that may be sent to another thread.
 use denote.Param.Send.{IsSend, IsSync, sendable}
 use Rattle.std.proofs.Crossing.{crosses}
 use Rattle.cilk_hypermap.proofs.hypermap.Hypermap.TheSendSync as hypermap

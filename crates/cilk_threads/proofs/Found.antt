@@ -1,7 +1,8 @@
--- Where the frames of a serial run stand in its list of events: `end_found`.
+-- The positions of a serial run's frames in its list of events: `end_found`.
 --
--- - `long_numbered`, `long_makers`: the events of a run by names are as many as the marks of its shape;
--- - `IsInside`, `ends_in`: an `end` in a run is that of the frame at hand, or of one inside;
+-- - `long_numbered`, `long_makers`: the events of a run by names are as many as the marks of its
+--   shape;
+-- - `IsInside`, `ends_in`: an `end` in a run is that of the current frame, or of one inside;
 -- - `IsFound`: the frame of an `end`, by its first and last position.
 use Rattle.std.proofs.Common.{◌≡◌, ◌⊎◌, ⊎_elim, inl, inr, ℕ, zero, suc, ◌+◌, ◌-◌, ◌<◌, ◌≤◌, ℤ, IsTrue, List, [], ◌∷◌, ◌++◌, length, slice_get, slice_index_or, Some, refl, sym, ap, ◌∙◌, subst, arith, length-append}
 use Rattle.std.proofs.lemmas.Bool.{cases_lt}
@@ -37,7 +38,7 @@ use Rattle.cilk_replay.specs.Owned.{makers, maker_numbers}
 use Rattle.cilk_replay.proofs.Owned.{in_their_frames}
 use Rattle.cilk_threads.proofs.Opened.{IsFrameOf, AllFrames, frames_open}
 
--- the `begin` or `resume` that is due stands ahead of the shape's events
+-- the `begin` or `resume` that is due comes before the shape's events
 abbrev ahead : Due → ℕ
 ahead begin_due = 1
 ahead resume_due = 1
@@ -80,7 +81,8 @@ module _ (p : Source) (whole : Transcript) where
       let b = length-append (list w.name u) (list name t) in
       omega (arith, x, y, a, b)
 
-  -- The `end` at a place of the list is of a frame inside, which begins at another. The first event of the list stands at position o.
+  -- The `end` at a place of the list is of a frame inside, which begins at another. The first event
+  -- of the list is at position o.
   record IsInside (shape : Shape) (es : List numbers.Event) (names : List Name) (o j : ℕ) : Type 0 where
     w : FrameEnv
     u : Run FrameEnv
@@ -94,7 +96,7 @@ module _ (p : Source) (whole : Transcript) where
   abbrev IsEnd : Name → Run FrameEnv → ℕ → ℕ → Type 0
   IsEnd name t o j = ((slice_get (makers name t) j ≡ Some name) × (suc j ≡ length (list name t))) ⊎ IsInside (shape_of t) (list name t) (makers name t) o j
 
-  -- one event more ahead
+  -- one more event before
   further : (name : Name) (t : Run FrameEnv) (shape : Shape) (e : numbers.Event) (first : Name) (o j : ℕ) → ((b z : ℕ) → IsInner (shape_of t) (suc o) b z → IsInner shape o b z)
       → IsInside (shape_of t) (list name t) (makers name t) (suc o) j → IsInside shape (e ∷ list name t) (first ∷ makers name t) o (suc j)
   further name t shape e first o j inside h =
@@ -193,7 +195,7 @@ module _ (p : Source) (whole : Transcript) where
               ap (slice_get (list name whole_run)) y ∙ at_first (suc (h.begin + x)) (omega (arith, less, ends, within, l)) ∙ h.same x less;
         }
 
-    -- where the rest of the frame goes on behind the `resume`
+    -- where the rest of the frame continues after the `resume`
     abbrev past : ℕ
     past = suc (suc (suc o + length (marks (shape_of u))))
 

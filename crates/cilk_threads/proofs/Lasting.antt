@@ -1,7 +1,9 @@
--- The views of a whole run are what it leaves: `whole_last`.
+-- The views of a whole run give its outcome: `whole_last`.
 --
--- - `list_from`: the events of reducers in a list of events, by one pass; `over_list`: those of a story's positions are;
--- - `Alike`: two lists give each reducer the same view; `run_alike`: so do the pass and the run by names;
+-- - `list_from`: the reducer events of a list of events, in one pass; `over_list`: those of an
+--   event order's positions are the same;
+-- - `Alike`: two lists give each reducer the same view; `run_alike`: so do the pass and the run by
+--   names;
 -- - `prints_viewed`: the output's view over a list has what it prints.
 use Rattle.std.proofs.Common.{◌≡◌, ◌⊎◌, inl, inr, ℕ, zero, suc, ◌+◌, ◌-◌, ◌<◌, ◌≤◌, eqb, ℤ, Bool, true, false, cond, ◌&&◌, List, [], ◌∷◌, ◌++◌, length, take, get_or, slice_get, slice_index_or, Option, Some, None, refl, sym, ap, ap₂, ◌∙◌, subst, arith, append_assoc, append-nil, length-append}
 use Rattle.std.proofs.Math.Seq.{take-length}
@@ -83,7 +85,7 @@ entered_last : (g : ℕ) (es : List numbers.Event) (e : numbers.Event) → last_
 entered_last g [] e = refl
 entered_last g (d ∷ es) e = entered_last (entered d g) es e
 
--- ---- of a story's positions
+-- ---- of an event order's positions
 module _ (s : EventOrder) (r : Reducers) where
   pub over_from : (n : ℕ) → n ≤ length s.events → events_from s r 1 n ≡ list_from r 0 (take n s.events)
   unfolding events_from
@@ -252,7 +254,7 @@ module _ (p : Source) (run : serial.Transcript) (r : Reducers) (table : AreReduc
       subst (λ (l : List Instance). Alike r (retired f (own r f)) (retired_all p run l)) (sym is)
       (subst (λ (l : List ReducerEvent). Alike r l (retired_all p run (retired_by p w))) (sym ends) whole)
 
-  -- what is at hand where an event is due
+  -- the state where an event is due
   abbrev Since : Due → ℕ → FrameEnv → Type 0
   Since begin_due g w = Unit {0}
   Since resume_due g w = Unit {0}

@@ -1,4 +1,5 @@
--- What a whole run leaves, by its cells and its views: `made_is`, `piece_made`. Each serial run with its events leaves that: `left_is`.
+-- The outcome of a whole run, by its cells and its views: `made_is`, `piece_made`. Each serial run
+-- with its events has that outcome: `left_is`.
 use Rattle.std.proofs.Common.{◌≡◌, ℕ, zero, suc, ◌+◌, ◌<◌, ◌≤◌, ℤ, pos, IsTrue, List, [], ◌∷◌, length, take, slice_index_or, Option, Some, None, refl, sym, ap, ◌∙◌, subst, arith}
 use Rattle.std.proofs.Math.Seq.{take-length}
 use Rattle.std.specs.Option.{option_map}
@@ -85,7 +86,7 @@ all_same {o = o} {o' = o'} a b c d =
     ∙ ap (λ x. record { result = o'.result; globals = o'.globals; output = x; reducers = o.reducers }) c
     ∙ ap (λ x. record { result = o'.result; globals = o'.globals; output = o'.output; reducers = x }) d
 
--- the global cells after the story's events
+-- the global cells after all events
 abbrev globals_after : Source → EventOrder → List ℤ
 globals_after p s = cells_from 0 (length p.openings) (cells_after s.events (opening_cells p []))
 
@@ -117,7 +118,7 @@ made_is p s r l cells views value laid many opens final shows = record {
         ∙ ap (cells_after s.events (opening_cells p [])) (let e : 0 + c ≡ c = omega arith in e)
         ∙ ap (λ (l : List Event). cells_after l (opening_cells p []) c) (sym (take-length s.events))))
 
--- each serial run with these events leaves it
+-- each serial run with these events has this outcome
 pub left_is : (p : Source) → IsTrue (is_well_named p) → (s : EventOrder) (r : Reducers) (value : ℤ) (o : Outcome) → IsMadeOf p s r value o
     → (inputs : List ℤ) (run : Transcript) (outcome : Outcome) → IsSerialRun p inputs run s.events (Leaves outcome) → AreReducersOf p run r → outcome.result ≡ value → o ≡ outcome
 left_is p well s r value o made inputs run outcome ran table same =

@@ -1,4 +1,4 @@
--- What workers leave on an input: `left_on`; on the plan's own: `own_outcome`.
+-- The outcome of workers on an input: `left_on`; on the plan's own: `own_outcome`.
 use Rattle.std.proofs.Common.{◌≡◌, ◌≤◌, ◌<◌, ◌⊎◌, inl, inr, ℕ, ℤ, List, length, reverse, sym, ap, ◌∙◌, subst, arith}
 use Rattle.std.proofs.lemmas.Bool.{cases_lt}
 use Rattle.cilk_types.specs.declared.event.Event.{Event}
@@ -39,7 +39,7 @@ use Rattle.cilk_threads.proofs.Opened.{runs_start_no_root}
 use Rattle.cilk_threads.specs.Outcomes.{LeavesOn, IsOutcomeOn}
 use Rattle.cilk_threads.proofs.Alike.{same_frames, table_along}
 
--- where the last event is followed, each is asked for
+-- if the last event is followed, each event is requested
 all_asked : (s : EventOrder) → IsOrderly s → IsFollowed s (length s.events) → (p : ℕ) → IsPosition s.events p → IsAsked s p
 all_asked s order followed p (low, high) = by (cases_lt p (length s.events))
   where
@@ -108,7 +108,7 @@ module _ (courses : ProgramsHaveOneCourse) (along : InputsRunAlong) (elided : Ru
           (runs_start_no_root p inputs run es (Leaves o') x.named serial) own_table)
           (sym (serial_result p inputs run es o' serial) ∙ ap (λ (t : Run FrameEnv). result_in (reverse (trace t))) e.0 ∙ course_result)
 
--- on the plan's own input it is what the accepted run left
+-- on the plan's own input it is the accepted run's outcome
 pub own_outcome : (a : AcceptedRun) → HasDeterminateRun a → (inputs : List ℤ) (o : Outcome) → IsOutcomeOn (source a.program) inputs o → inputs ≡ a.input → o ≡ a.outcome
 own_outcome a whole inputs o is same =
     let own = whole.1.ended.ran in

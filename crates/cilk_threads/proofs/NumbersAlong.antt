@@ -1,4 +1,5 @@
--- In each story along a plan a reducer's value is the number of its view: `stories_have_numbers`. So it is along an accepted run's: `accepted_have_numbers`.
+-- In each event order along a plan a reducer's value is the number of its view:
+-- `stories_have_numbers`. The same along an accepted run's plan: `accepted_have_numbers`.
 --
 -- - `starts_there`: each frame that a serial run starts is one that its program has;
 -- - `worded`: what a course puts into views is words.

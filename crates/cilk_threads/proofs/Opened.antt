@@ -45,7 +45,7 @@ Opens name n (k ∷ ks) (runs.act (Writes c v) t) = Opens name n (k ∷ ks) t
 Opens name n (k ∷ ks) (runs.act (Passes (Creates i)) t) = (i ≡ Reducer name n k) × Opens name (suc n) ks t
 Opens name n (k ∷ ks) t = ⊥
 
--- right behind its `begin`
+-- right after its `begin`
 abbrev pub BeginsOpened : Source → FrameEnv → Run FrameEnv → Type 0
 BeginsOpened p w (runs.act (Passes Begins) t) = Opens w.name 0 (all_reducers p w.callee) t
 BeginsOpened p w t = ⊥

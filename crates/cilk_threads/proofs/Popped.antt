@@ -1,4 +1,4 @@
--- What comes out of a list at its end, and what stays.
+-- The last element of a list, and the rest.
 use Rattle.std.proofs.Common.{◌≡◌, zero, suc, List, [], ◌∷◌, ◌++◌, Option, sym, subst, arith}
 use Rattle.std.specs.Prelude.{All, Some, None, IfSome, option_to_list}
 use Rattle.std.proofs.lemmas.List.Elements.{All-append}

@@ -1,4 +1,4 @@
--- What is sent, one by one.
+-- The parts that are sent, one by one.
 use Rattle.std.proofs.Common.{◌≡◌, List, [], ◌∷◌, ◌++◌}
 use Rattle.std.specs.Prelude.{All}
 use Rattle.crossbeam_deque.specs.Handles.{Pass}

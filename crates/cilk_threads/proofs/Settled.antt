@@ -3,7 +3,7 @@
 -- - `opens_at`, `created_in`: the creations of a frame's reducers are in its first strand;
 -- - `used_after`: an event of a reducer comes after its creation;
 -- - `mention_made`, `settle_made`: the creation of a reducer that an event mentions, or settles;
--- - `begins_next`: a spawned child begins right behind its spawn.
+-- - `begins_next`: a spawned child begins right after its spawn.
 use Rattle.std.proofs.Common.{◌≡◌, ◌⊎◌, ⊎_elim, inl, inr, ℕ, zero, suc, ◌+◌, ◌-◌, ◌<◌, ◌≤◌, ℤ, IsTrue, List, [], ◌∷◌, ◌++◌, length, slice_get, slice_index_or, Option, Some, None, refl, sym, ap, ◌∙◌, subst, arith}
 use Rattle.std.proofs.lemmas.Bool.{cases_lt}
 use Rattle.std.proofs.lemmas.Option.{slice_get_within, get_or_from_slice_get, slice_get-map}
@@ -93,7 +93,7 @@ module _ (p : Source) (r : Transcript) where
       (subst (λ (x : ℕ). IsMade (numbered_events p r name t) name x) z (opens_at name (suc n) ks t o.1 m (omega (arith, less))))
   opens_at name n (k ∷ ks) t o m less = absurd o
 
-  -- behind the frame's `begin`
+  -- after the frame's `begin`
   record IsMadeBehind (es : List numbers.Event) (name : Name) (n : ℕ) : Type 0 where
     place : ℕ
     is : slice_get es (suc place) ≡ Some (events.Create (record { frame = frame_number p r name; place = suc n }))
@@ -117,7 +117,7 @@ strand_still es b (suc m) h =
     let rest = strand_still es b m (λ y l. h y (omega (arith, l))) in
     ap (strand_at es) z ∙ (let all : strand_at es (b + m + 1) ≡ strand_at es b = omega (arith, next, e, rest) in all)
 
--- a reducer's creation, at the position or ahead of it
+-- a reducer's creation, at the position or before it
 record IsMadeBy (es : List numbers.Event) (i : numbered.Instance) (q : ℕ) : Type 0 where
   place : ℕ
   low : 1 ≤ place
@@ -207,7 +207,7 @@ module _ (p : Source) (r : Transcript) where
       ∙ ap (λ (x : ℕ). slice_get (numbered_events p r w.name u ++ numbered_events p r name t) x) (sym e) ∙ is))
       (cases_lt j n)
 
--- ---- a spawned child begins right behind its spawn
+-- ---- a spawned child begins right after its spawn
 abbrev SpawnsBegin : List Mark → Type 0
 SpawnsBegin ms = (j : ℕ) → slice_get ms j ≡ Some mark.Spawn → slice_get ms (suc j) ≡ Some mark.Begin
 

@@ -100,7 +100,7 @@ module _ (p : Source) where
   no_root_at (child how c u r) h zero (j ∷ path) ran = no_root_at u h.1 j path ran
   no_root_at (child how c u r) h (suc k) path ran = no_root_at r h.2 k path ran
 
--- those of frames with these bodies, the first of which is the root's
+-- the reducers of frames with these bodies; the first frame is the root's
 pub record AreReducersIn (p : Source) (bodies : List Body) (frames : List FrameReducers) : Type 0 where
   pub root : slice_get frames 0 ≡ Some (reducers_of p callees.Root)
   pub others : (k : ℕ) (body : Body) → slice_get bodies (suc k) ≡ Some body → slice_get frames (suc k) ≡ Some (reducers_in p body)

@@ -1,6 +1,8 @@
--- Along a course the views by names are those by numbers, and each value that is asked for is its view's number: `course_numbers`.
+-- Along a course the views by names are those by numbers, and each requested value is its view's
+-- number: `course_numbers`.
 --
--- - `AtActivity`: at each `end` of a plan's run its own frame is at hand, and retires its own reducers;
+-- - `AtActivity`: at each `end` of a plan's run its own frame is the current one, and retires its
+--   own reducers;
 -- - `IsSameFrame`: a frame of the course and the plan's have one name and one list of own reducers;
 -- - `valued_numbers`: the plan's list with the course's values is the course by numbers;
 -- - `felt_tied`: what an event makes of the views by names and by numbers.
@@ -55,7 +57,7 @@ use Rattle.cilk_threads.proofs.Lasting.{last_from, RetiresOwn, of_frame, many_ow
 use Rattle.cilk_threads.proofs.Opened.{IsFrameOf, AllFrames, there_fit, there_no_root}
 use Rattle.cilk_threads.proofs.Tabled.{no_output}
 
--- ---- what a frame asks for
+-- ---- the requests of a frame
 record IsInvoked (a : language.Ask) (x : FrameEnv) : Type 0 where
   how : Invocation
   callee : Callee
@@ -132,7 +134,7 @@ module _ (p : Source) (inputs : List ℤ) (well : IsTrue (is_well_named p)) wher
   child_alike w past k k' v v' b h fit there = alike_frames p v v' there (child_there w past k k' v v' b h fit there) h.fits
 
 module _ (p : Source) (run : serial.Transcript) where
-  -- an `end` is of the frame at hand, and retires what it created for itself
+  -- an `end` is of the current frame, and retires what it created for itself
   abbrev pub IsEndedIn : ℕ → FrameEnv → Event → Type 0
   IsEndedIn g w (Reads c v) = Unit {0}
   IsEndedIn g w (Writes c v) = Unit {0}
@@ -308,7 +310,7 @@ module _ (p : Source) (run : serial.Transcript) (r : Reducers) (table : AreReduc
             declared = subst (λ (o : Option MonoidKind). IsTrue (is_kind o k)) (sym (ap (slice_get (all_reducers p v.callee)) (sym t) ∙ own_in_all p run r table kinds v m k get)) (kind_itself k);
           }
 
-  -- a set leaves the view of one word
+  -- after a set the view is that of one word
   set_is : (k : MonoidKind) (x : ℤ) → IsWord x → (structure_of k).combine ((structure_of k).unit) ((structure_of k).single x) ≡ (structure_of k).single x
   set_is k x w = let l = lawful k in l.left_neutral ((structure_of k).single x) (l.single_member x w)
 
@@ -430,7 +432,7 @@ module _ (p : Source) (run : serial.Transcript) (r : Reducers) (table : AreReduc
         (with_both (numbered_events p run y.name u) (numbered_events p run v.name t) (trace (run_of d)) (trace (run_of c)) (as_many y.name x [] memory views u d h.1)
         ∙ ap₂ (λ (l m : List numbers.Event). l ++ m) inner rest)
 
-    -- as many events as askings
+    -- as many events as requests
     asked_many : (name : Name) (c : Course FrameEnv) → length (numbered_events p run name (run_of c)) ≡ length (asked_in c)
     asked_many name stop = refl
     asked_many name (act b x c) = ap suc (asked_many name c)
@@ -441,7 +443,7 @@ module _ (p : Source) (run : serial.Transcript) (r : Reducers) (table : AreReduc
         let other = length-append (asked_in d) (asked_in c) in
         omega (arith, inner, rest, one, other)
 
-    -- each value that is asked for is right, and the views that are left are the same
+    -- each requested value is right, and the views at the end are the same
     abbrev pub Along : ℕ → Name → (Instance → View) → Held → Course FrameEnv → Type 0
     Along g name views h c =
         AreAskedNumbers r g h (numbered_events p run name (run_of c)) (asked_in c)

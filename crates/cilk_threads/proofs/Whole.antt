@@ -1,4 +1,5 @@
--- What a crew's end says of a program's plan: `syncs_along`, `whole_of`, `fault_of`. On its own input it departs nowhere: `stays`.
+-- The exit reason of a pool, for a program's plan: `syncs_along`, `whole_of`, `fault_of`. On its
+-- own input it departs nowhere: `stays`.
 use Rattle.std.proofs.Common.{◌≡◌, ℕ, ℤ, List, reverse, sym, ap, ◌∙◌, subst}
 use Rattle.std.specs.Prelude.{All, Some}
 use Rattle.cilk_types.specs.declared.event.Event.{Event}
@@ -31,7 +32,7 @@ use Rattle.cilk_threads.specs.Faults.{IsTrueFault}
 use Rattle.cilk_threads.specs.Outcomes.{IsFaultOn, IsWholeOf, NamesNoPosition}
 use Rattle.cilk_threads.proofs.Placed.{sync_along}
 
--- a `sync` of the plan is one of each story along it
+-- a `sync` of the plan is one of each event order along it
 pub syncs_along : (plan s : EventOrder) → IsAlong plan s → (ats : List ℕ) → All (λ at. event plan at ≡ Some Sync) ats → All (λ at. event s at ≡ Some Sync) ats
 syncs_along plan s along ats h k d lt = sync_along s.events plan.events along.kinds _ (h k d lt)
 
@@ -51,13 +52,13 @@ whole_of y r c p own inputs s x v is program owned input h = record {
     ended : IsWhole (shared_with y r c) x v
     ended = subst (λ (z : SharedValue). IsWhole z x v) is h
 
--- where the yard's story departs, the story that the program makes of the plan does
+-- where the yard's event order departs, the event order that the program makes of the plan does
 pub fault_of : (w : WholePlan) (inputs : List ℤ) (n : ℕ) (s : EventOrder) (f : ThreadFault) → (let t = w.story in IsEventOrderOn w.run t.opening inputs s) → IsTrueFault s n f → IsFaultOn w inputs n f
 fault_of w inputs n s faults.Memory told h = h
 fault_of w inputs n s faults.Workers told h = h
 fault_of w inputs n s (faults.Departs p) told h = (h.0, (s, told, h.1))
 
--- on the plan's own input its story departs nowhere
+-- on the plan's own input its event order departs nowhere
 goes_along : OwnEventOrder → (a : AcceptedRun) (plan s : EventOrder) (inputs : List ℤ) → IsPlanOf a plan → IsEventOrderOn a plan.opening inputs s → inputs ≡ a.input → (p : ℕ) → Departs s p → ⊥
 goes_along law a plan s inputs is told same p h =
     let own : s ≡ plan = own_is_the_plan law a plan is inputs s told same in

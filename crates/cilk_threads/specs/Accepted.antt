@@ -16,7 +16,8 @@ use Rattle.cilk_checker.specs.Determinate.{AcceptedRun}
 use Rattle.cilk_plan.specs.Plans.{IsPlanOf}
 use Rattle.cilk_threads.specs.Tables.{AreReducersOf, HaveTheirKinds}
 
--- The table is that of an accepted run, and the run's reducers are settled along its plan, on any input.
+-- The table is that of an accepted run, and the run's reducers are settled along its plan on any
+-- input.
 pub record IsTableOf (a : AcceptedRun) (r : Reducers) : Type 0 where
   pub frames : (run : Transcript) → IsSerialRun (source a.program) a.input run a.trace (Leaves a.outcome) → AreReducersOf (source a.program) run r
   pub kinds : (run : Transcript) → IsSerialRun (source a.program) a.input run a.trace (Leaves a.outcome) → HaveTheirKinds (source a.program) run r
@@ -24,7 +25,7 @@ pub record IsTableOf (a : AcceptedRun) (r : Reducers) : Type 0 where
   -- the first event is of no reducer
   pub quiet : (plan s : EventOrder) → IsPlanOf a plan → IsAlong plan s → events_at s r 1 ≡ []
 
--- the reducers of a frame with this body, but the first one
+-- the reducers of a frame with this body, except the root's frame
 abbrev pub reducers_in : Source → Body → FrameReducers
 reducers_in p (Function n) = let f = function_at p n in record { kinds = f.reducers; outlive = 0 }
 reducers_in p (Loop n) = record { kinds = []; outlive = 0 }

@@ -1,15 +1,16 @@
--- Why a run has no outcome.
+-- The faults of a run on threads.
 use Rattle.std.specs.Prelude.{◌≤◌, ℕ}
 use Rattle.cilk_tree.specs.declared.event_order.EventOrder.{EventOrder}
 use Rattle.cilk_tree.specs.Runs.{Departs}
 use Rattle.cilk_threads.specs.declared.run.ThreadFault.{ThreadFault}
 use Rattle.cilk_threads.specs.declared.run.ThreadFault.TheVariants as faults
 
--- so many workers may run together
+-- n is an allowed number of workers
 abbrev pub IsCrew : ℕ → Type 0
 IsCrew n = (1 ≤ n) × (n ≤ 64)
 
--- where a run departs, it does; and the number of workers is a fault exactly where it is none
+-- a fault is true: the run departs where it says so, and the number of workers is a fault exactly
+-- if it isn't allowed
 abbrev pub IsTrueFault : EventOrder → ℕ → ThreadFault → Type 0
 IsTrueFault s n faults.Memory = IsCrew n
 IsTrueFault s n faults.Workers = IsCrew n → ⊥

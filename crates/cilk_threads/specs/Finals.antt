@@ -1,4 +1,4 @@
--- What the views of a whole run leave.
+-- The outcome from the views of a whole run.
 use Rattle.std.specs.Prelude.{◌≡◌, ◌+◌, ℤ, IsTrue, List, [], length}
 use Rattle.cilk_types.specs.declared.event.Event.{Event}
 use Rattle.cilk_types.specs.declared.outcome.Outcome.{Outcome}
@@ -19,19 +19,20 @@ use Rattle.cilk_shared.specs.Reducers.{kind_in, events_over}
 use Rattle.cilk_frames.specs.Leaving.{finals_of}
 use Rattle.cilk_threads.specs.Tables.{AreReducersOf}
 
--- the views are what a run leaves that ends so: the global reducers' last values, and the numbers that it printed
+-- the views give this outcome: the global reducers' last values, and the numbers that were printed
 pub record AreLast (p : Source) (h : Hypermap) (outcome : Outcome) : Type 0 where
   pub reducers : outcome.reducers ≡ finals_of h 0 p.reducers
   pub printed : value_in h Append output ≡ Elements outcome.output
 
--- The views of all events of a serial run that ends without a fault are what it leaves.
+-- The views of all events of a serial run that ends without a fault give its outcome.
 abbrev pub WholeViewsAreLast : Type 0
 WholeViewsAreLast =
     (p : Source) (inputs : List ℤ) (run : Transcript) (es : List Event) (outcome : Outcome) (s : EventOrder) (r : Reducers) (h : Hypermap)
     → IsTrue (is_well_named p) → IsSerialRun p inputs run es (Leaves outcome) → s.events ≡ es → AreReducersOf p run r
     → ShowsRange (kind_in r) h (events_over s r 1 (length es + 1)) → AreLast p h outcome
 
--- What the story leaves, where its root ends with this result: the last values of the global cells, and of the views of all its events.
+-- The outcome of an event order whose root ends with this result: the last values of the global
+-- cells, and those of the views of all its events.
 pub record IsMadeOf (p : Source) (s : EventOrder) (r : Reducers) (value : ℤ) (o : Outcome) : Type 0 where
   pub result : o.result ≡ value
   pub globals : o.globals ≡ cells_from 0 (length p.openings) (cells_after s.events (opening_cells p []))

@@ -1,4 +1,4 @@
--- Runs without a view-read race are settled.
+-- The reducers of runs without a view-read race are settled.
 use Rattle.std.specs.Prelude.{ℤ, IsTrue, List}
 use Rattle.cilk_types.specs.declared.event.Event.{Event}
 use Rattle.cilk_types.specs.declared.outcome.Outcome.{Outcome}
@@ -16,11 +16,12 @@ use Rattle.cilk_shared.specs.declared.reducers.Reducers.{Reducers}
 use Rattle.cilk_shared.specs.Settled.{AreSettled}
 use Rattle.cilk_threads.specs.Tables.{AreReducersOf}
 
--- Where the reducers of a plan are settled, so they are in each story along it: values don't matter.
+-- If the reducers of a plan are settled, they are settled in each event order along it: values
+-- don't matter.
 abbrev pub EventOrdersAlongAreSettled : Type 0
 EventOrdersAlongAreSettled = (plan s : EventOrder) (r : Reducers) → IsAlong plan s → AreSettled plan r → AreSettled s r
 
--- Where a serial run ends without a fault and has no view-read race, its reducers are settled.
+-- If a serial run ends without a fault and has no view-read race, its reducers are settled.
 abbrev pub RaceFreeRunsAreSettled : Type 0
 RaceFreeRunsAreSettled =
     (p : Source) (inputs : List ℤ) (run : Transcript) (es : List Event) (outcome : Outcome) (opening : List ℤ) (shape : Shape) (r : Reducers)

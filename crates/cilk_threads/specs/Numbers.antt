@@ -1,4 +1,4 @@
--- The values of reducers in the stories along a plan.
+-- The values of reducers in the event orders along a plan.
 use Rattle.std.specs.Prelude.{◌≡◌, ℕ, ℤ, List, Some}
 use Rattle.cilk_types.specs.declared.event.Event.{Event}
 use Rattle.cilk_types.specs.declared.event.Event.TheVariants.{Value}
@@ -17,17 +17,17 @@ use Rattle.cilk_plan.specs.Plans.{IsEventOrderOn}
 use Rattle.cilk_threads.specs.Accepted.{IsTableOf}
 use Rattle.cilk_threads.specs.Tables.{AreReducersOf}
 
--- where its event is asked for, a value is the number of its reducer's view over the events ahead of it
+-- if its event is requested, a value is the number of its reducer's view over the events before it
 abbrev pub HasAskedNumbers : EventOrder → Reducers → Type 0
 HasAskedNumbers s r = (p : ℕ) (i : Instance) (v : ℤ) → IsAsked s p → event s p ≡ Some (Value i v) → IsNumberAt s r p i v
 
--- On all inputs of words, in the story along the plan of a serial run, where a frame asks for the value of a reducer.
+-- This holds on all inputs of words, in the event order along the plan of a serial run.
 abbrev pub EventOrdersAlongHaveNumbers : Type 0
 EventOrdersAlongHaveNumbers =
     (p : Source) (inputs others : List ℤ) (run : Transcript) (es : List Event) (opening : List ℤ) (r : Reducers)
     → IsPlannedRun p inputs run es opening → InputsAreWords others → AreReducersOf p run r → HasAskedNumbers (story_on p others run es opening) r
 
--- So it is along the plan of an accepted run.
+-- This holds along the plan of an accepted run.
 abbrev pub AcceptedEventOrdersHaveNumbers : Type 0
 AcceptedEventOrdersHaveNumbers =
     (a : AcceptedRun) (opening inputs : List ℤ) (s : EventOrder) (r : Reducers) → HasDeterminateRun a → IsTableOf a r → InputsAreWords inputs

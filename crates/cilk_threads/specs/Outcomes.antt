@@ -1,4 +1,4 @@
--- What a run of an accepted program by workers answers, on an input, its own or another.
+-- The answer of a run of an accepted program by workers, on an input, its own or another.
 use Rattle.std.specs.Prelude.{◌≡◌, ◌≤◌, ◌+◌, ℕ, ℤ, List, length, reverse}
 use Rattle.cilk_types.specs.declared.event.Event.{Event}
 use Rattle.cilk_types.specs.declared.limits.TheConstants.{MAX_TICKS}
@@ -29,13 +29,14 @@ use Rattle.cilk_threads.specs.declared.run.ThreadFault.{ThreadFault}
 use Rattle.cilk_threads.specs.declared.run.ThreadFault.TheVariants as faults
 use Rattle.cilk_threads.specs.Faults.{IsCrew}
 
--- a serial run of the program on these inputs leaves this
+-- a serial run of the program on these inputs has this outcome
 abbrev pub LeavesOn : Source → List ℤ → Outcome → Type 0
 LeavesOn p inputs o = (run : Transcript) × (es : List Event) × IsSerialRun p inputs run es (Leaves o)
 
--- It is what the program's serial elision leaves on these inputs, however many ticks that takes. The program's frames make a run there, one after
--- the other, each as if it had all ticks of a run for itself, and that leaves it. Where they take no more ticks together than a run may, it is
--- the program's serial run; and no serial run leaves anything else.
+-- It is the outcome of the program's serial elision on these inputs, whatever number of ticks that
+-- costs. The program's frames make a run there, one after the other, each as if it had all ticks of
+-- a run for itself, and it has this outcome. If together they cost no more ticks than a run may, it
+-- is the program's serial run. No serial run has another outcome.
 pub record IsOutcomeOn (p : Source) (inputs : List ℤ) (o : Outcome) : Type 0 where
   pub elided : IsElision p inputs (Leaves o)
   pub run : Run FrameEnv
@@ -44,8 +45,9 @@ pub record IsOutcomeOn (p : Source) (inputs : List ℤ) (o : Outcome) : Type 0 w
   pub leaves : whole (costs p inputs) (first_world p) run TickTotal ≤ MAX_TICKS → LeavesOn p inputs o
   pub only : (o' : Outcome) → LeavesOn p inputs o' → o ≡ o'
 
--- The piece has all of the yard's events, and the program's frames asked for each of them. On these inputs the course of the plan's run, which
--- is the program's on inputs of its own, ends with this result.
+-- The piece has all of the yard's events, and the program's frames requested each of them. The
+-- course that the plan's run has on these inputs ends with this result; `own` is the input of the
+-- plan's run.
 pub record IsWholeOf (p : Source) (own inputs : List ℤ) (y : YardValue) (r : Reducers) (x : PieceValue) (value : ℤ) : Type 0 where
   pub good : IsGood (run_of y r) x
   pub begins : x.from ≡ 1
@@ -54,11 +56,12 @@ pub record IsWholeOf (p : Source) (own inputs : List ℤ) (y : YardValue) (r : R
   pub result : (run : Transcript) (es : List Event) (opening : List ℤ) → IsPlannedRun p own run es opening
       → result_in (reverse (trace (courses.run_of (course_on p inputs (named p run))))) ≡ value
 
--- the story that the program makes of the plan on these inputs departs at the position
+-- the event order that the program makes of the plan on these inputs departs at the position
 abbrev pub DepartsOn : WholePlan → List ℤ → ℕ → Type 0
 DepartsOn w inputs p = (s : EventOrder) × (let t = w.story in IsEventOrderOn w.run t.opening inputs s) × Departs s p
 
--- The number of workers is a fault exactly where it is none; and where the input departs from the plan, it does.
+-- The number of workers is a fault exactly if it isn't allowed; and the input departs from the plan
+-- where the fault says so.
 abbrev pub IsFaultOn : WholePlan → List ℤ → ℕ → ThreadFault → Type 0
 IsFaultOn w inputs n faults.Memory = IsCrew n
 IsFaultOn w inputs n faults.Workers = IsCrew n → ⊥

@@ -1,4 +1,4 @@
--- Which reducers the frames of a program's run create.
+-- The reducers that the frames of a program's run create.
 use Rattle.std.specs.Prelude.{◌≡◌, ℕ, List, Some}
 use Rattle.cilk_program.specs.declared.ask.Callee.{Callee}
 use Rattle.cilk_program.specs.SerialRun.{Transcript}
@@ -12,11 +12,12 @@ use Rattle.cilk_runs.specs.Reducers.{kind_of}
 use Rattle.cilk_runs.specs.FrameEnvs.{before_own}
 use Rattle.cilk_determinacy.specs.Numbers.{all_reducers, frame_runs, instance_number, HasInstance}
 
--- those of a frame that runs this: the first frame creates the global ones before its own, and they outlive it
+-- the reducers of a frame that runs this: the root's frame creates the global ones before its own,
+-- and they outlive it
 abbrev pub reducers_of : Source → Callee → FrameReducers
 reducers_of p callee = record { kinds = all_reducers p callee; outlive = before_own p callee }
 
--- the table has those of each frame of the run, by the frame's number
+-- the table has the reducers of each frame of the run, by the frame's number
 abbrev pub AreReducersOf : Source → Transcript → Reducers → Type 0
 AreReducersOf p run r =
     (path : List ℕ) (block : Block) (callee : Callee) → frame_at p run path ≡ Some block → frame_runs run path ≡ Some callee

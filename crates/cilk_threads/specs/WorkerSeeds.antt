@@ -1,4 +1,4 @@
--- What a worker is sent.
+-- The seed that is sent to a worker.
 use Rattle.std.specs.Prelude.{◌≡◌, ◌≤◌, List, Option, Some, None, All, true, false}
 use Rattle.crossbeam_deque.specs.Handles.{Pass, view, IsPassOf, worker_flavor, worker_port, worker_view, stealer_deque}
 use Rattle.crossbeam_deque.specs.declared.handles.Worker.{Worker}
@@ -17,20 +17,21 @@ use Rattle.cilk_workers.specs.Keys.{AreKeys}
 use Rattle.cilk_threads.specs.declared.seeds.WorkerSeed.{WorkerSeed}
 
 module _ {A P : Type 0} where
-  -- a rack's own end
+  -- the deque of a rack, at its owner's end
   abbrev pub IsRack : Worker Task A Offers P → Type 0
   IsRack w = (worker_flavor w ≡ 1) × (worker_port w ≡ 0) × ((worker_view w).owner ≡ true)
 
-  -- another worker's end
+  -- the stealer of another worker's rack
   abbrev pub IsTake : Stealer Task A Offers P × Pass Task Offers A → Type 0
   IsTake t = IsPassOf (stealer_deque t.0) t.1 × ((view t.1).owner ≡ false)
 
--- a worker begins with an empty piece, or with one and a chain that stands at its next event
+-- a worker begins with an empty piece, or with a piece and a chain at its next event
 abbrev pub Begins : SharedValue → PieceValue → Option ChainValue → Type 0
 Begins y p None = OfRun y.run p × (p.upto ≤ p.from)
 Begins y p (Some c) = Works y (record { piece = p; chain = c })
 
 module _ {N Q A : Type 0} where
-  -- a worker begins with its own end of a rack, the other racks' other ends, a key of each lock, and its piece
+  -- a worker begins with its own rack, the stealers of the other racks, a key of each lock, and its
+  -- piece
   abbrev pub IsWorkerSeed : SharedValue → List (Slotted (Option Shelf) (Doing Shelf (Unit {0})) Q A) → WorkerSeed N → Type 0
   IsWorkerSeed y doors k = IsRack k.rack × All IsTake k.takes.items × AreKeys doors k.keys.items × Begins y k.piece k.chain

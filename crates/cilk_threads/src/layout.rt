@@ -1,14 +1,14 @@
-//! Where the blocks and the strands of a plan lie.
+//! The positions of the blocks and strands of a plan.
 
 use cilk_types::event::{Pos, StrandNo};
 
-/// Where the blocks and the strands of a plan lie.
+/// The positions of the blocks and strands of a plan.
 #[derive(Drop)]
 pub struct Layout<'a> {
     /// The position of each block's `sync`.
     pub syncs: &'a [Pos],
-    /// For each position its block; where it has none, a number past the last.
+    /// The block of each position; a number past the last block if it has none.
     pub of: &'a [u32],
-    /// For each position the strand that begins there; 0 where none does.
+    /// The strand that begins at each position, or 0.
     pub strands: &'a [StrandNo],
 }

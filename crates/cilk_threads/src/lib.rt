@@ -1,37 +1,37 @@
-//! A run of an accepted program by several workers, each in a thread of its own.
+//! Runs an accepted program by work stealing, with each worker in a thread of its own.
 //!
-//! [`threads::run_threads`] runs a program's plan on an input, that of the plan or another. Its Ok is what the program's serial elision
-//! leaves on that input, and so what each serial run there leaves that ends without a fault.
+//! [`threads::run_threads`] runs a program's plan on an input, the plan's own or another. On
+//! success it returns the outcome of the program's serial elision on that input, whatever was
+//! stolen. On another input the run may depart from the plan; then the answer is the position where
+//! it departs. Termination is not proved.
+//!
+//! The workers start in one scope. The first begins with the piece of the run's first event, and
+//! the others with empty pieces. One of them ends with the piece of the whole run, and its cells
+//! and views are the outcome.
+//!
+//! A piece has the reducer views of its own range alone, and yet a read of a reducer gives the
+//! serial value. In a run without a view-read race the read has the same peers as the reducer's
+//! creation (Lee and Schardl 2015), so nothing between the reducer's first event and the read is
+//! parallel to the read. [`laws`] states this for the accepted run and for each event order along
+//! its plan.
+//!
+//! | Item | Is |
+//! |---|---|
+//! | [`threads::run_threads`] | a run of a plan on an input |
+//! | [`run::run`] | the workers alone, from first piece to whole piece |
+//! | [`table::plan_reducers`] | the table of the reducers that each frame creates |
+//! | [`outcome::outcome`] | the outcome of a run, from the piece of all its events |
+//! | [`ThreadFault`] | out of memory, a wrong number of workers, or a departure |
+//! | [`Gate`], [`Open`] | a hook that is called as each strand begins; one that does nothing |
 //!
 //! ```text
 //! let plan = plan(alloc, &accepted)?;
 //! match run_threads(rt, alloc, &plan, &input, 4, &Open) {
-//!     Ok(outcome) => ..,                               // what the program leaves on the input
-//!     Err(ThreadFault::Departs(at)) => ..,             // the input departs from the plan there
+//!     Ok(outcome) => ..,                       // what the program gives on the input
+//!     Err(ThreadFault::Departs(at)) => ..,     // the input departs from the plan there
 //!     Err(fault) => ..,
 //! }
 //! ```
-//!
-//! Workers, each in a thread of its own.
-//!
-//! [`run::run`] starts some workers in a scope, and joins them. The first begins with the piece of the run's first event, and the others
-//! with empty ones. One of them ends with the piece of the whole run, or the run departs from its plan, or there was no memory. Which
-//! worker did what is not told.
-//!
-//! ```text
-//! match run(rt, alloc, &shared, &layout, &gate, work, 4) {
-//!     Ok((piece, value)) => ..,                        // from the first event past the last, and the run's result
-//!     Err(ThreadFault::Departs(at)) => ..,             // the run departs from the plan there
-//!     Err(fault) => ..,
-//! }
-//! ```
-//!
-//! The reducers of an accepted run: their table, and that the run's views are settled.
-//!
-//! While a program runs in parallel, a worker's piece has the views of its own range alone. Such a piece gives the run's value of a reducer
-//! where nothing between the reducer's first event and the read of it runs beside that read. So it is in a run without a view-read race
-//! (Lee and Schardl 2015): the read has the peers of the reducer's creation. [`laws`] says it of each such run, and of each story along
-//! its plan. [`table::plan_reducers`] makes the table of the frames' reducers, which pieces are given.
 #![tactic(auto)]
 
 pub mod laws;

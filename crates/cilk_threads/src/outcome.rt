@@ -1,4 +1,4 @@
-//! What a run leaves, from the piece of all its events.
+//! The outcome of a run, from the piece of all its events.
 
 ghost use Rattle.std.specs.Prelude.{◌≡◌, ◌+◌, ◌≤◌, ℕ, pos, [], length, slice_index_or, IfOk};
 ghost use Rattle.cilk_lower.specs.Layout.{LaysOut};
@@ -14,9 +14,10 @@ use cilk_shared::yard::Yard;
 use cilk_types::outcome::Outcome;
 use std::alloc::{AllocError, Global};
 
-/// What a run leaves whose root gave this result, where the piece covers all its events: the last values of the yard's cells, and of the
-/// views in the piece. The run by names along the plan leaves the same on that input, and so does each serial run with these events.
-/// Cost and memory: linear in the yard and the views.
+/// Returns the outcome of a run whose root returned `value`: the last values of the yard's cells
+/// and of the views in the piece, which covers all events. The run by names along the plan has this
+/// outcome on that input, and so does each serial run with these events. Cost and memory: linear in
+/// the yard and the views.
 pub fn outcome(
     alloc: Global,
     program: &Program,

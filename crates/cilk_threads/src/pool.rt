@@ -1,4 +1,4 @@
-//! A crew of workers, each in a thread of its own.
+//! A pool of workers, each in a thread of its own.
 
 ghost use Rattle.std.specs.Prelude.{◌≡◌, All, Some, IfOk, IfSome};
 ghost use Rattle.std.specs.Thread.{IsSend, IsSync};
@@ -27,7 +27,7 @@ use std::sync::atomic::{AtomicBool, Ordering};
 use std::thread;
 use std::thread::{Promise, PromisedHandle, Threads};
 
-/// What the end of a worker's thread is known by.
+/// The promise of a worker's thread: its exit reason is a true one of this run.
 #[derive(Clone, Copy)]
 pub struct Ends<'a, 'b> {
     shared: &'a Shared<'b>,
@@ -39,7 +39,7 @@ impl<'a, 'b> Promise<ExitReason> for Ends<'a, 'b> {
     ghost kept_by = { λ p r. IsExitReason p.shared.now r };
 }
 
-// The others' ends.
+// The stealers of the other workers' racks.
 fn pickers<N: Naming>(alloc: Global, takes: Vec<Take<N>>) -> Result<Vec<Picker<N>>, AllocError>
     requires { All IsTake takes.items }
 {
@@ -50,7 +50,7 @@ fn pickers<N: Naming>(alloc: Global, takes: Vec<Take<N>>) -> Result<Vec<Picker<N
     Ok(all)
 }
 
-/// A worker, from the parts that were sent to its thread, up to its end.
+/// Runs a worker to its end, from the parts that were sent to its thread.
 pub fn worker<'a, N: Naming, R: Wait, G: Gate>(
     rt: &R,
     alloc: Global,
@@ -110,7 +110,7 @@ pub fn worker<'a, N: Naming, R: Wait, G: Gate>(
     station.work(&mut tools, stop, hand)
 }
 
-// The better of two ends.
+// The better of two exit reasons: the first, unless it is `Stopped`.
 fn better(shared: &Shared<'_>, one: ExitReason, other: ExitReason) -> ExitReason
     requires { IsExitReason shared.now one × IsExitReason shared.now other }
     ensures { IsExitReason shared.now result }
@@ -122,7 +122,7 @@ fn better(shared: &Shared<'_>, one: ExitReason, other: ExitReason) -> ExitReason
     }
 }
 
-// The last of the handles comes out.
+// Pops the last handle.
 fn last_handle<'a, 'b>(
     shared: &Shared<'_>,
     handles: &mut Vec<PromisedHandle<ExitReason, Ends<'a, 'b>>>,
@@ -135,7 +135,7 @@ fn last_handle<'a, 'b>(
     handles.pop()
 }
 
-// The best end of the threads.
+// Joins the threads, and returns their best exit reason.
 fn joined<'a, 'b, R: Threads>(
     rt: &R,
     shared: &Shared<'_>,
@@ -154,7 +154,7 @@ fn joined<'a, 'b, R: Threads>(
     best
 }
 
-// The last of the kits comes out.
+// Pops the last worker seed.
 fn last_kit<N: Naming>(
     shared: &Shared<'_>,
     doors: &Vec<Lock<N>>,
@@ -169,7 +169,7 @@ fn last_kit<N: Naming>(
     kits.pop()
 }
 
-// One worker for each kit. A thread that is refused stops the others.
+// Starts one worker per seed and joins them. If a thread can't be started, the others are stopped.
 fn crew<'a, 'b, N: Naming + Send + Sync, R: Threads + Wait + Sync, G: Gate + Sync>(
     rt: &R,
     alloc: Global,
@@ -217,7 +217,7 @@ fn crew<'a, 'b, N: Naming + Send + Sync, R: Threads + Wait + Sync, G: Gate + Syn
                     stop.store(true, Ordering::SeqCst);
                     return Err(AllocError);
                 };
-                // There is room for each handle.
+                // The vector has room for each handle.
                 handles.push(handle)?;
             }
             Ok(joined(rt, shared, handles))
@@ -225,7 +225,7 @@ fn crew<'a, 'b, N: Naming + Send + Sync, R: Threads + Wait + Sync, G: Gate + Syn
     )
 }
 
-/// The best end of some workers.
+/// Runs `count` workers, and returns their best exit reason. The first of them begins with `work`.
 pub fn crewed<N: Naming + Send + Sync, R: Threads + Wait + Sync, G: Gate + Sync>(
     rt: &R,
     alloc: Global,

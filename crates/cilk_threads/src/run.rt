@@ -1,4 +1,4 @@
-//! A run of a plan by several workers.
+//! The workers of a run, from their start to their end.
 
 ghost use Rattle.std.specs.Prelude.{◌≡◌, All, Some, IfOk, IfErr};
 ghost use Rattle.cilk_tree.specs.Word.{event};
@@ -24,13 +24,13 @@ use std::sync::Wait;
 use std::thread::Threads;
 use thiserror::Error;
 
-/// The most workers that may run together.
+/// The greatest number of workers in a run.
 pub const MAX_WORKERS: u32 = 64;
 
 /// Why a run has no outcome.
 #[derive(Drop, Debug, Error)]
 pub enum ThreadFault {
-    /// There was no memory, or no thread.
+    /// Out of memory, or a thread could not be started.
     #[error("there is no memory for the run, or no thread")]
     Memory,
     /// The number of workers is not from 1 to 64.
@@ -42,7 +42,8 @@ pub enum ThreadFault {
 }
 
 impl ThreadFault {
-    /// The number by which it is reported: 401 for memory, 501 for the number of workers, 502 where the input departs.
+    /// Returns the number by which the fault is reported: 401 for memory, 501 for the number of
+    /// workers, 502 where the input departs.
     pub fn number(&self) -> u16
         ensures { result ≡ number_of self.now }
     {
@@ -54,7 +55,7 @@ impl ThreadFault {
     }
 }
 
-// The workers of a run that is named.
+// The workers of a run that `N` names.
 fn run_as<N: Naming + Send + Sync, R: Threads + Wait + Sync, G: Gate + Sync>(
     rt: &R,
     alloc: Global,
@@ -79,8 +80,8 @@ fn run_as<N: Naming + Send + Sync, R: Threads + Wait + Sync, G: Gate + Sync>(
     }
 }
 
-/// Runs the plan by some workers, from what the first has behind the run's first event. Ok is the piece of the
-/// whole run, and its result.
+/// Runs the plan on `workers` workers, 1 to 64. `work` is what the first one begins with, after the
+/// run's first event. Returns the piece of the whole run, and the run's result.
 pub fn run<R: Threads + Wait + Sync, G: Gate + Sync>(
     rt: &R,
     alloc: Global,

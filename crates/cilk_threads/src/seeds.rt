@@ -1,4 +1,4 @@
-//! What each worker of a crew begins with.
+//! Worker seeds: the parts with which each worker of the pool begins.
 
 ghost use Rattle.std.specs.Prelude.{◌≡◌, ◌*◌, ◌<◌, ◌≤◌, All, Some, length, IfOk, OnOk, IfSome};
 ghost use Rattle.cilk_workers.specs.Rows.{OfRun};
@@ -19,10 +19,10 @@ use crossbeam_deque::Pass;
 use std::alloc::{AllocError, Global};
 use std::sync::Wait;
 
-/// Another worker's end of a rack, in its parts.
+/// The stealer of another worker's rack, in its parts.
 pub type Take<N> = (Takes<N>, Pass<Task, Offers>);
 
-/// What a worker begins with, in the parts that may be sent to a thread.
+/// The parts with which a worker begins, in a form that may be sent to a thread.
 #[derive(Drop)]
 pub struct WorkerSeed<N: Naming> {
     pub worker: u32,
@@ -33,7 +33,8 @@ pub struct WorkerSeed<N: Naming> {
     pub chain: Option<Chain>,
 }
 
-/// How many shelves the join boxes of so many blocks lie on: enough that no shelf has more than 64 boxes, and that workers seldom meet at one.
+/// Returns the number of shelves for the join boxes of `blocks` blocks: enough that no shelf has
+/// more than 64 boxes, and that workers seldom meet at one.
 pub fn shelves(blocks: usize) -> usize
     ensures { blocks ≤ 64 * result }
 {
@@ -41,7 +42,7 @@ pub fn shelves(blocks: usize) -> usize
     few + blocks / 64
 }
 
-/// So many locks, each with an empty shelf, and a first key of each.
+/// Makes `count` locks, each with an empty shelf, and a first key of each.
 #[tactic(auto, using(cilk_workers::proofs::Keys::doors_more))]
 pub fn doors<N: Naming, R: Wait>(
     rt: &R,
@@ -75,7 +76,7 @@ fn one_more<N: Naming>(doors: &Vec<Lock<N>>, keys: &mut Vec<Key>, at: usize) -> 
     another(door, key)
 }
 
-/// Keys for one more worker.
+/// Makes the keys for one more worker, one for each lock.
 #[tactic(auto, using(cilk_workers::proofs::Keys::keys_more, cilk_workers::proofs::Keys::keys_all))]
 pub fn more<N: Naming>(
     alloc: Global,
@@ -93,7 +94,7 @@ pub fn more<N: Naming>(
     Ok(all)
 }
 
-// The other end of the rack at a place is put behind the others, but for one rack.
+// Appends the stealer of the rack at a place, unless it is the rack `but`.
 #[tactic(auto, using(crate::proofs::Sent::takes_more))]
 fn put<N: Naming>(
     all: &mut Vec<Take<N>>,
@@ -115,7 +116,7 @@ fn put<N: Naming>(
     Ok(())
 }
 
-/// The ends of all racks but one.
+/// Returns the stealers of all racks except `but`.
 pub fn takes<N: Naming>(
     alloc: Global,
     racks: &mut Vec<Rack<N>>,
@@ -131,10 +132,11 @@ pub fn takes<N: Naming>(
     Ok(all)
 }
 
-/// The tasks that a rack has room for at first. It grows where a worker has more spawned frames at once.
+/// The number of tasks that a rack has room for at first. It grows when a worker has more spawned
+/// frames at once.
 const ROOM: usize = 64;
 
-/// A rack for each worker.
+/// Makes a rack for each worker.
 pub fn racks<N: Naming>(alloc: Global, count: u32) -> Result<Vec<Rack<N>>, AllocError> {
     let mut all = Vec::new(alloc);
     for _ in 0..count {
@@ -143,7 +145,7 @@ pub fn racks<N: Naming>(alloc: Global, count: u32) -> Result<Vec<Rack<N>>, Alloc
     Ok(all)
 }
 
-/// For each rack the ends of the others.
+/// Returns, for each rack, the stealers of the others.
 pub fn ends<N: Naming>(
     alloc: Global,
     racks: &mut Vec<Rack<N>>,
@@ -157,7 +159,7 @@ pub fn ends<N: Naming>(
     Ok(all)
 }
 
-// What the first worker begins with, and an empty piece.
+// The first worker's work, and an empty piece.
 fn parted(alloc: Global, shared: &Shared<'_>, work: Work) -> (Work, Piece)
     requires { Works shared.now work }
     ensures work { Works shared.now result.0 }
@@ -168,7 +170,7 @@ fn parted(alloc: Global, shared: &Shared<'_>, work: Work) -> (Work, Piece)
     (Work { piece, chain }, spare)
 }
 
-// An empty piece for another worker, beside one for this.
+// Two empty pieces: one for a worker, and one to make more of.
 fn halved(alloc: Global, shared: &Shared<'_>, spare: Piece) -> (Piece, Piece)
     requires { OfRun shared.now.run spare × (spare.upto ≤ spare.from) }
     ensures one { OfRun shared.now.run result.0 × (result.0.upto ≤ result.0.from) }
@@ -177,7 +179,8 @@ fn halved(alloc: Global, shared: &Shared<'_>, spare: Piece) -> (Piece, Piece)
     spare.apart(alloc, shared.yard(), shared.reducers())
 }
 
-// What a worker begins with: what the first has, or an empty piece; and an empty piece for the next.
+// The piece and chain with which a worker begins: those of `first`, or an empty piece without a
+// chain. The third is an empty piece for the next worker.
 fn begins(
     alloc: Global,
     shared: &Shared<'_>,
@@ -198,7 +201,7 @@ fn begins(
     }
 }
 
-// The last of the ends comes out.
+// Pops the last list of stealers.
 fn last_ends<N: Naming>(ends: &mut Vec<Vec<Take<N>>>) -> Option<Vec<Take<N>>>
     requires { All (λ ts. All IsTake ts.items) ends.old.items }
     ensures rest { All (λ ts. All IsTake ts.items) ends.new.items }
@@ -207,7 +210,7 @@ fn last_ends<N: Naming>(ends: &mut Vec<Vec<Take<N>>>) -> Option<Vec<Take<N>>>
     ends.pop()
 }
 
-// One more kit.
+// Appends a worker seed.
 fn equip<N: Naming>(
     shared: &Shared<'_>,
     doors: &Vec<Lock<N>>,
@@ -224,7 +227,7 @@ fn equip<N: Naming>(
     Ok(())
 }
 
-/// A kit for each worker, as far as there are racks; the first has the work.
+/// Makes a seed for each worker, as long as there are racks. The first one has the work.
 pub fn kits<N: Naming>(
     alloc: Global,
     shared: &Shared<'_>,

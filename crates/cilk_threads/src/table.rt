@@ -17,8 +17,8 @@ use cilk_types::sequence::Sequence;
 use std::alloc::{AllocError, Global};
 use std::snapshot::Snapshot;
 
-/// The reducers that each frame of an accepted run creates. The reducers of the run are settled along its plan, on any input. Cost and
-/// memory: linear in the frames and their reducers.
+/// Returns the reducers that each frame of an accepted run creates. They are settled along the
+/// run's plan on any input. Cost and memory: linear in the frames and their reducers.
 pub fn plan_reducers(alloc: Global, plan: &ProgramPlan<'_>) -> Result<Reducers, AllocError>
     ensures table { IfOk result (λ r. IsTableOf plan.now.run r) }
     ensures few { IfOk result (λ r. HasFew r) }
@@ -51,7 +51,7 @@ fn laid(
     })
 }
 
-// Those of the first frame: the global ones, then its own.
+// The reducers of the root's frame: the global ones, then its own.
 fn of_root(alloc: Global, program: &Program) -> Result<FrameReducers, AllocError>
     ensures { IfOk result (λ o. o ≡ reducers_of (source program.now) Root) }
 {
@@ -68,7 +68,7 @@ fn of_root(alloc: Global, program: &Program) -> Result<FrameReducers, AllocError
     })
 }
 
-// Those of any other frame with this body.
+// The reducers of any other frame with this body.
 fn of_body(alloc: Global, program: &Program, body: Body) -> Result<FrameReducers, AllocError>
     ensures { IfOk result (λ o. o ≡ reducers_in (source program.now) body) }
 {

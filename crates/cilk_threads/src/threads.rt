@@ -36,10 +36,13 @@ use std::alloc::{AllocError, Global};
 use std::sync::Wait;
 use std::thread::Threads;
 
-/// Runs an accepted program along its plan by some workers, from 1 to 64, each in a thread of its own; on an input, that of the plan or
-/// another. Ok is what the program's serial elision leaves on that input, and so what each serial run there leaves that ends without a
-/// fault; on the plan's own it is what the accepted run left. A run on the plan's own input departs from it nowhere. A gate is called as
-/// each strand begins. It is not said that it returns.
+/// Runs an accepted program along its plan on an input, the plan's own or another, with 1 to 64
+/// workers, each in a thread of its own.
+///
+/// Returns the outcome of the program's serial elision on that input. Each serial run on that input
+/// that ends without a fault has this outcome. On the plan's own input it is the accepted run's
+/// outcome, and the run departs nowhere. `gate` is called as each strand begins. Termination is not
+/// proved.
 pub fn run_threads<R: Threads + Wait + Sync, G: Gate + Sync>(
     rt: &R,
     alloc: Global,
@@ -75,7 +78,7 @@ pub fn run_threads<R: Threads + Wait + Sync, G: Gate + Sync>(
     }
 }
 
-// The piece of the whole run, and its result.
+// Runs the workers, and returns the piece of the whole run with its result.
 fn run_on<R: Threads + Wait + Sync, G: Gate + Sync>(
     rt: &R,
     alloc: Global,
@@ -128,7 +131,7 @@ fn course_on(
     course(alloc, plan, yard, same)
 }
 
-// The same input once more. No input has more numbers than one may have.
+// A copy of the input. No input has more than `MAX_INPUTS` numbers.
 fn copied(alloc: Global, input: &Input) -> Result<Input, AllocError>
     ensures { IfOk result (λ same. same ≡ input.now) }
 {
@@ -143,7 +146,7 @@ fn copied(alloc: Global, input: &Input) -> Result<Input, AllocError>
     Ok(Input::new(numbers))
 }
 
-// What the whole piece leaves.
+// The outcome, from the piece of the whole run.
 fn left(
     alloc: Global,
     plan: &ProgramPlan<'_>,

@@ -1,10 +1,12 @@
--- What is shown of an accepted program that workers run.
+-- The answer for an accepted program that workers run.
 --
--- - `departs`: numbers depart from the plan of its run; `ran`, `starved`: workers left something, or memory was refused;
--- - `own_numbers`, `named_numbers`: the numbers on which it is run; `ungiven`: they aren't given;
--- - `runs`, `fails`: what the run on given numbers shows;
--- - `with_run_ok`, `with_run_err`, `beside`: what is shown of the program whose certificate is accepted, over the files as they were;
--- - `earlier_ok`, `earlier_err`: the same by what was known before its texts were read; `judged_ok`: the answer to the command.
+-- - `departs`: numbers depart from the plan of its run;
+-- - `ran`, `starved`: the workers' outcome, or out of memory;
+-- - `own_numbers`, `named_numbers`: the numbers of the run; `ungiven`: their file is at fault;
+-- - `runs`, `fails`: the answer of the run on given numbers;
+-- - `with_run_ok`, `with_run_err`, `beside`: the same, over unchanged files;
+-- - `earlier_ok`, `earlier_err`: the same by what was known before its texts were read;
+-- - `judged_ok`: the answer to the command.
 use Rattle.std.proofs.Common.{◌≡◌, ℕ, List, [], ◌∷◌, Option, Some, None, option_map, refl, sym, ap, subst, inl, inr, ◌∙◌}
 use Rattle.std.specs.Prelude.{◌≢◌, ℤ, Result, Ok, Err, IfOk, IfErr}
 use Rattle.std.specs.Borrow.{Bor}
@@ -32,7 +34,7 @@ use Rattle.cilk_tool.specs.Shown.{AcceptedShow, DepartsFrom, GivesNumbers, IsAcc
 use Rattle.cilk_tool.specs.Words.{Requested}
 use Rattle.cilk_tool.specs.declared.running.Ending.{Ending}
 
--- where numbers depart from the plan of an accepted run, they depart from the run
+-- numbers that depart from the plan of an accepted run depart from the run
 pub departs : (w : WholePlan) (a : AcceptedRun) (numbers : List ℤ) (workers : ℕ) (f : ThreadFault) (at place : ℕ) → w.run ≡ a
     → f ≡ faults.Departs at → at ≡ place → IsPlanOf w.run w.story → IsFaultOn w numbers workers f → (numbers ≡ w.run.input → NamesNoPosition f)
     → RunShows a (meant a.program) numbers workers (Refused departed (place ∷ []))
@@ -45,7 +47,7 @@ departs w a numbers workers f at place of is same plan h stays =
       (at, ap (λ (p : ℕ). p ∷ []) (sym same), subst (λ (b : AcceptedRun). DepartsFrom b numbers at) of (w.story, plan, there.1)),
     )
 
--- workers left this
+-- the outcome of the workers
 pub ran : {T : Type 0} (w : WholePlan) (a : AcceptedRun) (numbers : List ℤ) (workers : ℕ) (o : Outcome) (x : Result Ending T) → w.run ≡ a
     → IsCrew workers × IsOutcomeOn (source w.run.program) numbers o → (numbers ≡ w.run.input → o ≡ w.run.outcome)
     → IfOk x (λ e. let m = meant a.program in ending_view e ≡ Ended m.names o)
@@ -60,19 +62,19 @@ ran w a numbers workers o (Ok e) of ok own is =
     ) in
     subst (λ (r : Reply). RunShows a (meant a.program) numbers workers r) (sym is) shown
 
--- memory was refused
+-- out of memory
 pub starved : {T : Type 0} (a : AcceptedRun) (numbers : List ℤ) (workers : ℕ) (x : Result T Failure) → IfErr x (λ f. failure_view f ≡ NoMemory)
     → IfErr x (λ f. RunShows a (meant a.program) numbers workers (failure_view f))
 starved a numbers workers (Ok e) h = tt
 starved a numbers workers (Err f) h = subst (λ (r : Reply). RunShows a (meant a.program) numbers workers r) (sym h) tt
 
--- an accepted run's own numbers, where no file is named
+-- the accepted run's own numbers, if no file is given
 pub own_numbers : (files : Text → Option Text) (on : Option (Bor Text)) (own numbers : List ℤ) → on ≡ None → numbers ≡ own
     → GivesNumbers files (option_map (λ p. p.now) on) own numbers
 own_numbers files on own numbers e same =
     subst (λ (o : Option (Bor Text)). GivesNumbers files (option_map (λ p. p.now) o) own numbers) (sym e) same
 
--- those of a file that is named
+-- those of a given file
 pub named_numbers : (files : Text → Option Text) (on : Option (Bor Text)) (path : Bor Text) (own numbers : List ℤ) → on ≡ Some path
     → GivesNumbers files (Some path.now) [] numbers → GivesNumbers files (option_map (λ p. p.now) on) own numbers
 named_numbers files on path own numbers e given =
@@ -80,14 +82,14 @@ named_numbers files on path own numbers e given =
 
 -- the numbers of a file
 module _ (files : Text → Option Text) (failed failed' : Failures) where
-  -- what is shown where they aren't given
+  -- the answer if their file is at fault
   pub ungiven : (path : Bor Text) (on : Option (Bor Text)) (workers : ℕ) (a : AcceptedRun) (m : Meant) (r : Reply) → on ≡ Some path
       → AreNotGiven files failed failed' path.now r → AcceptedShow files failed failed' (option_map (λ p. p.now) on) workers a m r
   ungiven path on workers a m r e (inl h) =
       NumbersUnread (subst (λ (o : Option (Bor Text)). InputFileFails failed failed' (option_map (λ p. p.now) o) r) (sym e) h)
   ungiven path on workers a m r e (inr h) = NumbersRefused path.now h.0 (ap (option_map (λ (p : Bor Text). p.now)) e) h.1 h.2
 
-  -- what the run shows on numbers that are given
+  -- the answer of the run on given numbers
   pub runs : {T : Type 0} (x : Result Ending T) (on : Option Text) (numbers : List ℤ) (workers : ℕ) (a : AcceptedRun) (m : Meant)
       → GivesNumbers files on a.input numbers → IfOk x (λ e. RunShows a m numbers workers (ending_view e))
       → IfOk x (λ e. AcceptedShow files failed failed' on workers a m (ending_view e))
@@ -115,7 +117,7 @@ same_accepted files files' failed failed' on workers a m r same (NumbersRefused 
 same_accepted files files' failed failed' on workers a m r same (Ran numbers given h) =
     Ran numbers (same_numbers files files' on a.input numbers same given) h
 
--- what is shown of an accepted program
+-- the answer for an accepted program
 module _ (files files' : Text → Option Text) (failed accepted failed' : Failures) (asked : Requested) (m : Meant) (inputs : List ℤ) (a : AcceptedRun)
     (is : IsAcceptedRun m inputs (files asked.certificate) a) (unfailed : IsUnfailed failed accepted asked.certificate)
     (same : (path : Text) → asked.on ≡ Some path → files' path ≡ files path) where
@@ -134,7 +136,7 @@ module _ (files files' : Text → Option Text) (failed accepted failed' : Failur
   with_run_err (Ok e) h = tt
   with_run_err (Err f) h = with_run (failure_view f) h
 
--- a verdict that accepts
+-- an accepting verdict
 pub accepts : (m : Meant) (inputs : List ℤ) (path : Text) (known other other' : Option Text) (failed accepted : Failures) (v : Verdict) (a : AcceptedRun)
     → v ≡ verdicts.Accepted a → IsVerdict path known failed accepted m inputs v → StaysBeside failed accepted path other other' v
     → IsAcceptedRun m inputs known a × IsUnfailed failed accepted path × (other' ≡ other)
@@ -142,7 +144,7 @@ accepts m inputs path known other other' failed accepted v a e is stays =
     let left : IsUnfailed failed accepted path × (other' ≡ other) = subst (λ (x : Verdict). StaysBeside failed accepted path other other' x) e stays in
     (subst (λ (x : Verdict). IsVerdict path known failed accepted m inputs x) e is, left.0, left.1)
 
--- the other file that is named holds what it held
+-- the other file's contents are the same
 pub beside : (files files' : Text → Option Text) (on : Option (Bor Text)) (certificate other : Bor Text) → other ≡ unwrap_or on certificate
     → files' other.now ≡ files other.now → (path : Text) → option_map (λ p. p.now) on ≡ Some path → files' path ≡ files path
 beside files files' None certificate other e same path h = absurd (cc h)

@@ -1,7 +1,8 @@
--- From clap's matches to what `check` is asked, and by how many helpers.
+-- From clap's matches to an order of `check` with helpers.
 --
--- - `no_texts`, `by_helpers`, `by_file`: what is asked by the matches;
--- - `free_shape`, `order_of_matches`, `order_of_refused`, `order_found`, `order_lost`: words that clap matches or refuses, and what they ask for.
+-- - `no_texts`, `by_helpers`, `by_file`: the order in the matches;
+-- - `free_shape`, `order_of_matches`, `order_of_refused`, `order_found`, `order_lost`: the order
+--   of words that clap matches or refuses.
 use Rattle.std.proofs.Common.{◌≡◌, ℕ, List, [], Option, Some, None, option_map, option_and_then, refl, sym, ap, ◌∙◌, subst, codes, true, inl, inr}
 use Rattle.std.specs.Prelude.{if◌then◌else◌}
 use Rattle.std.specs.Borrow.{Bor}
@@ -21,7 +22,7 @@ use Rattle.cilk_tool.specs.CheckWords.{Helped, IsWordsFault, check_by, check_in,
 use Rattle.cilk_tool.specs.Words.{texts_in, texts_view}
 use Rattle.cilk_tool.specs.declared.check_words.CheckOrder.{CheckOrder}
 
--- what is asked by these texts
+-- the order of these texts
 abbrev pub with_texts : List Row → Option ℕ → Option (Text × Text) → Option Helped
 with_texts rows helpers t = option_and_then (λ t. option_map (λ helpers. helped t (first_of (codes "input") rows) helpers) helpers) t
 
@@ -76,6 +77,6 @@ pub order_found : (o : Option CheckOrder) (p : CheckOrder) (words : List Text) �
     → check_in words ≡ Some (check_view p)
 order_found o p words h e = h ∙ ap (option_map check_view) e
 
--- nothing is asked for
+-- there is no order
 pub order_lost : (o : Option CheckOrder) (words : List Text) → check_in words ≡ option_map check_view o → o ≡ None → check_in words ≡ None
 order_lost o words h e = h ∙ ap (option_map check_view) e

@@ -1,9 +1,10 @@
--- How the reply to words of `check` that name helpers comes about.
+-- The reply to a command line of `check` with helpers.
 --
--- - `answered`: what is answered to what the words ask for; `no_words`: to words that ask for nothing;
--- - `fails`, `ends`: a failure, or an answer, is served; `starved`: a want of memory is;
--- - `told_status`: the status is that of what was shown; `asked`: words that ask for something aren't words that ask for nothing; `unasked`: words that clap
---   refuses ask for nothing.
+-- - `answered`: the answer to an order; `no_words`: words without an order;
+-- - `fails`, `ends`: a failure, or an answer, is served; `starved`: out of memory;
+-- - `told_status`: the status is that of what was shown;
+-- - `asked`: words with an order aren't words without one;
+-- - `unasked`: words with a usage error have no order.
 use Rattle.std.proofs.Common.{◌≡◌, ℕ, List, Bool, true, Option, Some, None, refl, sym, ap, subst, inl, inr, ◌∙◌}
 use Rattle.std.proofs.lemmas.Bool.{true≢false}
 use Rattle.std.specs.Prelude.{IsSome}
@@ -56,11 +57,11 @@ pub told_status : (words : List Text) (w : Surroundings) (status status' : ℕ) 
     → ServesHelped words w status told o o' e e' → status' ≡ status → ServesHelped words w status' told o o' e e'
 told_status words w status status' told o o' e e' h same = subst (λ (s : ℕ). ServesHelped words w s told o o' e e') (sym same) h
 
--- words that ask for something aren't words that ask for nothing
+-- words with an order aren't words without one
 pub asked : (asked : Option Helped) (r : Helped) → asked ≡ Some r → asked ≡ None → ⊥
 asked a r some none = true≢false (sym (subst IsSome (sym some ∙ none) refl))
 
--- words that clap refuses ask for nothing
+-- words with a usage error have no order
 pub unasked : (words : List Text) (e : WordsFault) → IsUsage e → IsWordsFault words e → check_in words ≡ None
 unasked words (faults.Usage text) u h = h
 unasked words faults.Memory u h = absurd u

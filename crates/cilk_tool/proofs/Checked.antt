@@ -1,6 +1,7 @@
--- What the check of a certificate comes to.
+-- The result of the check of a certificate.
 --
--- - `stays`: where it is accepted, no read failed, and what another file holds is still known; `fails`, `unread`: its file can't be read;
+-- - `stays`: if it is accepted, no read failed, and another file's contents are still known;
+-- - `fails`, `unread`: its file can't be read;
 -- - `refuses`: why it is refused.
 use Rattle.std.proofs.Common.{◌≡◌, List, Option, refl, sym, ap, subst, ◌∙◌}
 use Rattle.std.specs.Prelude.{◌≢◌, ◌<◌, ℤ}
@@ -27,7 +28,7 @@ unchanged f g files files' p q o n path other here there kept =
     let beside : n ≡ other = same.other ∙ there in
     (sym (ap g.elsewhere own) ∙ same.first ∙ ap f.elsewhere here, sym (ap files' beside) ∙ same.known ∙ ap files there)
 
--- a source of a certificate, over files that are as they were before, and that are given back as it left them
+-- a source of a certificate, over files that are given back as the source left them
 module _ {F : Type 0} (failed : F → Failures) (holds : F → Text → Option Text) (old made new last : F) (p q o n path other : Text) (same : made ≡ old)
     (here : p ≡ path) (there : o ≡ other) (kept : kept_of (failed new) q n (holds new n) ≡ kept_of (failed made) p o (holds made o)) (given : last ≡ new) where
   over : ((failed last).elsewhere path ≡ (failed old).elsewhere path) × (holds last other ≡ holds old other)
@@ -36,7 +37,7 @@ module _ {F : Type 0} (failed : F → Failures) (holds : F → Text → Option T
       (subst (λ (y : F). kept_of (failed y) q n (holds y n) ≡ kept_of (failed old) p o (holds old o)) (sym given)
       (subst (λ (x : F). kept_of (failed new) q n (holds new n) ≡ kept_of (failed x) p o (holds x o)) same kept))
 
-  -- nothing failed, and another file holds what it held
+  -- nothing failed, and the other file's contents are the same
   pub stays : (failed new).count ≡ (failed made).count → IsUnfailed (failed old) (failed last) path × (holds last other ≡ holds old other)
   stays count =
       let counts : (failed last).count ≡ (failed old).count =

@@ -1,8 +1,9 @@
--- From clap's matches to what is asked for.
+-- From clap's matches to an order.
 --
--- - `no_program`, `no_certificate`, `both_texts`: the texts that matches name;
--- - `no_texts`, `no_workers`, `all_there`: what is asked by them;
--- - `free_shape`, `order_of_matches`, `order_of_refused`, `order_found`, `order_lost`: words that clap matches or refuses, and what they ask for.
+-- - `no_program`, `no_certificate`, `both_texts`: the texts in the matches;
+-- - `no_texts`, `no_workers`, `all_there`: the order of these texts;
+-- - `free_shape`, `order_of_matches`, `order_of_refused`, `order_found`, `order_lost`: the order
+--   of words that clap matches or refuses.
 use Rattle.std.proofs.Common.{◌≡◌, ℕ, List, [], ◌∷◌, Option, Some, None, option_map, option_and_then, refl, sym, ap, ap₂, ◌∙◌, subst, codes, true, false, inl, inr, rules}
 use Rattle.std.specs.Prelude.{if◌then◌else◌}
 use Rattle.std.specs.Borrow.{Bor}
@@ -44,7 +45,7 @@ both_texts f o i p q h e k d =
     ap (with_program (rows_of f)) (named f (codes "program") o h ∙ ap (option_map (λ (s : Bor Text). s.now)) e)
     ∙ ap (option_map (λ (certificate : Text). (p.now, certificate))) (named f (codes "certificate") i k ∙ ap (option_map (λ (s : Bor Text). s.now)) d)
 
--- what is asked by these texts
+-- the order of these texts
 abbrev pub with_texts : List Row → Option ℕ → Option (Text × Text) → Option Requested
 with_texts rows workers t =
     option_and_then (λ t. option_map (λ workers. requested t workers (first_of (codes "input") rows) (first_of (codes "on") rows)) workers) t
@@ -105,6 +106,6 @@ order_of_refused c words e shape kinds (Usage text) r =
 pub order_found : (o : Option Order) (p : Order) (words : List Text) → order_in words ≡ option_map order_view o → o ≡ Some p → order_in words ≡ Some (order_view p)
 order_found o p words h e = h ∙ ap (option_map order_view) e
 
--- nothing is asked for
+-- there is no order
 pub order_lost : (o : Option Order) (words : List Text) → order_in words ≡ option_map order_view o → o ≡ None → order_in words ≡ None
 order_lost o words h e = h ∙ ap (option_map order_view) e

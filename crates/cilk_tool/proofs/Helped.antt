@@ -1,6 +1,6 @@
--- What is shown of a certificate whose file is read twice.
+-- The answer for a certificate whose file is read twice.
 --
--- - `since_ok`, `since_err`: what is shown of the second reading, by what was known before the first;
+-- - `since_ok`, `since_err`: the answer of the second reading, by what was known before the first;
 -- - `certifies`: the text that is read is certified.
 use Rattle.std.proofs.Common.{◌≡◌, ℕ, List, Option, Some, None, drop, option_map, refl, subst, ◌∙◌}
 use Rattle.std.specs.Prelude.{◌<◌, ℤ, Result, Ok, Err, IfOk, IfErr}
@@ -15,7 +15,7 @@ use Rattle.cilk_commands.specs.declared.reply.Answer.{Answer}
 use Rattle.cilk_commands.specs.declared.reply.Failure.{Failure}
 use Rattle.cilk_tool.specs.Shown.{IsUnfailed}
 
--- what is shown of the second reading
+-- the answer of the second reading
 module _ (path : Text) (known known' : Option Text) (before between after : Failures) (m : Meant) (inputs : List ℤ)
     (none : IsUnfailed before between path) (same : known' ≡ known) where
   as_known : (r : Reply) → CheckShows path known between after m inputs r → CheckShows path known before after m inputs r
@@ -43,7 +43,7 @@ whole : (known : Option Text) → option_map (drop 0) known ≡ known
 whole None = refl
 whole (Some text) = refl
 
--- the text that comes from the file's first byte on is certified
+-- the text from the file's first byte on is certified
 pub certifies : (path : Text) (known known' : Option Text) (at : ℕ) (failed failed' : Failures) (m : Meant) (inputs : List ℤ) (es : List Event) (o : Outcome)
     → known' ≡ known → at ≡ 0 → IsCertified m.source inputs (option_map (drop at) known') es o → CheckShows path known failed failed' m inputs Accepted
 certifies path known known' at failed failed' m inputs es o e d h =

@@ -1,7 +1,8 @@
--- What a source of a certificate's text keeps beside it.
+-- The state that a source of a certificate's text keeps.
 --
--- - `parted`: texts of one length ahead of others;
--- - `kept_beside`: where what is kept is the same, no read of another file than the first failed, and what the second holds is still known.
+-- - `parted`: texts of the same length before others;
+-- - `kept_beside`: if the state is the same, no read of a file other than the first failed, and
+--   the contents of the second are still known.
 use Rattle.std.proofs.Common.{◌≡◌, ℕ, List, [], ◌∷◌, ◌++◌, length, Option, Some, None, refl, ap, ap₂, arith}
 use Rattle.cilk_commands.specs.Files.{Failures}
 use Rattle.cilk_commands.specs.Replies.{Text}
@@ -29,7 +30,7 @@ known_same None (Some y) e = absurd (cc e)
 known_same (Some x) None e = absurd (cc e)
 known_same (Some x) (Some y) e = ap (λ (t : Text). Some t) (let z : x ≡ y = cc e in z)
 
--- what is the same of both
+-- the parts that are the same in both
 pub record Beside (f g : Failures) (p q o n : Text) (k l : Option Text) : Type 0 where
   pub path : p ≡ q
   pub other : o ≡ n
@@ -44,7 +45,7 @@ kept_beside f g p q o n k l e =
     let others = ahead o n _ _ paths.1 in
     record { path = paths.0; other = others.0; first = first; known = known_same k l others.1 }
 
--- what is kept stays
+-- the state stays the same
 pub same_kept : (f g : Failures) (path other : Text) (k l : Option Text) → g.elsewhere path ≡ f.elsewhere path → l ≡ k
     → kept_of g path other l ≡ kept_of f path other k
 same_kept f g path other k l e d = ap₂ (λ (n : ℕ) (t : Option Text). n ∷ text_ahead path (text_ahead other (numbers_of t))) e d

@@ -1,10 +1,11 @@
--- How the reply to `threads` comes about.
+-- The reply to `threads`.
 --
--- - `answered`: what is answered to what the words ask for; `no_words`: to words that ask for nothing;
--- - `fails`, `ends`: a failure, or an ending, is served; `starved`: a want of memory is;
--- - `told_status`: the status is that of what was shown; `asked`: words that ask for something aren't words that ask for nothing; `unasked`: words that clap
---   refuses ask for nothing;
--- - `sent`, `cut`: a refusal's line goes out, all of it or a beginning.
+-- - `answered`: the answer to an order; `no_words`: words without an order;
+-- - `fails`, `ends`: a failure, or an ending, is served; `starved`: out of memory;
+-- - `told_status`: the status is that of what was shown;
+-- - `asked`: words with an order aren't words without one;
+-- - `unasked`: words with a usage error have no order;
+-- - `sent`, `cut`: a refusal's line is written, all of it or a beginning.
 use Rattle.std.proofs.Common.{◌≡◌, ℕ, List, [], Bool, true, codes, Option, Some, None, refl, sym, ap, subst, inl, inr, ◌∙◌}
 use Rattle.std.proofs.lemmas.Bool.{true≢false}
 use Rattle.std.specs.Prelude.{IsSome}
@@ -72,22 +73,22 @@ pub told_status : (words : List Text) (w : Surroundings) (status status' : ℕ) 
     → ServesThreads words w status told o o' e e' → status' ≡ status → ServesThreads words w status' told o o' e e'
 told_status words w status status' told o o' e e' h same = subst (λ (s : ℕ). ServesThreads words w s told o o' e e') (sym same) h
 
--- words that ask for something aren't words that ask for nothing
+-- words with an order aren't words without one
 pub asked : (asked : Option Requested) (r : Requested) → asked ≡ Some r → asked ≡ None → ⊥
 asked a r some none = true≢false (sym (subst IsSome (sym some ∙ none) refl))
 
--- words that clap refuses ask for nothing
+-- words with a usage error have no order
 pub unasked : (words : List Text) (e : WordsFault) → IsUsage e → IsWordsFault words e → order_in words ≡ None
 unasked words (faults.Usage text) u h = h
 unasked words faults.Memory u h = absurd u
 
--- all of a refusal's line goes out
+-- all of a refusal's line is written
 pub sent : (number : ℕ) (places : List ℕ) (text : Text) (o o' e : Option Text) → text ≡ refused_line number places → Appends o o' text
     → (r : Reply) × IsOrNoMemory (Refused number places) r × Shows r 4 true o o' e e
 sent number places text o o' e is out =
     (Refused number places, inl refl, inl (refl, subst (λ (t : Text). Appends o o' t) is out, ([], refl, keeps e)))
 
--- a beginning of it does, and it is said that a write failed
+-- a beginning of it is written, and a line says that a write failed
 pub cut : (number : ℕ) (places : List ℕ) (text : Text) (told : Bool) (o o' e e' : Option Text) → text ≡ refused_line number places → AppendsPart o o' text
     → AppendsFront told e e' (line (codes "cannot write")) → (r : Reply) × IsOrNoMemory (Refused number places) r × Shows r 2 told o o' e e'
 cut number places text told o o' e e' is out said =

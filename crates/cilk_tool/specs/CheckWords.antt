@@ -1,4 +1,5 @@
--- What the words of `check` ask for that name helpers, by clap's own account of how a simple command matches words.
+-- The orders of `check` with `--helpers`, by clap's own definition of how a simple command matches
+-- words.
 use Rattle.std.specs.Prelude.{◌≡◌, ◌&&◌, ◌||◌, ℕ, eqb, nat_le, Bool, false, List, [], ◌∷◌, Option, Some, None, codes, if◌then◌else◌, option_map, option_and_then}
 use Rattle.std.specs.List.{starts_with}
 use Rattle.std.specs.Str.{bytes_eq}
@@ -13,21 +14,21 @@ use Rattle.cilk_messages.specs.declared.words.WordsFault.TheVariants.{Usage, Mem
 use Rattle.cilk_tool.specs.Words.{texts_in}
 use Rattle.cilk_tool.specs.declared.check_words.CheckOrder.{CheckOrder}
 
--- a word that names helpers: the number is in it, or comes next
+-- the option for helpers, with or without its number
 abbrev pub is_helpers : Text → Bool
 is_helpers word = bytes_eq word (codes "--helpers") || starts_with eqb word (codes "--helpers=")
 
--- one of the words does
+-- one of the words is that option
 abbrev pub name_helpers : List Text → Bool
 name_helpers [] = false
 name_helpers (word ∷ words) = is_helpers word || name_helpers words
 
--- the first word is `check`, and one of those after it names helpers
+-- the first word is `check`, and a later one is the option for helpers
 abbrev pub is_helped : List Text → Bool
 is_helped [] = false
 is_helped (word ∷ words) = bytes_eq word (codes "check") && name_helpers words
 
--- what `check` is asked, and by how many helpers
+-- an order of `check`, and the number of helpers
 pub record Helped : Type 0 where
   pub check : Requested
   pub helpers : ℕ
@@ -41,38 +42,39 @@ check_view o = helped (o.program.now, o.certificate.now) (option_map (λ path. p
 abbrev pub helpers_rule : Rule
 helpers_rule = record (new_rule (codes "helpers")) { long = Some (codes "helpers"); action = Some Set }
 
--- what `check` takes, and `[--helpers N]`
+-- the arguments of `check`, and `[--helpers N]`
 abbrev pub helped_app : App
 helped_app = with_rule check_app helpers_rule
 
 abbrev pub commands_app : App
 commands_app = with_subcommand empty_app helped_app.top
 
--- how many helpers a word names: plain digits, from 1 to 16
+-- the number of helpers that a word spells: plain digits, from 1 to 16
 abbrev pub helper_count : Text → Option ℕ
 helper_count digits =
     if all_digits digits && (nat_le 1 (value_of digits) && nat_le (value_of digits) MAX_HELPERS) then Some (value_of digits) else None
 
--- where no word names them, there is one
+-- one helper without the option
 abbrev pub helpers_in : Option Text → Option ℕ
 helpers_in None = Some 1
 helpers_in (Some digits) = helper_count digits
 
--- `check` with these matches
+-- the order of `check` with these matches
 abbrev pub checked_with : List Row → Option Helped
 checked_with rows =
     option_and_then (λ t. option_map (λ helpers. helped t (first_of (codes "input") rows) helpers)
     (helpers_in (first_of (codes "helpers") rows))) (texts_in rows)
 
--- what the subcommand with its matches asks for
+-- the order of the subcommand with its matches
 abbrev pub check_by : Option (Text × List Row) → Option Helped
 check_by entered = option_and_then (λ p. if bytes_eq p.0 (codes "check") then checked_with p.1 else None) entered
 
--- what the words after the program's own name ask for: nothing where clap finds a fault in them, or help is asked for
+-- the order of the words after the program's name; none where clap finds a fault in them, or help
+-- is requested
 unfoldable pub check_in : List Text → Option Helped
 check_in words = if is_empty (fault_of commands_app words) then check_by (subcommand_of commands_app words) else None
 
--- the words ask for nothing, or memory ran out
+-- the words have no order, or memory ran out
 abbrev pub IsWordsFault : List Text → WordsFault → Type 0
 IsWordsFault words (Usage text) = check_in words ≡ None
 IsWordsFault words Memory = Unit {0}

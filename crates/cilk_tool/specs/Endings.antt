@@ -1,4 +1,4 @@
--- What the parts of the command come to.
+-- The results of the parts of `threads`.
 use Rattle.std.specs.Prelude.{◌≡◌, ◌≢◌, ◌⊎◌, ℕ, ℤ, List, [], ◌∷◌, Option, Some, None}
 use Rattle.cilk_checker.specs.Judging.{Meant}
 use Rattle.cilk_commands.specs.Files.{Failures, IsHeld}
@@ -16,22 +16,23 @@ ending_view (endings.Answer answer) = answer_view answer
 ending_view endings.Workers = Refused no_crew []
 ending_view (endings.Departed at) = Refused departed (at ∷ [])
 
--- the certificate is accepted, with its run; or the check shows why it isn't
+-- the certificate is accepted, with its run; or the check shows why it is refused
 abbrev pub IsVerdict : Text → Option Text → Failures → Failures → Meant → List ℤ → Verdict → Type 0
 IsVerdict path known failed failed' m inputs (verdicts.Accepted a) = IsAcceptedRun m inputs known a
 IsVerdict path known failed failed' m inputs (verdicts.Refused answer) =
     (answer_view answer ≢ Accepted) × CheckShows path known failed failed' m inputs (answer_view answer)
 
--- where the certificate is accepted, no read failed, and of another file it is known what was known
+-- if the certificate is accepted, no read failed, and the contents of the other file are still
+-- known
 abbrev pub StaysBeside : Failures → Failures → Text → Option Text → Option Text → Verdict → Type 0
 StaysBeside failed failed' path known known' (verdicts.Accepted a) = IsUnfailed failed failed' path × (known' ≡ known)
 StaysBeside failed failed' path known known' (verdicts.Refused answer) = Unit {0}
 
--- the file of other numbers isn't read, or is at fault
+-- the file of other numbers can't be read, or its text is refused
 abbrev pub AreNotGiven : (Text → Option Text) → Failures → Failures → Text → Reply → Type 0
 AreNotGiven files failed failed' path r = FileFails failed failed' path r ⊎ ((text : Text) × IsHeld (files path) text × InputFails text r)
 
--- the places of a refusal that names one, or none
+-- the places of a refusal: one or none
 abbrev pub place_of : Option ℕ → List ℕ
 place_of None = []
 place_of (Some at) = at ∷ []

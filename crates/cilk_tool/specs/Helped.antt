@@ -1,4 +1,4 @@
--- What is shown of `check` by helpers.
+-- The replies of `check` with `--helpers`.
 use Rattle.std.specs.Prelude.{◌≡◌, ◌<◌, ℕ, Bool, List, Option, Some, None, length}
 use Rattle.cilk_report.specs.Explained.{Follows, unflagged}
 use Rattle.cilk_commands.specs.Replies.{Reply, Text}
@@ -6,24 +6,26 @@ use Rattle.cilk_commands.specs.Serving as tool
 use Rattle.cilk_commands.specs.Serving.{Shows, Surroundings, WordsFail}
 use Rattle.cilk_tool.specs.CheckWords.{Helped, check_in}
 
--- what is answered to words of `check` that name helpers: what `check` is answered without them
+-- the answer to an order with helpers: that of `check` without them
 abbrev pub Answers : Surroundings → Option Helped → Reply → Type 0
 Answers w None r = WordsFail r
 Answers w (Some asked) r = tool.Answers w (Some asked.check) r
 
--- the words are answered by a reply, which is shown
+-- the words are answered, and the answer is shown
 abbrev pub ServesHelped : List Text → Surroundings → ℕ → (is_whole : Bool) → Option Text → Option Text → Option Text → Option Text → Type 0
 ServesHelped words w status is_whole out out' err err' = (r : Reply) × Answers w (check_in words) r × Shows r status is_whole out out' err err'
 
--- the same, and a text comes on standard error after it
+-- the same, and a text on standard error after it
 abbrev pub HelpedThenExplains : List Text → Surroundings → ℕ → Option Text → Option Text → Option Text → Option Text → Type 0
 HelpedThenExplains words w status out out' err err' =
     (middle : Option Text) × (told : Bool) × ServesHelped words w status told out out' err middle × Follows status middle err'
 
--- What comes of words of `check` that name helpers, with the failed reads before the call and at its end.
+-- The replies to a command line of `check` with `--helpers`, with the failed reads before and after
+-- the call.
 pub data IsHelpedReply (words : List Text) (w : Surroundings) (status : ℕ) (out out' err err' : Option Text) : Type 0 where
-  -- they are answered
+  -- the words are answered
   Plain : (told : Bool) → ServesHelped words w status told out out' err err' → IsHelpedReply words w status out out' err err'
-  -- they ask for nothing, and have `--explain` among them: the others are answered, and then a text comes
+  -- the words have no order and `--explain` is among them: the others are answered, then a text
+  -- follows
   Explained : check_in words ≡ None → length (unflagged words) < length words → HelpedThenExplains (unflagged words) w status out out' err err'
       → IsHelpedReply words w status out out' err err'

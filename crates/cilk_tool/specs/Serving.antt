@@ -1,4 +1,4 @@
--- What `serve_parallel` shows.
+-- The replies of `serve_parallel`.
 use Rattle.std.specs.Prelude.{◌≡◌, ◌<◌, ◌&&◌, ℕ, Bool, true, false, not, List, [], ◌∷◌, length, Option, Some, None, codes}
 use Rattle.std.specs.Str.{bytes_eq}
 use Rattle.cilk_report.specs.Words.{is_help, is_measure}
@@ -13,51 +13,53 @@ use Rattle.cilk_tool.specs.Helped.{HelpedThenExplains, IsHelpedReply}
 use Rattle.cilk_tool.specs.Shown.{ThreadsShow}
 use Rattle.cilk_tool.specs.Words.{Requested, order_in}
 
--- the first word is `threads`, and what is behind it isn't one word that asks for help
+-- the first word is `threads`, and more follows than one request for help
 abbrev pub is_threads : List Text → Bool
 is_threads [] = false
 is_threads (w ∷ words) = bytes_eq w (codes "threads") && not (is_help words)
 
--- what is answered to what the words of `threads` ask for
+-- the answer to an order of `threads`
 abbrev pub Answers : Surroundings → Option Requested → Reply → Type 0
 Answers w None r = WordsFail r
 Answers w (Some asked) r = JudgedReply (ThreadsShow w.files w.failed w.failed' asked) w (File asked.program) asked.input r
 
--- the words of `threads` are answered by a reply, which is shown
+-- the words of `threads` are answered, and the answer is shown
 abbrev pub ServesThreads : List Text → Surroundings → ℕ → (is_whole : Bool) → Option Text → Option Text → Option Text → Option Text → Type 0
 ServesThreads words w status is_whole out out' err err' = (r : Reply) × Answers w (order_in words) r × Shows r status is_whole out out' err err'
 
--- the words of `threads` are answered so, and a text comes on standard error after it
+-- the same, and a text on standard error after it
 abbrev pub ThreadsThenExplains : List Text → (Text → Option Text) → Option Text → Failures → Failures → ℕ
     → Option Text → Option Text → Option Text → Option Text → Type 0
 ThreadsThenExplains words files input failed failed' status out out' err err' =
     (middle : Option Text) × (told : Bool) × ServesThreads words (world files input failed failed') status told out out' err middle
     × Follows status middle err'
 
--- What comes of the words of `threads`.
+-- The replies to a command line of `threads`.
 pub data IsThreadsReply (words : List Text) (files : Text → Option Text) (input : Option Text) (failed failed' : Failures)
     (status : ℕ) (out out' err err' : Option Text) : Type 0 where
-  -- they are answered
+  -- the words are answered
   Plain : (told : Bool) → ServesThreads words (world files input failed failed') status told out out' err err'
       → IsThreadsReply words files input failed failed' status out out' err err'
-  -- they ask for nothing, and have `--explain` among them: the others are answered, and then a text comes
+  -- the words have no order and `--explain` is among them: the others are answered, then a text
+  -- follows
   Explained : order_in words ≡ None → length (unflagged words) < length words
       → ThreadsThenExplains (unflagged words) files input failed failed' status out out' err err'
       → IsThreadsReply words files input failed failed' status out out' err err'
 
--- What comes of a call over what files hold and what standard input gives, with the failed reads before it and at its end.
+-- The replies of a call, given the contents of files and standard input, and the failed reads
+-- before and after it.
 pub data ServesParallel (words : List Text) (files : Text → Option Text) (input : Option Text) (failed failed' : Failures)
     (status : ℕ) (out out' err err' : Option Text) : Type 0 where
-  -- `threads` is asked for
+  -- `threads` is requested
   Threads : is_threads words ≡ true → IsThreadsReply words files input failed failed' status out out' err err'
       → (order_in words ≡ None → length (unflagged words) < length words → ThreadsThenExplains (unflagged words) files input failed failed' status out out' err err')
       → ServesParallel words files input failed failed' status out out' err err'
-  -- `check` is asked for, by helpers: what it shows is what it shows without them
+  -- `check` with helpers is requested: the reply is that without them
   Helped : is_threads words ≡ false → is_helped words ≡ true → IsHelpedReply words (world files input failed failed') status out out' err err'
       → (check_in words ≡ None → length (unflagged words) < length words
       → HelpedThenExplains (unflagged words) (world files input failed failed') status out out' err err')
       → ServesParallel words files input failed failed' status out out' err err'
-  -- other words are served as `serve_explained` serves them
+  -- other command lines are served by `serve_explained`
   Others : is_threads words ≡ false → is_helped words ≡ false → ServesExplained words files input failed failed' status out out' err err'
       → (tool.order_in words ≡ None → is_measure words ≡ true → Measures words files input failed failed' status out out' err err')
       → (tool.order_in words ≡ None → is_measure words ≡ false → is_schedule words ≡ true

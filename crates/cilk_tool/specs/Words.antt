@@ -1,4 +1,4 @@
--- What the words of `threads` ask for, by clap's own account of how a simple command matches words.
+-- The orders of `threads`, by clap's own definition of how a simple command matches words.
 use Rattle.std.specs.Prelude.{◌≡◌, ℕ, List, Option, Some, None, codes, if◌then◌else◌, option_map, option_and_then}
 use Rattle.std.specs.Str.{bytes_eq}
 use Rattle.std.specs.Borrow.{Bor}
@@ -10,8 +10,8 @@ use Rattle.cilk_messages.specs.declared.words.WordsFault.{WordsFault}
 use Rattle.cilk_messages.specs.declared.words.WordsFault.TheVariants.{Usage, Memory}
 use Rattle.cilk_tool.specs.declared.words.Order.{Order}
 
--- to check the certificate of a program, whose input is that of a file or the empty one, and to run the program by so many workers, on that
--- input or on the one of another file
+-- An order to check a program's certificate, whose input is that of a file or empty, and to run the
+-- program by `workers` workers, on that input or on that of another file.
 pub record Requested : Type 0 where
   pub program : Text
   pub certificate : Text
@@ -47,25 +47,26 @@ parallel_app = with_subcommand empty_app threads_app.top
 abbrev pub texts_view : Bor Text × Bor Text → Text × Text
 texts_view t = (t.0.now, t.1.now)
 
--- the program and the certificate that these matches name
+-- the program and the certificate in these matches
 abbrev pub texts_in : List Row → Option (Text × Text)
 texts_in rows = option_and_then (λ program. option_map (λ certificate. (program, certificate)) (first_of (codes "certificate") rows)) (first_of (codes "program") rows)
 
--- `threads` with these matches
+-- the order of `threads` with these matches
 abbrev pub threads_with : List Row → Option Requested
 threads_with rows =
     option_and_then (λ t. option_map (λ workers. requested t workers (first_of (codes "input") rows) (first_of (codes "on") rows))
     (workers_in (first_of (codes "workers") rows))) (texts_in rows)
 
--- what the subcommand with its matches asks for
+-- the order of the subcommand with its matches
 abbrev pub order_by : Option (Text × List Row) → Option Requested
 order_by entered = option_and_then (λ p. if bytes_eq p.0 (codes "threads") then threads_with p.1 else None) entered
 
--- what the words after the program's own name ask for: nothing where clap finds a fault in them, or help is asked for
+-- the order of the words after the program's name; none where clap finds a fault in them, or help
+-- is requested
 unfoldable pub order_in : List Text → Option Requested
 order_in words = if is_empty (fault_of parallel_app words) then order_by (subcommand_of parallel_app words) else None
 
--- the words ask for nothing, or memory ran out
+-- the words have no order, or memory ran out
 abbrev pub IsWordsFault : List Text → WordsFault → Type 0
 IsWordsFault words (Usage text) = order_in words ≡ None
 IsWordsFault words Memory = Unit {0}

@@ -1,4 +1,4 @@
-//! From words of `check` that name helpers to a reply that is shown.
+//! From a command line of `check` with `--helpers` to its reply.
 
 ghost use Rattle.std.specs.Prelude.{◌≡◌, ◌<◌, None, length};
 ghost use Rattle.cilk_report.specs.Explained.{unflagged};
@@ -18,10 +18,10 @@ use std::alloc::Global;
 use std::io::{Read, Write};
 use std::thread::Threads;
 
-// What stands after what is said of words that ask for nothing.
+// Follows the error of a command line that isn't valid.
 const HINT: &str = "\nhint: `cilk help check` describes `check` and its options\n";
 
-/// Serves words of `check` that name helpers, and waits for the helpers.
+/// Serves `check` with `--helpers`, and waits for the helpers.
 pub fn serve_check<H: Threads + Sync, F: Keeps, R: Read, O: Write, E: Write>(
     rt: &H,
     alloc: Global,
@@ -51,7 +51,8 @@ pub fn serve_check<H: Threads + Sync, F: Keeps, R: Read, O: Write, E: Write>(
     }
 }
 
-/// Serves words that ask for nothing as they stand: without `--explain`, where that is among them.
+/// Serves a command line that can't be read as it is. If `--explain` is among the words, the others
+/// are served.
 fn serve_unread<H: Threads + Sync, F: Keeps, R: Read, O: Write, E: Write>(
     rt: &H,
     alloc: Global,
@@ -79,7 +80,7 @@ fn serve_unread<H: Threads + Sync, F: Keeps, R: Read, O: Write, E: Write>(
     }
 }
 
-/// Serves the words, and then explains what was shown.
+/// Serves the command, then explains what was shown.
 fn serve_flagged<H: Threads + Sync, F: Keeps, R: Read, O: Write, E: Write>(
     rt: &H,
     alloc: Global,
@@ -117,7 +118,7 @@ fn serve_flagged<H: Threads + Sync, F: Keeps, R: Read, O: Write, E: Write>(
     }
 }
 
-/// What is shown of words that ask for nothing: why, and what describes them.
+/// Returns the failure for a command line that isn't valid: the error and a hint.
 fn advised<'a>(usage: String) -> Failure<'a>
     ensures { WordsFail (failure_view result) }
 {

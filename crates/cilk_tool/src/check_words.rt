@@ -1,4 +1,4 @@
-//! The words of `check` that name helpers.
+//! The command line of `check` with `--helpers`.
 
 ghost use Rattle.std.specs.Prelude.{◌≡◌, IfOk, IfErr, Some, option_map};
 ghost use Rattle.clap.specs.Words.{found_of, rows_of, subcommand_rows_of};
@@ -12,13 +12,14 @@ use cilk_syntax::lexer::{all_digits, value_of};
 use clap::{Arg, ArgAction, ArgMatches, Command};
 use std::alloc::{AllocError, Global};
 
-// What is said of words that clap matches and that still ask for nothing.
+// The error of a command line that clap accepts but whose number of helpers isn't valid.
 const NO_ORDER: &str = "error: the number of helpers is 1 to 16\n";
 
-// What clap says of the command.
+// The summary of the command for clap.
 const CHECK: &str = "Check a certificate, and whether the run that it is of has a race";
 
-/// What such words ask for: to check the certificate of a program on an input, of a file or the empty one, by so many helpers.
+/// An order to check a program's certificate by `helpers` helpers. Without `input` the input is
+/// empty.
 #[derive(Clone, Copy)]
 pub struct CheckOrder<'a> {
     pub program: &'a str,
@@ -28,7 +29,7 @@ pub struct CheckOrder<'a> {
 }
 
 impl<'a> CheckOrder<'a> {
-    /// What the words ask for but for the helpers.
+    /// Returns the same order without helpers.
     pub fn alone(&self) -> Order<'a>
         ensures { let asked = check_view self.now in order_view result ≡ asked.check }
     {
@@ -40,7 +41,7 @@ impl<'a> CheckOrder<'a> {
     }
 }
 
-/// Whether the first word is `check`, and one of those after it names helpers.
+/// Returns whether the first word is `check` and a later one is an option for helpers.
 pub fn is_helped(words: &[&str]) -> bool
     ensures { result ≡ is_helped (texts words.now) }
 {
@@ -50,7 +51,7 @@ pub fn is_helped(words: &[&str]) -> bool
     }
 }
 
-/// Whether one of the words names helpers.
+/// Returns whether one of the words is an option for helpers.
 fn name_helpers(words: &[&str]) -> bool
     ensures { result ≡ name_helpers (texts words.now) }
 {
@@ -64,7 +65,7 @@ fn name_helpers(words: &[&str]) -> bool
     false
 }
 
-/// Whether a word names helpers: the number is in it, or comes next.
+/// Returns whether a word is the option for helpers, with or without its number.
 fn is_helpers(word: &str) -> bool
     ensures { result ≡ is_helpers word.now }
 {
@@ -93,14 +94,14 @@ fn helped_command<'a>(alloc: Global) -> Result<Command<'a>, AllocError>
     )
 }
 
-/// The command, a simple one.
+/// The command line as clap reads it.
 fn command<'a>(alloc: Global) -> Result<Command<'a>, AllocError>
     ensures { IfOk result (λ c. HasShape c commands_app) }
 {
     with(empty(alloc)?, helped_command(alloc), CHECK)
 }
 
-/// How many helpers digits name, if they name a number from 1 to 16.
+/// Returns the number that digits spell, if it is 1 to 16.
 fn helper_count(digits: &[u8]) -> Option<u32>
     ensures { result ≡ helper_count digits.now }
 {
@@ -113,7 +114,7 @@ fn helper_count(digits: &[u8]) -> Option<u32>
     }
 }
 
-/// How many helpers there are, by the word that may name them: one where there is none.
+/// Returns the number of helpers for the option's value; 1 without the option.
 fn helpers_in(word: Option<&str>) -> Option<u32>
     ensures { result ≡ helpers_in (option_map (λ w. w.now) word.entry) }
 {
@@ -123,7 +124,7 @@ fn helpers_in(word: Option<&str>) -> Option<u32>
     }
 }
 
-/// What the matches of `check` ask for.
+/// Returns the order of the matches of `check`.
 fn check_order<'a>(check: &ArgMatches<'a>) -> Option<CheckOrder<'a>>
     ensures { option_map check_view result ≡ checked_with (rows_of (found_of check.now)) }
 {
@@ -139,7 +140,7 @@ fn check_order<'a>(check: &ArgMatches<'a>) -> Option<CheckOrder<'a>>
     })
 }
 
-/// What the matches ask for.
+/// Returns the order of the matches.
 fn order_of<'a>(matches: &ArgMatches<'a>) -> Option<CheckOrder<'a>>
     ensures { option_map check_view result ≡ check_by (subcommand_rows_of matches.now) }
 {
@@ -149,7 +150,7 @@ fn order_of<'a>(matches: &ArgMatches<'a>) -> Option<CheckOrder<'a>>
     }
 }
 
-/// Reads the words after the program's own name.
+/// Reads the words after the program's name.
 pub fn read_check<'a>(alloc: Global, words: &'a [&'a str]) -> Result<CheckOrder<'a>, WordsFault>
     ensures order { IfOk result (λ o. check_in (texts words.now) ≡ Some (check_view o)) }
     ensures fault { IfErr result (λ e. IsWordsFault (texts words.now) e) }

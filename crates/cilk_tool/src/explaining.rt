@@ -1,4 +1,4 @@
-//! What is said behind a reply to `threads`, where the words ask for an explanation.
+//! Explanations of the replies to `threads`.
 
 use crate::running::Ending;
 use crate::serving::DEPARTED;
@@ -10,7 +10,7 @@ use cilk_messages::words::Order as Asked;
 use cilk_report::{Kept, of_answer, of_failure};
 use std::alloc::Global;
 
-/// The words of `check` that ask for the same certificate of the same run, with the numbers of a file or none.
+/// Returns the order to check the same certificate, with this input.
 fn check_of<'a>(order: &Order<'a>, input: Option<&'a str>) -> Asked<'a> {
     Asked::Check {
         program: order.program,
@@ -19,7 +19,8 @@ fn check_of<'a>(order: &Order<'a>, input: Option<&'a str>) -> Asked<'a> {
     }
 }
 
-/// What is said behind an ending: of a refused certificate what `check` says, of an input that departs what its number means.
+/// Returns the explanation of an ending: that of `check` for a refused certificate, and the meaning
+/// of the number for an input that departs from the plan.
 pub fn of_ending(
     alloc: Global,
     order: &Order<'_>,
@@ -36,7 +37,7 @@ pub fn of_ending(
     }
 }
 
-/// What is said behind a failure: as of `check`, but for the other input.
+/// Returns the explanation of a failure: that of `check`, or of a fault in the input of `--on`.
 pub fn of_fault(
     alloc: Global,
     order: &Order<'_>,
@@ -50,7 +51,8 @@ pub fn of_fault(
     of_failure(alloc, &check_of(order, input), failure, kept)
 }
 
-// The file of the input that a fault is in: the one that was read last. The other input is read after the program and its own.
+// The path of the input with a fault, which was read last. The input of `--on` is read after the
+// program and its own input.
 fn faulty<'a>(order: &Order<'a>, kept: &Kept) -> Option<&'a str> {
     match order.input {
         Some(path) if kept.count() < 3 => Some(path),

@@ -1,4 +1,5 @@
-//! The command `check` by several helpers: the certificate's file is read once for hints, and once for the check itself.
+//! The command `check` by helpers: the certificate's file is read once for hints, and once for the
+//! check.
 
 ghost use Rattle.std.specs.Prelude.{◌≡◌, ◌<◌, ◌≤◌, IfOk, IfErr, OnOk, Some};
 ghost use Rattle.cilk_checker.specs.Runs.{EndsWith};
@@ -32,7 +33,7 @@ use std::alloc::Global;
 use std::io::Read;
 use std::thread::Threads;
 
-/// What the certificate in the file of a path lists of its frames. Nothing of it is believed.
+/// Reads the hints in a certificate's file. Nothing trusts them.
 fn listed<'a, F: Files>(alloc: Global, path: &'a str, files: &mut F) -> Result<Hints, Failure<'a>>
     requires { (F.failed files.old).count < 18446744073709551615 }
     ensures fault { IfErr result (λ e. FileFails (F.failed files.old) (F.failed files.new) path.entry.now (failure_view e)) }
@@ -47,7 +48,7 @@ fn listed<'a, F: Files>(alloc: Global, path: &'a str, files: &mut F) -> Result<H
     }
 }
 
-/// What is shown of a program whose serial run was made, and of the file of a certificate.
+/// Checks a certificate's file against the serial run of a program.
 fn compared<'a, F: Files>(
     alloc: Global,
     program: Program,
@@ -72,7 +73,7 @@ fn compared<'a, F: Files>(
     }
 }
 
-/// What is shown of a program, an input and the file of a certificate, by so many helpers, of whom there are no more than may be.
+/// Checks a certificate's file by `helpers` helpers, or by the most that are allowed.
 fn checked<'a, H: Threads + Sync, F: Files>(
     rt: &H,
     alloc: Global,
@@ -95,8 +96,9 @@ fn checked<'a, H: Threads + Sync, F: Files>(
     compared(alloc, program, input, end, trace, path, files)
 }
 
-/// Checks the certificate of a program's run on an input by helpers. The program is read and judged, then its input, then the certificate
-/// is read, twice. One helper checks as `check` does, in no other thread.
+/// Checks the certificate of a program's run on an input by helpers. The program is read and judged
+/// first, then its input, then the certificate is read twice. A single helper checks as `check`
+/// does, without a thread.
 pub fn check_by_helpers<'a, H: Threads + Sync, F: Files, R: Read>(
     rt: &H,
     alloc: Global,

@@ -1,15 +1,29 @@
-//! The commands that start threads: `threads` runs an accepted program by workers, and `check` with `--helpers` is shared out among helpers.
+//! The commands that start threads: `threads`, which runs an accepted program in parallel, and
+//! `check` with `--helpers`, which shares the check of a certificate among threads.
 //!
-//! [`serve_parallel`] is what the program calls. The words `threads PROGRAM CERTIFICATE` ask for a run in parallel: the program, its
-//! input and the certificate are read and judged as `check` does; what it refuses is refused here. An accepted program then runs by
-//! work stealing (`cilk_threads`), on its own input or on that of `--on FILE`, and its outcome is shown as `run` shows one. Where
-//! another input departs from the plan of the certified run, `refused 502` names the position. With `--explain` among the words the same
-//! comes, and an explanation behind it on standard error.
+//! [`serve_parallel`] serves one call of the tool. It is the only function here that the program
+//! `cilk` calls. Its handle to the system has to offer threads and waiting. Its contract states the
+//! reply to every command line, up to the wording of help and explanations.
 //!
-//! The words `check PROGRAM CERTIFICATE --helpers N` ask for what `check` shows, and it is shown of them: the helpers, each in a thread of
-//! its own, share the work of running the program (`cilk_helpers`). The certificate's file is read twice, in parts. One helper works in no
-//! other thread. All other words are served as [`cilk_report::serve_explained`] serves them, by functions that start no thread and
-//! don't wait.
+//! `threads PROGRAM CERTIFICATE` reads the program, its input and the certificate and checks them
+//! as `check` does. A refusal of `check` is shown in the same way. An accepted program is run by
+//! workers with work stealing (`cilk_threads`; Frigo, Leiserson and Randall 1998). It runs on its
+//! own input, or on that of `--on FILE`, and its outcome is shown as `run` shows one. An input
+//! whose run leaves the plan of the certified run ends in `refused 502` with the position.
+//!
+//! `check PROGRAM CERTIFICATE --helpers N` shows what `check` shows. The helpers, each in a thread
+//! of its own, replay the program's frames (`cilk_helpers`). The certificate's file is read twice,
+//! in parts: once for hints, which nothing trusts, and once for the check. A single helper starts
+//! no thread.
+//!
+//! All other command lines are served by [`cilk_report::serve_explained`], without threads or
+//! waiting. `--explain` adds an explanation on standard error to both commands.
+//!
+//! | Call | Purpose |
+//! |---|---|
+//! | [`serve_parallel`] | serves a command line and returns the exit status |
+//! | [`words::read`] | reads the command line of `threads` |
+//! | [`check_words::read_check`] | reads the command line of `check` with `--helpers` |
 //!
 //! ```text
 //! cilk certify fib.c > fib.cert

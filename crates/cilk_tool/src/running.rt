@@ -1,4 +1,4 @@
-//! The command `threads`: a program is checked, and run by workers where its certificate is accepted.
+//! The command `threads`: a program is checked, and run by workers if its certificate is accepted.
 
 ghost use Rattle.std.specs.Prelude.{◌≡◌, ◌≢◌, ◌<◌, [], Some, IfOk, IfErr, option_map};
 ghost use Rattle.cilk_checker.specs.Judging.{meant};
@@ -33,27 +33,28 @@ use std::io::Read;
 use std::sync::Wait;
 use std::thread::Threads;
 
-/// What the command ends with.
+/// The end of the command.
 #[derive(Drop)]
 pub enum Ending {
-    /// The outcome of a run, or why the certificate is refused.
+    /// The outcome of the run, or the certificate's refusal.
     Answer(Answer),
     /// The number of workers isn't 1 to 64.
     Workers,
-    /// The input on which the program was to be run departs from the plan of the certified run at this position.
+    /// The run on the given input departs from the plan of the certified run at this position.
     Departed(Pos),
 }
 
-/// What the check of a certificate comes to.
+/// The result of the check.
 #[derive(Drop)]
 pub enum Verdict {
-    /// It is accepted, with the run that it is of.
+    /// The certificate is accepted, with its run.
     Accepted(Accepted),
-    /// Why it is refused.
+    /// The certificate is refused.
     Refused(Answer),
 }
 
-/// Checks the certificate in the file of a path. Where it is accepted, what the file of another path holds stays known.
+/// Checks the certificate in the file `path`. If it is accepted, the contents of the file `other`
+/// stay known.
 fn checked<'a, F: Files>(
     alloc: Global,
     program: Program,
@@ -77,7 +78,7 @@ fn checked<'a, F: Files>(
     }
 }
 
-/// The numbers of another file.
+/// Reads the numbers of an input file.
 fn numbers<'a, F: Files>(alloc: Global, path: &'a str, files: &mut F) -> Result<Input, Failure<'a>>
     requires { (F.failed files.old).count < 18446744073709551615 }
     ensures numbers { IfOk result (λ i. GivesNumbers (F.holds files.old) (Some path.entry.now) [] i) }
@@ -87,7 +88,7 @@ fn numbers<'a, F: Files>(alloc: Global, path: &'a str, files: &mut F) -> Result<
     judge_input(alloc, text.as_slice())
 }
 
-/// What an accepted program left, with the names of its global reducers.
+/// Returns the outcome of an accepted program, with the names of its global reducers.
 fn ended<'a>(alloc: Global, accepted: &Accepted, outcome: Outcome) -> Result<Ending, Failure<'a>>
     ensures answer { IfOk result (λ e. let m = meant accepted.now.program in ending_view e ≡ replies.Ended m.names outcome) }
     ensures failure { IfErr result (λ e. failure_view e ≡ replies.NoMemory) }
@@ -98,7 +99,7 @@ fn ended<'a>(alloc: Global, accepted: &Accepted, outcome: Outcome) -> Result<End
     }))
 }
 
-/// Runs an accepted program by so many workers on these numbers.
+/// Runs an accepted program by `workers` workers on these numbers.
 fn run<'a, H: Threads + Wait + Sync>(
     rt: &H,
     alloc: Global,
@@ -119,7 +120,7 @@ fn run<'a, H: Threads + Wait + Sync>(
     }
 }
 
-/// Runs an accepted program by so many workers, on its own input or on that of a file.
+/// Runs an accepted program by `workers` workers, on its own input or on that of a file.
 fn accepted_run<'a, H: Threads + Wait + Sync, F: Files>(
     rt: &H,
     alloc: Global,
@@ -143,7 +144,7 @@ fn accepted_run<'a, H: Threads + Wait + Sync, F: Files>(
     }
 }
 
-/// Checks the certificate of a program's run on an input, and runs the program where it is accepted.
+/// Checks the certificate of a program's run, and runs the program if it is accepted.
 fn judged<'a, H: Threads + Wait + Sync, F: Files>(
     rt: &H,
     alloc: Global,
@@ -167,7 +168,8 @@ fn judged<'a, H: Threads + Wait + Sync, F: Files>(
     }
 }
 
-/// Does what the words of `threads` ask for. The program is read and judged, then its input, then the certificate, then the other input.
+/// Carries out an order of `threads`. The program is read and judged first, then its input, then
+/// the certificate, then the input of `--on`.
 pub fn carry_out<'a, H: Threads + Wait + Sync, F: Files, R: Read>(
     rt: &H,
     alloc: Global,

@@ -1,4 +1,4 @@
-//! From words to a reply that is shown.
+//! From a command line to its reply.
 
 ghost use Rattle.std.specs.Prelude.{◌≡◌, ◌<◌, ◌++◌, IfOk, None, OnOk, flat_map, length};
 ghost use Rattle.cilk_report.specs.Explained.{unflagged};
@@ -26,18 +26,19 @@ use std::io::{Read, Write};
 use std::sync::Wait;
 use std::thread::Threads;
 
-/// The number of the refusal where the workers aren't 1 to 64.
+/// The refusal for a number of workers that isn't 1 to 64.
 pub const NO_CREW: u32 = 501;
 
-/// The number of the refusal where an input departs from the plan of the certified run.
+/// The refusal of an input that departs from the plan of the certified run.
 pub const DEPARTED: u32 = 502;
 
-// What stands behind what is said of words that ask for nothing.
+// Follows the error of a command line that isn't valid.
 const HINT: &str = "\nhint: `cilk help threads` describes `threads` and its options\n";
 
-/// Serves the words after the program's own name: `threads` runs an accepted program by workers on threads, and waits for them; `check`
-/// with `--helpers` checks a certificate by helpers on threads, and waits for them; other words are served as `serve_explained` serves
-/// them.
+/// Serves the words after the program's name and returns the exit status. `threads` runs an
+/// accepted program by workers on threads, and `check` with `--helpers` checks a certificate by
+/// helpers on threads. Both wait for their threads. Other command lines are served by
+/// [`cilk_report::serve_explained`].
 pub fn serve_parallel<H: Threads + Wait + Sync, F: Keeps, R: Read, O: Write, E: Write>(
     rt: &H,
     alloc: Global,
@@ -60,7 +61,7 @@ pub fn serve_parallel<H: Threads + Wait + Sync, F: Keeps, R: Read, O: Write, E: 
     }
 }
 
-/// Whether the first word is `threads`, and what is behind it isn't one word that asks for help.
+/// Returns whether the first word is `threads` and more follows than one request for help.
 fn is_threads(words: &[&str]) -> bool
     ensures { result ≡ is_threads (texts words.now) }
 {
@@ -70,7 +71,7 @@ fn is_threads(words: &[&str]) -> bool
     }
 }
 
-/// Serves the words of `threads`.
+/// Serves `threads`.
 fn serve_threads<H: Threads + Wait + Sync, F: Keeps, R: Read, O: Write, E: Write>(
     rt: &H,
     alloc: Global,
@@ -100,7 +101,8 @@ fn serve_threads<H: Threads + Wait + Sync, F: Keeps, R: Read, O: Write, E: Write
     }
 }
 
-/// Serves words of `threads` that ask for nothing as they stand: without `--explain`, where that is among them.
+/// Serves a command line that can't be read as it is. If `--explain` is among the words, the others
+/// are served.
 fn serve_unread<H: Threads + Wait + Sync, F: Keeps, R: Read, O: Write, E: Write>(
     rt: &H,
     alloc: Global,
@@ -128,7 +130,7 @@ fn serve_unread<H: Threads + Wait + Sync, F: Keeps, R: Read, O: Write, E: Write>
     }
 }
 
-/// Serves the words of `threads`, and then explains what was shown.
+/// Serves `threads`, then explains what was shown.
 fn serve_flagged<H: Threads + Wait + Sync, F: Keeps, R: Read, O: Write, E: Write>(
     rt: &H,
     alloc: Global,
@@ -158,7 +160,7 @@ fn serve_flagged<H: Threads + Wait + Sync, F: Keeps, R: Read, O: Write, E: Write
     }
 }
 
-/// What is shown of words that ask for nothing: why, and what describes them.
+/// Returns the failure for a command line that isn't valid: the error and a hint.
 fn advised<'a>(usage: String) -> Failure<'a>
     ensures { WordsFail (failure_view result) }
 {
@@ -169,7 +171,7 @@ fn advised<'a>(usage: String) -> Failure<'a>
     }
 }
 
-/// Shows what the command ends with.
+/// Shows the end of the command.
 fn show_ending<O: Write, E: Write>(
     alloc: Global,
     ending: &Ending,
@@ -186,7 +188,7 @@ fn show_ending<O: Write, E: Write>(
     }
 }
 
-/// Shows a refusal by its number and the place that it names, if it names one.
+/// Shows a refusal by its number, and by its place if it has one.
 fn show_refusal<O: Write, E: Write>(
     alloc: Global,
     number: u32,
@@ -210,7 +212,7 @@ fn show_refusal<O: Write, E: Write>(
     }
 }
 
-/// The line `refused N`, or `refused N PLACE`.
+/// Returns the line `refused N` or `refused N PLACE`.
 fn line(alloc: Global, number: u32, place: Option<Pos>) -> Result<Vec<u8>, AllocError>
     ensures { IfOk result (λ text. text.items ≡ refused_line number (place_of place)) }
 {
@@ -222,7 +224,7 @@ fn line(alloc: Global, number: u32, place: Option<Pos>) -> Result<Vec<u8>, Alloc
     Ok(text)
 }
 
-/// Puts a space and a place behind a text, if there is one.
+/// Adds a space and a place, if there is one.
 fn push_place(text: &mut Vec<u8>, place: Option<Pos>) -> Result<(), AllocError>
     ensures { OnOk result (text.new.items ≡ text.old.items ++ flat_map place_text (place_of place)) }
 {

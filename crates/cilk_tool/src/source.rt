@@ -1,4 +1,4 @@
-//! The file of a certificate, beside another file that is read later.
+//! A certificate's file as a source, while another file stays unchanged.
 
 ghost use Rattle.std.specs.Prelude.{◌≡◌, drop, option_map};
 ghost use Rattle.cilk_tool.specs.Sources.{kept_of};
@@ -6,7 +6,7 @@ ghost use Rattle.cilk_tool.specs.Sources.{kept_of};
 use cilk_checker::source::{PullFault, Source};
 use cilk_commands::files::{FileFault, Files};
 
-/// The file of a path, from a byte on, while another file is to stay as it is.
+/// The rest of the file `path` from byte `at`. The contents of the file `other` stay known.
 #[derive(Drop)]
 pub struct CertificateSource<'f, 'p, F> {
     files: &'f mut F,
@@ -16,7 +16,7 @@ pub struct CertificateSource<'f, 'p, F> {
 }
 
 impl<'f, 'p, F: Files> CertificateSource<'f, 'p, F> {
-    /// All of the file of a path, beside another.
+    /// Creates a source of the whole file `path`.
     pub fn new(files: &'f mut F, path: &'p str, other: &'p str) -> Self
         ensures same_reference { result.files.ghost_name ≡ files.entry.ghost_name }
         ensures files { result.files.now ≡ files.old }
@@ -40,7 +40,7 @@ impl<F: Files> Source for CertificateSource<'_, '_, F> {
 
     ghost lender = { λ s. s.files.ghost_name };
 
-    // The failures of other files than its own, its path and the other, and what the other file holds.
+    // Failed reads of other files than `path`, both paths, and the contents of `other`.
     ghost kept = { λ s. kept_of (F.failed s.files.now) s.path.now s.other.now (F.holds s.files.now s.other.now) };
 
     fn pull(&mut self, into: &mut [u8]) -> Result<usize, PullFault> {

@@ -1,4 +1,4 @@
-//! The words of the command `threads`.
+//! The command line of `threads`.
 
 ghost use Rattle.std.specs.Prelude.{◌≡◌, IfOk, IfErr, Some, option_map};
 ghost use Rattle.clap.specs.Words.{found_of, rows_of, subcommand_rows_of};
@@ -9,15 +9,16 @@ use cilk_messages::words::{WordsFault, empty, refusal, with, workers_in};
 use clap::{Arg, ArgAction, ArgMatches, Command};
 use std::alloc::{AllocError, Global};
 
-// What is said of words that clap matches and that still ask for nothing.
+// The error of a command line that clap accepts but whose number of workers isn't valid.
 const NO_ORDER: &str = "error: the number of workers is 1 to 64\n";
 
-// What clap says of the command.
+// The summary of the command for clap.
 const THREADS: &str =
     "Check a certificate, and where it is accepted run the program by workers on threads";
 
-/// What the words of `threads` ask for: to check the certificate of a program on an input, of a file or the empty one, and
-/// then to run it by so many workers, on that input or on the one of another file.
+/// An order to check a program's certificate and then to run the program by `workers` workers.
+/// Without `input` the certificate's input is empty. The run is on the input `on`, or without it on
+/// the certificate's.
 #[derive(Clone, Copy)]
 pub struct Order<'a> {
     pub program: &'a str,
@@ -60,14 +61,14 @@ fn threads_command<'a>(alloc: Global) -> Result<Command<'a>, AllocError>
     checked_texts(alloc)?.arg(Arg::new(alloc, "on").long("on").action(ArgAction::Set))
 }
 
-/// The command, a simple one.
+/// The command line as clap reads it.
 fn command<'a>(alloc: Global) -> Result<Command<'a>, AllocError>
     ensures { IfOk result (λ c. HasShape c parallel_app) }
 {
     with(empty(alloc)?, threads_command(alloc), THREADS)
 }
 
-/// The paths of the program and of the certificate that the matches name.
+/// Returns the paths of the program and of the certificate in the matches.
 pub(crate) fn two_paths<'a>(matches: &ArgMatches<'a>) -> Option<(&'a str, &'a str)>
     ensures { option_map texts_view result ≡ texts_in (rows_of (found_of matches.now)) }
 {
@@ -76,7 +77,7 @@ pub(crate) fn two_paths<'a>(matches: &ArgMatches<'a>) -> Option<(&'a str, &'a st
     Some((program, certificate))
 }
 
-/// What the matches of `threads` ask for.
+/// Returns the order of the matches of `threads`.
 fn threads_order<'a>(threads: &ArgMatches<'a>) -> Option<Order<'a>>
     ensures { option_map order_view result ≡ threads_with (rows_of (found_of threads.now)) }
 {
@@ -94,7 +95,7 @@ fn threads_order<'a>(threads: &ArgMatches<'a>) -> Option<Order<'a>>
     })
 }
 
-/// What the matches ask for.
+/// Returns the order of the matches.
 fn order_of<'a>(matches: &ArgMatches<'a>) -> Option<Order<'a>>
     ensures { option_map order_view result ≡ order_by (subcommand_rows_of matches.now) }
 {
@@ -104,7 +105,7 @@ fn order_of<'a>(matches: &ArgMatches<'a>) -> Option<Order<'a>>
     }
 }
 
-/// Reads the words after the program's own name.
+/// Reads the words after the program's name.
 pub fn read<'a>(alloc: Global, words: &'a [&'a str]) -> Result<Order<'a>, WordsFault>
     ensures order { IfOk result (λ o. order_in (texts words.now) ≡ Some (order_view o)) }
     ensures fault { IfErr result (λ e. IsWordsFault (texts words.now) e) }

@@ -1,9 +1,12 @@
--- EventOrders along a plan are orderly: `along_orderly`. Where a run departs nowhere, it follows its story: `follows_all`.
+-- Event orders along a plan are orderly: `along_orderly`. A run that departs nowhere follows its
+-- event order: `follows_all`.
 --
--- - `bare`, `bare_at`: what an event is to the words but for its value, by kinds and predecessors alone;
+-- - `bare`, `bare_at`: an event's effect on the shared words up to its value, by kinds and
+--   predecessors alone;
 -- - `bare_alone`, `bare_read`, `bare_write`: back from it;
--- - `same_resume`, `was_word`, `is_word`, `afters`, `many`: what a story along a plan and the plan have in common;
--- - `before_less`: what is before a position is less.
+-- - `same_resume`, `was_word`, `is_word`, `afters`, `many`: what an event order along a plan shares
+--   with the plan;
+-- - `before_less`: the positions before a position are less.
 use Rattle.std.proofs.Common.{◌≡◌, ◌≢◌, ◌↔◌, ℕ, zero, suc, ◌+◌, ◌-◌, ◌^◌, ◌<◌, ◌≤◌, Bool, true, false, nat_eq, if◌then◌else◌, List, [], ◌∷◌, length, map, Option, Some, None, slice_get, slice_index_or, refl, sym, ap, ◌∙◌, subst, arith, inl, inr, ⊎_elim}
 use Rattle.std.specs.Option.{option_map}
 use Rattle.std.proofs.lemmas.List.{length-map}
@@ -169,7 +172,7 @@ sync_of : (o : Option Event) → option_map kind_of o ≡ Some kinds.Sync → o 
 sync_of (Some events.Sync) h = refl
 sync_of o h = absurd (cc h)
 
--- ---- a story along a plan
+-- ---- an event order along a plan
 module _ (plan s : EventOrder) (along : IsAlong plan s) where
   same : (p : ℕ) → bare (what s p) ≡ bare (what plan p)
   same p =

@@ -46,7 +46,7 @@ joined t (Some l) x y ns h =
     let e : x ≢ y = omega arith in
     rw (ne_eqb x y e) (ap (λ (z : List Node). nodes.Series (leaves t) ∷ z) (sym (append_assoc (preorder t) (preorder l) ns)))
 
--- Where the pass stands before a rest of a frame, if it stood at b0 behind that frame.
+-- The state of the pass before the rest of a frame, if it was b0 after that frame.
 record Stands (x : Rest) (b0 b : Built) : Type 0 where
   list : b.nodes ≡ listed x.after ++ (listed x.later ++ b0.nodes)
   events : b.events ≡ x.events
@@ -55,7 +55,7 @@ record Stands (x : Rest) (b0 b : Built) : Type 0 where
   block : b.place.block ≡ b0.strands + number x.later
   outer : b.outer ≡ b0.place ∷ b0.outer
 
--- the same with the strand at hand as a leaf
+-- the same with the current strand as a leaf
 record Closed (x : Rest) (b0 b : Built) : Type 0 where
   list : b.nodes ≡ preorder (block x) ++ (listed x.later ++ b0.nodes)
   events : b.events ≡ 0
@@ -64,7 +64,7 @@ record Closed (x : Rest) (b0 b : Built) : Type 0 where
   block : b.place.block ≡ b0.strands + number x.later
   outer : b.outer ≡ b0.place ∷ b0.outer
 
--- the same with the block at hand in series with the later ones
+-- the same with the current block in series with the later ones
 record Whole (x : Rest) (b0 b : Built) : Type 0 where
   list : b.nodes ≡ preorder (blocks x) ++ b0.nodes
   events : b.events ≡ 0
@@ -104,7 +104,7 @@ completes x b0 b s =
 whole : (x : Rest) (b0 b : Built) → Stands x b0 b → Whole x b0 (block_closed (strand_closed (counted b)))
 whole x b0 b s = completes x b0 (strand_closed (counted b)) (closes x b0 b s)
 
--- a sync ends the block ahead of it
+-- a sync ends the block before it
 syncs : (x : Rest) (b0 b : Built) → Whole x b0 b → Stands (record { events = 0; after = None; later = Some (blocks x) }) b0 (record b { place = record b.place { block = b.strands } })
 syncs x b0 b w = record {
   list = w.list;
@@ -132,7 +132,8 @@ leaves_frame x b0 b w = record {
   outer = ap outer_places w.outer;
 }
 
--- the word that starts a child, between the strand that it ends, and the child and the rest of the block
+-- the word that starts a child, between the strand that it ends, and the child and the rest of the
+-- block
 starts : (k : Invocation) (y x : Rest) (b0 b1 b2 : Built)
     → Closed x b0 b1 → Left y (record b1 { place = record b1.place { child = b1.strands } }) b2
     → Stands (record { events = 1; after = Some (beside k (blocks y) (block x)); later = x.later }) b0 (step (start_of k) b2)
@@ -199,7 +200,7 @@ builds s =
     let w = whole (rest_of s) opening (after (marks s ++ [])) (stands s [] refl) in
     subst P (append-nil (marks s)) (w.list ∙ append-nil (preorder (tree s)))
 
--- how much an event adds
+-- the numbers that an event adds
 pub record IsWithin (n : ℕ) (b : Built) : Type 0 where
   pub strands : b.strands ≤ n
   pub events : b.events ≤ n
@@ -233,7 +234,7 @@ pub all_within : (ms : List Mark) → IsWithin (length ms) (after ms)
 all_within [] = record { strands = omega arith; events = omega arith; nodes = omega arith }
 all_within (m ∷ ms) = within (length ms) (after ms) m (all_within ms)
 
--- Where the pass over a list of events stands, so many events before its end.
+-- The state of the pass over a list of events, n events before its end.
 abbrev pub At : List Event → ℕ → Built → Type 0
 At events place b = (place ≤ length events) × (b ≡ after (map mark_of (drop place events)))
 

@@ -4,7 +4,7 @@ use Rattle.cilk_tree.specs.Tree.{Tree, strand, series, parallel, leaves}
 use Rattle.cilk_tree.specs.Parallel.{Holds, Parallel, Before}
 use Rattle.cilk_tree.proofs.Order.{held_in, holds_both, apart}
 
--- what a strand before another is
+-- the relations of a strand to a later one
 pub record Ordered (t : Tree) (o u v : ℕ) : Type 0 where
   pub one : Holds t o u
   pub other : Holds t o v

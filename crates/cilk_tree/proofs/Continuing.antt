@@ -1,10 +1,12 @@
--- The continuations of a run's spawns by one pass from its end.
+-- The continuations of a run's spawns, found in one pass from its end.
 --
 -- - `one_frame`: an event is in one frame;
--- - `next_stays`, `next_here`: a frame's next `sync`, ahead of an event that isn't one of it, and ahead of one;
--- - `ahead_kept`, `ahead_put`: so for all frames;
--- - `Stands`, `MetSoFar`, `met_first`, `noted`, `met_all`: what the pass has at the run's end, ahead of each event and of all;
--- - `met_spawn`, `met_resume`, `met_sync`, `met_plain`: ahead of an event of each sort;
+-- - `next_stays`, `next_here`: a frame's next `sync`, before an event that isn't one of its
+--   `sync`s, and before one that is;
+-- - `ahead_kept`, `ahead_put`: the same for all frames;
+-- - `Stands`, `MetSoFar`, `met_first`, `noted`, `met_all`: the state of the pass at the run's end,
+--   before each event, and before all;
+-- - `met_spawn`, `met_resume`, `met_sync`, `met_plain`: before an event of each sort;
 -- - `resumes_none`: an event that is no `resume`, by the column of kinds.
 use Rattle.std.proofs.Common.{◌≡◌, ◌≢◌, ◌↔◌, ◌⊎◌, inl, inr, nat_eq, Bool, true, false, if◌then◌else◌, ℕ, zero, suc, ◌+◌, ◌-◌, ◌<◌, ◌≤◌, List, [], ◌∷◌, length, map, get_or, set, Option, Some, None, IfSome, MatchOption, slice_get, refl, sym, ap, ◌∙◌, subst, arith, get_or-set_same, get_or-set_other, length-set}
 use Rattle.std.proofs.lemmas.Option.{slice_get_within}
@@ -65,7 +67,7 @@ next_here es f n m p at is = (
       (λ (apart : n ≢ p). absurd (h.first n (omega (arith, at)) (let l = h.later in omega (arith, at, l, apart)) is))),
 )
 
--- the list has each frame's next `sync` behind a position
+-- the list has each frame's next `sync` after a position
 abbrev pub HasNext : List Event → ℕ → List (Option ℕ) → Type 0
 HasNext es n ahead = (f p : ℕ) → (get_or ahead f None ≡ Some p) ↔ IsNextSync es f n p
 
@@ -131,8 +133,8 @@ set_none (x ∷ l) (suc n) is = ap (λ (z : List (Option Continuation)). x ∷ z
 
 -- ---- the column
 
--- What the column has at k, where the events from behind n on are met: the continuation of a spawn among them; of a spawn ahead whose
--- `resume` is among them that `resume` alone.
+-- The column's entry at k once the events after n are met: the continuation of a spawn among them;
+-- the `resume` alone of an earlier spawn whose `resume` is among them.
 abbrev pub Stands : EventOrder → ℕ → ℕ → Continuation → Type 0
 Stands s n k c = ((n < k) × IsContinuationOf s k c) ⊎ ((k ≤ n) × (n < c.resume) × (what s c.resume ≡ resume k) × (c.sync ≡ 0))
 
@@ -168,13 +170,13 @@ module _ (s : EventOrder) (law : IsOrderly s) where
     );
   }
 
-  -- where the event at n resumes what a spawn left, the place of that spawn is in the column
+  -- where the event at n is the `resume` after a spawn, the place of that spawn is in the column
   pub noted_within : (n : ℕ) (spawned : Option ℕ) (long : ℕ) → long ≡ length s.events + 1
       → ((k : ℕ) → (spawned ≡ Some k) ↔ (what s n ≡ resume k)) → IfSome spawned (λ k. k < long)
   noted_within n None long all is = tt
   noted_within n (Some k) long all is = let l = (spawn_inside k n ((is k).0 refl)).1 in omega (arith, l, all)
 
-  -- what stands at n: its `resume`, where it is a spawn, with the next `sync` of its frame
+  -- the entry at n: its `resume`, where it is a spawn, with the next `sync` of its frame
   pub noted : (n g : ℕ) (ahead : List (Option ℕ)) (column : List (Option Continuation)) (resumed synced : Option ℕ) (now : Option Continuation) → MetSoFar s n ahead column
       → ((p : ℕ) → (resumed ≡ Some p) ↔ HasResume column n p) → synced ≡ get_or ahead g None
       → ((c : Continuation) → (now ≡ Some c) ↔ ((resumed ≡ Some c.resume) × (synced ≡ Some c.sync)))
@@ -374,7 +376,7 @@ resumes_none s i column kind same is other k resumed =
     ap (λ (n : ℕ). kind_of_event (slice_get s.events n)) place ∙ (sym (kind_there s.events i) ∙ (sym (ap (λ (l : List Kind). slice_get l i) same) ∙ is)) in
     not_resume s.events (i + 1) (event s (i + 1)) (after s (i + 1)) kind here other k resumed
 
--- what stands at n, as it is told of what comes behind the events ahead of it
+-- the kind at n, given the kind of the event after the first events
 pub there : (s : EventOrder) (n : ℕ) → n - 1 + 1 ≡ n → (asked : Asked) (frame : ℕ) (kind : Kind) → asked ≡ Next frame kind → IsBehind s (n - 1) asked
     → (kind_of_event (event s n) ≡ Some kind) × IsInFrame s.events n frame
 there s n here asked frame kind is behind =

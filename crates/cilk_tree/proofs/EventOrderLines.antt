@@ -1,7 +1,8 @@
--- What stands right before the events of a run, by what they are to strands.
+-- The immediate predecessors of the events of a run, by their marks.
 --
--- - `marked_shape`: the marks of a list of events, at the places where the line of its shape has them;
--- - `placed`, `placed_whole`: each event comes right after the one ahead of it, or is a `sync`, or resumes what a spawn left, or is the first;
+-- - `marked_shape`: the marks of a list of events, at their places in the line of its shape;
+-- - `placed`, `placed_whole`: each event follows the one before it, or is a `sync`, a `resume`
+--   after a spawn, or the first;
 -- - `return_inside`, `returned_once`, `returned`: each spawn has one `resume`;
 -- - `ends_last`: the last event is an `end`.
 use Rattle.std.proofs.Common.{◌≡◌, ◌≢◌, ℕ, suc, ◌+◌, ◌-◌, ◌<◌, ◌≤◌, List, [], ◌∷◌, ◌++◌, length, get_or, sym, ap, ◌∙◌, subst, arith, ◌⊎◌, inl, inr, ⊎_elim}
@@ -82,7 +83,7 @@ module _ (f : ℕ → List ℕ) (m : ℕ → Mark) where
     pub resumes : m q ≡ Resume
     pub alone : f q ≡ k ∷ []
 
-  -- where an event stands
+  -- the place of an event
   pub data Place (q : ℕ) : Type 0 where
     near : (e : ℕ) → e + 1 ≡ q → f q ≡ e ∷ [] → m q ≢ Sync → Place q
     synced : m q ≡ Sync → Place q

@@ -1,4 +1,5 @@
--- The story of a plan is orderly, and has values (`orderly`, `valued`); each of its events is asked for (`asked`).
+-- The event order of a plan is orderly and has values (`orderly`, `valued`), and each of its events
+-- is requested (`asked`).
 use Rattle.std.proofs.Common.{◌≡◌, ℕ, zero, suc, ◌-◌, ◌<◌, ℤ, pos, true, false, All, List, [], ◌∷◌, length, Some, slice_get, slice_index_or, refl, sym, subst, lit<, arith}
 use Rattle.std.specs.Prelude.{FitsSigned}
 use Rattle.std.specs.Int.{w64}

@@ -1,9 +1,10 @@
--- What an event is to shared words, by what it is to strands.
+-- An event's effect on the shared words, by its mark.
 --
--- - `mark_at`: what an event is to strands;
--- - `begin_what`, `spawn_what`, `end_what`, `return_what`: what an event of such a mark is to words;
--- - `read_what`, `write_what`: what a read and a write are;
--- - `line_not_sync`, `line_not_resume`, `spawn_mark`, `resume_mark`, `read_event`, `write_event`, `finish_at`: the other way round.
+-- - `mark_at`: the mark of an event;
+-- - `begin_what`, `spawn_what`, `end_what`, `return_what`: the effect of an event with such a mark;
+-- - `read_what`, `write_what`: the effect of a read and of a write;
+-- - `line_not_sync`, `line_not_resume`, `spawn_mark`, `resume_mark`, `read_event`, `write_event`,
+--   `finish_at`: the other way round.
 use Rattle.std.proofs.Common.{◌≡◌, ℕ, List, [], ◌∷◌, length, ℤ, Option, Some, None, Bool, nat_eq, true, false, if◌then◌else◌, refl, sym, ap, ◌∙◌, eqb-true}
 use Rattle.cilk_types.specs.declared.event.Event.{Event}
 use Rattle.cilk_types.specs.declared.event.Event.TheVariants as events
@@ -17,7 +18,7 @@ abbrev pub mark_at : Option Event → Mark
 mark_at (Some e) = mark_of e
 mark_at None = mark.Plain
 
--- ---- what is chosen by a test
+-- ---- choices by a test
 chosen : (b : Bool) (w : WordEvent) (P : WordEvent → Type 0) → P w → P plain → P (if b then w else plain)
 chosen true w P h g = h
 chosen false w P h g = g
@@ -48,7 +49,7 @@ pub sync_event : (o : Option Event) → mark_at o ≡ mark.Sync → o ≡ Some e
 sync_event (Some events.Sync) e = refl
 sync_event o e = absurd (cc e)
 
--- ---- from what it is to words
+-- ---- from the effect
 pub line_not_sync : (es : List Event) (p : ℕ) (o : Option Event) (ps : List ℕ) → IsLine (word_event es p o ps) → mark_at o ≡ mark.Sync → ⊥
 line_not_sync es p (Some events.Sync) ps h e = h
 line_not_sync es p o ps h e = absurd (cc e)

@@ -1,6 +1,7 @@
--- The frames of a run's events by one pass over them.
+-- The frames of a run's events, found in one pass over them.
 --
--- - `SoFar`: what the pass has after so many events; `frames_first`, `frames_next`, `frames_all`: at the start, at each event and behind the last;
+-- - `SoFar`: the state of the pass after n events; `frames_first`, `frames_next`, `frames_all`: at
+--   the start, at each event and after the last;
 -- - `begins`: a run that has a shape begins with a frame's `begin`.
 use Rattle.std.proofs.Common.{◌≡◌, ◌≢◌, ◌⊎◌, ⊎_elim, ℕ, ◌+◌, ◌-◌, ◌<◌, ◌≤◌, List, [], ◌∷◌, ◌++◌, length, get_or, map, Option, Some, slice_get, refl, sym, ap, ◌∙◌, subst, arith, length-append}
 use Rattle.std.proofs.lemmas.List.{get_or_push, get_or_append_left}
@@ -20,7 +21,7 @@ pub record SoFar (es : List Event) (i : ℕ) (frames : List ℕ) (frame : ℕ) :
   pub each : (k : ℕ) → k < i → IsInFrame es (k + 1) (get_or frames k 0)
   pub here : 0 < i → IsInFrame es i frame
 
--- what the event of index i does
+-- the frame after the event of index i
 abbrev Goes : Event → ℕ → ℕ → Type 0
 Goes e frame next = Enters (Some e) next ⊎ ((next ≡ frame) × ((other : ℕ) → Enters (Some e) other → ⊥))
 

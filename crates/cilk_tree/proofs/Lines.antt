@@ -1,4 +1,5 @@
--- The events of a frame one after the other, where the events round a child count as events of the frames that make them.
+-- The events of a frame in order, where the events around a child are those of the frames that make
+-- them.
 use Rattle.std.proofs.Common.{◌≡◌, ℕ, suc, ◌+◌, ◌-◌, ◌<◌, ◌≤◌, List, [], ◌∷◌, ◌++◌, length, get_or, refl, ◌∙◌, ap, arith}
 use Rattle.std.proofs.lemmas.List.{length-append, get_or-append_right, get_or_past}
 use Rattle.std.proofs.Math.ListN.{get_or-append}
@@ -120,7 +121,7 @@ laid_whole s = laid_rows (preceding s) (whole s) 1 [] [] (λ i l. (let z : 1 + i
 pub none_past : (s : Shape) (p : ℕ) → suc (long (whole s)) ≤ p → preceding s p ≡ []
 none_past s p l = preceding_rows s p ∙ get_or_past (rows (whole s) 1 [] []) (p - 1) [] (let n = length-rows (whole s) 1 [] [] in omega (arith, l, n))
 
--- ---- where syncs stand
+-- ---- the places of syncs
 abbrev pub SyncAhead : Line → Type 0
 SyncAhead stop = ⊥
 SyncAhead (plain r) = SyncAhead r

@@ -12,7 +12,7 @@ length-hebrews (strand n) h = refl
 length-hebrews (series a b) h = let p = length-hebrews a h in let q = length-hebrews b (h + leaves a) in let l = length-append (hebrews a h) (hebrews b (h + leaves a)) in omega (arith, p, q, l)
 length-hebrews (parallel a b) h = let p = length-hebrews a (h + leaves b) in let q = length-hebrews b h in let l = length-append (hebrews a (h + leaves b)) (hebrews b h) in omega (arith, p, q, l)
 
--- the number of leaf u, where leaves are counted from o on
+-- the number of leaf u, where leaves are counted from o
 abbrev pub at : List ℕ → ℕ → ℕ → ℕ
 at xs o u = get_or xs (u - o) 0
 
@@ -24,12 +24,12 @@ at_right xs ys o n u l p =
     let e : u - o - n ≡ u - (o + n) = omega arith in
     get_or-append_right xs ys n (u - o) 0 l (omega arith) ∙ ap (λ (k : ℕ). get_or ys k 0) e
 
--- in which part a leaf stands
+-- the part that holds a leaf
 pub held_in : (a b : Tree) (o u : ℕ) → o ≤ u → u < o + (leaves a + leaves b) → Holds a o u ⊎ Holds b (o + leaves a) u
 held_in a b o u p q =
     elim (cases_lt u (o + leaves a)) [ inl l ↦ inl (p, l) | inr l ↦ inr (l, omega arith) ]
 
--- the numbers of a tree stand in a range without gaps
+-- the numbers of a tree are a range without gaps
 pub bounds : (t : Tree) (h o u : ℕ) → Holds t o u → (h ≤ at (hebrews t h) o u) × (at (hebrews t h) o u < h + leaves t)
 bounds (strand n) h o u (p, q) =
     let z : u - o ≡ 0 = omega arith in
@@ -50,7 +50,7 @@ bounds (parallel a b) h o u (p, q) =
           let i = bounds b h (o + leaves a) u l in let x = i.0 in let y = i.1 in (omega (arith, e, x), omega (arith, e, y)))
     ]
 
--- parallel strands stand in the tree
+-- parallel strands are in the tree
 pub holds_both : (t : Tree) (o u v : ℕ) → Parallel t o u v → Holds t o u × Holds t o v
 holds_both (strand n) o u v h = absurd h
 holds_both (series a b) o u v (inl h) = let k = holds_both a o u v h in let p = k.0 in let q = k.1 in ((omega (arith, p), omega (arith, p)), (omega (arith, q), omega (arith, q)))
@@ -78,7 +78,7 @@ not_to_itself (parallel a b) o u (inr (inl h)) = not_to_itself b (o + leaves a) 
 not_to_itself (parallel a b) o u (inr (inr (inl h))) = let p = h.0 in let q = h.1 in omega (arith, p, q)
 not_to_itself (parallel a b) o u (inr (inr (inr h))) = let p = h.0 in let q = h.1 in omega (arith, p, q)
 
--- no leaf stands in both parts
+-- no leaf is in both parts
 pub apart : (a b : Tree) (o u : ℕ) → Holds a o u → Holds b (o + leaves a) u → ⊥
 apart a b o u p q = omega (arith, p, q)
 

@@ -18,11 +18,11 @@ pass_start : (k : Invocation) (ms : List Mark) (p : ℕ) (ahead ends : List ℕ)
 pass_start invocations.Call ms p ahead ends ws = refl
 pass_start invocations.Spawn ms p ahead ends ws = refl
 
--- what the frame that waits does once its child has ended at z
+-- the effect on the waiting frame once its child has ended at z
 abbrev back : List Mark → ℕ → Waiting → List Waiting → List (List ℕ)
 back ms z w ws = pass ms (suc z) (resumed_from w.how w.at z) (awaited w.how z w.ends) ws
 
--- a child's events, and what its parent does after them
+-- a child's events, and the rest of its parent's
 passed : (s : Shape) (ms : List Mark) (p z : ℕ) (ahead ends : List ℕ) (w : Waiting) (ws : List Waiting) → suc z ≡ p + length (marks s)
     → pass (marks s ++ ms) p ahead ends (w ∷ ws) ≡ predecessors_from s p ahead ends ++ back ms z w ws
 passed finish ms p z ahead ends w ws at = let k : p ≡ z = omega arith in ap (λ (x : ℕ). ahead ∷ back ms x w ws) k

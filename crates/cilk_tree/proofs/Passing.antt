@@ -1,8 +1,9 @@
--- The earliest of what comes right before an event.
+-- The earliest immediate predecessor of an event.
 --
--- - `one_ahead`: at most one event comes right before one that is no `sync`;
+-- - `one_ahead`: an event that is no `sync` has at most one immediate predecessor;
 -- - `gives_earliest`: the pass that keeps the earliest of each list gives the earliest of each;
--- - `Stands`, `stands_first`, `stands_next`, `stands_last`: where it stands in a list of events;
+-- - `Stands`, `stands_first`, `stands_next`, `stands_last`: the state of the pass in a list of
+--   events;
 -- - `earliest_at`: of the list at a place; `IsEarliest`, `earliest_is`: it is the least of a list.
 use Rattle.std.proofs.Common.{◌≡◌, inl, inr, ⊎_elim, Bool, true, false, if◌then◌else◌, nat_lt, ℕ, zero, suc, ◌+◌, ◌-◌, ◌<◌, ◌≤◌, List, [], ◌∷◌, ◌++◌, length, map, get_or, drop, slice_index_or, slice_get, ℤ, Option, Some, None, refl, sym, ap, ◌∙◌, subst, arith, append_assoc, length-append}
 use Rattle.std.proofs.lemmas.List.{drop_all}
@@ -68,7 +69,7 @@ passes (End ∷ ms) p ahead ends (w ∷ ws) h =
     ∙ ap (λ (a : Option ℕ). back a (earliest (awaited w.how p w.ends))) (resumed_is w.how w.at p)
     ∙ ap (λ (e : Option ℕ). back (ahead_of w.how w.at p) e) (awaited_is w.how p w.ends))
 
--- ---- at most one event comes right before one that is no `sync`
+-- ---- an event that is no `sync` has at most one immediate predecessor
 one_in : (ms : List Mark) (p : ℕ) (ahead ends : List ℕ) (ws : List Waiting) (i : ℕ) → IsAtMostOne ahead → (get_or ms i Plain ≡ Sync → ⊥) → IsAtMostOne (slice_index_or (pass ms p ahead ends ws) i [])
 one_in [] p ahead ends ws i h not = inl refl
 one_in (Sync ∷ ms) p ahead ends ws zero h not = absurd (not refl)
@@ -104,7 +105,7 @@ one_ahead es opening p not = one_in (map mark_of es) 1 [] [] [] (p - 1) (inl ref
 gives_earliest : (es : List Event) → all_earliest es ≡ earliest_from (map mark_of es) 1 nothing
 gives_earliest es = passes (map mark_of es) 1 [] [] [] (inl refl)
 
--- so many events are behind the pass, and this is what it gave
+-- the state of the pass after n events, and its result for them
 pub record Stands (es : List Event) (i : ℕ) (column : List (Option ℕ)) (k : Known) : Type 0 where
   pub many : length column ≡ i
   pub ahead : column ++ earliest_from (map mark_of (drop i es)) (suc i) k ≡ earliest_from (map mark_of es) 1 nothing
@@ -144,7 +145,7 @@ earliest_at [] i = refl
 earliest_at (p ∷ ps) zero = refl
 earliest_at (p ∷ ps) (suc i) = earliest_at ps i
 
--- it is the least of the list, where that isn't empty
+-- it is the least of the list, if the list isn't empty
 abbrev pub IsEarliest : Option ℕ → List ℕ → Type 0
 IsEarliest None ps = (e : ℕ) → Among e ps → ⊥
 IsEarliest (Some m) ps = Among m ps × ((e : ℕ) → Among e ps → m ≤ e)

@@ -1,4 +1,5 @@
--- Positions in a tree: each subtree's events follow each other, so two positions are parallel where they lie on the two sides of a P node.
+-- Positions in a tree: each subtree's events are consecutive, so two positions are parallel exactly
+-- where they are on the two sides of a P node.
 use Rattle.std.proofs.Common.{◌≡◌, ℕ, zero, suc, ◌+◌, ◌-◌, ◌<◌, ◌≤◌, List, [], ◌∷◌, ◌++◌, length, map, get_or, replicate, Option, Some, None, refl, sym, ◌∙◌, ap, subst, arith, ◌⊎◌, inl, inr, ◌↔◌}
 use Rattle.std.proofs.lemmas.Bool.{cases_lt}
 use Rattle.std.proofs.lemmas.List.{append_assoc, append-nil, length-append, length-replicate, get_or-replicate, length-map}
@@ -17,13 +18,13 @@ use Rattle.cilk_tree.proofs.Order.{at, at_left, at_right, not_to_itself, series_
 use Rattle.cilk_tree.proofs.Strands.{count, number, leaves-beside, begun-start_of, count-marks, leaves-block, leaves-blocks, strand_zero, strand_grows, strand_held}
 use Rattle.cilk_tree.proofs.Before.{ordered, not_both, before_or_parallel}
 
--- how many events a tree has
+-- the number of events of a tree
 abbrev pub size : Tree → ℕ
 size (strand n) = n
 size (series a b) = size a + size b
 size (parallel a b) = size a + size b
 
--- the leaf of each event in serial order, where leaves are counted from o on
+-- the leaf of each event in serial order, where leaves are counted from o
 abbrev pub strands : Tree → ℕ → List ℕ
 strands (strand n) o = replicate n o
 strands (series a b) o = strands a o ++ strands b (o + leaves a)
@@ -34,14 +35,14 @@ length-strands (strand n) o = length-replicate n o
 length-strands (series a b) o = let p = length-strands a o in let q = length-strands b (o + leaves a) in let l = length-append (strands a o) (strands b (o + leaves a)) in omega (arith, p, q, l)
 length-strands (parallel a b) o = let p = length-strands a o in let q = length-strands b (o + leaves a) in let l = length-append (strands a o) (strands b (o + leaves a)) in omega (arith, p, q, l)
 
--- p is one of n positions from e on
+-- p is one of n positions from e
 abbrev pub Lies : ℕ → ℕ → ℕ → Type 0
 Lies e n p = (e ≤ p) × (p < e + n)
 
 pub lies_in : (e n m p : ℕ) → Lies e (n + m) p → Lies e n p ⊎ Lies (e + n) m p
 lies_in e n m p (l, k) = elim (cases_lt p (e + n)) [ inl x ↦ inl (l, x) | inr x ↦ inr (x, omega (arith, k)) ]
 
--- p lies left of q under a P node that is the lowest above both; events are counted from e on
+-- p is left of q under a P node that is the lowest above both; events are counted from e
 abbrev pub Beside : Tree → ℕ → ℕ → ℕ → Type 0
 Beside (strand n) e p q = ⊥
 Beside (series a b) e p q = Beside a e p q ⊎ Beside b (e + size a) p q
@@ -166,7 +167,7 @@ strands-then_later t (Some l) o = refl
 strands-block : (x : Rest) (o : ℕ) → strands (block x) o ≡ replicate (suc x.events) o ++ listed x.after (o + 1)
 strands-block x o = strands-then_later (strand (suc x.events)) x.after o
 
--- what the events after a point are of, whose own strand is n
+-- the strands of the events after a point whose own strand is n
 abbrev following : Rest → ℕ → List ℕ
 following x n = replicate x.events n ++ (listed x.after (n + 1) ++ listed x.later (n + 1 + number x.after))
 
@@ -238,7 +239,7 @@ strand_leaf s es sp p (l, k) =
 pub lies_position : (s : Shape) (es : List Event) → Spells s es → (p : ℕ) → IsPosition es p → Lies 1 (size (tree s)) p
 lies_position s es sp p (l, k) = let n = size-spelled s es sp in (l, omega (arith, k, n))
 
--- two positions in serial order are parallel where they lie beside each other
+-- two positions in serial order are parallel where they are beside each other
 pub beside_positions : (s : Shape) (es : List Event) → Spells s es → (p q : ℕ) → IsPosition es p → IsPosition es q → p < q
     → Parallel (tree s) 1 (strand_at es p) (strand_at es q) ↔ Beside (tree s) 1 p q
 beside_positions s es sp p q i j l = (
@@ -246,7 +247,7 @@ beside_positions s es sp p q i j l = (
   λ h. renamed (tree s) 1 _ _ _ _ (sym (strand_leaf s es sp p i)) (sym (strand_leaf s es sp q j)) (beside_parallel (tree s) 1 1 p q h),
 )
 
--- one position is before another where it comes first and they don't lie beside each other
+-- one position is before another where it comes first and they aren't beside each other
 pub record Earlier (t : Tree) (p q : ℕ) : Type 0 where
   pub less : p < q
   pub apart : Beside t 1 p q → ⊥

@@ -1,4 +1,4 @@
--- What lies beside is not reached by immediate predecessors, and what doesn't is.
+-- Positions beside each other aren't reached by immediate predecessors, and all others are.
 use Rattle.std.proofs.Common.{◌≡◌, ◌≢◌, ℕ, zero, suc, ◌+◌, ◌<◌, ◌≤◌, List, [], ◌∷◌, ◌++◌, Some, None, slice_get, refl, sym, ap, subst, ◌∙◌, arith, ◌⊎◌, inl, inr, ⊎_elim}
 use mathlib.Core.Logic.{dite}
 use native.Mathlib.Decide.{dec_lt, ℕ_discrete}
@@ -116,7 +116,7 @@ low_awaited : (k : Invocation) (o n : ℕ) (ends : List ℕ) → Low ends o → 
 low_awaited k o n ends low x h = ⊎_elim (λ e. omega arith) (λ a. let i = low x a in omega arith) (from_awaited k (o + n) ends h)
 
 module _ (f : ℕ → List ℕ) where
-  -- where the immediate predecessors of an event stand
+  -- the places of an event's immediate predecessors
   abbrev Stand : ℕ → ℕ → ℕ → List ℕ → List ℕ → Type 0
   Stand o q e prev ends = Among e prev ⊎ Among e ends ⊎ ((o ≤ e) × (e < q))
 
@@ -185,7 +185,7 @@ module _ (f : ℕ → List ℕ) where
       (λ x. (k.0, (omega arith, omega arith)))
       (in_block r (suc z) (o ∷ []) (z ∷ ends) h q e near far a)
 
-  -- what comes right before an event, and not before p, lies beside p too
+  -- a predecessor of an event that isn't before p is beside p too
   pub edge : (r : Line) (o : ℕ) (prev ends : List ℕ) → Laid f r o prev ends → Low prev o → Low ends o → (p q e : ℕ) → Par r o p q → Among e (f q) → p ≤ e → Par r o p e
   edge stop o prev ends h lp lo p q e k a le = absurd k
   edge (plain r) o prev ends h lp lo p q e k a le = edge r (suc o) (o ∷ []) ends h.1 (low_one o) (low_more ends o lo) p q e k a le
@@ -209,15 +209,15 @@ module _ (f : ℕ → List ℕ) where
         let m = reaches_less b in
         reaches_apart b (edge t o [] [] laid (low_none o) (low_none o) p q e k h (omega arith))
 
-  -- ---- what doesn't lie beside is reached
-  -- what comes right before the line's first event
+  -- ---- positions that aren't beside each other are reached
+  -- the predecessors of the line's first event
   into : (r : Line) (o : ℕ) (prev ends : List ℕ) → Laid f r o prev ends → 0 < long r → (x : ℕ) → Among x prev → Reaches f x o
   into stop o prev ends h some x a = absurd (omega arith)
   into (plain r) o prev ends h some x a = direct (subst (Among x) (sym h.0) a)
   into (wait r) o prev ends h some x a = direct (subst (Among x) (sym h.0) (among_left prev ends a))
   into (inside c u r) o prev ends h some x a = direct (subst (Among x) (sym h.0) a)
 
-  -- what comes right before the rest, and is reached from the invocation
+  -- the predecessors of the rest that are reached from the invocation
   resumed_reach : (c : Invocation) (o z : ℕ) → Comes f o z → (y : ℕ) × Among y (resumed_from c o z) × Comes f o y
   resumed_reach invocations.Call o z h = (z, among_here z [], h)
   resumed_reach invocations.Spawn o z h = (o, among_here o [], inl refl)
@@ -282,7 +282,7 @@ module _ (f : ℕ → List ℕ) where
   rejoin (inside c u r) o prev ends h x a q le lt =
       rejoin r (suc (o + long u)) (resumed_from c o (o + long u)) (awaited c (o + long u) ends) h.2 x (more_awaited c (o + long u) ends a) q (omega arith) (omega arith)
 
-  -- the end of a child reaches what doesn't lie across from it
+  -- the end of a child reaches the positions that aren't across from it
   pub past_end : (c : Invocation) (r : Line) (o z : ℕ) (ends : List ℕ) → Laid f r (suc z) (resumed_from c o z) (awaited c z ends) → (q : ℕ) → suc z ≤ q → q < suc z + long r → (c ≡ invocations.Spawn → suc z + block r ≤ q) → Reaches f z q
   past_end invocations.Call r o z ends h q le lt far = first r (suc z) (z ∷ []) ends h z (among_here z []) q le lt
   past_end invocations.Spawn r o z ends h q le lt far = rejoin r (suc z) (o ∷ []) (z ∷ ends) h z (among_here z ends) q (far refl) lt
@@ -303,7 +303,7 @@ comes_after : (c : Invocation) (r : Line) (z : ℕ) → ComesAfter c r → (0 < 
 comes_after invocations.Call r z h = (goes_on r h, λ e. absurd (cc e))
 comes_after invocations.Spawn r z h = let k = sync_ahead r h in (omega (arith, k), λ e. omega (arith, k))
 
--- what doesn't lie across from a child
+-- the positions that aren't across from a child
 far_from : (c : Invocation) (a n m p q : ℕ) → Lies a n p → a + n ≤ q → (Across c a n m p q → ⊥) → c ≡ invocations.Spawn → a + n + m ≤ q
 far_from invocations.Call a n m p q i le never e = absurd (cc e)
 far_from invocations.Spawn a n m p q i le never e = dite (dec_lt q (a + n + m)) (λ (lt : q < a + n + m). absurd (never (i, (le, lt)))) (λ not. omega arith)

@@ -1,8 +1,9 @@
--- Where continuations are resumed, told by kinds and by the earliest of what comes right before.
+-- The `resume` of each spawn, found by kinds and earliest immediate predecessors.
 --
 -- - `resumed_here`, `not_sync`: a `resume` right after a spawn;
 -- - `resume_word`, `is_word_here`: a `resume` that is a step on a word;
--- - `SoFar`, `within`, `resumed_first`, `resumed_next`, `same_column`, `resumed_all`: the column of resumptions at the start, at each event and behind the last.
+-- - `SoFar`, `within`, `resumed_first`, `resumed_next`, `same_column`, `resumed_all`: the column of
+--   resumptions at the start, at each event and after the last.
 use Rattle.std.proofs.Common.{◌≡◌, ◌≢◌, inl, inr, Bool, true, false, ℕ, ◌+◌, ◌<◌, ◌≤◌, List, [], ◌∷◌, length, get_or, set, Option, Some, None, IfSome, IsTrue, MatchOption, ◌↔◌, if◌then◌else◌, refl, sym, ap, ◌∙◌, subst, arith, get_or-set_same, get_or-set_other, length-set}
 use Rattle.std.specs.Prelude.{is_some}
 use mathlib.Core.Logic.{dite}

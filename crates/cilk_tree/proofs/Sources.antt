@@ -1,8 +1,9 @@
 -- The source of a read is the last earlier write of its cell.
 --
--- - `writes_true`, `writes_false`: the test of an event and what it says;
+-- - `writes_true`, `writes_false`: the test of an event and its meaning;
 -- - `at_next`: positions count from 1;
--- - `last_is`: the last write among the first events is one, and no later one of them writes the cell.
+-- - `last_is`: the last write among the first events is one, and no later one of them writes the
+--   cell.
 use Rattle.std.proofs.Common.{◌≡◌, ◌⊎◌, inl, inr, ℕ, zero, suc, ◌<◌, ◌≤◌, ◌-◌, true, false, if◌then◌else◌, List, Option, Some, slice_get, refl, sym, ap, ◌∙◌, subst, arith, eq-eqb, eqb-true}
 use Rattle.std.proofs.lemmas.Bool.{false≢true, cases_Bool, cases_order}
 use Rattle.cilk_types.specs.declared.event.Event.{Event}

@@ -23,7 +23,8 @@ span_size (strand n) = omega arith
 span_size (series a b) = let p = span_size a in let q = span_size b in omega (arith, p, q)
 span_size (parallel a b) = let p = span_size a in let q = span_size b in omega (arith, p, q)
 
--- the number of events in the longest chain that ends at a position; positions are counted from e on
+-- the number of events in the longest chain that ends at a position; positions are counted from e
+-- on
 abbrev rank : Tree → ℕ → ℕ → ℕ
 rank (strand n) e p = p + 1 - e
 rank (series a b) e p = cond (nat_lt p (e + size a)) (rank a e p) (span_of a + rank b (e + size a) p)
@@ -130,7 +131,7 @@ length-longest (parallel a b) e =
           subst (λ (c : Bool). length (cond c (longest a e) (longest b (e + size a))) ≡ max (span_of a) (span_of b)) (sym t) z)
     ]
 
--- positions that lie in a tree and of which each comes ahead of the next, not beside it
+-- positions in a tree, each before the next
 abbrev Follows : Tree → ℕ → ℕ → ℕ → Type 0
 Follows t e p q = (p < q) × (Beside t e p q → ⊥)
 
@@ -264,7 +265,7 @@ walk (parallel a b) ns few =
     ap (λ (l : List Node). joined (nodes.Parallel (leaves a) (leaves b)) (spans_from l)) (append_assoc (preorder a) (preorder b) ns)
     ∙ ap (joined (nodes.Parallel (leaves a) (leaves b))) e
 
--- Where the pass over a tree's nodes stands, so many nodes before the last.
+-- The state of the pass over a tree's nodes, n nodes before the last.
 abbrev pub At : List Node → ℕ → List ℕ → Type 0
 At ns place spans = (place ≤ length ns) × (spans ≡ spans_from (drop place ns))
 

@@ -1,4 +1,5 @@
--- A list of events spells one shape at most: `one_shape` for two lists that go on behind their shapes, `spells_one` for whole ones.
+-- A list of events spells at most one shape: `one_shape` for two lists with more events after their
+-- shapes, `spells_one` for whole lists.
 use Rattle.std.proofs.Common.{◌≡◌, List, [], ◌∷◌, ◌++◌, refl, sym, ap, ap₂, ◌∙◌, subst, append_assoc, append-nil}
 use Rattle.cilk_tree.specs.declared.mark.Mark.{Mark}
 use Rattle.cilk_tree.specs.declared.mark.Mark.TheVariants.{Begin, End, Sync, Resume, Spawn, Call, Plain}

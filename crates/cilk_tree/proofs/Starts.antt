@@ -1,4 +1,5 @@
--- Where the strands of a run begin, by one pass over its events: `begun_few`; `BegunSoFar`, `begun_first`, `begun_here`, `begun_none`, `begun_all`.
+-- The first events of a run's strands, found in one pass over its events: `begun_few`;
+-- `BegunSoFar`, `begun_first`, `begun_here`, `begun_none`, `begun_all`.
 use Rattle.std.proofs.Common.{◌≡◌, ◌≢◌, ◌↔◌, ℕ, zero, suc, ◌+◌, ◌<◌, ◌≤◌, List, [], ◌∷◌, ◌++◌, length, get_or, Some, None, slice_get, refl, sym, ap, ◌∙◌, subst, arith, length-append}
 use Rattle.std.proofs.lemmas.Option.{slice_get_within}
 use mathlib.Core.Logic.{dite}

@@ -1,4 +1,5 @@
--- A line's events lie beside each other where they do in the tree of its shape, so before is reachability.
+-- A line's events lie beside each other where they do in the tree of its shape, so before is
+-- reachability.
 use Rattle.std.proofs.Common.{◌≡◌, ℕ, suc, ◌+◌, ◌<◌, List, [], length, Option, Some, None, refl, sym, subst, arith, ◌⊎◌, inl, inr}
 use Rattle.std.proofs.lemmas.Bool.{cases_lt}
 use Rattle.cilk_types.specs.declared.event.Event.{Event}
@@ -33,7 +34,7 @@ pub size-beside : (k : Invocation) (a b : Tree) → size (beside k a b) ≡ size
 size-beside invocations.Call a b = refl
 size-beside invocations.Spawn a b = refl
 
--- events of the block at hand and of all
+-- the numbers of events of the current block and of all blocks
 pub measures : (r : Shape) → (block (line_of r) ≡ (rest_of r).events + sizes (rest_of r).after) × (long (line_of r) ≡ (rest_of r).events + sizes (rest_of r).after + sizes (rest_of r).later)
 measures finish = (refl, refl)
 measures (act r) = let h = measures r in let a = h.0 in let b = h.1 in (omega (arith, a), omega (arith, b))
@@ -91,7 +92,7 @@ part_child invocations.Spawn a b e n m p q f g (inl h) = inl h
 part_child invocations.Spawn a b e n m p q f g (inr (inl h)) = inr (inl (subst (λ (z : ℕ). Beside b (e + z) p q) (sym f) h))
 part_child invocations.Spawn a b e n m p q f g (inr (inr (x, y))) = inr (inr ((omega (arith, x), omega (arith, x, f)), (omega (arith, y, f), omega (arith, y, f, g))))
 
--- The rest of a frame from position k on: its block from j on, and the later blocks from l on.
+-- The rest of a frame from position k: its block continues at j, and the later blocks are at l.
 to_tree : (r : Shape) (k j l p q : ℕ) → j ≡ k + (rest_of r).events → l ≡ j + sizes (rest_of r).after → Par (line_of r) k p q → BesideIf (rest_of r).after j p q ⊎ BesideIf (rest_of r).later l p q
 to_tree finish k j l p q f g h = absurd h
 to_tree (act r) k j l p q f g h = to_tree r (suc k) j l p q (omega (arith, f)) g h

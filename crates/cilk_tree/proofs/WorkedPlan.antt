@@ -52,7 +52,7 @@ first_alone n a b v (inl (inl h)) = h
 first_alone n a b v (inl (inr h)) = absurd (let k = (holds_both a 2 1 v h).0 in omega (arith, k))
 first_alone n a b v (inr h) = absurd (let k = (holds_both b (1 + (1 + leaves a)) 1 v h).0 in omega (arith, k))
 
--- the child beside the rest of its block, and the later block
+-- the child is beside the rest of its block, and before the later block
 abbrev ending : Tree
 ending = blocks (record { events = 1; after = None; later = None })
 

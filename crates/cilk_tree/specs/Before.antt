@@ -1,4 +1,4 @@
--- Which events come before which.
+-- The order of events: which event is before which in every schedule.
 use Rattle.std.specs.Prelude.{◌≡◌, ℕ, ◌<◌, ◌≤◌, ◌⊎◌, List, length}
 use Rattle.cilk_types.specs.declared.event.Event.{Event}
 use Rattle.cilk_tree.specs.Tree.{Tree}
@@ -9,7 +9,8 @@ use Rattle.cilk_tree.specs.Races.{strand_at}
 abbrev pub IsPosition : List Event → ℕ → Type 0
 IsPosition events p = (1 ≤ p) × (p ≤ length events)
 
--- An event is before another where both are of one strand and it comes first, or its strand is before the other's.
+-- One event is before another if both are in one strand and it comes first, or if its strand is
+-- before the other's.
 abbrev pub IsBefore : Tree → List Event → ℕ → ℕ → Type 0
 IsBefore t events p q =
     ((strand_at events p ≡ strand_at events q) × (p < q))

@@ -1,5 +1,6 @@
--- The continuations of a run's spawns, and the blocks that they are in. A sync block is what a frame does between two of its `sync`s, and
--- the `sync` that ends it awaits what was spawned in it (Feng and Leiserson 1997, section 2).
+-- The continuations of a run's spawns, and their sync blocks. A sync block is the part of a frame
+-- between two of its `sync`s. The `sync` that ends it awaits the children spawned in it (Feng and
+-- Leiserson 1997, section 2).
 use Rattle.std.specs.Prelude.{◌≡◌, ◌≢◌, ◌↔◌, ◌<◌, ℕ, List, Option, Some, None, slice_index_or}
 use Rattle.cilk_types.specs.declared.event.Event.{Event}
 use Rattle.cilk_types.specs.declared.event.Event.TheVariants.{Sync}
@@ -13,7 +14,7 @@ use Rattle.cilk_tree.specs.Frames.{IsInFrame}
 abbrev pub SyncsAt : List Event → ℕ → ℕ → Type 0
 SyncsAt es frame p = (event_at es p ≡ Some Sync) × IsInFrame es p frame
 
--- the frame's first `sync` behind a position
+-- the frame's first `sync` after a position
 pub record IsNextSync (es : List Event) (frame behind p : ℕ) : Type 0 where
   pub later : behind < p
   pub syncs : SyncsAt es frame p
@@ -23,16 +24,18 @@ pub record IsNextSync (es : List Event) (frame behind p : ℕ) : Type 0 where
 abbrev pub EndsBlockOf : List Event → ℕ → ℕ → Type 0
 EndsBlockOf es k p = (frame : ℕ) × IsInFrame es k frame × IsNextSync es frame k p
 
--- the continuation of the spawn at k begins with the `resume` after it, and its block ends with this `sync`
+-- the continuation of the spawn at k begins with the `resume` after it, and its block ends with
+-- this `sync`
 pub record IsContinuationOf (s : EventOrder) (k : ℕ) (c : Continuation) : Type 0 where
   pub resumes : what s c.resume ≡ resume k
   pub ends : EndsBlockOf s.events k c.sync
 
--- at each position where a spawn stands the column has its continuation, and nothing at all others
+-- the column has each spawn's continuation at the spawn's position, and nothing at the other
+-- positions
 abbrev pub AreContinuations : EventOrder → List (Option Continuation) → Type 0
 AreContinuations s column = (k : ℕ) (c : Continuation) → (slice_index_or column k None ≡ Some c) ↔ IsContinuationOf s k c
 
--- the position stands at the frame's place, and all other places are as they were
+-- the frame's place has the position, and all other places are unchanged
 pub record IsPut (old : List (Option ℕ)) (frame p : ℕ) (new : List (Option ℕ)) : Type 0 where
   pub here : slice_index_or new frame None ≡ Some p
   pub others : (f : ℕ) → f ≢ frame → slice_index_or new f None ≡ slice_index_or old f None

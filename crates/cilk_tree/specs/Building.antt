@@ -6,14 +6,14 @@ use Rattle.cilk_tree.specs.declared.mark.Mark.TheVariants.{Begin, End, Sync, Res
 use Rattle.cilk_tree.specs.declared.building.StrandCounts.{StrandCounts}
 use Rattle.cilk_tree.specs.Built.{Built}
 
--- before any event was met
+-- before the pass
 abbrev pub opening : Built
 opening = record { nodes = []; outer = []; place = record { frame = 0; block = 0; child = 0 }; strands = 0; events = 0 }
 
 abbrev pub place_at : ℕ → StrandCounts
 place_at n = record { frame = n; block = n; child = n }
 
--- the strand at hand as a leaf, in series with what its block has after it
+-- the current strand becomes a leaf, in series with the rest of its block
 abbrev pub strand_closed : Built → Built
 strand_closed b = record b {
   nodes = cond (b.strands == b.place.block) [] (Series 1 ∷ []) ++ Strand b.events ∷ b.nodes;
@@ -21,7 +21,7 @@ strand_closed b = record b {
   events = 0;
 }
 
--- the block at hand in series with the later blocks
+-- the current block, in series with the later blocks
 abbrev pub block_closed : Built → Built
 block_closed b = record b { nodes = cond (b.place.block == b.place.frame) [] (Series (b.strands - b.place.block) ∷ []) ++ b.nodes }
 
@@ -33,7 +33,7 @@ abbrev pub outer_places : List StrandCounts → List StrandCounts
 outer_places [] = []
 outer_places (q ∷ qs) = qs
 
--- back in the frame that waits
+-- back in the outer frame
 abbrev pub frame_closed : Built → Built
 frame_closed b = record b { place = inner_place b.place b.outer; outer = outer_places b.outer }
 
@@ -49,6 +49,6 @@ marked Resume b = let c = strand_closed b in record c { place = record c.place {
 marked Spawn b = record b { nodes = Parallel (b.strands - b.place.child) (b.place.child - b.place.block) ∷ b.nodes }
 marked Call b = record b { nodes = Series (b.strands - b.place.child) ∷ b.nodes }
 
--- one event more
+-- after one more event
 abbrev pub step : Mark → Built → Built
 step m b = marked m (counted b)

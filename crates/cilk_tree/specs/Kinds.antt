@@ -1,4 +1,4 @@
--- The kind of an event: what it is without its value.
+-- The kind of an event: the event without its value.
 use Rattle.std.specs.Prelude.{◌≡◌, ℕ, ◌+◌, ◌≤◌, map, length, Option, Some, None, slice_get, FitsSigned}
 use Rattle.std.specs.Int.{w64}
 use Rattle.cilk_types.specs.declared.event.Event.{Event}
@@ -29,16 +29,16 @@ abbrev pub kind_of_event : Option Event → Option Kind
 kind_of_event (Some e) = Some (kind_of e)
 kind_of_event None = None
 
--- the kind of the event behind so many events, none past the last
+-- the kind of the event after the first n events, none past the last
 abbrev pub kind_behind : EventOrder → ℕ → Option Kind
 kind_behind s after = slice_get (map kind_of s.events) after
 
--- what comes behind so many events: the next event's kind and whose it is, or nothing past the last
+-- the kind and frame of the event after the first n events, or nothing past the last
 abbrev pub IsBehind : EventOrder → ℕ → Asked → Type 0
 IsBehind s after Nothing = length s.events ≤ after
 IsBehind s after (Next frame kind) = (kind_behind s after ≡ Some kind) × IsInFrame s.events (after + 1) frame
 
--- the value that the event reads or writes, if it does, is a word
+-- the value that the event reads or writes, if any, is a word
 abbrev pub IsOfWords : Event → Type 0
 IsOfWords (events.Read c v) = FitsSigned w64 v
 IsOfWords (events.Write c v) = FitsSigned w64 v

@@ -1,11 +1,11 @@
--- What events are to strands.
+-- The marks of events: their effect on strands.
 use Rattle.std.specs.Prelude.{ℕ}
 use Rattle.cilk_types.specs.declared.event.Event as numbers
 use Rattle.cilk_types.specs.declared.event.Event.TheVariants as events
 use Rattle.cilk_tree.specs.declared.mark.Mark.{Mark}
 use Rattle.cilk_tree.specs.declared.mark.Mark.TheVariants.{Begin, End, Sync, Resume, Spawn, Call, Plain}
 
--- what an event is to strands
+-- the mark of an event
 abbrev pub mark_of : numbers.Event → Mark
 mark_of (events.Begin f) = Begin
 mark_of (events.Spawn f) = Spawn
@@ -21,7 +21,7 @@ mark_of (events.Set i v) = Plain
 mark_of (events.Value i v) = Plain
 mark_of (events.Print v) = Plain
 
--- how many strands an event begins
+-- the number of strands that an event begins
 abbrev pub begun_by : Mark → ℕ
 begun_by Begin = 1
 begun_by End = 0

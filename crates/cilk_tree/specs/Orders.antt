@@ -1,4 +1,4 @@
--- What the order of a story's events is, whatever their values are.
+-- The properties of an event order that hold whatever its values are.
 use Rattle.std.specs.Prelude.{◌≡◌, ◌≢◌, ℕ, ◌+◌, ◌^◌, ◌<◌, ◌≤◌, length, Some}
 use Rattle.cilk_types.specs.declared.event.Event.TheVariants.{Sync}
 use Rattle.cilk_tree.specs.Shape.{Shape, Spells}
@@ -9,7 +9,7 @@ use Rattle.cilk_tree.specs.declared.event_order.EventOrder.{EventOrder}
 use Rattle.cilk_tree.specs.Word.{event, after, Before, plain, spawn, resume, finish, what, IsLine, Conflict, IsWord}
 
 pub record IsOrderly (s : EventOrder) : Type 0 where
-  -- the root's `begin` is the first event, and no step on a word
+  -- the root's `begin` is the first event, and no step on a shared word
   pub root : (what s 1 ≡ plain) × (1 ≤ length s.events)
   pub none_ahead : (e : ℕ) → Among e (after s 1) → ⊥
   -- the root's `end` is the last event
@@ -19,11 +19,11 @@ pub record IsOrderly (s : EventOrder) : Type 0 where
   pub few : length s.events + 1 < 2 ^ 32
   pub small : length s.opening + length s.events + 1 < 2 ^ 34
   pub earlier : (p e : ℕ) → Among e (after s p) → e < p
-  -- a read, a write, a spawn and the root's `end` come right after the event ahead of them alone
+  -- a read, a write, a spawn and the root's `end` follow the event before them alone
   pub line : (p : ℕ) → IsLine (what s p) → (e : ℕ) → Among e (after s p) → e + 1 ≡ p
-  -- so does each other event but a `sync` and the `resume` after a spawn
+  -- so does every other event except a `sync` and the `resume` after a spawn
   pub ordinary : (p : ℕ) → what s p ≡ plain → event s p ≢ Some Sync → (e : ℕ) → Among e (after s p) → e + 1 ≡ p
-  -- such a `resume` comes right after its spawn alone, and each spawn has one
+  -- such a `resume` follows its spawn alone, and each spawn has one
   pub resumed : (p q : ℕ) → what s p ≡ resume q → (what s q ≡ spawn) × Among q (after s p) × ((e : ℕ) → Among e (after s p) → e ≡ q)
   pub returns : (q : ℕ) → what s q ≡ spawn → (p : ℕ) × (what s p ≡ resume q)
   pub once : (p p' q : ℕ) → what s p ≡ resume q → what s p' ≡ resume q → p ≡ p'
@@ -32,12 +32,13 @@ pub record IsOrderly (s : EventOrder) : Type 0 where
   -- all events are before the last one
   pub all : (p : ℕ) → 1 ≤ p → p < length s.events → Before s p (length s.events)
 
--- the story of a run of this shape
+-- the event order of a run of this shape
 pub record IsEventOrderOf (shape : Shape) (s : EventOrder) : Type 0 where
   pub spells : Spells shape s.events
   pub preceding : s.preceding ≡ predecessors shape
 
--- Where each frame syncs after it spawned, the story of a run without a determinacy race is orderly.
+-- If each frame syncs after it spawned, the event order of a run without a determinacy race is
+-- orderly.
 abbrev pub EventOrdersAreOrderly : Type 0
 EventOrdersAreOrderly =
     (shape : Shape) (s : EventOrder) → IsEventOrderOf shape s → IsSynced shape → length s.events + 1 < 2 ^ 32

@@ -1,4 +1,5 @@
--- The immediate predecessors of a run's events by one pass over them, with a stack of the frames that wait for a child's end.
+-- The immediate predecessors of a run's events, found in one pass with a stack of the frames that
+-- wait for a child's end.
 use Rattle.std.specs.Prelude.{◌≡◌, ℕ, suc, List, [], ◌∷◌, ◌++◌, map}
 use Rattle.cilk_types.specs.declared.event.Event.{Event}
 use Rattle.cilk_types.specs.declared.invocation.Invocation.{Invocation}
@@ -9,13 +10,15 @@ use Rattle.cilk_tree.specs.Marks.{mark_of}
 use Rattle.cilk_tree.specs.Shape.{Shape, Spells}
 use Rattle.cilk_tree.specs.Reach.{resumed_from, awaited, predecessors}
 
--- a frame that has started a child: how, where, and the ends that its block awaits
+-- a frame that waits for a child: how and where it started the child, and the `end`s that its block
+-- awaits
 pub record Waiting : Type 0 where
   pub how : Invocation
   pub at : ℕ
   pub ends : List ℕ
 
--- the events from position p on: those of the first are `ahead`, and `ends` are the ends that the block at hand awaits
+-- the predecessors of the events from position p; `ahead` are those of the first, and `ends` the
+-- `end`s that the current block awaits
 abbrev pub pass : List Mark → ℕ → List ℕ → List ℕ → List Waiting → List (List ℕ)
 pass [] p ahead ends ws = []
 pass (Plain ∷ ms) p ahead ends ws = ahead ∷ pass ms (suc p) (p ∷ []) ends ws
@@ -27,7 +30,7 @@ pass (Call ∷ ms) p ahead ends ws = ahead ∷ pass ms (suc p) (p ∷ []) [] (re
 pass (End ∷ ms) p ahead ends [] = ahead ∷ pass ms (suc p) (p ∷ []) ends []
 pass (End ∷ ms) p ahead ends (w ∷ ws) = ahead ∷ pass ms (suc p) (resumed_from w.how w.at p) (awaited w.how p w.ends) ws
 
--- of each event of a list
+-- for each event of a list
 abbrev pub predecessors_in : List Event → List (List ℕ)
 predecessors_in events = pass (map mark_of events) 1 [] [] []
 

@@ -1,4 +1,4 @@
--- Where strands begin.
+-- The first events of strands.
 use Rattle.std.specs.Prelude.{◌≡◌, ◌≢◌, ◌↔◌, ◌+◌, ◌<◌, ◌≤◌, ℕ, List, Some, slice_get, slice_index_or}
 use Rattle.cilk_types.specs.declared.event.Event.{Event}
 use Rattle.cilk_tree.specs.Before.{IsPosition}
@@ -14,6 +14,6 @@ pub record BeginsStrand (es : List Event) (strand p : ℕ) : Type 0 where
 abbrev pub AreStarts : List Event → List ℕ → Type 0
 AreStarts es starts = (k p : ℕ) → (slice_get starts k ≡ Some p) ↔ BeginsStrand es (k + 1) p
 
--- by each position the strand that begins there, or 0
+-- at each position the strand that begins there, or 0
 abbrev pub AreFirsts : List Event → List ℕ → Type 0
 AreFirsts es strands = (p : ℕ) → 0 < slice_index_or strands p 0 → BeginsStrand es (slice_index_or strands p 0) p

@@ -1,4 +1,4 @@
--- The story of a plan, and of which runs there is a plan.
+-- The event order of a plan, and the runs that have a plan.
 use Rattle.std.specs.Prelude.{◌≡◌, ◌≢◌, ◌⊎◌, ℕ, ◌-◌, ◌^◌, ◌≤◌, ℤ, Bool, true, List, [], ◌∷◌, length, Some}
 use Rattle.cilk_types.specs.declared.event.Event.{Event}
 use Rattle.cilk_types.specs.declared.event.Event.TheVariants.{Read, Sync}
@@ -12,17 +12,17 @@ use Rattle.cilk_tree.specs.Values.{HasValue}
 use Rattle.cilk_tree.specs.Word.{event, after}
 use Rattle.cilk_tree.specs.Passes.{predecessors_in}
 
--- on the input of the run each event is asked for
+-- on the input of the run each event is requested
 abbrev pub all_asked : List Event → List Bool
 all_asked [] = []
 all_asked (e ∷ es) = true ∷ all_asked es
 
--- the story of a list of events, whose cells open with these values
+-- the event order of a list of events whose cells open with these values
 abbrev pub planned : List Event → List ℤ → EventOrder
 planned events opening = record { events = events; preceding = predecessors_in events; opening = opening; asked = all_asked events }
 
--- The events are those of a run whose frames sync after they spawned and in which no two accesses race; reads give their cells' values,
--- from these opening values on.
+-- The events are those of a run whose frames sync after they spawned and in which no two accesses
+-- race. Each read gives its cell's value, where the cells open with these values.
 pub record HasPlan (events : List Event) (opening : List ℤ) : Type 0 where
   pub shape : Shape
   pub spells : Spells shape events
@@ -32,10 +32,10 @@ pub record HasPlan (events : List Event) (opening : List ℤ) : Type 0 where
   pub few_cells : length opening ≤ 2 ^ 32
   pub reads : (p cell : ℕ) (v : ℤ) → event_at events p ≡ Some (Read cell v) → HasValue (planned events opening) cell (p - 1) v
 
--- none, or one
+-- an empty list, or a list of one
 abbrev pub IsAtMostOne : List ℕ → Type 0
 IsAtMostOne ps = (ps ≡ []) ⊎ ((p : ℕ) × (ps ≡ p ∷ []))
 
--- a `sync` alone comes right after several events
+-- only a `sync` has more than one immediate predecessor
 abbrev pub HasOneAhead : EventOrder → Type 0
 HasOneAhead s = (p : ℕ) → event s p ≢ Some Sync → IsAtMostOne (after s p)

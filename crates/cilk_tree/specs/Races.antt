@@ -7,7 +7,7 @@ use Rattle.cilk_tree.specs.Tree.{Tree}
 use Rattle.cilk_tree.specs.Parallel.{Parallel}
 use Rattle.cilk_tree.specs.Hebrew.{hebrew}
 
--- the strand of a position: how many strands the events up to it begin
+-- the strand of a position: the number of strands begun by the events up to it
 abbrev pub strand_at : List Event → ℕ → ℕ
 strand_at [] p = 0
 strand_at (e ∷ es) zero = 0
@@ -36,7 +36,8 @@ pub record IsRace (t : Tree) (events : List Event) (p q : ℕ) : Type 0 where
   pub clash : (Writes (event_at events p) cell × Accesses (event_at events q) cell) ⊎ (Accesses (event_at events p) cell × Writes (event_at events q) cell)
   pub parallel : Parallel t 1 (strand_at events p) (strand_at events q)
 
--- The least position that an earlier access races with, and of those accesses the one of greatest Hebrew number, the earliest at equal numbers.
+-- The least position that an earlier access races with. Of those accesses, the one of greatest
+-- Hebrew number; at equal numbers the earliest.
 pub record IsFirstRace (t : Tree) (events : List Event) (p q : ℕ) : Type 0 where
   pub race : IsRace t events p q
   pub least : (p' q' : ℕ) → IsRace t events p' q' → q ≤ q'

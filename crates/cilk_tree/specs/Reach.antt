@@ -1,4 +1,4 @@
--- Before as reachability: each event has its immediate predecessors, and an event is before what it reaches by them.
+-- Order as reachability: an event is before those that it reaches by immediate predecessors.
 use Rattle.std.specs.Prelude.{◌≡◌, ℕ, suc, ◌+◌, ◌-◌, ◌↔◌, List, [], ◌∷◌, ◌++◌, length, Some, slice_get, slice_index_or}
 use Rattle.cilk_types.specs.declared.event.Event.{Event}
 use Rattle.cilk_types.specs.declared.invocation.Invocation.{Invocation}
@@ -7,19 +7,21 @@ use Rattle.cilk_tree.specs.Shape.{Shape, finish, act, sync, child, marks, Spells
 use Rattle.cilk_tree.specs.Tree.{tree}
 use Rattle.cilk_tree.specs.Before.{IsPosition, IsBefore}
 
--- what comes right before the `resume` after a child: the child's `end` after a call, and the spawn after a spawn
+-- the predecessor of the `resume` after a child: the child's `end` after a call, the spawn after a
+-- spawn
 abbrev pub resumed_from : Invocation → ℕ → ℕ → List ℕ
 resumed_from invocations.Call start end = end ∷ []
 resumed_from invocations.Spawn start end = start ∷ []
 
--- the ends that the block's `sync` awaits, once such a child has ended
+-- the `end`s that the block's `sync` awaits after such a child
 abbrev pub awaited : Invocation → ℕ → List ℕ → List ℕ
 awaited invocations.Call end ends = ends
 awaited invocations.Spawn end ends = end ∷ ends
 
--- The immediate predecessors of a shape's events, from position p on: those of its first event are `ahead`, and `ends` are the
--- `end`s of the children that were spawned in the block so far. A `sync` has the event ahead of it and those ends, the `resume` after
--- a spawn has the spawn, and every other event has the one ahead of it.
+-- The immediate predecessors of a shape's events, from position p. Those of the first event are
+-- `ahead`, and `ends` are the `end`s of the children spawned in the block so far. A `sync` has the
+-- event before it and those ends, the `resume` after a spawn has the spawn, and every other event
+-- has the event before it.
 abbrev pub predecessors_from : Shape → ℕ → List ℕ → List ℕ → List (List ℕ)
 predecessors_from finish p ahead ends = ahead ∷ []
 predecessors_from (act r) p ahead ends = ahead ∷ predecessors_from r (suc p) (p ∷ []) ends
@@ -29,7 +31,7 @@ predecessors_from (child k u r) p ahead ends =
     ahead ∷ (p ∷ []) ∷ predecessors_from u (suc (suc p)) (suc p ∷ []) []
     ++ (resumed_from k p end ∷ predecessors_from r (suc (suc end)) (suc end ∷ []) (awaited k end ends))
 
--- of each event of a run, whose first one has none
+-- for each event of a run; the first has none
 abbrev pub predecessors : Shape → List (List ℕ)
 predecessors s = [] ∷ predecessors_from s 2 (1 ∷ []) []
 
@@ -41,12 +43,12 @@ pub record Among (q : ℕ) (ps : List ℕ) : Type 0 where
   pub place : ℕ
   pub is : slice_get ps place ≡ Some q
 
--- q comes right before p, or before an event that does
+-- q is an immediate predecessor of p, or reaches one
 pub data Reaches (preceding : ℕ → List ℕ) : ℕ → ℕ → Type 0 where
   direct : {q p : ℕ} → Among q (preceding p) → Reaches preceding q p
   through : {q e p : ℕ} → Reaches preceding q e → Among e (preceding p) → Reaches preceding q p
 
--- the frame has a sync ahead
+-- the frame has a sync later
 abbrev pub HasSync : Shape → Type 0
 HasSync finish = ⊥
 HasSync (act r) = HasSync r
@@ -57,7 +59,7 @@ abbrev pub HasSyncIf : Invocation → Shape → Type 0
 HasSyncIf invocations.Call r = Unit {0}
 HasSyncIf invocations.Spawn r = HasSync r
 
--- each frame syncs after it spawned, as a frame does before it ends
+-- each frame syncs after it spawned, as a Cilk frame does before it ends
 abbrev pub IsSynced : Shape → Type 0
 IsSynced finish = Unit {0}
 IsSynced (act r) = IsSynced r
@@ -69,7 +71,7 @@ abbrev pub ReachesOnlyLater : Type 0
 ReachesOnlyLater = (s : Shape) (events : List Event) → Spells s events → (p q : ℕ) → IsPosition events p → IsPosition events q
     → Reaches (preceding s) p q → IsBefore (tree s) events p q
 
--- Where each frame syncs after it spawned, before is reachability.
+-- If each frame syncs after it spawned, an event is before another exactly where it reaches it.
 abbrev pub IsReachability : Type 0
 IsReachability = (s : Shape) (events : List Event) → Spells s events → IsSynced s → (p q : ℕ) → IsPosition events p → IsPosition events q
     → IsBefore (tree s) events p q ↔ Reaches (preceding s) p q

@@ -1,8 +1,9 @@
--- Where continuations are resumed.
+-- The `resume` of each spawn.
 use Rattle.std.specs.Prelude.{◌≡◌, ◌↔◌, ◌≤◌, ℕ, List, slice_index_or}
 use Rattle.cilk_tree.specs.declared.event_order.EventOrder.{EventOrder}
 use Rattle.cilk_tree.specs.Word.{resume, what}
 
--- at each position where a spawn stands the column has that of the `resume` after it, and 0, which is no position, at all others
+-- the column has each spawn's `resume` at the spawn's position, and 0, which is no position, at all
+-- others
 abbrev pub AreResumptions : EventOrder → List ℕ → Type 0
 AreResumptions s column = (k p : ℕ) → ((1 ≤ p) × (slice_index_or column k 0 ≡ p)) ↔ (what s p ≡ resume k)

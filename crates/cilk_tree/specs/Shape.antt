@@ -1,4 +1,4 @@
--- The shape of a run: its frames and their parallel words, without values.
+-- The shape of a run: its frames, spawns, calls and syncs, without values.
 use Rattle.std.specs.Prelude.{◌≡◌, List, [], ◌∷◌, ◌++◌, map}
 use Rattle.cilk_types.specs.declared.event.Event.{Event}
 use Rattle.cilk_types.specs.declared.invocation.Invocation.{Invocation}
@@ -7,9 +7,9 @@ use Rattle.cilk_tree.specs.declared.mark.Mark.{Mark}
 use Rattle.cilk_tree.specs.declared.mark.Mark.TheVariants.{Begin, End, Sync, Resume, Spawn, Call, Plain}
 use Rattle.cilk_tree.specs.Marks.{mark_of}
 
--- A frame's events from some point on, with the frames that it starts inside: its end; an event that begins no strand;
--- a sync; or a child's start, that child's events after its `begin`, and the events after the `resume` that follows the child.
--- The shape of a frame is its events after its `begin`.
+-- The rest of a frame's events, with the frames that it starts: its end; an event that begins no
+-- strand; a sync; or a child's start, the child's events after its `begin`, and the events after
+-- the `resume` that follows the child. The shape of a frame is its events after its `begin`.
 pub data Shape : Type 0 where
   finish : Shape
   act : (rest : Shape) → Shape
@@ -32,6 +32,6 @@ marks (child k u r) = start_of k ∷ Begin ∷ marks u ++ Resume ∷ marks r
 abbrev pub Spells : Shape → List Event → Type 0
 Spells s events = map mark_of events ≡ Begin ∷ marks s
 
--- a list of events spells one shape at most
+-- a list of events spells at most one shape
 abbrev pub SpellsOneShape : Type 0
 SpellsOneShape = (s t : Shape) (events : List Event) → Spells s events → Spells t events → s ≡ t

@@ -9,16 +9,17 @@ abbrev pub writes : Option Event → ℕ → Bool
 writes (Some (Write d v)) c = nat_eq d c
 writes _ c = false
 
--- the position of the last write of the cell among the first n events, 0 where none of them writes it
+-- the position of the last write of the cell among the first n events, 0 if there is none
 abbrev pub last_write : List Event → ℕ → ℕ → ℕ
 last_write events c zero = 0
 last_write events c (suc n) = if writes (slice_get events n) c then suc n else last_write events c n
 
--- the source of a read of the cell at position q: the position of the cell's last write ahead of it, 0 where there is none
+-- the source of a read of the cell at position q: the position of the cell's last earlier write, 0
+-- if there is none
 abbrev pub source_at : List Event → ℕ → ℕ → ℕ
 source_at events c q = last_write events c (q - 1)
 
--- s is 0 or an earlier position that writes the cell, and no position between it and q does
+-- s is 0 or an earlier position that writes the cell, and no position between s and q writes it
 pub record IsLastWrite (events : List Event) (c q s : ℕ) : Type 0 where
   pub earlier : s < q
   pub written : (s ≡ 0) ⊎ Writes (event_at events s) c

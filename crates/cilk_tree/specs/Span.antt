@@ -1,11 +1,11 @@
--- The span of a run: the events that no number of workers can make faster than one after the other
--- (Frigo, Leiserson and Randall 1998, section 1, where it is the critical path).
+-- The span of a run: the length of its longest chain of events, which no number of workers can
+-- shorten (Frigo, Leiserson and Randall 1998, section 1: the critical path).
 use Rattle.std.specs.Prelude.{◌≡◌, ℕ, ◌≤◌, List, [], ◌∷◌, length}
 use Rattle.cilk_types.specs.declared.event.Event.{Event}
 use Rattle.cilk_tree.specs.Tree.{Tree}
 use Rattle.cilk_tree.specs.Before.{IsPosition, IsBefore}
 
--- positions of which each is before the next
+-- positions, each before the next
 abbrev pub IsChain : Tree → List Event → List ℕ → Type 0
 IsChain t events [] = Unit {0}
 IsChain t events (p ∷ []) = IsPosition events p

@@ -3,7 +3,7 @@ use Rattle.std.specs.Prelude.{ℕ, ◌+◌, ◌-◌, ◌^◌, min, max, List, []
 use Rattle.cilk_tree.specs.declared.tree.Node.{Node}
 use Rattle.cilk_tree.specs.declared.tree.Node.TheVariants.{Strand, Series, Parallel}
 
--- the number on top of those that wait, and those below it
+-- the number on top of the stack, and those below it
 abbrev pub top : List ℕ → ℕ
 top [] = 0
 top (x ∷ xs) = x
@@ -12,7 +12,7 @@ abbrev pub below : List ℕ → List ℕ
 below [] = []
 below (x ∷ xs) = xs
 
--- the spans that wait once a node is met whose two parts are on top
+-- the stack after a node whose two parts are on top
 abbrev pub joined : Node → List ℕ → List ℕ
 joined (Strand n) xs = n ∷ xs
 joined (Series l) xs = min (top xs + top (below xs)) (2 ^ 64 - 1) ∷ below (below xs)

@@ -1,4 +1,4 @@
--- The values of a story.
+-- The values of an event order.
 use Rattle.std.specs.Prelude.{◌≡◌, ℕ, suc, ◌-◌, ◌<◌, ℤ, pos, List, length, Some, slice_index_or, FitsSigned}
 use Rattle.std.specs.Int.{w64}
 use Rattle.cilk_types.specs.declared.event.Event.TheVariants.{Read, Write}
@@ -7,12 +7,14 @@ use Rattle.cilk_tree.specs.declared.event_order.EventOrder.{EventOrder}
 use Rattle.cilk_tree.specs.Word.{event}
 use Rattle.cilk_tree.specs.Runs.{IsAsked, IsFollowed}
 
--- v is the value of the cell after the first n events: that of its last write among them, or its opening value
+-- v is the value of the cell after the first n events: that of its last write among them, or its
+-- opening value
 pub record HasValue (s : EventOrder) (cell n : ℕ) (v : ℤ) : Type 0 where
   pub opened : last_write s.events cell n ≡ 0 → v ≡ slice_index_or s.opening cell (pos 0)
   pub written : (q : ℕ) → last_write s.events cell n ≡ suc q → event s (suc q) ≡ Some (Write cell v)
 
--- What holds of the values, as far as the frames follow the story. This alone changes on another input.
+-- The properties of the values, up to where the frames follow the event order. Only these change on
+-- another input.
 pub record HasValues (s : EventOrder) : Type 0 where
   pub begins : IsAsked s 1
   pub reads : (p cell : ℕ) (v : ℤ) → IsFollowed s p → event s p ≡ Some (Read cell v) → HasValue s cell (p - 1) v

@@ -1,4 +1,4 @@
--- A story: a run as the threads that share its words see it. Positions count from 1.
+-- The event order of a run, as the threads that share its words see it. Positions count from 1.
 use Rattle.std.specs.Prelude.{◌≡◌, ℕ, ◌-◌, ◌⊎◌, nat_eq, if◌then◌else◌, Bool, true, false, ℤ, List, [], ◌∷◌, length, Option, Some, slice_index_or}
 use Rattle.std.specs.Int.{cast_unsigned, w64}
 use Rattle.cilk_types.specs.declared.event.Event.{Event}
@@ -10,7 +10,7 @@ use Rattle.cilk_tree.specs.declared.event_order.EventOrder.{EventOrder}
 abbrev pub event : EventOrder → ℕ → Option Event
 event s p = event_at s.events p
 
--- the positions that come right before a position
+-- the immediate predecessors of a position
 abbrev pub after : EventOrder → ℕ → List ℕ
 after s p = slice_index_or s.preceding (p - 1) []
 
@@ -18,8 +18,8 @@ after s p = slice_index_or s.preceding (p - 1) []
 abbrev pub Before : EventOrder → ℕ → ℕ → Type 0
 Before s q p = Reaches (after s) q p
 
--- What an event is to the shared words: nothing, a read or a write of a cell whose word is n, a spawn, the `resume` after the spawn
--- at a position, or the root's `end`.
+-- An event's effect on the shared words: none, a read or a write of a cell whose word is n, a
+-- spawn, the `resume` after the spawn at a position, or the root's `end`.
 pub data WordEvent : Type 0 where
   plain : WordEvent
   read : (cell : ℕ) (n : ℕ) → WordEvent
@@ -36,7 +36,8 @@ abbrev pub is_spawn : Option Event → Bool
 is_spawn (Some (events.Spawn f)) = true
 is_spawn _ = false
 
--- a `resume` right after one event: after a spawn it resumes what the spawn left, after a child's `end` it follows a call
+-- a `resume` with one predecessor: after a spawn it resumes the spawn's continuation, after a
+-- child's `end` it follows a call
 abbrev pub resumption : List Event → List ℕ → WordEvent
 resumption es (q ∷ []) = if is_spawn (event_at es q) then resume q else plain
 resumption es _ = plain
@@ -49,7 +50,7 @@ word_event es p (Some (events.Resume f)) ps = resumption es ps
 word_event es p (Some events.End) ps = if nat_eq p (length es) then finish else plain
 word_event es p _ ps = plain
 
--- what the event at a position is to the shared words
+-- the effect of the event at a position on the shared words
 abbrev pub what : EventOrder → ℕ → WordEvent
 what s p = word_event s.events p (event s p) (after s p)
 
@@ -62,7 +63,7 @@ IsWord spawn = Unit {0}
 IsWord (resume q) = Unit {0}
 IsWord finish = Unit {0}
 
--- a step on a shared word by which a frame goes on from the event ahead of it
+-- a step on a shared word that follows the event right before it in its frame
 abbrev pub IsLine : WordEvent → Type 0
 IsLine plain = ⊥
 IsLine (read c n) = Unit {0}

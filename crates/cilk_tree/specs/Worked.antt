@@ -19,7 +19,7 @@ empty_events = Begin 1 ∷ Sync ∷ End ∷ []
 abbrev pub EmptyIsChain : Type 0
 EmptyIsChain = Spells empty empty_events × IsSpan (tree empty) empty_events 3
 
--- A spawned function writes a variable, which its parent reads before it syncs.
+-- A spawned function writes a variable that its parent reads before it syncs.
 abbrev pub spawn_race : Shape
 spawn_race = act (act (child invocations.Spawn (sync (act finish)) (act (act (sync (act (sync finish)))))))
 
@@ -37,7 +37,7 @@ SpawnRaceLabels = hebrews (tree spawn_race) 1 ≡ 1 ∷ 3 ∷ 4 ∷ 2 ∷ 5 ∷ 
 abbrev pub SpawnRaceSpan : Type 0
 SpawnRaceSpan = IsSpan (tree spawn_race) spawn_race_events 12
 
--- the `resume` at 9 has the spawn at 4, the `sync` at 12 has the child's `end` at 8
+-- the `resume` at 9 has the spawn at 4, the `sync` at 12 also has the child's `end` at 8
 abbrev pub SpawnRacePredecessors : Type 0
 SpawnRacePredecessors =
     predecessors spawn_race

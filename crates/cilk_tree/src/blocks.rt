@@ -1,4 +1,4 @@
-//! The continuations of a run's spawns, and the blocks that they are in, in one pass from the run's end.
+//! The continuations of a run's spawns and their sync blocks, found in one pass from the run's end.
 
 ghost use Rattle.std.specs.Prelude.{◌≡◌, ◌↔◌, ◌<◌, ◌^◌, ℕ, Some, None, length, slice_index_or, slice_set, IfOk, IfSome, MatchOption, OnOk};
 ghost use Rattle.cilk_tree.specs.declared.blocks.Continuation.{Continuation};
@@ -9,14 +9,16 @@ use crate::plan::Plan;
 use cilk_types::event::Pos;
 use std::alloc::{AllocError, Global};
 
-/// What follows a spawn in its frame: the position of the `resume` by which it goes on, and that of the `sync` that ends its block.
+/// The continuation of a spawn: the positions of the `resume` that begins it and of the `sync` that
+/// ends its block.
 #[derive(Clone, Copy, PartialEq, Eq, Debug)]
 pub struct Continuation {
     pub resume: Pos,
     pub sync: Pos,
 }
 
-/// For each position at which a spawn stands, its continuation. Cost and memory: linear in the events.
+/// Returns a column with the continuation of each spawn at the spawn's position, and `None` at all
+/// other positions. Position 0 is never used. Cost and memory: linear in the events.
 pub fn continuations(alloc: Global, plan: &Plan) -> Result<Vec<Option<Continuation>>, AllocError>
     ensures { IfOk result (λ column. AreContinuations plan.now column.items) }
 {
@@ -43,7 +45,7 @@ pub fn continuations(alloc: Global, plan: &Plan) -> Result<Vec<Option<Continuati
     Ok(column)
 }
 
-// The `resume` that was noted at a place, if one was.
+// Returns the `resume` noted at a place, if there is one.
 fn resume_in(column: &Vec<Option<Continuation>>, place: usize) -> Option<Pos>
     ensures { (p : ℕ) → (result ≡ Some p) ↔ HasResume column.now.items place p }
 {
@@ -53,7 +55,7 @@ fn resume_in(column: &Vec<Option<Continuation>>, place: usize) -> Option<Pos>
     }
 }
 
-// Where an event resumes what a spawn left, notes it at the spawn, whose `sync` isn't known yet.
+// Notes the `resume` at its spawn, if there is a spawn. Its `sync` is filled in later.
 fn note(column: &mut Vec<Option<Continuation>>, spawned: Option<Pos>, at: Pos)
     requires { IfSome spawned (λ place. place < length column.old.items) }
     ensures { MatchOption spawned (column.new.items ≡ column.old.items) (λ place. column.new.items ≡ slice_set column.old.items place (Some (resumed_at at))) }
@@ -66,7 +68,7 @@ fn note(column: &mut Vec<Option<Continuation>>, spawned: Option<Pos>, at: Pos)
     }
 }
 
-// The position at a place, if there is one.
+// Returns the position at a place, if there is one.
 fn position_in(column: &Vec<Option<Pos>>, place: usize) -> Option<Pos>
     ensures { result ≡ slice_index_or column.now.items place None }
 {
@@ -76,7 +78,7 @@ fn position_in(column: &Vec<Option<Pos>>, place: usize) -> Option<Pos>
     }
 }
 
-// A continuation that has both.
+// Returns the continuation if both positions are known.
 fn both(resume: Option<Pos>, sync: Option<Pos>) -> Option<Continuation>
     ensures { (c : Continuation) → (result ≡ Some c) ↔ ((resume ≡ Some c.resume) × (sync ≡ Some c.sync)) }
 {
@@ -86,7 +88,7 @@ fn both(resume: Option<Pos>, sync: Option<Pos>) -> Option<Continuation>
     }
 }
 
-// Puts a position at a place.
+// Sets the position at a place and grows the column as needed.
 fn put(column: &mut Vec<Option<Pos>>, place: usize, at: Pos) -> Result<(), AllocError>
     requires { place < 2 ^ 32 }
     ensures { OnOk result (IsPut column.old.items place at column.new.items) }

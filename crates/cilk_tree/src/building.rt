@@ -1,7 +1,7 @@
-//! The tree of a trace, built from the trace's last event to its first.
+//! The tree of a trace, built from the last event to the first.
 //!
-//! Read backwards, a tree's nodes come after the nodes of their parts, right before left. So a stack of the frames
-//! whose `end` was met is all that is needed, and each frame there is three counts of strands.
+//! In this direction a node comes after the nodes of its parts, and the right part before the left.
+//! So the pass needs only a stack of the frames whose `end` was met, with three strand counts each.
 
 ghost use Rattle.std.specs.Prelude.{◌≡◌, ◌+◌, ◌<◌, ◌^◌, IfOk};
 ghost use Rattle.cilk_tree.specs.Shape.{Shape, Spells};
@@ -15,8 +15,8 @@ use cilk_types::trace::Trace;
 use std::alloc::{AllocError, Global};
 use std::marker::Model;
 
-/// Where the pass stands in a frame, by the number of strands met before: behind the frame, behind its block at hand,
-/// and behind the child at hand.
+/// The position of the pass in a frame, as three counts of the strands met so far: at the end of
+/// the frame, at the end of its current block, and at the end of its current child.
 #[derive(Clone, Copy)]
 pub struct StrandCounts {
     pub frame: u32,
@@ -24,8 +24,8 @@ pub struct StrandCounts {
     pub child: u32,
 }
 
-/// A tree that is being built: its nodes so far, the frames that wait, the frame at hand, and how many strands and
-/// how many events of the next strand were met.
+/// A tree under construction: its nodes so far, the outer frames, the current frame, the number of
+/// strands met, and the number of events met of the current strand.
 #[derive(Drop)]
 pub struct Building {
     nodes: Stack<Node>,
@@ -60,7 +60,7 @@ impl Building {
         }
     }
 
-    // The strand at hand is whole; what its block has after it was met.
+    // Closes the current strand: in series with the rest of its block, if there is one.
     fn close_strand(&mut self) -> Result<(), AllocError>
         requires { self.old.strands + 1 < 2 ^ 32 }
         ensures { IfOk result (λ _. self.new ≡ strand_closed self.old) }
@@ -77,7 +77,7 @@ impl Building {
         Ok(())
     }
 
-    // The block at hand is whole; the later blocks of its frame were met.
+    // Closes the current block: in series with the later blocks of its frame, if there are any.
     fn close_block(&mut self) -> Result<(), AllocError>
         ensures { IfOk result (λ _. self.new ≡ block_closed self.old) }
     {
@@ -89,7 +89,7 @@ impl Building {
         Ok(())
     }
 
-    // The event before the ones that were met.
+    // Meets the event before those already met.
     fn step(&mut self, mark: Mark) -> Result<(), AllocError>
         requires strands { self.old.strands + 1 < 2 ^ 32 }
         requires events { self.old.events + 1 < 2 ^ 32 }
@@ -135,7 +135,7 @@ impl Building {
         Ok(())
     }
 
-    // To the frame that waits.
+    // Returns to the outer frame.
     fn leave(&mut self)
         ensures { self.new ≡ frame_closed self.old }
     {
@@ -145,8 +145,8 @@ impl Building {
     }
 }
 
-/// The series-parallel tree of a trace. Cost and memory: linear in the events. A list of events that no run makes has
-/// some tree or other.
+/// Returns the series-parallel tree of a trace. Cost and memory: linear in the events. For a list
+/// of events that no run makes, nothing is known of the tree.
 pub fn tree_of(alloc: Global, trace: &Trace) -> Result<SpTree, AllocError>
     ensures { IfOk result (λ t. (s : Shape) → Spells s trace.now → t ≡ preorder (tree s)) }
 {

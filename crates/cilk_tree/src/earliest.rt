@@ -1,4 +1,4 @@
-//! For each event of a run the earliest of those that come right before it, in one pass.
+//! The earliest immediate predecessor of each event of a run, found in one pass.
 
 ghost use Rattle.std.specs.Prelude.{◌≡◌, ◌+◌, ◌<◌, ◌^◌, length, IfOk};
 ghost use Rattle.cilk_tree.specs.Earliest.{all_earliest, ends_of, ahead_of, given, goes_on, met, nothing, returned, sooner, starts};
@@ -11,7 +11,8 @@ use cilk_types::trace::Trace;
 use std::alloc::{AllocError, Global};
 use std::marker::Model;
 
-/// A frame that has started a child: how and where, and the earliest `end` that its block awaits.
+/// A frame that waits for a child: how and where it started the child, and the earliest `end` that
+/// its block awaits.
 #[derive(Clone, Copy)]
 pub struct Parent {
     pub how: Invocation,
@@ -19,7 +20,8 @@ pub struct Parent {
     pub ends: Option<Pos>,
 }
 
-// What comes right before the next event at the earliest, the earliest `end` that the block at hand awaits, and the frames that wait.
+// The earliest predecessor of the next event, the earliest `end` that the current block awaits, and
+// the frames that wait.
 #[derive(Drop)]
 struct Pass {
     ahead: Option<Pos>,
@@ -46,7 +48,7 @@ impl Pass {
         }
     }
 
-    // Meets the event at a position: the earliest of those that come right before it.
+    // Meets the event at a position and returns its earliest immediate predecessor.
     fn meet(&mut self, mark: Mark, at: Pos) -> Result<Option<Pos>, AllocError>
         ensures earliest { IfOk result (λ first. first ≡ given mark self.old) }
         ensures met { IfOk result (λ _. self.new ≡ met mark at self.old) }
@@ -66,7 +68,7 @@ impl Pass {
         Ok(first)
     }
 
-    // The frame at hand starts a child.
+    // The current frame starts a child.
     fn start(&mut self, how: Invocation, at: Pos) -> Result<(), AllocError>
         ensures { IfOk result (λ _. self.new ≡ starts how at self.old) }
     {
@@ -77,7 +79,7 @@ impl Pass {
         Ok(())
     }
 
-    // The frame at hand ends.
+    // The current frame ends.
     fn end(&mut self, at: Pos)
         ensures { self.new ≡ returned at self.old.ends self.old.waiting }
     {
@@ -97,7 +99,7 @@ impl Pass {
     }
 }
 
-// The earlier of two positions, where there are any.
+// Returns the earlier of two positions, or the only one there is.
 fn earlier(first: Option<Pos>, second: Option<Pos>) -> Option<Pos>
     ensures { result ≡ sooner first second }
 {
@@ -108,7 +110,7 @@ fn earlier(first: Option<Pos>, second: Option<Pos>) -> Option<Pos>
     }
 }
 
-/// For each event the earliest of those that come right before it. Cost and memory: linear in the events.
+/// Returns the earliest immediate predecessor of each event. Cost and memory: linear in the events.
 pub(crate) fn earliest(alloc: Global, trace: &Trace) -> Result<Vec<Option<Pos>>, AllocError>
     ensures { IfOk result (λ v. v.items ≡ all_earliest trace.now) }
 {

@@ -1,10 +1,11 @@
-//! The story of a run, of which no value is made: contracts speak of it.
+//! The event order of a run. It is used in contracts only: no value of it is ever made.
 
 use cilk_types::event::Event;
 use std::collections::LinkedList;
 
-/// The events of a run in serial order, for each the positions of those that come right before it, the values with which its cells
-/// open, and for each event whether the run's frames ask for it. Positions count from 1.
+/// The event order of a run: its events in serial order, the positions of each event's immediate
+/// predecessors, the opening values of its cells, and whether the frames request each event on this
+/// input. Positions count from 1.
 pub struct EventOrder {
     pub events: LinkedList<Event>,
     pub preceding: LinkedList<LinkedList<u64>>,

@@ -1,4 +1,4 @@
-//! For each event of a run the frame that it is in, in one pass.
+//! The frame of each event of a run, found in one pass.
 
 ghost use Rattle.std.specs.Prelude.{◌≡◌, ◌⊎◌, ℕ, Some, IfOk};
 ghost use Rattle.cilk_tree.specs.Frames.{AreFrames, BeginsAFrame, Enters};
@@ -7,7 +7,7 @@ use cilk_types::event::{Event, FrameNo};
 use cilk_types::trace::Trace;
 use std::alloc::{AllocError, Global};
 
-/// For each event the frame that it is in. Cost and memory: linear in the events.
+/// Returns the frame of each event. Cost and memory: linear in the events.
 pub(crate) fn frames(alloc: Global, trace: &Trace) -> Result<Vec<FrameNo>, AllocError>
     requires { BeginsAFrame trace.now }
     ensures { IfOk result (λ v. AreFrames trace.now v.items) }
@@ -21,7 +21,7 @@ pub(crate) fn frames(alloc: Global, trace: &Trace) -> Result<Vec<FrameNo>, Alloc
     Ok(frames)
 }
 
-// The frame of an event behind one of a frame.
+// Returns the frame of an event that follows an event of `frame`.
 fn entered(frame: FrameNo, event: &Event) -> FrameNo
     ensures { Enters (Some event.now) result ⊎ ((result ≡ frame) × ((other : ℕ) → Enters (Some event.now) other → ⊥)) }
 {

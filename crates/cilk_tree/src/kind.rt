@@ -1,4 +1,4 @@
-//! What stands at a position of a plan: an event without its value.
+//! Kinds of events: events without their values.
 
 ghost use Rattle.std.specs.Prelude.{◌≡◌, All, map, FitsSigned, IfOk};
 ghost use Rattle.std.specs.Int.{w64};
@@ -8,7 +8,7 @@ use cilk_types::event::{Cell, Event, FrameNo, Instance};
 use cilk_types::trace::Trace;
 use std::alloc::{AllocError, Global};
 
-/// An event of a run without its value.
+/// An event without its value.
 #[derive(Clone, Copy, PartialEq, Eq, Debug)]
 pub enum Kind {
     Begin { frame: FrameNo },
@@ -26,16 +26,16 @@ pub enum Kind {
     Print,
 }
 
-/// What a run's frames do next.
+/// The next event of a run, as a plan knows it.
 #[derive(Clone, Copy, PartialEq, Eq, Debug)]
 pub enum Asked {
-    /// The frame makes an event of this kind.
+    /// The next event has this kind and is of this frame.
     Next { frame: FrameNo, kind: Kind },
     /// The run has ended.
     Nothing,
 }
 
-/// The event without its value.
+/// Returns the kind of an event.
 pub fn without_value(event: &Event) -> Kind
     ensures { result ≡ kind_of event.now }
 {
@@ -56,7 +56,7 @@ pub fn without_value(event: &Event) -> Kind
     }
 }
 
-/// The kinds of a trace's events, in order.
+/// Returns the kinds of a trace's events, in order.
 pub(crate) fn kinds(alloc: Global, trace: &Trace) -> Result<Vec<Kind>, AllocError>
     ensures { IfOk result (λ v. v.items ≡ map kind_of trace.now) }
 {
@@ -67,7 +67,7 @@ pub(crate) fn kinds(alloc: Global, trace: &Trace) -> Result<Vec<Kind>, AllocErro
     Ok(kinds)
 }
 
-// What an event reads or writes is a word.
+// The value that an event reads or writes fits a word.
 fn of_words(event: &Event)
     ensures { IsOfWords event.now }
 {
@@ -82,7 +82,7 @@ fn word(value: &i64)
     let _read = *value;
 }
 
-/// What a trace's events read and write are words.
+/// All values that a trace's events read and write fit a word.
 pub(crate) fn events_of_words(trace: &Trace)
     ensures { All IsOfWords trace.now }
 {
@@ -91,7 +91,7 @@ pub(crate) fn events_of_words(trace: &Trace)
     }
 }
 
-/// Numbers of the code are words.
+/// All these values fit a word.
 pub(crate) fn words(values: &[i64])
     ensures { All (FitsSigned w64) values.now }
 {

@@ -1,23 +1,24 @@
-//! What an event is to strands.
+//! Marks: the events by their effect on strands.
 
 ghost use Rattle.std.specs.Prelude.{◌≡◌};
 
 use cilk_types::event::Event;
 
-/// What an event is to strands.
+/// The mark of an event: its effect on strands.
 #[derive(Clone, Copy, PartialEq, Eq)]
 pub enum Mark {
-    /// A frame's first event. It begins a strand.
+    /// The first event of a frame. It begins a strand.
     Begin,
-    /// A frame's last event.
+    /// The last event of a frame.
     End,
-    /// It begins a strand and a sync block.
+    /// A `sync`. It begins a strand and a sync block.
     Sync,
-    /// The event after a child. It begins a strand.
+    /// The parent's first event after a child. It begins a strand.
     Resume,
-    /// The event before a child that may run in parallel with what follows it in its parent's block.
+    /// The event before a spawned child, which may run in parallel with the rest of its parent's
+    /// block.
     Spawn,
-    /// The event before a child that is called.
+    /// The event before a called child.
     Call,
     /// Any other event.
     Plain,
@@ -26,7 +27,7 @@ pub enum Mark {
 impl Mark {
     ghost use Rattle.cilk_tree.specs.Marks.{mark_of, begun_by};
 
-    /// What an event is to strands.
+    /// Returns the mark of an event.
     pub fn of(event: &Event) -> Mark
         ensures { result ≡ mark_of event.now }
     {
@@ -41,7 +42,7 @@ impl Mark {
         }
     }
 
-    /// How many strands such an event begins: one or none.
+    /// Returns the number of strands that such an event begins: one or none.
     pub fn strands(self) -> u32
         ensures { result ≡ begun_by self }
     {

@@ -1,4 +1,4 @@
-//! The words of a run as it begins.
+//! The shared words at the start of a run.
 
 ghost use Rattle.std.specs.Prelude.{◌≡◌, ◌≤◌, ◌+◌, ◌++◌, ◌^◌, length, map, replicate, IfOk};
 ghost use Rattle.cilk_tree.specs.Word.{word};
@@ -6,7 +6,8 @@ ghost use Rattle.cilk_types.specs.declared.limits.TheConstants.{MAX_EVENTS};
 
 use std::alloc::{AllocError, Global};
 
-/// The words of a run of so many events as it begins: the cells' opening values, then a 0 for the end and for each position.
+/// Returns the shared words at the start of a run of `events` events: the cells' opening values,
+/// then `events + 1` zeros, one for the end and one for each position.
 pub(crate) fn first_words(
     alloc: Global,
     opening: &[i64],

@@ -22,7 +22,8 @@ use std::alloc::{AllocError, Global};
 use std::marker::Model;
 use std::snapshot::Snapshot;
 
-/// The plan of a run: to a contract the run's story, in memory its places alone. It has no value of any event.
+/// The plan of a run. It holds the kinds, frames and earliest predecessors of the run's events, and
+/// no value of any event. In contracts it is the run's event order.
 pub struct Plan {
     opening: Vec<i64>,
     words: Vec<u64>,
@@ -66,7 +67,8 @@ impl Model for Plan {
 }
 
 impl Plan {
-    /// The plan of the run of a trace, whose cells open with these values.
+    /// Makes the plan of the run of a trace whose cells open with these values. Cost and memory:
+    /// linear in the events and cells.
     pub fn of(alloc: Global, trace: &Trace, opening: Vec<i64>) -> Result<Plan, AllocError>
         requires { HasPlan trace.now opening.items }
         ensures story { IfOk result (λ plan. plan ≡ planned trace.now opening.items) }
@@ -88,7 +90,8 @@ impl Plan {
         })
     }
 
-    /// What comes after so many events: the next event's kind, and whose frame it is in; nothing past the last.
+    /// Returns the kind and frame of the event after the first `after` events, or `Nothing` past
+    /// the last.
     pub fn next(&self, after: Pos) -> Asked
         ensures { IsBehind self.now after result }
     {
@@ -103,8 +106,9 @@ impl Plan {
         }
     }
 
-    /// The earliest of the events that come right before the one at a position: before a `sync` come the event ahead of it and the `end`s
-    /// of the children that were spawned in its block. None comes before the first event.
+    /// Returns the earliest immediate predecessor of the event at a position, or `None` for the
+    /// first event. A `sync` follows the event before it and the `end`s of the children spawned in
+    /// its block.
     pub fn earliest_before(&self, at: Pos) -> Option<Pos>
         ensures { result ≡ earliest_of (after self.now at) }
     {
@@ -114,7 +118,8 @@ impl Plan {
         }
     }
 
-    /// The spawn whose continuation the event at a position resumes, where it is the `resume` after a spawn.
+    /// Returns the spawn whose continuation is resumed at a position, if the event there is the
+    /// `resume` after a spawn.
     pub fn resumed_by(&self, at: Pos) -> Option<Pos>
         ensures { (k : ℕ) → (result ≡ Some k) ↔ (what self.now at ≡ resume k) }
     {
@@ -129,7 +134,7 @@ impl Plan {
         }
     }
 
-    /// Whether the event at a position is a step on a word that threads share.
+    /// Tells whether the event at a position is a step on a word that threads share.
     pub fn is_word(&self, at: Pos) -> bool
         ensures { IsTrue result ↔ IsWord (what self.now at) }
     {
@@ -141,8 +146,8 @@ impl Plan {
         }
     }
 
-    /// For each position at which a spawn stands, that of the `resume` after it; 0, which is no position, for all others. Cost and memory:
-    /// linear in the events.
+    /// Returns a column with the `resume` of each spawn at the spawn's position, and 0, which is no
+    /// position, at all others. Cost and memory: linear in the events.
     pub fn resumptions(&self, alloc: Global) -> Result<Vec<Pos>, AllocError>
         ensures { IfOk result (λ column. AreResumptions self.now column.items) }
     {
@@ -159,14 +164,14 @@ impl Plan {
         Ok(column)
     }
 
-    // The kind of the event at a position; that of the first at 0.
+    // Returns the kind of the event at a position; position 0 gives the first.
     fn kind_at(&self, at: Pos) -> Option<Kind>
         ensures { result ≡ kind_of_event (event self.now at) }
     {
         self.kinds.get(at.saturating_sub(1) as usize).copied()
     }
 
-    /// How many events the run has.
+    /// Returns the number of events of the run.
     pub fn count(&self) -> usize
         ensures events { result ≡ length self.now.events }
         ensures within { result ≤ MAX_EVENTS }
@@ -174,21 +179,22 @@ impl Plan {
         self.kinds.len()
     }
 
-    /// The values with which the cells open.
+    /// Returns the opening values of the cells.
     pub fn opening(&self) -> &[i64]
         ensures { result.now ≡ self.now.opening }
     {
         self.opening.as_slice()
     }
 
-    /// The words of a run as it begins: the cells' opening values in the form of words, then a 0 for the end and for each position.
+    /// Returns the shared words at the start of the run: the cells' opening values as words, then a
+    /// 0 for the end and one for each position.
     pub fn first_words(&self) -> &[u64]
         ensures { result.now ≡ map word self.now.opening ++ replicate (length self.now.events + 1) 0 }
     {
         self.words.as_slice()
     }
 
-    /// What holds of the plan's story.
+    /// The laws that the plan's event order obeys.
     pub fn laws(&self)
         ensures order { IsOrderly self.now }
         ensures values { HasValues self.now }
@@ -198,7 +204,7 @@ impl Plan {
     }
 }
 
-// Where an event resumes what a spawn left, notes it at the spawn.
+// Notes the `resume` at its spawn, if there is a spawn.
 fn note(column: &mut Vec<Pos>, spawned: Option<Pos>, at: Pos)
     requires { IfSome spawned (λ place. place < length column.old.items) }
     ensures { MatchOption spawned (column.new.items ≡ column.old.items) (λ place. column.new.items ≡ slice_set column.old.items place at) }

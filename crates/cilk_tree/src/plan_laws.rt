@@ -3,12 +3,13 @@
 ghost use Rattle.cilk_tree.specs.Passes.{PassGivesPredecessors};
 ghost use Rattle.cilk_tree.specs.WorkedPlan.{TwoReadsHavePlan, TwoReadsPredecessors};
 
-/// One pass over a run's events, with a stack of the frames that wait for a child, gives the immediate predecessors of each event.
+/// One pass over a run's events, with a stack of the frames that wait for a child, gives the
+/// immediate predecessors of each event.
 pub fn pass_gives_predecessors()
     ensures { PassGivesPredecessors }
 {}
 
-/// A small run in which a child is spawned has a plan, and its immediate predecessors are these.
+/// A small computed run with a spawned child: it has a plan and these immediate predecessors.
 pub fn worked_plans()
     ensures plan { TwoReadsHavePlan }
     ensures predecessors { TwoReadsPredecessors }

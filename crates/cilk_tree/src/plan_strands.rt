@@ -1,4 +1,4 @@
-//! Where the strands of a run begin, in one pass.
+//! The first event of each strand of a run, found in one pass.
 
 ghost use Rattle.std.specs.Prelude.{IfOk};
 ghost use Rattle.cilk_tree.specs.PlanStrands.{AreStarts};
@@ -8,8 +8,8 @@ use cilk_types::event::Pos;
 use cilk_types::trace::Trace;
 use std::alloc::{AllocError, Global};
 
-/// For each strand of a run, in the order of their numbers, the position of its first event. Cost: linear in the events; memory: linear
-/// in the strands.
+/// Returns the position of the first event of each strand, in the order of their numbers. Cost:
+/// linear in the events; memory: linear in the strands.
 pub fn starts(alloc: Global, trace: &Trace) -> Result<Vec<Pos>, AllocError>
     ensures { IfOk result (λ starts. AreStarts trace.now starts.items) }
 {

@@ -11,9 +11,9 @@ use cilk_types::stack::Stack;
 use cilk_types::trace::Trace;
 use std::alloc::{AllocError, Global};
 
-/// The span of a run: the greatest number of events of which each is before the next, whatever the schedule. The trace is
-/// the run's and the tree the trace's; for another tree it is some number up to the trace's length. Cost and memory: linear
-/// in the strands.
+/// Returns the span of a run: the length of the longest chain of events in which each is before the
+/// next in every schedule. The tree must be that of the trace; for another tree the result is only
+/// known to be at most the trace's length. Cost and memory: linear in the strands.
 pub fn span(alloc: Global, trace: &Trace, tree: &SpTree) -> Result<u64, AllocError>
     ensures within { IfOk result (λ n. n ≤ length trace.now) }
     ensures span { IfOk result (λ n. (s : Shape) → Spells s trace.now → tree.now ≡ preorder (tree_of_shape s) → IsSpan (tree_of_shape s) trace.now n) }
@@ -29,7 +29,7 @@ pub fn span(alloc: Global, trace: &Trace, tree: &SpTree) -> Result<u64, AllocErr
     Ok(pop(&mut spans).min(most))
 }
 
-// Meets a node, the spans of whose parts are on top.
+// Replaces the spans of a node's parts by the node's span.
 fn join(node: &Node, spans: &mut Stack<u64>) -> Result<(), AllocError>
     ensures { IfOk result (λ _. spans.new ≡ joined node.now spans.old) }
 {
@@ -49,7 +49,7 @@ fn join(node: &Node, spans: &mut Stack<u64>) -> Result<(), AllocError>
     Ok(())
 }
 
-// The number on top leaves; 0 where there is none.
+// Pops a number; 0 if the stack is empty.
 fn pop(spans: &mut Stack<u64>) -> u64
     ensures number { result ≡ top spans.old }
     ensures spans { spans.new ≡ below spans.old }

@@ -4,19 +4,19 @@ ghost use Rattle.std.specs.Prelude.{◌≡◌, ◌≤◌, ◌<◌, ◌^◌, leng
 
 use std::marker::Model;
 
-/// A node of a series-parallel tree. `left` and `right` are the strands of its two parts, by their number.
+/// A node of a series-parallel tree. `left` and `right` are the numbers of strands of its two
+/// parts.
 #[derive(Clone, Copy, PartialEq, Eq, Debug)]
 pub enum Node {
-    /// A leaf: a strand of so many events.
+    /// A leaf: a strand of `events` events.
     Strand { events: u32 },
-    /// The left part, and then the right part.
+    /// The left part before the right part.
     Series { left: u32 },
     /// The two parts in parallel. The left part is a spawned child.
     Parallel { left: u32, right: u32 },
 }
 
-/// A series-parallel tree: its nodes as a list, each node before its left part, and that before its right part.
-/// So the leaves stand in serial order.
+/// A series-parallel tree: its nodes as a list in preorder, so the leaves are in serial order.
 #[derive(Drop, Debug)]
 pub struct SpTree {
     nodes: Vec<Node>,
@@ -34,7 +34,7 @@ impl Model for SpTree {
 }
 
 impl SpTree {
-    /// The tree of these nodes, without taking memory.
+    /// Makes the tree of these nodes, without allocating.
     pub fn new(nodes: Vec<Node>) -> SpTree
         requires { length nodes.items < 2 ^ 32 }
         ensures { result ≡ nodes.items }
@@ -42,7 +42,7 @@ impl SpTree {
         SpTree { nodes }
     }
 
-    /// The nodes, fewer than 2^32.
+    /// Returns the nodes, fewer than 2^32.
     pub fn as_slice(&self) -> &[Node]
         ensures nodes { result.now ≡ self.now }
         ensures few { length self.now < 2 ^ 32 }

@@ -27,14 +27,14 @@ bottom_up (x ∷ xs) n =
     ∙ ap (λ l. if nat_eq n l then Some x else slice_get (reverse xs) n) (length-reverse xs)
     ∙ ap (λ o. if nat_eq n (length xs) then Some x else o) (bottom_up xs n)
 
--- seen from the other side
+-- the same, from the items that the stack reverses
 pub from_items : {A : Type 0} (items stack : List A) (n : ℕ) → stack ≡ reverse items → from_bottom stack n ≡ slice_get items n
 from_items items stack n e = sym (bottom_up stack n) ∙ ap (λ l. slice_get (reverse l) n) e ∙ ap (λ l. slice_get l n) (reverse-reverse items)
 
 pub within : {A : Type 0} (xs : List A) (n : ℕ) (x : A) → from_bottom xs n ≡ Some x → n < length xs
 within xs n x e = subst (λ l. n < l) (length-reverse xs) (slice_get_within (reverse xs) n x (bottom_up xs n ∙ e))
 
--- what stands in a stack is there with more on top
+-- pushing an item keeps the items below it
 pub below_top : {A : Type 0} (xs : List A) (n : ℕ) (x y : A) → from_bottom xs n ≡ Some x → from_bottom (y ∷ xs) n ≡ Some x
 below_top xs n x y e =
     let low = within xs n x e in

@@ -10,7 +10,7 @@ use mir.Val.{sel}
 use native.Mathlib.Nat.{mod-le, div-le_self, div-mul-le_self, mul-le-mul_left}
 use Rattle.cilk_types.specs.Word.{word_of, quotient, remainder, IsWordOf, IsDivision, HasOneWord, Divides, DividesExactly, IsOutsideWords, DividesWithin}
 
--- the signed value of n's bits, and how many times 2^64 it lies below n
+-- the signed value of n's bits is n, less a multiple of 2^64
 reads : (n : ℕ) → n < 2 ^ 64 → (t : Bool) → ltb n (2 ^ 63) ≡ t → (j : ℕ) × (sel t (pos n) (negsuc (2 ^ 64 - suc n)) +ℤ pos (j * 2 ^ 64) ≡ pos n)
 reads n h true e = (0, omega (arith, ints))
 reads n h false e = (1, omega (arith, ints))
@@ -82,7 +82,7 @@ divides a b h = (int_div a b, int_rem a b, division a b h, whole_quotient a b h,
 pub divides_exactly : (a : ℤ) → DividesExactly a
 divides_exactly a = (divides a, refl, refl)
 
--- a quotient that stays a word
+-- a quotient that is a word is exact
 quotient_fits : (a b : ℤ) → unsigned_abs a ≤ 2 ^ 63 → (pos 0 ≤ℤ a → unsigned_abs a < 2 ^ 63) → b ≢ pos 0 → ¬ (IsOutsideWords a b) → FitsSigned w64 (int_div a b)
 quotient_fits (pos a) b low above some inside =
     let here : pos 0 ≤ℤ pos a = omega (arith, ints) in let high : a < 2 ^ 63 = above here in

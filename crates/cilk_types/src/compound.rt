@@ -1,6 +1,6 @@
 //! Compound assignments.
 
-/// What a compound assignment does: `+=`, `-=` or `*=`.
+/// The operator of a compound assignment: `+=`, `-=` or `*=`.
 #[derive(Clone, Copy, PartialEq, Eq, Debug)]
 pub enum Compound {
     Add,

@@ -1,10 +1,10 @@
-//! The faults that end a run.
+//! The faults that stop a run.
 
 ghost use Rattle.std.specs.Prelude.{◌≡◌};
 
 use thiserror::Error;
 
-/// Why a run can't go on.
+/// Why a run fails.
 #[derive(Clone, Copy, PartialEq, Eq, Debug, Error)]
 pub enum Fault {
     #[error("division by zero")]
@@ -24,7 +24,7 @@ pub enum Fault {
 impl Fault {
     ghost use Rattle.cilk_types.specs.Fault.{number_of};
 
-    /// The number by which the fault is reported, 201 to 206.
+    /// Returns the number by which the fault is reported, 201 to 206.
     pub fn number(self) -> u16
         ensures { result ≡ number_of self }
     {

@@ -8,7 +8,7 @@ use crate::limits::MAX_INPUTS;
 use crate::word_list::WordList;
 use std::marker::Model;
 
-/// The numbers that a program reads by `input`, counted from 0: at most [`MAX_INPUTS`], each of them a word.
+/// The numbers that a program reads by `input`, counted from 0: at most [`MAX_INPUTS`] words.
 #[derive(Drop, Debug)]
 pub struct Input {
     numbers: WordList,
@@ -25,7 +25,7 @@ impl Model for Input {
 }
 
 impl Input {
-    /// These numbers, without taking memory.
+    /// Makes an input of these numbers, without allocating.
     pub fn new(numbers: WordList) -> Input
         requires { length numbers ≤ MAX_INPUTS }
         ensures { result ≡ numbers }
@@ -33,7 +33,7 @@ impl Input {
         Input { numbers }
     }
 
-    /// The number at a place, or none where the input has no such place.
+    /// Returns the number at a place, or none if the place is negative or past the end.
     pub fn at(&self, place: i64) -> Option<i64>
         ensures { result ≡ input_at self.now place }
     {
@@ -43,21 +43,20 @@ impl Input {
         }
     }
 
-    /// How many numbers there are.
+    /// Returns the number of input numbers.
     pub fn count(&self) -> i64
         ensures { result ≡ input_count self.now }
     {
         self.numbers.len() as i64
     }
 
-    /// The numbers as a slice.
     pub fn as_slice(&self) -> &[i64]
         ensures { result.now ≡ self.now }
     {
         self.numbers.as_slice()
     }
 
-    /// Each number is a word. This does nothing: its contract is the law that the type keeps.
+    /// Proves that each number is a word. It does nothing at run time.
     pub fn are_words(&self)
         ensures { All IsWord self.now }
     {

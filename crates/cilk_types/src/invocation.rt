@@ -1,6 +1,7 @@
-//! How a frame starts another.
+//! How a frame starts a child.
 
-/// Whether a child is called, or spawned: a spawned one may run in parallel with what follows it in its parent's block.
+/// How a child is started: called, or spawned. A spawned child may run in parallel with what
+/// follows it in its parent.
 #[derive(Clone, Copy, PartialEq, Eq, Debug)]
 pub enum Invocation {
     Call,

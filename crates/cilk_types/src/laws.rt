@@ -1,25 +1,26 @@
-//! Laws of words, and the limits by number. Each is a function that does nothing: its contract is the law.
+//! Laws of words, and the limits as numbers. Each function does nothing; its contract is the law.
 
 ghost use Rattle.std.specs.Prelude.{◌≡◌, ℤ};
 ghost use Rattle.cilk_types.specs.Word.{HasOneWord, DividesExactly, DividesWithin};
 ghost use Rattle.cilk_types.specs.declared.limits.TheConstants.{MAX_TEXT, MAX_INPUTS, MAX_EVENTS, MAX_TICKS, MAX_FRAMES, MAX_CELLS};
 
-/// Words are whole numbers modulo 2^64.
+/// Words are the integers modulo 2^64.
 pub fn words_are_modulo()
     ensures { (z : ℤ) → HasOneWord z }
 {}
 
-/// A quotient is rounded toward zero and then brought into the range of words; its remainder has the dividend's sign.
+/// A quotient is rounded toward zero and then wrapped to a word. The remainder has the sign of the
+/// dividend.
 pub fn division_is_exact()
     ensures { (a : ℤ) → DividesExactly a }
 {}
 
-/// A word's quotient is a word and so exact, but for the least word by -1, whose quotient wraps.
+/// The quotient of two words is exact, except for the least word divided by -1, which wraps.
 pub fn only_one_quotient_wraps()
     ensures { (a b : ℤ) → DividesWithin a b }
 {}
 
-/// The limits of texts, inputs and runs, by number: contracts elsewhere name the constants.
+/// The limits of texts, inputs and runs as numbers, for contracts that name the constants.
 pub fn limits_are()
     ensures text { MAX_TEXT ≡ 262144 }
     ensures inputs { MAX_INPUTS ≡ 65536 }

@@ -1,18 +1,18 @@
-//! What a run that ends leaves.
+//! The outcome of a run.
 
 use crate::sequence::Sequence;
 
 /// The last value of a global reducer.
 #[derive(Drop, Debug)]
 pub enum Final {
-    /// The number of a reducer whose views are numbers.
+    /// The number that a program reads from it: of `add`, `min`, `max` and `affine`.
     Number(i64),
-    /// The elements of a reducer whose views are lists.
+    /// The elements of the list: of `append`.
     List(Sequence<i64>),
 }
 
-/// What a run that ends leaves: `main`'s result, the global cells in order, the printed numbers in order, and each
-/// global reducer's last value in order of declaration.
+/// The outcome of a run that ends: the result of `main`, the global cells in order, the printed
+/// numbers in order, and each global reducer's last value in order of declaration.
 #[derive(Debug)]
 pub struct Outcome {
     pub result: i64,
@@ -21,7 +21,7 @@ pub struct Outcome {
     pub reducers: Sequence<Final>,
 }
 
-// A function of its own, so that a proof follows one call where an outcome is dropped.
+// A drop function of its own keeps proofs short: they follow one call.
 impl Drop for Outcome {
     fn drop(self) {
         let Outcome {

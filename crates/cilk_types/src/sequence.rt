@@ -1,10 +1,10 @@
-//! A list that contracts see as its items alone.
+//! A list whose contracts speak of its items alone.
 
 ghost use Rattle.std.specs.Prelude.{◌≡◌, ◌==◌, length};
 
 use std::marker::Model;
 
-/// A `Vec` whose contracts speak of its items: two sequences with the same items are equal.
+/// A `Vec` whose contracts speak of its items alone: two sequences with the same items are equal.
 #[derive(Drop, Debug)]
 pub struct Sequence<T> {
     items: Vec<T>,
@@ -19,28 +19,27 @@ impl<T> Model for Sequence<T> {
 }
 
 impl<T> Sequence<T> {
-    /// The items of a `Vec`, without taking memory.
+    /// Makes a sequence of the items of a `Vec`, without allocating.
     pub fn new(items: Vec<T>) -> Self
         ensures { result ≡ items.items }
     {
         Sequence { items }
     }
 
-    /// The items as a slice.
     pub fn as_slice(&self) -> &[T]
         ensures { result.now ≡ self.now }
     {
         self.items.as_slice()
     }
 
-    /// How many items there are.
+    /// Returns the number of items.
     pub fn len(&self) -> usize
         ensures { result ≡ length self.now }
     {
         self.items.len()
     }
 
-    /// Whether there is no item.
+    /// Tells whether there are no items.
     pub fn is_empty(&self) -> bool
         ensures { result ≡ (length self.now == 0) }
     {

@@ -6,7 +6,7 @@ ghost use Rattle.cilk_types.specs.Stacks.{from_bottom};
 use std::alloc::{AllocError, Global};
 use std::marker::Model;
 
-/// A stack, whose contracts see it as the list of its items from the top down.
+/// A stack. Contracts see it as the list of its items from the top down.
 #[derive(Drop)]
 pub struct Stack<T> {
     items: Vec<T>,
@@ -21,7 +21,7 @@ impl<T> Model for Stack<T> {
 }
 
 impl<T> Stack<T> {
-    /// A stack with nothing on it.
+    /// Makes an empty stack.
     pub fn new(alloc: Global) -> Self
         ensures { result ≡ [] }
     {
@@ -30,21 +30,21 @@ impl<T> Stack<T> {
         }
     }
 
-    /// How many items there are.
+    /// Returns the number of items.
     pub fn len(&self) -> usize
         ensures { result ≡ length self.now }
     {
         self.items.len()
     }
 
-    /// Whether there is no item.
+    /// Tells whether there are no items.
     pub fn is_empty(&self) -> bool
         ensures { result ≡ (length self.now == 0) }
     {
         self.items.is_empty()
     }
 
-    /// An item onto the top.
+    /// Pushes an item onto the top.
     pub fn push(&mut self, item: T) -> Result<(), AllocError>
     where
         T: Drop,
@@ -54,21 +54,21 @@ impl<T> Stack<T> {
         Ok(())
     }
 
-    /// The item on top leaves, if there is one.
+    /// Removes and returns the top item, or none if the stack is empty.
     pub fn pop(&mut self) -> Option<T>
         ensures { MatchOption result ((self.old ≡ []) × (self.new ≡ [])) (λ item. self.old ≡ item ∷ self.new) }
     {
         self.items.pop()
     }
 
-    /// The item at a place, counted from 0 at the bottom.
+    /// Returns the item at a place, counted from 0 at the bottom.
     pub fn at(&self, place: usize) -> Option<&T>
         ensures { MatchOption result (length self.now ≤ place) (λ item. from_bottom self.now place ≡ Some item.now) }
     {
         self.items.as_slice().get(place)
     }
 
-    /// The items from the top down, without taking memory.
+    /// Returns the items from the top down, in linear time and without allocating.
     pub fn into_vec(self) -> Vec<T>
         ensures { result.items ≡ self }
     {

@@ -1,4 +1,4 @@
-//! The events of a serial run.
+//! The trace of a serial run.
 
 ghost use Rattle.std.specs.Prelude.{◌≡◌, ◌==◌, ◌≤◌, length};
 ghost use Rattle.cilk_types.specs.declared.limits.TheConstants.{MAX_EVENTS};
@@ -6,8 +6,8 @@ ghost use Rattle.cilk_types.specs.declared.limits.TheConstants.{MAX_EVENTS};
 use crate::event::Event;
 use std::marker::Model;
 
-/// The events of a serial run in order: at most [`MAX_EVENTS`](crate::limits::MAX_EVENTS). Position `p` is the `p`-th of
-/// them, from 1.
+/// The events of a serial run in order, at most [`MAX_EVENTS`](crate::limits::MAX_EVENTS). Position
+/// `p` is the `p`-th event, from 1.
 #[derive(Drop, Debug)]
 pub struct Trace {
     events: Vec<Event>,
@@ -26,7 +26,7 @@ impl Model for Trace {
 }
 
 impl Trace {
-    /// The trace of these events, without taking memory.
+    /// Makes a trace of these events, without allocating.
     pub fn new(events: Vec<Event>) -> Trace
         requires { length events.items ≤ MAX_EVENTS }
         ensures { result ≡ events.items }
@@ -34,7 +34,7 @@ impl Trace {
         Trace { events }
     }
 
-    /// The events as a slice; position `p` is at index `p - 1`.
+    /// Returns the events; position `p` is at index `p - 1`.
     pub fn as_slice(&self) -> &[Event]
         ensures events { result.now ≡ self.now }
         ensures within { length self.now ≤ MAX_EVENTS }
@@ -42,7 +42,7 @@ impl Trace {
         self.events.as_slice()
     }
 
-    /// How many events there are.
+    /// Returns the number of events.
     pub fn len(&self) -> usize
         ensures events { result ≡ length self.now }
         ensures within { result ≤ MAX_EVENTS }
@@ -50,7 +50,7 @@ impl Trace {
         self.events.len()
     }
 
-    /// Whether there is no event.
+    /// Tells whether there are no events.
     pub fn is_empty(&self) -> bool
         ensures { result ≡ (length self.now == 0) }
     {

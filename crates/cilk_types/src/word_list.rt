@@ -6,8 +6,8 @@ ghost use Rattle.cilk_types.specs.Word.{IsWord};
 use std::alloc::{AllocError, Global};
 use std::marker::Model;
 
-/// A `Vec` of numbers whose contracts speak of the list alone. Its type keeps that each number is a word, so nobody who is
-/// given such a list has to go over it.
+/// A list of words, whose contracts speak of its items alone. The type guarantees that each number
+/// is a word, so a reader of the list need not check them.
 #[derive(Drop, Debug)]
 pub struct WordList {
     numbers: Vec<i64>,
@@ -25,7 +25,7 @@ impl Model for WordList {
 }
 
 impl WordList {
-    /// A list of no number.
+    /// Makes an empty list.
     pub fn new(alloc: Global) -> WordList
         ensures { result ≡ [] }
     {
@@ -34,7 +34,7 @@ impl WordList {
         }
     }
 
-    /// One more number behind the others.
+    /// Appends a number.
     pub fn push(&mut self, number: i64) -> Result<(), AllocError>
         ensures { OnOk result (self.new ≡ self.old ++ number ∷ []) }
     {
@@ -42,21 +42,20 @@ impl WordList {
         Ok(())
     }
 
-    /// The numbers as a slice.
     pub fn as_slice(&self) -> &[i64]
         ensures { result.now ≡ self.now }
     {
         self.numbers.as_slice()
     }
 
-    /// How many numbers there are.
+    /// Returns the number of items.
     pub fn len(&self) -> usize
         ensures { result ≡ length self.now }
     {
         self.numbers.len()
     }
 
-    /// Each number is a word. This does nothing: its contract is the law that the type keeps.
+    /// Proves that each number is a word. It does nothing at run time.
     pub fn are_words(&self)
         ensures { All IsWord self.now }
     {

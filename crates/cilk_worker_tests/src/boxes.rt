@@ -1,4 +1,5 @@
-//! A join box: the pieces of a block's children come in another order than the run's, and the `sync`'s own comes last.
+//! A join box: the pieces of a block's children arrive in another order than the run's, and the
+//! piece at the `sync` arrives last.
 
 ghost use Rattle.std.specs.Prelude.{◌≡◌, ◌<◌, IfSome, None, length};
 ghost use Rattle.cilk_workers.specs.Rows.{IsGood};
@@ -21,14 +22,15 @@ use std::alloc::Global;
 use std::process::Abort;
 use std::test::Fail;
 
-// Four spawned calls of one block, and the block's own last stretch: each prints its number.
+// Four spawned calls in one block, then the block's own last part. Each prints its number.
 const CALLS: &str = "void f(int n) { print(n); } \
     int main() { cilk_spawn f(1); cilk_spawn f(2); cilk_spawn f(3); cilk_spawn f(4); print(5); cilk_sync; return 0; }";
 
-// No fewer than the turns of a piece.
+// At least the turns of a piece.
 const TURNS: u32 = 20;
 
-/// What a worker comes to: its piece, its chain where that stands at the `sync`, and the last task that it offered.
+/// The result of a worker's turns: its piece, its chain if that is at the `sync`, and the last task
+/// that it offered.
 #[derive(Drop)]
 struct Stretch {
     piece: Piece,
@@ -36,7 +38,7 @@ struct Stretch {
     task: Option<Task>,
 }
 
-// The turns of a piece, up to the end of a child or to the `sync`.
+// Makes the turns of a piece, up to the end of a child or to the `sync`.
 fn made<R: Abort>(rt: &R, alloc: Global, shared: &Shared<'_>, mut work: Work) -> Stretch
     requires { Works shared.now work }
     ensures piece { IsGood shared.now.run result.piece }
@@ -70,7 +72,7 @@ fn made<R: Abort>(rt: &R, alloc: Global, shared: &Shared<'_>, mut work: Work) ->
     panic!(rt; "no end");
 }
 
-// A thief takes the continuation beside a child.
+// A thief steals the continuation of a child's spawn.
 fn steal<R: Abort>(rt: &R, found: &mut JoinBox, key: Pos, goes_on: Pos)
     ensures { (found.new.rows.of ≡ found.old.rows.of) × (found.new.course ≡ found.old.course) }
 {
@@ -78,7 +80,7 @@ fn steal<R: Abort>(rt: &R, found: &mut JoinBox, key: Pos, goes_on: Pos)
     assert!(rt; found.steal(key, goes_on).is_ok());
 }
 
-// A child's piece, and what the thief of the continuation beside it begins with.
+// The arrival of a child's piece, and the work of the thief that steals the continuation.
 fn child<R: Abort>(
     rt: &R,
     alloc: Global,
@@ -111,7 +113,7 @@ fn child<R: Abort>(
     (Arrival { by, piece, chain }, work)
 }
 
-// Whether these numbers were printed in a piece, and no others.
+// Whether exactly these numbers were printed in a piece.
 fn prints(piece: Piece, numbers: &[i64]) -> bool {
     let Parts {
         mut views,
@@ -123,7 +125,8 @@ fn prints(piece: Piece, numbers: &[i64]) -> bool {
     }
 }
 
-// A piece comes to the box; how many are kept then, or none where the block passes, with all up to its `sync` in the run's order.
+// A piece arrives at the box. Returns the number of pieces that the box keeps. Returns `None` if
+// the block passes; then all output up to the `sync` is in the run's order.
 fn come<R: Abort>(
     rt: &R,
     alloc: Global,
@@ -182,7 +185,8 @@ fn box_at<R: Abort>(
     box_of(alloc, shared, blocks, block)
 }
 
-/// Four children's pieces come, the last child's first, and then the block's own.
+/// Checks that the block passes with its own piece, after the fourth, second, third and first
+/// child's.
 pub fn joined<R: Abort>(rt: &R, alloc: Global, shared: &Shared<'_>, blocks: &Blocks<'_>, work: Work)
     requires syncs { AreSyncs shared.now blocks.now.syncs.now }
     requires works { Works shared.now work }

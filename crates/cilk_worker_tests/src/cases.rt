@@ -1,6 +1,6 @@
-//! Accepted programs, and what their runs leave.
+//! Accepted programs and the outcomes of their runs.
 
-/// A program that is accepted on some numbers, and what each run along the plan of its run there leaves.
+/// A program that is accepted on some numbers, and the outcome of each run along its plan.
 #[derive(Clone, Copy)]
 pub struct Case {
     pub text: &'static str,
@@ -8,7 +8,7 @@ pub struct Case {
     pub numbers: &'static str,
     /// The input of the runs.
     pub on: &'static str,
-    /// What a run leaves, in lines.
+    /// The outcome of a run, in lines.
     pub left: &'static str,
 }
 
@@ -17,7 +17,7 @@ pub const GETS: &str = "int g = 7; \
     int get() { return g; } \
     int main() { int x; int y; x = cilk_spawn get(); y = cilk_spawn get(); cilk_sync; return x + y; }";
 
-/// As many turns of a loop as the input says.
+/// A loop with as many turns as the input says.
 pub const TURNS: &str = "int a[7]; \
     int main() { int n = input(0); cilk_for (int i = 0; i < n; i++) { a[i] = i; } return a[6]; }";
 
@@ -149,7 +149,7 @@ pub const REDUCERS: [Case; 4] = [
     },
 ];
 
-/// Reducers that spawned calls update, of their own, global, and of their caller.
+/// Reducers that spawned calls update: their own, global ones, and those of their caller.
 pub const PARTS: [Case; 3] = [
     Case {
         text: "int f(int n) { int cilk_reducer(add) s; cilk_for (int i = 0; i < n; i++) { update(s, i); } \
@@ -177,7 +177,7 @@ pub const PARTS: [Case; 3] = [
     },
 ];
 
-/// Other inputs than that of the certificate, on which the run has the same events but for their values.
+/// Inputs other than the certificate's on which the run has the same events with other values.
 pub const ALONG: [Case; 2] = [
     Case {
         text: SQUARES,
@@ -195,7 +195,7 @@ pub const ALONG: [Case; 2] = [
     },
 ];
 
-/// Other inputs, that depart.
+/// Inputs on which the run departs from the plan.
 pub const DEPART: [Case; 3] = [
     Case {
         text: SQUARES,
@@ -217,7 +217,7 @@ pub const DEPART: [Case; 3] = [
     },
 ];
 
-/// A program that is asked to be run by numbers of workers that no run has.
+/// A program to run by numbers of workers that aren't allowed.
 pub const UNMANNED: [Case; 1] = [Case {
     text: GETS,
     numbers: "",

@@ -1,4 +1,4 @@
-//! Gates that count how often each strand has begun, and gates that hold strands.
+//! Gates: one counts how often each strand begins, another holds strands.
 
 use cilk_shared::yard::Segment;
 use cilk_types::event::StrandNo;
@@ -10,17 +10,17 @@ use std::sync::atomic::{AtomicBool, AtomicU64, Ordering};
 // The most turns for which a strand is held.
 const MOST_TURNS: u32 = 20_000_000;
 
-/// Counts how often each strand of a plan has begun.
+/// Counts how often each strand of a plan begins.
 #[derive(Drop)]
 pub struct Counting {
-    // How often each strand has begun, by its number.
+    // The counts, by the strand's number.
     begun: Vec<AtomicU64>,
-    // How often others have, that the plan does not have.
+    // The count of strands that the plan doesn't have.
     others: AtomicU64,
 }
 
 impl Counting {
-    /// Counts the strands of a plan that has so many.
+    /// Creates a counter for `strands` strands.
     pub fn new(alloc: Global, strands: u64) -> Result<Counting, AllocError> {
         let mut begun = Vec::new(alloc);
         for _ in 0..strands {
@@ -32,7 +32,7 @@ impl Counting {
         })
     }
 
-    /// How many strands of the plan have begun so often.
+    /// Returns the number of strands that have begun `times` times.
     pub fn count(&self, times: u64) -> u64 {
         let mut count: u64 = 0;
         for begun in self.begun.as_slice() {
@@ -43,12 +43,12 @@ impl Counting {
         count
     }
 
-    /// How often strands have begun that the plan does not have.
+    /// Returns how often strands have begun that the plan doesn't have.
     pub fn others(&self) -> u64 {
         self.others.load(Ordering::SeqCst)
     }
 
-    // What counts a strand. Strands are numbered from 1.
+    // The counter of a strand. Strands are numbered from 1.
     fn times(&self, strand: StrandNo) -> &AtomicU64 {
         if strand == 0 {
             return &self.others;
@@ -66,7 +66,7 @@ impl Gate for Counting {
     }
 }
 
-/// Holds some strands, each until all awaited ones have begun, or until the turns run out.
+/// Holds some strands, each until all awaited strands have begun or the turns run out.
 #[derive(Drop)]
 pub struct Holding {
     held: &'static [StrandNo],
@@ -85,7 +85,7 @@ impl Holding {
         }
     }
 
-    /// Whether no held strand's turns ran out.
+    /// Returns whether every held strand was released by the awaited ones.
     pub fn was_opened(&self) -> bool {
         !self.ran_out.load(Ordering::SeqCst)
     }

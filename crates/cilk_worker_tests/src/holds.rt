@@ -1,5 +1,5 @@
-//! Strands that are held until others have begun: as many workers as the strands need make the others meanwhile, and
-//! fewer do not.
+//! Strands that are held until others have begun. With enough workers the others begin meanwhile;
+//! with fewer they don't.
 
 use crate::cases::{GETS, TURNS};
 use crate::gates::Holding;
@@ -13,7 +13,8 @@ use std::sync::Wait;
 use std::test::Fail;
 use std::thread::Threads;
 
-/// A program on its own input, by some workers, with strands that are held until others have begun.
+/// A program on its own input, a number of workers, and strands that are held until others have
+/// begun.
 #[derive(Clone, Copy)]
 pub struct Hold {
     text: &'static str,
@@ -21,13 +22,13 @@ pub struct Hold {
     workers: u32,
     held: &'static [StrandNo],
     awaited: &'static [StrandNo],
-    /// What the run leaves, in lines.
+    /// The outcome of the run, in lines.
     left: &'static str,
-    /// Whether each held strand is let go since the awaited ones have begun, and not since its turns run out.
+    /// Whether each held strand is released by the awaited ones before its turns run out.
     opens: bool,
 }
 
-// The four strands that are the turns of a loop of four turns.
+// The four strands of the turns of a loop.
 const FOUR: &[StrandNo] = &[4, 7, 13, 16];
 
 const HOLDS: [Hold; 4] = [
@@ -69,7 +70,7 @@ const HOLDS: [Hold; 4] = [
     },
 ];
 
-/// The run leaves what it is to leave, and its held strands are let go as they are to be.
+/// Checks the run's outcome, and whether the held strands are released in time.
 pub fn holds<R: Abort + Threads + Wait + Sync>(rt: &R, alloc: Global, hold: &Hold) {
     let accepted = accepted(rt, alloc, hold.text, hold.numbers);
     let plan = planned(rt, alloc, &accepted);

@@ -1,11 +1,30 @@
-//! Tests of runs by several workers, in real threads.
+//! Tests of parallel runs: the pool of workers in real threads, and its racks and join boxes alone.
 //!
-//! [`texts`] makes accepted programs from texts, and [`shown`] tells in lines what a run leaves, or why it has no
-//! outcome. [`cases`] has programs with what they leave, [`runs`] runs each by 1, 2, 4 and 8 workers, as often as a
-//! constant says, and two by 9 and 64 workers; a run begins each strand once, which a gate of [`gates`] counts.
-//! [`holds`] holds strands until others have begun, by another gate. [`racks`] takes tasks from both ends of a rack,
-//! and in [`boxes`] pieces come to a join box, both from what [`works`] begins. [`waits`] ends the test where runs
-//! don't end in time. [`refused`] makes two runs on one plan, for a sweep in which memory is refused.
+//! A worker offers the continuation of each spawn on its rack and runs the child. Idle workers
+//! steal the oldest task of another worker (Frigo, Leiserson and Randall 1998). The pieces of a
+//! stolen block meet in a join box, which puts them into the order of the serial run (Frigo,
+//! Halpern, Leiserson and Lewin-Berlin 2009). So each run must have the outcome of the serial one,
+//! whatever was stolen.
+//!
+//! [`cases`] holds programs with their expected outcomes. [`runs`] runs each of them 100 times by
+//! 1, 2, 4 and 8 workers, and two of them by 9 and 64. A gate sees each strand as it begins. One
+//! gate counts that no strand begins twice. The other holds a strand until another has begun, which
+//! shows that strands do run in parallel. A run that doesn't end within 30 seconds fails its test.
+//!
+//! | Module | Tests |
+//! |---|---|
+//! | [`runs`] | programs on their own inputs, and on others that follow or leave the plan |
+//! | [`holds`], [`gates`] | strands that wait for others |
+//! | [`racks`] | tasks from both ends of a rack |
+//! | [`boxes`] | pieces that arrive at a join box out of order |
+//! | [`refused`] | a second run on the same plan after one that is out of memory |
+//! | [`works`], [`waits`] | support: workers without a pool, time limits |
+//! | [`texts`], [`shown`] | support: accepted programs, outcomes as lines |
+//!
+//! ```text
+//! let left = left(rt, alloc, &plan, &input, 4, &gate)?;
+//! assert!(rt; left.as_str() == "cells 7\nresult 14\n");
+//! ```
 #![tactic(auto)]
 
 #[cfg(test)]

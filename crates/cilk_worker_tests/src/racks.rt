@@ -1,5 +1,4 @@
-//! Tasks on a rack: another worker takes the one that was offered first, and the rack's own worker the one that was
-//! offered last.
+//! Tasks on a rack: other workers take the oldest one, the rack's own worker takes the newest one.
 
 ghost use Rattle.std.specs.Prelude.{◌≡◌};
 ghost use Rattle.cilk_workers.specs.Turns.{Works};
@@ -17,16 +16,15 @@ use std::alloc::Global;
 use std::process::Abort;
 use std::test::Fail;
 
-// Three spawned calls, each within the one before.
+// Three spawned calls, nested.
 const NESTED: &str = "void c() { } \
     void b() { cilk_spawn c(); cilk_sync; } \
     void a() { cilk_spawn b(); cilk_sync; } \
     int main() { cilk_spawn a(); cilk_sync; return 0; }";
 
-// No fewer than the turns up to the end of the innermost call.
+// At least the turns up to the end of the innermost call.
 const TURNS: u32 = 20;
 
-// A task is put on the rack.
 fn put<N: Naming, R: Abort>(rt: &R, shared: &Shared<'_>, rack: &mut Rack<N>, task: Task)
     requires name { IsName N.run N.course N.taken shared.now }
     requires task { task.of ≡ shared.now.course }
@@ -35,7 +33,7 @@ fn put<N: Naming, R: Abort>(rt: &R, shared: &Shared<'_>, rack: &mut Rack<N>, tas
     assert!(rt; rack.offer(task).is_ok());
 }
 
-// The turns up to the end of the innermost call; what they offer lies on the rack.
+// Makes the turns up to the end of the innermost call; puts the offered tasks on the rack.
 fn offers<N: Naming, R: Abort>(
     rt: &R,
     alloc: Global,
@@ -62,7 +60,7 @@ fn ticket(rt: &impl Abort, task: Option<Task>) -> Pos {
     }
 }
 
-/// Three tasks are offered and taken.
+/// Checks that three offered tasks are taken in the right order.
 pub fn taken<N: Naming, R: Abort>(rt: &R, alloc: Global, shared: &Shared<'_>, work: Work)
     requires name { IsName N.run N.course N.taken shared.now }
     requires works { Works shared.now work }

@@ -1,6 +1,6 @@
-//! Two runs on one plan where memory may be refused: the first ends with what it leaves, or for want of memory; then the second, which
-//! has memory, ends with the same. The gate's tests have memory; `tools/each_failure.py --plan` runs these with each allocation refused in
-//! turn.
+//! Two runs on one plan, of which the first may be out of memory. The second run has memory and
+//! must end with the expected outcome. In ordinary tests both runs have memory;
+//! `tools/each_failure.py --plan` refuses each allocation in turn.
 
 use crate::cases::{Case, REDUCERS, SPAWNS};
 use crate::shown::shown;
@@ -23,7 +23,7 @@ use std::thread::Threads;
 
 const CREW: u32 = 2;
 
-// What a run has ended with, if that isn't a want of memory.
+// The outcome of a run, or `None` if it was out of memory.
 fn outcome_of(rt: &impl Abort, ended: Result<Outcome, ThreadFault>) -> Option<Outcome> {
     match ended {
         Ok(outcome) => Some(outcome),
@@ -32,7 +32,7 @@ fn outcome_of(rt: &impl Abort, ended: Result<Outcome, ThreadFault>) -> Option<Ou
     }
 }
 
-// A run that has ended with an outcome has left what is wanted.
+// Checks the outcome of a run.
 fn leaves(rt: &impl Abort, alloc: Global, outcome: &Outcome, wanted: &str) {
     let Ok(left) = shown(alloc, outcome) else {
         panic!(rt; "no memory to look at the run");
@@ -40,7 +40,7 @@ fn leaves(rt: &impl Abort, alloc: Global, outcome: &Outcome, wanted: &str) {
     assert!(rt; left.as_str() == wanted, "{left} is left, not {wanted}");
 }
 
-// Two runs on one plan, of which one at most finds no memory.
+// Two runs on one plan, at most one of which is out of memory.
 fn runs_twice<R: Abort + Threads + Wait + Sync>(
     rt: &R,
     alloc: Global,
@@ -61,7 +61,8 @@ fn runs_twice<R: Abort + Threads + Wait + Sync>(
     }
 }
 
-// The program of a text without input, accepted with the certificate of its own run, if there is memory for that.
+// The program of a text without input, accepted with its own certificate, if there is memory for
+// that.
 fn accepted(alloc: Global, text: &str) -> Option<Accepted> {
     let program = program(alloc, text.as_bytes()).ok()?;
     let input = parse_input(alloc, b"").ok()?;

@@ -1,4 +1,4 @@
-//! Programs run by several workers, as their serial runs.
+//! Programs run by several workers, with the outcomes of their serial runs.
 
 use crate::cases::{ALONG, Case, DEPART, LOOPS, NUMBERS, PARTS, REDUCERS, SPAWNS, UNMANNED};
 use crate::gates::Counting;
@@ -14,32 +14,32 @@ use std::sync::Wait;
 use std::test::Fail;
 use std::thread::Threads;
 
-// The numbers of workers by which a case is run.
+// The numbers of workers that run a case.
 const CREWS: [u32; 4] = [1, 2, 4, 8];
 
-// Larger numbers of workers, by which few cases are run, and seldom.
+// Larger numbers of workers, for few cases and few runs.
 const LARGE_CREWS: [u32; 2] = [9, 64];
 
-// How often a large number of workers runs a case.
+// The runs of a case by each large number of workers.
 const FEW_TIMES: u32 = 3;
 
-// Numbers of workers that no run has.
+// Numbers of workers that aren't allowed.
 const NO_CREWS: [u32; 2] = [0, 65];
 
-// How often each number of workers runs a case.
+// The runs of a case by each number of workers.
 const TIMES: u32 = 100;
 
-/// A case, the numbers of workers that run it, and how often each of them does.
+/// A case, the numbers of workers, and the number of runs by each of them.
 #[derive(Clone, Copy)]
 pub struct Series {
     case: Case,
     crews: &'static [u32],
     times: u32,
-    // Whether a run begins each strand of the plan.
+    // Whether a run begins every strand of the plan.
     is_whole: bool,
 }
 
-// The runs of a case whose runs end.
+// A case whose runs end.
 fn whole(case: &Case) -> Series {
     Series {
         case: *case,
@@ -49,7 +49,7 @@ fn whole(case: &Case) -> Series {
     }
 }
 
-// The runs of a case whose runs end, by many workers.
+// A case whose runs end, by many workers.
 fn by_many(case: &Case) -> Series {
     Series {
         case: *case,
@@ -59,7 +59,7 @@ fn by_many(case: &Case) -> Series {
     }
 }
 
-// The runs of a case whose runs depart.
+// A case whose runs depart from the plan.
 fn departing(case: &Case) -> Series {
     Series {
         case: *case,
@@ -69,7 +69,7 @@ fn departing(case: &Case) -> Series {
     }
 }
 
-// The runs of a case by numbers of workers that no run has.
+// A case by numbers of workers that aren't allowed.
 fn unmanned(case: &Case) -> Series {
     Series {
         case: *case,
@@ -79,7 +79,7 @@ fn unmanned(case: &Case) -> Series {
     }
 }
 
-// How many strands the plan has.
+// The number of strands of the plan.
 fn strands(plan: &ProgramPlan<'_>) -> u64 {
     let mut count: u64 = 0;
     let mut strand: StrandNo = 1;
@@ -92,7 +92,8 @@ fn strands(plan: &ProgramPlan<'_>) -> u64 {
     count
 }
 
-// One run by some workers leaves what is wanted, and begins no strand twice; how many strands it begins.
+// Checks the outcome of one run and that no strand begins twice. Returns the number of strands that
+// begin.
 fn strands_of_run<R: Abort + Threads + Wait + Sync>(
     rt: &R,
     alloc: Global,
@@ -117,7 +118,7 @@ fn strands_of_run<R: Abort + Threads + Wait + Sync>(
     once
 }
 
-// The runs by some workers.
+// The runs by one number of workers.
 fn runs_by<R: Abort + Threads + Wait + Sync>(
     rt: &R,
     alloc: Global,
@@ -137,7 +138,7 @@ fn runs_by<R: Abort + Threads + Wait + Sync>(
     }
 }
 
-/// Runs the plan of the case's program as often as the series says, by each of its numbers of workers.
+/// Makes all runs of a series.
 pub fn runs<R: Abort + Threads + Wait + Sync>(rt: &R, alloc: Global, series: &Series) {
     let case = &series.case;
     let accepted = accepted(rt, alloc, case.text, case.numbers);

@@ -1,4 +1,4 @@
-//! What a run leaves, as lines.
+//! The outcome of a run as lines.
 
 use cilk_plan::program_plan::ProgramPlan;
 use cilk_threads::run::ThreadFault;
@@ -10,7 +10,8 @@ use std::alloc::{AllocError, Global};
 use std::sync::Wait;
 use std::thread::Threads;
 
-/// What a run along a plan by some workers leaves, or the number and the place of its fault.
+/// Runs a plan by some workers. Returns the outcome in lines, or the number and the place of the
+/// fault.
 pub fn left<R: Threads + Wait + Sync, G: Gate + Sync>(
     rt: &R,
     alloc: Global,
@@ -34,8 +35,8 @@ fn told(alloc: Global, fault: &ThreadFault) -> Result<String, AllocError> {
     }
 }
 
-/// The printed numbers, a line each; the numbers of each global reducer, and those of all global cells, in a line; and
-/// the result.
+/// Returns an outcome in lines: each printed number; the numbers of each global reducer; those of
+/// all global cells; and the result.
 pub fn shown(alloc: Global, outcome: &Outcome) -> Result<String, AllocError> {
     let mut text = String::new(alloc);
     for number in outcome.output.as_slice() {
@@ -57,7 +58,7 @@ fn of_reducer(alloc: Global, last: &Final) -> Result<String, AllocError> {
     }
 }
 
-// A name and numbers in a line.
+// A line of a name and numbers.
 fn row(alloc: Global, name: &str, numbers: &[i64]) -> Result<String, AllocError> {
     let mut text = String::new(alloc);
     text.push_str(name)?;

@@ -1,4 +1,4 @@
-//! Programs from their texts: certified by their serial runs, and checked.
+//! Accepted programs: certified by their serial runs, and checked.
 
 use cilk_cert_maker::make::make;
 use cilk_cert_text::write::write;
@@ -19,7 +19,7 @@ fn program_of(rt: &impl Abort, alloc: Global, text: &str) -> Program {
     program
 }
 
-/// The input of a text.
+/// Returns the input of a text.
 pub fn input_of(rt: &impl Abort, alloc: Global, numbers: &str) -> Input {
     let Ok(input) = parse_input(alloc, numbers.as_bytes()) else {
         panic!(rt; "no input: {numbers}");
@@ -40,7 +40,7 @@ fn certificate(rt: &impl Abort, alloc: Global, text: &str, numbers: &str) -> Vec
     bytes
 }
 
-/// The program of a text on the input of a text, whose certificate is accepted.
+/// Certifies and checks a program's run on an input.
 pub fn accepted(rt: &impl Abort, alloc: Global, text: &str, numbers: &str) -> Accepted {
     let certificate = certificate(rt, alloc, text, numbers);
     let (text, numbers, certificate) = (
@@ -54,7 +54,7 @@ pub fn accepted(rt: &impl Abort, alloc: Global, text: &str, numbers: &str) -> Ac
     accepted
 }
 
-/// The plan of an accepted program's run.
+/// Returns the plan of an accepted program's run.
 pub fn planned<'a>(rt: &impl Abort, alloc: Global, accepted: &'a Accepted) -> ProgramPlan<'a> {
     let Ok(plan) = plan(alloc, accepted) else {
         panic!(rt; "no memory for the plan");

@@ -1,4 +1,4 @@
-//! Runs that are waited for as long as a test may take, and no longer.
+//! Runs with a time limit.
 
 use crate::holds::{Hold, holds};
 use crate::runs::{Series, runs};
@@ -10,17 +10,17 @@ use std::thread;
 use std::thread::Threads;
 use std::time::{Clock, Duration};
 
-// How many seconds the runs of a program are waited for.
+// The seconds to wait for the runs of a program.
 const PATIENCE: u64 = 30;
 
-/// Runs of a program, whose ends are waited for.
+/// Runs of a program with a time limit.
 #[derive(Clone, Copy)]
 pub enum Job {
     Series(Series),
     Hold(Hold),
 }
 
-// Makes the runs, and tells when that has ended.
+// Makes the runs, then reports their end.
 fn makes_and_tells<R: Abort + Threads + Wait + Sync>(
     rt: &R,
     alloc: Global,
@@ -34,7 +34,7 @@ fn makes_and_tells<R: Abort + Threads + Wait + Sync>(
     assert!(rt; ended.send(rt, true).is_ok());
 }
 
-// Ends the test where the runs don't end.
+// Fails the test if the runs don't end in time.
 fn awaits<R: Abort + Wait + Clock>(rt: &R, ended: &Receiver<bool, Global>) {
     assert!(rt;
         ended
@@ -44,7 +44,7 @@ fn awaits<R: Abort + Wait + Clock>(rt: &R, ended: &Receiver<bool, Global>) {
     );
 }
 
-/// Makes the runs, and ends the test where that takes too long.
+/// Makes the runs; fails the test if they don't end in time.
 pub fn in_time<R: Abort + Threads + Wait + Clock + Sync>(rt: &R, alloc: Global, job: &Job) {
     let Ok((tell, hear)) = bounded(alloc, 1) else {
         panic!(rt; "no memory for a message");

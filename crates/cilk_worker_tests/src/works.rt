@@ -1,4 +1,4 @@
-//! What a worker begins with on an accepted program's plan, without a crew.
+//! The first work of a worker on an accepted program's plan, without a pool of workers.
 
 ghost use Rattle.std.specs.Prelude.{◌≡◌};
 ghost use Rattle.cilk_shared.specs.Reducers.{HasFew};
@@ -27,23 +27,23 @@ use std::alloc::Global;
 use std::marker::Brand;
 use std::process::Abort;
 
-/// What is tried with it.
+/// The part to test with it.
 #[derive(Clone, Copy)]
 pub enum Trial {
     /// Tasks are offered and taken.
     Rack,
-    /// Pieces come to a join box.
+    /// Pieces arrive at a join box.
     JoinBox,
 }
 
-/// The blocks of a plan: their syncs' positions, and the number of each position's block.
+/// The blocks of a plan: the positions of their syncs, and the block number of each position.
 #[derive(Clone, Copy)]
 pub struct Blocks<'a> {
     pub syncs: &'a [Pos],
     pub of: &'a [u32],
 }
 
-// The trial, on the plan's run.
+// Runs the trial on a plan's run.
 fn tried_on<R: Abort>(
     rt: &R,
     alloc: Global,
@@ -82,7 +82,7 @@ fn tried_on<R: Abort>(
     }
 }
 
-/// The trial, on the run of a program without input.
+/// Runs the trial on the run of a program without input.
 pub fn tried<R: Abort>(rt: &R, alloc: Global, text: &str, trial: Trial) {
     let accepted = accepted(rt, alloc, text, "");
     let plan = planned(rt, alloc, &accepted);

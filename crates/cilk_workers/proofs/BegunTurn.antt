@@ -1,4 +1,5 @@
--- A frame's `begin` stands right behind the event that starts it: `child_begins`. The root's is the first event: `root_begins`.
+-- A frame's `begin` comes right after the event that starts it: `child_begins`. The root's is the
+-- first event: `root_begins`.
 use Rattle.std.proofs.Common.{◌≡◌, ◌≤◌, ◌<◌, ◌⊎◌, inl, inr, ⊎_elim, ℕ, zero, suc, ◌+◌, ◌-◌, List, [], ◌∷◌, ◌++◌, length, Option, Some, None, slice_get, refl, sym, ap, ◌∙◌, subst, arith}
 use Rattle.std.specs.Option.{option_map}
 use Rattle.std.proofs.lemmas.Option.{slice_get-map}
@@ -41,7 +42,7 @@ abbrev Head : List (Deed FrameEnv) → Type 0
 Head [] = ⊥
 Head (d ∷ ds) = d ≡ Does (Passes Begins)
 
--- behind each invocation
+-- after each invocation
 abbrev Behind : List (Deed FrameEnv) → Type 0
 Behind [] = Unit {0}
 Behind (Does e ∷ ds) = Behind ds
@@ -124,7 +125,7 @@ module _ (cell : Cell → ℕ) (instance : Instance → numbered.Instance) where
   behind_event (Invokes k v ∷ ds) (x ∷ es) zero e b w q s = head_event ds es b.0 w.1
   behind_event (d ∷ ds) (x ∷ es) (suc i) e b w q s = behind_event ds es i e (tail d ds b) w.1 q s
 
--- ---- the story
+-- ---- the event order
 
 abbrev pub IsStartKind : Kind → Type 0
 IsStartKind (kinds.Spawn f) = Unit {0}
@@ -163,7 +164,7 @@ module _ (s : Setting) (h : IsOfProgram s) where
   abbrev story : EventOrder
   story = s.story
 
-  -- a `begin` of the plan is one of the story
+  -- a `begin` of the plan is one of the event order
   begins_there : (i : ℕ) (f : ℕ) → slice_get h.events i ≡ Some (events.Begin f) → kind_of_event (event story (suc i)) ≡ Some (kinds.Begin f)
   begins_there i f is =
       let back : suc i - 1 ≡ i = omega arith in
@@ -203,13 +204,13 @@ pub starts : (o : Option Event) (k : Kind) → kind_of_event o ≡ Some k → Is
 starts None k q s = absurd (cc q)
 starts (Some e) k q s = let z : kind_of e ≡ k = cc q in kind_start e (subst IsStartKind (sym z) s)
 
--- where the story has a position there is an event
+-- if the event order has a position, there is an event
 pub next_there : (s : EventOrder) (at : ℕ) (a : Asked) → IsNext s at a → 1 ≤ at → at ≤ length s.events → ((f : ℕ) (k : Kind) → a ≡ Next f k → ⊥) → ⊥
 next_there s at Nothing (inl none) some within other = omega (arith, none, some)
 next_there s at Nothing (inr past) some within other = omega (arith, past, within)
 next_there s at (Next f k) h some within other = other f k refl
 
--- the root's frame goes on behind its `begin`
+-- the root's frame continues after its `begin`
 pub root_answered : (y : SharedValue) → IsCourse y.course → (let u = y.course in u.yard ≡ yard_of y.run) → IsOrderly (story_in y) → HasValues (story_in y) → IsAnswered (story_in y) 1 Done
 root_answered y course same order values =
     let s = story_in y in

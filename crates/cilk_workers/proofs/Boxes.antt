@@ -34,7 +34,7 @@ pub closes_on : (run : Run) (ws : List Wait) (k : ℕ) (x : PieceValue) (s : ℕ
 closes_on run [] k x s stands h = absurd stands
 closes_on run (w ∷ ws) k x s stands h = closes_step run w ws k x s (nat_eq w.key k) refl h (λ else_. closes_on w.run ws k x s (stands_there w ws k stands else_) h)
 
--- the sync's own piece comes behind all
+-- the sync's own piece comes after all others
 pub closes_last : (run : Run) (ws : List Wait) (k : ℕ) (x : PieceValue) (s : ℕ) → IsAbsent ws k → x.upto ≡ s → let r = placed run ws k x in Closes r.run r.waits s
 closes_last run [] k x s absent end = end
 closes_last run (w ∷ ws) k x s absent end = let there = closes_last w.run ws k x s absent.1 end in rw absent.0 there

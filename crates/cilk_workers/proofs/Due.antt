@@ -1,6 +1,7 @@
--- What a worker's next event asks of its piece and its chain.
+-- The requirements of a worker's next event on its piece and its chain.
 --
--- - `of_yard`, `of_story`: the piece is of the yard, and so is its story; `on_chain`: a fact of the story, of the chain;
+-- - `of_yard`, `of_story`: the piece belongs to the yard, and to its event order; `on_chain`: a
+--   fact of the event order, for the chain;
 -- - `can_pass`, `passes`: the piece may pass its next event;
 -- - `follows`, `answered`: what the chain may be answered;
 -- - `taken_on`, `begun_on`: the piece that has taken a continuation.
@@ -37,22 +38,22 @@ use Rattle.cilk_workers.proofs.OfKind.{event_with, with_kind, IsDoneKind, done}
 pub of_yard : (y : RunValue) (z : YardValue) (p : PieceValue) → z ≡ yard_of y → OfRun y p → IsPieceOf z p
 of_yard y z p same o = (o.0 ∙ ap (λ (v : YardValue). v.of) (sym same), o.1 ∙ ap (λ (v : YardValue). v.story) (sym same))
 
--- a fact of the run's story, of the piece's
+-- a fact of the run's event order, for the piece's
 pub of_story : (P : EventOrder → Type 0) (y : RunValue) (p : PieceValue) → OfRun y p → P y.story → P p.story
 of_story P y p o h = subst P (sym o.1) h
 
--- a fact of the run's story, of the yard's
+-- a fact of the run's event order, for the yard's
 pub in_yard : (P : EventOrder → Type 0) (y : SharedValue) (z : YardValue) → z ≡ yard_of y.run → P (story_in y) → P z.story
 in_yard P y z same h = subst (λ (v : YardValue). P v.story) (sym same) h
 
--- a fact of the run's story at the piece's end, of the piece's segment
+-- a fact of the run's event order at the piece's end, for the piece's segment
 pub in_segment : (P : EventOrder → ℕ → Type 0) (y : SharedValue) (p : PieceValue) (g : SegmentValue) → g ≡ segment_of p → OfRun y.run p → P (story_in y) p.upto → P g.story g.upto
 in_segment P y p g same o h = subst (λ (z : SegmentValue). P z.story z.upto) (sym same) (of_story (λ (s : EventOrder). P s p.upto) y.run p o h)
 
 pub off_segment : (P : EventOrder → ℕ → Type 0) (y : SharedValue) (p : PieceValue) (g : SegmentValue) → g ≡ segment_of p → OfRun y.run p → P g.story g.upto → P (story_in y) p.upto
 off_segment P y p g same o h = subst (λ (s : EventOrder). P s p.upto) o.1 (subst (λ (z : SegmentValue). P z.story z.upto) same h)
 
--- the piece's next event resumes nothing that a spawn left
+-- the piece's next event isn't the `resume` after a spawn
 pub ahead : (y : SharedValue) (p : PieceValue) (g : SegmentValue) → g ≡ segment_of p → IsGood y.run p → ((k : ℕ) → what (story_in y) p.upto ≡ resume k → ⊥) → IsAhead g
 ahead y p g same good other =
     subst IsAhead (sym same) (good.1, of_story (λ (s : EventOrder). (k : ℕ) → what s p.upto ≡ resume k → ⊥) y.run p good.0 other)
@@ -75,7 +76,7 @@ number_read y p i v n o numbers followed is shown =
 pub from_one : (a b : ℕ) → a < b → 1 ≤ b
 from_one a b less = omega (arith, less)
 
--- what is no step on a word and no `sync` comes right after the event ahead of it
+-- an event that is no step on a word and no `sync` comes right after the event before it
 pub can_pass : (y : SharedValue) (p : PieceValue) → IsGood y.run p → IsOrderly (story_in y) → IsAsked (story_in y) p.upto → p.upto < (let s = story_in y in length s.events)
     → what (story_in y) p.upto ≡ plain → (event (story_in y) p.upto ≡ Some events.Sync → ⊥) → CanPass (segment_of p)
 can_pass y p good order asked more quiet other =
@@ -87,7 +88,7 @@ passes y p e good can is = (can, of_story (λ (s : EventOrder). event s p.upto �
 
 -- ---- the chain
 
--- a fact of the run's story at the piece's end, of the chain
+-- a fact of the run's event order at the piece's end, for the chain
 pub on_chain : (P : EventOrder → ℕ → Type 0) (y : SharedValue) (w : Work) → Works y w → (let u = y.course in u.yard ≡ yard_of y.run) → (let p = w.piece in P (story_in y) p.upto)
     → (let k = w.chain in let u = k.of in let z = u.yard in P z.story k.at)
 on_chain P y w works same h =
@@ -101,7 +102,7 @@ off_chain P y w works same h =
     let p = w.piece in
     subst (λ (z : YardValue). P z.story p.upto) same (subst (λ (k : ChainValue). let u = k.of in let z = u.yard in P z.story k.at) works.stands h)
 
--- the same of a chain that stands there
+-- the same for a chain at that position
 pub on_standing : (P : EventOrder → ℕ → Type 0) (y : SharedValue) (k : ChainValue) (at : ℕ) → k ≡ standing y.course at → (let u = y.course in u.yard ≡ yard_of y.run) → P (story_in y) at
     → (let u = k.of in let z = u.yard in P z.story k.at)
 on_standing P y k at stands same h =
@@ -126,7 +127,7 @@ module _ (y : SharedValue) (w : Work) (k : Kind) (due : IsDue y w k) (more : Has
       let p = w.piece in
       record { first = from_one p.from p.upto good.1; asked = due.asked; is = is; more = more }
 
-  -- the frame at hand follows the event
+  -- the current frame follows the event
   pub chain_follows : (e : Event) → (let p = w.piece in event (story_in y) p.upto ≡ Some e) → (let c = w.chain in let u = c.of in let z = u.yard in Follows z.story c.at e)
   chain_follows e is = on_chain (λ s at. Follows s at e) y w due.works same (follows e is)
 
@@ -151,14 +152,14 @@ taken_on p at some is =
 pub begun_on : (p : PieceValue) (at : ℕ) → p.upto ≤ p.from → cond (nat_lt p.from p.upto) p.from at ≡ at
 begun_on p at none = grind (arith, nat_tests)
 
--- the `resume` after a spawn stands there alone
+-- there is one `resume` after a spawn
 pub can_take : (y : SharedValue) (z : YardValue) (p : PieceValue) (ticket at : ℕ) → z ≡ yard_of y.run → IsOrderly (story_in y) → IsAsked (story_in y) at → what (story_in y) at ≡ resume ticket
     → ((p.upto ≤ p.from) ⊎ ((p.from < p.upto) × (at ≡ p.upto))) → CanTake z (segment_of p) ticket
 can_take y z p ticket at same order asked is where_to =
     in_yard (λ (s : EventOrder). (q : ℕ) → what s q ≡ resume ticket → IsAsked s q × ((p.upto ≤ p.from) ⊎ ((p.from < p.upto) × (q ≡ p.upto)))) y z same
     (λ q there. let one = order.once at q ticket is there in subst (λ (n : ℕ). IsAsked (story_in y) n × ((p.upto ≤ p.from) ⊎ ((p.from < p.upto) × (n ≡ p.upto)))) one (asked, where_to))
 
--- the chain that stands behind the piece's next event
+-- the chain after the piece's next event
 pub moved : (y : SharedValue) (w : Work) (k : ChainValue) → Works y w → (let c = w.chain in k ≡ standing c.of (c.at + 1)) → (let p = w.piece in k ≡ standing y.course (p.upto + 1))
 moved y w k works is = is ∙ ap (λ (c : ChainValue). standing c.of (c.at + 1)) works.stands
 

@@ -1,8 +1,10 @@
 -- The root's last ask has the run's result: `ended_with`.
 --
 -- - `deeds`: the deeds at a course's points are those of its run, in order;
--- - `deed_last`: where the last event is asked for, the course's last deed is the root's end, with what the root asks to end with;
--- - `result_is`: so each run of which there is a plan has a course that ends with that, since there is one such run.
+-- - `deed_last`: if the last event is requested, the course's last deed is the root's end, with the
+--   result of that request;
+-- - `result_is`: so each run with this plan has a course that ends with that, since there is one
+--   such run.
 use Rattle.std.proofs.Common.{◌≡◌, ℕ, zero, suc, ◌+◌, ℤ, Bool, List, [], ◌∷◌, ◌++◌, map, length, reverse, Option, None, Some, slice_get, sym, refl, ap, ◌∙◌, subst, arith}
 use Rattle.std.specs.Option.{option_map}
 use Rattle.std.proofs.lemmas.List.{length-map}
@@ -72,7 +74,7 @@ module _ (W V : Type 0) (M : Instance → MonoidStructure V) (asks_next : W → 
 
 -- ---- the root's last ask
 
--- an element behind all others
+-- an element after all others
 last_there : {A : Type 0} (xs : List A) (n : ℕ) (x : A) → slice_get xs n ≡ Some x → suc n ≡ length xs → (front : List A) × (xs ≡ front ++ x ∷ [])
 last_there [] n x there long = absurd (let z : None ≡ Some x = there in cc z)
 last_there (y ∷ []) zero x there long = ([], ap (λ z. z ∷ []) (let z : y ≡ x = cc there in z))
@@ -81,7 +83,7 @@ last_there (y ∷ xs) (suc n) x there long =
     let rest = last_there xs n x there (omega (arith, long)) in
     (y ∷ rest.0, ap (λ l. y ∷ l) rest.1)
 
--- what a frame does that asks to end
+-- the deed of a frame that requests its end
 end_is : (d : Deed FrameEnv) (v : ℤ) (gone : List Instance) → End v gone ≡ asked_for d → d ≡ Does (Ends v gone)
 end_is (Does (Ends x gone')) v gone q =
     let a : x ≡ v = cc q in
@@ -146,7 +148,7 @@ module _ (u : CourseValue) (at : ℕ) (value : ℤ) (ask : IsNextAsk u at (asks.
       let one = serial_run_is_one s.program s.own MAX_TICKS MAX_EVENTS s.run run h.events es (Leaves (let x = h.is in x.outcome)) (Leaves is.outcome) (let x = h.is in x.runs) is.runs in
       subst (λ (r : Transcript). result_in (reverse (course_deeds r)) ≡ value) one.0 (result_of (course_deeds s.run) value deed_last)
 
--- of a chain that stands at the run's last event
+-- of a chain at the run's last event
 pub ended_with : (y : SharedValue) (k : ChainValue) (at : ℕ) (value : ℤ) → k ≡ standing y.course at → (let c = y.course in c.yard ≡ yard_of y.run) → IsNextAsk k.of k.at (asks.End value)
     → IsAsked (story_in y) at → at ≡ length (let s = story_in y in s.events) → IsResult y value
 ended_with y k at value stands same ask asked last =

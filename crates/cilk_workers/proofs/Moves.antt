@@ -23,7 +23,7 @@ all_front P xs ys h k d lt = subst P (get_or_append_left xs ys d k lt) (h k d (o
 all_back : (P : Task → Type 0) (xs ys : List Task) → All P (xs ++ ys) → All P ys
 all_back P xs ys h k d lt = subst P (get_or-append-add xs ys k d) (h (length xs + k) d (omega (arith, length-append xs ys)))
 
--- whoever may take tasks says so of each
+-- whoever may take tasks may say so of each
 all_picked : (taken : Task → Type 0) → MayPick taken → (xs : List Task) → All taken xs
 all_picked taken may xs k d lt = may _
 
@@ -96,7 +96,8 @@ pops y taken v owner port here x items views h at =
       (refl, refl, mine.1 ∙ sym (append_assoc mine.0 items (x ∷ [])), all_back (Of y) items (x ∷ []) h.0),
     )
 
--- where no task lies in the deque, each that its owner waits for is taken; where it has no pickers, it waits for none
+-- if the deque is empty, each task that its owner waits for is taken; if it has no pickers, the
+-- owner waits for none
 pub finds : (y : CourseValue → Type 0) (taken : Task → Type 0) (v : Offers) → v.owner ≡ true → (port : ℕ) → Finds (Racked y taken) port v (All taken v.waiting × (v.alone ≡ true → v.waiting ≡ []))
 finds y taken v owner port views h at =
     let mine : Fits taken [] views v = (h.1 port v at owner).1 in (
@@ -104,7 +105,7 @@ finds y taken v owner port views h at =
       λ a. mine.1 ∙ ap (λ (l : List Task). l ++ []) (mine.3 a).0,
     )
 
--- what others take is taken; where the owner has no pickers, nobody else is there to take
+-- a task that others steal is taken; if the owner has no pickers, there is nobody else to steal
 pub takes : (y : CourseValue → Type 0) (taken : Task → Type 0) → MayPick taken → (v : Offers) → v.owner ≡ false → (port : ℕ) → Takes (Racked y taken) port v 1 (λ xs w. (w ≡ v) × All (Of y) xs)
 takes y taken may v guest port xs items views _ _ h at = (
   v,

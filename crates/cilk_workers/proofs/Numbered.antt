@@ -1,8 +1,8 @@
--- What a frame asks for, and the number that its event has.
+-- The requests of frames, and the numbers of their events.
 --
 -- - `number_is`, `number_there`: the number of an ask is that of its event;
 -- - `end_some`, `end_there`: that with which the frame ends;
--- - `within`: where a frame asks for an event, the story has a position.
+-- - `within`: if a frame requests an event, the event order has its position.
 use Rattle.std.proofs.Common.{◌≡◌, ◌≤◌, ℕ, ℤ, length, Option, Some, refl, sym, ap, ◌∙◌, subst, arith}
 use Rattle.cilk_types.specs.declared.event.Event.{Event}
 use Rattle.cilk_types.specs.declared.event.Event.TheVariants as events

@@ -1,7 +1,8 @@
 -- Events by their kinds.
 --
 -- - `with_kind`, `with_number`: the event of a kind and a value;
--- - `what_plain`, `what_end`, `what_resume`, `finish_event`, `resume_event`: what it is to shared words;
+-- - `what_plain`, `what_end`, `what_resume`, `finish_event`, `resume_event`: what it is to shared
+--   words;
 -- - `quiet`: what it is to reducers.
 use Rattle.std.proofs.Common.{◌≡◌, ℕ, ◌<◌, ℤ, pos, Bool, true, false, nat_eq, if◌then◌else◌, List, [], ◌∷◌, length, Option, Some, None, refl, sym, ap, ◌∙◌, subst, arith, eqb-true}
 use Rattle.cilk_types.specs.declared.event.Event.{Event}
@@ -185,7 +186,7 @@ not_resumed es [] h = refl
 not_resumed es (q ∷ []) h = chosen (is_spawn (event_at es q)) q h
 not_resumed es (q ∷ r ∷ ps) h = refl
 
--- a `resume` behind no spawn
+-- a `resume` that follows no spawn
 pub what_resume : (s : EventOrder) (p f : ℕ) → kind_of_event (event s p) ≡ Some (kinds.Resume f) → ((k : ℕ) → what s p ≡ resume k → ⊥) → what s p ≡ plain
 what_resume s p f q none =
     let e = with_kind (event s p) (kinds.Resume f) q in

@@ -1,4 +1,4 @@
--- What the plan has at a position is the story's event: `next_is`.
+-- The plan's event at a position is that of the event order: `next_is`.
 use Rattle.std.proofs.Common.{◌≡◌, ◌≤◌, inr, ℕ, ◌+◌, ◌-◌, List, length, map, Option, Some, None, slice_get, refl, sym, ap, ◌∙◌, subst, arith}
 use Rattle.std.specs.Option.{option_map}
 use Rattle.std.proofs.lemmas.List.{length-map}

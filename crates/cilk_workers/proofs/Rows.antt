@@ -1,10 +1,11 @@
--- A piece comes to its place by few writes.
+-- An arrival, by the writes of the code.
 --
 -- - `settled`, `unsettled`: by the writes of an arrival, and of one that is refused;
 -- - `beside_it`: the runs beside its place are good, and meet it;
--- - `met_on`, `met_push`, `met_lower`: the row stays as it is to be, after an arrival and with one more awaited key;
--- - `apart`: its pieces lie apart;
--- - `fits_top`, `stands`, `absent`, `awaited_if`: what the tests tell.
+-- - `met_on`, `met_push`, `met_lower`: the invariant of the row, after an arrival and with one more
+--   awaited key;
+-- - `apart`: its pieces don't overlap;
+-- - `fits_top`, `stands`, `absent`, `awaited_if`: the answers of the tests.
 use Rattle.std.proofs.Common.{◌≡◌, ◌↔◌, ◌<◌, ◌≤◌, ℕ, suc, nat_eq, Bool, true, false, true≢false, List, [], ◌∷◌, ◌++◌, Some, None, refl, sym, ap, ap₂, ◌∙◌, subst, arith, length, inl, inr, nat_lt}
 use Rattle.cilk_shared.specs.Pieces.{PieceValue}
 use Rattle.cilk_workers.specs.Rows.{Run, RunValue, Wait, Row, LieApart, pieces_of, row, rows, wait, between, IsGood, IsGoodRun, EndsAt, BeginsAt, Met, MetRows, last_end, FitsFrom, ahead, placed, behind, FitsRow, FitsIn, place_of, run_at, with_run, without}
@@ -32,7 +33,7 @@ PutsAt run ws k x = put (cleared run ws (place_of ws k)) (place_of ws k) (Some (
 abbrev pub PutsBack : Run → List Wait → ℕ → Type 0
 PutsBack run ws k = restored (cleared run ws (place_of ws k)) (place_of ws k) (run_at run ws (place_of ws k)) (right_of run ws (place_of ws k)) ≡ row run ws
 
--- behind one more awaited key
+-- after one more awaited key
 puts_step : (run : Run) (w : Wait) (ws : List Wait) (k : ℕ) (x : PieceValue) (b : Bool) → nat_eq w.key k ≡ b → PutsAt w.run ws k x → PutsAt run (w ∷ ws) k x
 puts_step run w ws k x true e h = rw e refl
 puts_step run w ws k x false e h = rw e (ap (ahead run w.key w.goes_on) h)
@@ -126,7 +127,7 @@ beside_it y run ws k p q left right r1 r2 h met x fits =
     (λ i. (sym (h.left_is ∙ ap (λ n. run_at run ws n) h.place) i, sym (right_there run ws k p q left right r1 r2 h) i))
     (beside y x.from (behind run 0) run ws k x met.0 met.1 fits)
 
--- ---- the row stays as it is to be
+-- ---- the invariant of the row
 
 good_between : (y : RunValue) (left : Run) (x : PieceValue) (right : Run) → IsGood y x → IsGoodRun y left → EndsAt left x.from → IsGoodRun y right → BeginsAt right x.upto → IsGood y (between left x right)
 good_between y None x None good l e r b = good
@@ -138,7 +139,7 @@ begins_between : (left : Run) (x : PieceValue) (right : Run) (a : ℕ) → x.fro
 begins_between None x right a at begins = at
 begins_between (Some p) x right a at begins = begins
 
--- a row behind `a`
+-- a row after `a`
 abbrev MetFrom : RunValue → ℕ → Row → Type 0
 MetFrom y a r = IsGoodRun y r.run × BeginsAt r.run a × Met y (behind r.run a) r.waits
 
@@ -164,7 +165,7 @@ met_placed : (y : RunValue) (a : ℕ) (run : Run) (ws : List Wait) (k : ℕ) (x 
 met_placed y a run [] k x good met fits = (good_between y run x None good met.0 (ends_at run a x fits) tt tt, begins_between run x None a fits met.1, tt)
 met_placed y a run (w ∷ ws) k x good met fits = met_step y a run w ws k x (nat_eq w.key k) refl good met fits (λ h. met_placed y w.goes_on w.run ws k x good (met.2.1, met.2.2, met.2.3) h)
 
--- ahead of all a piece may begin anywhere
+-- before all others a piece may begin anywhere
 met_top : (y : RunValue) (run : Run) (w : Wait) (ws : List Wait) (k : ℕ) (x : PieceValue) (b : Bool) → nat_eq w.key k ≡ b → IsGood y x → MetRows (rows y (row run (w ∷ ws))) → FitsRow x.from run (w ∷ ws) k x → MetRows (rows y (placed run (w ∷ ws) k x))
 met_top y run w ws k x true e good met fits =
     let here : (x.from ≡ behind run x.from) × (x.upto ≡ w.goes_on) = rw e at fits in
@@ -189,7 +190,7 @@ pub met_push : (y : RunValue) (b : ℕ) (ws : List Wait) (k a : ℕ) → last_en
 met_push y b [] k a le met = (le, tt, tt, tt)
 met_push y b (w ∷ ws) k a le met = (met.0, met.1, met.2, met_push y (behind w.run w.goes_on) ws k a le met.3)
 
--- ---- the pieces lie apart
+-- ---- the pieces don't overlap
 
 lie_lower : (y : RunValue) (b b' : ℕ) (ps : List PieceValue) → b ≤ b' → LieApart y b' ps → LieApart y b ps
 lie_lower y b b' [] le h = tt

@@ -1,4 +1,4 @@
--- What stays where one comes out of a list.
+-- The rest of a list from which one element is removed.
 --
 -- - `all_without`: the others, where one is removed;
 -- - `one_of`: the one that came out;
@@ -33,7 +33,7 @@ module _ {A : Type 0} (P : A → Type 0) where
       none : All P []
       none k d lt = absurd (omega (arith, lt))
 
--- what stands at a place is one thing
+-- there is one element at a place
 pub same_at : {A : Type 0} (xs : List A) (i : ℕ) → i < length xs → (x y : A) → x ≡ slice_index_or xs i x → y ≡ slice_index_or xs i y → x ≡ y
 same_at [] i lt x y there there' = absurd (omega (arith, lt))
 same_at (z ∷ xs) zero lt x y there there' = there ∙ sym there'

@@ -1,7 +1,8 @@
 -- The code's list, and the row that it shows.
 --
 -- - `map_without`, `without_past`: without the key at a place;
--- - `run_before`, `set_before`, `run_past`, `with_past`: the run at a place, and another in its stead;
+-- - `run_before`, `set_before`, `run_past`, `with_past`: the run at a place, and another in its
+--   stead;
 -- - `map_push`, `length_waits`: one key more; how many there are.
 use Rattle.std.proofs.Common.{◌≡◌, ◌<◌, ◌≤◌, ℕ, zero, suc, List, [], ◌∷◌, ◌++◌, map, length, take, drop, slice_index_or, slice_set, None, refl, ap, arith}
 use Rattle.cilk_workers.specs.declared.awaited.Awaited.{Awaited}

@@ -1,4 +1,4 @@
--- What a worker has between two turns, and how it ends.
+-- The state of a worker between two turns, and the reasons why it ends.
 use Rattle.std.specs.Prelude.{◌≡◌, ◌≤◌, ℤ}
 use Rattle.cilk_workers.specs.Rows.{OfRun}
 use Rattle.cilk_shared.specs.Pieces.{PieceValue}
@@ -16,7 +16,8 @@ use Rattle.cilk_workers.specs.declared.activity.Activity.TheVariants as hands
 abbrev pub IsWhole : SharedValue → PieceValue → ℤ → Type 0
 IsWhole y p value = HasEnded y p value × (p.from ≡ 1)
 
--- a worker ends with the whole run's piece, or where the run departs from its plan
+-- a true exit reason: the worker has the whole run's piece, or the run departs from its plan there,
+-- or nothing is said
 abbrev pub IsExitReason : SharedValue → ExitReason → Type 0
 IsExitReason y (finishes.Whole p value) = IsWhole y p value
 IsExitReason y (finishes.Departed p) = Departs (story_in y) p
@@ -28,7 +29,7 @@ IsActivity y (hands.Holds w) = Works y w
 IsActivity y (hands.Idle p) = OfRun y.run p × (p.upto ≤ p.from)
 IsActivity y (hands.Done f) = IsExitReason y f
 
--- what passes is the block's piece, with the chain that stands at the `sync`
+-- the outcome of an arrival: what passes is the block's piece, with the chain at the `sync`
 abbrev pub IsMet : SharedValue → Met → Type 0
 IsMet y (mets.Passes w) = Works y w
 IsMet y mets.Waits = Unit {0}

@@ -1,4 +1,4 @@
--- What an arrival answers.
+-- The answers to arrivals at a join box.
 use Rattle.std.specs.Prelude.{◌≡◌, ℕ, true, false, Option, Some}
 use Rattle.cilk_shared.specs.Pieces.{PieceValue}
 use Rattle.cilk_replay.specs.Chains.{ChainValue}
@@ -12,7 +12,7 @@ abbrev pub Answers : BoxValue → Boxed → BoxValue → Type 0
 Answers j Waits j' = (passes j ≡ false) × (j' ≡ j)
 Answers j (Passes p c) j' = (passes j ≡ true) × (let r = j.rows in let w = r.row in (w.run ≡ Some p) × IsGood r.of p × (c.of ≡ j.course)) × (p.upto ≡ j.sync) × (c.at ≡ j.sync) × (j' ≡ passed j)
 
--- after a block has passed nothing is stolen, and nothing arrives
+-- after a block has passed, nothing is stolen and nothing arrives
 abbrev pub PassesOnce : Type 0
 PassesOnce =
     (j j' : BoxValue) (p : PieceValue) (c : ChainValue) → Answers j (Passes p c) j'

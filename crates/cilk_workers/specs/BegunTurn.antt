@@ -1,4 +1,4 @@
--- Events by which a child is started.
+-- The events that start a child.
 use Rattle.std.specs.Prelude.{Option, Some}
 use Rattle.cilk_types.specs.declared.event.Event.{Event}
 use Rattle.cilk_types.specs.declared.event.Event.TheVariants.{Call, Spawn}

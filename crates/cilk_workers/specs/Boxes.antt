@@ -1,12 +1,13 @@
--- What waits at a sync block.
+-- The state of a join box, at a sync block.
 use Rattle.std.specs.Prelude.{◌≡◌, ◌<◌, ◌≤◌, ◌⊎◌, ℕ, nat_eq, nat_lt, Bool, true, false, if◌then◌else◌, List, [], ◌∷◌, Option, Some, None}
 use Rattle.cilk_shared.specs.Pieces.{PieceValue}
 use Rattle.cilk_replay.specs.Chains.{ChainValue}
 use Rattle.cilk_replay.specs.Courses.{CourseValue}
 use Rattle.cilk_workers.specs.Rows.{Run, RunValue, Wait, Rows, row, rows, placed_in, awaiting, end_in, is_empty, parts_in}
 
--- the rows; the course of the run; the block's sync; the greatest key that was stolen, and the greatest that has arrived, 0 where there is none; and
--- whether the sync's own piece has arrived, as it has of a block that has passed
+-- the rows; the course of the run; the block's sync; the greatest stolen key and the greatest
+-- arrived key, 0 where there is none; and whether the sync's own piece has arrived, as it has if
+-- the block has passed
 pub record BoxValue : Type 0 where
   pub rows : Rows
   pub course : CourseValue
@@ -36,22 +37,22 @@ abbrev pub IsAbsent : List Wait → ℕ → Type 0
 IsAbsent [] k = Unit {0}
 IsAbsent (w ∷ ws) k = (nat_eq w.key k ≡ false) × IsAbsent ws k
 
--- whether the key is awaited is told
+-- the flag says whether the key is awaited
 abbrev pub IsAwaitedIf : Bool → List Wait → ℕ → Type 0
 IsAwaitedIf true ws k = Stands ws k × (IsAbsent ws k → ⊥)
 IsAwaitedIf false ws k = IsAbsent ws k × (Stands ws k → ⊥)
 
--- there is a run, and it ends at the place
+-- there is a run, and it ends at the position
 abbrev pub IsUpTo : Run → ℕ → Type 0
 IsUpTo None s = ⊥
 IsUpTo (Some p) s = p.upto ≡ s
 
--- the last run of a row
+-- the row ends with a run, which ends at the position
 abbrev pub Closes : Run → List Wait → ℕ → Type 0
 Closes run [] s = IsUpTo run s
 Closes run (w ∷ ws) s = Closes w.run ws s
 
--- the sync's chain, once it is there: it stands at the sync, where the last run ends
+-- the sync's chain, if it is there, is at the sync, where the last run ends
 abbrev pub IsClosed : Rows → CourseValue → ℕ → Option ChainValue → Type 0
 IsClosed j u s None = Unit {0}
 IsClosed j u s (Some c) = (c.of ≡ u) × (c.at ≡ s) × (let r = j.row in Closes r.run r.waits s)
@@ -61,7 +62,7 @@ abbrev pub closed_by : Bool → Option ChainValue → Bool
 closed_by true c = true
 closed_by false c = is_some c
 
--- of a block that has passed nothing is left
+-- if the block has passed, no run, awaited key or chain is left
 abbrev pub IsGone : Bool → Rows → Option ChainValue → Type 0
 IsGone false j c = Unit {0}
 IsGone true j c = (j.row ≡ row None []) × (c ≡ None)
@@ -70,25 +71,26 @@ IsGone true j c = (j.row ≡ row None []) × (c ≡ None)
 abbrev pub IsUnused : BoxValue → Type 0
 IsUnused j = (parts_in j.rows ≡ 0) × (let r = j.rows in let w = r.row in is_empty w.waits ≡ true)
 
--- k is above every key that was stolen or has arrived, and the sync's piece hasn't arrived
+-- k is above every stolen and every arrived key, and the sync's piece hasn't arrived
 abbrev pub IsFresh : BoxValue → ℕ → Type 0
 IsFresh j k = (j.closed ≡ false) × (j.stolen < k) × (j.arrived < k)
 
--- k may be stolen: it is above every key that was stolen and every other that has arrived, and the sync's piece hasn't arrived; and its parent goes
--- on at a, behind all that is there
+-- k may be stolen: it is above every stolen key and every other arrived key, and the sync's piece
+-- hasn't arrived; and its parent continues at a, not before the end of the row
 abbrev pub IsOpen : BoxValue → ℕ → ℕ → Type 0
 IsOpen j k a = (j.closed ≡ false) × (j.stolen < k) × (j.arrived ≤ k) × (end_in j.rows ≤ a)
 
--- a child's piece comes by an awaited key, or a fresh one; the sync's own piece, with its chain, by a fresh one, and it ends at the sync
+-- a child's piece arrives with an awaited or a fresh key; the sync's own piece arrives with its
+-- chain and a fresh key, and ends at the sync
 abbrev pub MayArrive : BoxValue → ℕ → PieceValue → Option ChainValue → Type 0
 MayArrive j k x None = (let r = j.rows in let w = r.row in Stands w.waits k) ⊎ IsFresh j k
 MayArrive j k x (Some c) = IsFresh j k × (let r = j.rows in let w = r.row in (c.of ≡ j.course) × (c.at ≡ j.sync) × (x.upto ≡ j.sync) × IsAbsent w.waits k)
 
--- after k was stolen: it is awaited, unless it has arrived
+-- the state after k is stolen: k is awaited, unless it has arrived
 abbrev pub stolen_at : BoxValue → ℕ → ℕ → BoxValue
 stolen_at j k a = record j { rows = if nat_eq j.arrived k then j.rows else awaiting j.rows k a; stolen = k }
 
--- after a piece has come to its place
+-- the state after a piece has arrived
 abbrev pub arrived_at : BoxValue → ℕ → PieceValue → Bool → BoxValue
 arrived_at j k x last = record j { rows = placed_in j.rows k x; arrived = if nat_lt j.arrived k then k else j.arrived; closed = if last then true else j.closed }
 
@@ -96,15 +98,15 @@ abbrev pub is_there : Run → Bool
 is_there None = false
 is_there (Some p) = true
 
--- the sync's piece is there, and no key is awaited
+-- whether the sync's piece is there and no key is awaited
 abbrev pub passes : BoxValue → Bool
 passes j = if j.closed then (let r = j.rows in let w = r.row in if is_empty w.waits then is_there w.run else false) else false
 
--- the one run that is left is moved out
+-- the state after the one remaining run is moved out
 abbrev pub passed : BoxValue → BoxValue
 passed j = record j { rows = (let r = j.rows in rows r.of (row None [])) }
 
--- the same of the piece alone, which a test can tell
+-- the same for the piece without its chain, as the code tests it
 abbrev pub Comes : BoxValue → ℕ → PieceValue → Bool → Type 0
 Comes j k x false = MayArrive j k x None
 Comes j k x true = IsFresh j k × (let r = j.rows in let w = r.row in (x.upto ≡ j.sync) × IsAbsent w.waits k)

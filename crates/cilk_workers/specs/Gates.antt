@@ -1,4 +1,4 @@
--- Where strands begin.
+-- The first events of strands.
 use Rattle.std.specs.Prelude.{◌≡◌, ℕ, ◌+◌, ◌≤◌}
 use Rattle.cilk_tree.specs.PlanStrands.{BeginsStrand}
 use Rattle.cilk_shared.specs.Values.{SegmentValue}

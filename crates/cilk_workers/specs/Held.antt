@@ -1,4 +1,4 @@
--- What contracts see of a rack.
+-- The view of a rack in contracts.
 use Rattle.std.specs.Prelude.{◌≡◌, ℕ, ◌+◌, ◌≤◌, true, List, [], ◌∷◌, ◌++◌, Result, MatchResult}
 use Rattle.crossbeam_deque.specs.Handles.{worker_deque, worker_view, worker_capacity, worker_index, stealer_deque}
 use Rattle.cilk_replay.specs.declared.chain.Task.{Task}
@@ -14,15 +14,15 @@ module _ {N : Type 0} where
   abbrev pub IsAlone : Rack N → Type 0
   IsAlone r = (worker_view r.worker).alone ≡ true
 
-  -- how many offers there is room for
+  -- the number of offers that there is room for
   abbrev pub room : Rack N → ℕ
   room r = worker_capacity r.worker
 
-  -- no more than the offers so far
+  -- at most the number of offers so far
   abbrev pub offered : Rack N → ℕ
   offered r = worker_index r.worker
 
-  -- the picker takes from the rack's deque
+  -- the picker steals from the rack's deque
   abbrev pub IsPickerOf : Rack N → Picker N → Type 0
   IsPickerOf r p = stealer_deque p.stealer ≡ worker_deque r.worker
 
@@ -30,7 +30,7 @@ module _ {N : Type 0} where
   abbrev pub IsSameRack : Rack N → Rack N → Type 0
   IsSameRack r r' = (worker_deque r'.worker ≡ worker_deque r.worker) × (room r ≤ room r')
 
-  -- the task is put behind the others, or comes back where there is no room
+  -- the task is pushed, or comes back if there is no room
   abbrev pub IsOffered : Rack N → Task → Result (Unit {0}) Task → Rack N → Type 0
   IsOffered r t result r' = MatchResult result
       (λ _. (waiting r' ≡ waiting r ++ t ∷ []) × (offered r' ≡ offered r + 1))

@@ -8,7 +8,7 @@ use Rattle.cilk_tree.specs.Word.{event}
 use Rattle.cilk_workers.specs.declared.shelf.Shelf.{Shelf}
 use Rattle.cilk_workers.specs.Shared.{SharedValue, story_in}
 
--- a `sync` stands at each position
+-- the event at each position is a `sync`
 abbrev pub AreSyncs : SharedValue → List ℕ → Type 0
 AreSyncs y syncs = All (λ at. event (story_in y) at ≡ Some Sync) syncs
 

@@ -6,7 +6,8 @@ use Rattle.cilk_replay.specs.declared.chain.Task.{Task}
 use Rattle.cilk_workers.specs.Shared.{SharedValue}
 use Rattle.cilk_workers.specs.Racks.{MayPick}
 
--- it names the run that the workers share, and that run's course alone, and its workers may take each other's tasks
+-- it names the run that the workers share and that run's only course, and its workers may take each
+-- other's tasks
 pub record IsName (named : RunValue) (is : CourseValue → Type 0) (taken : Task → Type 0) (y : SharedValue) : Type 0 where
   pub run : named ≡ y.run
   pub course : is y.course

@@ -1,5 +1,5 @@
--- The rule of a rack. Its tasks are of one run, and they are the last of those that its owner has offered and not got back; pickers have taken
--- the others.
+-- The rule of a rack. Its tasks belong to one run. They are the last of those that its owner has
+-- offered and not got back; pickers have taken the others.
 use Rattle.std.specs.Prelude.{◌≡◌, ℕ, Bool, true, List, [], ◌++◌, All}
 use mathlib.Core.Option.{some}
 use lib.ListN.{get_elem?}
@@ -10,7 +10,7 @@ use Rattle.cilk_workers.specs.declared.rack.Offers.{Offers}
 abbrev pub Of : (CourseValue → Type 0) → Task → Type 0
 Of course t = course t.of
 
--- the right to take tasks: to say of any task what is known of taken ones
+-- the right to take tasks: the fact of taken tasks may be said of any task
 abbrev pub MayPick : (Task → Type 0) → Type 0
 MayPick taken = (t : Task) → taken t
 
@@ -21,7 +21,8 @@ offers owner alone waiting = record { owner = owner; alone = alone; waiting = wa
 abbrev pub IsOnly : List Offers → Type 0
 IsOnly views = (port : ℕ) (v : Offers) → get_elem? views port ≡ some v → port ≡ 0
 
--- the deque's tasks are the last of the owner's, and those ahead of them are taken; where no picker has been made, they are all of them
+-- the deque's tasks are the last of the owner's, and those before them are taken; if no picker has
+-- been made, they are all of the owner's
 abbrev pub Fits : (Task → Type 0) → List Task → List Offers → Offers → Type 0
 Fits taken items views v =
     (front : List Task) × (v.waiting ≡ front ++ items) × All taken front × (v.alone ≡ true → (front ≡ []) × IsOnly views)

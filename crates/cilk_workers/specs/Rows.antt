@@ -22,18 +22,19 @@ yard_of y = record { of = y.of; story = y.story }
 abbrev pub Run : Type 0
 Run = Option PieceValue
 
--- a stolen child that hasn't arrived, the place at which its parent goes on, and the run from there on
+-- a stolen child that hasn't arrived, the position at which its parent continues, and the run from
+-- there on
 pub record Wait : Type 0 where
   pub key : ℕ
   pub goes_on : ℕ
   pub run : Run
 
--- the run ahead of the first awaited key, and the awaited keys in ascending order
+-- the run before the first awaited key, and the awaited keys in ascending order
 pub record Row : Type 0 where
   pub run : Run
   pub waits : List Wait
 
--- of a run of the program
+-- a row, and the run of the program to which it belongs
 pub record Rows : Type 0 where
   pub of : RunValue
   pub row : Row
@@ -61,11 +62,11 @@ end_of (Some p) b = p.upto
 abbrev pub between : Run → PieceValue → Run → PieceValue
 between left x right = record { of = x.of; story = x.story; reducers = x.reducers; from = begin_of left x.from; upto = end_of right x.upto }
 
--- it belongs to the program's run
+-- the piece belongs to the program's run
 abbrev pub OfRun : RunValue → PieceValue → Type 0
 OfRun y p = (p.of ≡ y.of) × (p.story ≡ y.story) × (p.reducers ≡ y.reducers)
 
--- and is not empty
+-- the piece belongs to the run and is not empty
 abbrev pub IsGood : RunValue → PieceValue → Type 0
 IsGood y p = OfRun y p × (p.from < p.upto)
 
@@ -86,13 +87,14 @@ BeginsAt (Some p) a = p.from ≡ a
 
 -- ---- what holds of a row
 
--- where a piece must begin behind a run, or where there is none
+-- the end of a run, where a piece after it must begin; a if there is no run
 abbrev pub behind : Run → ℕ → ℕ
 behind None a = a
 behind (Some p) a = p.upto
 
--- Behind what ends at `b`: each run after an awaited key begins where the parent goes on, and that is where what lies ahead ends or later. So the
--- pieces lie apart, in the order of the run.
+-- After a start that ends at `b`: each run after an awaited key begins where the key's parent
+-- continues, which is not before the end of what comes before it. So the pieces don't overlap, and
+-- are in the order of the run.
 abbrev pub Met : RunValue → ℕ → List Wait → Type 0
 Met y b [] = Unit {0}
 Met y b (w ∷ ws) = (b ≤ w.goes_on) × IsGoodRun y w.run × BeginsAt w.run w.goes_on × Met y (behind w.run w.goes_on) ws
@@ -100,7 +102,7 @@ Met y b (w ∷ ws) = (b ≤ w.goes_on) × IsGoodRun y w.run × BeginsAt w.run w.
 abbrev pub MetRows : Rows → Type 0
 MetRows j = let r = j.row in IsGoodRun j.of r.run × Met j.of (behind r.run 0) r.waits
 
--- where all ends, behind what ends at `b`
+-- where the row ends, after a start that ends at `b`
 abbrev pub last_end : ℕ → List Wait → ℕ
 last_end b [] = b
 last_end b (w ∷ ws) = last_end (behind w.run w.goes_on) ws
@@ -115,7 +117,8 @@ pieces_of None (w ∷ ws) = pieces_of w.run ws
 pieces_of (Some p) [] = p ∷ []
 pieces_of (Some p) (w ∷ ws) = p ∷ pieces_of w.run ws
 
--- each is of the run and has events, and begins at b or later, behind the end of the one ahead
+-- each piece belongs to the run, is not empty, and begins at b or later, not before the end of the
+-- previous one
 abbrev pub LieApart : RunValue → ℕ → List PieceValue → Type 0
 LieApart y b [] = Unit {0}
 LieApart y b (p ∷ ps) = (b ≤ p.from) × IsGood y p × LieApart y p.upto ps
@@ -125,11 +128,12 @@ PiecesLieApart j = let r = j.row in LieApart j.of 0 (pieces_of r.run r.waits)
 
 -- ---- a piece comes
 
--- a run ahead of a row, with an awaited key between
+-- a run before a row, with an awaited key between
 abbrev pub ahead : Run → ℕ → ℕ → Row → Row
 ahead run key goes_on r = row run (wait key goes_on r.run ∷ r.waits)
 
--- It makes one run of those beside it: in place of its key where that is awaited, and else behind all.
+-- The row after a piece has come. It makes one run with its neighbours. Its place is that of its
+-- key if the key is awaited, and else the end.
 abbrev pub placed : Run → List Wait → ℕ → PieceValue → Row
 placed run [] k x = row (Some (between run x None)) []
 placed run (w ∷ ws) k x = if nat_eq w.key k then row (Some (between run x w.run)) ws else ahead run w.key w.goes_on (placed w.run ws k x)
@@ -138,12 +142,13 @@ abbrev pub IfHere : Bool → Type 0 → Type 0 → Type 0
 IfHere true A B = A
 IfHere false A B = B
 
--- The piece begins where the run before it ends, or else at `a`; and it ends where its key's parent goes on.
+-- The piece begins where the run before it ends, or at `a` if there is none; and it ends where its
+-- key's parent continues.
 abbrev pub FitsRow : ℕ → Run → List Wait → ℕ → PieceValue → Type 0
 FitsRow a run [] k x = x.from ≡ behind run a
 FitsRow a run (w ∷ ws) k x = IfHere (nat_eq w.key k) ((x.from ≡ behind run a) × (x.upto ≡ w.goes_on)) (FitsRow w.goes_on w.run ws k x)
 
--- ahead of all runs and keys it may begin anywhere
+-- before all runs and keys it may begin anywhere
 abbrev pub FitsIn : Rows → ℕ → PieceValue → Type 0
 FitsIn j k x = let r = j.row in FitsRow x.from r.run r.waits k x
 
@@ -166,7 +171,7 @@ runs_in (w ∷ ws) = count w.run + runs_in ws
 abbrev pub parts_in : Rows → ℕ
 parts_in j = let r = j.row in count r.run + runs_in r.waits
 
--- ---- by places: run 0 is ahead of the first awaited key, run n + 1 follows the one at place n
+-- ---- by places: run 0 is before the first awaited key, run n + 1 follows the one at place n
 
 abbrev pub place_of : List Wait → ℕ → ℕ
 place_of [] k = 0
@@ -182,7 +187,7 @@ with_run run ws zero x = row x ws
 with_run run [] (suc n) x = row run []
 with_run run (w ∷ ws) (suc n) x = ahead run w.key w.goes_on (with_run w.run ws n x)
 
--- without the awaited key at a place and the run after it
+-- the list without the awaited key at a place and the run after it
 abbrev pub without : List Wait → ℕ → List Wait
 without [] n = []
 without (w ∷ ws) zero = ws
@@ -192,7 +197,7 @@ abbrev pub is_empty : List Wait → Bool
 is_empty [] = true
 is_empty (w ∷ ws) = false
 
--- the same as `FitsRow`, from the place where the piece must begin
+-- the same as `FitsRow`, given where the piece must begin
 abbrev pub FitsFrom : ℕ → List Wait → ℕ → PieceValue → Type 0
 FitsFrom b [] k x = x.from ≡ b
 FitsFrom b (w ∷ ws) k x = IfHere (nat_eq w.key k) ((x.from ≡ b) × (x.upto ≡ w.goes_on)) (FitsFrom (behind w.run w.goes_on) ws k x)

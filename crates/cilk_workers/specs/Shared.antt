@@ -1,4 +1,4 @@
--- What contracts see of what the workers of a run share.
+-- The view in contracts of the part of a run that its workers share.
 use Rattle.std.specs.Prelude.{◌≡◌, ◌≤◌, ◌<◌, ◌⊎◌, ℕ, length, Some}
 use Rattle.cilk_workers.specs.Rows.{RunValue, run_of}
 use Rattle.cilk_replay.specs.Courses.{CourseValue}
@@ -20,15 +20,15 @@ pub record SharedValue : Type 0 where
 abbrev pub shared_with : YardValue → Reducers → CourseValue → SharedValue
 shared_with y r c = record { run = run_of y r; course = c }
 
--- its story
+-- its event order
 abbrev pub story_in : SharedValue → EventOrder
 story_in y = let r = y.run in r.story
 
--- the cells that the story's events name open with values
+-- each cell that an event reads or writes has an opening value
 abbrev pub HasCells : EventOrder → Type 0
 HasCells s = (p c : ℕ) → (kind_of_event (event s p) ≡ Some (kinds.Read c)) ⊎ (kind_of_event (event s p) ≡ Some (kinds.Write c)) → c < length s.opening
 
--- the kind of the event at a position, and whose frame it is in
+-- the kind and the frame of the event at a position
 abbrev pub IsNext : EventOrder → ℕ → Asked → Type 0
 IsNext s at Nothing = (at ≡ 0) ⊎ (length s.events < at)
 IsNext s at (Next frame kind) = (kind_of_event (event s at) ≡ Some kind) × IsInFrame s.events at frame × (1 ≤ at) × (at ≤ length s.events)

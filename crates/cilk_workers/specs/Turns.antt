@@ -1,4 +1,4 @@
--- What a worker has in its hands, and what a turn leads to.
+-- The work of a worker, and the outcomes of a turn.
 use Rattle.std.specs.Prelude.{◌≡◌, ◌+◌, ◌<◌, ◌⊎◌, ℕ, ℤ, List, length, reverse, Some}
 use Rattle.cilk_types.specs.declared.event.Event.{Event}
 use Rattle.cilk_types.specs.declared.event.Event.TheVariants as events
@@ -24,39 +24,43 @@ use Rattle.cilk_workers.specs.declared.work.Turn.{Turn}
 use Rattle.cilk_workers.specs.declared.work.Turn.TheVariants.{Goes, Offers, Arrives, Ended, Finished, Departed, Stopped}
 use Rattle.cilk_runs.specs.Steps.{result_in}
 
--- a piece of the run that is not empty, and a chain that stands at its next event
+-- good work: a piece of the run that is not empty, and a chain at its next event
 pub record Works (y : SharedValue) (w : Work) : Type 0 where
   pub good : IsGood y.run w.piece
   pub stands : let p = w.piece in w.chain ≡ standing y.course p.upto
 
--- The course that the plan's run has on the inputs at hand ends with this result, however many ticks it takes: the last end among its deeds,
--- the root's, gave it.
+-- The result of the run: the course of the plan's run on this input ends with it, whatever number
+-- of ticks it costs. It is the result of the course's last end, the root's.
 abbrev pub IsResult : SharedValue → ℤ → Type 0
 IsResult y value =
     let u = y.course in (run : Transcript) (es : List Event) (opening : List ℤ)
     → IsPlannedRun (source u.program) u.own run es opening
     → result_in (reverse (trace (run_of (course_on (source u.program) u.inputs (named (source u.program) run))))) ≡ value
 
--- The root has ended with this result: the piece goes up to the run's last event, and its frames asked for that and for all before it.
+-- The root has ended with this result: the piece reaches the run's last event, and the frames
+-- requested that event and all before it.
 pub record HasEnded (y : SharedValue) (p : PieceValue) (value : ℤ) : Type 0 where
   pub good : IsGood y.run p
   pub last : let s = story_in y in p.upto ≡ length s.events + 1
   pub followed : let s = story_in y in IsFollowed s (length s.events)
   pub result : IsResult y value
 
--- the piece's next event is a `sync`, and what comes right before it isn't all in the piece: children of its block are elsewhere
+-- the piece's next event is a `sync`, and its immediate predecessors aren't all in the piece:
+-- children of its block are elsewhere
 abbrev pub IsHeldUp : SharedValue → PieceValue → Type 0
 IsHeldUp y p = (event (story_in y) p.upto ≡ Some events.Sync) × (MayPass (segment_of p) → ⊥)
 
--- the piece has the next event, by which a spawned child has ended; or it stays, and that event resumes what a spawn left
+-- the worker can't continue: the piece has the next event, the `end` of a spawned child; or it is
+-- unchanged, and that event is the `resume` after a spawn
 abbrev pub GoesNoFurther : SharedValue → PieceValue → PieceValue → Type 0
 GoesNoFurther y before p =
     ((p ≡ grown before) × (event (story_in y) before.upto ≡ Some events.End))
     ⊎ ((p ≡ before) × ((k : ℕ) × (what (story_in y) before.upto ≡ resume k)))
 
--- What a turn of a piece leads to with what is in the hands then: the worker goes on with one event more, or has an end; the task that it
--- offers is the continuation of the spawn that it made. The piece stays as it was where it arrives, which is ahead of a `sync`, and where
--- another took the continuation. A departure is a true one, and of a want of memory nothing more is said.
+-- The outcomes of a turn. Either the work is good and has one event more, or the worker has an end.
+-- An offered task is the continuation of the spawn that was made. The piece is unchanged where it
+-- arrives, which is at a `sync`, and where another worker took the continuation. A departure is a
+-- true one. Nothing is said if memory runs out.
 abbrev pub Turned : SharedValue → PieceValue → Work → Turn → Type 0
 Turned y before w Goes = Works y w × (let p = w.piece in p ≡ grown before)
 Turned y before w (Offers t) = Works y w × (let p = w.piece in p ≡ grown before) × (t.of ≡ y.course) × (t.ticket ≡ before.upto)
@@ -66,7 +70,7 @@ Turned y before w (Finished value) = (let p = w.piece in HasEnded y p value × (
 Turned y before w (Departed at) = Departs (story_in y) at
 Turned y before w Stopped = Unit {0}
 
--- The piece's next event is of this kind, and its frame asks for it.
+-- The piece's next event is of this kind, and its frame requests it.
 pub record IsDue (y : SharedValue) (w : Work) (kind : Kind) : Type 0 where
   pub works : Works y w
   pub asked : let p = w.piece in IsAsked (story_in y) p.upto
@@ -76,7 +80,7 @@ pub record IsDue (y : SharedValue) (w : Work) (kind : Kind) : Type 0 where
 abbrev pub HasMore : SharedValue → Work → Type 0
 HasMore y w = let p = w.piece in p.upto < length (let s = story_in y in s.events)
 
--- an event that is nothing to shared words and reducers: a `begin`, a `resume` or a `sync`
+-- the kind is a `begin`, a `resume` or a `sync`
 abbrev pub IsSilent : Kind → Type 0
 IsSilent (kinds.Begin f) = Unit {0}
 IsSilent (kinds.Resume f) = Unit {0}

@@ -1,4 +1,4 @@
--- What the code's list shows.
+-- The view of the code's list of awaited keys.
 use Rattle.cilk_workers.specs.declared.awaited.Awaited.{Awaited}
 use Rattle.cilk_workers.specs.Rows.{Wait, wait}
 

@@ -1,4 +1,4 @@
--- What a worker works with.
+-- The context of a worker.
 use Rattle.cilk_workers.specs.Rows.{RunValue}
 use Rattle.cilk_replay.specs.Courses.{CourseValue}
 use Rattle.cilk_replay.specs.declared.chain.Task.{Task}
@@ -8,7 +8,8 @@ use Rattle.cilk_workers.specs.Keys.{AreSyncs}
 use Rattle.cilk_workers.specs.Names.{IsName}
 
 module _ {N R G : Type 0} where
-  -- it is of the run that is named: a `sync` stands at each position that is listed, and a strand begins where one is noted
+  -- the context belongs to the run that is named; the event at each listed position is a `sync`,
+  -- and a strand begins where one is noted
   pub record IsWorkerContext (named : RunValue) (is : CourseValue → Type 0) (taken : Task → Type 0) (s : WorkerContext N R G) : Type 0 where
     pub name : IsName named is taken s.shared.now
     pub syncs : AreSyncs s.shared.now s.blocks.syncs.now

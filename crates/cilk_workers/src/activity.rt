@@ -1,4 +1,4 @@
-//! What a worker has between two turns, and how it ends.
+//! The state of a worker between two turns, and the ways in which it ends.
 
 use crate::lock::{Key, Lock};
 use crate::naming::Naming;
@@ -7,30 +7,31 @@ use crate::work::Work;
 use cilk_shared::piece::Piece;
 use cilk_types::event::Pos;
 
-/// How a worker ends.
+/// The reason why a worker ends.
 #[derive(Drop)]
 pub enum ExitReason {
-    /// With the piece of the whole run, and its result.
+    /// The worker has the piece of the whole run, and the run's result.
     Whole(Piece, i64),
-    /// Where the run departs from its plan.
+    /// The run departs from its plan at this position.
     Departed(Pos),
-    /// With nothing: the run has ended elsewhere, or there was no memory.
+    /// Another worker has ended or stopped the run, or this one ran out of memory.
     Stopped,
 }
 
-/// What a worker has between two turns.
+/// The state of a worker between two turns.
 #[derive(Drop)]
 pub enum Activity {
-    /// A piece, and where its frame goes on.
+    /// It has a piece and the frame that runs at its end.
     Holds(Work),
-    /// An empty piece.
+    /// It has an empty piece, and looks for a task.
     Idle(Piece),
     /// The worker has ended.
     Done(ExitReason),
 }
 
-/// What the workers share of the join boxes: the locks of the shelves on which they lie, each block on that of its number modulo how many
-/// there are; the position of each block's `sync`; and for each position its block; where it has none, a number past the last.
+/// The join boxes that the workers share: the locks of their shelves, where block `b` is on shelf
+/// `b` modulo the number of shelves; the position of each block's `sync`; and for each position its
+/// block, or a number past the last block.
 #[derive(Drop)]
 pub struct Blocks<'a, N: Naming> {
     pub doors: &'a Vec<Lock<N>>,
@@ -38,7 +39,8 @@ pub struct Blocks<'a, N: Naming> {
     pub of: &'a [u32],
 }
 
-/// What a worker alone uses: its rack, the others' racks, and its key of each shelf.
+/// The tools of one worker: its rack, the stealers of the others' racks, and its key of each
+/// shelf's lock.
 #[derive(Drop)]
 pub struct Tools<N: Naming> {
     pub rack: Rack<N>,

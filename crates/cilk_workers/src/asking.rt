@@ -1,4 +1,4 @@
-//! What frames ask for: the numbers of asks, and where the frames that they start begin.
+//! The numbers in the requests of frames, and the position of a chain.
 
 ghost use Rattle.std.specs.Prelude.{◌≡◌, ◌≤◌, Some, length};
 ghost use Rattle.cilk_replay.specs.Asking.{IsNextAsk};
@@ -12,7 +12,7 @@ use cilk_frames::asked::AskSlot;
 use cilk_frames::small_ask::SmallAsk;
 use cilk_replay::chain::Chain;
 
-// The number of an ask, where it has one.
+// The number in a request, if it has one.
 fn number_in(asked: &AskSlot) -> Option<i64>
     ensures { result ≡ number_in asked.now }
 {
@@ -24,7 +24,7 @@ fn number_in(asked: &AskSlot) -> Option<i64>
     }
 }
 
-/// The number of the next event, for which the frame asks and which has one.
+/// Returns the number of the next event, which the frame requests and which has a number.
 pub(crate) fn number_asked(chain: &Chain) -> i64
     requires asked { IsAsked chain.now.of.yard.story chain.now.at }
     requires number { HasNumber (event chain.now.of.yard.story chain.now.at) }
@@ -36,7 +36,7 @@ pub(crate) fn number_asked(chain: &Chain) -> i64
     number
 }
 
-/// The number with which the frame asks to end.
+/// Returns the result in the frame's request to end.
 pub(crate) fn result_asked(chain: &Chain) -> i64
     requires asked { IsAsked chain.now.of.yard.story chain.now.at }
     requires end { event chain.now.of.yard.story chain.now.at ≡ Some End }
@@ -48,7 +48,7 @@ pub(crate) fn result_asked(chain: &Chain) -> i64
     number
 }
 
-/// The position of a chain is one of its story.
+/// A law: the position of a chain is one of its event order.
 pub(crate) fn stands_within(chain: &Chain)
     ensures { (1 ≤ chain.now.at) × (chain.now.at ≤ length chain.now.of.yard.story.events) }
 {

@@ -1,4 +1,5 @@
-//! Awaited keys, and the runs between them, as free functions: an arrival takes runs out of a row and puts another in.
+//! Awaited keys and the runs between them, as free functions: an arrival moves runs out of the row
+//! and puts another in.
 
 ghost use Rattle.std.specs.Prelude.{◌≡◌, ◌↔◌, ◌+◌, ◌<◌, map, IsTrue};
 ghost use Rattle.cilk_workers.specs.Rows.{place_of, run_at, with_run, without, runs_in, row, behind, last_end, FitsFrom};
@@ -8,7 +9,8 @@ use cilk_shared::piece::Piece;
 use cilk_types::event::Pos;
 use std::mem;
 
-/// A stolen child that hasn't arrived, the place at which its parent goes on, and the run of arrived keys right after it.
+/// A stolen child whose piece hasn't arrived, the position at which its parent continues, and the
+/// run of arrived keys right after it.
 #[derive(Drop)]
 pub struct Awaited {
     pub key: Pos,
@@ -16,7 +18,7 @@ pub struct Awaited {
     pub after: Option<Piece>,
 }
 
-/// How many runs there are behind the keys.
+/// Returns the number of runs after the awaited keys.
 pub fn runs(awaited: &Vec<Awaited>) -> usize
     ensures runs { result ≡ runs_in (map wait_of awaited.now.items) }
     ensures low { result < 18446744073709551615 }
@@ -30,7 +32,7 @@ pub fn runs(awaited: &Vec<Awaited>) -> usize
     count
 }
 
-/// The place of an awaited key; behind all where it isn't awaited.
+/// Returns the place of an awaited key, or the number of awaited keys if it isn't awaited.
 pub fn place_in(awaited: &Vec<Awaited>, key: Pos) -> usize
     ensures place { result ≡ place_of (map wait_of awaited.now.items) key }
     ensures low { result < 18446744073709551615 }
@@ -43,7 +45,7 @@ pub fn place_in(awaited: &Vec<Awaited>, key: Pos) -> usize
     awaited.len()
 }
 
-/// Another run at a place, if it is there; the one that was there comes out.
+/// Puts another run at a place, if there is such a place, and returns the run that was there.
 pub fn replace(
     first: &mut Option<Piece>,
     awaited: &mut Vec<Awaited>,
@@ -62,14 +64,14 @@ pub fn replace(
     }
 }
 
-/// Another run at a place, if it is there.
+/// Puts another run at a place, if there is such a place.
 pub fn set(first: &mut Option<Piece>, awaited: &mut Vec<Awaited>, place: usize, run: Option<Piece>)
     ensures { row first.new (map wait_of awaited.new.items) ≡ with_run first.old (map wait_of awaited.old.items) place run }
 {
     let _gone = replace(first, awaited, place, run);
 }
 
-/// The awaited key at a place is forgotten, with the run after it.
+/// Forgets the awaited key at a place, with the run after it.
 pub fn forget(awaited: &mut Vec<Awaited>, place: usize)
     ensures { map wait_of awaited.new.items ≡ without (map wait_of awaited.old.items) place }
 {
@@ -78,7 +80,7 @@ pub fn forget(awaited: &mut Vec<Awaited>, place: usize)
     }
 }
 
-/// Where a piece must begin behind a run, or where there is none.
+/// Returns the end of a run, or `at` if there is no run: a piece after it begins there.
 pub fn end_of_run(run: &Option<Piece>, at: Pos) -> Pos
     ensures { result ≡ behind run.now at }
 {
@@ -88,7 +90,8 @@ pub fn end_of_run(run: &Option<Piece>, at: Pos) -> Pos
     }
 }
 
-/// Whether the piece meets those beside its place, where it must begin at `begin` ahead of all keys.
+/// Returns whether the piece adjoins its neighbours. `begin` is where it must begin if no awaited
+/// key is before it.
 pub fn fits_from(awaited: &Vec<Awaited>, begin: Pos, key: Pos, piece: &Piece) -> bool
     ensures { IsTrue result ↔ FitsFrom begin (map wait_of awaited.now.items) key piece.now }
 {
@@ -103,7 +106,7 @@ pub fn fits_from(awaited: &Vec<Awaited>, begin: Pos, key: Pos, piece: &Piece) ->
     piece.from() == at
 }
 
-/// Where all ends that is there, behind what ends at `begin`.
+/// Returns where the row ends, if the run before all awaited keys ends at `begin`.
 pub fn end_of_all(awaited: &Vec<Awaited>, begin: Pos) -> Pos
     ensures { result ≡ last_end begin (map wait_of awaited.now.items) }
 {

@@ -9,7 +9,7 @@ use crate::work::{Turn, Work};
 use cilk_frames::cursor::Answer;
 use cilk_types::event::Cell;
 
-/// A cell is read.
+/// The next event reads a cell.
 pub(crate) fn loaded(shared: &Shared<'_>, work: &mut Work, cell: Cell) -> Turn
     requires due { IsDue shared.now work.old (kinds.Read cell) }
     requires more { HasMore shared.now work.old }
@@ -21,7 +21,7 @@ pub(crate) fn loaded(shared: &Shared<'_>, work: &mut Work, cell: Cell) -> Turn
     Turn::Goes
 }
 
-/// A cell is written.
+/// The next event writes a cell.
 pub(crate) fn stored(shared: &Shared<'_>, work: &mut Work, cell: Cell) -> Turn
     requires due { IsDue shared.now work.old (kinds.Write cell) }
     requires more { HasMore shared.now work.old }

@@ -1,4 +1,4 @@
-//! What a worker works with.
+//! The context of a worker.
 
 use crate::activity::Blocks;
 use crate::gate::{Gate, Watch};
@@ -7,7 +7,8 @@ use crate::shared::Shared;
 use std::alloc::Global;
 use std::sync::Wait;
 
-/// What a worker works with and never changes: the run and the join boxes, which all workers share, and what it tells its gate by.
+/// The context of a worker, which it never changes: the run and the join boxes, which all workers
+/// share, and the watch that calls its gate.
 #[derive(Drop)]
 pub struct WorkerContext<'a, 'b, N: Naming, R: Wait, G: Gate> {
     pub rt: &'a R,

@@ -1,4 +1,4 @@
-//! A worker at a join box.
+//! Steals and arrivals at the join boxes, each under the lock of its shelf.
 
 ghost use Rattle.std.specs.Prelude.{◌≡◌, ◌<◌, ◌≤◌, ℕ, Some, length, slice_get, slice_index, IfOk, IfSome, MatchOption, OnOk};
 ghost use Rattle.cilk_types.specs.declared.event.Event.TheVariants.{Sync};
@@ -26,7 +26,8 @@ use cilk_types::event::Pos;
 use std::alloc::AllocError;
 use std::sync::Wait;
 
-/// A piece that comes to a block: a child's by the position of its spawn, or the `sync`'s own, by that of the `sync` and with its chain.
+/// A piece that comes to a block: a child's with the position of its spawn, or the `sync`'s own
+/// with that of the `sync` and its chain.
 #[derive(Drop)]
 pub struct Arrival {
     pub by: Pos,
@@ -34,18 +35,18 @@ pub struct Arrival {
     pub chain: Option<Chain>,
 }
 
-/// What an arrival leads to.
+/// The outcome of an arrival.
 #[derive(Drop)]
 pub enum Met {
-    /// The block passes, and the worker goes on with its `sync`.
+    /// The block passes, and the worker continues with its `sync`.
     Passes(Work),
     /// The piece waits in the box.
     Waits,
-    /// There was no memory.
+    /// The worker ran out of memory.
     Stopped,
 }
 
-/// The block of a position, where it has one of so many.
+/// Returns the block of a position, if it is one of the first `count`.
 pub fn block_at(of: &[u32], at: Pos, count: usize) -> Option<usize>
     ensures { MatchOption result ((b : ℕ) → slice_get of.now at ≡ Some b → count ≤ b) (λ b. (slice_get of.now at ≡ Some b) × (b < count)) }
 {
@@ -53,7 +54,7 @@ pub fn block_at(of: &[u32], at: Pos, count: usize) -> Option<usize>
     if block < count { Some(block) } else { None }
 }
 
-/// The position of a block's `sync`.
+/// Returns the position of a block's `sync`.
 pub fn position(syncs: &[Pos], block: usize) -> Pos
     requires { block < length syncs.now }
     ensures { result ≡ slice_index syncs.now block }
@@ -61,7 +62,7 @@ pub fn position(syncs: &[Pos], block: usize) -> Pos
     syncs[block]
 }
 
-// The shelf of a block, among so many.
+// The shelf of a block, of `shelves` shelves.
 fn shelf_of<R: Wait>(rt: &R, block: usize, shelves: usize) -> usize
     ensures { result < shelves }
 {
@@ -73,7 +74,7 @@ fn shelf_of<R: Wait>(rt: &R, block: usize, shelves: usize) -> usize
 }
 
 impl<'a, 'b, N: Naming, R: Wait, G: Gate> WorkerContext<'a, 'b, N, R, G> {
-    // A piece comes to the box in hand.
+    // A piece arrives at this box.
     fn arrive_at(&self, found: &mut JoinBox, arrival: Arrival) -> Met
         requires run { (found.old.rows.of ≡ self.now.shared.now.run) × (found.old.course ≡ self.now.shared.now.course) }
         requires good { IsGood self.now.shared.now.run arrival.piece }
@@ -92,7 +93,7 @@ impl<'a, 'b, N: Naming, R: Wait, G: Gate> WorkerContext<'a, 'b, N, R, G> {
         }
     }
 
-    // The box of a block comes off its shelf, on which there is room then to put it back.
+    // Takes the box of a block off its shelf, which then has room to put it back.
     fn taken_from(&self, shelf: &mut Shelf, sync: Pos) -> Result<JoinBox, AllocError>
         requires station { IsWorkerContext N.run N.course N.taken self.now }
         requires shelf { IsShelf N.run N.course shelf.old }
@@ -112,7 +113,7 @@ impl<'a, 'b, N: Naming, R: Wait, G: Gate> WorkerContext<'a, 'b, N, R, G> {
         )
     }
 
-    // A piece arrives at a block whose box lies on the shelf in hand.
+    // A piece arrives at a block whose box is on this shelf.
     fn arrive_on(&self, shelf: &mut Shelf, sync: Pos, arrival: Arrival) -> Met
         requires station { IsWorkerContext N.run N.course N.taken self.now }
         requires shelf { IsShelf N.run N.course shelf.old }
@@ -130,7 +131,7 @@ impl<'a, 'b, N: Naming, R: Wait, G: Gate> WorkerContext<'a, 'b, N, R, G> {
         met
     }
 
-    // A thief tells a block whose box lies on the shelf in hand. False where there was no memory.
+    // Records a steal at a block whose box is on this shelf. False if memory ran out.
     fn steal_on(&self, shelf: &mut Shelf, sync: Pos, child: Pos, goes_on: Pos) -> bool
         requires station { IsWorkerContext N.run N.course N.taken self.now }
         requires shelf { IsShelf N.run N.course shelf.old }
@@ -148,7 +149,8 @@ impl<'a, 'b, N: Naming, R: Wait, G: Gate> WorkerContext<'a, 'b, N, R, G> {
         told
     }
 
-    // A piece arrives at the block that ends with the `sync` at a position, whose box lies on the shelf behind this lock.
+    // A piece arrives at the block that ends with the `sync` at this position, whose shelf has this
+    // lock.
     fn arrive_behind(&self, door: &Lock<N>, key: &mut Key, sync: Pos, arrival: Arrival) -> Met
         requires station { IsWorkerContext N.run N.course N.taken self.now }
         requires key { IsPassOf door.now key.old }
@@ -164,7 +166,8 @@ impl<'a, 'b, N: Naming, R: Wait, G: Gate> WorkerContext<'a, 'b, N, R, G> {
         met
     }
 
-    // A thief tells the block that ends with the `sync` at a position, whose box lies on the shelf behind this lock.
+    // Records a steal at the block that ends with the `sync` at this position, whose shelf has this
+    // lock.
     fn steal_behind(
         &self,
         door: &Lock<N>,
@@ -184,7 +187,7 @@ impl<'a, 'b, N: Naming, R: Wait, G: Gate> WorkerContext<'a, 'b, N, R, G> {
         told
     }
 
-    /// A piece arrives at a block by its number.
+    /// Takes a piece to the block with this number.
     pub fn arrive(&self, keys: &mut Vec<Key>, block: usize, arrival: Arrival) -> Met
         requires station { IsWorkerContext N.run N.course N.taken self.now }
         requires keys { AreKeys self.now.blocks.doors.now.items keys.old.items }
@@ -202,8 +205,8 @@ impl<'a, 'b, N: Naming, R: Wait, G: Gate> WorkerContext<'a, 'b, N, R, G> {
         self.arrive_behind(door, key, sync, arrival)
     }
 
-    /// A thief tells a block by its number that it took the continuation after the spawn `child`, which goes on at `goes_on`. False where
-    /// there was no memory.
+    /// Records at the block with this number that a thief took the continuation of the spawn at
+    /// `child`, which continues at `goes_on`. False if memory ran out.
     pub fn steal(&self, keys: &mut Vec<Key>, block: usize, child: Pos, goes_on: Pos) -> bool
         requires station { IsWorkerContext N.run N.course N.taken self.now }
         requires keys { AreKeys self.now.blocks.doors.now.items keys.old.items }

@@ -1,4 +1,4 @@
-//! What is told of strands as they begin.
+//! Gates: hooks that are called as strands begin.
 
 ghost use Rattle.std.specs.Prelude.{◌≡◌, slice_index_or};
 ghost use Rattle.cilk_workers.specs.Rows.{IsGood};
@@ -10,9 +10,10 @@ use cilk_shared::piece::Piece;
 use cilk_shared::yard::Segment;
 use cilk_types::event::{Pos, StrandNo};
 
-/// Is called as each strand begins.
+/// A hook that is called as each strand begins.
 pub trait Gate {
-    /// The worker has made the first event of the strand, which is the last of the segment.
+    /// Called when the worker has made the first event of the strand, which is the last of the
+    /// segment.
     fn at(&self, worker: u32, strand: StrandNo, segment: &Segment)
         requires { EndsWithFirst segment.now strand };
 }
@@ -25,7 +26,7 @@ impl Gate for Open {
     fn at(&self, _worker: u32, _strand: StrandNo, _segment: &Segment) {}
 }
 
-/// What a worker tells a gate by: its own number, and for each position the strand that begins there, or 0 where none does.
+/// A worker's gate, its number, and for each position the strand that begins there, or 0.
 #[derive(Drop)]
 pub struct Watch<'a, G: Gate> {
     pub gate: &'a G,
@@ -44,8 +45,8 @@ fn begun(strands: &[StrandNo], at: Pos) -> StrandNo
 }
 
 impl<'a, G: Gate> Watch<'a, G> {
-    /// Tells the gate, where the last event of the piece is the first of a strand and was not there before, when the piece ended at
-    /// `before`.
+    /// Calls the gate if the piece's last event is the first of a strand and is new. `before` is
+    /// where the piece ended before that event.
     pub fn tell(&self, shared: &Shared<'_>, before: Pos, piece: &Piece)
         requires strands { AreFirsts shared.now.run.story.events self.now.strands.now }
         requires piece { IsGood shared.now.run piece.now }

@@ -1,4 +1,4 @@
-//! Turns of a worker that holds a piece.
+//! The turns of a worker that holds a piece.
 
 ghost use Rattle.std.specs.Prelude.{◌≡◌, IfSome};
 ghost use Rattle.cilk_workers.specs.Rows.{IsGood};
@@ -22,10 +22,11 @@ use cilk_replay::chain::{Chain, Task};
 use cilk_shared::piece::Piece;
 use std::sync::Wait;
 
-/// The most turns that a worker takes before it looks at what the others tell.
+/// The greatest number of turns before a worker checks whether another has stopped the run.
 const TURNS: u32 = 256;
 
-// The worker's own newest task, unless another took what the worker was to go on with.
+// The worker's own newest task, unless a thief took the continuation that this worker was to
+// resume.
 fn behind<N: Naming>(rack: &mut Rack<N>, taken: bool) -> Option<Task>
     ensures { IfSome result (λ t. Of N.course t) }
 {
@@ -33,7 +34,7 @@ fn behind<N: Naming>(rack: &mut Rack<N>, taken: bool) -> Option<Task>
 }
 
 impl<'a, 'b, N: Naming, R: Wait, G: Gate> WorkerContext<'a, 'b, N, R, G> {
-    // The worker goes on with its own newest task, which is its child's continuation.
+    // The worker continues with its own newest task, the continuation of its child.
     fn own(&self, work: &mut Work, task: Task)
         requires piece { IsGood self.now.shared.now.run work.old.piece }
         requires task { task.of ≡ self.now.shared.now.course }
@@ -45,7 +46,8 @@ impl<'a, 'b, N: Naming, R: Wait, G: Gate> WorkerContext<'a, 'b, N, R, G> {
         work.chain = task.rest().wake(self.shared.course());
     }
 
-    // A piece arrives at the block of its next position, and the worker goes on with an empty one.
+    // A piece arrives at the block of its next position. The worker continues with what passes, or
+    // with an empty piece.
     fn arrived(&self, keys: &mut Vec<Key>, piece: Piece, chain: Option<Chain>) -> Activity
         requires station { IsWorkerContext N.run N.course N.taken self.now }
         requires keys { AreKeys self.now.blocks.doors.now.items keys.old.items }
@@ -72,7 +74,7 @@ impl<'a, 'b, N: Naming, R: Wait, G: Gate> WorkerContext<'a, 'b, N, R, G> {
         }
     }
 
-    // The continuation is offered. False where there was no memory.
+    // Offers a continuation. False if memory ran out.
     fn offered(&self, rack: &mut Rack<N>, task: Task) -> bool
         requires station { IsWorkerContext N.run N.course N.taken self.now }
         requires task { task.of ≡ self.now.shared.now.course }
@@ -80,7 +82,7 @@ impl<'a, 'b, N: Naming, R: Wait, G: Gate> WorkerContext<'a, 'b, N, R, G> {
         rack.offer(task).is_ok()
     }
 
-    // The run has ended. Its piece has all of the run's events.
+    // The run has ended, and the piece has all of its events.
     fn whole(&self, piece: Piece, value: i64) -> Activity
         requires { HasEnded self.now.shared.now piece value }
         ensures { IsActivity self.now.shared.now result }
@@ -91,9 +93,11 @@ impl<'a, 'b, N: Naming, R: Wait, G: Gate> WorkerContext<'a, 'b, N, R, G> {
         Activity::Done(ExitReason::Whole(piece, value))
     }
 
-    /// Turns of a worker that holds a piece and a chain, as long as it has one to go on with, and no more than `TURNS`. Where a child has
-    /// ended, it goes on with that child's continuation, its own newest task; where it has none, or another took the continuation that it was
-    /// to go on with, so that it has no event more than before, its piece arrives.
+    /// Makes up to `TURNS` turns of a worker that holds a piece and a chain.
+    ///
+    /// When a child has ended, the worker continues with its own newest task, the child's
+    /// continuation. If it has none, or a thief took the continuation that it was to resume, its
+    /// piece arrives at the block.
     pub fn run_burst(&self, tools: &mut Tools<N>, mut work: Work) -> Activity
         requires station { IsWorkerContext N.run N.course N.taken self.now }
         requires keys { AreKeys self.now.blocks.doors.now.items tools.old.keys.items }

@@ -1,6 +1,7 @@
 //! The join box of a sync block.
 //!
-//! A key is the position of a spawn, or that of the sync for the block's own piece, which arrives last.
+//! A key is the position of a spawn, or that of the sync for the block's own piece, which arrives
+//! last.
 
 ghost use Rattle.std.specs.Prelude.{nat_lt, if◌then◌else◌, Some, None, ◌≡◌, ◌<◌, ◌↔◌, IfOk, IfErr, OnOk, OnErr, IsTrue, true, false};
 ghost use Rattle.cilk_types.specs.declared.event.Event.TheVariants.{Sync};
@@ -20,16 +21,20 @@ use std::alloc::{AllocError, Global};
 use std::marker::Model;
 use std::snapshot::Snapshot;
 
-/// What an arrival comes to.
+/// The outcome of an arrival.
 #[derive(Drop)]
 pub enum Boxed {
-    /// The sync's piece or a stolen child is still to come.
+    /// The sync's own piece or that of a stolen child is still to come.
     Waits,
-    /// All have arrived: their piece, and the chain that stands at the sync.
+    /// All pieces have arrived. This is their piece, with the chain at the sync.
     Passes(Piece, Chain),
 }
 
-/// What waits at a sync block.
+/// The pieces that wait at a sync block whose continuations were stolen.
+///
+/// It keeps one piece for each run of arrived keys with no awaited key between. Its type keeps that
+/// the pieces don't overlap, and that the chain, once the block's own piece has come, is at the
+/// sync.
 #[derive(Drop)]
 pub struct JoinBox {
     course: Snapshot<Course>,
@@ -65,7 +70,7 @@ fn most(one: Pos, other: Pos) -> Pos
     if one < other { other } else { one }
 }
 
-// The chain that came, if one did.
+// Keeps the chain that came, if one did.
 fn settle(chain: &mut Option<Chain>, other: Option<Chain>)
     requires { is_some other ≡ true → is_some chain.old ≡ false }
     ensures { chain.new ≡ later chain.old other }
@@ -76,7 +81,7 @@ fn settle(chain: &mut Option<Chain>, other: Option<Chain>)
 }
 
 impl JoinBox {
-    /// Nothing was stolen, and nothing has arrived.
+    /// Returns a box at which nothing was stolen and nothing has arrived.
     pub fn new(
         alloc: Global,
         yard: &Yard,
@@ -98,14 +103,15 @@ impl JoinBox {
         }
     }
 
-    /// The place of the block's sync.
+    /// Returns the position of the block's sync.
     pub fn sync(&self) -> Pos
         ensures { result ≡ self.now.sync }
     {
         self.sync
     }
 
-    /// The pieces that are there lie apart, in the order of the run, and the block's sync is one.
+    /// The laws of the box: its pieces don't overlap and are in the order of the run, and the event
+    /// at the block's sync is a `sync`.
     pub fn laws(&self)
         ensures apart { PiecesLieApart self.now.rows }
         ensures sync { event self.now.rows.of.story self.now.sync ≡ Some Sync }
@@ -121,35 +127,38 @@ impl JoinBox {
         self.gone || self.chain.is_some()
     }
 
-    /// Whether the key is above every key that was stolen or has arrived, as long as the sync's piece hasn't.
+    /// Returns whether the key is above every stolen and every arrived key, and the sync's own
+    /// piece hasn't arrived.
     pub fn fresh(&self, key: Pos) -> bool
         ensures { IsTrue result ↔ IsFresh self.now key }
     {
         !self.is_closed() && self.stolen < key && self.arrived < key
     }
 
-    /// Whether the key may be stolen, whose parent goes on at `goes_on`.
+    /// Returns whether the continuation of the child `key` may be stolen, if its parent continues
+    /// at `goes_on`.
     pub fn open(&self, key: Pos, goes_on: Pos) -> bool
         ensures { IsTrue result ↔ IsOpen self.now key goes_on }
     {
         !self.is_closed() && self.stolen < key && self.arrived <= key && self.runs.end() <= goes_on
     }
 
-    /// The number of runs of arrived keys, which is the number of pieces kept.
+    /// Returns the number of runs of arrived keys, which is the number of pieces kept.
     pub fn parts(&self) -> usize
         ensures { result ≡ parts_in self.now.rows }
     {
         self.runs.parts()
     }
 
-    /// Whether nothing waits in it: no piece is there, and no key is awaited.
+    /// Returns whether nothing waits: no piece is there, and no key is awaited.
     pub fn is_empty(&self) -> bool
         ensures { IsTrue result ↔ IsUnused self.now }
     {
         self.runs.is_whole() && self.runs.parts() == 0
     }
 
-    /// The continuation beside child `key`, which goes on at `goes_on`, was taken by a thief.
+    /// Records that a thief took the continuation of the child `key`, which continues at `goes_on`.
+    /// If memory runs out, nothing changes.
     pub fn steal(&mut self, key: Pos, goes_on: Pos) -> Result<(), AllocError>
         requires { IsOpen self.old key goes_on }
         ensures ok { OnOk result (self.new ≡ stolen_at self.old key goes_on) }
@@ -162,7 +171,8 @@ impl JoinBox {
         Ok(())
     }
 
-    /// Whether the piece may arrive by this key; `last` is whether it is the sync's own.
+    /// Returns whether the piece may arrive with this key. `last` says whether it is the sync's
+    /// own.
     pub fn fits(&self, key: Pos, piece: &Piece, last: bool) -> bool
         ensures { IsTrue result ↔ (FitsIn self.now.rows key piece.now × Comes self.now key piece.now last) }
     {
@@ -176,7 +186,7 @@ impl JoinBox {
         }
     }
 
-    // The block passes, once its own piece is there and no key is awaited.
+    // The block passes once its own piece is there and no key is awaited.
     fn answer(&mut self) -> Boxed
         ensures { Answers self.old result self.new }
     {
@@ -193,7 +203,9 @@ impl JoinBox {
         Boxed::Passes(piece, chain)
     }
 
-    /// A piece arrives: a child's at its end, or the sync's own, with its chain. Without memory both come back.
+    /// Takes in a piece: a child's at its end, or the sync's own, with its chain. It is merged at
+    /// once with its neighbours, in the order of the run. If memory runs out, piece and chain come
+    /// back and nothing changes.
     pub fn arrive(
         &mut self,
         alloc: Global,

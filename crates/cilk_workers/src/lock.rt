@@ -1,6 +1,7 @@
-//! A shelf of join boxes, and the queue of one place that is its lock.
+//! The lock of a shelf of join boxes: a queue of capacity 1 with the shelf in it.
 //!
-//! A worker has a key for each shelf's queue; keys are made before the threads start.
+//! Popping the shelf locks it, and pushing it back unlocks it. Each worker has a key for each lock;
+//! keys are made before the threads start.
 
 ghost use Rattle.std.specs.Prelude.{◌≡◌, true, false, IfOk};
 ghost use Rattle.crossbeam_queue.specs.Passes.{IsPassOf};
@@ -15,7 +16,7 @@ use std::alloc::{AllocError, Global};
 use std::marker::PhantomData;
 use std::sync::Wait;
 
-/// The rule of a shelf's queue.
+/// The rule of a shelf's queue: the shelf in it belongs to the run that `N` names.
 pub struct OfShelf<N: Naming> {
     of: PhantomData<N>,
 }
@@ -28,7 +29,7 @@ impl<N: Naming> Protocol<Shelf, ()> for OfShelf<N> {
     ghost first = { tt };
 }
 
-/// The shelf is taken out.
+/// The pop that locks the shelf.
 pub struct Locks<N: Naming> {
     of: PhantomData<N>,
 }
@@ -45,7 +46,7 @@ impl<N: Naming> Lesson<Shelf, ()> for Locks<N> {
     ghost fact = { λ v items. ⊤ };
 }
 
-/// Another key is like this one.
+/// Another key is like the first.
 pub struct Same;
 
 impl Split<()> for Same {
@@ -60,7 +61,7 @@ pub type Lock<N> = RuledArrayQueue<Shelf, (), OfShelf<N>>;
 /// A worker's key of a shelf's queue.
 pub type Key = Pass<Shelf, ()>;
 
-/// A lock with its shelf in it. An error where it found no memory.
+/// Makes a lock with this shelf in it, and a first key. Fails if memory runs out.
 pub fn new_locked<N: Naming, R: Wait>(
     rt: &R,
     alloc: Global,
@@ -76,7 +77,7 @@ pub fn new_locked<N: Naming, R: Wait>(
     Ok((lock, key))
 }
 
-/// Waits for ever.
+/// Waits forever.
 pub fn never<R: Wait>(rt: &R)
     ensures { false ≡ true }
 {
@@ -87,7 +88,7 @@ pub fn never<R: Wait>(rt: &R)
     unreachable!()
 }
 
-/// Takes the shelf out, once it is there.
+/// Locks the shelf: waits until it is there, and pops it.
 pub fn lock<N: Naming, R: Wait>(rt: &R, lock: &Lock<N>, key: &mut Key) -> Shelf
     requires { IsPassOf lock.now key.old }
     ensures key { IsPassOf lock.now key.new }
@@ -103,7 +104,7 @@ pub fn lock<N: Naming, R: Wait>(rt: &R, lock: &Lock<N>, key: &mut Key) -> Shelf
     unreachable!()
 }
 
-/// Puts the shelf back.
+/// Unlocks the shelf: pushes it back. If a shelf is there already, it waits forever.
 pub fn unlock<N: Naming, R: Wait>(rt: &R, lock: &Lock<N>, key: &mut Key, back: Shelf)
     requires key { IsPassOf lock.now key.old }
     requires back { IsShelf N.run N.course back }
@@ -114,7 +115,7 @@ pub fn unlock<N: Naming, R: Wait>(rt: &R, lock: &Lock<N>, key: &mut Key, back: S
     }
 }
 
-/// A key for another worker.
+/// Makes a key for another worker.
 pub fn another<N: Naming>(lock: &Lock<N>, key: &mut Key) -> Key
     requires { IsPassOf lock.now key.old }
     ensures old { IsPassOf lock.now key.new }

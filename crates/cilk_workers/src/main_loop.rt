@@ -1,4 +1,4 @@
-//! A worker's turns.
+//! The main loop of a worker.
 
 ghost use Rattle.cilk_workers.specs.Activities.{IsActivity, IsExitReason};
 ghost use Rattle.cilk_workers.specs.Keys.{AreKeys};
@@ -13,7 +13,8 @@ use std::sync::Wait;
 use std::sync::atomic::{AtomicBool, Ordering};
 
 impl<'a, 'b, N: Naming, R: Wait, G: Gate> WorkerContext<'a, 'b, N, R, G> {
-    /// A worker's turns, up to its end, which the flag tells the others. A worker that sees the flag ends.
+    /// Runs the worker until it ends, and then sets the flag `stop` for the others. A worker that
+    /// sees the flag set ends.
     pub fn work(&self, tools: &mut Tools<N>, stop: &AtomicBool, mut hand: Activity) -> ExitReason
         requires station { IsWorkerContext N.run N.course N.taken self.now }
         requires keys { AreKeys self.now.blocks.doors.now.items tools.old.keys.items }

@@ -1,4 +1,4 @@
-//! Merging a piece with the runs beside it.
+//! Merging a piece with its neighbours.
 
 ghost use Rattle.std.specs.Prelude.{◌≡◌, ◌<◌, IfOk, IfErr};
 ghost use Rattle.cilk_workers.specs.Rows.{between, run_of, AreGood, EndsAt, BeginsAt};
@@ -7,7 +7,7 @@ use cilk_shared::piece::Piece;
 use cilk_shared::yard::Yard;
 use std::alloc::Global;
 
-/// A piece, and the runs beside it, where there are any.
+/// A piece, and the runs on its two sides, if there are any.
 #[derive(Drop)]
 pub struct Parts {
     pub left: Option<Piece>,
@@ -15,7 +15,7 @@ pub struct Parts {
     pub right: Option<Piece>,
 }
 
-/// One piece of the three, from left to right. Without memory they come back.
+/// Makes one piece of the three, from left to right. If memory runs out, they come back.
 pub fn merge(alloc: Global, yard: &Yard, parts: Parts) -> Result<Piece, Parts>
     requires good { AreGood (run_of yard.now parts.piece.reducers) parts.left parts.piece parts.right }
     requires near { EndsAt parts.left parts.piece.from × BeginsAt parts.right parts.piece.upto }

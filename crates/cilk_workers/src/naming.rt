@@ -1,9 +1,12 @@
-//! The names of runs.
+//! Names of runs: types that represent a run in rules, which can't mention its values.
 
 use std::marker::Brand;
 
-/// Names a run of a program: its yard with its reducers, what its course is, and what is known of a task that a picker has taken.
-/// Each run picks it. Only who may pick may say the last of a task, so a rack can promise it only where a picker has taken the task.
+/// A name of a run: its yard with its reducers, its course, and the fact that is known of a task
+/// that a picker has taken.
+///
+/// Each run chooses these. A rack can promise `taken` of a task only if a picker has taken it,
+/// since only the holder of the right to pick can say it.
 pub trait Naming {
     ghost use Rattle.cilk_workers.specs.Rows.{RunValue};
     ghost use Rattle.cilk_replay.specs.Courses.{CourseValue};

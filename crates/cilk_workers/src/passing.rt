@@ -1,4 +1,5 @@
-//! The events by which a frame goes on, waits, or ends: each asks that the frame asks for its event.
+//! The events by which a frame continues, waits or ends. Each function requires that the frame
+//! requests its event.
 
 ghost use Rattle.std.specs.Prelude.{◌≡◌, Some, length};
 ghost use Rattle.cilk_tree.specs.Frames.{IsInFrame};

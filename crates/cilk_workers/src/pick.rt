@@ -1,4 +1,4 @@
-//! A turn of a worker that has nothing.
+//! A turn of a worker without work.
 
 ghost use Rattle.std.specs.Prelude.{◌≤◌, IfSome};
 ghost use Rattle.cilk_workers.specs.Rows.{OfRun};
@@ -21,7 +21,7 @@ use cilk_types::event::Pos;
 use crossbeam_utils::Backoff;
 use std::sync::Wait;
 
-// The oldest task of another worker, where there is one.
+// The oldest task of another worker, if one was found.
 fn another<N: Naming>(pickers: &mut Vec<Picker<N>>) -> Option<Task>
     requires { MayPick N.taken }
     ensures { IfSome result (λ t. Of N.course t) }
@@ -35,7 +35,7 @@ fn another<N: Naming>(pickers: &mut Vec<Picker<N>>) -> Option<Task>
     None
 }
 
-// The worker's own newest task, or else another's oldest.
+// The worker's own newest task, or else the oldest of another.
 fn found<N: Naming>(rack: &mut Rack<N>, pickers: &mut Vec<Picker<N>>) -> Option<Task>
     requires { MayPick N.taken }
     ensures { IfSome result (λ t. Of N.course t) }
@@ -47,7 +47,8 @@ fn found<N: Naming>(rack: &mut Rack<N>, pickers: &mut Vec<Picker<N>>) -> Option<
 }
 
 impl<'a, 'b, N: Naming, R: Wait, G: Gate> WorkerContext<'a, 'b, N, R, G> {
-    // A thief that goes on at a position tells its block. False where there was no memory.
+    // Records a steal at the block of the position where the thief continues. False if memory ran
+    // out.
     fn announce_steal(&self, keys: &mut Vec<Key>, at: Pos) -> bool
         requires station { IsWorkerContext N.run N.course N.taken self.now }
         requires keys { AreKeys self.now.blocks.doors.now.items keys.old.items }
@@ -61,7 +62,8 @@ impl<'a, 'b, N: Naming, R: Wait, G: Gate> WorkerContext<'a, 'b, N, R, G> {
         self.steal(keys, block, child, at)
     }
 
-    /// One turn of a worker that has nothing: its own newest task, or another's oldest. It leaves where it sees that the run has ended.
+    /// Makes one turn of a worker without work: it takes its own newest task, or steals the oldest
+    /// of another. If it finds none, it ends once it sees that the run has ended.
     pub fn find_work(&self, tools: &mut Tools<N>, backoff: &Backoff, mut piece: Piece) -> Activity
         requires station { IsWorkerContext N.run N.course N.taken self.now }
         requires keys { AreKeys self.now.blocks.doors.now.items tools.old.keys.items }

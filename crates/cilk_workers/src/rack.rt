@@ -1,4 +1,5 @@
-//! A worker's tasks. Its owner takes the newest, and others the oldest.
+//! A worker's deque of tasks (Chase and Lev 2005). Its owner pops the newest, and others steal the
+//! oldest.
 
 ghost use Rattle.std.specs.Prelude.{◌≡◌, ◌+◌, ◌≤◌, ◌<◌, true, false, [], ◌∷◌, ◌++◌, All, IfOk, IfErr, IfSome, MatchOption};
 ghost use Rattle.crossbeam_deque.specs.Handles.{view, IsPassOf, worker_flavor, worker_port, worker_view, stealer_deque};
@@ -12,8 +13,8 @@ use std::alloc::{AllocError, Global};
 use std::collections::LinkedList;
 use std::marker::PhantomData;
 
-/// What a pass knows: the owner's, whether no picker has been made, and the tasks that were offered and not given back.
-/// No value of it is made.
+/// The state of a pass: whether it is the owner's, whether no picker has been made, and the tasks
+/// that were offered and not given back. It exists in contracts alone.
 pub struct Offers {
     pub owner: bool,
     pub alone: bool,
@@ -36,14 +37,14 @@ impl<N: Naming> Protocol<Task, Offers> for OfRun<N> {
     ghost guest = { offers false false [] };
 }
 
-/// A task is put behind the others.
+/// The push of a task.
 pub struct Offered;
 
 impl Outcome<Task, Offers> for Offered {
     ghost then = { λ v xs w. w ≡ offers v.owner v.alone (v.waiting ++ xs) };
 }
 
-/// The task that was offered last comes back.
+/// The pop of the task that was offered last.
 pub struct GivenBack<N: Naming> {
     of: PhantomData<N>,
 }
@@ -57,7 +58,7 @@ impl<N: Naming> Outcome<Task, Offers> for GivenBack<N> {
     ghost empty = { λ v. All N.taken v.waiting × (v.alone ≡ true → v.waiting ≡ []) };
 }
 
-/// The oldest task is taken.
+/// The steal of the oldest task.
 pub struct Taken<N: Naming> {
     of: PhantomData<N>,
 }
@@ -69,7 +70,7 @@ impl<N: Naming> Outcome<Task, Offers> for Taken<N> {
     ghost then = { λ v xs w. (w ≡ v) × All (Of N.course) xs };
 }
 
-/// A pass for a picker is made of the owner's.
+/// The split of the owner's pass that makes one for a picker.
 pub struct Parts;
 
 impl Split<Offers> for Parts {
@@ -81,7 +82,7 @@ impl Split<Offers> for Parts {
     ghost right = { λ v. offers false false [] };
 }
 
-/// A worker's own end.
+/// A worker's own end of its deque.
 #[derive(Drop)]
 pub struct Rack<N: Naming> {
     worker: Worker<Task, Global, Offers, OfRun<N>>,
@@ -90,7 +91,7 @@ pub struct Rack<N: Naming> {
     ghost owner: { (worker_view worker).owner ≡ true },
 }
 
-/// Another worker's end.
+/// Another worker's end of a deque, by which it steals.
 #[derive(Drop)]
 pub struct Picker<N: Naming> {
     stealer: Stealer<Task, Global, Offers, OfRun<N>>,
@@ -102,7 +103,7 @@ pub struct Picker<N: Naming> {
 impl<N: Naming> Rack<N> {
     ghost use Rattle.cilk_workers.specs.Held.{IsAlone, IsOffered, IsPickerOf, IsSameRack, waiting, room, offered};
 
-    /// A rack without tasks, with room for this many at first.
+    /// Makes a rack without tasks, with room for `first` tasks at first.
     pub fn new(alloc: Global, first: usize) -> Result<Rack<N>, AllocError>
         ensures { IfOk result (λ r. (waiting r ≡ []) × IsAlone r × (offered r ≡ 0) × (first ≤ room r)) }
     {
@@ -110,7 +111,8 @@ impl<N: Naming> Rack<N> {
         Ok(Rack { worker })
     }
 
-    /// Puts a task behind the others; the rack grows where there is no room. It comes back where there was no memory for that.
+    /// Pushes a task. The rack grows if there is no room; the task comes back if memory runs out
+    /// for that.
     pub fn offer(&mut self, task: Task) -> Result<(), Task>
         requires { Of N.course task }
         ensures rule { IsOffered self.old task result self.new }
@@ -119,8 +121,9 @@ impl<N: Naming> Rack<N> {
         self.worker.push_as::<Offered>(task)
     }
 
-    /// The task that was offered last and not given back, or `None` where the deque was found empty: pickers have taken
-    /// each task that waits. Where no picker has been made it is `None` only if none waits.
+    /// Pops the task that was offered last and not given back. `None` means that the deque was
+    /// found empty: pickers have taken each task that waits. If no picker has been made, then none
+    /// waits.
     pub fn newest(&mut self) -> Option<Task>
         ensures rule { MatchOption result ((waiting self.new ≡ waiting self.old) × All N.taken (waiting self.old) × (IsAlone self.old → waiting self.old ≡ [])) (λ t. (waiting self.old ≡ waiting self.new ++ t ∷ []) × Of N.course t) }
         ensures same { IsSameRack self.old self.new × (IsAlone self.old → IsAlone self.new) × (offered self.new ≤ offered self.old) }
@@ -128,7 +131,7 @@ impl<N: Naming> Rack<N> {
         self.worker.pop_as::<GivenBack<N>>()
     }
 
-    /// Another worker's end.
+    /// Makes another worker's end of this rack.
     pub fn picker(&mut self) -> Result<Picker<N>, AllocError>
         ensures picker { IfOk result (λ p. IsPickerOf self.new p) }
         ensures same { IsSameRack self.old self.new × (waiting self.new ≡ waiting self.old) × (offered self.new ≡ offered self.old) }
@@ -143,18 +146,18 @@ impl<N: Naming> Rack<N> {
 /// The deque of a rack.
 pub type Tasks<N> = Worker<Task, Global, Offers, OfRun<N>>;
 
-/// The other end of a rack's deque.
+/// The stealer of a rack's deque.
 pub type Takes<N> = Stealer<Task, Global, Offers, OfRun<N>>;
 
 impl<N: Naming> Rack<N> {
-    /// The deque alone, to be sent to a thread.
+    /// Returns the deque alone, to send it to a thread.
     pub fn parted(self) -> Tasks<N>
         ensures { (worker_flavor result ≡ 1) × (worker_port result ≡ 0) × ((worker_view result).owner ≡ true) }
     {
         self.worker
     }
 
-    /// The rack of such a deque.
+    /// Makes a rack of such a deque.
     pub fn of(worker: Tasks<N>) -> Rack<N>
         requires { (worker_flavor worker ≡ 1) × (worker_port worker ≡ 0) × ((worker_view worker).owner ≡ true) }
     {
@@ -163,21 +166,22 @@ impl<N: Naming> Rack<N> {
 }
 
 impl<N: Naming> Picker<N> {
-    /// The deque's other end and its pass, to be sent to a thread.
+    /// Returns the stealer and its pass, to send them to a thread.
     pub fn parted(self) -> (Takes<N>, Pass<Task, Offers>)
         ensures { IsPassOf (stealer_deque result.0) result.1 × ((view result.1).owner ≡ false) }
     {
         (self.stealer, self.pass)
     }
 
-    /// The picker of such an end.
+    /// Makes a picker of such a stealer and pass.
     pub fn of(stealer: Takes<N>, pass: Pass<Task, Offers>) -> Picker<N>
         requires { IsPassOf (stealer_deque stealer) pass × ((view pass).owner ≡ false) }
     {
         Picker { stealer, pass }
     }
 
-    /// The oldest task, or `None` where none was had.
+    /// Steals the oldest task. `None` means that the deque was empty, or that the steal has to be
+    /// retried.
     pub fn oldest(&mut self) -> Option<Task>
         requires { MayPick N.taken }
         ensures rule { IfSome result (λ t. Of N.course t) }

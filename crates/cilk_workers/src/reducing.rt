@@ -1,4 +1,4 @@
-//! Events of reducers, and of the ordered output.
+//! The events of reducers and of the ordered output.
 
 ghost use Rattle.std.specs.Prelude.{◌≡◌};
 ghost use Rattle.cilk_shared.specs.Reducers.{kind_in};
@@ -14,7 +14,7 @@ use cilk_shared::reducers::Reducers;
 use cilk_types::event::Instance;
 use std::alloc::Global;
 
-// The monoid of a reducer.
+// The monoid of a reducer; that of the output is the list.
 fn kind_in(reducers: &Reducers, instance: Instance) -> MonoidKind
     ensures { result ≡ kind_in reducers.now instance }
 {
@@ -38,7 +38,7 @@ fn kind_in(reducers: &Reducers, instance: Instance) -> MonoidKind
     }
 }
 
-/// A reducer begins.
+/// The next event creates a reducer.
 pub(crate) fn created(
     alloc: Global,
     shared: &Shared<'_>,
@@ -58,7 +58,7 @@ pub(crate) fn created(
     Turn::Goes
 }
 
-/// A reducer is updated.
+/// The next event updates a reducer.
 pub(crate) fn updated(
     alloc: Global,
     shared: &Shared<'_>,
@@ -82,7 +82,7 @@ pub(crate) fn updated(
     Turn::Goes
 }
 
-/// A reducer is set.
+/// The next event sets a reducer.
 pub(crate) fn set(alloc: Global, shared: &Shared<'_>, work: &mut Work, instance: Instance) -> Turn
     requires due { IsDue shared.now work.old (kinds.Set instance) }
     requires more { HasMore shared.now work.old }
@@ -98,7 +98,7 @@ pub(crate) fn set(alloc: Global, shared: &Shared<'_>, work: &mut Work, instance:
     Turn::Goes
 }
 
-/// A reducer is read: the frame is answered the number of its view.
+/// The next event reads a reducer: the frame is answered the number of its view.
 pub(crate) fn valued(
     alloc: Global,
     shared: &Shared<'_>,
@@ -119,7 +119,7 @@ pub(crate) fn valued(
     Turn::Goes
 }
 
-/// A number is printed.
+/// The next event prints a number.
 pub(crate) fn printed(alloc: Global, shared: &Shared<'_>, work: &mut Work) -> Turn
     requires due { IsDue shared.now work.old kinds.Print }
     requires more { HasMore shared.now work.old }

@@ -15,7 +15,7 @@ use std::alloc::{AllocError, Global};
 use std::marker::Model;
 use std::snapshot::Snapshot;
 
-/// The runs of a sync block, one piece each.
+/// The runs of a sync block, with one piece for each run.
 #[derive(Drop)]
 pub struct Runs {
     of: Snapshot<Yard>,
@@ -37,7 +37,7 @@ impl Model for Runs {
 }
 
 impl Runs {
-    /// No run, and no awaited key.
+    /// Returns a row without runs or awaited keys.
     pub fn new(alloc: Global, yard: &Yard, reducers: &Reducers) -> Runs
         ensures { result ≡ rows (run_of yard.now reducers.now) (row None []) }
     {
@@ -49,7 +49,7 @@ impl Runs {
         }
     }
 
-    /// The number of runs, which is the number of pieces kept.
+    /// Returns the number of runs, which is the number of pieces kept.
     pub fn parts(&self) -> usize
         ensures { result ≡ parts_in self.now }
     {
@@ -61,21 +61,22 @@ impl Runs {
         }
     }
 
-    /// The pieces lie apart, in the order of the run.
+    /// A law: the pieces don't overlap, and are in the order of the run.
     pub fn laws(&self)
         ensures { PiecesLieApart self.now }
     {
         let _first = self.first.is_some();
     }
 
-    /// Where all ends that is there.
+    /// Returns the position where the row ends.
     pub fn end(&self) -> Pos
         ensures { result ≡ end_in self.now }
     {
         end_of_all(&self.awaited, end_of_run(&self.first, 0))
     }
 
-    /// A key is awaited, behind all.
+    /// Appends an awaited key, whose parent continues at `goes_on`. If memory runs out, nothing
+    /// changes.
     pub fn wait(&mut self, key: Pos, goes_on: Pos) -> Result<(), AllocError>
         requires { end_in self.old ≤ goes_on }
         ensures ok { OnOk result (self.new ≡ awaiting self.old key goes_on) }
@@ -89,7 +90,8 @@ impl Runs {
         Ok(())
     }
 
-    /// A piece comes to its place, and makes one run of those beside it.
+    /// Puts a piece in its place, and makes one run of it and its neighbours. If memory runs out,
+    /// it comes back and nothing changes.
     pub fn put(&mut self, alloc: Global, yard: &Yard, key: Pos, piece: Piece) -> Result<(), Piece>
         requires yard { yard_of self.old.of ≡ yard.now }
         requires good { IsGood self.old.of piece }
@@ -115,14 +117,14 @@ impl Runs {
         }
     }
 
-    /// Whether no key is awaited.
+    /// Returns whether no key is awaited.
     pub fn is_whole(&self) -> bool
         ensures { result ≡ is_empty self.now.row.waits }
     {
         self.awaited.is_empty()
     }
 
-    /// The first run comes out.
+    /// Moves the first run out.
     pub fn take(&mut self) -> Option<Piece>
         ensures out { result ≡ self.old.row.run }
         ensures new { self.new ≡ rows self.old.of (row None self.old.row.waits) }
@@ -131,14 +133,14 @@ impl Runs {
         self.first.take()
     }
 
-    /// Whether the key is awaited.
+    /// Returns whether the key is awaited.
     pub fn awaits(&self, key: Pos) -> bool
         ensures { IsAwaitedIf result self.now.row.waits key }
     {
         place_in(&self.awaited, key) < self.awaited.len()
     }
 
-    /// Whether the piece meets those beside its place.
+    /// Returns whether the piece adjoins the neighbours of its place.
     pub fn fits(&self, key: Pos, piece: &Piece) -> bool
         ensures { IsTrue result ↔ FitsIn self.now key piece.now }
     {

@@ -1,4 +1,4 @@
-//! What the workers of a run share.
+//! The part of a run that its workers share.
 
 ghost use Rattle.std.specs.Prelude.{◌≡◌, ◌↔◌, ℕ, Some, length, IsTrue};
 ghost use Rattle.cilk_workers.specs.Rows.{yard_of};
@@ -22,7 +22,7 @@ use cilk_tree::plan::Plan;
 use cilk_types::event::Pos;
 use std::marker::Model;
 
-/// A run's yard, the plan that it goes along, the reducers of its frames, and its course.
+/// A run's shared words, the plan that it follows, the reducers of its frames, and its course.
 #[derive(Drop)]
 pub struct Shared<'a> {
     yard: &'a Yard,
@@ -51,8 +51,8 @@ impl<'a> Model for Shared<'a> {
 }
 
 impl<'a> Shared<'a> {
-    /// The run of a yard along a plan, which has each cell that its events name. What the run reads from reducers are the numbers of the
-    /// views that pieces show.
+    /// Makes the shared part of a run along a plan. The yard has each cell that its events name.
+    /// The values that the run reads from reducers are the numbers of the views in pieces.
     pub fn new(
         yard: &'a Yard,
         plan: &'a Plan,
@@ -74,7 +74,7 @@ impl<'a> Shared<'a> {
         }
     }
 
-    /// What holds of the run.
+    /// The laws of the run.
     pub fn laws(&self)
         ensures order { IsOrderly (story_in self.now) }
         ensures values { HasValues (story_in self.now) }
@@ -89,21 +89,21 @@ impl<'a> Shared<'a> {
         inputs_are_words(self.course.input());
     }
 
-    /// The run's yard.
+    /// Returns the run's shared words.
     pub fn yard(&self) -> &Yard
         ensures { result.now ≡ yard_of self.now.run }
     {
         self.yard
     }
 
-    /// The run's plan.
+    /// Returns the run's plan.
     pub fn plan(&self) -> &Plan
         ensures { IsAlong result.now (story_in self.now) }
     {
         self.plan
     }
 
-    /// The reducers of the run's frames.
+    /// Returns the reducers of the run's frames.
     pub fn reducers(&self) -> &Reducers
         ensures reducers { result.now ≡ self.now.run.reducers }
         ensures few { HasFew result.now }
@@ -111,7 +111,7 @@ impl<'a> Shared<'a> {
         self.reducers
     }
 
-    /// The run's course.
+    /// Returns the run's course.
     pub fn course(&self) -> &Course
         ensures course { result.now ≡ self.now.course }
         ensures yard { self.now.course.yard ≡ yard_of self.now.run }
@@ -119,7 +119,7 @@ impl<'a> Shared<'a> {
         self.course
     }
 
-    /// The event at a position, and whose it is; nothing where there is none.
+    /// Returns the kind and frame of the event at a position, or `Nothing` if there is no event.
     pub fn next(&self, at: Pos) -> Asked
         ensures { IsNext (story_in self.now) at result }
     {
@@ -130,14 +130,15 @@ impl<'a> Shared<'a> {
         self.plan.next(at - 1)
     }
 
-    /// Whether the position is that of the last event, the root's `end`.
+    /// Returns whether the position is that of the last event, the root's `end`.
     pub fn is_last(&self, at: Pos) -> bool
         ensures { IsTrue result ↔ (at ≡ length (story_in self.now).events) }
     {
         at as usize == self.plan.count()
     }
 
-    /// The spawn whose continuation the event at a position resumes, where it is the `resume` after a spawn.
+    /// Returns the spawn whose continuation is resumed at a position, if the event there is the
+    /// `resume` after a spawn.
     pub fn resumed_by(&self, at: Pos) -> Option<Pos>
         ensures { (k : ℕ) → (result ≡ Some k) ↔ (what (story_in self.now) at ≡ resume k) }
     {

@@ -1,4 +1,4 @@
-//! The join boxes of several sync blocks.
+//! Shelves: the join boxes of several sync blocks.
 
 ghost use Rattle.std.specs.Prelude.{◌≡◌, ◌≤◌, ℕ, [], All, length, IfOk, IfSome, MatchOption, OnErr, Some};
 ghost use Rattle.std.specs.Vec.{vec_capacity};
@@ -16,8 +16,10 @@ use std::alloc::{AllocError, Global};
 use std::marker::Model;
 use std::snapshot::Snapshot;
 
-/// The boxes of the blocks, among some, in which something waits. The box of another block is as it is at first, and takes no room. To a
-/// contract it is the run whose blocks they are, and the boxes.
+/// The join boxes of several blocks.
+///
+/// Only boxes in which something waits are kept. Any other box is as it was at first, so it needs
+/// no memory. Contracts see the run to which the blocks belong, and the boxes.
 #[derive(Drop)]
 pub struct Shelf {
     of: Snapshot<Yard>,
@@ -43,7 +45,7 @@ impl Model for Shelf {
     ghost invariant = { λ s. All (LiesOn (run_of s.of.value s.reducers.value) s.course.value) s.boxes.items };
 }
 
-// The box of a block comes out, where it is there.
+// Moves out the box of a block, if it is on the shelf.
 fn taken(
     yard: &Yard,
     reducers: &Reducers,
@@ -70,7 +72,7 @@ fn taken(
 }
 
 impl Shelf {
-    /// No box.
+    /// Returns a shelf without boxes.
     pub fn new(alloc: Global, yard: &Yard, reducers: &Reducers, course: &Course) -> Shelf
         ensures { (result.of ≡ run_of yard.now reducers.now) × (result.course ≡ course.now) × (result.boxes ≡ []) }
     {
@@ -82,8 +84,9 @@ impl Shelf {
         }
     }
 
-    /// The box of the block that ends with the `sync` at this position comes off the shelf, on which there is room then to put
-    /// it back. Without memory for that nothing changes.
+    /// Takes the box of the block that ends with the `sync` at this position off the shelf, which
+    /// then has room to put it back. If memory for that runs out, nothing changes. Cost: linear in
+    /// the boxes on the shelf.
     pub fn take(
         &mut self,
         alloc: Global,
@@ -106,7 +109,7 @@ impl Shelf {
         Ok(JoinBox::new(alloc, yard, reducers, course, sync))
     }
 
-    /// A box is put back, where there is room for it. It is forgotten where nothing waits in it any more.
+    /// Puts a box back, for which there is room. A box in which nothing waits is dropped.
     pub fn put(&mut self, back: JoinBox)
         requires of { LiesOn self.old.of self.old.course back }
         requires room { HasRoom self.old }

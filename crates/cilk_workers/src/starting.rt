@@ -1,4 +1,4 @@
-//! Spawns and calls: a child begins.
+//! The events that start a child: spawns and calls.
 
 ghost use Rattle.std.specs.Prelude.{◌≡◌, ℕ, ◌+◌, ◌<◌, ◌≤◌, Some, length};
 ghost use Rattle.cilk_tree.specs.declared.kind.Kind.TheVariants as kinds;
@@ -15,7 +15,7 @@ use cilk_tree::kind::{Asked, Kind};
 use cilk_types::event::{FrameNo, Pos};
 use std::alloc::Global;
 
-// The number of the frame that begins right behind a spawn or a call.
+// The number of the frame that begins right after a spawn or a call.
 fn frame_begun(shared: &Shared<'_>, at: Pos) -> FrameNo
     requires first { 1 ≤ at }
     requires start { IsStart (event (story_in shared.now) at) }
@@ -32,7 +32,7 @@ fn frame_begun(shared: &Shared<'_>, at: Pos) -> FrameNo
     }
 }
 
-/// A child is spawned: the worker goes on with it, and the continuation is offered.
+/// The next event spawns a child: the worker continues with it, and offers the continuation.
 pub(crate) fn spawned(alloc: Global, shared: &Shared<'_>, work: &mut Work) -> Turn
     requires due { (child : ℕ) × IsDue shared.now work.old (kinds.Spawn child) }
     requires more { HasMore shared.now work.old }
@@ -51,7 +51,7 @@ pub(crate) fn spawned(alloc: Global, shared: &Shared<'_>, work: &mut Work) -> Tu
     Turn::Offers(Task::new(ticket, rest))
 }
 
-/// A child is called.
+/// The next event calls a child.
 pub(crate) fn called(alloc: Global, shared: &Shared<'_>, work: &mut Work) -> Turn
     requires due { (child : ℕ) × IsDue shared.now work.old (kinds.Call child) }
     requires more { HasMore shared.now work.old }

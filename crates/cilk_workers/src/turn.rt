@@ -24,7 +24,7 @@ use cilk_tree::kind::{Asked, Kind};
 use cilk_types::event::FrameNo;
 use std::alloc::{AllocError, Global};
 
-/// What a worker has once the root has begun.
+/// Returns the work of the first worker, once the root has begun.
 pub fn first(alloc: Global, shared: &Shared<'_>, piece: Piece) -> Result<Work, AllocError>
     requires piece { OfRun shared.now.run piece × (piece.from ≡ 1) × (piece.upto ≡ 2) }
     ensures { IfOk result (Works shared.now) }
@@ -35,7 +35,8 @@ pub fn first(alloc: Global, shared: &Shared<'_>, piece: Piece) -> Result<Work, A
     Ok(Work { piece, chain })
 }
 
-// The frame asks for something else than the plan has. That is no `resume` after a spawn, which the frame asked for.
+// The frame requests another event than the plan has. That is no `resume` after a spawn, which the
+// frame requested.
 fn departed(shared: &Shared<'_>, work: &Work) -> Turn
     requires works { Works shared.now work.now }
     requires within { work.now.piece.upto ≤ length (story_in shared.now).events }
@@ -84,7 +85,7 @@ fn made(alloc: Global, shared: &Shared<'_>, work: &mut Work, frame: FrameNo, kin
     }
 }
 
-/// Makes one event of the run.
+/// Makes the next event of the run, if the frame requests the event of the plan.
 pub fn act(alloc: Global, shared: &Shared<'_>, work: &mut Work) -> Turn
     requires { Works shared.now work.old }
     ensures { Turned shared.now work.old.piece work.new result }
@@ -102,7 +103,8 @@ pub fn act(alloc: Global, shared: &Shared<'_>, work: &mut Work) -> Turn
     }
 }
 
-/// A thief begins with an empty piece. The piece comes back where another took the continuation.
+/// Starts a thief, which has an empty piece, with a task. The piece comes back if another worker
+/// took the continuation.
 pub fn begin(shared: &Shared<'_>, mut piece: Piece, task: Task) -> Result<Work, Piece>
     requires piece { OfRun shared.now.run piece × (piece.upto ≤ piece.from) }
     requires task { task.of ≡ shared.now.course }

@@ -1,31 +1,33 @@
-//! What a worker has, and what a turn leads to.
+//! The work of a worker, and the outcome of a turn.
 
 use cilk_replay::chain::{Chain, Task};
 use cilk_shared::piece::Piece;
 use cilk_types::event::Pos;
 
-/// What a worker has in its hands: what was done, and where its frame goes on.
+/// The work of a worker: the piece that it has done, and the frame that runs at its end, with its
+/// callers.
 #[derive(Drop)]
 pub struct Work {
     pub piece: Piece,
     pub chain: Chain,
 }
 
-/// What a turn leads to, with the worker's piece and chain as the turn leaves them.
+/// The outcome of a turn. The turn also changes the worker's piece and chain.
 #[derive(Drop)]
 pub enum Turn {
-    /// The worker goes on.
+    /// The event is made, and the worker continues.
     Goes,
-    /// The worker goes on with a child, and the continuation is offered.
+    /// The worker continues with a spawned child, and the continuation is to be offered.
     Offers(Task),
-    /// The piece stands at a `sync`, and children of its block are elsewhere.
+    /// The piece is at a `sync`, and children of its block are elsewhere.
     Arrives,
-    /// A spawned child has ended, or another took the continuation: the worker goes on no further with this chain.
+    /// A spawned child has ended, or another worker took the continuation. The worker can't
+    /// continue with this chain.
     Ended,
     /// The root has ended, with this result.
     Finished(i64),
-    /// The run departs from the plan there.
+    /// The run departs from the plan at this position.
     Departed(Pos),
-    /// There was no memory.
+    /// The worker ran out of memory.
     Stopped,
 }

@@ -4,7 +4,7 @@ use Rattle.cilk_program.specs.Sources.{source}
 use Rattle.cilk_checker.proofs.Noting.{NotedSoFar}
 use Rattle.cilk_checker.proofs.ending.run_code.Given as goal
 
--- the run is that of this program on this input, and the frames are noted that its events have begun
+-- the run is that of this program on this input, and the frames begun so far are noted
 abbrev pub invariant-each : goal.invariant-each
 invariant-each l = record {
   program : l.serial.program ≡ l.program;

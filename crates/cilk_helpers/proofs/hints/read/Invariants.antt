@@ -2,7 +2,7 @@ use Rattle.std.proofs.Common.{◌+◌, ◌≤◌, length}
 use Rattle.cilk_cert_text.specs.Readers.{room_of}
 use Rattle.cilk_helpers.proofs.hints.read.Given as goal
 
--- so much of the piece is to be read
+-- the rest of the piece is still to be read
 abbrev pub invariant-lines : goal.invariant-lines
 invariant-lines l = room_of l.reader + length l.piece ≤ room_of l.fn.reader + length l.rest
 

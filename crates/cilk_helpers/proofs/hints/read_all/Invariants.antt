@@ -2,7 +2,7 @@ use Rattle.std.proofs.Common.{◌≡◌}
 use Rattle.cilk_cert_text.specs.Readers.{room_of}
 use Rattle.cilk_helpers.proofs.hints.read_all.Given as goal
 
--- no pull has failed, nor changed what pulls keep
+-- no pull has failed, and each has kept what pulls keep
 abbrev pub invariant-pieces : goal.invariant-pieces
 invariant-pieces g l = record {
   uncounted : g.S.Source.failed l.source ≡ g.S.Source.failed l.fn.source;

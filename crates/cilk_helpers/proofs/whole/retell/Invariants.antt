@@ -5,7 +5,7 @@ use Rattle.cilk_helpers.specs.Telling.{Tells}
 use Rattle.cilk_helpers.specs.Whole.{IsKept}
 use Rattle.cilk_helpers.proofs.whole.retell.Given as goal
 
--- the frames are noted that the events so far have begun
+-- the frames that the events so far have begun are noted
 abbrev pub invariant-each : goal.invariant-each
 invariant-each l = record {
   tells : Tells l.code (source l.program) l.input l.run;

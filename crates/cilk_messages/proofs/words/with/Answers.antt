@@ -11,7 +11,7 @@ use Rattle.cilk_messages.specs.Words.{HasShape}
 use Rattle.cilk_messages.proofs.Entered.{with_last}
 use Rattle.cilk_messages.proofs.words.with.Goals as goal
 
--- what is said of a command changes nothing of what its parser takes
+-- a command's help text doesn't change what its parser accepts
 described : (c r : Command) (a : App) (about : Option (Bor Text)) → HasShape c a → out-Command r ≡ record (out-Command c) { about = about } → HasShape r a
 described c r a about h e = (ap app_of_fields e ∙ h.0, ap (λ (f : Command-F Command). f.has_globals) e ∙ h.1)
 

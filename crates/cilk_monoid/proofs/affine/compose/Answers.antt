@@ -1,11 +1,11 @@
--- The product of two maps: what passes through the code's words is as it was.
+-- The product of two maps: converting words to the code's integers and back changes nothing.
 use Rattle.std.proofs.Common.{◌≡◌, ◌∙◌, w64, ℤ, ◌+ℤ◌, ◌*ℤ◌, to_z, of_z}
 use Rattle.std.proofs.lemmas.Int.{to_z-of_z, int_wrap-add_left}
 use Rattle.cilk_types.specs.Word.{word_of, IsWord}
 use Rattle.cilk_monoid.specs.Values.{Map}
 use Rattle.cilk_monoid.proofs.affine.compose.Goals as goal
 
--- a word, as the code passes it
+-- a word is unchanged by the conversion to the code's integers and back
 passed : ℤ → ℤ
 passed z = to_z w64 (of_z w64 z)
 

@@ -1,4 +1,4 @@
--- Each iteration multiplies the first two of the values that are left.
+-- Each iteration multiplies the first two values that are left.
 use Rattle.std.proofs.Common.{◌≡◌, map, List, [], ◌∷◌, ◌++◌, reverse, sym, ap, ◌∙◌, arith}
 use Rattle.std.proofs.lemmas.List.{reverse-append, reverse-reverse}
 use Rattle.std.proofs.lemmas.Grind.{common_steps}
@@ -6,7 +6,7 @@ use Rattle.cilk_monoid.specs.Products.{product}
 use Rattle.cilk_monoid.proofs.ProductLaws.{product-combine, product-grouped, members_of}
 use Rattle.cilk_monoid.proofs.fold.fold_pieces.Goals as goal
 
--- the last one of a list is the first one of its reverse
+-- the last item of a list is the first item of its reverse
 reversed_last : {X : Type 0} (xs ys : List X) (x : X) → ys ≡ xs ++ x ∷ [] → reverse ys ≡ x ∷ reverse xs
 reversed_last xs ys x e = ap reverse e ∙ reverse-append xs (x ∷ [])
 

@@ -2,7 +2,8 @@ use Rattle.std.proofs.Common.{◌≡◌, map, reverse, ◌<◌, vec_len, vec_cap
 use Rattle.cilk_monoid.specs.Products.{product}
 use Rattle.cilk_monoid.proofs.fold.fold_pieces.Given as goal
 
--- the product so far and the pieces that are left, which stand last first, multiply to that of all; and there is room to put one back
+-- the product so far and the pieces that are left, last first, multiply to the product of all,
+-- and there is room to push one back
 abbrev pub invariant-loop-piece : goal.invariant-loop-piece
 invariant-loop-piece g l =
     let m = g.M.Monoid in

@@ -1,4 +1,4 @@
--- What the arguments so far come to, and those that are left.
+-- The arguments so far, and those that are left.
 use Rattle.std.proofs.Common.{◌≡◌, ◌++◌, map, drop}
 use Rattle.cilk_syntax.specs.Trees.{arguments_of}
 use Rattle.cilk_program.specs.Programs.{expression}

@@ -1,4 +1,4 @@
--- So many zeros so far.
+-- The zeros so far.
 use Rattle.std.proofs.Common.{◌≡◌, ◌++◌}
 use Rattle.cilk_names.specs.Globals.{zeros}
 use Rattle.cilk_names.proofs.items.push_zeros.Given as goal

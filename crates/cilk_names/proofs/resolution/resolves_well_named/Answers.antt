@@ -1,4 +1,4 @@
--- What a tree resolves to is well named.
+-- The program of a tree is well named.
 use Rattle.cilk_names.proofs.WellNamed.{resolved_named}
 use Rattle.cilk_names.proofs.resolution.resolves_well_named.Goals as goal
 

@@ -1,4 +1,4 @@
--- A tree resolves exactly where its names are right.
+-- A tree resolves if and only if it has no fault.
 use Rattle.cilk_names.proofs.Verdicts.{resolves_right, right_resolves}
 use Rattle.cilk_names.proofs.resolution.resolves_where_right.Goals as goal
 

@@ -1,4 +1,4 @@
--- All items, from the first on.
+-- All items, from the first.
 use Rattle.std.proofs.Common.{◌≡◌, ◌++◌, length, map, None, refl, ap, ◌∙◌}
 use Rattle.cilk_syntax.specs.declared.tree.ReturnType.TheVariants.{Int}
 use Rattle.cilk_syntax.specs.Trees.{items_of}

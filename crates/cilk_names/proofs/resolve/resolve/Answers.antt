@@ -1,4 +1,4 @@
--- What the pass has found decides.
+-- The result of the pass decides.
 use Rattle.std.proofs.Common.{◌≡◌, Some, None, IsTrue, length, ap, sym, ◌∙◌, subst}
 use Rattle.cilk_syntax.specs.Trees.{items_of, program}
 use Rattle.cilk_program.specs.Syntax.{Source}

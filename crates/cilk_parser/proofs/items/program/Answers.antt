@@ -3,7 +3,7 @@ use Rattle.cilk_syntax.specs.declared.token.Token.{Token}
 use Rattle.cilk_syntax.specs.Expected.{Unexpected, run}
 use Rattle.cilk_parser.proofs.items.program.Goals as goal
 
--- where nothing is expected, what is left is refused
+-- where nothing is expected, the tokens that are left are refused
 left_over : (rest : List Token) → 1 ≤ length rest → run rest [] 0 ≡ Unexpected rest
 left_over [] h = absurd (omega (arith, h))
 left_over (t ∷ rest) h = refl

@@ -4,11 +4,11 @@ use Rattle.cilk_syntax.specs.Expected.{Symbol, One, Named, Operand, Tail, Anew, 
 use Rattle.cilk_syntax.proofs.Stopping.{handed, along}
 use Rattle.cilk_parser.proofs.loops.bounds.Goals as goal
 
--- what is expected behind the first part of the head
+-- the symbols expected after the first part of the head
 abbrev second : ℕ → List Symbol → List Symbol
 second d stack = Named ∷ One marks.Less ∷ Operand d ∷ Tail d ∷ Anew ∷ One marks.Semicolon ∷ UnitStep ∷ One marks.Close ∷ stack
 
--- and in front of it
+-- and those before it
 abbrev first : ℕ → List Symbol → List Symbol
 first d stack = Named ∷ One marks.Assign ∷ Operand d ∷ Tail d ∷ Anew ∷ One marks.Semicolon ∷ second d stack
 

@@ -3,12 +3,12 @@ use Rattle.std.proofs.lemmas.Bool.{true≢false}
 use Rattle.std.specs.Prelude.{IfOk, IsFalse, Result, Ok, Err}
 use Rattle.cilk_report.proofs.text.text_of.Goals as goal
 
--- nothing is wanted of what comes where the test holds
+-- nothing has to be shown of a picture
 free : {T E : Type 0} (x : Result T E) (b b' : Bool) (P : T → Type 0) → b ≡ true → b ≡ b' → IfOk x (λ v. IsFalse b' → P v)
 free (Ok v) b b' P held same = λ other. absurd (true≢false (sym held ∙ same ∙ other))
 free (Err e) b b' P held same = tt
 
--- what comes where it doesn't
+-- the table
 kept : {T E : Type 0} (x : Result T E) (b : Bool) (P : T → Type 0) → IfOk x P → IfOk x (λ v. IsFalse b → P v)
 kept (Ok v) b P h = λ other. h
 kept (Err e) b P h = tt

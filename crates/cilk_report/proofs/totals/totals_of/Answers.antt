@@ -10,7 +10,7 @@ use Rattle.cilk_commands.specs.Shown.{RunShows, run_fault_view}
 use Rattle.cilk_commands.proofs.Replying.{handed}
 use Rattle.cilk_report.proofs.totals.totals_of.Goals as goal
 
--- what is shown of a run that stops
+-- the reply of a run that stops
 shown : (m : Meant) (inputs : List ℤ) (f : RunFault) → IsRunFault m.source inputs f → RunShows m inputs (run_fault_view f)
 shown m inputs stops.Memory h = (stops.Memory, refl, h)
 shown m inputs (stops.At fault at) h = (stops.At fault at, refl, h)

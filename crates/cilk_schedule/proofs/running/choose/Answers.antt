@@ -21,7 +21,7 @@ open_yet : {A : Type 0} (o : Option A) → is_some o ≡ false → o ≡ None
 open_yet None h = refl
 open_yet (Some x) h = cc
 
--- what comes of a choice, by what it was made of
+-- the result of a choice, by its kind
 over : {b b' : Scheduler} {r r' : Result Told Stop} {c c' : Choice} (P : Scheduler → Choice → Told → Type 0) → b ≡ b' → r ≡ r' → c ≡ c' → IfOk r' (λ t. P b' c' t) → IfOk r (λ t. P b c t)
 over {b} {b'} {r} {r'} {c} {c'} P board_is told_is choice_is h =
     subst (λ q. IfOk r (λ t. P q c t)) (sym board_is) (subst (λ q. IfOk q (λ t. P b' c t)) (sym told_is) (subst (λ q. IfOk r' (λ t. P b' q t)) (sym choice_is) h))
@@ -61,7 +61,7 @@ returns-then-is_some-clause-skips c =
     let o = some_of b.outcome (sym c.is_some.ensures ∙ c.if-is_some.true) in
     over_skips c.args.code.now c.args.input.now b c.args.choice o.0 o.1
 
--- why a run stopped, by the choice that it was made of
+-- why a run stopped, by the kind of the choice
 stopped_by : (code : CodeView) (inputs : List ℤ) (b b' b2 : Scheduler) (c c2 : Choice) (r r2 : Result Told Stop) (stop : Stop) → r ≡ Err stop → b' ≡ b2 → r ≡ r2 → c ≡ c2 → IfErr r2 (λ z. FaultsAreStops code inputs b b2 c2 z) → FaultsAreStops code inputs b b' c stop
 stopped_by code inputs b b' b2 c c2 r r2 stop is board_is told_is choice_is h =
     subst (λ q. FaultsAreStops code inputs b q c stop) (sym board_is)

@@ -17,7 +17,7 @@ use Rattle.cilk_workers.proofs.Due.{began, can_take, off_standing, on_standing}
 use Rattle.cilk_workers.proofs.OfKind.{resume_event}
 use Rattle.cilk_workers.proofs.turn.begin.Goals as goal
 
--- where the task goes on
+-- the position at which the task continues
 resumes : (y : SharedValue) (t : TaskValue) (at ticket : ℕ) → t.of ≡ y.course → (let u = y.course in u.yard ≡ yard_of y.run) → (let u = t.of in let z = u.yard in what z.story at ≡ resume t.ticket) → ticket ≡ t.ticket
     → what (story_in y) at ≡ resume ticket
 resumes y t at ticket of same is q =

@@ -1,4 +1,4 @@
--- Each branch changes the views of its own kind. A word is passed to it as it is.
+-- Each branch changes the views of its own kind. The number is passed to it unchanged.
 use Rattle.std.proofs.Common.{◌≡◌, ℤ, Some, refl, subst, w64, to_z, of_z}
 use Rattle.std.proofs.lemmas.Int.{to_z-of_z}
 use Rattle.std.proofs.lemmas.Result.{on_ok_weaker}

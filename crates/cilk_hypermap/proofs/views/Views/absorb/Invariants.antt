@@ -4,7 +4,8 @@ use Rattle.cilk_types.specs.declared.event.Instance.{Instance}
 use Rattle.cilk_hypermap.specs.Views.{merged, view_at, room_at, size_at}
 use Rattle.cilk_hypermap.proofs.views.Views.absorb.Given as goal
 
--- what is left on the right has its room, and the products with it are those of the start
+-- the views that remain on the right have their room, and the products with them equal those of the
+-- start
 abbrev pub invariant-loop-instance : goal.invariant-loop-instance
 invariant-loop-instance g l =
     let m = g.M.Monoid in

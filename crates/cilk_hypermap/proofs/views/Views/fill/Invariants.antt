@@ -4,7 +4,7 @@ use Rattle.cilk_types.specs.declared.event.Instance.{Instance}
 use Rattle.cilk_hypermap.specs.Views.{view_at, FillsIn}
 use Rattle.cilk_hypermap.proofs.views.Views.fill.Given as goal
 
--- the views so far have been filled in at the instances so far
+-- the first views have been filled in, at their instances
 abbrev pub invariant-loop-i : goal.invariant-loop-i
 invariant-loop-i g l =
     let m = g.M.Monoid in

@@ -4,7 +4,7 @@ use Rattle.cilk_types.specs.declared.event.Instance.{Instance}
 use Rattle.cilk_hypermap.specs.Views.{view_at, room_at, size_at, FillsIn}
 use Rattle.cilk_hypermap.proofs.views.Views.fit.Given as goal
 
--- the instances so far have their room, and none has lost any
+-- the first instances have their room, and none has lost any
 abbrev pub invariant-loop-i : goal.invariant-loop-i
 invariant-loop-i g l =
     let m = g.M.Monoid in

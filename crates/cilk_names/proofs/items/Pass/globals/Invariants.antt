@@ -1,4 +1,4 @@
--- What the variables so far come to, and those that are left.
+-- The variables so far, and those that are left.
 use Rattle.std.proofs.Common.{◌≡◌, drop}
 use Rattle.cilk_names.specs.Globals.{behind_line}
 use Rattle.cilk_names.specs.Faults.{earliest}

@@ -1,4 +1,4 @@
--- What the items so far come to, and those that are left.
+-- The items so far, and those that are left.
 use Rattle.std.proofs.Common.{◌≡◌, ◌++◌, map, drop}
 use Rattle.cilk_syntax.specs.Trees.{items_of}
 use Rattle.cilk_program.specs.Programs.{function, loop}

@@ -1,4 +1,4 @@
--- Scopes that close, loops that take their place, and one more statement of a row.
+-- Closed scopes, loops in their reserved places, and one more statement of a row.
 use Rattle.std.proofs.Common.{map, ap, ◌∙◌, ◌++◌}
 use Rattle.cilk_syntax.specs.Trees as trees
 use Rattle.cilk_program.specs.Programs.{loop, statement}

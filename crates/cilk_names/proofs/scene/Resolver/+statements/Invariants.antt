@@ -1,4 +1,4 @@
--- What the statements so far come to, and those that are left.
+-- The statements so far, and those that are left.
 use Rattle.std.proofs.Common.{◌≡◌, ◌++◌, map, drop}
 use Rattle.cilk_syntax.specs.Trees as trees
 use Rattle.cilk_program.specs.Programs.{loop}

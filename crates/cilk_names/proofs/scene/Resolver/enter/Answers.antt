@@ -1,4 +1,4 @@
--- Ahead of a parallel loop's body.
+-- Before the body of a parallel loop.
 use Rattle.std.proofs.Common.{◌≡◌, ◌+◌, [], ◌∷◌, ◌++◌, length, map, ap, ◌∙◌, length-append, arith, rules}
 use Rattle.cilk_program.specs.declared.program.Loop.{Loop}
 use Rattle.cilk_program.specs.Programs.{loop}

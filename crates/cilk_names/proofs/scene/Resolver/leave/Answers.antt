@@ -1,4 +1,4 @@
--- The loop takes its place.
+-- The loop is put in its reserved place.
 use Rattle.std.proofs.Common.{◌≡◌, [], ◌∷◌, rules}
 use Rattle.cilk_program.specs.declared.program.Loop.{Loop}
 use Rattle.cilk_names.proofs.Loops.{loop_left}

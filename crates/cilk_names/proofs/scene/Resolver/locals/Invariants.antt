@@ -1,4 +1,4 @@
--- What the declarations so far come to, and those that are left.
+-- The declarations so far, and those that are left.
 use Rattle.std.proofs.Common.{◌≡◌, ◌++◌, map, drop}
 use Rattle.cilk_syntax.specs.Trees.{locals_of}
 use Rattle.cilk_program.specs.Programs.{declaration}

@@ -1,4 +1,4 @@
--- What the parameters so far come to, and those that are left.
+-- The parameters so far, and those that are left.
 use Rattle.std.proofs.Common.{◌≡◌, drop}
 use Rattle.cilk_names.specs.Contexts.{with_parameters}
 use Rattle.cilk_names.specs.Faults.{earliest}

@@ -1,4 +1,4 @@
--- What an insertion changes.
+-- The effect of an insertion.
 use Rattle.cilk_syntax.specs.Trees.{bytes_of}
 use Rattle.cilk_names.proofs.Tables.{put_entry}
 use Rattle.cilk_names.proofs.table.Table.put.Goals as goal

@@ -1,4 +1,4 @@
--- `of` makes a value of no bytes, whose story is one that the premise has.
+-- `of` makes a value of no bytes, whose event order is one that the premise has.
 use Rattle.std.proofs.Common.{[], ◌∷◌, refl}
 use mir.Syntax.{named}
 use mir.Val.{Val, vptr}

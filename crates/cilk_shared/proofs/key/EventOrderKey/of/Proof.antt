@@ -1,4 +1,4 @@
--- `of` makes a value of no bytes, whose story is read off the input.
+-- `of` makes a value of no bytes, whose event order is that of the input.
 use Rattle.std.proofs.Common.{[], ◌∷◌, refl}
 use mir.Syntax.{named}
 use mir.Val.{Val, vptr}

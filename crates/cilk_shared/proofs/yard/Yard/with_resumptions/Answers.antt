@@ -14,7 +14,7 @@ use Rattle.cilk_shared.specs.Rule.{view, Kept, Sits}
 use Rattle.cilk_shared.proofs.Seats.{starts, first_sits}
 use Rattle.cilk_shared.proofs.yard.Yard.with_resumptions.Goals as goal
 
--- what a story along a plan has in common with it
+-- what an event order along a plan has in common with it
 orderly : (plan s : EventOrder) → IsOrderly plan → IsAlong plan s → IsOrderly s
 orderly plan s law along = along_orderly plan s law along
 
