@@ -15,21 +15,28 @@ ReadsReducer (Some (Set j v)) i = j ≡ i
 ReadsReducer (Some (Value j v)) i = j ≡ i
 ReadsReducer _ i = ⊥
 
--- two reducer-reads of one instance, by strands whose peers differ
-pub record IsViewRace (t : Tree) (events : List Event) (p q : ℕ) : Type 0 where
+-- Two reads of one reducer, by strands whose peers differ. A position is any number that lies in a strand.
+pub record ViewClash (L : Type 0) (t : Tree) (strand : ℕ → ℕ) (reads : ℕ → L → Type 0) (p q : ℕ) : Type 0 where
   pub first : 1 ≤ p
   pub earlier : p < q
-  pub instance : Instance
-  pub one : ReadsReducer (event_at events p) instance
-  pub other : ReadsReducer (event_at events q) instance
-  pub differ : SamePeers t (strand_at events p) (strand_at events q) → ⊥
+  pub instance : L
+  pub one : reads p instance
+  pub other : reads q instance
+  pub differ : SamePeers t (strand p) (strand q) → ⊥
 
--- The least position that an earlier reducer-read of its instance races with, and the first
--- reducer-read of the instance. In a serial run that is the instance's creation.
-pub record IsFirstViewRace (t : Tree) (events : List Event) (p q : ℕ) : Type 0 where
-  pub race : IsViewRace t events p q
-  pub least : (p' q' : ℕ) → IsViewRace t events p' q' → q ≤ q'
-  pub first_read : (k : ℕ) → 1 ≤ k → ReadsReducer (event_at events k) race.instance → p ≤ k
+-- The least position that an earlier read of its reducer clashes with, and the first read of the reducer.
+pub record IsFirstViewClash (L : Type 0) (t : Tree) (strand : ℕ → ℕ) (reads : ℕ → L → Type 0) (p q : ℕ) : Type 0 where
+  pub race : ViewClash L t strand reads p q
+  pub least : (p' q' : ℕ) → ViewClash L t strand reads p' q' → q ≤ q'
+  pub first_read : (k : ℕ) → 1 ≤ k → reads k race.instance → p ≤ k
+
+-- two reducer-reads of one instance, by strands whose peers differ
+abbrev pub IsViewRace : Tree → List Event → ℕ → ℕ → Type 0
+IsViewRace t events = ViewClash Instance t (strand_at events) (λ p. ReadsReducer (event_at events p))
+
+-- the first view-read race; in a serial run the earlier read is the instance's creation
+abbrev pub IsFirstViewRace : Tree → List Event → ℕ → ℕ → Type 0
+IsFirstViewRace t events = IsFirstViewClash Instance t (strand_at events) (λ p. ReadsReducer (event_at events p))
 
 -- no two positions have a view-read race
 abbrev pub HasNoViewRace : Tree → List Event → Type 0

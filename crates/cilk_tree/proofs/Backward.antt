@@ -1,6 +1,6 @@
 -- The pass from the last event to the first gives the tree's nodes in preorder.
-use Rattle.std.proofs.Common.{◌≡◌, ◌≢◌, ℕ, suc, ◌+◌, ◌-◌, ◌<◌, ◌≤◌, ◌*◌, Bool, true, false, cond, nat_eq, List, [], ◌∷◌, ◌++◌, length, map, drop, get_or, Option, Some, None, refl, sym, ◌∙◌, ap, subst, arith}
-use Rattle.std.proofs.lemmas.List.{append_assoc, append-nil, length-append, length-map, length-drop}
+use Rattle.std.proofs.Common.{◌≡◌, ◌≢◌, ℕ, suc, ◌+◌, ◌-◌, ◌<◌, ◌≤◌, ◌*◌, Bool, true, false, cond, nat_eq, List, [], ◌∷◌, ◌++◌, length, drop, get_or, Option, Some, None, refl, sym, ◌∙◌, ap, subst, arith}
+use Rattle.std.proofs.lemmas.List.{append_assoc, append-nil, length-append, length-drop}
 use Rattle.std.proofs.Math.Seq.{drop-cons, drop-length}
 use Rattle.std.proofs.lemmas.Bool.{eq-eqb, ne_eqb}
 use Rattle.cilk_tree.specs.declared.tree.Node.{Node}
@@ -8,11 +8,9 @@ use Rattle.cilk_tree.specs.declared.tree.Node.TheVariants as nodes
 use Rattle.cilk_tree.specs.declared.building.StrandCounts.{StrandCounts}
 use Rattle.cilk_tree.specs.declared.mark.Mark.{Mark}
 use Rattle.cilk_tree.specs.declared.mark.Mark.TheVariants.{Begin, End, Sync, Resume, Spawn, Call, Plain}
-use Rattle.cilk_types.specs.declared.event.Event.{Event}
-use Rattle.cilk_tree.specs.Marks.{mark_of}
 use Rattle.cilk_types.specs.declared.invocation.Invocation.{Invocation}
 use Rattle.cilk_types.specs.declared.invocation.Invocation.TheVariants as invocations
-use Rattle.cilk_tree.specs.Shape.{Shape, finish, act, sync, child, start_of, marks, Spells}
+use Rattle.cilk_tree.specs.Shape.{Shape, finish, act, sync, child, start_of, marks, SpellsMarks}
 use Rattle.cilk_tree.specs.Tree.{Tree, strand, series, parallel, then_later, beside, Rest, block, blocks, rest_of, tree, leaves, preorder}
 use Rattle.cilk_tree.specs.Built.{Built}
 use Rattle.cilk_tree.specs.Building.{opening, strand_closed, block_closed, frame_closed, inner_place, outer_places, counted, step}
@@ -234,31 +232,29 @@ pub all_within : (ms : List Mark) → IsWithin (length ms) (after ms)
 all_within [] = record { strands = omega arith; events = omega arith; nodes = omega arith }
 all_within (m ∷ ms) = within (length ms) (after ms) m (all_within ms)
 
--- The state of the pass over a list of events, n events before its end.
-abbrev pub At : List Event → ℕ → Built → Type 0
-At events place b = (place ≤ length events) × (b ≡ after (map mark_of (drop place events)))
+-- The state of the pass over a list of marks, with n marks before it.
+abbrev pub At : List Mark → ℕ → Built → Type 0
+At ms place b = (place ≤ length ms) × (b ≡ after (drop place ms))
 
-pub at_first : (events slice : List Event) (b : Built) → slice ≡ events → b ≡ opening → At events (length slice) b
-at_first events slice b e h = rw e (omega arith, rw (drop-length events) h)
+pub at_first : (ms : List Mark) (b : Built) → b ≡ opening → At ms (length ms) b
+at_first ms b h = (omega arith, rw (drop-length ms) h)
 
-pub at_next : (events slice : List Event) (place : ℕ) (d : Event) (m : Mark) (b b' : Built)
-    → slice ≡ events → At events place b → 0 < place → m ≡ mark_of (get_or slice (place - 1) d) → b' ≡ step m b → At events (place - 1) b'
-at_next events slice place d m b b' e (le, h) p q s =
-    let lt : place - 1 < length events = omega arith in
+pub at_next : (ms : List Mark) (place : ℕ) (d : Mark) (b b' : Built)
+    → At ms place b → 0 < place → b' ≡ step (get_or ms (place - 1) d) b → At ms (place - 1) b'
+at_next ms place d b b' (le, h) p s =
+    let lt : place - 1 < length ms = omega arith in
     let k : suc (place - 1) ≡ place = omega arith in
-    let c : drop (place - 1) events ≡ get_or events (place - 1) d ∷ drop place events =
-    subst (λ (n : ℕ). drop (place - 1) events ≡ get_or events (place - 1) d ∷ drop n events) k (drop-cons events (place - 1) d lt) in
-    let f : m ≡ mark_of (get_or events (place - 1) d) = subst (λ (l : List Event). m ≡ mark_of (get_or l (place - 1) d)) e q in
-    (omega arith, rw c (s ∙ (ap (λ (x : Mark). step x b) f ∙ ap (step (mark_of (get_or events (place - 1) d))) h)))
+    let c : drop (place - 1) ms ≡ get_or ms (place - 1) d ∷ drop place ms =
+    subst (λ (n : ℕ). drop (place - 1) ms ≡ get_or ms (place - 1) d ∷ drop n ms) k (drop-cons ms (place - 1) d lt) in
+    (omega arith, rw c (s ∙ ap (step (get_or ms (place - 1) d)) h))
 
-pub at_within : (events : List Event) (place : ℕ) (b : Built) → At events place b → length events ≤ 1000000 → IsWithin 1000000 b
-at_within events place b (le, h) few =
-    let ms = map mark_of (drop place events) in
-    let w = all_within ms in
-    let n : length ms ≤ 1000000 = let l = length-map (drop place events) mark_of in let j = length-drop place events in omega (arith, l, j) in
+pub at_within : (ms : List Mark) (place : ℕ) (b : Built) → At ms place b → length ms ≤ 1073741824 → IsWithin 1073741824 b
+at_within ms place b (le, h) few =
+    let w = all_within (drop place ms) in
+    let n : length (drop place ms) ≤ 1073741824 = let j = length-drop place ms in omega (arith, j) in
     rw h (let p = w.strands in let q = w.events in let r = w.nodes in record { strands = omega (arith, p, n); events = omega (arith, q, n); nodes = omega (arith, r, n) })
 
-pub at_last : (events : List Event) (place : ℕ) (b : Built) (s : Shape) → At events place b → place ≤ 0 → Spells s events → b.nodes ≡ preorder (tree s)
-at_last events place b s (le, h) z sp =
+pub at_last : (ms : List Mark) (place : ℕ) (b : Built) (s : Shape) → At ms place b → place ≤ 0 → SpellsMarks s ms → b.nodes ≡ preorder (tree s)
+at_last ms place b s (le, h) z sp =
     let e : place ≡ 0 = omega arith in
-    rw h (rw e (subst (λ (ms : List Mark). (after ms).nodes ≡ preorder (tree s)) (sym sp) (builds s)))
+    rw h (rw e (subst (λ (ns : List Mark). (after ns).nodes ≡ preorder (tree s)) (sym sp) (builds s)))

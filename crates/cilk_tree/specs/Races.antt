@@ -28,22 +28,31 @@ abbrev pub Writes : Option Event → ℕ → Type 0
 Writes (Some (Write d v)) c = d ≡ c
 Writes _ c = ⊥
 
--- two accesses of one cell, at least one of them a write, by parallel strands
-pub record IsRace (t : Tree) (events : List Event) (p q : ℕ) : Type 0 where
+-- Two accesses of one location, at least one of them a write, by parallel strands. A position is any
+-- number that lies in a strand.
+pub record Clash (L : Type 0) (t : Tree) (strand : ℕ → ℕ) (accesses writes : ℕ → L → Type 0) (p q : ℕ) : Type 0 where
   pub first : 1 ≤ p
   pub earlier : p < q
-  pub cell : ℕ
-  pub clash : (Writes (event_at events p) cell × Accesses (event_at events q) cell) ⊎ (Accesses (event_at events p) cell × Writes (event_at events q) cell)
-  pub parallel : Parallel t 1 (strand_at events p) (strand_at events q)
+  pub cell : L
+  pub clash : (writes p cell × accesses q cell) ⊎ (accesses p cell × writes q cell)
+  pub parallel : Parallel t 1 (strand p) (strand q)
 
--- The least position that an earlier access races with. Of those accesses, the one of greatest
+-- The least position that an earlier access clashes with. Of those accesses, the one of greatest
 -- Hebrew number; at equal numbers the earliest.
-pub record IsFirstRace (t : Tree) (events : List Event) (p q : ℕ) : Type 0 where
-  pub race : IsRace t events p q
-  pub least : (p' q' : ℕ) → IsRace t events p' q' → q ≤ q'
-  pub greatest : (p' : ℕ) → IsRace t events p' q
-      → (hebrew t (strand_at events p') < hebrew t (strand_at events p))
-      ⊎ ((hebrew t (strand_at events p') ≡ hebrew t (strand_at events p)) × (p ≤ p'))
+pub record IsFirstClash (L : Type 0) (t : Tree) (strand : ℕ → ℕ) (accesses writes : ℕ → L → Type 0) (p q : ℕ) : Type 0 where
+  pub race : Clash L t strand accesses writes p q
+  pub least : (p' q' : ℕ) → Clash L t strand accesses writes p' q' → q ≤ q'
+  pub greatest : (p' : ℕ) → Clash L t strand accesses writes p' q
+      → (hebrew t (strand p') < hebrew t (strand p))
+      ⊎ ((hebrew t (strand p') ≡ hebrew t (strand p)) × (p ≤ p'))
+
+-- two accesses of one cell, at least one of them a write, by parallel strands
+abbrev pub IsRace : Tree → List Event → ℕ → ℕ → Type 0
+IsRace t events = Clash ℕ t (strand_at events) (λ p. Accesses (event_at events p)) (λ p. Writes (event_at events p))
+
+-- the first race of a run
+abbrev pub IsFirstRace : Tree → List Event → ℕ → ℕ → Type 0
+IsFirstRace t events = IsFirstClash ℕ t (strand_at events) (λ p. Accesses (event_at events p)) (λ p. Writes (event_at events p))
 
 -- no two positions race
 abbrev pub HasNoRace : Tree → List Event → Type 0

@@ -28,9 +28,13 @@ marks (act r) = Plain ∷ marks r
 marks (sync r) = Sync ∷ marks r
 marks (child k u r) = start_of k ∷ Begin ∷ marks u ++ Resume ∷ marks r
 
+-- the marks are those of a run of this shape
+abbrev pub SpellsMarks : Shape → List Mark → Type 0
+SpellsMarks s ms = ms ≡ Begin ∷ marks s
+
 -- the events are those of a run of this shape
 abbrev pub Spells : Shape → List Event → Type 0
-Spells s events = map mark_of events ≡ Begin ∷ marks s
+Spells s events = SpellsMarks s (map mark_of events)
 
 -- a list of events spells at most one shape
 abbrev pub SpellsOneShape : Type 0

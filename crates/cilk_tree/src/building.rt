@@ -1,10 +1,10 @@
-//! The tree of a trace, built from the last event to the first.
+//! The tree of a list of marks, built from the last mark to the first. A trace's marks are those of its events.
 //!
 //! In this direction a node comes after the nodes of its parts, and the right part before the left.
 //! So the pass needs only a stack of the frames whose `end` was met, with three strand counts each.
 
-ghost use Rattle.std.specs.Prelude.{◌≡◌, ◌+◌, ◌<◌, ◌^◌, IfOk};
-ghost use Rattle.cilk_tree.specs.Shape.{Shape, Spells};
+ghost use Rattle.std.specs.Prelude.{◌≡◌, ◌+◌, ◌<◌, ◌≤◌, ◌^◌, length, IfOk};
+ghost use Rattle.cilk_tree.specs.Shape.{Shape, Spells, SpellsMarks};
 ghost use Rattle.cilk_tree.specs.Tree.{tree, preorder};
 ghost use Rattle.cilk_tree.specs.Building.{opening, step, strand_closed, block_closed, frame_closed};
 
@@ -145,17 +145,29 @@ impl Building {
     }
 }
 
+/// Returns the series-parallel tree that a list of marks spells. Cost and memory: linear in the marks.
+/// For a list that spells no run, nothing is known of the tree.
+pub fn tree_of_marks(alloc: Global, marks: &[Mark]) -> Result<SpTree, AllocError>
+    requires { length marks.now ≤ 2 ^ 30 }
+    ensures { IfOk result (λ t. (s : Shape) → SpellsMarks s marks.now → t ≡ preorder (tree s)) }
+{
+    let mut building = Building::new(alloc);
+    let mut place = marks.len();
+    while place > 0 {
+        place -= 1;
+        building.step(marks[place])?;
+    }
+    Ok(SpTree::new(building.nodes.into_vec()))
+}
+
 /// Returns the series-parallel tree of a trace. Cost and memory: linear in the events. For a list
 /// of events that no run makes, nothing is known of the tree.
 pub fn tree_of(alloc: Global, trace: &Trace) -> Result<SpTree, AllocError>
     ensures { IfOk result (λ t. (s : Shape) → Spells s trace.now → t ≡ preorder (tree s)) }
 {
-    let mut building = Building::new(alloc);
-    let events = trace.as_slice();
-    let mut place = events.len();
-    while place > 0 {
-        place -= 1;
-        building.step(Mark::of(&events[place]))?;
+    let mut marks = Vec::new(alloc);
+    'each: for event in trace.as_slice() {
+        marks.push(Mark::of(event))?;
     }
-    Ok(SpTree::new(building.nodes.into_vec()))
+    tree_of_marks(alloc, marks.as_slice())
 }
