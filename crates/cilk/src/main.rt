@@ -2,7 +2,7 @@
 //! schedule.
 //!
 //! The program hands its arguments, the system's files and the standard streams to
-//! [`cilk_tool::serve_parallel`], and exits with the status of that call. It contains nothing else,
+//! [`cilk_tool::serve`], and exits with the status of that call. It contains nothing else,
 //! so every command line can be tested without a process.
 //!
 //! The runtime handle is passed on only here. `threads` needs threads and waiting, and `check` with
@@ -29,7 +29,7 @@
 use cilk_commands::disk::Disk;
 use cilk_commands::reply::{NO_MEMORY, NO_MEMORY_LINE, WRONG};
 use cilk_report::KeptFiles;
-use cilk_tool::serve_parallel;
+use cilk_tool::serve;
 use std::alloc::{AllocError, Global};
 use std::io::ErrorKind;
 use std::process::ExitCode;
@@ -67,7 +67,7 @@ fn main(rt: HostRuntime) -> ExitCode {
         Ok(words) => words,
         Err(error) => return refused(&rt, io::Error::from(error)),
     };
-    let status = serve_parallel(
+    let status = serve(
         &rt,
         rt.alloc(),
         words.as_slice(),

@@ -75,8 +75,8 @@ pub fn played(rt: &impl Abort, alloc: Global, code: &Code, workers: u32, lines: 
 /// Plays round-robin choices of n workers until the run has ended: each continues with its frame,
 /// or tries to steal the first continuation.
 pub fn rounds(alloc: Global, machine: &mut Machine<'_>, workers: u32) -> Result<(), Stop>
-    requires { machine.old.board.stopped ≡ None → Runs machine.old.code.now machine.old.input.now machine.old.board }
-    ensures { machine.new.board.stopped ≡ None → Runs machine.new.code.now machine.new.input.now machine.new.board }
+    requires { machine.old.scheduler.stopped ≡ None → Runs machine.old.code.now machine.old.input.now machine.old.scheduler }
+    ensures { machine.new.scheduler.stopped ≡ None → Runs machine.new.code.now machine.new.input.now machine.new.scheduler }
 {
     'choices: for number in 0..4_000_000u32 {
         if machine.ended() {

@@ -71,8 +71,8 @@ fn by_two(rt: &impl Abort, alloc: Global, code: &Code) -> Result<(Shown, bool), 
 
 // Whether a run of two workers stops out of memory; then three more choices must stop too.
 fn stops(rt: &impl Abort, alloc: Global, machine: &mut Machine<'_>) -> bool
-    requires { machine.old.board.stopped ≡ None → Runs machine.old.code.now machine.old.input.now machine.old.board }
-    ensures { machine.new.board.stopped ≡ None → Runs machine.new.code.now machine.new.input.now machine.new.board }
+    requires { machine.old.scheduler.stopped ≡ None → Runs machine.old.code.now machine.old.input.now machine.old.scheduler }
+    ensures { machine.new.scheduler.stopped ≡ None → Runs machine.new.code.now machine.new.input.now machine.new.scheduler }
 {
     match rounds(alloc, machine, 2) {
         Ok(()) => false,
@@ -105,8 +105,8 @@ fn code_in(rt: &impl Abort, alloc: Global, text: &str) -> Result<Code, AllocErro
 
 // Three more choices have the same stop.
 fn stays_stopped(rt: &impl Abort, alloc: Global, machine: &mut Machine<'_>)
-    requires { machine.old.board.stopped ≡ None → Runs machine.old.code.now machine.old.input.now machine.old.board }
-    ensures { machine.new.board.stopped ≡ None → Runs machine.new.code.now machine.new.input.now machine.new.board }
+    requires { machine.old.scheduler.stopped ≡ None → Runs machine.old.code.now machine.old.input.now machine.old.scheduler }
+    ensures { machine.new.scheduler.stopped ≡ None → Runs machine.new.code.now machine.new.input.now machine.new.scheduler }
 {
     'choices: for choice in [Choice::Run(1), Choice::Steal(2, 0), Choice::Run(2)] {
         assert!(rt; matches!(machine.choose(alloc, choice), Err(Stop::Memory)));

@@ -72,8 +72,8 @@ pub fn check(
     }
 }
 
-// The program that a text means, or its first fault.
-fn meaning(alloc: Global, text: &[u8]) -> Result<Program, Refusal>
+/// Returns the program that a text means, or its first fault.
+pub fn meaning(alloc: Global, text: &[u8]) -> Result<Program, Refusal>
     ensures meant { IfOk result (λ p. IsProgramText text.now (meant_by p)) }
     ensures fault { IfErr result (λ r. (input : List ℕ) (known : Option (List ℕ))
         → IsTrueRefusal text.now input known r) }
@@ -86,8 +86,8 @@ fn meaning(alloc: Global, text: &[u8]) -> Result<Program, Refusal>
     }
 }
 
-// The numbers of an input text, or its first fault. The program was judged before.
-fn numbers(alloc: Global, text: &[u8]) -> Result<Input, Refusal>
+/// Returns the numbers of an input text, or its first fault. The program was judged before.
+pub fn numbers(alloc: Global, text: &[u8]) -> Result<Input, Refusal>
     ensures numbers { IfOk result (λ ns. IsInput text.now ns) }
     ensures fault { IfErr result (λ r. (program : List ℕ) (m : Meant) (known : Option (List ℕ))
         → IsProgramText program m → IsTrueRefusal program text.now known r) }

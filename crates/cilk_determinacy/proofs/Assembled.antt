@@ -24,7 +24,7 @@ use Rattle.cilk_monoid.specs.Laws.{IsLawful}
 use Rattle.cilk_runs.specs.Monoids.{IsValue, unit_of}
 use Rattle.cilk_runs.specs.Traces.{trace, begin_due, IsFramed}
 use Rattle.cilk_runs.specs.Reducers.{monoid_of}
-use Rattle.cilk_runs.specs.FrameEnvs.{FrameEnv, first_world}
+use Rattle.cilk_runs.specs.FrameEnvs.{FrameEnv, first_env}
 use Rattle.cilk_runs.specs.FrameEnvMachine.{used, limit, costs, opening_values}
 use Rattle.cilk_determinacy.specs.Nested.{named}
 use Rattle.cilk_determinacy.specs.Theorem.{SetWords, IsSerial, IsCounted, CountsAsSerial}
@@ -47,7 +47,7 @@ opened xs n h = ap (λ o. unwrap_or o (pos 0)) (sym (slice_get_past xs n h))
 
 -- frames begin, resume and end where they must
 pub is_framed : (p : Source) (inputs : List ℤ) (r : serial.Transcript) (es : List Event) (c : Conclusion) → IsProper r → serial.IsSerialRun p inputs r es c → IsFramed begin_due (named p r)
-is_framed p inputs r es c proper run = framed p begin_due (first_world p) 1 r proper (runs_begin p inputs r es c run, runs_resume p inputs r es c run)
+is_framed p inputs r es c proper run = framed p begin_due (first_env p) 1 r proper (runs_begin p inputs r es c run, runs_resume p inputs r es c run)
 
 module _ (p : Source) (inputs : List ℤ) (well : IsTrue (is_well_named p)) (r : serial.Transcript) (es : List Event) (v : ℤ) (left : ℕ) (m : Memory) (d : Serial p inputs (root_frame p inputs) MAX_TICKS [] (begun p callees.Root (before_root p inputs MAX_EVENTS)) r es (Finished v left m)) (words : SetWords es) where
   run : serial.IsSerialRun p inputs r es (Leaves (outcome_of global_reducer p v m.store))
@@ -67,7 +67,7 @@ module _ (p : Source) (inputs : List ℤ) (well : IsTrue (is_well_named p)) (r :
           opened p.openings (cell_number p r (Own name n)) (omega (arith, low, is))
 
   pub remembers : Remembers p r t es (opening_values p inputs) (unit_of monoid_of) m.store
-  remembers = run_remembers p r inputs well d (first_world p) 0 (standing_root p inputs well r) words (opening_values p inputs) (unit_of monoid_of) opening_same
+  remembers = run_remembers p r inputs well d (first_env p) 0 (standing_root p inputs well r) words (opening_values p inputs) (unit_of monoid_of) opening_same
 
   orderly : IsOrderly p (Fresh (opening_asks p callees.Root)) r
   orderly = runs_orderly p inputs r es (Leaves (outcome_of global_reducer p v m.store)) run
@@ -75,39 +75,39 @@ module _ (p : Source) (inputs : List ℤ) (well : IsTrue (is_well_named p)) (r :
   framed_run : IsFramed begin_due t
   framed_run = is_framed p inputs r es (Leaves (outcome_of global_reducer p v m.store)) (serial_proper d) run
 
-  is_within : (total : Total) → used p inputs total + weight (costs p inputs) total (first_world p) [] t ≤ limit p inputs total
+  is_within : (total : Total) → used p inputs total + weight (costs p inputs) total (first_env p) [] t ≤ limit p inputs total
   is_within TickTotal =
-      let h = (run_holds p inputs d (first_world p) [] 1 (record { callee = refl; answers = refl; going = refl; ordinal = refl }) (omega arith)).1 in
+      let h = (run_holds p inputs d (first_env p) [] 1 (record { callee = refl; answers = refl; going = refl; ordinal = refl }) (omega arith)).1 in
       omega (arith, h)
   is_within EventTotal =
-      let h = events_weigh p inputs (first_world p) [] t in
+      let h = events_weigh p inputs (first_env p) [] t in
       let same = written_length (cell_number p r) (instance_number p r) (trace t) es remembers.written in
       let short = serial_run_is_short p inputs r es (Leaves (outcome_of global_reducer p v m.store)) run in
       omega (arith, h, same, short)
   is_within FrameTotal =
-      let h = frames_weigh p inputs (first_world p) [] 1 r (entered p callees.Root (unbegun p)) in
+      let h = frames_weigh p inputs (first_env p) [] 1 r (entered p callees.Root (unbegun p)) in
       let small = runs_small p well inputs r es (Leaves (outcome_of global_reducer p v m.store)) run in
       let few = small.frames in
       omega (arith, h, few)
   is_within CellTotal =
-      let h = cells_weigh p inputs (first_world p) [] 1 r (entered p callees.Root (unbegun p)) in
+      let h = cells_weigh p inputs (first_env p) [] 1 r (entered p callees.Root (unbegun p)) in
       let small = runs_small p well inputs r es (Leaves (outcome_of global_reducer p v m.store)) run in
       let few = small.cells in
       omega (arith, h, few)
 
   pub is_counted : IsCounted p inputs r es left m
   is_counted = record {
-    ticks = let h = (run_holds p inputs d (first_world p) [] 1 (record { callee = refl; answers = refl; going = refl; ordinal = refl }) (omega arith)).1 in omega (arith, h);
-    events = let h = events_weigh p inputs (first_world p) [] t in let same = written_length (cell_number p r) (instance_number p r) (trace t) es remembers.written in omega (arith, h, same);
-    frames = let h = frames_weigh p inputs (first_world p) [] 1 r (entered p callees.Root (unbegun p)) in h ∙ sym (ap (λ (c : Counts). c.frames) (serial_counts d));
-    cells = let h = cells_weigh p inputs (first_world p) [] 1 r (entered p callees.Root (unbegun p)) in h ∙ sym (ap (λ (c : Counts). c.cells) (serial_counts d));
+    ticks = let h = (run_holds p inputs d (first_env p) [] 1 (record { callee = refl; answers = refl; going = refl; ordinal = refl }) (omega arith)).1 in omega (arith, h);
+    events = let h = events_weigh p inputs (first_env p) [] t in let same = written_length (cell_number p r) (instance_number p r) (trace t) es remembers.written in omega (arith, h, same);
+    frames = let h = frames_weigh p inputs (first_env p) [] 1 r (entered p callees.Root (unbegun p)) in h ∙ sym (ap (λ (c : Counts). c.frames) (serial_counts d));
+    cells = let h = cells_weigh p inputs (first_env p) [] 1 r (entered p callees.Root (unbegun p)) in h ∙ sym (ap (λ (c : Counts). c.cells) (serial_counts d));
   }
 
   pub is_serial : IsSerial p inputs r
   is_serial = record {
-    behaves = (run_holds p inputs d (first_world p) [] 1 (record { callee = refl; answers = refl; going = refl; ordinal = refl }) (omega arith)).0;
+    behaves = (run_holds p inputs d (first_env p) [] 1 (record { callee = refl; answers = refl; going = refl; ordinal = refl }) (omega arith)).0;
     framed = framed_run;
-    closed = closed begin_due t framed_run (synced p (first_world p) 1 r (runs_end p inputs r es (Leaves (outcome_of global_reducer p v m.store)) run));
+    closed = closed begin_due t framed_run (synced p (first_env p) 1 r (runs_end p inputs r es (Leaves (outcome_of global_reducer p v m.store)) run));
     serial = let h = remembers in h.serial;
     views = let h = remembers in h.serial_views;
     created = λ i. run_created p r i t es remembers.written remembers.has (runs_create p well inputs r es (Leaves (outcome_of global_reducer p v m.store)) run);

@@ -16,7 +16,7 @@ use Rattle.cilk_runs.specs.Costs.{TickTotal, weight}
 use Rattle.cilk_runs.specs.Serial.{Behaves}
 use Rattle.cilk_runs.specs.Theorem.{follows}
 use Rattle.cilk_runs.proofs.Started.{started_does, started_invokes}
-use Rattle.cilk_runs.specs.FrameEnvs.{FrameEnv, child_world}
+use Rattle.cilk_runs.specs.FrameEnvs.{FrameEnv, child_env}
 use Rattle.cilk_runs.specs.FrameEnvMachine.{retired_by, named_ask, answer_of, answers_of, is_end, has_ended, but_last, asked_after, next, taken, costs}
 use Rattle.cilk_runs.proofs.KeptFrameEnv.{but_last_more, answers_more, ended_more}
 use Rattle.cilk_determinacy.specs.Nested.{named_event, named_from}
@@ -181,7 +181,7 @@ module _ (p : Source) (inputs : List ℤ) where
       )
   act_holds (serial.Stopped f) w past k a e t start left same asked h = tt
 
-  child_holds : (end : Ending) (w v : FrameEnv) (past : List (Deed FrameEnv)) (k : ℕ) (how : _) (callee : Callee) (u t : Run FrameEnv) (start left left' : ℕ) (x : ℤ) (m' : Memory) → v ≡ child_world p w k callee → Asking w past k (asks.Invoke how callee) start left → left' ≤ left
+  child_holds : (end : Ending) (w v : FrameEnv) (past : List (Deed FrameEnv)) (k : ℕ) (how : _) (callee : Callee) (u t : Run FrameEnv) (start left left' : ℕ) (x : ℤ) (m' : Memory) → v ≡ child_env p w k callee → Asking w past k (asks.Invoke how callee) start left → left' ≤ left
       → Holds (Finished x left' m') v [] u left → Holds end w (past ++ Invokes how v ∷ []) t (left' + (start - left)) → Holds end w past (child how v u t) start
   child_holds (Finished y left'' m) w v past k how callee u t start left left' x m' same asked less (behaves, adds) (goes_on, adds') =
       let last : taken p inputs w (but_last (past ++ Invokes how v ∷ [])) ≡ taken p inputs w past = ap (taken p inputs w) (but_last_more past (Invokes how v)) in
@@ -219,7 +219,7 @@ module _ (p : Source) (inputs : List ℤ) where
   run_holds (Went {fr = fr} {start = start} {history = history} {m = m} {u = u} {r = r} {end = end} how callee left v left' m' q ok inner rest) w past k at low =
       let asked = asking w fr past history k (asks.Invoke how callee) start left at q refl low in
       let less = asked.low in
-      let c = child_world p w k callee in
+      let c = child_env p w k callee in
       let one = run_holds inner c [] 1 (record { callee = refl; answers = refl; going = refl; ordinal = refl }) (omega (arith, less, low)) in
       let left_less = holds_lower v left' m' c [] (named_from p c 1 u) left one in
       child_holds end w c past k how callee (named_from p c 1 u) (named_from p w (suc k) r) start left left' v m' refl asked left_less one

@@ -11,7 +11,7 @@ use Rattle.cilk_program.proofs.Naming.{well_named_parts}
 use Rattle.cilk_program.specs.Visible.{CanInvoke}
 use Rattle.cilk_program.proofs.Visible.{none_given, root_sees, called_sees, part_sees}
 use Rattle.cilk_runs.specs.Runs.{Global, Own}
-use Rattle.cilk_runs.specs.FrameEnvs.{global_named, own_named, home_named, given_named, FrameEnv, first_world, child_world}
+use Rattle.cilk_runs.specs.FrameEnvs.{global_named, own_named, home_named, given_named, FrameEnv, first_env, child_env}
 use Rattle.cilk_determinacy.specs.Numbers.{child_runs, frame_runs, IsHere, HasCell}
 use Rattle.cilk_determinacy.proofs.Numbers.{up_more}
 use Rattle.cilk_determinacy.proofs.Sights.{HasOne, Stands, Ahead, root_here, globals_here, own_here, tied_home, tied_outer, tied_to, tied_result}
@@ -44,7 +44,7 @@ module _ (p : Source) (r : Transcript) where
 
   -- ---- the first frame
 
-  pub root_stands : (inputs : List _) → IsTrue (is_well_named p) → Stands p r (first_world p) (root_frame p inputs)
+  pub root_stands : (inputs : List _) → IsTrue (is_well_named p) → Stands p r (first_env p) (root_frame p inputs)
   root_stands inputs well =
       let parts = well_named_parts p well in
       let f = main_of p in
@@ -77,7 +77,7 @@ module _ (p : Source) (r : Transcript) where
   child_run path j how callee u rest n a = let e : j + 0 ≡ j = omega arith in subst (λ j. frame_runs r (path ++ j ∷ []) ≡ Some callee) e (a.runs 0 [])
 
   pub child_stands : IsTrue (is_well_named p) → (w : FrameEnv) (fr : Frame) (h : Stands p r w fr) (j : ℕ) (how : _) (callee : Callee) (u rest : Transcript) (m : Memory) → (let here = h.here in Ahead p r here.path j (child how callee u rest) (counts_of m))
-      → CalleeIsThere p (body_of p w.callee) callee → CanInvoke w.callee callee → Stands p r (child_world p w (suc j) callee) (next_frame p fr.scope m callee)
+      → CalleeIsThere p (body_of p w.callee) callee → CanInvoke w.callee callee → Stands p r (child_env p w (suc j) callee) (next_frame p fr.scope m callee)
   child_stands well w fr h j how callees.Root u rest m a there can = absurd there
   child_stands well w fr h j how (callees.Function c) u rest m a there can =
       let here = child_here w h.here j how (callees.Function c) u rest (counts_of m) a in

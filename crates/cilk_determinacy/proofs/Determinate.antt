@@ -22,7 +22,7 @@ use Rattle.cilk_runs.proofs.Kept.{opening_ok}
 use Rattle.cilk_runs.proofs.Theorem.{race_free_kept, race_free_agrees, race_free_determinate, follows_determined}
 use Rattle.cilk_runs.proofs.Spells.{events_spell}
 use Rattle.cilk_runs.specs.Reducers.{View, monoid_of}
-use Rattle.cilk_runs.specs.FrameEnvs.{FrameEnv, first_world}
+use Rattle.cilk_runs.specs.FrameEnvs.{FrameEnv, first_env}
 use Rattle.cilk_runs.specs.FrameEnvMachine.{next, costs, opening_values}
 use Rattle.cilk_determinacy.specs.Nested.{named}
 use Rattle.cilk_determinacy.specs.Theorem.{IsSerial, IsAsSerial, RunsFree, TicksAddUp, SerialRunsByNames, SerialRunsAreNumbered, OpensAsCut, StepsKeepCuts, CutsAreAsSerial, IsDeterminateProgram}
@@ -90,7 +90,7 @@ module _ (p : Source) (inputs : List ℤ) (r : serial.Transcript) (es : List Eve
       let n = serial_numbered p inputs r es outcome free.named free.runs in
       record { cell = cell_number p r; instance = instance_number p r; events = es; written = n.written; free = free.free }
 
-  as_serial : (s : State FrameEnv View) → Agrees FrameEnv View monoid_of (Next p inputs) (costs p inputs) (first_world p) (named p r) (opening_values p inputs) s → IsAsSerial p inputs r outcome s
+  as_serial : (s : State FrameEnv View) → Agrees FrameEnv View monoid_of (Next p inputs) (costs p inputs) (first_env p) (named p r) (opening_values p inputs) s → IsAsSerial p inputs r outcome s
   as_serial s agrees = record {
     agrees = agrees;
     not_stopped = let c = agrees.consistent in c.no_stop;
@@ -105,29 +105,29 @@ module _ (p : Source) (inputs : List ℤ) (r : serial.Transcript) (es : List Eve
       root_ended full =
           let h = ran p inputs r es outcome free.runs in
           let c = agrees.consistent in
-          subst HasEnd (sym (full_deeds (named p r) 1 (deeds_at (s.frames [])) (below s.frames) full c.cut)) (run_ends h.derivation tt (first_world p) 1)
+          subst HasEnd (sym (full_deeds (named p r) 1 (deeds_at (s.frames [])) (below s.frames) full c.cut)) (run_ends h.derivation tt (first_env p) 1)
 
       outcome_is : HasEnd (deeds_at (s.frames [])) → outcome_in p s ≡ outcome
       outcome_is ended =
           let h = ran p inputs r es outcome free.runs in
           let k = remembers p inputs free.named r es h.value h.left h.memory h.derivation free.sets in
           same_outcome p r s h.value (λ c. value_after (named p r) c (opening_values p inputs c)) (λ i. view_after (monoid_of i) i (named p r) (unit_of monoid_of i)) h.memory.store k.same
-          (ap result_in (agrees.deeds ended) ∙ run_result h.derivation (first_world p) 1) (agrees.outcome ended) (agrees.reducers ended)
+          (ap result_in (agrees.deeds ended) ∙ run_result h.derivation (first_env p) 1) (agrees.outcome ended) (agrees.reducers ended)
           ∙ sym h.leaves
 
 pub opens_as_cut : (p : Source) (inputs : List ℤ) → OpensAsCut p inputs
-opens_as_cut p inputs r s first = opening_ok FrameEnv View monoid_of (Next p inputs) (costs p inputs) (first_world p) (named p r) (opening_values p inputs) s first
+opens_as_cut p inputs r s first = opening_ok FrameEnv View monoid_of (Next p inputs) (costs p inputs) (first_env p) (named p r) (opening_values p inputs) s first
 
 pub steps_keep_cuts : (p : Source) (inputs : List ℤ) → StepsKeepCuts p inputs
 steps_keep_cuts p inputs r es outcome free s s' n cut step =
-    race_free_kept FrameEnv View monoid_of (Next p inputs) (costs p inputs) views_lawful (follows_determined (next p inputs)) (first_world p) (named p r) (opening_values p inputs) (known p inputs r es outcome free) (no_races p inputs r es outcome free) s s' n cut step
+    race_free_kept FrameEnv View monoid_of (Next p inputs) (costs p inputs) views_lawful (follows_determined (next p inputs)) (first_env p) (named p r) (opening_values p inputs) (known p inputs r es outcome free) (no_races p inputs r es outcome free) s s' n cut step
 
 pub cuts_as_serial : (p : Source) (inputs : List ℤ) → CutsAreAsSerial p inputs
 cuts_as_serial p inputs r es outcome free s cut =
     as_serial p inputs r es outcome free s
-    (race_free_agrees FrameEnv View monoid_of (Next p inputs) (costs p inputs) views_lawful (follows_determined (next p inputs)) (first_world p) (named p r) (opening_values p inputs) (known p inputs r es outcome free) (no_races p inputs r es outcome free) s cut)
+    (race_free_agrees FrameEnv View monoid_of (Next p inputs) (costs p inputs) views_lawful (follows_determined (next p inputs)) (first_env p) (named p r) (opening_values p inputs) (known p inputs r es outcome free) (no_races p inputs r es outcome free) s cut)
 
 pub is_determinate : (p : Source) (inputs : List ℤ) → IsDeterminateProgram p inputs
 is_determinate p inputs r es outcome free ns s' (s, first, steps) =
-    let agrees = race_free_determinate FrameEnv View monoid_of (Next p inputs) (costs p inputs) views_lawful (follows_determined (next p inputs)) (first_world p) (named p r) (opening_values p inputs) (known p inputs r es outcome free) (no_races p inputs r es outcome free) ns s s' first steps in
+    let agrees = race_free_determinate FrameEnv View monoid_of (Next p inputs) (costs p inputs) views_lawful (follows_determined (next p inputs)) (first_env p) (named p r) (opening_values p inputs) (known p inputs r es outcome free) (no_races p inputs r es outcome free) ns s s' first steps in
     cuts_as_serial p inputs r es outcome free s' agrees.consistent

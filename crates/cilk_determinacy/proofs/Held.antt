@@ -36,7 +36,7 @@ use Rattle.cilk_runs.specs.Held.{HoldsViews, AskIsSound}
 use Rattle.cilk_runs.specs.FrameEnvMachine.{named_ask, answer_of, answers_of, is_end, has_ended, asked_after, next, costs, opening_values}
 use Rattle.cilk_runs.specs.Reducers.{View, value_of, kind_of, monoid_of}
 use Rattle.cilk_runs.specs.Steps.{Next, IsFirst, OneStep, Reaches}
-use Rattle.cilk_runs.specs.FrameEnvs.{FrameEnv, first_world, child_world, cell_seen, reducer_seen, result_cell}
+use Rattle.cilk_runs.specs.FrameEnvs.{FrameEnv, first_env, child_env, cell_seen, reducer_seen, result_cell}
 use Rattle.cilk_runs.proofs.Held.{HasView, views_kept}
 use Rattle.cilk_runs.proofs.KeptFrameEnv.{answers_more, ended_more}
 use Rattle.cilk_runs.proofs.FrameEnvViews.{are_multiplied}
@@ -273,7 +273,7 @@ module _ (p : Source) (w : FrameEnv) (j : ℕ) (memory : Cell → ℤ) (number :
 
   -- the child that an ask starts
   abbrev ChildIs : language.Ask → Invocation → FrameEnv → Type 0
-  ChildIs (asks.Invoke how callee) i v = v ≡ child_world p w j callee
+  ChildIs (asks.Invoke how callee) i v = v ≡ child_env p w j callee
   ChildIs k i v = ⊥
 
   child_is : (k : language.Ask) (i : Invocation) (v : FrameEnv) → deed_of memory number (named_ask p w j k) ≡ Invokes i v → ChildIs k i v
@@ -285,7 +285,7 @@ module _ (p : Source) (w : FrameEnv) (j : ℕ) (memory : Cell → ℤ) (number :
   child_is (asks.Set r y) i v q = absurd (not_child _ i v q)
   child_is (asks.Value r) i v q = absurd (not_child _ i v q)
   child_is (asks.Print y) i v q = absurd (not_child _ i v q)
-  child_is (asks.Invoke how callee) i v q = sym (same_child how i (child_world p w j callee) v q)
+  child_is (asks.Invoke how callee) i v q = sym (same_child how i (child_env p w j callee) v q)
   child_is asks.Resume i v q = absurd (not_child _ i v q)
   child_is asks.Sync i v q = absurd (not_child _ i v q)
   child_is (asks.Result y) i v q = absurd (not_child _ i v q)
@@ -368,7 +368,7 @@ module _ (p : Source) (w : FrameEnv) (j : ℕ) (memory : Cell → ℤ) (number :
   more_started (asks.Set r y) past h = absurd h
   more_started (asks.Value r) past h = absurd h
   more_started (asks.Print y) past h = absurd h
-  more_started (asks.Invoke how callee) past h = let e = started_invokes past how (child_world p w j callee) in omega (arith, e)
+  more_started (asks.Invoke how callee) past h = let e = started_invokes past how (child_env p w j callee) in omega (arith, e)
   more_started asks.Resume past h = absurd h
   more_started asks.Sync past h = absurd h
   more_started (asks.Result y) past h = absurd h
@@ -561,7 +561,7 @@ module _ (p : Source) (inputs : List ℤ) where
     child_fits r w j (asks.Set c y) memory number cells words i v h = absurd h
     child_fits r w j (asks.Value c) memory number cells words i v h = absurd h
     child_fits r w j (asks.Print y) memory number cells words i v h = absurd h
-    child_fits r w j (asks.Invoke how callee) memory number cells words i v h = subst (λ v. FrameFits r (begun v)) (sym h) (begun_fits r (child_world p w j callee) words)
+    child_fits r w j (asks.Invoke how callee) memory number cells words i v h = subst (λ v. FrameFits r (begun v)) (sym h) (begun_fits r (child_env p w j callee) words)
     child_fits r w j asks.Resume memory number cells words i v h = absurd h
     child_fits r w j asks.Sync memory number cells words i v h = absurd h
     child_fits r w j (asks.Result y) memory number cells words i v h = absurd h
@@ -647,9 +647,9 @@ module _ (p : Source) (inputs : List ℤ) where
 
         opened_frame : (n : Name) (f : Frame FrameEnv) → s.frames n ≡ Some f → FrameFits r f
         opened_frame [] f q =
-            let found : Some f ≡ Some (begun (first_world p)) = sym q ∙ o.0 [] in
-            let same : f ≡ begun (first_world p) = cc in
-            subst (FrameFits r) (sym same) (begun_fits r (first_world p) tt)
+            let found : Some f ≡ Some (begun (first_env p)) = sym q ∙ o.0 [] in
+            let same : f ≡ begun (first_env p) = cc in
+            subst (FrameFits r) (sym same) (begun_fits r (first_env p) tt)
         opened_frame (k ∷ n) f q = let none : None ≡ Some f = sym (o.0 (k ∷ n)) ∙ q in absurd (cc)
 
     -- the bounds of a state
@@ -724,7 +724,7 @@ module _ (p : Source) (inputs : List ℤ) where
         }
       where
         none : (n : Name) (f : Frame FrameEnv) → s.frames n ≡ Some f → f.deeds ≡ []
-        none [] f q = let found : Some f ≡ Some (begun (first_world p)) = sym q ∙ o.0 [] in let same : f ≡ begun (first_world p) = cc in ap (λ (g : Frame FrameEnv). g.deeds) same
+        none [] f q = let found : Some f ≡ Some (begun (first_env p)) = sym q ∙ o.0 [] in let same : f ≡ begun (first_env p) = cc in ap (λ (g : Frame FrameEnv). g.deeds) same
         none (k ∷ n) f q = let no : None ≡ Some f = sym (o.0 (k ∷ n)) ∙ q in absurd (cc)
 
         no_root : (n : Name) (k : ℕ) → same_name [] (n ++ k ∷ []) ≡ false

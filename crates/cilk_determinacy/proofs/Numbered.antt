@@ -26,7 +26,7 @@ use Rattle.cilk_runs.specs.Runs.{Cell, Global, Event, Reads, Writes, Syncs, Ends
 use Rattle.cilk_runs.specs.Traces.{trace, IsWrittenEvent, IsWritten, AreWritten}
 use Rattle.cilk_determinacy.specs.Nested.{named_event, named_from}
 use Rattle.cilk_determinacy.specs.Numbers.{frame_number, cell_number, instance_number, start_event, numbered_event, numbered_events, IsHere, HasCell, EventIsHere, AreHere, EventsHaveNumbers}
-use Rattle.cilk_runs.specs.FrameEnvs.{FrameEnv, first_world, child_world, global_named, cell_seen, result_cell}
+use Rattle.cilk_runs.specs.FrameEnvs.{FrameEnv, first_env, child_env, global_named, cell_seen, result_cell}
 use Rattle.cilk_determinacy.proofs.Numbers.{frame_is}
 use Rattle.cilk_determinacy.proofs.Remembered.{written_both}
 use Rattle.cilk_determinacy.proofs.Sights.{IsNumbered, tied_cell, tied_reducer, Stands}
@@ -110,7 +110,7 @@ module _ (p : Source) (whole : serial.Transcript) where
         (run_numbered rest w j (standing_act p inputs well whole w fr j a (answer_to fr m a) r (counts_of m) standing))
     run_numbered (Ended v left q ok) w j standing = record { number = refl; here = (tt, tt) }
     run_numbered (Went {fr = fr} {start = start} {history = history} {m = m} {u = u} {r = r} {es = es} {es' = es'} how callee left v left' m' q ok inner rest) w j standing =
-        let c = child_world p w (suc j) callee in
+        let c = child_env p w (suc j) callee in
         let after : counts_of m' ≡ counts_after p u (entered p callee (counts_of m)) = serial_counts inner in
         let below = standing_child p inputs well whole w fr j how callee u r m history start left standing q in
         child_events w.name how (suc m.frames) c (named_from p c 1 u) (named_from p w (suc (suc j)) r) es es' below.stands.here
@@ -118,7 +118,7 @@ module _ (p : Source) (whole : serial.Transcript) where
         (run_numbered inner c 0 below)
         (run_numbered rest w (suc j) (standing_past p inputs well whole w fr j how callee u r (counts_of m) (counts_of m') after standing))
     run_numbered (Broke {fr = fr} {start = start} {history = history} {m = m} {u = u} {es = es} how callee left f q ok inner) w j standing =
-        let c = child_world p w (suc j) callee in
+        let c = child_env p w (suc j) callee in
         let below = standing_child p inputs well whole w fr j how callee u serial.stop m history start left standing q in
         subst (λ es. AreEvents w.name (child how c (named_from p c 1 u) stop) (invocation how (suc m.frames) ∷ es)) (append-nil es)
         (child_events w.name how (suc m.frames) c (named_from p c 1 u) stop es [] below.stands.here
@@ -128,7 +128,7 @@ module _ (p : Source) (whole : serial.Transcript) where
 
 pub events_numbered : (p : Source) (inputs : List ℤ) → EventsHaveNumbers p inputs
 events_numbered p inputs r es c well (end, d, e) =
-    let h = run_numbered p r inputs well d (first_world p) 0 (standing_root p inputs well r) in
+    let h = run_numbered p r inputs well d (first_env p) 0 (standing_root p inputs well r) in
     record { events = h.number; here = h.here }
 
 -- ---- as a relation

@@ -10,7 +10,7 @@ use Rattle.cilk_runs.proofs.Theorem.{follows_determined}
 use Rattle.cilk_runs.specs.FrameEnvMachine.{next, costs, opening_values}
 use Rattle.cilk_runs.specs.Reducers.{monoid_of}
 use Rattle.cilk_runs.specs.Steps.{Next}
-use Rattle.cilk_runs.specs.FrameEnvs.{first_world}
+use Rattle.cilk_runs.specs.FrameEnvs.{first_env}
 use Rattle.cilk_determinacy.specs.Nested.{named}
 use Rattle.cilk_determinacy.specs.Pieces.{PiecesCover}
 use Rattle.cilk_determinacy.proofs.Assembled.{views_lawful}
@@ -18,6 +18,6 @@ use Rattle.cilk_determinacy.proofs.Determinate.{known, no_races}
 
 pub pieces_cover : (p : Source) (inputs : List ℤ) → PiecesCover p inputs
 pieces_cover p inputs r es outcome free s cut = (
-  are_stretches monoid_of (costs p inputs) (first_world p) (named p r) (opening_values p inputs) s Output cut,
-  are_views monoid_of views_lawful (Next p inputs) (costs p inputs) (first_world p) (named p r) (opening_values p inputs) (follows_determined (next p inputs)) (known p inputs r es outcome free) (no_races p inputs r es outcome free) s cut,
+  are_stretches monoid_of (costs p inputs) (first_env p) (named p r) (opening_values p inputs) s Output cut,
+  are_views monoid_of views_lawful (Next p inputs) (costs p inputs) (first_env p) (named p r) (opening_values p inputs) (follows_determined (next p inputs)) (known p inputs r es outcome free) (no_races p inputs r es outcome free) s cut,
 )

@@ -39,7 +39,7 @@ use Rattle.cilk_runs.specs.FrameEnvMachine.{retired_by, retired_from}
 use Rattle.cilk_determinacy.specs.Nested.{named_event, named_from, named}
 use Rattle.cilk_determinacy.specs.ReducerEvents.{OfKind, only, view_over, of_instance, retired_all, of_event, reducer_events, finals_over, ValuesAreViewed, FinalsAreViewed}
 use Rattle.cilk_runs.specs.Reducers.{kind_of}
-use Rattle.cilk_runs.specs.FrameEnvs.{Reducers, FrameEnv, first_world, child_world, global_named, own_named}
+use Rattle.cilk_runs.specs.FrameEnvs.{Reducers, FrameEnv, first_env, child_env, global_named, own_named}
 use Rattle.cilk_determinacy.specs.Numbers.{instance_number, HasInstance}
 use Rattle.cilk_determinacy.proofs.Determinate.{ran}
 use Rattle.cilk_determinacy.proofs.Sights.{IsNumbered, tied_reducer, own_tied, Stands}
@@ -252,13 +252,13 @@ module _ (p : Source) (whole : serial.Transcript) where
       holds = subst (λ l. Holds (stored p fr m (asks.End v)) (ts ++ l)) (sym (append-nil (retired_all p whole (retired_by p w)))) (end_holds w fr standing.stands m ts holds v);
     }
     run_viewed (Went {fr = fr} {start = start} {history = history} {m = m} {u = u} {r = r} {es = es} {es' = es'} {end = end} how callee left v left' m' q ok inner rest) w j standing ts holds =
-        let c = child_world p w (suc j) callee in
+        let c = child_env p w (suc j) callee in
         let after : counts_of m' ≡ counts_after p u (entered p callee (counts_of m)) = serial_counts inner in
         let one = run_viewed inner c 0 (standing_child p inputs well whole w fr j how callee u r m history start left standing q) ts (record { views = holds.views }) in
         child_viewed end how (suc m.frames) c (named_from p c 1 u) (named_from p w (suc (suc j)) r) es es' ts one.values
         (run_viewed rest w (suc j) (standing_past p inputs well whole w fr j how callee u r (counts_of m) (counts_of m') after standing) (ts ++ reducer_events p whole (trace (named_from p c 1 u))) one.holds)
     run_viewed (Broke {fr = fr} {start = start} {history = history} {m = m} {u = u} {es = es} how callee left f q ok inner) w j standing ts holds =
-        let c = child_world p w (suc j) callee in
+        let c = child_env p w (suc j) callee in
         let one = run_viewed inner c 0 (standing_child p inputs well whole w fr j how callee u serial.stop m history start left standing q) ts (record { views = holds.views }) in
         subst (λ es. Viewed (serial.Stopped f) (child how c (named_from p c 1 u) stop) (invocation how (suc m.frames) ∷ es) ts) (append-nil es)
         (child_viewed (serial.Stopped f) how (suc m.frames) c (named_from p c 1 u) stop es [] ts one.values (record { values = tt; holds = tt }))
@@ -266,7 +266,7 @@ module _ (p : Source) (whole : serial.Transcript) where
 
     -- a whole run
     whole_viewed : {es : List numbers.Event} {end : Ending} → Serial p inputs (serial.root_frame p inputs) MAX_TICKS [] (serial.begun p callees.Root (serial.before_root p inputs MAX_EVENTS)) whole es end → Viewed end (named p whole) es []
-    whole_viewed d = run_viewed d (first_world p) 0 (standing_root p inputs well whole) [] (record { views = λ k j. refl })
+    whole_viewed d = run_viewed d (first_env p) 0 (standing_root p inputs well whole) [] (record { views = λ k j. refl })
 
 -- ---- the laws
 

@@ -29,7 +29,7 @@ use Rattle.cilk_runs.specs.Serial.{value_after, IsReadRight, IsSerial}
 use Rattle.cilk_runs.specs.Traces.{trace, IsWrittenEvent, IsWritten, AreWritten}
 use Rattle.cilk_runs.specs.Views.{view_after, IsViewRight, IsSerialViews}
 use Rattle.cilk_runs.specs.Reducers.{View, value_of, kind_of, monoid_of}
-use Rattle.cilk_runs.specs.FrameEnvs.{Reducers, own_named, global_named, FrameEnv, child_world, cell_seen, result_cell}
+use Rattle.cilk_runs.specs.FrameEnvs.{Reducers, own_named, global_named, FrameEnv, child_env, cell_seen, result_cell}
 use Rattle.cilk_runs.specs.FrameEnvMachine.{retired_by}
 use Rattle.cilk_determinacy.specs.Nested.{named_event, named_from}
 use Rattle.cilk_determinacy.specs.Theorem.{SetsWord, SetWords}
@@ -254,7 +254,7 @@ module _ (p : Source) (whole : serial.Transcript) where
         let f = end_follows w fr standing.stands m memory views same v in
         record { serial = (f.right, tt); serial_views = (f.view_right, tt); same = f.same; written = (f.written, tt); has = (tt, tt) }
     run_remembers (Went {fr = fr} {start = start} {history = history} {m = m} {u = u} {r = r} {es = es} {es' = es'} {end = end} how callee left v left' m' q ok inner rest) w j standing words memory views same =
-        let c = child_world p w (suc j) callee in
+        let c = child_env p w (suc j) callee in
         let after : counts_of m' ≡ counts_after p u (entered p callee (counts_of m)) = serial_counts inner in
         let one = run_remembers inner c 0 (standing_child p inputs well whole w fr j how callee u r m history start left standing q) (set_first es es' words.1) memory views same in
         child_remembers end how (suc m.frames) c (named_from p c 1 u) (named_from p w (suc (suc j)) r) es es' memory views v left' m' one

@@ -17,7 +17,7 @@ use Rattle.cilk_program.proofs.Closings.{IsOpening, IsSound, AreOpening, opening
 use Rattle.cilk_runs.specs.Runs.{Instance, has_instance, same_instance}
 use Rattle.cilk_runs.specs.Views.{IsCreate, IsRetire, IsRetiredAtHome}
 use Rattle.cilk_runs.proofs.Basics.{same_instance-eq}
-use Rattle.cilk_runs.specs.FrameEnvs.{Reducers, own_named, FrameEnv, world_of, first_world, child_world, reducer_seen}
+use Rattle.cilk_runs.specs.FrameEnvs.{Reducers, own_named, FrameEnv, env_of, first_env, child_env, reducer_seen}
 use Rattle.cilk_runs.specs.FrameEnvMachine.{retired_from, retired_by}
 use Rattle.cilk_determinacy.specs.Nested.{named_event, named_from, named}
 
@@ -164,16 +164,16 @@ module _ (p : Source) (i : Instance) where
   child_step G how callee Closing sound h = elim h [ ]
 
   -- as a frame begins all is due
-  world_covers : (name : _) (sight : _) (callee : Callee) → let w : FrameEnv = world_of p name sight callee in Covers w ⊥ (opening_asks p callee)
-  world_covers name sight callees.Root h =
+  env_covers : (name : _) (sight : _) (callee : Callee) → let w : FrameEnv = env_of p name sight callee in Covers w ⊥ (opening_asks p callee)
+  env_covers name sight callees.Root h =
       let f = main_of p in
-      let w : FrameEnv = world_of p name sight callees.Root in
+      let w : FrameEnv = env_of p name sight callees.Root in
       inr (due_both w i (creations reducers.Global 0 p.reducers) (creations (reducers.Own 0) 0 f.reducers) (due_retired p w i (own_named p callees.Root name) (reducers.Own 0) (λ n k. refl) 0 f.reducers h))
-  world_covers name sight (callees.Function c) h =
+  env_covers name sight (callees.Function c) h =
       let f = function_at p c.function in
-      let w : FrameEnv = world_of p name sight (callees.Function c) in
+      let w : FrameEnv = env_of p name sight (callees.Function c) in
       inr (due_both w i (writings 0 c.words) (creations (reducers.Own 0) 0 f.reducers) (due_retired p w i (own_named p (callees.Function c) name) (reducers.Own 0) (λ n k. refl) 0 f.reducers h))
-  world_covers name sight (callees.Loop l) h = absurd (true≢false (sym h))
+  env_covers name sight (callees.Loop l) h = absurd (true≢false (sym h))
 
   pub retired_at_home : (w : FrameEnv) (n : ℕ) (s : Stage) (r : serial.Transcript) → IsSound s → IsOrderly p s r → (mine : Type 0) → Covers w mine (due_of s) → IsRetiredAtHome i (named_from p w n r) mine
   retired_at_home w n s serial.stop sound orderly mine c = tt
@@ -190,9 +190,9 @@ module _ (p : Source) (i : Instance) where
       by (inr (nothing, end)) rest = at_end w n k v r mine (mine ⊎ IsCreate i (named_event p w k v)) (subst (Covers w mine) nothing c) orderly.1 end.0 end.1
   retired_at_home w n s (serial.child how callee u r) sound orderly mine c =
       let next = child_step (λ s'. IsOrderly p s' r) how callee s sound (view s (asks.Invoke how callee) (λ s'. IsOrderly p s' r) orderly.1) in (
-        retired_at_home (child_world p w n callee) 1 (Fresh (opening_asks p callee)) u (opening_asks_open p callee) orderly.0 ⊥ (world_covers (w.name ++ n ∷ []) w.sight callee),
+        retired_at_home (child_env p w n callee) 1 (Fresh (opening_asks p callee)) u (opening_asks_open p callee) orderly.0 ⊥ (env_covers (w.name ++ n ∷ []) w.sight callee),
         retired_at_home w (suc n) (Resuming next.1.0) r tt next.1.1 mine (subst (Covers w mine) next.0 c),
       )
 
   pub root_retires : (r : serial.Transcript) → IsOrderly p (Fresh (opening_asks p callees.Root)) r → IsRetiredAtHome i (named p r) ⊥
-  root_retires r orderly = retired_at_home (first_world p) 1 (Fresh (opening_asks p callees.Root)) r (opening_asks_open p callees.Root) orderly ⊥ (world_covers [] [] callees.Root)
+  root_retires r orderly = retired_at_home (first_env p) 1 (Fresh (opening_asks p callees.Root)) r (opening_asks_open p callees.Root) orderly ⊥ (env_covers [] [] callees.Root)

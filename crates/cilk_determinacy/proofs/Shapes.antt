@@ -13,7 +13,7 @@ use Rattle.cilk_types.specs.declared.invocation.Invocation.TheVariants.{Call, Sp
 use Rattle.cilk_runs.specs.Runs.{Reads, Writes, Syncs, Ends, Passes, Begins, Resumes, Creates, Updates, Sets, Values, Prints, Deed, Does, Run, stop, act, child}
 use Rattle.cilk_runs.specs.Serial.{SyncAhead, GoesOn, ComesAfter, IsClosed}
 use Rattle.cilk_runs.specs.Traces.{Due, begin_due, resume_due, neither_due, IsFramed}
-use Rattle.cilk_runs.specs.FrameEnvs.{FrameEnv, child_world}
+use Rattle.cilk_runs.specs.FrameEnvs.{FrameEnv, child_env}
 use Rattle.cilk_determinacy.specs.Nested.{named_from}
 
 -- ---- from the language's run
@@ -132,7 +132,7 @@ module _ (p : Source) where
   framed neither_due w n (serial.act (asks.Result y) v r) h g = framed neither_due w n r h (g.0.1, g.1.1)
   framed neither_due w n (serial.act (asks.End y) v r) h g = ap (named_from p w n) h
   framed neither_due w n (serial.act (asks.Fault f) v r) h g = absurd h
-  framed neither_due w n (serial.child how callee u r) h g = (framed begin_due (child_world p w n callee) 1 u h.0 (g.0.0, g.1.0), framed resume_due w (suc n) r h.1 (g.0.1, g.1.1))
+  framed neither_due w n (serial.child how callee u r) h g = (framed begin_due (child_env p w n callee) 1 u h.0 (g.0.0, g.1.0), framed resume_due w (suc n) r h.1 (g.0.1, g.1.1))
 
 -- each spawned child is waited for
 abbrev pub IsSynced : Run FrameEnv → Type 0
@@ -175,7 +175,7 @@ module _ (p : Source) where
   synced w n (serial.act (asks.Result y) v r) h = synced w n r h
   synced w n (serial.act (asks.End y) v r) h = subst (λ r. IsSynced (named_from p w n r)) (sym h) tt
   synced w n (serial.act (asks.Fault f) v r) h = synced w n r h
-  synced w n (serial.child how callee u r) h = (sync_ahead w (suc n) r h.1, synced (child_world p w n callee) 1 u h.0, synced w (suc n) r h.2)
+  synced w n (serial.child how callee u r) h = (sync_ahead w (suc n) r h.1, synced (child_env p w n callee) 1 u h.0, synced w (suc n) r h.2)
 
 -- ---- of framed runs
 

@@ -13,7 +13,7 @@ use Rattle.cilk_program.specs.SerialRun.{Transcript, act, child, Memory, Frame, 
 use Rattle.cilk_program.specs.Numbering.{Counts, counts_of, counts_after, unbegun, entered}
 use Rattle.cilk_program.proofs.Asked.{asks_there}
 use Rattle.cilk_program.proofs.Visible.{can_invoke}
-use Rattle.cilk_runs.specs.FrameEnvs.{FrameEnv, first_world, child_world}
+use Rattle.cilk_runs.specs.FrameEnvs.{FrameEnv, first_env, child_env}
 use Rattle.cilk_determinacy.proofs.Sights.{Stands, Ahead}
 use Rattle.cilk_determinacy.proofs.Children.{root_ahead, child_ahead, past_ahead, root_stands, root_path, child_stands, child_path}
 
@@ -32,7 +32,7 @@ module _ (p : Source) (inputs : List ℤ) (well : IsTrue (is_well_named p)) (r :
 
   pub standing_child : (w : FrameEnv) (fr : Frame) (j : ℕ) (how : Invocation) (callee : Callee) (u rest : Transcript) (m : Memory) (history : List ℤ) (start left : ℕ) → Standing w fr j (child how callee u rest) (counts_of m)
       → frame_asks p inputs fr.callee history start ≡ asks_for (asks.Invoke how callee) left
-      → Standing (child_world p w (suc j) callee) (next_frame p fr.scope m callee) 0 u (entered p callee (counts_of m))
+      → Standing (child_env p w (suc j) callee) (next_frame p fr.scope m callee) 0 u (entered p callee (counts_of m))
   standing_child w fr j how callee u rest m history start left h q =
       let there = asked_there w fr history start left (asks.Invoke how callee) h.stands q in
       let stands = h.stands in
@@ -49,5 +49,5 @@ module _ (p : Source) (inputs : List ℤ) (well : IsTrue (is_well_named p)) (r :
       let here = stands.here in
       record { stands = h.stands; ahead = subst (λ n. Ahead p r here.path (suc j) rest n) (sym e) (past_ahead p r here.path j how callee u rest n h.ahead) }
 
-  pub standing_root : Standing (first_world p) (root_frame p inputs) 0 r (entered p callees.Root (unbegun p))
+  pub standing_root : Standing (first_env p) (root_frame p inputs) 0 r (entered p callees.Root (unbegun p))
   standing_root = record { stands = root_stands p r inputs well; ahead = subst (λ path. Ahead p r path 0 r (entered p callees.Root (unbegun p))) (sym (root_path p r inputs well)) (root_ahead p r) }

@@ -19,7 +19,7 @@ use Rattle.cilk_runs.specs.Traces.{trace}
 use Rattle.cilk_tree.specs.Marks.{mark_of, begun_by}
 use Rattle.cilk_tree.specs.Races.{strand_at}
 use Rattle.cilk_runs.specs.Traces.{Due, begin_due, resume_due, neither_due, IsFramed, IsWrittenEvent, IsWritten, AreWritten}
-use Rattle.cilk_runs.specs.FrameEnvs.{FrameEnv, first_world, child_world}
+use Rattle.cilk_runs.specs.FrameEnvs.{FrameEnv, first_env, child_env}
 use Rattle.cilk_determinacy.specs.Nested.{named, named_from, named_event}
 use Rattle.cilk_determinacy.specs.Numbers.{cell_number, instance_number}
 use Rattle.cilk_runs.specs.Machine.{begins_strand}
@@ -278,7 +278,7 @@ module _ (p : Source) where
       let b = begins_strand (named_event p w a v) in
       act_within b w.name k j (strands_from w.name (cond b (suc k) k) (named_from p w j r)) (all_within w j (cond b (suc k) k) r)
   all_within w j k (serial.child how callee u r) =
-      let c = child_world p w j callee in
+      let c = child_env p w j callee in
       let T = strands_from w.name k (named_from p w (suc j) r) in
       both_within w.name k j (strands_from c.name 0 (named_from p c 1 u)) T
       (child_within w.name k j (strands_from c.name 0 (named_from p c 1 u)) (all_within c 1 0 u)) (all_weaker w.name k k j (suc j) T (omega arith) (omega arith) (all_within w (suc j) k r))
@@ -336,7 +336,7 @@ module _ (p : Source) where
       let b = begins_strand (named_event p w a v) in
       act_apart b w.name k j (strands_from w.name (cond b (suc k) k) (named_from p w j r)) (all_within p w j (cond b (suc k) k) r) (all_apart w j (cond b (suc k) k) r)
   all_apart w j k (serial.child how callee u r) =
-      let c = child_world p w j callee in
+      let c = child_env p w j callee in
       let U = strands_from c.name 0 (named_from p c 1 u) in
       let T = strands_from w.name k (named_from p w (suc j) r) in
       both_apart U T (all_apart c 1 0 u) (all_apart w (suc j) k r)
@@ -367,7 +367,7 @@ strands_have_names p inputs r es outcome well runs =
     let t = named p r in
     record {
       many = count_from_point cell instance [] 0 t es n.written;
-      apart = apart_get (strand_names p r) (all_apart p (first_world p) 1 0 r);
+      apart = apart_get (strand_names p r) (all_apart p (first_env p) 1 0 r);
       at = λ q i.
           let k = q - 1 in
           let e : suc k ≡ q = omega (arith, i) in

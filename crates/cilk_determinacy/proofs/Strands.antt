@@ -32,7 +32,7 @@ use Rattle.cilk_runs.specs.Traces.{Due, begin_due, resume_due, neither_due, IsFr
 use Rattle.cilk_runs.proofs.Spells.{ahead}
 use Rattle.cilk_determinacy.specs.Nested.{named_from, named}
 use Rattle.cilk_determinacy.specs.Strands.{SpellOneShape}
-use Rattle.cilk_runs.specs.FrameEnvs.{FrameEnv, first_world, child_world}
+use Rattle.cilk_runs.specs.FrameEnvs.{FrameEnv, first_env, child_env}
 use Rattle.cilk_determinacy.proofs.Assembled.{is_framed}
 use Rattle.cilk_determinacy.proofs.Determinate.{ran}
 use Rattle.cilk_determinacy.proofs.Shapes.{IsProper, ProperAt, Stage, IsSynced, serial_proper, synced}
@@ -94,7 +94,7 @@ module _ (p : Source) where
   spelled neither_due w k fr n (serial.child how callee u r) h g =
       children how (suc n.frames)
       (events_of p (frame_of p fr.scope n callee) (entered p callee n) u) (events_of p fr (counts_after p u (entered p callee n)) r) _ _
-      (spelled begin_due (child_world p w k callee) 1 (frame_of p fr.scope n callee) (entered p callee n) u h.0 (g.0.0, g.1.0))
+      (spelled begin_due (child_env p w k callee) 1 (frame_of p fr.scope n callee) (entered p callee n) u h.0 (g.0.0, g.1.0))
       (spelled resume_due w (suc k) fr (counts_after p u (entered p callee n)) r h.1 (g.0.1, g.1.1))
 
 -- ---- each frame syncs after it spawned
@@ -143,11 +143,11 @@ spell_one_shape p inputs r es outcome run =
     let fr = frame_of p [] (unbegun p) callees.Root in
     let n = entered p callees.Root (unbegun p) in
     let spells : Spells (shape_of (named p r)) es =
-    ap (map mark_of) (run_events p inputs r es (Leaves outcome) run) ∙ spelled p begin_due (first_world p) 1 fr n r proper stage in
+    ap (map mark_of) (run_events p inputs r es (Leaves outcome) run) ∙ spelled p begin_due (first_env p) 1 fr n r proper stage in
     record {
       shape = shape_of (named p r);
       spells = spells;
       synced = synced_shape begin_due (named p r) (is_framed p inputs r es (Leaves outcome) proper run)
-          (synced p (first_world p) 1 r (runs_end p inputs r es (Leaves outcome) run));
+          (synced p (first_env p) 1 r (runs_end p inputs r es (Leaves outcome) run));
       one = λ s other. spells_one s (shape_of (named p r)) es other spells;
     }

@@ -8,7 +8,7 @@ use Rattle.cilk_program.specs.Numbering.{Counts, counts_after, entered}
 use Rattle.cilk_runs.specs.Runs.{Event, Reads, Writes, Syncs, Ends, Passes, Deed, Does, Invokes, Run, stop, act, child, ask_of}
 use Rattle.cilk_runs.specs.Costs.{EventTotal, FrameTotal, CellTotal, frame_cost, cells_of as cells_begun, weight}
 use Rattle.cilk_runs.specs.Traces.{trace, AreWritten}
-use Rattle.cilk_runs.specs.FrameEnvs.{FrameEnv, child_world}
+use Rattle.cilk_runs.specs.FrameEnvs.{FrameEnv, child_env}
 use Rattle.cilk_runs.specs.FrameEnvMachine.{costs}
 use Rattle.cilk_determinacy.specs.Nested.{named_event, named_from}
 
@@ -49,7 +49,7 @@ module _ (p : Source) (inputs : List ℤ) where
       let h = frames_weigh w (past ++ Does (named_event p w a v) ∷ []) n r c in
       omega (arith, none, h)
   frames_weigh w past n (serial.child how callee u r) c =
-      let v = child_world p w n callee in
+      let v = child_env p w n callee in
       let h = frames_weigh v [] 1 u (entered p callee c) in
       let g = frames_weigh w (past ++ Invokes how v ∷ []) (suc n) r (counts_after p u (entered p callee c)) in
       omega (arith, h, g)
@@ -61,7 +61,7 @@ module _ (p : Source) (inputs : List ℤ) where
       let h = cells_weigh w (past ++ Does (named_event p w a v) ∷ []) n r c in
       omega (arith, none, h)
   cells_weigh w past n (serial.child how callee u r) c =
-      let v = child_world p w n callee in
+      let v = child_env p w n callee in
       let h = cells_weigh v [] 1 u (entered p callee c) in
       let g = cells_weigh w (past ++ Invokes how v ∷ []) (suc n) r (counts_after p u (entered p callee c)) in
       omega (arith, h, g)

@@ -5,7 +5,7 @@ use Rattle.cilk_program.specs.declared.ask.Ask.TheVariants as asks
 use Rattle.cilk_program.specs.Syntax.{Source}
 use Rattle.cilk_program.specs.SerialRun as serial
 use Rattle.cilk_runs.specs.Runs.{Event, Reads, Writes, Syncs, Ends, Passes, Begins, Resumes, Creates, Updates, Sets, Values, Prints, Run, stop, act, child}
-use Rattle.cilk_runs.specs.FrameEnvs.{FrameEnv, first_world, child_world, cell_seen, reducer_seen, result_cell}
+use Rattle.cilk_runs.specs.FrameEnvs.{FrameEnv, first_env, child_env, cell_seen, reducer_seen, result_cell}
 use Rattle.cilk_runs.specs.FrameEnvMachine.{retired_by}
 
 -- the event of an ask with this answer; a child's start and a fault are no events of this kind
@@ -30,8 +30,8 @@ abbrev pub named_from : Source → FrameEnv → ℕ → serial.Transcript → Ru
 named_from p w k serial.stop = stop
 named_from p w k (serial.act a v r) = act (named_event p w a v) (named_from p w k r)
 named_from p w k (serial.child how callee u r) =
-    child how (child_world p w k callee) (named_from p (child_world p w k callee) 1 u) (named_from p w (suc k) r)
+    child how (child_env p w k callee) (named_from p (child_env p w k callee) 1 u) (named_from p w (suc k) r)
 
 -- the run of the first frame
 abbrev pub named : Source → serial.Transcript → Run FrameEnv
-named p r = named_from p (first_world p) 1 r
+named p r = named_from p (first_env p) 1 r

@@ -23,7 +23,7 @@ use Rattle.cilk_runs.specs.Cuts.{IsConsistent}
 use Rattle.cilk_runs.specs.Theorem.{IsNestedSerialRun, Agrees}
 use Rattle.cilk_runs.specs.Traces.{trace, begin_due, IsFramed, shape_of, AreWritten}
 use Rattle.cilk_runs.specs.Reducers.{View, monoid_of}
-use Rattle.cilk_runs.specs.FrameEnvs.{FrameEnv, first_world}
+use Rattle.cilk_runs.specs.FrameEnvs.{FrameEnv, first_env}
 use Rattle.cilk_runs.specs.FrameEnvMachine.{used, costs, opening_values}
 use Rattle.cilk_runs.specs.Steps.{Next, IsFirst, OneStep, Reaches, outcome_in}
 use Rattle.cilk_determinacy.specs.Nested.{named}
@@ -41,15 +41,15 @@ SetWords (e ∷ es) = SetsWord e × SetWords es
 module _ (p : Source) (inputs : List ℤ) where
   -- the serial run by names is one in the sense of `cilk_runs`
   abbrev pub IsSerial : serial.Transcript → Type 0
-  IsSerial r = IsNestedSerialRun FrameEnv View monoid_of (Next p inputs) (costs p inputs) (first_world p) (named p r) (opening_values p inputs)
+  IsSerial r = IsNestedSerialRun FrameEnv View monoid_of (Next p inputs) (costs p inputs) (first_env p) (named p r) (opening_values p inputs)
 
   -- the state is a consistent cut of the serial run by names
   abbrev pub IsCut : serial.Transcript → State FrameEnv View → Type 0
-  IsCut r s = IsConsistent monoid_of (costs p inputs) (first_world p) (named p r) (opening_values p inputs) s
+  IsCut r s = IsConsistent monoid_of (costs p inputs) (first_env p) (named p r) (opening_values p inputs) s
 
   -- the totals of the serial run, as the free machine counts them
   abbrev pub whole : serial.Transcript → Total → ℕ
-  whole r total = used p inputs total + weight (costs p inputs) total (first_world p) [] (named p r)
+  whole r total = used p inputs total + weight (costs p inputs) total (first_env p) [] (named p r)
 
   -- The properties of a consistent cut, and so of each state that steps lead to. Nothing has
   -- stopped it. Each frame's deeds are a prefix of its serial ones, with the same values. Each
@@ -57,7 +57,7 @@ module _ (p : Source) (inputs : List ℤ) where
   -- ended, the result, globals, output and reducers are the serial elision's, each spawned child
   -- was joined exactly once, and the totals are the serial run's. Until then fewer events are made.
   pub record IsAsSerial (r : serial.Transcript) (outcome : Outcome) (s : State FrameEnv View) : Type 0 where
-    pub agrees : Agrees FrameEnv View monoid_of (Next p inputs) (costs p inputs) (first_world p) (named p r) (opening_values p inputs) s
+    pub agrees : Agrees FrameEnv View monoid_of (Next p inputs) (costs p inputs) (first_env p) (named p r) (opening_values p inputs) s
     pub not_stopped : s.stopped ≡ None
     pub outcome_is : HasEnd (deeds_at (s.frames [])) → outcome_in p s ≡ outcome
     pub elided : HasEnd (deeds_at (s.frames [])) → IsElision p inputs (Leaves (outcome_in p s))

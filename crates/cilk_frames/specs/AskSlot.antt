@@ -6,24 +6,24 @@ use Rattle.cilk_program.specs.declared.ask.Callee.TheVariants as callees
 use Rattle.cilk_program.specs.declared.ask.FunctionCall.{FunctionCall}
 use Rattle.cilk_types.specs.declared.invocation.Invocation.{Invocation}
 use Rattle.cilk_frames.specs.declared.small_ask.SmallAsk.{SmallAsk}
-use Rattle.cilk_frames.specs.declared.small_ask.SmallAsk.TheVariants as brief
+use Rattle.cilk_frames.specs.declared.small_ask.SmallAsk.TheVariants as small_ask
 
 -- a small request as a request
 abbrev pub in_full : SmallAsk → Ask
-in_full brief.Begin = asks.Begin
-in_full (brief.Read x) = asks.Read x
-in_full (brief.Write x v) = asks.Write x v
-in_full (brief.Create r) = asks.Create r
-in_full (brief.Update r v) = asks.Update r v
-in_full (brief.Set r v) = asks.Set r v
-in_full (brief.Value r) = asks.Value r
-in_full (brief.Print v) = asks.Print v
-in_full (brief.Turns how l) = asks.Invoke how (callees.Loop l)
-in_full brief.Resume = asks.Resume
-in_full brief.Sync = asks.Sync
-in_full (brief.Result v) = asks.Result v
-in_full (brief.End v) = asks.End v
-in_full (brief.Fault f) = asks.Fault f
+in_full small_ask.Begin = asks.Begin
+in_full (small_ask.Read x) = asks.Read x
+in_full (small_ask.Write x v) = asks.Write x v
+in_full (small_ask.Create r) = asks.Create r
+in_full (small_ask.Update r v) = asks.Update r v
+in_full (small_ask.Set r v) = asks.Set r v
+in_full (small_ask.Value r) = asks.Value r
+in_full (small_ask.Print v) = asks.Print v
+in_full (small_ask.Turns how l) = asks.Invoke how (callees.Loop l)
+in_full small_ask.Resume = asks.Resume
+in_full small_ask.Sync = asks.Sync
+in_full (small_ask.Result v) = asks.Result v
+in_full (small_ask.End v) = asks.End v
+in_full (small_ask.Fault f) = asks.Fault f
 
 -- the request that these parts make: without a small one, a function is invoked
 abbrev pub ask_of : Option SmallAsk → Invocation → FunctionCall → Ask

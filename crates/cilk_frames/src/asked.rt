@@ -19,7 +19,7 @@ use std::marker::Model;
 #[derive(Drop)]
 pub struct AskSlot {
     // None if a function is invoked.
-    brief: Option<SmallAsk>,
+    small_ask: Option<SmallAsk>,
     how: Invocation,
     call: FunctionCall,
 }
@@ -30,7 +30,7 @@ impl Model for AskSlot {
 
     ghost Value = { Ask };
 
-    ghost view = { λ a. ask_of a.brief a.how a.call };
+    ghost view = { λ a. ask_of a.small_ask a.how a.call };
 }
 
 impl AskSlot {
@@ -39,7 +39,7 @@ impl AskSlot {
         ensures { result ≡ Begin }
     {
         AskSlot {
-            brief: Some(SmallAsk::Begin),
+            small_ask: Some(SmallAsk::Begin),
             how: Invocation::Call,
             call: FunctionCall {
                 function: 0,
@@ -51,10 +51,10 @@ impl AskSlot {
     }
 
     /// Returns the request, unless it invokes a function.
-    pub fn brief(&self) -> Option<&SmallAsk>
+    pub fn small_ask(&self) -> Option<&SmallAsk>
         ensures { MatchOption result (IsFunctionCall self.now) (λ b. self.now ≡ in_full b.now) }
     {
-        self.brief.as_ref()
+        self.small_ask.as_ref()
     }
 
     /// Returns the call or spawn of a function, with its arguments. The request must be one.
@@ -69,17 +69,17 @@ impl AskSlot {
     pub fn in_full(&self) -> Ask
         ensures { result ≡ self.now }
     {
-        match self.brief {
-            Some(brief) => brief.in_full(),
+        match self.small_ask {
+            Some(small_ask) => small_ask.in_full(),
             None => Ask::Invoke(self.how, function(&self.call)),
         }
     }
 
     /// Stores a request that doesn't invoke a function.
-    pub fn put(&mut self, brief: SmallAsk)
-        ensures { self.new ≡ in_full brief }
+    pub fn put(&mut self, small_ask: SmallAsk)
+        ensures { self.new ≡ in_full small_ask }
     {
-        self.brief = Some(brief);
+        self.small_ask = Some(small_ask);
     }
 
     // Stores the invocation of a call site's function, with the words popped from a frame's
@@ -95,7 +95,7 @@ impl AskSlot {
         ensures given { cursor.new.given ≡ cursor.old.given }
         ensures held { cursor.new.held ≡ cursor.old.held }
     {
-        self.brief = None;
+        self.small_ask = None;
         self.how = site.how;
         self.call.function = site.function;
         cursor.gather(site.words, &mut self.call.words);

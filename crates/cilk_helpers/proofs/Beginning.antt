@@ -22,7 +22,7 @@ use Rattle.cilk_lower.specs.Behaves.{Behaves}
 use Rattle.cilk_lower.specs.Code.{CodeView}
 use Rattle.cilk_frames.specs.declared.activation.Activation as activations
 use Rattle.cilk_frames.specs.declared.call_stack.CallStack.{CallStack}
-use Rattle.cilk_frames.specs.declared.small_ask.SmallAsk.TheVariants as brief
+use Rattle.cilk_frames.specs.declared.small_ask.SmallAsk.TheVariants as small_ask
 use Rattle.cilk_frames.specs.Cursor.{CursorView}
 use Rattle.cilk_frames.specs.Following.{child_of}
 use Rattle.cilk_serial.specs.declared.running.Running.{Running}
@@ -79,7 +79,7 @@ module _ (code : CodeView) (p : Source) (inputs : List ℤ) (t : Retelling) (wel
   pub tells_begin : (s' : State) (a : activations.Activation Rest) (f' : CallStack Rest) (child : List NoteView) → ((m : Memory) → Shows t.state m → crowded p callee m ≡ None) → Begins t.state s' how (cells_of p callee)
       → f'.top ≡ a → f'.below.items ≡ t.frames.below.items ++ t.frames.top ∷ [] → held_of a.cursor ≡ held MAX_TICKS child → (replay : IsReplay code p inputs callee child)
       → ((q : Parent) → q.frame ≡ (let g = going in g.frame) → Scoped p (with_cursor a replay.cursor) (next_frame p (let g = going in let fr = g.frame in fr.scope) (let g = going in g.memory) callee) (q ∷ (let g = going in g.parents)))
-      → TellsMore code p inputs t (Some callee) (record { state = s'; frames = f'; asked = SmallAsk brief.Begin; left = t.left })
+      → TellsMore code p inputs t (Some callee) (record { state = s'; frames = f'; asked = SmallAsk small_ask.Begin; left = t.left })
   tells_begin s' a f' child free made top below own replay scoped =
       let r = x.run in
       let re = x.retold in

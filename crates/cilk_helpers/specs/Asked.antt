@@ -35,7 +35,7 @@ pub record NoteView : Type 0 where
   pub left : ℕ
 
 abbrev pub note_of : Parts → NoteView
-note_of (parts.SmallAsk is_word left word brief) = record { told = answer_of is_word word; ask = in_full brief; left = left }
+note_of (parts.SmallAsk is_word left word small_ask) = record { told = answer_of is_word word; ask = in_full small_ask; left = left }
 note_of (parts.Function is_word how left word given) = record { told = answer_of is_word word; ask = asks.Invoke how (callees.Function (call_in given.value)); left = left }
 
 -- the callee is none, or a call with more arguments than a function can have

@@ -39,7 +39,6 @@ pub mod callee;
 pub mod depths;
 pub mod fits;
 pub mod hints;
-mod judged;
 pub mod laws;
 pub mod listing;
 pub mod many;

@@ -10,7 +10,6 @@ ghost use Rattle.cilk_checker.specs.Texts.{AreTexts, IsTrueAnswer, IsTrueRefusal
 
 use crate::depths::replays;
 use crate::hints::hints;
-use crate::judged::{meaning, numbers};
 use crate::listing::Hints;
 use crate::watch::Watch;
 use crate::whole::retell;
@@ -19,6 +18,7 @@ use cilk_checker::check::check_end;
 use cilk_checker::ending::{End, run_to_end};
 use cilk_checker::refusal::{Refusal, Unaccepted};
 use cilk_checker::source::Whole;
+use cilk_checker::texts::{meaning, numbers};
 use cilk_lower::lower::lower;
 use cilk_program::program::Program;
 use cilk_types::input::Input;

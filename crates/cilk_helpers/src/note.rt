@@ -65,7 +65,7 @@ impl Note {
     {
         let (is_word, word) = coded(told);
         let parts = match asked {
-            Asked::SmallAsk(brief) => Parts::SmallAsk(is_word, left, word, brief),
+            Asked::SmallAsk(small_ask) => Parts::SmallAsk(is_word, left, word, small_ask),
             Asked::Function(how, given) => Parts::Function(is_word, how, left, word, given),
         };
         Note { parts }
@@ -80,8 +80,8 @@ impl Note {
     {
         let Note { parts } = self;
         match parts {
-            Parts::SmallAsk(is_word, left, word, brief) => {
-                (answer(is_word, word), Asked::SmallAsk(brief), left)
+            Parts::SmallAsk(is_word, left, word, small_ask) => {
+                (answer(is_word, word), Asked::SmallAsk(small_ask), left)
             }
             Parts::Function(is_word, how, left, word, given) => {
                 (answer(is_word, word), Asked::Function(how, given), left)
@@ -120,8 +120,8 @@ impl Asked {
     pub fn of(alloc: Global, slot: &AskSlot) -> Result<Asked, AllocError>
         ensures { IfOk result (λ asked. ask_in asked ≡ slot.now) }
     {
-        match slot.brief() {
-            Some(brief) => Ok(Asked::SmallAsk(*brief)),
+        match slot.small_ask() {
+            Some(small_ask) => Ok(Asked::SmallAsk(*small_ask)),
             None => {
                 let (how, call) = slot.invocation();
                 Ok(Asked::Function(how, boxed(alloc, call)?))

@@ -111,14 +111,14 @@ impl Retelling {
 
     /// Makes the event of a small ask, if the frame continues at once, and steps to its next
     /// request.
-    pub fn go_on(&mut self, alloc: Global, brief: SmallAsk) -> Result<Gone, AllocError>
-        requires asked { ask_in self.old.asked ≡ in_full brief }
+    pub fn go_on(&mut self, alloc: Global, small_ask: SmallAsk) -> Result<Gone, AllocError>
+        requires asked { ask_in self.old.asked ≡ in_full small_ask }
         requires room { HasRoom self.old.state }
         requires tells { (code : CodeView) × (p : Source) × (inputs : List ℤ) × IsTrue (is_well_named p) × Tells code p inputs self.old }
         ensures { (code : CodeView) (p : Source) (inputs : List ℤ) → IsTrue (is_well_named p) → Tells code p inputs self.old
             → IfOk result (λ gone. Comes code p inputs self.old gone self.new) }
     {
-        match answer(alloc, &mut self.state, &self.frames, &brief)? {
+        match answer(alloc, &mut self.state, &self.frames, &small_ask)? {
             Told::Goes(told) => {
                 let Some(taken) = self.frames.top.cursor.take(told, self.left) else {
                     return Ok(Gone::Departs);

@@ -161,13 +161,13 @@ fn make_event(
     if is_full(&run.state) {
         return Ok(Step::Departs);
     }
-    let Asked::SmallAsk(brief) = run.asked else {
+    let Asked::SmallAsk(small_ask) = run.asked else {
         return match next(code, program, input, replays) {
             Some(replay) => begin_function(alloc, program, code, input, run, replay),
             None => Ok(Step::Departs),
         };
     };
-    match run.go_on(alloc, brief)? {
+    match run.go_on(alloc, small_ask)? {
         Gone::Made => Ok(Step::GoesOn),
         Gone::Turns(how, part) => match next(code, program, input, replays) {
             Some(replay) => begin_turns(alloc, program, code, input, run, (how, part), replay),

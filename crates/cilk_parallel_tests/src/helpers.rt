@@ -5,7 +5,7 @@ ghost use Rattle.std.specs.Prelude.{◌≡◌};
 use cilk_commands::files::{FileFault, Files};
 use cilk_report::KeptFiles;
 use cilk_served::served::{Broken, Ended, Folder};
-use cilk_tool::serve_parallel;
+use cilk_tool::serve;
 use std::alloc::Global;
 use std::sync::Wait;
 use std::thread::Threads;
@@ -69,7 +69,7 @@ fn served<H: Threads + Wait + Sync>(
 ) -> Ended {
     let mut files = KeptFiles::new(alloc, Failing::new(certificate, parts));
     let (mut out, mut err) = (Vec::new(alloc), Vec::new(alloc));
-    let status = serve_parallel(
+    let status = serve(
         rt,
         alloc,
         words,

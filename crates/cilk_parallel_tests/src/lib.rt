@@ -1,7 +1,7 @@
 //! Tests of the commands that start threads, `threads` and `check` with `--helpers`, in real
 //! threads.
 //!
-//! Each test calls [`cilk_tool::serve_parallel`] over files in memory (`cilk_served`) and compares
+//! Each test calls [`cilk_tool::serve`] over files in memory (`cilk_served`) and compares
 //! standard output, standard error and the status as a whole. [`parallel`] certifies a program
 //! first. Then it runs the program by several numbers of workers, on its own input and on others,
 //! and expects the reply of `run` or a refusal. It also covers refused certificates, files that

@@ -3,7 +3,7 @@
 
 use cilk_report::KeptFiles;
 use cilk_served::served::{Broken, Ended, Folder};
-use cilk_tool::serve_parallel;
+use cilk_tool::serve;
 use crossbeam_channel::{Receiver, Sender, bounded};
 use std::alloc::{AllocError, Global};
 use std::process::Abort;
@@ -146,7 +146,7 @@ fn served<H: Threads + Wait + Sync>(
     );
     let mut files = KeptFiles::new(alloc, folder);
     let (mut out, mut err) = (Vec::new(alloc), Vec::new(alloc));
-    let status = serve_parallel(
+    let status = serve(
         rt,
         alloc,
         words,

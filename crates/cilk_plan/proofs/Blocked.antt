@@ -29,7 +29,7 @@ use Rattle.cilk_tree.proofs.Framed.{begins}
 use Rattle.cilk_runs.specs.Runs.{Name, Begins, Resumes, Creates, Updates, Sets, Values, Prints, Reads, Writes, Syncs, Ends, Passes, Run, stop, act, child}
 use Rattle.cilk_runs.specs.Runs as runs
 use Rattle.cilk_runs.specs.Serial.{SyncAhead}
-use Rattle.cilk_runs.specs.FrameEnvs.{FrameEnv, first_world}
+use Rattle.cilk_runs.specs.FrameEnvs.{FrameEnv, first_env}
 use Rattle.cilk_determinacy.specs.Nested.{named}
 use Rattle.cilk_determinacy.specs.Numbers.{frame_number, numbered_event, numbered_events}
 use Rattle.cilk_determinacy.proofs.Numbered.{events_numbered}
@@ -218,7 +218,7 @@ blocks_end p inputs r es outcome well run (suc k) n is =
     let owned = in_their_frames p inputs r es outcome well run in
     let number = frame_number p r in
     let ms = makers [] (named p r) in
-    let each : EachSpawn es ms = subst (λ (l : List Event). EachSpawn l ms) (sym e.events) (behind p r [] (named p r) (synced p (first_world p) 1 r (runs_end p inputs r es (Leaves outcome) run))) in
+    let each : EachSpawn es ms = subst (λ (l : List Event). EachSpawn l ms) (sym e.events) (behind p r [] (named p r) (synced p (first_env p) 1 r (runs_end p inputs r es (Leaves outcome) run))) in
     let b = each k n at in
     let l = b.later in
     let within = slice_get_within es b.place events.Sync b.sync in
@@ -241,7 +241,7 @@ spawned_event o is = absurd (cc is)
 pub have_continuations : PlansHaveContinuations
 have_continuations a s run is law k spawned =
     let ran = run.1.ended.ran in
-    let same : s.events ≡ a.trace = ap (λ (x : EventOrder). x.events) is.story in
+    let same : s.events ≡ a.trace = ap (λ (x : EventOrder). x.events) is.event_order in
     let at = spawned_event (event s k) (spawn_mark s.events k (event s k) (after s k) spawned) in
     let block = blocks_end (source a.program) a.input ran.run a.trace a.outcome a.program.well_named ran.serial k at.0 (subst (λ (es : List Event). event_at es k ≡ Some (events.Spawn at.0)) same at.1) in
     let ends : EndsBlockOf s.events k block.0 = subst (λ (es : List Event). EndsBlockOf es k block.0) (sym same) block.1 in

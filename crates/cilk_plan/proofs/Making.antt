@@ -16,7 +16,7 @@ use Rattle.cilk_tree.specs.Along.{IsAlong}
 use Rattle.cilk_tree.specs.Planned.{planned}
 use Rattle.cilk_shared.specs.Values.{YardValue}
 use Rattle.cilk_determinacy.specs.Words.{InputsAreWords}
-use Rattle.cilk_replay.specs.EventOrders.{story_on, IsPlannedRun, EventOrdersAlongHaveValues}
+use Rattle.cilk_replay.specs.EventOrders.{event_order_on, IsPlannedRun, EventOrdersAlongHaveValues}
 use Rattle.cilk_replay.specs.declared.course.FrameHome.{FrameHome}
 use Rattle.cilk_replay.specs.Courses.{AreHomesOf, IsCourse, course_with}
 use Rattle.cilk_checker.specs.Determinate.{AcceptedRun, HasDeterminateRun}
@@ -27,18 +27,18 @@ use Rattle.cilk_plan.specs.Plans.{IsPlanOf, IsEventOrderOn}
 use Rattle.cilk_plan.proofs.Telling.{along_it}
 use Rattle.cilk_plan.specs.Courses.{AreHomesIn, home_in}
 
-pub is_course : EventOrdersAlongHaveValues → (a : AcceptedRun) (plan : EventOrder) → IsPlanOf a plan → (inputs : List ℤ) → InputsAreWords inputs → (y : YardValue) → IsOrderly y.story → IsEventOrderOn a plan.opening inputs y.story
+pub is_course : EventOrdersAlongHaveValues → (a : AcceptedRun) (plan : EventOrder) → IsPlanOf a plan → (inputs : List ℤ) → InputsAreWords inputs → (y : YardValue) → IsOrderly y.event_order → IsEventOrderOn a plan.opening inputs y.event_order
     → (code : CodeView) → Behaves (source a.program) code → IsCourse (course_with y a.program code a.input inputs)
 is_course law a plan is inputs words y orderly told code behaves =
-    let opening : (let s = y.story in s.opening) ≡ plan.opening = ap (λ (s : EventOrder). s.opening) told.is in (
+    let opening : (let s = y.event_order in s.opening) ≡ plan.opening = ap (λ (s : EventOrder). s.opening) told.is in (
       told.run,
       record {
         behaves = behaves;
         events = a.trace;
         is = subst (IsPlannedRun (source a.program) a.input told.run a.trace) (sym opening) told.of_run;
-        told = told.is ∙ ap (story_on (source a.program) inputs told.run a.trace) (sym opening);
+        told = told.is ∙ ap (event_order_on (source a.program) inputs told.run a.trace) (sym opening);
         orderly = orderly;
-        along = subst (λ (z : EventOrder). IsAlong z y.story) (is.story ∙ ap (planned a.trace) (sym opening)) (along_it law a plan is inputs words y.story told).0;
+        along = subst (λ (z : EventOrder). IsAlong z y.event_order) (is.event_order ∙ ap (planned a.trace) (sym opening)) (along_it law a plan is inputs words y.event_order told).0;
       },
     )
 

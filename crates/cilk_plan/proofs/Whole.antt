@@ -16,12 +16,12 @@ use Rattle.cilk_plan.specs.Continuations.{SpawnsHaveContinuations}
 use Rattle.cilk_plan.specs.Plans.{IsPlanOf, WholePlan}
 
 abbrev whole : AcceptedRun → EventOrder → WholePlan
-whole a s = record { run = a; story = s }
+whole a s = record { run = a; event_order = s }
 
 pub continuation_at : (w : WholePlan) (a : AcceptedRun) (s : EventOrder) (column : List (Option Continuation)) (k : ℕ) (result : Option Continuation) → whole a s ≡ w
-    → AreContinuations s column → result ≡ slice_index_or column k None → (c : Continuation) → (result ≡ Some c) ↔ IsContinuationOf w.story k c
+    → AreContinuations s column → result ≡ slice_index_or column k None → (c : Continuation) → (result ≡ Some c) ↔ IsContinuationOf w.event_order k c
 continuation_at w a s column k result same are is c =
-    subst (λ (v : WholePlan). (result ≡ Some c) ↔ IsContinuationOf v.story k c) same (λ e. (are k c).0 (sym is ∙ e), λ h. is ∙ (are k c).1 h)
+    subst (λ (v : WholePlan). (result ≡ Some c) ↔ IsContinuationOf v.event_order k c) same (λ e. (are k c).0 (sym is ∙ e), λ h. is ∙ (are k c).1 h)
 
 some_told : (result : Option Continuation) (P : Type 0) → ((c : Continuation) → result ≡ Some c → P) → IsSome result → P
 some_told None P told h = absurd (cc h)
@@ -35,27 +35,27 @@ continuation_there s k result law each exact = (
 )
 
 pub strand_at : (w : WholePlan) (a : AcceptedRun) (s : EventOrder) (starts : List ℕ) (n : ℕ) (result : Option ℕ) → whole a s ≡ w → IsPlanOf a s
-    → AreStarts a.trace starts → 1 ≤ n → result ≡ slice_get starts (n - 1) → (p : ℕ) → (result ≡ Some p) ↔ ((1 ≤ n) × BeginsStrand w.story.events n p)
+    → AreStarts a.trace starts → 1 ≤ n → result ≡ slice_get starts (n - 1) → (p : ℕ) → (result ≡ Some p) ↔ ((1 ≤ n) × BeginsStrand w.event_order.events n p)
 strand_at w a s starts n result same plan are low is p =
-    let events : a.trace ≡ s.events = sym (ap (λ (x : EventOrder). x.events) plan.story) in
+    let events : a.trace ≡ s.events = sym (ap (λ (x : EventOrder). x.events) plan.event_order) in
     let place : n - 1 + 1 ≡ n = omega (arith, low) in
-    subst (λ (v : WholePlan). (result ≡ Some p) ↔ ((1 ≤ n) × BeginsStrand v.story.events n p)) same (
+    subst (λ (v : WholePlan). (result ≡ Some p) ↔ ((1 ≤ n) × BeginsStrand v.event_order.events n p)) same (
       λ e. (low, subst (λ (es : List Event). BeginsStrand es n p) events (subst (λ (k : ℕ). BeginsStrand a.trace k p) place ((are (n - 1) p).0 (sym is ∙ e)))),
       λ h. is ∙ (are (n - 1) p).1 (subst (λ (k : ℕ). BeginsStrand a.trace k p) (sym place) (subst (λ (es : List Event). BeginsStrand es n p) (sym events) h.1)),
     )
 
 pub syncs_told : (w : WholePlan) (a : AcceptedRun) (s : EventOrder) (column lent : List ℕ) → whole a s ≡ w → All (λ at. event s at ≡ Some Sync) column → lent ≡ column
-    → All (λ at. event w.story at ≡ Some Sync) lent
+    → All (λ at. event w.event_order at ≡ Some Sync) lent
 syncs_told w a s column lent same are is =
-    subst (λ (v : WholePlan). All (λ at. event v.story at ≡ Some Sync) lent) same (subst (All (λ at. event s at ≡ Some Sync)) (sym is) are)
+    subst (λ (v : WholePlan). All (λ at. event v.event_order at ≡ Some Sync) lent) same (subst (All (λ at. event s at ≡ Some Sync)) (sym is) are)
 
 pub strands_told : (w : WholePlan) (a : AcceptedRun) (s : EventOrder) (column lent : List ℕ) → whole a s ≡ w → IsPlanOf a s → AreFirsts a.trace column → lent ≡ column
-    → AreFirsts w.story.events lent
+    → AreFirsts w.event_order.events lent
 strands_told w a s column lent same plan are is =
-    let events : a.trace ≡ s.events = sym (ap (λ (x : EventOrder). x.events) plan.story) in
-    subst (λ (v : WholePlan). AreFirsts v.story.events lent) same (subst (λ (es : List Event). AreFirsts es lent) events (subst (AreFirsts a.trace) (sym is) are))
+    let events : a.trace ≡ s.events = sym (ap (λ (x : EventOrder). x.events) plan.event_order) in
+    subst (λ (v : WholePlan). AreFirsts v.event_order.events lent) same (subst (λ (es : List Event). AreFirsts es lent) events (subst (AreFirsts a.trace) (sym is) are))
 
 pub resumptions_told : (w : WholePlan) (a : AcceptedRun) (s : EventOrder) (column lent : List ℕ) → whole a s ≡ w → AreResumptions s column → lent ≡ column
-    → AreResumptions w.story lent
+    → AreResumptions w.event_order lent
 resumptions_told w a s column lent same are is =
-    subst (λ (v : WholePlan). AreResumptions v.story lent) same (subst (AreResumptions s) (sym is) are)
+    subst (λ (v : WholePlan). AreResumptions v.event_order lent) same (subst (AreResumptions s) (sym is) are)

@@ -10,7 +10,7 @@ use cilk_determinacy::words::inputs_are_words;
 use cilk_lower::lower::lower;
 use cilk_replay::course::{Course, FrameHome};
 use cilk_replay::home::CellBlock;
-use cilk_replay::laws::stories_along_have_values;
+use cilk_replay::laws::event_orders_along_have_values;
 use cilk_shared::yard::Yard;
 use cilk_types::event::FrameNo;
 use cilk_types::input::Input;
@@ -25,10 +25,10 @@ pub fn course(
     yard: &Yard,
     input: Input,
 ) -> Result<Course, AllocError>
-    requires { IsEventOrderOn plan.now.run plan.now.story.opening input yard.now.story }
+    requires { IsEventOrderOn plan.now.run plan.now.event_order.opening input yard.now.event_order }
     ensures { IfOk result (λ c. IsCourseOn plan.now.run yard.now input c) }
 {
-    stories_along_have_values();
+    event_orders_along_have_values();
     frames_stand_at_their_numbers();
     plan.laws();
     yard.laws();

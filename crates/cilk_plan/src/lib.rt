@@ -33,3 +33,6 @@ mod places;
 pub mod planning;
 pub mod program_plan;
 pub mod yards;
+
+pub use cilk_tree::plan::Plan;
+pub use program_plan::{ProgramPlan, plan};

@@ -11,6 +11,7 @@ ghost use Rattle.cilk_tree.specs.PlanStrands.{AreFirsts, BeginsStrand};
 ghost use Rattle.cilk_tree.specs.declared.blocks.Continuation.{Continuation};
 ghost use Rattle.cilk_program.specs.Sources.{source};
 ghost use Rattle.cilk_tree.specs.Orders.{IsOrderly};
+ghost use Rattle.cilk_tree.specs.Kinds.{IsBehind};
 ghost use Rattle.cilk_tree.specs.Word.{event, spawn, what};
 ghost use Rattle.cilk_types.specs.declared.event.Event.TheVariants.{Sync};
 ghost use Rattle.cilk_plan.specs.Continuations.{SpawnsHaveContinuations};
@@ -26,6 +27,7 @@ use cilk_lower::code::Code;
 use cilk_lower::lower::lower;
 use cilk_program::program::Program;
 use cilk_tree::blocks::{Continuation, continuations};
+use cilk_tree::kind::Asked;
 use cilk_tree::plan::Plan;
 use cilk_tree::plan_strands::starts;
 use cilk_types::event::{FrameNo, Pos, StrandNo};
@@ -93,7 +95,7 @@ impl<'a> Model for ProgramPlan<'a> {
 
     ghost coded = { whole_code };
 
-    ghost view = { λ p. record { run = p.accepted.value; story = p.events } };
+    ghost view = { λ p. record { run = p.accepted.value; event_order = p.events } };
 
     ghost invariant = { λ p. HasDeterminateRun p.accepted.value × (p.program.now ≡ p.accepted.value.program) × (p.input.now ≡ p.accepted.value.input) × Behaves (source p.accepted.value.program) p.code × RoomsFit (source p.accepted.value.program) p.code × LaysOut (source p.accepted.value.program) p.code.layout × IsPlanOf p.accepted.value p.events × AreFramesOf p.accepted.value p.frames.now × AreContinuations p.events p.continuations.items × AreStarts p.accepted.value.trace p.starts.items × All (λ at. event p.events at ≡ Some Sync) p.syncs.items × AreFirsts p.accepted.value.trace p.strands.items × AreResumptions p.events p.resumptions.items };
 }
@@ -133,9 +135,9 @@ impl<'a> ProgramPlan<'a> {
     /// its block.
     pub fn laws(&self)
         ensures determinate { HasDeterminateRun self.now.run }
-        ensures plan { IsPlanOf self.now.run self.now.story }
-        ensures order { IsOrderly self.now.story }
-        ensures continuations { SpawnsHaveContinuations self.now.story }
+        ensures plan { IsPlanOf self.now.run self.now.event_order }
+        ensures order { IsOrderly self.now.event_order }
+        ensures continuations { SpawnsHaveContinuations self.now.event_order }
     {
         plans_have_continuations();
         self.events.laws();
@@ -164,18 +166,26 @@ impl<'a> ProgramPlan<'a> {
         &self.code
     }
 
+    /// Returns the kind and frame of the event after the first `after` events, or `Nothing` past
+    /// the last.
+    pub fn next(&self, after: Pos) -> Asked
+        ensures { IsBehind self.now.event_order after result }
+    {
+        self.events.next(after)
+    }
+
     /// Returns the plan of the run's events: their kinds with cells and reducers, their frames, and
     /// the opening values of the cells.
     pub fn events(&self) -> &Plan
-        ensures story { result.now ≡ self.now.story }
-        ensures plan { IsPlanOf self.now.run self.now.story }
+        ensures event_order { result.now ≡ self.now.event_order }
+        ensures plan { IsPlanOf self.now.run self.now.event_order }
     {
         &self.events
     }
 
     /// Returns the plan of the run's events and drops the rest.
     pub fn into_events(self) -> Plan
-        ensures { result ≡ self.entry.story }
+        ensures { result ≡ self.entry.event_order }
     {
         let ProgramPlan {
             program: _program,
@@ -221,8 +231,8 @@ impl<'a> ProgramPlan<'a> {
 
     /// Returns the continuation of the spawn at a position, or `None` if there is no spawn.
     pub fn continuation(&self, at: Pos) -> Option<Continuation>
-        ensures exact { (c : Continuation) → (result ≡ Some c) ↔ IsContinuationOf self.now.story at c }
-        ensures there { IsSome result ↔ (what self.now.story at ≡ spawn) }
+        ensures exact { (c : Continuation) → (result ≡ Some c) ↔ IsContinuationOf self.now.event_order at c }
+        ensures there { IsSome result ↔ (what self.now.event_order at ≡ spawn) }
     {
         self.laws();
         continuation_in(&self.continuations, at as usize)
@@ -231,7 +241,7 @@ impl<'a> ProgramPlan<'a> {
     /// Returns the position of a strand's first event, or `None` if the run has no such strand.
     /// Strands are numbered from 1.
     pub fn strand(&self, number: StrandNo) -> Option<Pos>
-        ensures { (p : ℕ) → (result ≡ Some p) ↔ ((1 ≤ number) × BeginsStrand self.now.story.events number p) }
+        ensures { (p : ℕ) → (result ≡ Some p) ↔ ((1 ≤ number) × BeginsStrand self.now.event_order.events number p) }
     {
         if number == 0 {
             return None;
@@ -242,7 +252,7 @@ impl<'a> ProgramPlan<'a> {
     /// Returns the positions of the `sync`s that end blocks with spawns. Their indices are the
     /// blocks' numbers.
     pub fn syncs(&self) -> &[Pos]
-        ensures { All (λ at. event self.now.story at ≡ Some Sync) result.now }
+        ensures { All (λ at. event self.now.event_order at ≡ Some Sync) result.now }
     {
         self.syncs.as_slice()
     }
@@ -255,7 +265,7 @@ impl<'a> ProgramPlan<'a> {
 
     /// Returns a column with the strand that begins at each position, or 0 if none does.
     pub fn strands(&self) -> &[StrandNo]
-        ensures { AreFirsts self.now.story.events result.now }
+        ensures { AreFirsts self.now.event_order.events result.now }
     {
         self.strands.as_slice()
     }
@@ -263,7 +273,7 @@ impl<'a> ProgramPlan<'a> {
     /// Returns a column with the `resume` of each spawn at the spawn's position, and 0 at all
     /// others.
     pub fn resumptions(&self) -> &[Pos]
-        ensures { AreResumptions self.now.story result.now }
+        ensures { AreResumptions self.now.event_order result.now }
     {
         self.resumptions.as_slice()
     }

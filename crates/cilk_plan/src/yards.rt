@@ -12,7 +12,7 @@ ghost use Rattle.cilk_tree.specs.Values.{HasValues};
 
 use crate::program_plan::ProgramPlan;
 use cilk_determinacy::words::{inputs_are_words, programs_are_of_words};
-use cilk_replay::laws::{own_story, stories_along_have_values};
+use cilk_replay::laws::{event_orders_along_have_values, own_event_order};
 use cilk_shared::yard::{Segment, Yard};
 use cilk_tree::plan::Plan;
 use cilk_types::event::Pos;
@@ -23,7 +23,7 @@ use std::marker::Model;
 // An event order that contracts alone see. It takes no bytes.
 #[derive(Drop)]
 struct Told {
-    ghost story: { EventOrder },
+    ghost event_order: { EventOrder },
 }
 
 impl Model for Told {
@@ -35,7 +35,7 @@ impl Told {
     fn of(plan: &Plan, input: &Input) -> Told
         ghost run: { AcceptedRun }
         requires { HasEventOrderOn run plan.now.opening input.now }
-        ensures { IsEventOrderOn run plan.now.opening input.now result.story }
+        ensures { IsEventOrderOn run plan.now.opening input.now result.event_order }
     {
         let _ = plan;
         let _ = input;
@@ -48,13 +48,13 @@ impl Told {
 /// which events its frames request, and the values in its cells. On the plan's own input it is the
 /// plan's.
 pub fn yard(alloc: Global, plan: &ProgramPlan, input: &Input) -> Result<(Yard, Segment), AllocError>
-    ensures story { IfOk result (λ r. IsEventOrderOn plan.now.run plan.now.story.opening input.now r.0.story) }
-    ensures along { IfOk result (λ r. IsAlong plan.now.story r.0.story) }
-    ensures own { IfOk result (λ r. input.now ≡ plan.now.run.input → r.0.story ≡ plan.now.story) }
+    ensures event_order { IfOk result (λ r. IsEventOrderOn plan.now.run plan.now.event_order.opening input.now r.0.event_order) }
+    ensures along { IfOk result (λ r. IsAlong plan.now.event_order r.0.event_order) }
+    ensures own { IfOk result (λ r. input.now ≡ plan.now.run.input → r.0.event_order ≡ plan.now.event_order) }
     ensures segment { IfOk result (λ r. OfYard r.0 r.1 × (r.1.from ≡ 1) × (r.1.upto ≡ 2)) }
 {
-    stories_along_have_values();
-    own_story();
+    event_orders_along_have_values();
+    own_event_order();
     plan.laws();
     programs_are_of_words(plan.program());
     inputs_are_words(plan.input());
@@ -66,8 +66,8 @@ pub fn yard(alloc: Global, plan: &ProgramPlan, input: &Input) -> Result<(Yard, S
 // The event order that the program of this run makes of its plan on this input.
 fn tell(plan: &ProgramPlan, input: &Input) -> Told
     ghost run: { AcceptedRun }
-    requires { HasEventOrderOn run plan.now.story.opening input.now }
-    ensures { IsEventOrderOn run plan.now.story.opening input.now result.story }
+    requires { HasEventOrderOn run plan.now.event_order.opening input.now }
+    ensures { IsEventOrderOn run plan.now.event_order.opening input.now result.event_order }
 {
     Told::of(plan.events(), input)
 }
@@ -81,11 +81,11 @@ fn yard_of(
     told: &Told,
 ) -> Result<(Yard, Segment), AllocError>
     ghost along: { List ℤ → EventOrder }
-    requires told { along input.now ≡ told.now.story }
-    requires plan { IsAlong plan.now told.now.story }
-    requires values { HasValues told.now.story }
+    requires told { along input.now ≡ told.now.event_order }
+    requires plan { IsAlong plan.now told.now.event_order }
+    requires values { HasValues told.now.event_order }
     requires column { AreResumptions plan.now resumptions.now }
-    ensures story { IfOk result (λ r. r.0.story ≡ told.now.story) }
+    ensures event_order { IfOk result (λ r. r.0.event_order ≡ told.now.event_order) }
     ensures segment { IfOk result (λ r. OfYard r.0 r.1 × (r.1.from ≡ 1) × (r.1.upto ≡ 2)) }
 {
     let _ = told;

@@ -42,12 +42,12 @@ use Rattle.cilk_replay.proofs.Looking.{IsOfCell, IsOfChild, IsOfReducer}
 use Rattle.cilk_replay.proofs.Resuming.{resumed}
 
 -- the event order of a chain's course
-abbrev pub story_of : CourseValue → EventOrder
-story_of c = let y = c.yard in y.story
+abbrev pub event_order_of : CourseValue → EventOrder
+event_order_of c = let y = c.yard in y.event_order
 
 -- a fact about a position of the current chain's event order
-pub of_chain : (P : EventOrder → ℕ → Type 0) (u : CourseValue) (at : ℕ) (v : ChainValue) → standing u at ≡ v → P (let c = v.of in let y = c.yard in y.story) v.at → P (story_of u) at
-of_chain P u at v is h = subst (λ (z : ChainValue). P (let c = z.of in let y = c.yard in y.story) z.at) (sym is) h
+pub of_chain : (P : EventOrder → ℕ → Type 0) (u : CourseValue) (at : ℕ) (v : ChainValue) → standing u at ≡ v → P (let c = v.of in let y = c.yard in y.event_order) v.at → P (event_order_of u) at
+of_chain P u at v is h = subst (λ (z : ChainValue). P (let c = z.of in let y = c.yard in y.event_order) z.at) (sym is) h
 
 -- a frame that a request begins
 pub begun_by : (code code' : CodeView) (inputs : List ℤ) (a : Ask) (first : Invocation) (what : Callee) (cursor cursor' : CursorView) → a ≡ asks.Invoke first what → code' ≡ code → cursor' ≡ cursor
@@ -70,19 +70,19 @@ abbrev pub IsBegun : CourseValue → Ask → Level → Type 0
 IsBegun c k l = (p : Source) (how : Invocation) (callee : Callee) → k ≡ asks.Invoke how callee → Behaves p c.code → CalleeIsFit p callee → Stands c.code c.inputs p callee l.cursor [] 0
 
 module _ (u v : CourseValue) (same : u ≡ v) (at : ℕ) (k : Ask) (l : Level) (below : List Level) (S : Stand u at k l below) where
-  owed : (a : Answer) → IsAnswered (story_of u) at a → Runs u.code u.inputs l.cursor × Fits (let c = l.cursor in c.owed) a
+  owed : (a : Answer) → IsAnswered (event_order_of u) at a → Runs u.code u.inputs l.cursor × Fits (let c = l.cursor in c.owed) a
   owed a q = let t = S.2 in going.owed (setting_of u S.0) S.1 at k l t.asks a q
 
-  pub owes_fit : (a : Answer) → IsAnswered (story_of u) at a → Fits (let c = l.cursor in c.owed) a
+  pub owes_fit : (a : Answer) → IsAnswered (event_order_of u) at a → Fits (let c = l.cursor in c.owed) a
   owes_fit a q = (owed a q).1
 
-  pub runs : (a : Answer) → IsAnswered (story_of u) at a → Runs v.code v.inputs l.cursor
+  pub runs : (a : Answer) → IsAnswered (event_order_of u) at a → Runs v.code v.inputs l.cursor
   runs a q = subst (λ (z : CourseValue). Runs z.code z.inputs l.cursor) same (owed a q).0
 
-  pub small : (n : ℕ) (e : _) → Follows (story_of u) at e → length (let y = story_of u in y.events) < n → at + 1 < n
+  pub small : (n : ℕ) (e : _) → Follows (event_order_of u) at e → length (let y = event_order_of u in y.events) < n → at + 1 < n
   small n e f less = let more = f.more in omega (arith, more, less)
 
-  pub answered : (a : Answer) (k' : Ask) (l' : Level) → IsAnswered (story_of u) at a → l'.sight ≡ l.sight → HasStepped v l a k' l' → Stand u (at + 1) k' l' below
+  pub answered : (a : Answer) (k' : Ask) (l' : Level) → IsAnswered (event_order_of u) at a → l'.sight ≡ l.sight → HasStepped v l a k' l' → Stand u (at + 1) k' l' below
   answered a k' l' q sight step =
       (S.0, S.1, going.answered_on (setting_of u S.0) S.1 at k k' l l' below a S.2 q sight (subst (λ (z : CourseValue). HasStepped z l a k' l') (sym same) step))
 
@@ -90,7 +90,7 @@ module _ (u v : CourseValue) (same : u ≡ v) (at : ℕ) (k : Ask) (l : Level) (
   pub record IsChild (c : Level) : Type 0 where
     pub number : ℕ
     pub home : Home
-    pub begins : BeginsNext (story_of u) at number
+    pub begins : BeginsNext (event_order_of u) at number
     pub lies : IsBlockOf v number home.block
     pub frame : home.frame ≡ number
     pub before : home.before ≡ 0
@@ -117,28 +117,28 @@ module _ (u v : CourseValue) (same : u ≡ v) (at : ℕ) (k : Ask) (l : Level) (
         },
       )
 
-  pub call_begins : Calls (story_of u) at → (how : Invocation) × (callee : Callee) × (callee ≢ callees.Root) × (k ≡ asks.Invoke how callee)
+  pub call_begins : Calls (event_order_of u) at → (how : Invocation) × (callee : Callee) × (callee ≢ callees.Root) × (k ≡ asks.Invoke how callee)
   call_begins q = going.call_begins (setting_of u S.0) S.1 at k l below S.2 q.0 q.1
 
-  pub spawn_begins : (next : ℕ) → Spawns (story_of u) at next → (how : Invocation) × (callee : Callee) × (callee ≢ callees.Root) × (k ≡ asks.Invoke how callee)
+  pub spawn_begins : (next : ℕ) → Spawns (event_order_of u) at next → (how : Invocation) × (callee : Callee) × (callee ≢ callees.Root) × (k ≡ asks.Invoke how callee)
   spawn_begins next q = going.spawn_begins (setting_of u S.0) S.1 at k l below S.2 q.0.0 q.0.1
 
-  pub called : (c : Level) → Calls (story_of u) at → IsChild c → Stand u (at + 1) asks.Begin c (below ++ l ∷ [])
+  pub called : (c : Level) → Calls (event_order_of u) at → IsChild c → Stand u (at + 1) asks.Begin c (below ++ l ∷ [])
   called c q new =
       (S.0, S.1, going.called_on (setting_of u S.0) S.1 at k l c below S.2 q.0 q.1 (λ callee is fit. new_level c new _ callee is fit))
 
-  parted : (c : Level) (next : ℕ) → Spawns (story_of u) at next → IsChild c → going.Parted (setting_of u S.0) S.1 at next c l below
+  parted : (c : Level) (next : ℕ) → Spawns (event_order_of u) at next → IsChild c → going.Parted (setting_of u S.0) S.1 at next c l below
   parted c next q new =
       going.spawned_on (setting_of u S.0) S.1 at k l c below S.2 q.0.0 next q.0.1 (λ callee is fit. new_level c new _ callee is fit)
-      (λ i x place is. resumed (setting_of u S.0) S.1 i next x (subst (λ n. what (story_of u) next ≡ resume n) (sym place) q.1) is)
+      (λ i x place is. resumed (setting_of u S.0) S.1 i next x (subst (λ n. what (event_order_of u) next ≡ resume n) (sym place) q.1) is)
 
-  pub spawned_child : (c : Level) (next : ℕ) → Spawns (story_of u) at next → IsChild c → Stand u (at + 1) asks.Begin c []
+  pub spawned_child : (c : Level) (next : ℕ) → Spawns (event_order_of u) at next → IsChild c → Stand u (at + 1) asks.Begin c []
   spawned_child c next q new = (S.0, S.1, (parted c next q new).child)
 
-  pub spawned_parent : (c : Level) (next : ℕ) → Spawns (story_of u) at next → IsChild c → Rest u next l below
+  pub spawned_parent : (c : Level) (next : ℕ) → Spawns (event_order_of u) at next → IsChild c → Rest u next l below
   spawned_parent c next q new = (S.0, S.1, (parted c next q new).parent)
 
-  pub ended : (top : Level) (new : List Level) → Follows (story_of u) at events.End → below ≡ new ++ top ∷ [] → Rest u (at + 1) top new
+  pub ended : (top : Level) (new : List Level) → Follows (event_order_of u) at events.End → below ≡ new ++ top ∷ [] → Rest u (at + 1) top new
   ended top new f popped = (S.0, S.1, going.ended_on (setting_of u S.0) S.1 at k l top below new S.2 f popped)
 
   pub outermost : below ≡ [] → IsTheOutermost u at
@@ -155,33 +155,33 @@ module _ (u v : CourseValue) (same : u ≡ v) (at : ℕ) (k : Ask) (l : Level) (
         outermost = subst (λ z. Linked (setting_of u S.0) (let x = A.point in x.since) (reverse z)) none t.callers;
       }
 
-  module _ (kind : Kind) (is : kind_of_event (event (story_of u) at) ≡ Some kind) where
-    pub asked_there : sort_asked k ≡ sort_of kind → NamesNothing (sort_asked k) → IsAsked (story_of u) at
+  module _ (kind : Kind) (is : kind_of_event (event (event_order_of u) at) ≡ Some kind) where
+    pub asked_there : sort_asked k ≡ sort_of kind → NamesNothing (sort_asked k) → IsAsked (event_order_of u) at
     asked_there same sure = let t = S.2 in looking.asked_there (setting_of u S.0) S.1 at k l t.asks kind is same sure
 
-    pub differs_there : (sort_asked k ≡ sort_of kind → ⊥) → IsAsked (story_of u) at → ⊥
+    pub differs_there : (sort_asked k ≡ sort_of kind → ⊥) → IsAsked (event_order_of u) at → ⊥
     differs_there other asked = let t = S.2 in looking.differs_there (setting_of u S.0) S.1 at k l t.asks kind is other asked
 
     module _ (c : ℕ) (of_cell : IsOfCell c kind) (alike : sort_asked k ≡ sort_of kind) where
-      cell_there : (let p = source u.program in cell_asked (length p.openings) l.sight k ≡ Some c) → IsAsked (story_of u) at
+      cell_there : (let p = source u.program in cell_asked (length p.openings) l.sight k ≡ Some c) → IsAsked (event_order_of u) at
       cell_there q = let t = S.2 in looking.cell_there (setting_of u S.0) S.1 at k l t.asks kind is c of_cell alike q
 
-      cell_differs : ((let p = source u.program in cell_asked (length p.openings) l.sight k ≡ Some c) → ⊥) → IsAsked (story_of u) at → ⊥
+      cell_differs : ((let p = source u.program in cell_asked (length p.openings) l.sight k ≡ Some c) → ⊥) → IsAsked (event_order_of u) at → ⊥
       cell_differs other asked = let t = S.2 in looking.cell_differs (setting_of u S.0) S.1 at k l t.asks kind is c of_cell alike other asked
 
-      pub looks : (found : Option ℕ) (says : Looked) → found ≡ (let p = source u.program in cell_asked (length p.openings) l.sight k) → LooksAt found c says → Says (story_of u) at kind says
+      pub looks : (found : Option ℕ) (says : Looked) → found ≡ (let p = source u.program in cell_asked (length p.openings) l.sight k) → LooksAt found c says → Says (event_order_of u) at kind says
       looks found Asked q h = cell_there (sym q ∙ h)
       looks found Differs q h = cell_differs (λ z. h (q ∙ z))
 
     module _ (f : ℕ) (of_child : IsOfChild f kind) (alike : sort_asked k ≡ sort_of kind) (body : Body) (runs : IsBodyOf u f body) where
-      pub looks_at_child : (a : Body) (says : Looked) → a ≡ body_asked k → LooksAtBody body a says → Says (story_of u) at kind says
+      pub looks_at_child : (a : Body) (says : Looked) → a ≡ body_asked k → LooksAtBody body a says → Says (event_order_of u) at kind says
       looks_at_child a Asked q same =
           let t = S.2 in looking.child_there (setting_of u S.0) S.1 at k l t.asks kind is f of_child alike body (λ path b callee found it number. runs S.0 path b callee S.1 found it number) (subst (λ z. same_body body z ≡ true) q same)
       looks_at_child a Differs q same =
           let t = S.2 in looking.child_differs (setting_of u S.0) S.1 at k l t.asks kind is f of_child alike body (λ path b callee found it number. runs S.0 path b callee S.1 found it number) (subst (λ z. same_body body z ≡ false) q same)
 
     module _ (i : numbered.Instance) (of_reducer : IsOfReducer i kind) (alike : sort_asked k ≡ sort_of kind) where
-      pub looks_at_reducer : (found : ReducerNumber) (says : Looked) → found ≡ reducer_asked (homes_of l.sight) l.sight.given.items k → LooksAtReducer found i says → Says (story_of u) at kind says
+      pub looks_at_reducer : (found : ReducerNumber) (says : Looked) → found ≡ reducer_asked (homes_of l.sight) l.sight.given.items k → LooksAtReducer found i says → Says (event_order_of u) at kind says
       looks_at_reducer found Asked q h = let t = S.2 in looking.reducer_there (setting_of u S.0) S.1 at k l t.asks kind is i of_reducer alike (ap as_instance (sym q) ∙ h)
       looks_at_reducer found Differs q h = let t = S.2 in looking.reducer_differs (setting_of u S.0) S.1 at k l t.asks kind is i of_reducer alike (λ z. h (ap as_instance q ∙ z))
 

@@ -9,7 +9,7 @@ use Rattle.cilk_runs.specs.Traces.{trace, AreWritten}
 use Rattle.cilk_tree.proofs.AlongPlans.{along_orderly, follows_all}
 use Rattle.cilk_tree.specs.Planned.{planned}
 use Rattle.cilk_replay.specs.InputCourses.{Course, stop, act, child, run_of, asked_in, IsAskedThroughout}
-use Rattle.cilk_replay.specs.Lists.{story_of, AskedEventOrdersAreOfAskedCourses, InputsThatDepartNowhere}
+use Rattle.cilk_replay.specs.Lists.{event_order_of, AskedEventOrdersAreOfAskedCourses, InputsThatDepartNowhere}
 use Rattle.cilk_replay.proofs.CourseFrames.{courses_are_runs}
 
 throughout : {W : Type 0} (c : Course W) → ((n : ℕ) → n < length (asked_in c) → slice_index_or (asked_in c) n false ≡ true) → IsAskedThroughout c
@@ -50,7 +50,7 @@ asked_throughout W cell instance c es es' opening written asked =
 -- ---- along an orderly plan
 pub departs_nowhere : InputsThatDepartNowhere
 departs_nowhere p inputs others t c cell instance es es' opening run course written orderly along begins nowhere =
-    let s = story_of es opening es' c in
+    let s = event_order_of es opening es' c in
     let asked = asked_throughout _ cell instance c es es' opening written
     (λ q i. follows_all s (along_orderly (planned es opening) s orderly along) begins nowhere q i q (inl refl)) in
     courses_are_runs p inputs others t c run course asked

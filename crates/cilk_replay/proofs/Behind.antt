@@ -70,23 +70,23 @@ marks_at [] (suc i) = refl
 marks_at (e ∷ es) zero = refl
 marks_at (e ∷ es) (suc i) = marks_at es i
 
-module _ (shape : Shape) (s : EventOrder) (is_story : IsEventOrderOf shape s) where
+module _ (shape : Shape) (s : EventOrder) (is_event_order : IsEventOrderOf shape s) where
   abbrev mark : ℕ → Mark
   mark p = mark_at (event_at s.events p)
 
   same : after s ≡ preceding shape
-  same = ap (λ (l : List (List ℕ)). (λ (p : ℕ). slice_index_or l (p - 1) [])) is_story.preceding
+  same = ap (λ (l : List (List ℕ)). (λ (p : ℕ). slice_index_or l (p - 1) [])) is_event_order.preceding
 
   laid : Laid (after s) (whole shape) 1 [] []
   laid = subst (λ (g : ℕ → List ℕ). Laid g (whole shape) 1 [] []) (sym same) (laid_whole shape)
 
   marked : Marked mark shape 2
   marked = marked_shape mark shape 2 (λ i l. (let z : 2 + i - 1 ≡ suc i = omega arith in
-      ap (λ (j : ℕ). mark_at (slice_get s.events j)) z ∙ marks_at s.events (suc i) ∙ ap (λ (l : List Mark). get_or l (suc i) Plain) is_story.spells))
+      ap (λ (j : ℕ). mark_at (slice_get s.events j)) z ∙ marks_at s.events (suc i) ∙ ap (λ (l : List Mark). get_or l (suc i) Plain) is_event_order.spells))
 
   pub behind_spawn : (k z : ℕ) → 1 ≤ z → suc z ≤ length s.events → what s (suc z) ≡ resume k → Before s k z
   behind_spawn k z some within is =
       let r = resume_mark s.events (suc z) (event s (suc z)) (after s (suc z)) k is in
-      let wide : suc (long (line_of shape)) ≡ length s.events = long_whole shape s.events is_story.spells in
+      let wide : suc (long (line_of shape)) ≡ length s.events = long_whole shape s.events is_event_order.spells in
       spawn_ahead (after s) mark shape 2 (1 ∷ []) [] laid.1 marked k z (omega (arith, some)) (omega (arith, within, wide))
       (record { spawned = (spawn_of s.events k (event s k) (after s k) r.spawned).0; resumes = r.mark; alone = r.alone })

@@ -17,7 +17,7 @@ use Rattle.cilk_program.specs.Numbering.{Block, Counts, child_at, counts_after, 
 use Rattle.cilk_program.proofs.Numbers.{serial_counts}
 use Rattle.cilk_runs.specs.Runs.{Name, Run, Deed, Does, Invokes}
 use Rattle.cilk_runs.specs.Runs as runs
-use Rattle.cilk_runs.specs.FrameEnvs.{FrameEnv, child_world}
+use Rattle.cilk_runs.specs.FrameEnvs.{FrameEnv, child_env}
 use Rattle.cilk_determinacy.specs.Nested.{named_from}
 use Rattle.cilk_determinacy.specs.Numbers.{IsHere, child_runs, frame_number, frame_runs, start_event}
 use Rattle.cilk_determinacy.proofs.Sights.{Stands}
@@ -62,7 +62,7 @@ module _ (p : Source) (r : serial.Transcript) where
         serial_children rest w j (standing_act p inputs well r w fr j a (answer_to fr m a) more (counts_of m) standing)
     serial_children (Ended v left q ok) w j standing = tt
     serial_children (Went {fr = fr} {start = start} {history = history} {m = m} {u = u} {r = more} how callee left v left' m' q ok inner rest) w j standing =
-        let c = child_world p w (suc j) callee in
+        let c = child_env p w (suc j) callee in
         let after : counts_of m' ≡ counts_after p u (entered p callee (counts_of m)) = serial_counts inner in
         let below = standing_child p inputs well r w fr j how callee u more m history start left standing q in
         let there = asked_there p inputs well r w fr history start left (asks.Invoke how callee) standing.stands q in (
@@ -71,7 +71,7 @@ module _ (p : Source) (r : serial.Transcript) where
           serial_children rest w (suc j) (standing_past p inputs well r w fr j how callee u more (counts_of m) (counts_of m') after standing),
         )
     serial_children (Broke {fr = fr} {start = start} {history = history} {m = m} {u = u} how callee left f q ok inner) w j standing =
-        let c = child_world p w (suc j) callee in
+        let c = child_env p w (suc j) callee in
         let below = standing_child p inputs well r w fr j how callee u serial.stop m history start left standing q in
         let there = asked_there p inputs well r w fr history start left (asks.Invoke how callee) standing.stands q in (
           is_child w.name (suc j) callee c (next_frame p fr.scope m callee) (not_root p (body_of p w.callee) callee there) refl refl below.stands,

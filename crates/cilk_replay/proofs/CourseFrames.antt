@@ -9,7 +9,7 @@ use Rattle.cilk_runs.specs.Runs.{Ask, Instance, Deed, Does, Ends}
 use Rattle.cilk_runs.proofs.Basics.{same_name-refl}
 use Rattle.cilk_runs.specs.FrameEnvMachine.{is_end, has_ended, next, opening_values}
 use Rattle.cilk_runs.specs.Reducers.{View, monoid_of}
-use Rattle.cilk_runs.specs.FrameEnvs.{FrameEnv, first_world}
+use Rattle.cilk_runs.specs.FrameEnvs.{FrameEnv, first_env}
 use Rattle.cilk_replay.specs.InputCourses.{IsOverWithItsEnd}
 use Rattle.cilk_replay.specs.Frames.{same_body, same_frame, ProgramsHaveOneCourse, SerialRunsAreTheirCourses, AskedCoursesAreSerialRuns}
 use Rattle.cilk_replay.proofs.CourseRuns.{own_course, asked_is_serial}
@@ -39,12 +39,12 @@ ends_over p inputs w past v gone = by (has_ended (past ++ Does (Ends v gone) ∷
 
 pub runs_are_courses : SerialRunsAreTheirCourses
 runs_are_courses p inputs t run =
-    own_course FrameEnv View monoid_of (next p inputs) (same_frame p) (one_frame p) (first_world p) (opening_values p inputs) (unit_of monoid_of) t run
+    own_course FrameEnv View monoid_of (next p inputs) (same_frame p) (one_frame p) (first_env p) (opening_values p inputs) (unit_of monoid_of) t run
 
 pub courses_are_runs : AskedCoursesAreSerialRuns
 courses_are_runs p inputs others t c run course asked =
-    asked_is_serial FrameEnv View monoid_of (next p others) (same_frame p) (ends_over p others) (first_world p) (opening_values p others) (unit_of monoid_of) t c run.framed course asked
+    asked_is_serial FrameEnv View monoid_of (next p others) (same_frame p) (ends_over p others) (first_env p) (opening_values p others) (unit_of monoid_of) t c run.framed course asked
 
 pub programs_have_one : ProgramsHaveOneCourse
 programs_have_one p inputs t =
-    courses_are_one FrameEnv View monoid_of (next p inputs) (same_frame p) (one_frame p) (first_world p) [] (opening_values p inputs) (unit_of monoid_of) t
+    courses_are_one FrameEnv View monoid_of (next p inputs) (same_frame p) (one_frame p) (first_env p) [] (opening_values p inputs) (unit_of monoid_of) t

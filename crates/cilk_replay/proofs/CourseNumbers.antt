@@ -28,7 +28,7 @@ use Rattle.cilk_runs.specs.Views.{view_after}
 use Rattle.cilk_runs.proofs.Basics.{same_name-eq}
 use Rattle.cilk_runs.specs.FrameEnvMachine.{next}
 use Rattle.cilk_runs.specs.Reducers.{View, monoid_of}
-use Rattle.cilk_runs.specs.FrameEnvs.{FrameEnv, child_world}
+use Rattle.cilk_runs.specs.FrameEnvs.{FrameEnv, child_env}
 use Rattle.cilk_determinacy.specs.Nested.{named_from}
 use Rattle.cilk_determinacy.specs.Numbers.{down, number_of, first_cell, frame_number, cell_number, instance_number, start_event, numbered_event, numbered_events}
 use Rattle.cilk_determinacy.proofs.Numbered.{are_written}
@@ -56,7 +56,7 @@ shaped p w x i j (serial.act a v r) (serial.child k d y s) h = absurd h
 shaped p w x i j (serial.child k c u r) serial.stop h = absurd h
 shaped p w x i j (serial.child k c u r) (serial.act b y s) h = absurd h
 shaped p w x i j (serial.child k c u r) (serial.child l d v s) h =
-    (h.0, shaped p (child_world p w i c) (child_world p x j d) 1 1 u v h.1, shaped p w x (suc i) (suc j) r s h.2)
+    (h.0, shaped p (child_env p w i c) (child_env p x j d) 1 1 u v h.1, shaped p w x (suc i) (suc j) r s h.2)
 
 more_entered : (p : Source) (c d : Callee) (n : Counts) → cells_of p c ≡ cells_of p d → entered p c n ≡ entered p d n
 more_entered p c d n e = ap (cells_more n) e

@@ -26,7 +26,7 @@ use Rattle.cilk_runs.specs.Views.{view_after}
 use Rattle.cilk_runs.specs.FrameEnvMachine.{costs, opening_values}
 use Rattle.cilk_runs.specs.Reducers.{View, monoid_of}
 use Rattle.cilk_runs.specs.Steps.{result_in, finals_in}
-use Rattle.cilk_runs.specs.FrameEnvs.{first_world, global_named}
+use Rattle.cilk_runs.specs.FrameEnvs.{first_env, global_named}
 use Rattle.cilk_determinacy.specs.Nested.{named}
 use Rattle.cilk_determinacy.specs.Numbers.{cell_number, instance_number, HasInstance}
 use Rattle.cilk_determinacy.proofs.Remembered.{run_remembers, view_at}
@@ -80,14 +80,14 @@ named_leaves p inputs r v store gave printed same =
 
 pub runs_are_elided : RunsAreElided
 runs_are_elided p inputs u well has are run keeps =
-    let ticks = whole (costs p inputs) (first_world p) u TickTotal in
+    let ticks = whole (costs p inputs) (first_env p) u TickTotal in
     let h = runs_within p inputs u well has are run keeps ticks (omega arith) in
     let r = h.transcript in
     let store = h.memory.store in
     let outcome = outcome_of global_reducer p h.value store in
-    let remembered = run_remembers p r inputs well h.derivation (first_world p) 0 (standing_root p inputs well r) h.sets
+    let remembered = run_remembers p r inputs well h.derivation (first_env p) 0 (standing_root p inputs well r) h.sets
     (opening_values p inputs) (unit_of monoid_of) (opens_same p inputs r) in
-    let gave = result_of (trace (named p r)) h.value (ends_last p inputs h.derivation (first_world p) 1) in
+    let gave = result_of (trace (named p r)) h.value (ends_last p inputs h.derivation (first_env p) 1) in
     let printed : store.output ≡ printed_in (trace (named p r)) =
     (serial_right h.derivation well tt (λ taken. absurd taken)).1.1
     ∙ sym (prints_are (cell_number p r) (instance_number p r) (trace (named p r)) h.events remembered.written) in

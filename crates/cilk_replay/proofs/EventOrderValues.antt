@@ -1,5 +1,5 @@
--- The event order of a plan's run on another input has values: `stories_have_values`. On the run's
--- own input it is the plan's: `own_story`. A serial run by names reads, writes and puts into views
+-- The event order of a plan's run on another input has values: `event_orders_have_values`. On the run's
+-- own input it is the plan's: `own_event_order`. A serial run by names reads, writes and puts into views
 -- only words: `own_words`.
 use Rattle.std.proofs.Common.{◌≡◌, ◌≤◌, ℕ, ◌-◌, ℤ, pos, Bool, true, false, List, [], ◌∷◌, ◌++◌, zero, suc, length, Some, None, slice_get, slice_index_or, unwrap_or, refl, sym, ap, ap₂, ◌∙◌, subst, arith, inl}
 use Rattle.std.proofs.lemmas.Option.{slice_get_past}
@@ -27,7 +27,7 @@ use Rattle.cilk_runs.specs.Runs as runs
 use Rattle.cilk_runs.specs.Traces.{trace, begin_due, IsFramed, IsWritten, AreWritten}
 use Rattle.cilk_runs.specs.FrameEnvMachine.{next, opening_values}
 use Rattle.cilk_runs.specs.Reducers.{View, monoid_of}
-use Rattle.cilk_runs.specs.FrameEnvs.{FrameEnv, first_world}
+use Rattle.cilk_runs.specs.FrameEnvs.{FrameEnv, first_env}
 use Rattle.cilk_determinacy.specs.Nested.{named}
 use Rattle.cilk_determinacy.specs.Numbers.{cell_number, instance_number, HasCell, EventIsHere, AreHere}
 use Rattle.cilk_determinacy.specs.Theorem.{IsNumbered}
@@ -40,8 +40,8 @@ use Rattle.cilk_determinacy.proofs.Worded.{zero_word}
 use Rattle.cilk_determinacy.proofs.Wordy.{opening_word, set_words}
 use Rattle.cilk_replay.specs.InputCourses.{Course, stop, act, child, run_of, all_asked, asked_in}
 use Rattle.cilk_replay.specs.Frames.{same_frame, course_on, IsCourseOn, IsSerialRunOn}
-use Rattle.cilk_replay.specs.Lists.{with_value, with_values, story_along}
-use Rattle.cilk_replay.specs.EventOrders.{story_on, IsPlannedRun, OwnEventOrder, EventOrdersAlongHaveValues}
+use Rattle.cilk_replay.specs.Lists.{with_value, with_values, event_order_along}
+use Rattle.cilk_replay.specs.EventOrders.{event_order_on, IsPlannedRun, OwnEventOrder, EventOrdersAlongHaveValues}
 use Rattle.cilk_replay.proofs.CourseFrames.{runs_are_courses, programs_have_one}
 use Rattle.cilk_replay.proofs.CourseLists.{kept_kinds, course_written}
 use Rattle.cilk_replay.proofs.CourseRuns.{run_all}
@@ -173,7 +173,7 @@ module _ (p : Source) (inputs : List ℤ) (has : HasWords p) (are : InputsAreWor
   pub own_words : (t : Run FrameEnv) → IsSerialRunOn p inputs t → length (trace t) ≤ 1000000 → RunWords t
   own_words t run few =
       subst RunWords (run_all t)
-      (whole_words (next p inputs) (same_frame p) (next_words p inputs has are) (first_world p) (opening_values p inputs) (unit_of monoid_of) t (all_asked t)
+      (whole_words (next p inputs) (same_frame p) (next_words p inputs has are) (first_env p) (opening_values p inputs) (unit_of monoid_of) t (all_asked t)
       few tt opening_is (λ i. refl) (runs_are_courses p inputs t run).0 (all_else t))
 
 module _ (p : Source) (inputs : List ℤ) (r : Transcript) (es : List numbers.Event) (opening : List ℤ) (is : IsPlannedRun p inputs r es opening) where
@@ -201,14 +201,14 @@ module _ (p : Source) (inputs : List ℤ) (r : Transcript) (es : List numbers.Ev
   abbrev told : List numbers.Event → List Bool → EventOrder
   told l b = record { events = l; preceding = predecessors_in es; opening = opening; asked = b }
 
-  pub own : story_on p inputs r es opening ≡ planned es opening
+  pub own : event_order_on p inputs r es opening ≡ planned es opening
   own =
       let one = programs_have_one p inputs t in
       let same = one.1 (all_asked t) (runs_are_courses p inputs t serial).0 in
       let n = numbers_are in
       let values : with_values es (trace (run_of (all_asked t))) ≡ es = ap (λ (u : Run FrameEnv). with_values es (trace u)) (run_all t) ∙ own_values (cell_number p r) (instance_number p r) (trace t) es n.written in
       let asked : asked_in (all_asked t) ≡ plans.all_asked es = all_of (cell_number p r) (instance_number p r) (trace t) es (asked_in (all_asked t)) n.written (true_all t) in
-      ap (story_along es opening) (sym same)
+      ap (event_order_along es opening) (sym same)
       ∙ ap₂ told values asked
 
   module _ (others : List ℤ) (are : InputsAreWords others) where
@@ -216,7 +216,7 @@ module _ (p : Source) (inputs : List ℤ) (r : Transcript) (es : List numbers.Ev
     c = course_on p others t
 
     abbrev s : EventOrder
-    s = story_on p others r es opening
+    s = event_order_on p others r es opening
 
     pub course : IsCourseOn p others t c
     course = (programs_have_one p others t).0
@@ -224,18 +224,18 @@ module _ (p : Source) (inputs : List ℤ) (r : Transcript) (es : List numbers.Ev
     pub written : AreWritten (cell_number p r) (instance_number p r) (trace (run_of c)) (with_values es (trace (run_of c)))
     written =
         let n = numbers_are in
-        course_written FrameEnv View monoid_of (next p others) (same_frame p) (cell_number p r) (instance_number p r) (first_world p) [] (opening_values p others) (unit_of monoid_of) t c es course n.written
+        course_written FrameEnv View monoid_of (next p others) (same_frame p) (cell_number p r) (instance_number p r) (first_env p) [] (opening_values p others) (unit_of monoid_of) t c es course n.written
 
     right : AreAskedRight (opening_cells p inputs) (with_values es (trace (run_of c))) (asked_in c)
     right =
         let n = events_numbered p inputs r es (Leaves is.outcome) is.named is.runs in
-        course_right (cell_number p r) (instance_number p r) (HasCell p r) (same_cells p r) FrameEnv View monoid_of (next p others) (same_frame p) (first_world p) [] (opening_values p others) (unit_of monoid_of) (opening_cells p inputs)
+        course_right (cell_number p r) (instance_number p r) (HasCell p r) (same_cells p r) FrameEnv View monoid_of (next p others) (same_frame p) (first_env p) [] (opening_values p others) (unit_of monoid_of) (opening_cells p inputs)
         t c (with_values es (trace (run_of c))) course (known_here p r t n.here) written (cells_open p inputs r)
 
     words : ListWords (trace (run_of c))
     words =
         list_words (run_of c)
-        (whole_words (next p others) (same_frame p) (next_words p others is.words are) (first_world p) (opening_values p others) (unit_of monoid_of) t c few tt
+        (whole_words (next p others) (same_frame p) (next_words p others is.words are) (first_env p) (opening_values p others) (unit_of monoid_of) t c few tt
         (opening_is p others is.words are) (λ i. refl) course (words_else t c run_words))
 
     of_words : (q : ℕ) (e : numbers.Event) → event s q ≡ Some e → IsOfWords e
@@ -261,11 +261,11 @@ module _ (p : Source) (inputs : List ℤ) (r : Transcript) (es : List numbers.Ev
       opening_words = λ cell. let w = is.words in subst IsWord (sym (is.opens cell)) (opening_word p is.words inputs is.inputs_words p.openings w.openings cell);
     }
 
-pub own_story : OwnEventOrder
-own_story p inputs r es opening is = own p inputs r es opening is
+pub own_event_order : OwnEventOrder
+own_event_order p inputs r es opening is = own p inputs r es opening is
 
-pub stories_have_values : EventOrdersAlongHaveValues
-stories_have_values p inputs others r es opening is are = (
+pub event_orders_have_values : EventOrdersAlongHaveValues
+event_orders_have_values p inputs others r es opening is are = (
   record { kinds = kept_kinds es (trace (run_of (course_on p others (named p r)))); preceding = refl; opening = refl },
   values p inputs r es opening is others are,
 )

@@ -49,7 +49,7 @@ use Rattle.cilk_tree.specs.declared.event_order.EventOrder.{EventOrder}
 use Rattle.cilk_tree.specs.Runs.{IsAsked}
 use Rattle.cilk_tree.specs.Word.{event}
 use Rattle.cilk_runs.specs.FrameEnvMachine.{answer_of, answers_of, asked_after, has_ended, is_end, named_ask, next, opening_values}
-use Rattle.cilk_runs.specs.FrameEnvs.{FrameEnv, child_world, first_world}
+use Rattle.cilk_runs.specs.FrameEnvs.{FrameEnv, child_env, first_env}
 use Rattle.cilk_runs.proofs.KeptFrameEnv.{answers_more}
 use Rattle.cilk_determinacy.specs.Numbers.{AreNumbered, IsHere, cell_number, frame_number, instance_number, numbered_events}
 use Rattle.cilk_replay.specs.Frames.{course_on, same_body, same_frame}
@@ -87,25 +87,25 @@ child_fit p b (callees.Function c) h = (λ q. cc q, h.0)
 child_fit p b (callees.Loop l) h = (λ q. cc q, h.0)
 
 module _ (s : Setting) (h : IsOfProgram s) where
-  abbrev story : EventOrder
-  story = s.story
+  abbrev event_order : EventOrder
+  event_order = s.event_order
 
-  told : AreTold s.program s.run s.inputs h.events s.story
-  told = subst (λ (z : EventOrder). AreTold s.program s.run s.inputs h.events z) (sym h.told) (asked_by_positions s.program s.own s.inputs s.run h.events story.opening h.is)
+  told : AreTold s.program s.run s.inputs h.events s.event_order
+  told = subst (λ (z : EventOrder). AreTold s.program s.run s.inputs h.events z) (sym h.told) (asked_by_positions s.program s.own s.inputs s.run h.events event_order.opening h.is)
 
   pub here : (i : ℕ) (x : Point FrameEnv) → point_at s i ≡ Some x
-      → IsPoint (next s.program s.inputs) (same_frame s.program) (point_at s) i x × IsTold s.program s.run s.inputs h.events s.story i x
+      → IsPoint (next s.program s.inputs) (same_frame s.program) (point_at s) i x × IsTold s.program s.run s.inputs h.events s.event_order i x
   unfolding point_at
   here i x is = told.each i x is
 
-  long : length (points_on s.program s.inputs s.run) ≡ length story.events
+  long : length (points_on s.program s.inputs s.run) ≡ length event_order.events
   long = told.all
 
-  pub following : (i : ℕ) → i < length story.events → (y : Point FrameEnv) × (point_at s i ≡ Some y)
+  pub following : (i : ℕ) → i < length event_order.events → (y : Point FrameEnv) × (point_at s i ≡ Some y)
   unfolding point_at
   following i less = got (points_on s.program s.inputs s.run) i (let q = long in omega (arith, less, q))
 
-  pub within : (i : ℕ) (x : Point FrameEnv) → point_at s i ≡ Some x → i < length story.events
+  pub within : (i : ℕ) (x : Point FrameEnv) → point_at s i ≡ Some x → i < length event_order.events
   unfolding point_at
   within i x is = let q = long in let less = slice_get_inside (points_on s.program s.inputs s.run) i x is in omega (arith, q, less)
     where
@@ -114,17 +114,17 @@ module _ (s : Setting) (h : IsOfProgram s) where
       slice_get_inside (y ∷ xs) zero x q = omega arith
       slice_get_inside (y ∷ xs) (suc k) x q = let less = slice_get_inside xs k x q in omega (arith, less)
 
-  pub first : (x : Point FrameEnv) → point_at s 0 ≡ Some x → (x.frame ≡ first_world s.program) × (x.past ≡ []) × (x.since ≡ 0)
+  pub first : (x : Point FrameEnv) → point_at s 0 ≡ Some x → (x.frame ≡ first_env s.program) × (x.past ≡ []) × (x.since ≡ 0)
   unfolding point_at
   first x is = told.begins x is
 
   -- the plan's event has the kind of the event in the event order
-  pub plan_event : (i : ℕ) (e : Event) → event story (suc i) ≡ Some e → (p : Event) × (slice_get h.events i ≡ Some p) × (kind_of p ≡ kind_of e)
+  pub plan_event : (i : ℕ) (e : Event) → event event_order (suc i) ≡ Some e → (p : Event) × (slice_get h.events i ≡ Some p) × (kind_of p ≡ kind_of e)
   plan_event i e there =
       let back : suc i - 1 ≡ i = omega arith in
-      let at : slice_get story.events i ≡ Some e = ap (slice_get story.events) (sym back) ∙ there in
+      let at : slice_get event_order.events i ≡ Some e = ap (slice_get event_order.events) (sym back) ∙ there in
       let kinds : option_map kind_of (slice_get h.events i) ≡ Some (kind_of e) =
-      sym (slice_get-map kind_of h.events i) ∙ ap (λ l. slice_get l i) (sym h.along.kinds) ∙ slice_get-map kind_of story.events i ∙ ap (option_map kind_of) at in
+      sym (slice_get-map kind_of h.events i) ∙ ap (λ l. slice_get l i) (sym h.along.kinds) ∙ slice_get-map kind_of event_order.events i ∙ ap (option_map kind_of) at in
       kind_there (slice_get h.events i) (kind_of e) kinds
 
   -- ---- names of the plan's run
@@ -137,7 +137,7 @@ module _ (s : Setting) (h : IsOfProgram s) where
       let t = (here i x is).1 in
       maker_here s.program s.run [] (named s.program s.run) i (let w = x.frame in w.name) (root_here s.program s.run) numbered.here t.owner
 
-  begin_number : (i : ℕ) (x : Point FrameEnv) (f : ℕ) → point_at s i ≡ Some x → event story (suc i) ≡ Some (events.Begin f) → (let w = x.frame in f ≡ frame_number s.program s.run w.name)
+  begin_number : (i : ℕ) (x : Point FrameEnv) (f : ℕ) → point_at s i ≡ Some x → event event_order (suc i) ≡ Some (events.Begin f) → (let w = x.frame in f ≡ frame_number s.program s.run w.name)
   begin_number i x f is there =
       let t = (here i x is).1 in
       let e = plan_event i (events.Begin f) there in
@@ -147,13 +147,13 @@ module _ (s : Setting) (h : IsOfProgram s) where
   children : AreChildren s.program s.run [] 1 (named s.program s.run)
   children =
       let d = h.is.runs in
-      serial_children s.program s.run s.own h.is.named d.1 (first_world s.program) 0 (standing_root s.program s.own h.is.named s.run)
+      serial_children s.program s.run s.own h.is.named d.1 (first_env s.program) 0 (standing_root s.program s.own h.is.named s.run)
 
   pub known : (i : ℕ) (x : Point FrameEnv) → point_at s i ≡ Some x → IsKnown s.program s.run x
   unfolding point_at
   known i x is =
       known_at s.program s.run (points_on s.program s.inputs s.run) i x
-      (all_known s.program s.run View monoid_of (next s.program s.inputs) (first_world s.program) [] (opening_values s.program s.inputs) (unit_of monoid_of) 0 0 (named s.program s.run) (course_on s.program s.inputs (named s.program s.run))
+      (all_known s.program s.run View monoid_of (next s.program s.inputs) (first_env s.program) [] (opening_values s.program s.inputs) (unit_of monoid_of) 0 0 (named s.program s.run) (course_on s.program s.inputs (named s.program s.run))
       numbered.here children (programs_have_one s.program s.inputs (named s.program s.run)).0) is
 
   -- the event that starts a child has its number
@@ -161,7 +161,7 @@ module _ (s : Setting) (h : IsOfProgram s) where
   unfolding point_at
   starts_as i x e is there =
       start_at s.program s.run View monoid_of (next s.program s.inputs) (numbered_events s.program s.run [] (named s.program s.run)) (points_on s.program s.inputs s.run) i e x
-      (all_start s.program s.run View monoid_of (next s.program s.inputs) [] (first_world s.program) [] (opening_values s.program s.inputs) (unit_of monoid_of) 0 0 (named s.program s.run) (course_on s.program s.inputs (named s.program s.run))
+      (all_start s.program s.run View monoid_of (next s.program s.inputs) [] (first_env s.program) [] (opening_values s.program s.inputs) (unit_of monoid_of) 0 0 (named s.program s.run) (course_on s.program s.inputs (named s.program s.run))
       (programs_have_one s.program s.inputs (named s.program s.run)).0)
       (ap (λ l. slice_get l i) (sym numbered.events) ∙ there) is
 
@@ -170,7 +170,7 @@ module _ (s : Setting) (h : IsOfProgram s) where
   plan_deed i x p is there = let tell = (here i x is).1 in made (cell_number s.program s.run) (instance_number s.program s.run) x.planned p (tell.plan p there)
 
   -- the plan's deed is of the event's kind
-  pub planned_kind : (i : ℕ) (x : Point FrameEnv) (e : Event) → point_at s i ≡ Some x → event story (suc i) ≡ Some e → IsOfKind (kind_of e) x.planned
+  pub planned_kind : (i : ℕ) (x : Point FrameEnv) (e : Event) → point_at s i ≡ Some x → event event_order (suc i) ≡ Some e → IsOfKind (kind_of e) x.planned
   planned_kind i x e is there =
       let found = plan_event i e there in
       subst (λ k. IsOfKind k x.planned) found.2 (plan_deed i x found.0 is found.1)
@@ -185,40 +185,40 @@ module _ (s : Setting) (h : IsOfProgram s) where
     pub asked_ask : (asked_after s.program s.inputs w x.past).ask ≡ k
     asked_ask = ap (λ (q : OpenAsk). q.ask) A.asked.asks
 
-    pub tell : IsTold s.program s.run s.inputs h.events s.story A.behind x
+    pub tell : IsTold s.program s.run s.inputs h.events s.event_order A.behind x
     tell = (here A.behind x A.is).1
 
-    module _ (e : Event) (asked : IsAsked story at) (is : event story at ≡ Some e) where
+    module _ (e : Event) (asked : IsAsked event_order at) (is : event event_order at ≡ Some e) where
       here_is : tell.here ≡ e
-      here_is = some_inner tell.here e (sym tell.is ∙ ap (event story) A.place ∙ is)
+      here_is = some_inner tell.here e (sym tell.is ∙ ap (event event_order) A.place ∙ is)
 
       pub asked_by : IsAskedBy s.program s.run s.inputs x e
-      asked_by = subst (IsAskedBy s.program s.run s.inputs x) here_is (tell.asks (subst (IsAsked story) (sym A.place) asked))
+      asked_by = subst (IsAskedBy s.program s.run s.inputs x) here_is (tell.asks (subst (IsAsked event_order) (sym A.place) asked))
 
       pub event_is : IsEventOf s.program s.run w k e
       event_is = subst (λ z. IsEventOf s.program s.run w z e) asked_ask asked_by.event
 
       pub deed_kind : IsOfKind (kind_of e) x.planned
-      deed_kind = planned_kind A.behind x e A.is (ap (event story) A.place ∙ is)
+      deed_kind = planned_kind A.behind x e A.is (ap (event event_order) A.place ∙ is)
 
       answer_is : answer_of x.deed ≡ answer_in e
       answer_is = tell.answers ∙ ap answer_in here_is
 
-    pub made_event : IsAsked story at → (e : Event) × (event story at ≡ Some e) × IsEventOf s.program s.run w k e
+    pub made_event : IsAsked event_order at → (e : Event) × (event event_order at ≡ Some e) × IsEventOf s.program s.run w k e
     made_event asked =
-        let is : event story at ≡ Some tell.here = ap (event story) (sym A.place) ∙ tell.is in
+        let is : event event_order at ≡ Some tell.here = ap (event event_order) (sym A.place) ∙ tell.is in
         (tell.here, is, event_is tell.here asked is)
 
     -- what it does is no end
-    pub deed_goes : IsAsked story at → HasAnswer k → is_end (let z = A.point in z.deed) ≡ false
+    pub deed_goes : IsAsked event_order at → HasAnswer k → is_end (let z = A.point in z.deed) ≡ false
     deed_goes asked has =
         let n = suc (started x.past) in
-        let yes = tell.asked.0 (subst (IsAsked story) (sym A.place) asked) in
+        let yes = tell.asked.0 (subst (IsAsked event_order) (sym A.place) asked) in
         let on = unended (has_ended x.past) (named_ask s.program w n (asked_after s.program s.inputs w x.past).ask) _ ((here A.behind x A.is).0.asks yes) in
         not_end s.program w n k x.deed (ap (named_ask s.program w n) (sym asked_ask) ∙ on.1) has
 
     -- the answer owed to it
-    pub owed : (a : Answer) → IsAnswered story at a → Runs s.code s.inputs l.cursor × Fits (let v = l.cursor in v.owed) a
+    pub owed : (a : Answer) → IsAnswered event_order at a → Runs s.code s.inputs l.cursor × Fits (let v = l.cursor in v.owed) a
     owed a q =
         let f = q.1 in
         let fit = fitting s.program s.run w k q.0 a (event_is q.0 f.asked f.is) q.2 in
@@ -239,7 +239,7 @@ module _ (s : Setting) (h : IsOfProgram s) where
   Stepped l a k l' = (p : Source) (callee : Callee) (history : List ℤ) → Stands s.code s.inputs p callee l.cursor history l.took
       → HasAsked s.code s.inputs p callee (history ++ word_in a ∷ []) k l'
 
-  pub answered_on : (at : ℕ) (k k' : Ask) (l l' : Level) (below : List Level) (a : Answer) → StandsAt s at k l below → IsAnswered story at a → l'.sight ≡ l.sight → Stepped l a k' l'
+  pub answered_on : (at : ℕ) (k k' : Ask) (l l' : Level) (below : List Level) (a : Answer) → StandsAt s at k l below → IsAnswered event_order at a → l'.sight ≡ l.sight → Stepped l a k' l'
       → StandsAt s (at + 1) k' l' below
   answered_on at k k' l l' below a S q sight step =
       let A = S.asks in
@@ -301,7 +301,7 @@ module _ (s : Setting) (h : IsOfProgram s) where
   pub record Placed (at : ℕ) (caller new : Sight) (callee : Callee) : Type 0 where
     pub number : ℕ
     pub home : Home
-    pub begins : event story (at + 1) ≡ Some (events.Begin number)
+    pub begins : event event_order (at + 1) ≡ Some (events.Begin number)
     pub lies : (path : List ℕ) (b : Block) → frame_at s.program s.run path ≡ Some b → b.number ≡ number → home.block ≡ cells_of_block b
     pub frame : home.frame ≡ number
     pub before : home.before ≡ 0
@@ -319,10 +319,10 @@ module _ (s : Setting) (h : IsOfProgram s) where
     same : same_body (body_of s.program planned.callee) (body_of s.program callee) ≡ true
 
   alike : (i : ℕ) (x : Point FrameEnv) (how : Invocation) (v : FrameEnv) (callee : Callee) → point_at s i ≡ Some x → x.planned ≡ Invokes how v
-      → x.deed ≡ Invokes how (child_world s.program x.frame (suc (started x.past)) callee) → Alike x callee
+      → x.deed ≡ Invokes how (child_env s.program x.frame (suc (started x.past)) callee) → Alike x callee
   alike i x how v callee is planned deed =
       let know = known i x is in
-      let c = child_world s.program x.frame (suc (started x.past)) callee in
+      let c = child_env s.program x.frame (suc (started x.past)) callee in
       let like = subst (IsLikeDeed (same_frame s.program) (Invokes how v)) deed (subst (λ (d : Deed FrameEnv). IsLikeDeed (same_frame s.program) d x.deed) planned know.like) in
       record {
         planned = v;
@@ -332,14 +332,14 @@ module _ (s : Setting) (h : IsOfProgram s) where
 
   -- the child's sight
   placed_sees : (at i : ℕ) (k : Ask) (l : Level) (A : Asks s at k l) (how : Invocation) (callee : Callee) (y : Point FrameEnv) (sight : Sight) → k ≡ asks.Invoke how callee → suc i ≡ at + 1 → point_at s i ≡ Some y
-      → (let x = A.point in child_world s.program x.frame (suc (started x.past)) callee ≡ y.frame) → Alike A.point callee → Placed at l.sight sight callee → Sees s.program s.run y.frame sight
+      → (let x = A.point in child_env s.program x.frame (suc (started x.past)) callee ≡ y.frame) → Alike A.point callee → Placed at l.sight sight callee → Sees s.program s.run y.frame sight
   placed_sees at i k l A how callee y sight asked place is frame like P =
       let x = A.point in
       let w = x.frame in
       let n = suc (started x.past) in
       let name : (let v = y.frame in v.name) ≡ w.name ++ n ∷ [] = sym (ap (λ (v : FrameEnv). v.name) frame) in
       let its = subst (IsHere s.program s.run) name (frame_here i y is) in
-      let number = begin_number i y P.number is (ap (event story) place ∙ P.begins) ∙ ap (frame_number s.program s.run) name ∙ frame_is s.program s.run (w.name ++ n ∷ []) its in
+      let number = begin_number i y P.number is (ap (event event_order) place ∙ P.begins) ∙ ap (frame_number s.program s.run) name ∙ frame_is s.program s.run (w.name ++ n ∷ []) its in
       subst (λ (v : FrameEnv). Sees s.program s.run v sight) frame
       (child_sees s.program s.run w l.sight A.sees n callee P.home sight (record {
         well = h.is.named;
@@ -356,7 +356,7 @@ module _ (s : Setting) (h : IsOfProgram s) where
       }) P.sight)
 
   begun_asks : (at : ℕ) (k : Ask) (l c : Level) (A : Asks s at k l) (how : Invocation) (callee : Callee) (e : Event) (w : FrameEnv) → k ≡ asks.Invoke how callee
-      → Follows story at e → (let x = A.point in x.planned ≡ Invokes how w) → IsNew at l c callee → Begun at A.point A.behind how c
+      → Follows event_order at e → (let x = A.point in x.planned ≡ Invokes how w) → IsNew at l c callee → Begun at A.point A.behind how c
   begun_asks at k l c A how callee e w is f planned new =
       let x = A.point in
       let place = A.place in
@@ -364,8 +364,8 @@ module _ (s : Setting) (h : IsOfProgram s) where
       let y = following (suc A.behind) (omega (arith, place, less)) in
       let begun : IsFirst A.behind x how y.0 = (here A.behind x A.is).0.starts how w planned y.0 y.1 in
       let by = asked_by at k l A e f.asked f.is in
-      let made_child : x.deed ≡ Invokes how (child_world s.program x.frame (suc (started x.past)) callee) = by.starts how callee (asked_ask at k l A ∙ is) in
-      let frame : child_world s.program x.frame (suc (started x.past)) callee ≡ (let z = y.0 in z.frame) = invoked how _ _ (sym made_child ∙ begun.started) in
+      let made_child : x.deed ≡ Invokes how (child_env s.program x.frame (suc (started x.past)) callee) = by.starts how callee (asked_ask at k l A ∙ is) in
+      let frame : child_env s.program x.frame (suc (started x.past)) callee ≡ (let z = y.0 in z.frame) = invoked how _ _ (sym made_child ∙ begun.started) in
       let same : callee ≡ (let z = y.0 in let v = z.frame in v.callee) = ap (λ (v : FrameEnv). v.callee) frame in
       record {
         asks = record {
@@ -410,7 +410,7 @@ module _ (s : Setting) (h : IsOfProgram s) where
         small = A.asked.small;
       }
 
-  pub called_on : (at : ℕ) (k : Ask) (l c : Level) (below : List Level) (S : StandsAt s at k l below) (f : ℕ) → Follows story at (events.Call f)
+  pub called_on : (at : ℕ) (k : Ask) (l c : Level) (below : List Level) (S : StandsAt s at k l below) (f : ℕ) → Follows event_order at (events.Call f)
       → ((callee : Callee) → k ≡ asks.Invoke Call callee → CalleeIsFit s.program callee → IsNew at l c callee) → StandsAt s (at + 1) asks.Begin c (below ++ l ∷ [])
   unfolding waits_for
   called_on at k l c below S f F new =
@@ -424,14 +424,14 @@ module _ (s : Setting) (h : IsOfProgram s) where
       }
 
   -- the child that the request begins
-  pub call_begins : (at : ℕ) (k : Ask) (l : Level) (below : List Level) → StandsAt s at k l below → (f : ℕ) → Follows story at (events.Call f)
+  pub call_begins : (at : ℕ) (k : Ask) (l : Level) (below : List Level) → StandsAt s at k l below → (f : ℕ) → Follows event_order at (events.Call f)
       → (how : Invocation) × (callee : Callee) × (callee ≢ callees.Root) × (k ≡ asks.Invoke how callee)
   call_begins at k l below S f F =
       let A = S.asks in
       let callee = ask_for s.program s.run (let x = A.point in x.frame) k (events.Call f) (event_is at k l A (events.Call f) F.asked F.is) in
       (Call, callee.0, (there at k l A Call callee.0 callee.1).0, callee.1)
 
-  pub spawn_begins : (at : ℕ) (k : Ask) (l : Level) (below : List Level) → StandsAt s at k l below → (f : ℕ) → Follows story at (events.Spawn f)
+  pub spawn_begins : (at : ℕ) (k : Ask) (l : Level) (below : List Level) → StandsAt s at k l below → (f : ℕ) → Follows event_order at (events.Spawn f)
       → (how : Invocation) × (callee : Callee) × (callee ≢ callees.Root) × (k ≡ asks.Invoke how callee)
   spawn_begins at k l below S f F =
       let A = S.asks in
@@ -446,7 +446,7 @@ module _ (s : Setting) (h : IsOfProgram s) where
   abbrev pub IsResumed : ℕ → Point FrameEnv → Type 0
   IsResumed next x = (j : ℕ) × (suc j ≡ next) × (y : Point FrameEnv) × (point_at s j ≡ Some y) × IsLater x y
 
-  pub spawned_on : (at : ℕ) (k : Ask) (l c : Level) (below : List Level) (S : StandsAt s at k l below) (f next : ℕ) → Follows story at (events.Spawn f)
+  pub spawned_on : (at : ℕ) (k : Ask) (l c : Level) (below : List Level) (S : StandsAt s at k l below) (f next : ℕ) → Follows event_order at (events.Spawn f)
       → ((callee : Callee) → k ≡ asks.Invoke Spawn callee → CalleeIsFit s.program callee → IsNew at l c callee)
       → ((i : ℕ) (x : Point FrameEnv) → suc i ≡ at → point_at s i ≡ Some x → IsResumed next x) → Parted at next c l below
   spawned_on at k l c below S f next F new resumed =
@@ -488,7 +488,7 @@ module _ (s : Setting) (h : IsOfProgram s) where
   abbrev pub Caller : ℕ → Level → List Level → Type 0
   Caller at top below = RestsAt s (at + 1) top below
 
-  pub ended_on : (at : ℕ) (k : Ask) (l top : Level) (old new : List Level) → StandsAt s at k l old → Follows story at events.End → old ≡ new ++ top ∷ [] → RestsAt s (at + 1) top new
+  pub ended_on : (at : ℕ) (k : Ask) (l top : Level) (old new : List Level) → StandsAt s at k l old → Follows event_order at events.End → old ≡ new ++ top ∷ [] → RestsAt s (at + 1) top new
   ended_on at k l top old new S F popped =
       let A = S.asks in
       let x = A.point in

@@ -11,7 +11,7 @@ use Rattle.cilk_program.specs.Syntax.{Source}
 use Rattle.cilk_runs.specs.Runs.{Instance, Ends, Deed, Does, Invokes}
 use Rattle.cilk_runs.specs.Traces.{trace}
 use Rattle.cilk_runs.specs.Steps.{result_in}
-use Rattle.cilk_runs.specs.FrameEnvs.{FrameEnv, first_world, child_world}
+use Rattle.cilk_runs.specs.FrameEnvs.{FrameEnv, first_env, child_env}
 use Rattle.cilk_determinacy.specs.Nested.{named, named_event, named_from}
 
 -- the last deed is an end with this value
@@ -43,13 +43,13 @@ module _ (p : Source) (inputs : List ℤ) where
   ends_last (Ended v left q ok) w k = ([], _, refl)
   ends_last (Went {u = u} {r = r} {end = end} how callee left v left' m' q ok inner rest) w k =
       at_end end (IsLast (trace (named_from p w (suc k) r))) (IsLast (trace (named_from p w k (serial.child how callee u r))))
-      (λ v h. one_more (Invokes how (child_world p w k callee)) (trace (named_from p (child_world p w k callee) 1 u) ++ trace (named_from p w (suc k) r)) v
-      (many_more (trace (named_from p (child_world p w k callee) 1 u)) (trace (named_from p w (suc k) r)) v h)) (ends_last rest w (suc k))
+      (λ v h. one_more (Invokes how (child_env p w k callee)) (trace (named_from p (child_env p w k callee) 1 u) ++ trace (named_from p w (suc k) r)) v
+      (many_more (trace (named_from p (child_env p w k callee) 1 u)) (trace (named_from p w (suc k) r)) v h)) (ends_last rest w (suc k))
   ends_last (Broke how callee left f q ok inner) w k = tt
   ends_last (Refused a left f q is) w k = tt
 
   result_last : (r : Transcript) (es : List numbers.Event) (outcome : Outcome) → IsSerialRun p inputs r es (Leaves outcome) → IsLast (trace (named p r)) outcome.result
-  result_last r es outcome (end, d, e) = by end (ends_last d (first_world p) 1) e
+  result_last r es outcome (end, d, e) = by end (ends_last d (first_env p) 1) e
     where
       by : (end : Ending) → AtEnd end (IsLast (trace (named p r))) → Leaves outcome ≡ conclusion_of p inputs end → IsLast (trace (named p r)) outcome.result
       by (Finished v left m) h e =

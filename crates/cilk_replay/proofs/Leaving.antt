@@ -15,7 +15,7 @@ use Rattle.cilk_runs.specs.Serial.{value_after}
 use Rattle.cilk_runs.specs.Traces.{trace, IsWritten, AreWritten}
 use Rattle.cilk_runs.specs.FrameEnvMachine.{next, opening_values}
 use Rattle.cilk_runs.specs.Reducers.{View, monoid_of}
-use Rattle.cilk_runs.specs.FrameEnvs.{FrameEnv, first_world}
+use Rattle.cilk_runs.specs.FrameEnvs.{FrameEnv, first_env}
 use Rattle.cilk_determinacy.specs.Nested.{named}
 use Rattle.cilk_determinacy.specs.Numbers.{cell_number, instance_number, HasCell}
 use Rattle.cilk_determinacy.specs.Words.{InputsAreWords}
@@ -66,7 +66,7 @@ module _ (p : Source) (inputs : List ℤ) (r : Transcript) (es : List numbers.Ev
       let n = events_numbered p inputs r es (Leaves is.outcome) is.named is.runs in
       tied_after (cell_number p r) (instance_number p r) (HasCell p r) (same_cells p r) FrameEnv (opening_values p others) (opening_cells p inputs) (run_of c) list
       (written p inputs r es opening is others are)
-      (course_known (cell_number p r) (instance_number p r) (HasCell p r) (same_cells p r) FrameEnv View monoid_of (next p others) (same_frame p) (first_world p) [] (opening_values p others) (unit_of monoid_of) (named p r) c
+      (course_known (cell_number p r) (instance_number p r) (HasCell p r) (same_cells p r) FrameEnv View monoid_of (next p others) (same_frame p) (first_env p) [] (opening_values p others) (unit_of monoid_of) (named p r) c
       (course p inputs r es opening is others are) (known_here p r (named p r) n.here))
       (cells_open p inputs r) i has
 

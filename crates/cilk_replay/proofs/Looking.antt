@@ -32,7 +32,7 @@ use Rattle.cilk_runs.specs.Traces.{IsWritten}
 use Rattle.cilk_tree.specs.Runs.{IsAsked}
 use Rattle.cilk_tree.specs.Word.{event}
 use Rattle.cilk_runs.specs.FrameEnvMachine.{asked_after, has_ended, named_ask, next, retired_by}
-use Rattle.cilk_runs.specs.FrameEnvs.{FrameEnv, cell_seen, child_world, reducer_seen}
+use Rattle.cilk_runs.specs.FrameEnvs.{FrameEnv, cell_seen, child_env, reducer_seen}
 use Rattle.cilk_determinacy.specs.Numbers.{HasCell, HasInstance, cell_number, frame_number, frame_runs, instance_number, start_event}
 use Rattle.cilk_determinacy.proofs.Numbers.{cells_one, frame_is, one_to_one}
 use Rattle.cilk_replay.specs.Frames.{same_body, same_frame}
@@ -464,7 +464,7 @@ module _ (s : Setting) (h : IsOfProgram s) (at : ℕ) (k : language.Ask) (l : Le
   x = A.point
 
   -- the frame's request makes this deed, of the plan's kind
-  pub asked_by_deed : IsMade s.program x.frame (suc (started x.past)) k x.planned → IsAsked s.story at
+  pub asked_by_deed : IsMade s.program x.frame (suc (started x.past)) k x.planned → IsAsked s.event_order at
   asked_by_deed m =
       let n = suc (started x.past) in
       let w = x.frame in
@@ -472,30 +472,30 @@ module _ (s : Setting) (h : IsOfProgram s) (at : ℕ) (k : language.Ask) (l : Le
       ap (λ (b : Bool). cond b None (Some (named_ask s.program w n (asked_after s.program s.inputs w x.past).ask))) A.goes_on
       ∙ ap (λ (a : language.Ask). Some (named_ask s.program w n a)) (asked_ask s h at k l A) in
       let t = tell s h at k l A in
-      subst (IsAsked s.story) A.place (t.asked.1 ((here s h A.behind x A.is).0.only m.0 m.1 (asks_next ∙ ap (λ (a : Ask FrameEnv). Some a) m.2)))
+      subst (IsAsked s.event_order) A.place (t.asked.1 ((here s h A.behind x A.is).0.only m.0 m.1 (asks_next ∙ ap (λ (a : Ask FrameEnv). Some a) m.2)))
 
-  module _ (kind : Kind) (is : kind_of_event (event s.story at) ≡ Some kind) where
+  module _ (kind : Kind) (is : kind_of_event (event s.event_order at) ≡ Some kind) where
     planned_sort : sort_done x.planned ≡ sort_of kind
     planned_sort =
-        let e = kind_inside (event s.story at) kind is in
-        let found = plan_event s h A.behind e.0 (ap (event s.story) A.place ∙ e.1) in
+        let e = kind_inside (event s.event_order at) kind is in
+        let found = plan_event s h A.behind e.0 (ap (event s.event_order) A.place ∙ e.1) in
         let t = tell s h at k l A in
         sym (written_sort (cell_number s.program s.run) (instance_number s.program s.run) x.planned found.0 (t.plan found.0 found.1))
         ∙ ap sort_of (found.2 ∙ e.2)
 
-    pub asked_there : sort_asked k ≡ sort_of kind → NamesNothing (sort_asked k) → IsAsked s.story at
+    pub asked_there : sort_asked k ≡ sort_of kind → NamesNothing (sort_asked k) → IsAsked s.event_order at
     asked_there same sure = asked_by_deed (makes s.program x.frame (suc (started x.past)) k x.planned sure (planned_sort ∙ sym same))
 
-    pub differs_there : (sort_asked k ≡ sort_of kind → ⊥) → IsAsked s.story at → ⊥
+    pub differs_there : (sort_asked k ≡ sort_of kind → ⊥) → IsAsked s.event_order at → ⊥
     differs_there other asked =
-        let e = kind_inside (event s.story at) kind is in
+        let e = kind_inside (event s.event_order at) kind is in
         other (sym (event_sort s.program s.run x.frame k e.0 (event_is s h at k l A e.0 asked e.1)) ∙ ap sort_of e.2)
 
     module _ (c : ℕ) (of : IsOfCell c kind) (alike : sort_asked k ≡ sort_of kind) where
       cells_deed : OfCell s.program s.run x.frame (suc (started x.past)) k x.planned c
       cells_deed =
-          let e = kind_inside (event s.story at) kind is in
-          let found = plan_event s h A.behind e.0 (ap (event s.story) A.place ∙ e.1) in
+          let e = kind_inside (event s.event_order at) kind is in
+          let found = plan_event s h A.behind e.0 (ap (event s.event_order) A.place ∙ e.1) in
           let t = tell s h at k l A in
           of_cell s.program s.run x.frame (suc (started x.past)) k x.planned found.0 c (names_cell s.program s.run x.frame (suc (started x.past)) k kind c of alike) (planned_sort ∙ sym alike)
           (t.plan found.0 found.1) (let z = known s h A.behind x A.is in z.here) (subst (IsOfCell c) (sym (found.2 ∙ e.2)) of)
@@ -503,23 +503,23 @@ module _ (s : Setting) (h : IsOfProgram s) (at : ℕ) (k : language.Ask) (l : Le
       number_is : IsNumberOf s.program s.run (asked_cell s.program s.run x.frame k) (let p = s.program in cell_asked (length p.openings) l.sight k)
       number_is = cell_found s.program s.run x.frame l.sight A.sees k (names_cell s.program s.run x.frame (suc (started x.past)) k kind c of alike)
 
-      pub cell_there : (let p = s.program in cell_asked (length p.openings) l.sight k ≡ Some c) → IsAsked s.story at
+      pub cell_there : (let p = s.program in cell_asked (length p.openings) l.sight k ≡ Some c) → IsAsked s.event_order at
       cell_there q =
           let D = cells_deed in
           let N = subst (IsNumberOf s.program s.run (asked_cell s.program s.run x.frame k)) q number_is in
           asked_by_deed (D.makes (cells_one s.program s.run D.there (asked_cell s.program s.run x.frame k) D.has N.0 (D.number ∙ sym N.1)))
 
       -- the cell that is requested is the plan's
-      met : IsAsked s.story at → (let D = cells_deed in asked_cell s.program s.run x.frame k ≡ D.there)
+      met : IsAsked s.event_order at → (let D = cells_deed in asked_cell s.program s.run x.frame k ≡ D.there)
       met asked =
           let n = suc (started x.past) in
           let t = tell s h at k l A in
-          let yes = t.asked.0 (subst (IsAsked s.story) (sym A.place) asked) in
+          let yes = t.asked.0 (subst (IsAsked s.event_order) (sym A.place) asked) in
           let on = unended (has_ended x.past) (named_ask s.program x.frame n (asked_after s.program s.inputs x.frame x.past).ask) _ ((here s h A.behind x A.is).0.asks yes) in
           let D = cells_deed in
           D.meets x.deed (let z = known s h A.behind x A.is in z.like) (ap (named_ask s.program x.frame n) (sym (asked_ask s h at k l A)) ∙ on.1)
 
-      pub cell_differs : ((let p = s.program in cell_asked (length p.openings) l.sight k ≡ Some c) → ⊥) → IsAsked s.story at → ⊥
+      pub cell_differs : ((let p = s.program in cell_asked (length p.openings) l.sight k ≡ Some c) → ⊥) → IsAsked s.event_order at → ⊥
       cell_differs other asked = by (let p = s.program in cell_asked (length p.openings) l.sight k) refl number_is
         where
           by : (o : Option ℕ) → (let p = s.program in cell_asked (length p.openings) l.sight k ≡ o) → IsNumberOf s.program s.run (asked_cell s.program s.run x.frame k) o → ⊥
@@ -541,8 +541,8 @@ module _ (s : Setting) (h : IsOfProgram s) (at : ℕ) (k : language.Ask) (l : Le
 
       starts : Starts
       starts =
-          let e = kind_inside (event s.story at) kind is in
-          let found = plan_event s h A.behind e.0 (ap (event s.story) A.place ∙ e.1) in
+          let e = kind_inside (event s.event_order at) kind is in
+          let found = plan_event s h A.behind e.0 (ap (event s.event_order) A.place ∙ e.1) in
           let how = how_of f kind of in
           let d = is_start how.0 x.planned (planned_sort ∙ how.1) in
           let a = asks_start how.0 k (alike ∙ how.1) in
@@ -563,12 +563,12 @@ module _ (s : Setting) (h : IsOfProgram s) (at : ℕ) (k : language.Ask) (l : Le
 
       -- the deed of the request
       abbrev asked_for_child : FrameEnv
-      asked_for_child = let S = starts in child_world s.program x.frame (suc (started x.past)) S.callee
+      asked_for_child = let S = starts in child_env s.program x.frame (suc (started x.past)) S.callee
 
       bodies : (let S = starts in let v = S.planned in same_body body (body_asked k) ≡ same_body (body_of s.program v.callee) (body_of s.program S.callee))
       bodies = let S = starts in ap₂ same_body S.runs (ap body_asked S.asks ∙ asked_body s.program S.how S.callee S.other)
 
-      pub child_there : same_body body (body_asked k) ≡ true → IsAsked s.story at
+      pub child_there : same_body body (body_asked k) ≡ true → IsAsked s.event_order at
       child_there same =
           let S = starts in
           let v = S.planned in
@@ -582,10 +582,10 @@ module _ (s : Setting) (h : IsOfProgram s) (at : ℕ) (k : language.Ask) (l : Le
             ap (named_ask s.program w n) S.asks,
           )
 
-      pub child_differs : same_body body (body_asked k) ≡ false → IsAsked s.story at → ⊥
+      pub child_differs : same_body body (body_asked k) ≡ false → IsAsked s.event_order at → ⊥
       child_differs other asked =
           let S = starts in
-          let e = kind_inside (event s.story at) kind is in
+          let e = kind_inside (event s.event_order at) kind is in
           let by = asked_by s h at k l A e.0 asked e.1 in
           let deed = by.starts S.how S.callee (asked_ask s h at k l A ∙ S.asks) in
           let like = subst (IsLikeDeed (same_frame s.program) (Invokes S.how S.planned)) deed (subst (λ (d : Deed FrameEnv). IsLikeDeed (same_frame s.program) d x.deed) S.does (let z = known s h A.behind x A.is in z.like)) in
@@ -597,8 +597,8 @@ module _ (s : Setting) (h : IsOfProgram s) (at : ℕ) (k : language.Ask) (l : Le
 
       reducers_deed : OfReducer s.program s.run x.frame (suc (started x.past)) k x.planned i
       reducers_deed =
-          let e = kind_inside (event s.story at) kind is in
-          let found = plan_event s h A.behind e.0 (ap (event s.story) A.place ∙ e.1) in
+          let e = kind_inside (event s.event_order at) kind is in
+          let found = plan_event s h A.behind e.0 (ap (event s.event_order) A.place ∙ e.1) in
           let t = tell s h at k l A in
           of_reducer s.program s.run x.frame (suc (started x.past)) k x.planned found.0 i names (planned_sort ∙ sym alike)
           (t.plan found.0 found.1) (let z = known s h A.behind x A.is in z.here) (subst (IsOfReducer i) (sym (found.2 ∙ e.2)) of)
@@ -606,18 +606,18 @@ module _ (s : Setting) (h : IsOfProgram s) (at : ℕ) (k : language.Ask) (l : Le
       its_number : IsFound s.program s.run x.frame l.sight k
       its_number = reducer_found s.program s.run x.frame l.sight A.sees k names (ask_there s h at k l A)
 
-      pub reducer_there : as_instance (reducer_asked (homes_of l.sight) l.sight.given.items k) ≡ i → IsAsked s.story at
+      pub reducer_there : as_instance (reducer_asked (homes_of l.sight) l.sight.given.items k) ≡ i → IsAsked s.event_order at
       reducer_there q =
           let D = reducers_deed in
           let N = its_number in
           let one = one_to_one s.program s.run in
           asked_by_deed (D.makes (one.reducers D.there (asked_instance s.program s.run x.frame k) D.has N.has (D.number ∙ sym q ∙ sym N.number)))
 
-      pub reducer_differs : (as_instance (reducer_asked (homes_of l.sight) l.sight.given.items k) ≡ i → ⊥) → IsAsked s.story at → ⊥
+      pub reducer_differs : (as_instance (reducer_asked (homes_of l.sight) l.sight.given.items k) ≡ i → ⊥) → IsAsked s.event_order at → ⊥
       reducer_differs other asked =
           let n = suc (started x.past) in
           let t = tell s h at k l A in
-          let yes = t.asked.0 (subst (IsAsked s.story) (sym A.place) asked) in
+          let yes = t.asked.0 (subst (IsAsked s.event_order) (sym A.place) asked) in
           let on = unended (has_ended x.past) (named_ask s.program x.frame n (asked_after s.program s.inputs x.frame x.past).ask) _ ((here s h A.behind x A.is).0.asks yes) in
           let D = reducers_deed in
           let N = its_number in

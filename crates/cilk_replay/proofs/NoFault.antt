@@ -43,7 +43,7 @@ use Rattle.cilk_runs.specs.Views.{view_after, IsSerialViews}
 use Rattle.cilk_runs.proofs.Started.{started_does, started_invokes}
 use Rattle.cilk_runs.specs.FrameEnvMachine.{retired_by, named_ask, answer_of, answers_of, is_end, but_last, asked_after, next, taken, costs}
 use Rattle.cilk_runs.specs.Reducers.{View, monoid_of}
-use Rattle.cilk_runs.specs.FrameEnvs.{FrameEnv, child_world, reducer_seen}
+use Rattle.cilk_runs.specs.FrameEnvs.{FrameEnv, child_env, reducer_seen}
 use Rattle.cilk_runs.proofs.KeptFrameEnv.{but_last_more, answers_more, ended_more}
 use Rattle.cilk_determinacy.specs.Nested.{named_event, named_from}
 use Rattle.cilk_determinacy.specs.Numbers.{cell_number, instance_number}
@@ -105,7 +105,7 @@ not_refused p w k m (asks.Update r y) e h q = (has_room m.room None h, tt)
 not_refused p w k m (asks.Set r y) e h q = (has_room m.room None h, tt)
 not_refused p w k m (asks.Value r) e h q = (has_room m.room None h, tt)
 not_refused p w k m (asks.Print y) e h q = (has_room m.room None h, tt)
-not_refused p w k m (asks.Invoke how callee) e h q = absurd (invoked e how (child_world p w k callee) (sym q))
+not_refused p w k m (asks.Invoke how callee) e h q = absurd (invoked e how (child_env p w k callee) (sym q))
 not_refused p w k m asks.Resume e h q = (has_room m.room None h, tt)
 not_refused p w k m asks.Sync e h q = (has_room m.room None h, tt)
 not_refused p w k m (asks.Result y) e h q = (has_room m.room None h, tt)
@@ -116,7 +116,7 @@ not_refused p w k m (asks.Fault f) e h q = absurd (failed e f (runs.Fail f) refl
 record IsInvoked (p : Source) (w : FrameEnv) (k : ℕ) (a : language.Ask) (how : Invocation) (x : FrameEnv) : Type 0 where
   callee : Callee
   is : a ≡ asks.Invoke how callee
-  what : x ≡ child_world p w k callee
+  what : x ≡ child_env p w k callee
 
 is_invoked : (p : Source) (w : FrameEnv) (k : ℕ) (a : language.Ask) (how : Invocation) (x : FrameEnv) → named_ask p w k a ≡ Invoke how x → IsInvoked p w k a how x
 is_invoked p w k asks.Begin how x q = absurd (cc q)
@@ -129,7 +129,7 @@ is_invoked p w k (asks.Value r) how x q = absurd (cc q)
 is_invoked p w k (asks.Print v) how x q = absurd (cc q)
 is_invoked p w k (asks.Invoke k' callee) how x q =
     let same : k' ≡ how = cc q in
-    let what : child_world p w k callee ≡ x = cc q in
+    let what : child_env p w k callee ≡ x = cc q in
     record { callee = callee; is = ap (λ (i : Invocation). asks.Invoke i callee) same; what = sym what }
 is_invoked p w k asks.Resume how x q = absurd (cc q)
 is_invoked p w k asks.Sync how x q = absurd (cc q)
@@ -566,9 +566,9 @@ module _ (p : Source) (inputs : List ℤ) where
         absurd (stopped_early w fr past history (suc j) at h.behaves)
     goes_along (Went {fr = fr} {start = start} {history = history} {m = m} how callee left v left' m' q ok inner rest) w past j at standing memory views same (act e u) h =
         let asked = asking_act w fr past history (suc j) (asks.Invoke how callee) start left m e u memory views at q h in
-        absurd (invoked e how (child_world p w (suc j) callee) (same_some (Ask FrameEnv) (next p inputs w past) _ _ h.behaves.0 asked.asks))
+        absurd (invoked e how (child_env p w (suc j) callee) (same_some (Ask FrameEnv) (next p inputs w past) _ _ h.behaves.0 asked.asks))
     goes_along (Went {fr = fr} {start = start} {history = history} {m = m} {u = t} {r = r} {es = es} {es' = es'} {end = end} how callee left v left' m' q ok inner rest) w past j at standing memory views same (child k x d u) h =
-        let c = child_world p w (suc j) callee in
+        let c = child_env p w (suc j) callee in
         let asked = asking_child w fr past history (suc j) (asks.Invoke how callee) start left m k x d u memory views at q h in
         let kind : k ≡ how = same_how FrameEnv k how x c (next p inputs w past) h.behaves.0 asked.asks in
         let what : x ≡ c = same_what FrameEnv k how x c (next p inputs w past) h.behaves.0 asked.asks in
@@ -600,9 +600,9 @@ module _ (p : Source) (inputs : List ℤ) where
         stopped_early w fr past history (suc j) at h.behaves
     goes_along (Broke {fr = fr} {start = start} {history = history} {m = m} how callee left f q ok inner) w past j at standing memory views same (act e u) h =
         let asked = asking_act w fr past history (suc j) (asks.Invoke how callee) start left m e u memory views at q h in
-        invoked e how (child_world p w (suc j) callee) (same_some (Ask FrameEnv) (next p inputs w past) _ _ h.behaves.0 asked.asks)
+        invoked e how (child_env p w (suc j) callee) (same_some (Ask FrameEnv) (next p inputs w past) _ _ h.behaves.0 asked.asks)
     goes_along (Broke {fr = fr} {start = start} {history = history} {m = m} {u = t} how callee left f q ok inner) w past j at standing memory views same (child k x d u) h =
-        let c = child_world p w (suc j) callee in
+        let c = child_env p w (suc j) callee in
         let asked = asking_child w fr past history (suc j) (asks.Invoke how callee) start left m k x d u memory views at q h in
         let kind : k ≡ how = same_how FrameEnv k how x c (next p inputs w past) h.behaves.0 asked.asks in
         let what : x ≡ c = same_what FrameEnv k how x c (next p inputs w past) h.behaves.0 asked.asks in

@@ -188,12 +188,12 @@ module _ (W V : Type 0) (M : Instance → MonoidStructure V) (next : W → List 
   one_made w past memory views e x y false true g h = let a = h.made refl in let z : false ≡ true = g.only y h.like a.0 in absurd (cc z)
   one_made w past memory views e x y false false g h = (refl, g.kept refl ∙ sym (h.kept refl))
 
-  one_world : (j k : Invocation) (x y : W) (a : Option (Ask W)) → a ≡ Some (Invoke j x) → a ≡ Some (Invoke k y) → x ≡ y
-  one_world j k x y a g h = cc
+  one_env : (j k : Invocation) (x y : W) (a : Option (Ask W)) → a ≡ Some (Invoke j x) → a ≡ Some (Invoke k y) → x ≡ y
+  one_env j k x y a g h = cc
 
   one_started : (w : W) (past : List (Deed W)) (k j l : Invocation) (v x y : W) (b d : Bool) → IsStartedFor W V M next same w past k j v x b
       → IsStartedFor W V M next same w past k l v y d → (b ≡ d) × (x ≡ y)
-  one_started w past k j l v x y true true g h = (refl, one_world j l x y (next w past) (g.made refl) (h.made refl))
+  one_started w past k j l v x y true true g h = (refl, one_env j l x y (next w past) (g.made refl) (h.made refl))
   one_started w past k j l v x y true false g h =
       let z : false ≡ true = h.only x g.fits (subst (λ (i : Invocation). next w past ≡ Some (Invoke i x)) (sym g.how) (g.made refl)) in
       absurd (cc z)

@@ -30,8 +30,8 @@ module _ (W V : Type 0) (M : Instance → MonoidStructure V) (next : W → List 
   same_kind : (j k : Invocation) (v x : W) → Invoke j v ≡ Invoke k x → j ≡ k
   same_kind j k v x q = cc
 
-  same_world : (j k : Invocation) (v x : W) → Invoke j v ≡ Invoke k x → v ≡ x
-  same_world j k v x q = cc
+  same_env : (j k : Invocation) (v x : W) → Invoke j v ≡ Invoke k x → v ≡ x
+  same_env j k v x q = cc
 
   pub one_run : (w : W) (past : List (Deed W)) (memory : Cell → ℤ) (views : Instance → V) (t u : Run W) → Behaves W (follows next) w past t
       → IsSerial t memory → IsSerialViews M t views
@@ -54,7 +54,7 @@ module _ (W V : Type 0) (M : Instance → MonoidStructure V) (next : W → List 
   one_run w past memory views (child j v t t') (child k x d u) b s n b' s' n' =
       let ask = same_ask w past (Invoke j v) (Invoke k x) b.0 b'.0 in
       let how : k ≡ j = sym (same_kind j k v x ask) in
-      let what : x ≡ v = sym (same_world j k v x ask) in
+      let what : x ≡ v = sym (same_env j k v x ask) in
       let inner : t ≡ d = one_run v [] memory views t d b.1 s.0 n.0 (subst (λ (z : W). Behaves W (follows next) z [] d) what b'.1) s'.0 n'.0 in
       let back : d ≡ t = sym inner in
       let rest : t' ≡ u = one_run w (past ++ Invokes j v ∷ []) (λ c. value_after t c (memory c)) (λ i. view_after (M i) i t (views i)) t' u b.2 s.1 n.1

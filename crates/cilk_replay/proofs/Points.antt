@@ -31,7 +31,7 @@ use Rattle.cilk_runs.proofs.Basics.{same_name-eq}
 use Rattle.cilk_tree.specs.declared.event_order.EventOrder.{EventOrder}
 use Rattle.cilk_runs.specs.FrameEnvMachine.{named_ask, answer_of, has_ended, asked_after, next, opening_values}
 use Rattle.cilk_runs.specs.Reducers.{View, monoid_of}
-use Rattle.cilk_runs.specs.FrameEnvs.{FrameEnv, first_world, child_world, cell_seen, reducer_seen, result_cell}
+use Rattle.cilk_runs.specs.FrameEnvs.{FrameEnv, first_env, child_env, cell_seen, reducer_seen, result_cell}
 use Rattle.cilk_determinacy.specs.Nested.{named}
 use Rattle.cilk_determinacy.specs.Numbers.{cell_number, instance_number}
 use Rattle.cilk_determinacy.proofs.Determinate.{serial_numbered}
@@ -40,7 +40,7 @@ use Rattle.cilk_replay.specs.Frames.{same_frame, course_on}
 use Rattle.cilk_replay.specs.Lists.{with_values}
 use Rattle.cilk_replay.specs.Owned.{makers}
 use Rattle.cilk_replay.specs.Points.{Point, points, asked_for, IsLikeDeed, Continues, IsLater, IsReturn, IsPoint, points_on, answer_in, IsEventOf, IsAskedBy, IsTold, EventOrdersAreAskedByPositions}
-use Rattle.cilk_replay.specs.EventOrders.{story_on, IsPlannedRun}
+use Rattle.cilk_replay.specs.EventOrders.{event_order_on, IsPlannedRun}
 use Rattle.cilk_replay.proofs.AskedEventOrders.{long, written_long}
 use Rattle.cilk_replay.proofs.CourseFrames.{programs_have_one}
 use Rattle.cilk_replay.proofs.CourseLists.{course_written}
@@ -433,7 +433,7 @@ module _ (p : Source) (r : Transcript) where
   event_of w k (asks.Print y) (Does (Passes (Prints v))) e q h = let z : v ≡ y = cc q in h ∙ ap events.Print z
   event_of w k (asks.Invoke Call callee) (Invokes Call v) e q h = h
   event_of w k (asks.Invoke Spawn callee) (Invokes Spawn v) e q h = h
-  event_of w k (asks.Invoke how callee) (Does x) e q h = absurd (invoked x how (child_world p w k callee) (sym q))
+  event_of w k (asks.Invoke how callee) (Does x) e q h = absurd (invoked x how (child_env p w k callee) (sym q))
   event_of w k asks.Resume (Does (Passes Resumes)) e q h = h
   event_of w k (asks.Fault f) (Does x) e q h = failed x f (runs.Fail f) refl q
   event_of w k (asks.Fault f) (Invokes j v) e q h = absurd (cc q)
@@ -454,7 +454,7 @@ module _ (p : Source) (r : Transcript) where
       record {
         goes_on = on.0;
         event = event_of x.frame k a x.deed e on.1 written;
-        starts = λ how callee is. started_is x.deed how (child_world p x.frame k callee) (sym (ap (named_ask p x.frame k) is) ∙ on.1);
+        starts = λ how callee is. started_is x.deed how (child_env p x.frame k callee) (sym (ap (named_ask p x.frame k) is) ∙ on.1);
       }
 
 module _ (p : Source) (inputs others : List ℤ) (r : Transcript) (es : List numbers.Event) (opening : List ℤ) (is : IsPlannedRun p inputs r es opening) where
@@ -467,8 +467,8 @@ module _ (p : Source) (inputs others : List ℤ) (r : Transcript) (es : List num
   abbrev list : List (Point FrameEnv)
   list = points_on p others r
 
-  abbrev story : EventOrder
-  story = story_on p others r es opening
+  abbrev event_order : EventOrder
+  event_order = event_order_on p others r es opening
 
   abbrev values : Cell → ℤ
   values = opening_values p others
@@ -476,7 +476,7 @@ module _ (p : Source) (inputs others : List ℤ) (r : Transcript) (es : List num
   abbrev units : Instance → View
   units = unit_of monoid_of
 
-  course : IsCourse FrameEnv View monoid_of (next p others) (same_frame p) (first_world p) [] values units t c
+  course : IsCourse FrameEnv View monoid_of (next p others) (same_frame p) (first_env p) [] values units t c
   course = (programs_have_one p others t).0
 
   framed : IsFramed begin_due t
@@ -485,17 +485,17 @@ module _ (p : Source) (inputs others : List ℤ) (r : Transcript) (es : List num
   planned : AreWritten (cell_number p r) (instance_number p r) (trace t) es
   planned = (serial_numbered p inputs r es is.outcome is.named is.runs).written
 
-  written : AreWritten (cell_number p r) (instance_number p r) (trace (run_of c)) story.events
-  written = course_written FrameEnv View monoid_of (next p others) (same_frame p) (cell_number p r) (instance_number p r) (first_world p) [] values units t c es course planned
+  written : AreWritten (cell_number p r) (instance_number p r) (trace (run_of c)) event_order.events
+  written = course_written FrameEnv View monoid_of (next p others) (same_frame p) (cell_number p r) (instance_number p r) (first_env p) [] values units t c es course planned
 
   many : length list ≡ size c
-  many = points_long FrameEnv View monoid_of (next p others) (same_frame p) (first_world p) [] values units 0 0 t c course
+  many = points_long FrameEnv View monoid_of (next p others) (same_frame p) (first_env p) [] values units 0 0 t c course
 
-  in_place : Laid (slice_get list) (first_world p) [] 0 0 t c
-  in_place = laid FrameEnv View monoid_of (next p others) (same_frame p) list (first_world p) [] values units 0 0 t c course
+  in_place : Laid (slice_get list) (first_env p) [] 0 0 t c
+  in_place = laid FrameEnv View monoid_of (next p others) (same_frame p) list (first_env p) [] values units 0 0 t c course
       (record { pre = []; post = []; place = refl; is = sym (append-nil list) })
 
-  behind : Behind FrameEnv View monoid_of (next p others) (same_frame p) (slice_get list) (0 + size c) 0 (first_world p)
+  behind : Behind FrameEnv View monoid_of (next p others) (same_frame p) (slice_get list) (0 + size c) 0 (first_env p)
   behind y there x since frame =
       let less = slice_get_within list (0 + size c) y there in
       let e = many in
@@ -506,33 +506,33 @@ module _ (p : Source) (inputs others : List ℤ) (r : Transcript) (es : List num
 
   point : (i : ℕ) (x : Point FrameEnv) → slice_get list i ≡ Some x → IsPoint (next p others) (same_frame p) (slice_get list) i x
   point i x there =
-      walk FrameEnv View monoid_of (next p others) (same_frame p) (slice_get list) begin_due (first_world p) [] values units 0 0 t c framed course in_place behind i x (omega arith) (within i x there) there
+      walk FrameEnv View monoid_of (next p others) (same_frame p) (slice_get list) begin_due (first_env p) [] values units 0 0 t c framed course in_place behind i x (omega arith) (within i x there) there
 
   -- a column of the points at a place
   at_place : {B : Type 0} (f : Point FrameEnv → B) (l : List B) (i : ℕ) (x : Point FrameEnv) → map f list ≡ l → slice_get list i ≡ Some x → slice_get l i ≡ Some (f x)
   at_place f l i x q there = ap (λ z. slice_get z i) (sym q) ∙ slice_get-map f list i ∙ ap (option_map f) there
 
-  told : (i : ℕ) (x : Point FrameEnv) → slice_get list i ≡ Some x → IsTold p r others es story i x
+  told : (i : ℕ) (x : Point FrameEnv) → slice_get list i ≡ Some x → IsTold p r others es event_order i x
   told i x there =
-      let cols = columns FrameEnv View monoid_of (next p others) (same_frame p) (first_world p) [] values units 0 0 t c course in
-      let at = written_at (cell_number p r) (instance_number p r) (trace (run_of c)) story.events i x.deed written (at_place (λ (y : Point FrameEnv). y.deed) (trace (run_of c)) i x cols.deeds there) in
+      let cols = columns FrameEnv View monoid_of (next p others) (same_frame p) (first_env p) [] values units 0 0 t c course in
+      let at = written_at (cell_number p r) (instance_number p r) (trace (run_of c)) event_order.events i x.deed written (at_place (λ (y : Point FrameEnv). y.deed) (trace (run_of c)) i x cols.deeds there) in
       let from = written_at (cell_number p r) (instance_number p r) (trace t) es i x.planned planned (at_place (λ (y : Point FrameEnv). y.planned) (trace t) i x cols.planned there) in
       let back : suc i - 1 ≡ i = omega arith in
-      let here : slice_index_or story.asked (suc i - 1) false ≡ x.asked =
-      ap (λ (n : ℕ). slice_index_or story.asked n false) back ∙ asked_at (asked_in c) i x.asked (at_place (λ (y : Point FrameEnv). y.asked) (asked_in c) i x cols.asked there) in
+      let here : slice_index_or event_order.asked (suc i - 1) false ≡ x.asked =
+      ap (λ (n : ℕ). slice_index_or event_order.asked n false) back ∙ asked_at (asked_in c) i x.asked (at_place (λ (y : Point FrameEnv). y.asked) (asked_in c) i x cols.asked there) in
       record {
         plan = λ e e_is. subst (IsWritten (cell_number p r) (instance_number p r) x.planned) (some_inner from.here e (sym from.is ∙ e_is)) from.written;
         owner = at_place (λ (y : Point FrameEnv). y.frame.name) (makers [] t) i x
-            (owners p View monoid_of (next p others) (first_world p) [] values units 0 0 t c [] course refl) there;
+            (owners p View monoid_of (next p others) (first_env p) [] values units 0 0 t c [] course refl) there;
         here = at.here;
-        is = ap (slice_get story.events) back ∙ at.is;
+        is = ap (slice_get event_order.events) back ∙ at.is;
         answers = answer_written (cell_number p r) (instance_number p r) x.deed at.here at.written;
         asked = (λ yes. sym here ∙ yes, λ yes. here ∙ yes);
         asks = λ yes. asked_by p r others x at.here ((point i x there).asks (sym here ∙ yes)) at.written;
       }
 
-  begun : (x : Point FrameEnv) → slice_get list 0 ≡ Some x → (x.frame ≡ first_world p) × (x.past ≡ []) × (x.since ≡ 0)
-  begun x there = let h = head (slice_get list) begin_due (first_world p) [] 0 0 t c framed in_place x there in (h.frame, h.past, h.since)
+  begun : (x : Point FrameEnv) → slice_get list 0 ≡ Some x → (x.frame ≡ first_env p) × (x.past ≡ []) × (x.since ≡ 0)
+  begun x there = let h = head (slice_get list) begin_due (first_env p) [] 0 0 t c framed in_place x there in (h.frame, h.past, h.since)
 
 pub asked_by_positions : EventOrdersAreAskedByPositions
 asked_by_positions p inputs others r es opening is = record {

@@ -23,7 +23,7 @@ use Rattle.cilk_tree.specs.Runs.{IsAsked, IsFollowed}
 use Rattle.cilk_tree.specs.Word.{event, after, plain, resume, what, IsWord}
 use Rattle.cilk_tree.proofs.Events.{mark_at, resume_mark, spawn_of}
 use Rattle.cilk_runs.specs.FrameEnvMachine.{asked_after, next}
-use Rattle.cilk_runs.specs.FrameEnvs.{FrameEnv, child_world}
+use Rattle.cilk_runs.specs.FrameEnvs.{FrameEnv, child_env}
 use Rattle.cilk_determinacy.specs.Nested.{named}
 use Rattle.cilk_determinacy.specs.Numbers.{cell_number, instance_number}
 use Rattle.cilk_determinacy.proofs.Determinate.{serial_numbered}
@@ -78,26 +78,26 @@ module _ (cell : Cell → ℕ) (instance : Instance → numbered.Instance) where
 -- ---- the event order
 
 module _ (s : Setting) (h : IsOfProgram s) where
-  abbrev story : EventOrder
-  story = s.story
+  abbrev event_order : EventOrder
+  event_order = s.event_order
 
   abbrev shape : Shape
   shape = shape_of (named s.program s.run)
 
-  of_shape : IsEventOrderOf shape story
+  of_shape : IsEventOrderOf shape event_order
   of_shape =
       let n = serial_numbered s.program s.own s.run h.events h.is.outcome h.is.named h.is.runs in
-      record { spells = same_marks story.events h.events h.along.kinds ∙ n.spells; preceding = h.along.preceding ∙ gives_predecessors shape h.events n.spells }
+      record { spells = same_marks event_order.events h.events h.along.kinds ∙ n.spells; preceding = h.along.preceding ∙ gives_predecessors shape h.events n.spells }
 
-  goes_on : (i : ℕ) (x : Point FrameEnv) → point_at s i ≡ Some x → IsAsked story (suc i) → (f : ℕ) → event story (suc i) ≡ Some (events.Spawn f)
-      → (j : ℕ) (y : Point FrameEnv) → point_at s j ≡ Some y → IsLater x y → (g : ℕ) → event story (suc j) ≡ Some (events.Resume g) → IsAsked story (suc j)
+  goes_on : (i : ℕ) (x : Point FrameEnv) → point_at s i ≡ Some x → IsAsked event_order (suc i) → (f : ℕ) → event event_order (suc i) ≡ Some (events.Spawn f)
+      → (j : ℕ) (y : Point FrameEnv) → point_at s j ≡ Some y → IsLater x y → (g : ℕ) → event event_order (suc j) ≡ Some (events.Resume g) → IsAsked event_order (suc j)
   goes_on i x is asked f spawns j y yis later g resumes =
       let at_spawn = here s h i x is in
       let a = at_spawn.1.asks asked in
       let k : Ask = (asked_after s.program s.inputs x.frame x.past).ask in
       let same : at_spawn.1.here ≡ events.Spawn f = some_inner at_spawn.1.here (events.Spawn f) (sym at_spawn.1.is ∙ spawns) in
       let callee = ask_for s.program s.run x.frame k (events.Spawn f) (subst (IsEventOf s.program s.run x.frame k) same a.event) in
-      let child : FrameEnv = child_world s.program x.frame (suc (started x.past)) callee.0 in
+      let child : FrameEnv = child_env s.program x.frame (suc (started x.past)) callee.0 in
       let deed : x.deed ≡ Invokes Spawn child = a.starts Spawn callee.0 callee.1 in
       let now : next s.program s.inputs x.frame x.past ≡ Some (Invoke Spawn child) = at_spawn.0.asks (at_spawn.1.asked.0 asked) ∙ ap (λ (d : Deed FrameEnv). Some (asked_for d)) deed in
       let past : y.past ≡ x.past ++ Invokes Spawn child ∷ [] = later.past ∙ ap (λ (d : Deed FrameEnv). x.past ++ d ∷ []) deed in
@@ -109,32 +109,32 @@ module _ (s : Setting) (h : IsOfProgram s) where
       let planned : y.planned ≡ Does (Passes Resumes) = resume_deed (cell_number s.program s.run) (instance_number s.program s.run) y.planned g written in
       at_resume.1.asked.1 (at_resume.0.only (Does (Passes Resumes)) (subst (λ (d : Deed FrameEnv). IsLikeDeed (same_frame s.program) d (Does (Passes Resumes))) (sym planned) tt) then_asks)
 
-  position : (p : ℕ) → IsWord (what story p) → (suc (p - 1) ≡ p) × (p - 1 < length story.events)
+  position : (p : ℕ) → IsWord (what event_order p) → (suc (p - 1) ≡ p) × (p - 1 < length event_order.events)
   position p is = let i = h.orderly.inside p is in let low = i.0 in let high = i.1 in (omega (arith, low), omega (arith, low, high))
 
-  resumes : (k p : ℕ) → what story p ≡ resume k → IsAsked story k → IsAsked story p
+  resumes : (k p : ℕ) → what event_order p ≡ resume k → IsAsked event_order k → IsAsked event_order p
   resumes k p is asked =
-      let r = resume_mark story.events p (event story p) (after story p) k is in
+      let r = resume_mark event_order.events p (event event_order p) (after event_order p) k is in
       let at_p = position p (subst IsWord (sym is) tt) in
       let at_k = position k (subst IsWord (sym (h.orderly.resumed p k is).0) tt) in
       let x = following s h (k - 1) at_k.1 in
-      let y = resumed s h (k - 1) p x.0 (subst (λ (n : ℕ). what story p ≡ resume n) (sym at_k.0) is) x.1 in
-      let e = got story.events (k - 1) at_k.1 in
-      let f = got story.events (p - 1) at_p.1 in
-      let spawns = spawn_event e.0 (ap mark_at (sym e.1) ∙ (spawn_of story.events k (event story k) [] r.spawned).0) in
+      let y = resumed s h (k - 1) p x.0 (subst (λ (n : ℕ). what event_order p ≡ resume n) (sym at_k.0) is) x.1 in
+      let e = got event_order.events (k - 1) at_k.1 in
+      let f = got event_order.events (p - 1) at_p.1 in
+      let spawns = spawn_event e.0 (ap mark_at (sym e.1) ∙ (spawn_of event_order.events k (event event_order k) [] r.spawned).0) in
       let back = resume_event f.0 (ap mark_at (sym f.1) ∙ r.mark) in
-      let spawn_at : event story (suc (k - 1)) ≡ Some (events.Spawn spawns.0) = ap (event story) at_k.0 ∙ e.1 ∙ ap Some spawns.1 in
-      let resume_at : event story (suc y.0) ≡ Some (events.Resume back.0) = ap (event story) y.1 ∙ f.1 ∙ ap Some back.1 in
-      subst (IsAsked story) y.1 (goes_on (k - 1) x.0 x.1 (subst (IsAsked story) (sym at_k.0) asked) spawns.0 spawn_at y.0 y.2 y.3 y.4 back.0 resume_at)
+      let spawn_at : event event_order (suc (k - 1)) ≡ Some (events.Spawn spawns.0) = ap (event event_order) at_k.0 ∙ e.1 ∙ ap Some spawns.1 in
+      let resume_at : event event_order (suc y.0) ≡ Some (events.Resume back.0) = ap (event event_order) y.1 ∙ f.1 ∙ ap Some back.1 in
+      subst (IsAsked event_order) y.1 (goes_on (k - 1) x.0 x.1 (subst (IsAsked event_order) (sym at_k.0) asked) spawns.0 spawn_at y.0 y.2 y.3 y.4 back.0 resume_at)
 
-  follows_spawn : (k p : ℕ) → what story p ≡ resume k → IsFollowed story (p - 1) → IsAsked story k
+  follows_spawn : (k p : ℕ) → what event_order p ≡ resume k → IsFollowed event_order (p - 1) → IsAsked event_order k
   follows_spawn k zero is followed = absurd (let i = h.orderly.inside zero (subst IsWord (sym is) tt) in let low = i.0 in omega (arith, low))
   follows_spawn k (suc zero) is followed = absurd (let no : plain ≡ resume k = sym h.orderly.root.0 ∙ is in cc no)
   follows_spawn k (suc (suc z)) is followed =
       let i = h.orderly.inside (suc (suc z)) (subst IsWord (sym is) tt) in
       let high = i.1 in
       let back : suc (suc z) - 1 ≡ suc z = omega arith in
-      subst (IsFollowed story) back followed k (inr (behind_spawn shape story of_shape k (suc z) (omega arith) (omega (arith, high)) is))
+      subst (IsFollowed event_order) back followed k (inr (behind_spawn shape event_order of_shape k (suc z) (omega arith) (omega (arith, high)) is))
 
-  pub resumes_asked : ResumesAreAsked story
+  pub resumes_asked : ResumesAreAsked event_order
   resumes_asked = record { spawned = resumes; ended = λ k p is followed. resumes k p is (follows_spawn k p is followed) }

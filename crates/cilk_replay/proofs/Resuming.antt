@@ -127,8 +127,8 @@ module _ (s : Setting) (h : IsOfProgram s) where
   abbrev all : List Mark
   all = map mark_of h.events
 
-  abbrev story : EventOrder
-  story = s.story
+  abbrev event_order : EventOrder
+  event_order = s.event_order
 
   -- the frames that wait for a child, the innermost first, if the current frame's first event is
   -- there
@@ -267,33 +267,33 @@ module _ (s : Setting) (h : IsOfProgram s) where
       subst IsGood (sym n.spells) (subst IsGood (append-nil (shapes.marks tree)) (good_shape tree [] tt))
 
   -- the event in the event order has the plan's mark
-  marked : (i : ℕ) (e : Event) (m : Mark) → event story (suc i) ≡ Some e → mark_of e ≡ m → slice_get all i ≡ Some m
+  marked : (i : ℕ) (e : Event) (m : Mark) → event event_order (suc i) ≡ Some e → mark_of e ≡ m → slice_get all i ≡ Some m
   marked i e m there is =
       let p = plan_event s h i e there in
       slice_get-map mark_of h.events i ∙ ap (option_map mark_of) p.1 ∙ ap Some (mark_is p.0 ∙ ap mark_in p.2 ∙ sym (mark_is e) ∙ is)
 
-  pub resumed : (i next : ℕ) (x : Point FrameEnv) → what story next ≡ resume (suc i) → point_at s i ≡ Some x → IsResumed s h next x
+  pub resumed : (i next : ℕ) (x : Point FrameEnv) → what event_order next ≡ resume (suc i) → point_at s i ≡ Some x → IsResumed s h next x
   resumed i next x is there =
-      let r = resume_mark story.events next (event story next) (after story next) (suc i) is in
+      let r = resume_mark event_order.events next (event event_order next) (after event_order next) (suc i) is in
       let inside = h.orderly.inside next (subst IsWord (sym is) tt) in
       let low = inside.0 in
       let high = inside.1 in
       let place : suc (next - 1) ≡ next = omega (arith, low) in
       let y = following s h (next - 1) (omega (arith, low, high)) in
-      let e = got story.events (next - 1) (omega (arith, low, high)) in
+      let e = got event_order.events (next - 1) (omega (arith, low, high)) in
       let back : suc (next - 1) - 1 ≡ next - 1 = omega arith in
       let back_i : suc i - 1 ≡ i = omega arith in
       let mark : mark_of e.0 ≡ Resume = sym (ap mark_at e.1) ∙ r.mark in
       let less = within s h i x there in
-      let f = got story.events i less in
-      let f_at : event story (suc i) ≡ Some f.0 = ap (slice_get story.events) back_i ∙ f.1 in
-      let f_mark : mark_of f.0 ≡ Spawn = sym (ap mark_at f_at) ∙ (spawn_of story.events (suc i) (event story (suc i)) [] r.spawned).0 in
-      let preds : slice_get (predecessors_in h.events) (next - 1) ≡ Some (suc i ∷ []) = ap (λ l. slice_get l (next - 1)) (sym h.along.preceding) ∙ index_there story.preceding (next - 1) (suc i) r.alone in (
+      let f = got event_order.events i less in
+      let f_at : event event_order (suc i) ≡ Some f.0 = ap (slice_get event_order.events) back_i ∙ f.1 in
+      let f_mark : mark_of f.0 ≡ Spawn = sym (ap mark_at f_at) ∙ (spawn_of event_order.events (suc i) (event event_order (suc i)) [] r.spawned).0 in
+      let preds : slice_get (predecessors_in h.events) (next - 1) ≡ Some (suc i ∷ []) = ap (λ l. slice_get l (next - 1)) (sym h.along.preceding) ∙ index_there event_order.preceding (next - 1) (suc i) r.alone in (
         next - 1,
         place,
         y.0,
         y.1,
         walk (next - 1) all 0 [] [] [] (λ k t q. ap (slice_get all) (let z : k ≡ t = omega (arith, q) in z)) good_all
             (λ z zis. record { ahead_is = inl refl; chained = (first s h z zis).2 }) i preds
-            (marked (next - 1) e.0 Resume (ap (slice_get story.events) back ∙ e.1) mark) (marked i f.0 Spawn f_at f_mark) x y.0 (next - 1) (omega arith) there y.1,
+            (marked (next - 1) e.0 Resume (ap (slice_get event_order.events) back ∙ e.1) mark) (marked i f.0 Spawn f_at f_mark) x y.0 (next - 1) (omega arith) there y.1,
       )

@@ -8,7 +8,7 @@ use Rattle.cilk_program.specs.Answered.{cells_after, opening_cells}
 use Rattle.cilk_program.proofs.Remembered.{runs_leave}
 use Rattle.cilk_tree.specs.declared.event_order.EventOrder.{EventOrder}
 use Rattle.cilk_tree.specs.Values.{HasValue}
-use Rattle.cilk_replay.specs.EventOrders.{story_on}
+use Rattle.cilk_replay.specs.EventOrders.{event_order_on}
 use Rattle.cilk_replay.proofs.LastWrites.{last_value}
 use Rattle.std.proofs.Math.Seq.{take-length}
 use Rattle.cilk_types.specs.declared.limits.TheConstants.{MAX_TICKS, MAX_EVENTS}
@@ -25,7 +25,7 @@ use Rattle.cilk_runs.specs.Runs.{Run}
 use Rattle.cilk_runs.specs.Traces.{trace, begin_due}
 use Rattle.cilk_runs.specs.FrameEnvMachine.{next, opening_values, limit, costs}
 use Rattle.cilk_runs.specs.Reducers.{View, monoid_of}
-use Rattle.cilk_runs.specs.FrameEnvs.{FrameEnv, first_world}
+use Rattle.cilk_runs.specs.FrameEnvs.{FrameEnv, first_env}
 use Rattle.cilk_determinacy.specs.Nested.{named}
 use Rattle.cilk_determinacy.specs.Numbers.{cell_number, instance_number}
 use Rattle.cilk_determinacy.specs.Theorem.{IsSerial, SetWords}
@@ -46,7 +46,7 @@ use Rattle.cilk_replay.proofs.CourseLimits.{opened, IsAsMuch, as_much, are_like}
 use Rattle.cilk_replay.proofs.CourseNumbers.{events_are}
 use Rattle.cilk_replay.proofs.NoFault.{EndsAs, Goes, goes_along, at_begin}
 use Rattle.cilk_replay.proofs.OneRun.{runs_are_one, named_runs_are_serial}
-use Rattle.cilk_replay.proofs.EventOrderValues.{stories_have_values, course, written, serial, cells_open, own_words}
+use Rattle.cilk_replay.proofs.EventOrderValues.{event_orders_have_values, course, written, serial, cells_open, own_words}
 
 -- the program's serial run within these ticks is the run by names, which ends without a fault
 pub record IsRunWithin (p : Source) (inputs : List ℤ) (ticks : ℕ) (u : Run FrameEnv) : Type 0 where
@@ -65,18 +65,18 @@ pub opens_same : (p : Source) (inputs : List ℤ) (r : Transcript) → Same p r 
 opens_same p inputs r = record { cells = cells_open p inputs r; reducers = λ i has. refl; output = refl }
 
 pub runs_within : (p : Source) (inputs : List ℤ) (u : Run FrameEnv) → IsTrue (is_well_named p) → HasWords p → InputsAreWords inputs
-    → IsSerialRunOn p inputs u → KeepsCounts p inputs u → (ticks : ℕ) → whole (costs p inputs) (first_world p) u TickTotal ≤ ticks
+    → IsSerialRunOn p inputs u → KeepsCounts p inputs u → (ticks : ℕ) → whole (costs p inputs) (first_env p) u TickTotal ≤ ticks
     → IsRunWithin p inputs ticks u
 runs_within p inputs u well has are run keeps ticks enough =
     let exists = serial_run_exists p inputs ticks MAX_EVENTS in
     by exists.0 exists.1 exists.3.0 exists.3.1
   where
-    goes : Goes p inputs (first_world p) [] u (opening_values p inputs) (unit_of monoid_of) ticks (begun p callees.Root (before_root p inputs MAX_EVENTS))
+    goes : Goes p inputs (first_env p) [] u (opening_values p inputs) (unit_of monoid_of) ticks (begun p callees.Root (before_root p inputs MAX_EVENTS))
     goes =
         let n = keeps.events in
         let f = keeps.frames in
         let c = keeps.cells in
-        let many = events_weigh p inputs (first_world p) [] u in
+        let many = events_weigh p inputs (first_env p) [] u in
         record {
           behaves = run.behaves;
           reads = run.reads;
@@ -92,11 +92,11 @@ runs_within p inputs u well has are run keeps ticks enough =
         → Serial p inputs (root_frame p inputs) ticks [] (begun p callees.Root (before_root p inputs MAX_EVENTS)) r es end → IsRunWithin p inputs ticks u
     by r es end d =
         done end d
-        (goes_along p inputs well r d (first_world p) [] 0 (at_begin p inputs (first_world p) (root_frame p inputs) refl) (standing_root p inputs well r)
+        (goes_along p inputs well r d (first_env p) [] 0 (at_begin p inputs (first_env p) (root_frame p inputs) refl) (standing_root p inputs well r)
         (opening_values p inputs) (unit_of monoid_of) (opens_same p inputs r) u goes)
       where
         done : (end : Ending) → Serial p inputs (root_frame p inputs) ticks [] (begun p callees.Root (before_root p inputs MAX_EVENTS)) r es end
-            → EndsAs p inputs end (first_world p) [] ticks es (named p r) u → IsRunWithin p inputs ticks u
+            → EndsAs p inputs end (first_env p) [] ticks es (named p r) u → IsRunWithin p inputs ticks u
         done (Finished v left m) d h = record { transcript = r; events = es; value = v; left = left; memory = m; derivation = d; names = h.0; sets = h.1 }
         done (Stopped f) d h = absurd h
 
@@ -113,15 +113,15 @@ within_limits p inputs u well has are run keeps =
       names = h.names;
     }
 
-counted : (p : Source) (inputs others : List ℤ) (t u : Run FrameEnv) → IsAsMuch p inputs others (first_world p) (first_world p) [] [] t u
-    → ((total : Total) → whole (costs p inputs) (first_world p) t total ≤ limit p inputs total) → KeepsCounts p others u
+counted : (p : Source) (inputs others : List ℤ) (t u : Run FrameEnv) → IsAsMuch p inputs others (first_env p) (first_env p) [] [] t u
+    → ((total : Total) → whole (costs p inputs) (first_env p) t total ≤ limit p inputs total) → KeepsCounts p others u
 counted p inputs others t u much within = record {
   events = let h = within EventTotal in let e = much.events in omega (arith, h, e);
   frames = let h = within FrameTotal in let e = much.frames in omega (arith, h, e);
   cells = let h = within CellTotal in let e = much.cells in omega (arith, h, e);
 }
 
-keeps : (p : Source) (others : List ℤ) (u : Run FrameEnv) → whole (costs p others) (first_world p) u TickTotal ≤ MAX_TICKS → KeepsCounts p others u
+keeps : (p : Source) (others : List ℤ) (u : Run FrameEnv) → whole (costs p others) (first_env p) u TickTotal ≤ MAX_TICKS → KeepsCounts p others u
     → KeepsLimits p others u
 keeps p others u ticks counts TickTotal = ticks
 keeps p others u ticks counts EventTotal = counts.events
@@ -148,7 +148,7 @@ last_global p s opening opens es outcome same left c less =
 
 pub inputs_run_along : InputsRunAlong
 inputs_run_along p inputs others r es opening is are orderly nowhere =
-    let stands = stories_have_values p inputs others r es opening is are in
+    let stands = event_orders_have_values p inputs others r es opening is are in
     let along = stands.0 in
     let values = stands.1 in
     let t = named p r in
@@ -156,21 +156,21 @@ inputs_run_along p inputs others r es opening is are orderly nowhere =
     let own = serial p inputs r es opening is in
     let is_course = course p inputs r es opening is others are in
     let run = departs_nowhere p inputs others t c (cell_number p r) (instance_number p r) es _ opening own is_course (written p inputs r es opening is others are) orderly along values.begins nowhere in
-    let like = are_like p inputs others (first_world p) (first_world p) [] [] (opening_values p others) (unit_of monoid_of) t c is_course own.behaves (opened begin_due t own.framed) run.behaves (opened begin_due (run_of c) run.framed) in
-    let much = as_much p inputs others (first_world p) (first_world p) [] [] t (run_of c) like in
+    let like = are_like p inputs others (first_env p) (first_env p) [] [] (opening_values p others) (unit_of monoid_of) t c is_course own.behaves (opened begin_due t own.framed) run.behaves (opened begin_due (run_of c) run.framed) in
+    let much = as_much p inputs others (first_env p) (first_env p) [] [] t (run_of c) like in
     let limits : IsSerial p inputs r = serial_by_names p inputs r es is.outcome is.named is.runs (set_words p is.words inputs is.inputs_words r es (Leaves is.outcome) is.runs) in
     let counts = counted p inputs others t (run_of c) much limits.within in
-    let s = story_on p others r es opening in
+    let s = event_order_on p others r es opening in
     let only : (r' : Transcript) (es' : List Event) (outcome : Outcome) → IsSerialRun p others r' es' (Leaves outcome) → (named p r' ≡ run_of c) × (es' ≡ s.events) =
     λ r' es' outcome runs.
     let same : named p r' ≡ run_of c =
-    runs_are_one FrameEnv View monoid_of (next p others) (same_frame p) (first_world p) (opening_values p others) (unit_of monoid_of) (named p r') (run_of c)
+    runs_are_one FrameEnv View monoid_of (next p others) (same_frame p) (first_env p) (opening_values p others) (unit_of monoid_of) (named p r') (run_of c)
     (named_runs_are_serial p others r' es' outcome is.named is.words are runs) run in
     let list = events_numbered p inputs r es (Leaves is.outcome) is.named is.runs in
     let list' = events_numbered p others r' es' (Leaves outcome) is.named runs in (
       same,
       list'.events
-          ∙ events_are p others r r' (first_world p) (opening_values p others) (unit_of monoid_of) c like same is_course
+          ∙ events_are p others r r' (first_env p) (opening_values p others) (unit_of monoid_of) c like same is_course
           ∙ ap (λ l. with_values l (trace (run_of c))) (sym list.events),
     ) in
     record {

@@ -29,7 +29,7 @@ use Rattle.cilk_program.specs.Visible.{CanInvoke, FrameSees, GlobalsAreThere}
 use Rattle.cilk_program.proofs.Naming.{well_named_parts}
 use Rattle.cilk_program.proofs.Visible.{root_sees as first_sees, called_sees, none_given, part_sees}
 use Rattle.cilk_runs.specs.Runs.{Name, Cell, Global, Own, Instance, Output}
-use Rattle.cilk_runs.specs.FrameEnvs.{FrameEnv, Reducers, Sight as Seen, before_own, child_world, first_world, given_named, global_named, home_named, outer_named, own_named, result_named, cell_seen, reducer_seen, result_cell}
+use Rattle.cilk_runs.specs.FrameEnvs.{FrameEnv, Reducers, Sight as Seen, before_own, child_env, first_env, given_named, global_named, home_named, outer_named, own_named, result_named, cell_seen, reducer_seen, result_cell}
 use Rattle.cilk_determinacy.specs.Numbers.{up, down, instance_number, IsHere, HasInstance, HasReducer}
 use Rattle.cilk_determinacy.proofs.Numbers.{cell_is, down_up, number_is}
 use Rattle.cilk_determinacy.proofs.Sights.{global_here, own_here, root_here}
@@ -223,12 +223,12 @@ module _ (p : Source) (r : Transcript) where
   -- ---- frames as they begin
 
   pub root_sees : IsTrue (is_well_named p) → (here : IsHere p r []) (home : Home) (s : Sight) → home.block ≡ cells_of_block here.block → here.block.number ≡ home.frame → home.before ≡ length p.reducers
-      → homes_of s ≡ home ∷ [] → s.given.items ≡ [] → s.result ≡ found_global (length p.openings) 0 → Sees p r (first_world p) s
+      → homes_of s ≡ home ∷ [] → s.given.items ≡ [] → s.result ≡ found_global (length p.openings) 0 → Sees p r (first_env p) s
   root_sees well here home s block frame before homes given none =
       let parts = well_named_parts p well in
       let f = main_of p in
       record {
-        homes = subst (λ (bs : List Home). HaveHomes p r (first_world p).sight bs) (sym homes) (home_is callees.Root [] [] here home block frame before, tt);
+        homes = subst (λ (bs : List Home). HaveHomes p r (first_env p).sight bs) (sym homes) (home_is callees.Root [] [] here home block frame before, tt);
         given = subst (λ (ns : List ReducerNumber). AreReducers p r [] ns) (sym given) tt;
         result = subst (Is (Global 0)) (sym none) (global_found 0);
         reducers = first_sees p Global global_named (λ c. Unit {0}) HasOne (home_named p callees.Root [] []) globals_are_there (λ n less. tt)
@@ -274,7 +274,7 @@ module _ (p : Source) (r : Transcript) where
   none_before (callees.Function c) other = refl
   none_before (callees.Loop l) other = refl
 
-  child_see : (w : FrameEnv) (k : ℕ) (callee : Callee) (home : Home) → Begins w k callee home → See w.callee w.sight w.result → (let c = child_world p w k callee in See c.callee c.sight c.result)
+  child_see : (w : FrameEnv) (k : ℕ) (callee : Callee) (home : Home) → Begins w k callee home → See w.callee w.sight w.result → (let c = child_env p w k callee in See c.callee c.sight c.result)
   child_see w k callees.Root home b see = absurd (b.other refl)
   child_see w k (callees.Function c) home b see =
       called_sees p Global global_named (λ c. Unit {0}) HasOne w.callee w.sight w.result c (Own (w.name ++ k ∷ [])) (own_named p (callees.Function c) (w.name ++ k ∷ [])) globals_are_there see b.there b.can
@@ -283,11 +283,11 @@ module _ (p : Source) (r : Transcript) where
       part_sees p Global global_named (λ c. Unit {0}) HasOne b.well w.callee w.sight w.result l (home_named p (callees.Loop l) (w.name ++ k ∷ []) []) see b.there b.can (λ whole n less. tt)
 
   pub child_sees : (w : FrameEnv) (caller : Sight) → Sees p r w caller → (k : ℕ) (callee : Callee) (home : Home) (s : Sight) → Begins w k callee home
-      → IsSightOf (length p.openings) callee home caller s → Sees p r (child_world p w k callee) s
+      → IsSightOf (length p.openings) callee home caller s → Sees p r (child_env p w k callee) s
   child_sees w caller sees k callee home s b of = record {
-    homes = subst (λ (bs : List Home). HaveHomes p r (child_world p w k callee).sight bs) (sym of.0)
+    homes = subst (λ (bs : List Home). HaveHomes p r (child_env p w k callee).sight bs) (sym of.0)
         (home_is callee (w.name ++ k ∷ []) (given_named callee w.sight) b.here home b.block b.frame (b.before ∙ sym (none_before callee b.other)), outer_have callee w.sight (homes_of caller) sees.homes);
-    given = subst (HaveGiven p r (child_world p w k callee).sight) (sym of.1) (given_have callee (w.name ++ k ∷ []) w.sight (homes_of caller) caller.given.items sees.homes sees.given);
+    given = subst (HaveGiven p r (child_env p w k callee).sight) (sym of.1) (given_have callee (w.name ++ k ∷ []) w.sight (homes_of caller) caller.given.items sees.homes sees.given);
     result = subst (Is (unwrap_or (result_named callee w.sight) (Global 0))) (sym of.2) (result_have callee w.sight (homes_of caller) sees.homes);
     reducers = child_see w k callee home b sees.reducers;
   }

@@ -2,5 +2,5 @@
 use Rattle.std.proofs.Common.{refl}
 use Rattle.cilk_replay.specs.Worked.{WorkedEventOrders}
 
-pub worked_stories : WorkedEventOrders
-worked_stories = record { own = refl; none = (refl, refl); two = (refl, refl) }
+pub worked_event_orders : WorkedEventOrders
+worked_event_orders = record { own = refl; none = (refl, refl); two = (refl, refl) }

@@ -34,7 +34,7 @@ pub record IsNextAsk (c : CourseValue) (at : ℕ) (k : Ask) : Type 0 where
   pub asks : k ≡ (asked_after (source c.program) c.inputs point.frame point.past).ask
   -- if it requests the order's event, that event is what the request makes: its kind, its cell or
   -- reducer by the run's numbers, and its value
-  pub made : (let y = c.yard in IsAsked y.story at) → (here : Event) × (let y = c.yard in event y.story at ≡ Some here) × IsEventOf (source c.program) run point.frame k here
+  pub made : (let y = c.yard in IsAsked y.event_order at) → (here : Event) × (let y = c.yard in event y.event_order at ≡ Some here) × IsEventOf (source c.program) run point.frame k here
 
 -- the answer has no value
 abbrev pub IsDone : Answer → Type 0

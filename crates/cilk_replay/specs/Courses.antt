@@ -19,7 +19,7 @@ use Rattle.cilk_shared.specs.Values.{YardValue}
 use Rattle.cilk_shared.specs.contracts.yard.Yard as yard
 use Rattle.cilk_runs.specs.FrameEnvs.{FrameEnv}
 use Rattle.cilk_replay.specs.Points.{Point, points_on}
-use Rattle.cilk_replay.specs.EventOrders.{story_on, IsPlannedRun}
+use Rattle.cilk_replay.specs.EventOrders.{event_order_on, IsPlannedRun}
 use Rattle.cilk_program.specs.Numbering.{Block, frame_at}
 use Rattle.cilk_program.specs.declared.program.Body.{Body}
 use Rattle.cilk_program.specs.Inside.{body_of}
@@ -57,10 +57,10 @@ pub record Setting : Type 0 where
   pub own : List ℤ
   pub inputs : List ℤ
   pub run : Transcript
-  pub story : EventOrder
+  pub event_order : EventOrder
 
 abbrev pub setting_of : CourseValue → Transcript → Setting
-setting_of c r = let y = c.yard in record { program = source c.program; code = c.code; own = c.own; inputs = c.inputs; run = r; story = y.story }
+setting_of c r = let y = c.yard in record { program = source c.program; code = c.code; own = c.own; inputs = c.inputs; run = r; event_order = y.event_order }
 
 -- the current frame at the event after `behind` others, with its past
 unfoldable pub point_at : Setting → ℕ → Option (Point FrameEnv)
@@ -71,10 +71,10 @@ point_at s behind = slice_get (points_on s.program s.inputs s.run) behind
 pub record IsOfProgram (s : Setting) : Type 0 where
   pub behaves : Behaves s.program s.code
   pub events : List Event
-  pub is : let t = s.story in IsPlannedRun s.program s.own s.run events t.opening
-  pub told : let t = s.story in s.story ≡ story_on s.program s.inputs s.run events t.opening
-  pub orderly : IsOrderly s.story
-  pub along : let t = s.story in IsAlong (planned events t.opening) s.story
+  pub is : let t = s.event_order in IsPlannedRun s.program s.own s.run events t.opening
+  pub told : let t = s.event_order in s.event_order ≡ event_order_on s.program s.inputs s.run events t.opening
+  pub orderly : IsOrderly s.event_order
+  pub along : let t = s.event_order in IsAlong (planned events t.opening) s.event_order
 
 -- the program has such a run
 abbrev pub IsCourse : CourseValue → Type 0

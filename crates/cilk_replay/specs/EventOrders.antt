@@ -15,12 +15,12 @@ use Rattle.cilk_tree.specs.Planned.{planned}
 use Rattle.cilk_determinacy.specs.Nested.{named}
 use Rattle.cilk_determinacy.specs.Words.{HasWords, InputsAreWords}
 use Rattle.cilk_replay.specs.Frames.{course_on}
-use Rattle.cilk_replay.specs.Lists.{story_along}
+use Rattle.cilk_replay.specs.Lists.{event_order_along}
 
 -- the event order on these inputs along the plan of a serial run with these events and opening
 -- cells
-abbrev pub story_on : Source → List ℤ → Transcript → List Event → List ℤ → EventOrder
-story_on p inputs r es opening = story_along es opening (course_on p inputs (named p r))
+abbrev pub event_order_on : Source → List ℤ → Transcript → List Event → List ℤ → EventOrder
+event_order_on p inputs r es opening = event_order_along es opening (course_on p inputs (named p r))
 
 -- The serial run of a program of words on these inputs, which ends without a fault. The cells open
 -- with the globals' values.
@@ -36,7 +36,7 @@ pub record IsPlannedRun (p : Source) (inputs : List ℤ) (r : Transcript) (es : 
 abbrev pub OwnEventOrder : Type 0
 OwnEventOrder =
     (p : Source) (inputs : List ℤ) (r : Transcript) (es : List Event) (opening : List ℤ)
-    → IsPlannedRun p inputs r es opening → story_on p inputs r es opening ≡ planned es opening
+    → IsPlannedRun p inputs r es opening → event_order_on p inputs r es opening ≡ planned es opening
 
 -- On all inputs of words the event order is along the plan and has values: a read at a followed
 -- position gives the cell's last write before it, or the cell's opening value, and each value is a
@@ -45,4 +45,4 @@ abbrev pub EventOrdersAlongHaveValues : Type 0
 EventOrdersAlongHaveValues =
     (p : Source) (inputs others : List ℤ) (r : Transcript) (es : List Event) (opening : List ℤ)
     → IsPlannedRun p inputs r es opening → InputsAreWords others
-    → IsAlong (planned es opening) (story_on p others r es opening) × HasValues (story_on p others r es opening)
+    → IsAlong (planned es opening) (event_order_on p others r es opening) × HasValues (event_order_on p others r es opening)

@@ -8,7 +8,7 @@ use Rattle.cilk_runs.specs.Monoids.{unit_of}
 use Rattle.cilk_runs.specs.Runs.{Run, same_name}
 use Rattle.cilk_runs.specs.FrameEnvMachine.{next, opening_values}
 use Rattle.cilk_runs.specs.Reducers.{View, monoid_of}
-use Rattle.cilk_runs.specs.FrameEnvs.{FrameEnv, first_world}
+use Rattle.cilk_runs.specs.FrameEnvs.{FrameEnv, first_env}
 use Rattle.cilk_replay.specs.InputCourses.{Course, run_of, all_asked, IsAskedThroughout, IsCourse, course_of, IsSerialRunFrom}
 
 abbrev pub same_body : Body → Body → Bool
@@ -24,15 +24,15 @@ same_frame p v w = same_name v.name w.name && same_body (body_of p v.callee) (bo
 -- for itself
 abbrev pub IsSerialRunOn : Source → List ℤ → Run FrameEnv → Type 0
 IsSerialRunOn p inputs t =
-    IsSerialRunFrom FrameEnv View monoid_of (next p inputs) (same_frame p) (first_world p) (opening_values p inputs) (unit_of monoid_of) t
+    IsSerialRunFrom FrameEnv View monoid_of (next p inputs) (same_frame p) (first_env p) (opening_values p inputs) (unit_of monoid_of) t
 
 -- the course of a run of the program on other inputs
 abbrev pub IsCourseOn : Source → List ℤ → Run FrameEnv → Course FrameEnv → Type 0
 IsCourseOn p inputs t c =
-    IsCourse FrameEnv View monoid_of (next p inputs) (same_frame p) (first_world p) [] (opening_values p inputs) (unit_of monoid_of) t c
+    IsCourse FrameEnv View monoid_of (next p inputs) (same_frame p) (first_env p) [] (opening_values p inputs) (unit_of monoid_of) t c
 
 abbrev pub course_on : Source → List ℤ → Run FrameEnv → Course FrameEnv
-course_on p inputs t = course_of FrameEnv View monoid_of (next p inputs) (same_frame p) (first_world p) [] (opening_values p inputs) (unit_of monoid_of) t
+course_on p inputs t = course_of FrameEnv View monoid_of (next p inputs) (same_frame p) (first_env p) [] (opening_values p inputs) (unit_of monoid_of) t
 
 -- A program's run has exactly one course on given inputs.
 abbrev pub ProgramsHaveOneCourse : Type 0

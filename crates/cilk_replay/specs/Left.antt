@@ -15,7 +15,7 @@ use Rattle.cilk_runs.specs.Views.{view_after}
 use Rattle.cilk_runs.specs.FrameEnvMachine.{opening_values, costs}
 use Rattle.cilk_runs.specs.Reducers.{monoid_of}
 use Rattle.cilk_runs.specs.Steps.{finals_in, result_in}
-use Rattle.cilk_runs.specs.FrameEnvs.{FrameEnv, first_world}
+use Rattle.cilk_runs.specs.FrameEnvs.{FrameEnv, first_env}
 use Rattle.cilk_determinacy.specs.Words.{HasWords, InputsAreWords}
 use Rattle.cilk_replay.specs.Frames.{IsSerialRunOn}
 
@@ -41,9 +41,9 @@ left_by p inputs t = record {
 
 -- the run makes no more events, frames and cells than a run may, however many ticks it uses
 pub record KeepsCounts (p : Source) (inputs : List ℤ) (u : Run FrameEnv) : Type 0 where
-  pub events : whole (costs p inputs) (first_world p) u EventTotal ≤ MAX_EVENTS
-  pub frames : whole (costs p inputs) (first_world p) u FrameTotal ≤ MAX_FRAMES
-  pub cells : whole (costs p inputs) (first_world p) u CellTotal ≤ MAX_CELLS
+  pub events : whole (costs p inputs) (first_env p) u EventTotal ≤ MAX_EVENTS
+  pub frames : whole (costs p inputs) (first_env p) u FrameTotal ≤ MAX_FRAMES
+  pub cells : whole (costs p inputs) (first_env p) u CellTotal ≤ MAX_CELLS
 
 -- A serial run in the sense of courses, which gives each frame all the ticks of a run, has the
 -- outcome of the serial elision, however many ticks all its frames use together.

@@ -19,8 +19,8 @@ use Rattle.cilk_replay.specs.InputCourses.{Course, run_of, asked_in, IsAskedThro
 use Rattle.cilk_replay.specs.Frames.{IsSerialRunOn, IsCourseOn}
 
 -- the event order of a course with events es' by numbers, along the plan of events es
-abbrev pub story_of : {W : Type 0} → List numbers.Event → List ℤ → List numbers.Event → Course W → EventOrder
-story_of es opening es' c = record { events = es'; preceding = predecessors_in es; opening = opening; asked = asked_in c }
+abbrev pub event_order_of : {W : Type 0} → List numbers.Event → List ℤ → List numbers.Event → Course W → EventOrder
+event_order_of es opening es' c = record { events = es'; preceding = predecessors_in es; opening = opening; asked = asked_in c }
 
 -- an event by numbers, with the value of a deed
 abbrev pub with_value : {W : Type 0} → numbers.Event → Deed W → numbers.Event
@@ -39,8 +39,8 @@ with_values es ds = es
 
 -- the event order of a course along the plan of these events: their kinds, with the values of the
 -- course
-abbrev pub story_along : {W : Type 0} → List numbers.Event → List ℤ → Course W → EventOrder
-story_along es opening c = story_of es opening (with_values es (trace (run_of c))) c
+abbrev pub event_order_along : {W : Type 0} → List numbers.Event → List ℤ → Course W → EventOrder
+event_order_along es opening c = event_order_of es opening (with_values es (trace (run_of c))) c
 
 -- The events of a course, by the numbers of the run's cells and reducers, are the run's events with
 -- the values of the course. The event order of the course is along the run's plan.
@@ -49,7 +49,7 @@ CoursesAreAlongPlans W V M next same =
     (cell : Cell → ℕ) (instance : Instance → numbered.Instance) (w : W) (memory : Cell → ℤ) (views : Instance → V) (t : Run W) (c : Course W)
     (es : List numbers.Event) (opening : List ℤ)
     → IsCourse W V M next same w [] memory views t c → AreWritten cell instance (trace t) es
-    → AreWritten cell instance (trace (run_of c)) (with_values es (trace (run_of c))) × IsAlong (planned es opening) (story_along es opening c)
+    → AreWritten cell instance (trace (run_of c)) (with_values es (trace (run_of c))) × IsAlong (planned es opening) (event_order_along es opening c)
 
 -- If the event order of a course has a requested event at each position, each event of the course
 -- is requested.
@@ -57,7 +57,7 @@ abbrev pub AskedEventOrdersAreOfAskedCourses : Type 0 → Type 0
 AskedEventOrdersAreOfAskedCourses W =
     (cell : Cell → ℕ) (instance : Instance → numbered.Instance) (c : Course W) (es es' : List numbers.Event) (opening : List ℤ)
     → AreWritten cell instance (trace (run_of c)) es'
-    → ((p : ℕ) → IsPosition es' p → IsAsked (story_of es opening es' c) p) → IsAskedThroughout c
+    → ((p : ℕ) → IsPosition es' p → IsAsked (event_order_of es opening es' c) p) → IsAskedThroughout c
 
 -- Along an orderly plan of a program's serial run: if the event order of a course on other inputs
 -- departs nowhere, the course is a serial run of the program on those.
@@ -66,5 +66,5 @@ InputsThatDepartNowhere =
     (p : Source) (inputs others : List ℤ) (t : Run FrameEnv) (c : Course FrameEnv) (cell : Cell → ℕ) (instance : Instance → numbered.Instance)
     (es es' : List numbers.Event) (opening : List ℤ) → IsSerialRunOn p inputs t → IsCourseOn p others t c
     → AreWritten cell instance (trace (run_of c)) es' → IsOrderly (planned es opening)
-    → IsAlong (planned es opening) (story_of es opening es' c) → IsAsked (story_of es opening es' c) 1
-    → DepartsNowhere (story_of es opening es' c) → IsSerialRunOn p others (run_of c)
+    → IsAlong (planned es opening) (event_order_of es opening es' c) → IsAsked (event_order_of es opening es' c) 1
+    → DepartsNowhere (event_order_of es opening es' c) → IsSerialRunOn p others (run_of c)

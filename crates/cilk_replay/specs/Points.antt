@@ -18,13 +18,13 @@ use Rattle.cilk_tree.specs.declared.event_order.EventOrder.{EventOrder}
 use Rattle.cilk_tree.specs.Runs.{IsAsked}
 use Rattle.cilk_tree.specs.Word.{event}
 use Rattle.cilk_runs.specs.FrameEnvMachine.{answer_of, has_ended, asked_after, next}
-use Rattle.cilk_runs.specs.FrameEnvs.{FrameEnv, first_world, child_world, cell_seen, reducer_seen, result_cell}
+use Rattle.cilk_runs.specs.FrameEnvs.{FrameEnv, first_env, child_env, cell_seen, reducer_seen, result_cell}
 use Rattle.cilk_determinacy.specs.Nested.{named}
 use Rattle.cilk_determinacy.specs.Numbers.{cell_number, instance_number}
 use Rattle.cilk_replay.specs.InputCourses.{Course, act, child, asked_in, IsLike}
 use Rattle.cilk_replay.specs.Frames.{same_frame, course_on}
 use Rattle.cilk_replay.specs.Owned.{makers}
-use Rattle.cilk_replay.specs.EventOrders.{story_on, IsPlannedRun}
+use Rattle.cilk_replay.specs.EventOrders.{event_order_on, IsPlannedRun}
 
 -- The current frame: what it was started as, what it has done before, and the position of its first
 -- event. Then the plan's event, the course's event, and whether the frame requests it.
@@ -97,7 +97,7 @@ pub record IsPoint {W : Type 0} (next : W → List (Deed W) → Option (Ask W)) 
 
 -- the points of a plan's run on some inputs
 abbrev pub points_on : Source → List ℤ → Transcript → List (Point FrameEnv)
-points_on p inputs r = points (first_world p) [] 0 0 (named p r) (course_on p inputs (named p r))
+points_on p inputs r = points (first_env p) [] 0 0 (named p r) (course_on p inputs (named p r))
 
 -- the answer to an event: the value read, else 0
 abbrev pub answer_in : numbers.Event → ℤ
@@ -130,7 +130,7 @@ module _ (p : Source) (r : Transcript) where
     pub goes_on : has_ended x.past ≡ false
     pub event : IsEventOf x.frame (asked_after p inputs x.frame x.past).ask here
     pub starts : (how : Invocation) (callee : Callee) → (asked_after p inputs x.frame x.past).ask ≡ asks.Invoke how callee
-        → x.deed ≡ Invokes how (child_world p x.frame (suc (started x.past)) callee)
+        → x.deed ≡ Invokes how (child_env p x.frame (suc (started x.past)) callee)
 
   -- what the event order of these inputs says at a position
   pub record IsTold (inputs : List ℤ) (es : List numbers.Event) (s : EventOrder) (i : ℕ) (x : Point FrameEnv) : Type 0 where
@@ -147,7 +147,7 @@ module _ (p : Source) (r : Transcript) where
   pub record AreTold (inputs : List ℤ) (es : List numbers.Event) (s : EventOrder) : Type 0 where
     pub all : length (points_on p inputs r) ≡ length s.events
     -- the first frame begins
-    pub begins : (x : Point FrameEnv) → slice_get (points_on p inputs r) 0 ≡ Some x → (x.frame ≡ first_world p) × (x.past ≡ []) × (x.since ≡ 0)
+    pub begins : (x : Point FrameEnv) → slice_get (points_on p inputs r) 0 ≡ Some x → (x.frame ≡ first_env p) × (x.past ≡ []) × (x.since ≡ 0)
     pub each : (i : ℕ) (x : Point FrameEnv) → slice_get (points_on p inputs r) i ≡ Some x
         → IsPoint (next p inputs) (same_frame p) (slice_get (points_on p inputs r)) i x × IsTold inputs es s i x
 
@@ -156,4 +156,4 @@ module _ (p : Source) (r : Transcript) where
 abbrev pub EventOrdersAreAskedByPositions : Type 0
 EventOrdersAreAskedByPositions =
     (p : Source) (inputs others : List ℤ) (r : Transcript) (es : List numbers.Event) (opening : List ℤ)
-    → IsPlannedRun p inputs r es opening → AreTold p r others es (story_on p others r es opening)
+    → IsPlannedRun p inputs r es opening → AreTold p r others es (event_order_on p others r es opening)

@@ -11,7 +11,7 @@ use Rattle.cilk_program.specs.SerialRun.{Transcript, stop, act, child}
 use Rattle.cilk_program.specs.WorkedFrames.{filled}
 use Rattle.cilk_tree.specs.declared.event_order.EventOrder.{EventOrder}
 use Rattle.cilk_tree.specs.Planned.{planned}
-use Rattle.cilk_replay.specs.EventOrders.{story_on}
+use Rattle.cilk_replay.specs.EventOrders.{event_order_on}
 
 -- `int a[7]; int main() { int n = input(0); cilk_for (int i = 0; i < n; i++) { a[i] = i; } return
 -- a[6]; }` on input 1: one turn, which is called.
@@ -39,7 +39,7 @@ all_zero = pos 0 ∷ pos 0 ∷ pos 0 ∷ pos 0 ∷ pos 0 ∷ pos 0 ∷ pos 0 ∷
 
 -- the event order of the program on input n, along that plan
 abbrev pub filled_on : ℤ → EventOrder
-filled_on n = story_on filled (n ∷ []) one_turn one_turn_events all_zero
+filled_on n = event_order_on filled (n ∷ []) one_turn one_turn_events all_zero
 
 -- On its own input it is the plan's. On 0 the loop has no turn: at position 4 the program requests
 -- the read of `a[6]` instead of the call. On 2 the loop is the plan's with another bound: the call

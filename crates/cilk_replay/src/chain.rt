@@ -123,8 +123,8 @@ impl Chain {
     /// Returns whether the frame requests the plan's event at its position, which is of this kind.
     pub fn look(&self, course: &Course, kind: Kind) -> Looked
         requires course { course.now ≡ self.now.of }
-        requires kind { kind_of_event (event self.now.of.yard.story self.now.at) ≡ Some kind }
-        ensures { Says self.now.of.yard.story self.now.at kind result }
+        requires kind { kind_of_event (event self.now.of.yard.event_order self.now.at) ≡ Some kind }
+        ensures { Says self.now.of.yard.event_order self.now.at kind result }
     {
         let level = &*self.top;
         if asked_sort(&self.asked) != kind_sort(kind) {
@@ -154,7 +154,7 @@ impl Chain {
     /// Continues the frame with the answer to its event.
     pub fn answer(&mut self, course: &Course, answer: Answer)
         requires course { course.now ≡ self.old.of }
-        requires answer { IsAnswered self.old.of.yard.story self.old.at answer }
+        requires answer { IsAnswered self.old.of.yard.event_order self.old.at answer }
         ensures { self.new ≡ standing self.old.of (self.old.at + 1) }
     {
         go_on(&mut self.top, course, answer, &mut self.asked);
@@ -165,8 +165,8 @@ impl Chain {
     /// `begin`. Out of memory, nothing changes.
     pub fn call(&mut self, alloc: Global, course: &Course, frame: FrameNo) -> Result<(), AllocError>
         requires course { course.now ≡ self.old.of }
-        requires calls { Calls self.old.of.yard.story self.old.at }
-        requires begins { BeginsNext self.old.of.yard.story self.old.at frame }
+        requires calls { Calls self.old.of.yard.event_order self.old.at }
+        requires begins { BeginsNext self.old.of.yard.event_order self.old.at frame }
         ensures ok { OnOk result (self.new ≡ standing self.old.of (self.old.at + 1)) }
         ensures err { OnErr result (self.new ≡ self.old) }
     {
@@ -190,8 +190,8 @@ impl Chain {
         next: Pos,
     ) -> Result<Rest, AllocError>
         requires course { course.now ≡ self.old.of }
-        requires spawns { Spawns self.old.of.yard.story self.old.at next }
-        requires begins { BeginsNext self.old.of.yard.story self.old.at frame }
+        requires spawns { Spawns self.old.of.yard.event_order self.old.at next }
+        requires begins { BeginsNext self.old.of.yard.event_order self.old.at frame }
         ensures child { OnOk result (self.new ≡ standing self.old.of (self.old.at + 1)) }
         ensures parent { IfOk result (λ rest. rest ≡ standing self.old.of next) }
         ensures err { OnErr result (self.new ≡ self.old) }
@@ -214,7 +214,7 @@ impl Chain {
     /// was spawned or is the root's; then nothing changes.
     pub fn end(&mut self, course: &Course) -> bool
         requires course { course.now ≡ self.old.of }
-        requires end { Follows self.old.of.yard.story self.old.at End }
+        requires end { Follows self.old.of.yard.event_order self.old.at End }
         ensures caller { IsTrue result → self.new ≡ standing self.old.of (self.old.at + 1) }
         ensures outermost { result ≡ false → (self.new ≡ self.old) × IsTheOutermost self.old.of self.old.at }
     {
@@ -278,14 +278,14 @@ impl Model for Task {
 
     ghost view = { λ t. task_of t.ticket t.rest };
 
-    ghost invariant = { λ t. what t.rest.of.yard.story t.rest.at ≡ resume t.ticket };
+    ghost invariant = { λ t. what t.rest.of.yard.event_order t.rest.at ≡ resume t.ticket };
 }
 
 impl Task {
     /// Creates the continuation after the spawn at `ticket`. Its frame continues at the `resume` of
     /// that spawn.
     pub fn new(ticket: Pos, rest: Rest) -> Task
-        requires { what rest.of.yard.story rest.at ≡ resume ticket }
+        requires { what rest.of.yard.event_order rest.at ≡ resume ticket }
         ensures { result ≡ task_of ticket rest }
     {
         Task { ticket, rest }
@@ -301,7 +301,7 @@ impl Task {
     /// Returns the position of the continuation.
     pub fn at(&self) -> Pos
         ensures place { result ≡ self.now.at }
-        ensures resumption { what self.now.of.yard.story result ≡ resume self.now.ticket }
+        ensures resumption { what self.now.of.yard.event_order result ≡ resume self.now.ticket }
     {
         self.rest.at()
     }
@@ -309,7 +309,7 @@ impl Task {
     /// Returns the frames that continue there.
     pub fn rest(self) -> Rest
         ensures rest { result ≡ standing self.of self.at }
-        ensures resumption { what self.of.yard.story self.at ≡ resume self.ticket }
+        ensures resumption { what self.of.yard.event_order self.at ≡ resume self.ticket }
     {
         let Task { ticket: _, rest } = self;
         rest

@@ -13,7 +13,7 @@ use cilk_program::program::Body;
 pub(crate) fn body_asked(asked: &AskSlot) -> Body
     ensures { result ≡ body_asked asked.now }
 {
-    match asked.brief() {
+    match asked.small_ask() {
         None => Body::Function(asked.invocation().1.function),
         Some(SmallAsk::Turns(_, part)) => Body::Loop(part.number),
         Some(_) => Body::Function(0),

@@ -180,7 +180,7 @@ impl Course {
     /// States that a frame that requests a spawn requests the `resume` after it: the run doesn't
     /// depart there.
     pub fn resumes(&self)
-        ensures { let y = self.now.yard in ResumesAreAsked y.story }
+        ensures { let y = self.now.yard in ResumesAreAsked y.event_order }
     {
         self.laws();
     }

@@ -65,7 +65,7 @@ pub fn courses_are_along_plans<W, V>()
 
 /// If the event order of a course has a requested event at each position, each event of the course
 /// is requested.
-pub fn asked_stories_are_of_asked_courses<W>()
+pub fn asked_event_orders_are_of_asked_courses<W>()
     ensures { AskedEventOrdersAreOfAskedCourses W }
 {}
 
@@ -77,13 +77,13 @@ pub fn inputs_that_depart_nowhere()
 {}
 
 /// For the language: on its own input the event order of a run along its plan is the plan's.
-pub fn own_story()
+pub fn own_event_order()
     ensures { OwnEventOrder }
 {}
 
 /// For the language: on each input of words the event order of a serial run is along the run's plan
 /// and has values.
-pub fn stories_along_have_values()
+pub fn event_orders_along_have_values()
     ensures { EventOrdersAlongHaveValues }
 {}
 
@@ -122,7 +122,7 @@ pub fn events_are_in_their_frames()
 /// For the language, on each input, by positions: what a frame has done so far decides whether it
 /// requests the next event, and with which values. The frame's next event, a child's first event,
 /// and the caller's next event after a child's `end` are at the plan's positions.
-pub fn stories_are_asked_by_positions()
+pub fn event_orders_are_asked_by_positions()
     ensures { EventOrdersAreAskedByPositions }
 {}
 
@@ -134,6 +134,6 @@ pub fn frames_resume()
 
 /// A worked example: a program along the plan of its run on one input. Its event order on that
 /// input, and on two others, which depart.
-pub fn worked_stories()
+pub fn worked_event_orders()
     ensures { WorkedEventOrders }
 {}

@@ -76,7 +76,7 @@ impl Level {
             → IsSightIn course.now callee home caller.now l.sight) }
     {
         let code = course.code();
-        let cursor = match asked.brief() {
+        let cursor = match asked.small_ask() {
             None => Cursor::function(alloc, code, asked.invocation().1)?,
             Some(SmallAsk::Turns(_, part)) => Cursor::turns(alloc, code, part)?,
             Some(_) => unreachable!(),

@@ -98,7 +98,7 @@ pub(crate) fn given_outer(
 pub(crate) fn reducer_asked(sight: &Sight, asked: &AskSlot) -> ReducerNumber
     ensures { result ≡ reducer_asked (homes_of sight.now) sight.now.given.items asked.now }
 {
-    match asked.brief() {
+    match asked.small_ask() {
         Some(SmallAsk::Create(reducer))
         | Some(SmallAsk::Update(reducer, _))
         | Some(SmallAsk::Set(reducer, _))

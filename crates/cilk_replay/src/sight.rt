@@ -55,7 +55,7 @@ impl Sight {
         ensures { IfOk result (λ s. (how : Invocation) (callee : Callee) → asked.now ≡ Invoke how callee
             → IsSightOf globals callee home caller.now s) }
     {
-        match asked.brief() {
+        match asked.small_ask() {
             None => {
                 let call = asked.invocation().1;
                 let result = caller.taking(globals, call.result);
@@ -161,7 +161,7 @@ fn inside(block: CellBlock, number: u32) -> Option<u64>
 pub(crate) fn cell_asked(globals: usize, sight: &Sight, asked: &AskSlot) -> Option<u64>
     ensures { result ≡ cell_asked globals sight.now asked.now }
 {
-    match asked.brief() {
+    match asked.small_ask() {
         Some(SmallAsk::Read(place)) | Some(SmallAsk::Write(place, _)) => {
             sight.number(globals, *place)
         }

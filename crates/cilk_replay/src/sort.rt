@@ -42,10 +42,10 @@ fn started(how: Invocation) -> Sort
 pub(crate) fn asked_sort(asked: &AskSlot) -> Sort
     ensures { result ≡ sort_asked asked.now }
 {
-    let Some(brief) = asked.brief() else {
+    let Some(small_ask) = asked.small_ask() else {
         return started(asked.invocation().0);
     };
-    match brief {
+    match small_ask {
         SmallAsk::Begin => Sort::Begin,
         SmallAsk::Read(_) => Sort::Read,
         SmallAsk::Write(_, _) | SmallAsk::Result(_) => Sort::Write,

@@ -2,7 +2,7 @@
 //!
 //! A case has a command line, its files and its standard input, and the expected bytes on both
 //! output streams with the exit status. This program serves each case with
-//! [`cilk_tool::serve_parallel`] over files in memory. It prints what differs, and the counts in
+//! [`cilk_tool::serve`] over files in memory. It prints what differs, and the counts in
 //! its last line. The exit status is 0 if all cases pass, 1 if one fails, and 2 if memory runs out
 //! or a line can't be printed.
 //!
@@ -32,7 +32,7 @@ use crate::case::{Case, loaded, text_of};
 use crate::compare::{agrees, start_of};
 use crate::folder::{File, Folder, bytes_of};
 use cilk_report::KeptFiles;
-use cilk_tool::serve_parallel;
+use cilk_tool::serve;
 use std::alloc::AllocError;
 use std::io;
 use std::process::ExitCode;
@@ -59,7 +59,7 @@ fn served<H: Threads + Wait + Sync>(
     let mut input = bytes_of(files, "stdin");
     let mut folder = KeptFiles::new(alloc, Folder::new(files));
     let (mut out, mut err) = (Vec::new(alloc), Vec::new(alloc));
-    let status = serve_parallel(
+    let status = serve(
         handle,
         alloc,
         words.as_slice(),

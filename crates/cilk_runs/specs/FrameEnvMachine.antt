@@ -14,7 +14,7 @@ use Rattle.cilk_program.specs.SerialRun.{cells_of, own_reducers}
 use Rattle.cilk_runs.specs.Runs.{Cell, Global, Own, Instance, Ask, Read, Write, Invoke, Sync, End, Pass, Fail, Begin, Resume, Create, Update, Set, Value, Print, Reads, Writes, Syncs, Ends, Passes, Begins, Resumes, Creates, Updates, Sets, Values, Prints, Deed, Does, Invokes}
 use Rattle.cilk_runs.specs.Costs.{Costs, Total, TickTotal, EventTotal, FrameTotal, CellTotal}
 use Rattle.cilk_runs.specs.Machine.{started}
-use Rattle.cilk_runs.specs.FrameEnvs.{FrameEnv, Reducers, own_named, child_world, cell_seen, reducer_seen, result_cell}
+use Rattle.cilk_runs.specs.FrameEnvs.{FrameEnv, Reducers, own_named, child_env, cell_seen, reducer_seen, result_cell}
 
 -- a frame's own reducers with these monoids, counted from n
 abbrev pub retired_from : (ℕ → Reducers) → ℕ → List MonoidKind → List Instance
@@ -35,7 +35,7 @@ named_ask p w k (asks.Update r v) = Pass (Update (reducer_seen w r) v)
 named_ask p w k (asks.Set r v) = Pass (Set (reducer_seen w r) v)
 named_ask p w k (asks.Value r) = Pass (Value (reducer_seen w r))
 named_ask p w k (asks.Print v) = Pass (Print v)
-named_ask p w k (asks.Invoke how callee) = Invoke how (child_world p w k callee)
+named_ask p w k (asks.Invoke how callee) = Invoke how (child_env p w k callee)
 named_ask p w k asks.Resume = Pass Resume
 named_ask p w k asks.Sync = Sync
 named_ask p w k (asks.Result v) = Write (result_cell w) v

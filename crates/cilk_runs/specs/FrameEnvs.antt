@@ -60,8 +60,8 @@ pub record FrameEnv : Type 0 where
   pub result : Option Cell
 
 -- the environment of the frame of this name, started by one with this sight
-abbrev pub world_of : Source → Name → Sight → Callee → FrameEnv
-world_of p name sight callee = record {
+abbrev pub env_of : Source → Name → Sight → Callee → FrameEnv
+env_of p name sight callee = record {
   callee = callee;
   name = name;
   sight = home_named p callee name (given_named callee sight) ∷ outer_named callee sight;
@@ -69,12 +69,12 @@ world_of p name sight callee = record {
 }
 
 -- the environment of the first frame
-abbrev pub first_world : Source → FrameEnv
-first_world p = world_of p [] [] callees.Root
+abbrev pub first_env : Source → FrameEnv
+first_env p = env_of p [] [] callees.Root
 
 -- the environment of the child of this ordinal
-abbrev pub child_world : Source → FrameEnv → ℕ → Callee → FrameEnv
-child_world p w k callee = world_of p (w.name ++ k ∷ []) w.sight callee
+abbrev pub child_env : Source → FrameEnv → ℕ → Callee → FrameEnv
+child_env p w k callee = env_of p (w.name ++ k ∷ []) w.sight callee
 
 abbrev pub cell_seen : FrameEnv → Place → Cell
 cell_seen w x = cell_in Global w.sight x

@@ -12,7 +12,7 @@ use Rattle.cilk_runs.specs.Machine.{State, deeds_at, Step, Steps, IsOpening}
 use Rattle.cilk_runs.specs.Progress.{HasProgress}
 use Rattle.cilk_runs.specs.Theorem.{follows}
 use Rattle.cilk_runs.specs.Reducers.{View, value_of, monoid_of, elements_of}
-use Rattle.cilk_runs.specs.FrameEnvs.{FrameEnv, first_world, global_named}
+use Rattle.cilk_runs.specs.FrameEnvs.{FrameEnv, first_env, global_named}
 use Rattle.cilk_runs.specs.FrameEnvMachine.{next, costs, opening_values}
 
 -- the result that a frame's end gave
@@ -45,7 +45,7 @@ module _ (p : Source) (inputs : List ℤ) where
   Next = follows (next p inputs)
 
   abbrev pub IsFirst : State FrameEnv View → Type 0
-  IsFirst s = IsOpening FrameEnv View monoid_of Next (costs p inputs) (first_world p) (opening_values p inputs) s
+  IsFirst s = IsOpening FrameEnv View monoid_of Next (costs p inputs) (first_env p) (opening_values p inputs) s
 
   abbrev pub OneStep : State FrameEnv View → Name → State FrameEnv View → Type 0
   OneStep s n s' = Step FrameEnv View monoid_of Next (costs p inputs) s n s'

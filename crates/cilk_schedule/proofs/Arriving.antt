@@ -35,11 +35,11 @@ own_brings x key old passes x' new is q (Arrived l l' at now arrives) = Brought 
 module _ (frames frames' : List (Activation FrameState)) (workers workers' : List Worker) (w k : ℕ) (a : Activation FrameState) (sits : slice_get frames k ≡ Some a) where
   pub own_of : (key : ℕ) (passes : Bool) → (let x = a.cursor in key ≡ x.children + 1) → (let x = a.cursor in x.merged ≡ false) → PieceComes frames frames' workers workers' w k key true passes → OwnComes frames frames' workers workers' w k
   own_of key passes is q t =
-      let x = (let z = t.seat in z.cursor) in
+      let x = (let z = t.frame_state in z.cursor) in
       let u = t.worker in
-      let same : a ≡ t.seat = same_at frames k a t.seat sits t.sits in
+      let same : a ≡ t.frame_state = same_at frames k a t.frame_state sits t.sits in
       record {
-        seat = t.seat;
+        frame_state = t.frame_state;
         worker = t.worker;
         brought = t.brought;
         views = t.views;
@@ -55,7 +55,7 @@ module _ (frames frames' : List (Activation FrameState)) (workers workers' : Lis
       let it = get_some workers w low in
       let u = it.0 in
       record {
-        seat = a;
+        frame_state = a;
         worker = u;
         brought = a.cursor;
         views = u.views;

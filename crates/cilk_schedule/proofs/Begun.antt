@@ -65,7 +65,7 @@ module _ (code : CodeView) (p : Source) (inputs : List ℤ) (is_code : IsCodeOf 
   scope_now = home_of p callee (length frames + 1) base (given_to callee scope_in) ∷ outer_of callee scope_in
 
   child_is : child.cursor ≡ seated k (let a = parent.0 in let x = a.cursor in x.children + 1) how worker is.cursor
-  child_is = is.seat parent.0 parent.1
+  child_is = is.frame_state parent.0 parent.1
 
   child_lives : Lives code p inputs (frames ++ child ∷ []) (cells + count) events child
   unfolding memory scope_now scope_in comes parent

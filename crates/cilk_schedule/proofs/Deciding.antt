@@ -21,7 +21,7 @@ use Rattle.cilk_runs.specs.Reducers.{View, elements_of, monoid_of, value_of}
 use Rattle.cilk_runs.specs.Steps.{IsFirst, Next, OneStep, Reaches, finals_in, outcome_in, result_in}
 use Rattle.cilk_runs.specs.FrameEnvs.{FrameEnv}
 use Rattle.cilk_scheduler.specs.WorkerTables.{BlockIsOver, Chooses, Comes, WorkerTable, IsOver, IsSkipped, Settles, Skipped, Stands, StopsAt, Stole, Waited, all_offered, does, holds, idle, skips, steals, waits, withdrawn}
-use Rattle.cilk_scheduler.specs.WorkerTables as desks
+use Rattle.cilk_scheduler.specs.WorkerTables as worker_tables
 use Rattle.cilk_scheduler.specs.Histories.{DidAsAsked}
 use Rattle.cilk_scheduler.specs.Parents.{OutliveChildren}
 use Rattle.cilk_scheduler.specs.declared.choice.Choice.{Choice}
@@ -30,7 +30,7 @@ use Rattle.cilk_scheduler.proofs.Choosing.{choices_are_steps}
 use Rattle.cilk_scheduler.proofs.Histories.{does_as_asked}
 use Rattle.cilk_scheduler.proofs.Parents.{parents_outlive}
 use Rattle.cilk_schedule.specs.Deciding.{Agree, ChoicesDecide, IsGoing}
-use Rattle.cilk_schedule.proofs.DecidingWorkerTables.{desk_once}
+use Rattle.cilk_schedule.proofs.DecidingWorkerTables.{worker_table_once}
 use Rattle.cilk_schedule.proofs.DecidingSteps.{MadeBy, StolenBy, agreed, asks_no_more, block_moves, made_by, made_same, stolen_by, stolen_same, with_pieces}
 
 some_is : {A : Type 0} (x y : A) → Some x ≡ Some y → x ≡ y
@@ -87,7 +87,7 @@ module _ (p : Source) (inputs : List ℤ) where
     did_once : (d d' d'' : WorkerTable) (w : ℕ) (n : Name) (f : Frame FrameEnv) (a : Ask FrameEnv) (s' t' : State FrameEnv View) → Did s d w n f a s' d' → Did t d w n f a t' d'' → (d'' ≡ d') × Agree s' t'
     did_once d d' d'' w n f a s' t' h k =
         let agree = made_same p inputs s q same kids asked n f a h.here h.next s' t' h.made k.made in
-        (desk_once s' t' agree d w n f.deeds a d' d'' h.settles k.settles, agree)
+        (worker_table_once s' t' agree d w n f.deeds a d' d'' h.settles k.settles, agree)
 
     did_same : (d d' d'' : WorkerTable) (w w' : ℕ) (n n' : Name) (f f' : Frame FrameEnv) (a a' : Ask FrameEnv) (s' t' : State FrameEnv View) → w ≡ w' → Did s d w n f a s' d' → Did t d w' n' f' a' t' d'' → (d'' ≡ d') × Agree s' t'
     did_same d d' d'' w w' n n' f f' a a' s' t' e h k =
@@ -209,7 +209,7 @@ module _ (p : Source) (inputs : List ℤ) where
     outcome_by over = by (s.frames []) refl
       where
         by : (o : Option (Frame FrameEnv)) → s.frames [] ≡ o → outcome_in p t ≡ outcome_in p s
-        by None e = let h : ⊥ = subst (λ o. desks.IsOver (record s { frames = λ z. o })) e over in absurd h
+        by None e = let h : ⊥ = subst (λ o. worker_tables.IsOver (record s { frames = λ z. o })) e over in absurd h
         by (Some f) e =
             ap (λ (v : Instance → View).
             record {

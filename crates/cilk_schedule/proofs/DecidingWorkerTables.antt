@@ -1,7 +1,7 @@
 -- The worker table after a frame's event is decided by the event.
 --
 -- - `settled_else`, `settled_call`, `settled_spawn`, `settled_end`: by what the frame requested;
--- - `desk_once`: one worker table, in states that agree.
+-- - `worker_table_once`: one worker table, in states that agree.
 use Rattle.std.proofs.Common.{◌≡◌, ℕ, suc, ℤ, true, false, true≢false, List, [], ◌∷◌, ◌++◌, refl, sym, ap, ◌∙◌, subst}
 use Rattle.cilk_types.specs.declared.invocation.Invocation.TheVariants.{Call, Spawn}
 use Rattle.cilk_runs.specs.Machine.{State, started}
@@ -97,12 +97,12 @@ module _ (s t : State FrameEnv View) (agree : Agree s t) (d : WorkerTable) (w : 
   plainly : (a : Ask FrameEnv) (x y : WorkerTable) → ((v : FrameEnv) → a ≡ Invoke Call v → ⊥) → ((v : FrameEnv) → a ≡ Invoke Spawn v → ⊥) → ((v : ℤ) (gone : List Instance) → a ≡ End v gone → ⊥) → Settles s d w n before a x → Settles t d w n before a y → y ≡ x
   plainly a x y c g e h k = settled_else t d w n before a y c g e k ∙ sym (settled_else s d w n before a x c g e h)
 
-  pub desk_once : (a : Ask FrameEnv) (x y : WorkerTable) → Settles s d w n before a x → Settles t d w n before a y → y ≡ x
-  desk_once (Read c) x y h k = plainly (Read c) x y (λ v q. let f : ⊥ = cc in f) (λ v q. let f : ⊥ = cc in f) (λ v gone q. let f : ⊥ = cc in f) h k
-  desk_once (Write c z) x y h k = plainly (Write c z) x y (λ v q. let f : ⊥ = cc in f) (λ v q. let f : ⊥ = cc in f) (λ v gone q. let f : ⊥ = cc in f) h k
-  desk_once (Invoke Call u) x y h k = settled_call t d w n before (Invoke Call u) y u refl k ∙ sym (settled_call s d w n before (Invoke Call u) x u refl h)
-  desk_once (Invoke Spawn u) x y h k = settled_spawn t d w n before (Invoke Spawn u) y u refl k ∙ sym (settled_spawn s d w n before (Invoke Spawn u) x u refl h)
-  desk_once Sync x y h k = plainly Sync x y (λ v q. let f : ⊥ = cc in f) (λ v q. let f : ⊥ = cc in f) (λ v gone q. let f : ⊥ = cc in f) h k
-  desk_once (End u gone) x y h k = ends_once x y (settled_end s d w n before (End u gone) x u gone refl h) (settled_end t d w n before (End u gone) y u gone refl k)
-  desk_once (Pass z) x y h k = plainly (Pass z) x y (λ v q. let f : ⊥ = cc in f) (λ v q. let f : ⊥ = cc in f) (λ v gone q. let f : ⊥ = cc in f) h k
-  desk_once (Fail z) x y h k = plainly (Fail z) x y (λ v q. let f : ⊥ = cc in f) (λ v q. let f : ⊥ = cc in f) (λ v gone q. let f : ⊥ = cc in f) h k
+  pub worker_table_once : (a : Ask FrameEnv) (x y : WorkerTable) → Settles s d w n before a x → Settles t d w n before a y → y ≡ x
+  worker_table_once (Read c) x y h k = plainly (Read c) x y (λ v q. let f : ⊥ = cc in f) (λ v q. let f : ⊥ = cc in f) (λ v gone q. let f : ⊥ = cc in f) h k
+  worker_table_once (Write c z) x y h k = plainly (Write c z) x y (λ v q. let f : ⊥ = cc in f) (λ v q. let f : ⊥ = cc in f) (λ v gone q. let f : ⊥ = cc in f) h k
+  worker_table_once (Invoke Call u) x y h k = settled_call t d w n before (Invoke Call u) y u refl k ∙ sym (settled_call s d w n before (Invoke Call u) x u refl h)
+  worker_table_once (Invoke Spawn u) x y h k = settled_spawn t d w n before (Invoke Spawn u) y u refl k ∙ sym (settled_spawn s d w n before (Invoke Spawn u) x u refl h)
+  worker_table_once Sync x y h k = plainly Sync x y (λ v q. let f : ⊥ = cc in f) (λ v q. let f : ⊥ = cc in f) (λ v gone q. let f : ⊥ = cc in f) h k
+  worker_table_once (End u gone) x y h k = ends_once x y (settled_end s d w n before (End u gone) x u gone refl h) (settled_end t d w n before (End u gone) y u gone refl k)
+  worker_table_once (Pass z) x y h k = plainly (Pass z) x y (λ v q. let f : ⊥ = cc in f) (λ v q. let f : ⊥ = cc in f) (λ v gone q. let f : ⊥ = cc in f) h k
+  worker_table_once (Fail z) x y h k = plainly (Fail z) x y (λ v q. let f : ⊥ = cc in f) (λ v q. let f : ⊥ = cc in f) (λ v gone q. let f : ⊥ = cc in f) h k

@@ -82,26 +82,26 @@ module _ (code : CodeView) (p : Source) (inputs : List ℤ) (name : ℕ → Name
   -- ---- the parent of a frame that ends
 
   module _ (outlive : OutliveChildren s) (j : ℕ) (h : HasCome code p inputs b w (suc j) (asks.End v)) (went : List (Activation FrameState)) (is : let f = b.frames in went ≡ changed (λ _. h.came) f.items (suc j)) where
-    abbrev seats : List (Activation FrameState)
-    seats = let f = b.frames in f.items
+    abbrev frame_states : List (Activation FrameState)
+    frame_states = let f = b.frames in f.items
 
     abbrev own : FrameState
-    own = let a = h.seat in a.cursor
+    own = let a = h.frame_state in a.cursor
 
     -- its state once it has stepped to its end
     own_is : (a : Activation FrameState) → slice_get went (suc j) ≡ Some a → a.cursor ≡ record own { cursor = (let y = h.came in y.cursor); took = (let y = h.came in y.took) }
     own_is a at =
-        ap (λ (z : Activation FrameState). z.cursor) (same_at went (suc j) a (record h.seat { cursor = h.came }) at (ap (λ l. slice_get l (suc j)) is ∙ changed_here (λ _. h.came) seats (suc j) h.seat h.sits))
+        ap (λ (z : Activation FrameState). z.cursor) (same_at went (suc j) a (record h.frame_state { cursor = h.came }) at (ap (λ l. slice_get l (suc j)) is ∙ changed_here (λ _. h.came) frame_states (suc j) h.frame_state h.sits))
         ∙ kept_by code p inputs own h.came (asks.End v) own.due h.went
 
     apart : own.parent ≡ suc j → ⊥
-    apart e = let y = sh.shows in let t = y.tells in let n = t.named in let c = n.child j h.seat h.sits in let low = c.0 in omega (arith, e, low)
+    apart e = let y = sh.shows in let t = y.tells in let n = t.named in let c = n.child j h.frame_state h.sits in let low = c.0 in omega (arith, e, low)
 
     -- its parent stays where it was
-    above_is : (above : Activation FrameState) → slice_get went own.parent ≡ Some above → slice_get seats own.parent ≡ Some above
-    above_is above up = sym (changed_off (λ _. h.came) seats (suc j) own.parent (λ e. apart (sym e))) ∙ ap (λ l. slice_get l own.parent) (sym is) ∙ up
+    above_is : (above : Activation FrameState) → slice_get went own.parent ≡ Some above → slice_get frame_states own.parent ≡ Some above
+    above_is above up = sym (changed_off (λ _. h.came) frame_states (suc j) own.parent (λ e. apart (sym e))) ∙ ap (λ l. slice_get l own.parent) (sym is) ∙ up
 
-    offered_among : (above : Activation FrameState) → slice_get seats own.parent ≡ Some above → let y = above.cursor in let l = b.workers in IsOfferedAmong y.status (length l.items)
+    offered_among : (above : Activation FrameState) → slice_get frame_states own.parent ≡ Some above → let y = above.cursor in let l = b.workers in IsOfferedAmong y.status (length l.items)
     offered_among above up victim e =
         let shows = sh.shows in
         let l = b.workers in
@@ -119,7 +119,7 @@ module _ (code : CodeView) (p : Source) (inputs : List ℤ) (name : ℕ → Name
         let parent = ap (λ (x : FrameState). x.parent) mine in
         let there = above_is above (ap (λ n. slice_get went n) (sym parent) ∙ up) in
         let law = may_arrive code p inputs name b d s w j v sh outlive h in
-        let same : law.0 ≡ above = same_at seats own.parent law.0 above law.1 there in (
+        let same : law.0 ≡ above = same_at frame_states own.parent law.0 above law.1 there in (
           subst (λ n. IsOfferedAmong y.status n) many (offered_among above there),
           λ stolen.
               subst (λ n. MayBring y n) (sym (ap (λ (x : FrameState). x.ordinal) mine))
@@ -129,16 +129,16 @@ module _ (code : CodeView) (p : Source) (inputs : List ℤ) (name : ℕ → Name
   -- ---- from what the functions change
 
   module _ (k : ℕ) (h : HasCome code p inputs b w k (asks.End v)) (b1 made b2 : Scheduler) (gone : HasGoneOn b b1 k h.came) (t : Ended code b1 made w k v) (noted : IsNoted made b2 k events.End) where
-    abbrev went_seats : List (Activation FrameState)
-    went_seats = let f = b1.frames in f.items
+    abbrev went_frame_states : List (Activation FrameState)
+    went_frame_states = let f = b1.frames in f.items
 
-    retired : HasRetired code p inputs b w k v h went_seats t.views
+    retired : HasRetired code p inputs b w k v h went_frame_states t.views
     retired =
         let l = b.workers in
         let mine : t.worker ≡ h.worker = same_at l.items w t.worker h.worker (ap (λ ws. slice_get ws w) (sym gone.workers) ∙ t.at) h.at in record {
           goes = gone.frames;
           retires = λ a at.
-              subst (λ (u : Worker). RetiresOwn code.layout a u.views t.views) mine (subst (λ (z : Activation FrameState). let u = t.worker in RetiresOwn code.layout z u.views t.views) (same_at went_seats k t.top a t.sits at) t.retires);
+              subst (λ (u : Worker). RetiresOwn code.layout a u.views t.views) mine (subst (λ (z : Activation FrameState). let u = t.worker in RetiresOwn code.layout z u.views t.views) (same_at went_frame_states k t.top a t.sits at) t.retires);
         }
 
     is_finished : (frames : List (Activation FrameState)) → (let m = t.departed in let f = m.frames in f.items ≡ frames) → IsFinished b b2 k frames
@@ -193,7 +193,7 @@ module _ (code : CodeView) (p : Source) (inputs : List ℤ) (name : ℕ → Name
       let l = b.workers in
       let m = t.departed in
       let fd = m.frames in
-      let x = (let q = h.seat in q.cursor) in
+      let x = (let q = h.frame_state in q.cursor) in
       let y = above.cursor in
       let mine = own_is outlive j h f1.items gone.frames a here in
       let parent = ap (λ (z : FrameState). z.parent) mine in
@@ -212,7 +212,7 @@ module _ (code : CodeView) (p : Source) (inputs : List ℤ) (name : ℕ → Name
       let l = b.workers in
       let m = t.departed in
       let fd = m.frames in
-      let x = (let q = h.seat in q.cursor) in
+      let x = (let q = h.frame_state in q.cursor) in
       let y = above.cursor in
       let mine = own_is outlive j h f1.items gone.frames a here in
       let parent = ap (λ (z : FrameState). z.parent) mine in

@@ -58,8 +58,8 @@ strands_stay code inputs x ask x' went = by x.due went
 -- ---- a choice that a fault stops
 
 module _ (code : CodeView) (inputs : List ℤ) (b b1 : Scheduler) (v k : ℕ) (ready : IsReadyAt b (suc v) k) (go : WentTo code inputs b b1 k) (fault : Fault) where
-  came_at : let f = b1.frames in slice_get f.items k ≡ Some (record go.seat { cursor = go.came })
-  came_at = let f = b.frames in ap (λ l. slice_get l k) go.frames ∙ changed_here (λ _. go.came) f.items k go.seat go.sits
+  came_at : let f = b1.frames in slice_get f.items k ≡ Some (record go.frame_state { cursor = go.came })
+  came_at = let f = b.frames in ap (λ l. slice_get l k) go.frames ∙ changed_here (λ _. go.came) f.items k go.frame_state go.sits
 
   as_many : let f = b.frames in let g = b1.frames in length g.items ≡ length f.items
   as_many = let f = b.frames in ap (λ l. length l) go.frames ∙ changed_length (λ _. go.came) f.items k
@@ -86,7 +86,7 @@ module _ (code : CodeView) (inputs : List ℤ) (b b1 : Scheduler) (v k : ℕ) (r
       let ticks : ℕ = y.took - y.counted in
       record {
         worker = u.0;
-        seat = go.seat;
+        frame_state = go.frame_state;
         came = go.came;
         at = u.1;
         has = u.2;
@@ -96,7 +96,7 @@ module _ (code : CodeView) (inputs : List ℤ) (b b1 : Scheduler) (v k : ℕ) (r
             subst (λ t. refusal (t + ticks) (length e.items) (length f.items) (length c.items) code.layout b1.asked ≡ Some fault) go.ticks
             (subst (λ z. refusal (b1.ticks + ticks) (length z.items) (length f.items) (length c.items) code.layout b1.asked ≡ Some fault) go.journal
             (subst (λ z. refusal (b1.ticks + ticks) (length e1.items) z (length c.items) code.layout b1.asked ≡ Some fault) as_many
-            (subst (λ z. refusal (b1.ticks + ticks) (length e1.items) (length f1.items) (length z.items) code.layout b1.asked ≡ Some fault) go.cells (found (record go.seat { cursor = go.came }) came_at))));
+            (subst (λ z. refusal (b1.ticks + ticks) (length e1.items) (length f1.items) (length z.items) code.layout b1.asked ≡ Some fault) go.cells (found (record go.frame_state { cursor = go.came }) came_at))));
       }
 
   stops_on : Found → (b1.asked ≡ asks.Sync → (a : Activation FrameState) → (let f = b1.frames in slice_get f.items k ≡ Some a) → must_wait a.cursor ≡ false) → FaultsAreStops code inputs b b1 (choices.Run (suc v)) (stops.At fault (record { frame = k + 1; number = (let y = go.came in latest y.strands) }))
@@ -104,12 +104,12 @@ module _ (code : CodeView) (inputs : List ℤ) (b b1 : Scheduler) (v k : ℕ) (r
   stops_on found passes = λ p name d s sh behind.
       let f = b.frames in
       let r = is_refused p found in
-      let x = (let a = go.seat in a.cursor) in
+      let x = (let a = go.frame_state in a.cursor) in
       let y = go.came in
       let over : b1.asked ≡ asks.Sync → BlockIsOver s (name k) =
       (λ sync.
-      let h : HasFrame b v k = record { worker = r.worker; seat = go.seat; at = r.at; has = r.has; sits = go.sits } in
-      blocks_are_over code p inputs name b d s v k go.came sh.shows behind h (subst (λ q. WentOn code inputs x q go.came) sync go.went) (passes sync (record go.seat { cursor = go.came }) came_at)) in
+      let h : HasFrame b v k = record { worker = r.worker; frame_state = go.frame_state; at = r.at; has = r.has; sits = go.sits } in
+      blocks_are_over code p inputs name b d s v k go.came sh.shows behind h (subst (λ q. WentOn code inputs x q go.came) sync go.went) (passes sync (record go.frame_state { cursor = go.came }) came_at)) in
       let m = stops_are_shown code p inputs name b b1 d s v k b1.asked fault sh.lays sh.shows r over go.frames (ap (λ z. z.items) go.journal) go.outcome in
       let number : latest x.strands ≡ latest y.strands = ap latest (sym (strands_stay code inputs x b1.asked y go.went)) in (
         m.0,
@@ -117,7 +117,7 @@ module _ (code : CodeView) (inputs : List ℤ) (b b1 : Scheduler) (v k : ℕ) (r
         record {
           place = k;
           frame = omega arith;
-          here = (let g = b1.frames in get_low g.items k (record go.seat { cursor = go.came }) came_at);
+          here = (let g = b1.frames in get_low g.items k (record go.frame_state { cursor = go.came }) came_at);
           stopped = m.2 ∙ ap (λ n. Some (record { frame = name k; strand = n; fault = fault })) number;
           tells = m.3;
         },
@@ -132,7 +132,7 @@ pub refused_stops : (code : CodeView) (inputs : List ℤ) (b b1 : Scheduler) (nu
 refused_stops code inputs b b1 number v k is ready go fault found passes stop told =
     let ready_at : IsReadyAt b (suc v) k = subst (λ z. IsReadyAt b z k) is ready in
     subst (λ z. FaultsAreStops code inputs b b1 (choices.Run z) stop) (sym is)
-    (subst (λ z. FaultsAreStops code inputs b b1 (choices.Run (suc v)) z) (sym (told (record go.seat { cursor = go.came }) (came_at code inputs b b1 v k ready_at go fault)))
+    (subst (λ z. FaultsAreStops code inputs b b1 (choices.Run (suc v)) z) (sym (told (record go.frame_state { cursor = go.came }) (came_at code inputs b b1 v k ready_at go fault)))
     (stops_on code inputs b b1 v k ready_at go fault found passes))
 
 pub memory_stops : (code : CodeView) (inputs : List ℤ) (b b' : Scheduler) (c : Choice) (r : Result Told Stop) → IfErr r (λ stop. stop ≡ stops.Memory) → IfErr r (λ stop. FaultsAreStops code inputs b b' c stop)
@@ -158,7 +158,7 @@ module _ (p : Source) (inputs : List ℤ) where
   one_after (m ∷ ns) n s mid s' (z, first, more) one = (z, first, one_after ns n z mid s' more one)
 
 module _ (code : CodeView) (inputs : List ℤ) (b b' : Scheduler) (c : Choice) (p : Source) (is : IsCodeOf p code) (h : HasReached code p inputs b) where
-  one_more : (w : Choice) (s' : State FrameEnv View) → StopsAt p inputs h.state h.desk w s' → (n : Name) × Reaches p inputs (h.steps ++ n ∷ []) s'
+  one_more : (w : Choice) (s' : State FrameEnv View) → StopsAt p inputs h.state h.worker_table w s' → (n : Name) × Reaches p inputs (h.steps ++ n ∷ []) s'
   one_more (choices.Run zero) s' stops = absurd stops
   one_more (choices.Run (suc w)) s' stops =
       let x = h.shows in
@@ -170,7 +170,7 @@ module _ (code : CodeView) (inputs : List ℤ) (b b' : Scheduler) (c : Choice) (
   stops_reach stops.Memory f kept = let x = h.shows in tellings_stay code p inputs h.name b b' h.state (let s = h.state in s.stopped) x.tells kept.frames kept.journal kept.outcome
   stops_reach (stops.At fault strand) f kept =
       let r = reached_of code p inputs b is h in
-      let m = f p h.name h.desk h.state r.shown r.behind in
+      let m = f p h.name h.worker_table h.state r.shown r.behind in
       let q = one_more c m.0 m.1 in
       (record { steps = h.steps ++ q.0 ∷ []; state = m.0; reaches = q.1; name = h.name; is_stopped = m.2 }, m.1)
 

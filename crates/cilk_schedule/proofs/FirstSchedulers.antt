@@ -14,7 +14,7 @@ use Rattle.cilk_scheduler.specs.declared.scheduler.Scheduler.{Scheduler}
 use Rattle.cilk_scheduler.specs.declared.choice.Choice.{Choice}
 use Rattle.cilk_scheduler.specs.Schedulers.{ShowsBy}
 use Rattle.cilk_scheduler.specs.WorkerTables.{Chooses, Comes, WorkerTable}
-use Rattle.cilk_scheduler.specs.Openings.{IsNew, first_desk}
+use Rattle.cilk_scheduler.specs.Openings.{IsNew, first_worker_table}
 use Rattle.cilk_scheduler.proofs.Choosing.{choices_are_steps}
 use Rattle.cilk_scheduler.proofs.Openings.{openings_are_shown}
 use Rattle.cilk_schedule.specs.Reached.{HasOpened, HasReached}
@@ -30,15 +30,15 @@ each_more P (y ∷ ys) x each last (suc v) u e = each_more (λ n z. P (suc n) z)
 pub has_opened : (code : CodeView) (p : Source) (inputs : List ℤ) → IsCodeOf p code → (b : Scheduler) (count : ℕ) → (h : IsNew code p inputs b) × (let l = h.others in length l ≡ count) → HasOpened code p inputs b count
 has_opened code p inputs is b count (h, many) =
     let o = openings_are_shown code p inputs is.well is.lays b h in
-    record { state = o.0; first = o.1; shows = subst (λ n. ShowsBy code p inputs (λ q. []) b (first_desk n) o.0) many o.2 }
+    record { state = o.0; first = o.1; shows = subst (λ n. ShowsBy code p inputs (λ q. []) b (first_worker_table n) o.0) many o.2 }
 
 pub first_reached : (code : CodeView) (p : Source) (inputs : List ℤ) (b : Scheduler) (idle : ℕ) → HasOpened code p inputs b idle → HasReached code p inputs b
-first_reached code p inputs b idle h = record { steps = []; state = h.state; reaches = (h.state, h.first, refl); name = λ n. []; desk = first_desk idle; shows = h.shows }
+first_reached code p inputs b idle h = record { steps = []; state = h.state; reaches = (h.state, h.first, refl); name = λ n. []; worker_table = first_worker_table idle; shows = h.shows }
 
 pub goes_on : (code : CodeView) (p : Source) (inputs : List ℤ) (b b' : Scheduler) (h : HasReached code p inputs b) (c : Choice) (t : Comes) (s' : State FrameEnv View) (d' : WorkerTable) (name' : ℕ → Name)
-    → Chooses p inputs h.state h.desk c t s' d' → ShowsBy code p inputs name' b' d' s' → (h' : HasReached code p inputs b') × Chooses p inputs h.state h.desk c t h'.state h'.desk
+    → Chooses p inputs h.state h.worker_table c t s' d' → ShowsBy code p inputs name' b' d' s' → (h' : HasReached code p inputs b') × Chooses p inputs h.state h.worker_table c t h'.state h'.worker_table
 goes_on code p inputs b b' h c t s' d' name' chooses shows =
     let law = choices_are_steps p inputs in
     let x = h.shows in
-    let r = law.reached h.steps h.state s' h.desk d' c t x.running h.reaches chooses in
-    (record { steps = r.0; state = s'; reaches = r.1; name = name'; desk = d'; shows = shows }, chooses)
+    let r = law.reached h.steps h.state s' h.worker_table d' c t x.running h.reaches chooses in
+    (record { steps = r.0; state = s'; reaches = r.1; name = name'; worker_table = d'; shows = shows }, chooses)

@@ -58,7 +58,7 @@ module _ (workers : ℕ) (tasks left : List Task) (l m : Machine) (first : Leads
         let b = second.reached p (code_on p is) a.0 in
         let x = a.0 in
         let y = b.0 in
-        (y, follows_on p i.now workers tasks left more h.state x.state y.state h.desk x.desk y.desk a.1 (subst (λ (z : Bor (List ℤ)). Follows p z.now workers left x.state x.desk more y.state y.desk) first.input b.1));
+        (y, follows_on p i.now workers tasks left more h.state x.state y.state h.worker_table x.worker_table y.worker_table a.1 (subst (λ (z : Bor (List ℤ)). Follows p z.now workers left x.state x.worker_table more y.state y.worker_table) first.input b.1));
   }
 
   pub comes_later : (f : PlayFault) → ComesToFault workers left m f → ComesToFault workers tasks l f
@@ -66,8 +66,8 @@ module _ (workers : ℕ) (tasks left : List Task) (l m : Machine) (first : Leads
       let i = l.input in
       let a = first.reached p is h in
       let x = a.0 in
-      fails_later p i.now workers tasks left h.state x.state h.desk x.desk f a.1
-      (subst (λ (z : Bor (List ℤ)). (rest : List Task) → IsFault (λ e. Plays p z.now workers (left ++ rest) x.state x.desk e) f) first.input (second p (code_on p is) x))
+      fails_later p i.now workers tasks left h.state x.state h.worker_table x.worker_table f a.1
+      (subst (λ (z : Bor (List ℤ)). (rest : List Task) → IsFault (λ e. Plays p z.now workers (left ++ rest) x.state x.worker_table e) f) first.input (second p (code_on p is) x))
 
 -- tasks are done, and others are left
 pub leads_ahead : (workers : ℕ) (tasks behind : List Task) (l m : Machine) → Leads workers tasks l [] m → Leads workers (tasks ++ behind) l behind m
@@ -78,17 +78,17 @@ leads_ahead workers tasks behind l m h = record {
       let i = l.input in
       let a = h.reached p is r in
       let x = a.0 in
-      (x, all_ahead p i.now workers tasks behind r.state x.state r.desk x.desk a.1);
+      (x, all_ahead p i.now workers tasks behind r.state x.state r.worker_table x.worker_table a.1);
 }
 
 -- they fail, whatever comes after them
 pub comes_ahead : (workers : ℕ) (tasks behind : List Task) (m : Machine) (f : PlayFault) → ComesToFault workers tasks m f → ComesToFault workers (tasks ++ behind) m f
-comes_ahead workers tasks behind m f h = λ p is r. let i = m.input in all_fail_ahead p i.now workers tasks behind r.state r.desk f (h p is r)
+comes_ahead workers tasks behind m f h = λ p is r. let i = m.input in all_fail_ahead p i.now workers tasks behind r.state r.worker_table f (h p is r)
 
 -- ---- a choice
 
 pub leads_chosen : (workers : ℕ) (m m' : Machine) (choice : Choice) (t : Told) → m'.code ≡ m.code → m'.input ≡ m.input
-    → ((p : Source) → IsCodeOf p (let c = m.code in c.now) → LeadsOn (let c = m.code in c.now) p (let i = m.input in i.now) m.board m'.board choice t) → Leads workers (Choose choice ∷ []) m [] m'
+    → ((p : Source) → IsCodeOf p (let c = m.code in c.now) → LeadsOn (let c = m.code in c.now) p (let i = m.input in i.now) m.scheduler m'.scheduler choice t) → Leads workers (Choose choice ∷ []) m [] m'
 leads_chosen workers m m' choice t same_code same_input led = record {
   code = same_code;
   input = same_input;
@@ -96,32 +96,32 @@ leads_chosen workers m m' choice t same_code same_input led = record {
       let i = m.input in
       let r = led p is h in
       let x = r.0 in
-      at_moved m.code m'.code m.input m'.input same_code same_input p m'.board (λ s d. Follows p i.now workers (Choose choice ∷ []) h.state h.desk [] s d)
-      (x, chosen p i.now workers choice (comes_of t) h.state x.state h.desk x.desk r.1);
+      at_moved m.code m'.code m.input m'.input same_code same_input p m'.scheduler (λ s d. Follows p i.now workers (Choose choice ∷ []) h.state h.worker_table [] s d)
+      (x, chosen p i.now workers choice (comes_of t) h.state x.state h.worker_table x.worker_table r.1);
 }
 
 -- a stop that is reported
 module _ (workers : ℕ) (m m' : Machine) (choice : Choice) (stop : stopping.Stop) where
   abbrev Faults : stopping.Stop → Type 0
-  Faults z = FaultsAreStops (let c = m.code in c.now) (let i = m.input in i.now) m.board m'.board choice z
+  Faults z = FaultsAreStops (let c = m.code in c.now) (let i = m.input in i.now) m.scheduler m'.scheduler choice z
 
   -- the name of the strand, by the scheduler
-  name_is : (code : CodeView) (p : Source) (inputs : List ℤ) (name : ℕ → Name) (fault : _) (strand : Strand) (s : State FrameEnv View) (told : List ℕ) → (q : IsStoppedBy code p inputs name m'.board fault strand s) → IsNameIn m'.board strand told
+  name_is : (code : CodeView) (p : Source) (inputs : List ℤ) (name : ℕ → Name) (fault : _) (strand : Strand) (s : State FrameEnv View) (told : List ℕ) → (q : IsStoppedBy code p inputs name m'.scheduler fault strand s) → IsNameIn m'.scheduler strand told
       → told ≡ name q.place ++ strand.number ∷ []
   name_is code p inputs name fault strand s told q is = let t = q.tells in is name q.place q.frame t.named q.here
 
-  pub refused_at : (f : PlayFault) → Faults stop → IsFaultOf m'.board stop f → ComesToFault workers (Choose choice ∷ []) m f
+  pub refused_at : (f : PlayFault) → Faults stop → IsFaultOf m'.scheduler stop f → ComesToFault workers (Choose choice ∷ []) m f
   refused_at (faults.Line line) h k = absurd k
   refused_at (faults.Stop fault name) h k = λ p is r rest.
       let c = m.code in
       let i = m.input in
       let strand = k.0 in
-      let x = reached_of c.now p i.now m.board is r in
+      let x = reached_of c.now p i.now m.scheduler is r in
       let a : Faults (stops.At fault strand) = subst Faults k.1 h in
-      let q = a p r.name r.desk r.state x.shown x.behind in
+      let q = a p r.name r.worker_table r.state x.shown x.behind in
       let y = q.2 in (
         record { frame = r.name y.place; strand = strand.number; fault = fault },
-        refused p i.now workers choice (record { frame = r.name y.place; strand = strand.number; fault = fault }) r.state q.0 r.desk q.1 y.stopped rest,
+        refused p i.now workers choice (record { frame = r.name y.place; strand = strand.number; fault = fault }) r.state q.0 r.worker_table q.1 y.stopped rest,
         refl,
         name_is c.now p i.now r.name fault strand q.0 (let n = name in n.items) y k.2,
       )
@@ -130,12 +130,12 @@ module _ (workers : ℕ) (m m' : Machine) (choice : Choice) (stop : stopping.Sto
 -- ---- turns
 
 -- a worker that holds a frame in the worker table holds one in the scheduler
-busy_is : (code : CodeView) (p : Source) (inputs : List ℤ) (b : Scheduler) (h : HasReached code p inputs b) (worker : ℕ) → is_busy h.desk worker ≡ is_some (held_by (let ws = b.workers in ws.items) worker)
+busy_is : (code : CodeView) (p : Source) (inputs : List ℤ) (b : Scheduler) (h : HasReached code p inputs b) (worker : ℕ) → is_busy h.worker_table worker ≡ is_some (held_by (let ws = b.workers in ws.items) worker)
 busy_is code p inputs b h zero = refl
 busy_is code p inputs b h (suc v) =
     let ws = b.workers in
     let x = h.shows in
-    let o = x.desk in
+    let o = x.worker_table in
     ap (λ l. has_frame (slice_get l v)) o.hands ∙ ap has_frame (slice_get-map (hand_of h.name) ws.items v) ∙ by (slice_get ws.items v)
   where
     idle_or : (w : Option ℕ) → is_some (option_map h.name w) ≡ is_some w
@@ -150,7 +150,7 @@ busy_is code p inputs b h (suc v) =
 abbrev pub turn_at : Scheduler → ℕ → Choice
 turn_at b worker = if is_some (held_by (let ws = b.workers in ws.items) worker) then choices.Run worker else choices.Steal worker 0
 
-turn_is : (code : CodeView) (p : Source) (inputs : List ℤ) (b : Scheduler) (h : HasReached code p inputs b) (worker : ℕ) (choice : Choice) → choice ≡ turn_at b worker → choice ≡ turn_of h.desk worker
+turn_is : (code : CodeView) (p : Source) (inputs : List ℤ) (b : Scheduler) (h : HasReached code p inputs b) (worker : ℕ) (choice : Choice) → choice ≡ turn_at b worker → choice ≡ turn_of h.worker_table worker
 turn_is code p inputs b h worker choice e = e ∙ ap (λ t. if t then choices.Run worker else choices.Steal worker 0) (sym (busy_is code p inputs b h worker))
 
 pub turn_runs : (b : Scheduler) (worker : ℕ) → is_some (held_by (let ws = b.workers in ws.items) worker) ≡ true → choices.Run worker ≡ turn_at b worker
@@ -159,7 +159,7 @@ turn_runs b worker h = sym (ap (λ t. if t then choices.Run worker else choices.
 pub turn_steals : (b : Scheduler) (worker : ℕ) → is_some (held_by (let ws = b.workers in ws.items) worker) ≡ false → choices.Steal worker 0 ≡ turn_at b worker
 turn_steals b worker h = sym (ap (λ t. if t then choices.Run worker else choices.Steal worker 0) h)
 
-pub leads_turned : (workers worker : ℕ) (choice : Choice) (m m' : Machine) → choice ≡ turn_at m.board worker → Leads workers (Choose choice ∷ []) m [] m' → Leads workers (Turn worker ∷ []) m [] m'
+pub leads_turned : (workers worker : ℕ) (choice : Choice) (m m' : Machine) → choice ≡ turn_at m.scheduler worker → Leads workers (Choose choice ∷ []) m [] m' → Leads workers (Turn worker ∷ []) m [] m'
 leads_turned workers worker choice m m' e h = record {
   code = h.code;
   input = h.input;
@@ -168,14 +168,14 @@ leads_turned workers worker choice m m' e h = record {
       let i = m.input in
       let a = h.reached p is r in
       let x = a.0 in
-      (x, turned p i.now workers worker choice r.state x.state r.desk x.desk (turn_is c.now p i.now m.board r worker choice e) a.1);
+      (x, turned p i.now workers worker choice r.state x.state r.worker_table x.worker_table (turn_is c.now p i.now m.scheduler r worker choice e) a.1);
 }
 
-pub comes_turned : (workers worker : ℕ) (choice : Choice) (m : Machine) (f : PlayFault) → choice ≡ turn_at m.board worker → ComesToFault workers (Choose choice ∷ []) m f → ComesToFault workers (Turn worker ∷ []) m f
+pub comes_turned : (workers worker : ℕ) (choice : Choice) (m : Machine) (f : PlayFault) → choice ≡ turn_at m.scheduler worker → ComesToFault workers (Choose choice ∷ []) m f → ComesToFault workers (Turn worker ∷ []) m f
 comes_turned workers worker choice m f e h = λ p is r.
     let c = m.code in
     let i = m.input in
-    turn_fails p i.now workers worker choice r.state r.desk f (turn_is c.now p i.now m.board r worker choice e) (h p is r)
+    turn_fails p i.now workers worker choice r.state r.worker_table f (turn_is c.now p i.now m.scheduler r worker choice e) (h p is r)
 
 -- the next turn of those that are left is done
 pub leads_turn : (workers : ℕ) (tasks : List Task) (worker n k : ℕ) (l m m' : Machine) → Leads workers tasks l (turns worker n) m → n ≡ suc k → Leads workers (Turn worker ∷ []) m [] m' → Leads workers tasks l (turns (worker + 1) k) m'
@@ -205,34 +205,34 @@ is_not_over code p inputs b h e = by b.outcome refl e
     by None at z = let x = h.shows in let t = x.tells in t.going at
     by (Some o) at z = absurd (true≢false z)
 
-pub over_rounds : (workers count : ℕ) (m : Machine) → (let b = m.board in is_some b.outcome ≡ true) → Leads workers (Rounds count ∷ []) m [] m
+pub over_rounds : (workers count : ℕ) (m : Machine) → (let b = m.scheduler in is_some b.outcome ≡ true) → Leads workers (Rounds count ∷ []) m [] m
 over_rounds workers count m e = record {
   code = refl;
   input = refl;
-  reached = λ p is h. let c = m.code in let i = m.input in (h, rounds_ended p i.now workers count h.state h.desk (is_over c.now p i.now m.board h e));
+  reached = λ p is h. let c = m.code in let i = m.input in (h, rounds_ended p i.now workers count h.state h.worker_table (is_over c.now p i.now m.scheduler h e));
 }
 
 pub done_rounds : (workers : ℕ) (m : Machine) → Leads workers (Rounds zero ∷ []) m [] m
-done_rounds workers m = record { code = refl; input = refl; reached = λ p is h. let i = m.input in (h, rounds_enough p i.now workers h.state h.desk) }
+done_rounds workers m = record { code = refl; input = refl; reached = λ p is h. let i = m.input in (h, rounds_enough p i.now workers h.state h.worker_table) }
 
-begun_rounds : (workers count : ℕ) (m : Machine) → (let b = m.board in is_some b.outcome ≡ false) → Leads workers (Rounds (suc count) ∷ []) m (turns 1 workers ++ (Rounds count ∷ [])) m
+begun_rounds : (workers count : ℕ) (m : Machine) → (let b = m.scheduler in is_some b.outcome ≡ false) → Leads workers (Rounds (suc count) ∷ []) m (turns 1 workers ++ (Rounds count ∷ [])) m
 begun_rounds workers count m e = record {
   code = refl;
   input = refl;
-  reached = λ p is h. let c = m.code in let i = m.input in (h, round_begins p i.now workers count h.state h.desk (is_not_over c.now p i.now m.board h e));
+  reached = λ p is h. let c = m.code in let i = m.input in (h, round_begins p i.now workers count h.state h.worker_table (is_not_over c.now p i.now m.scheduler h e));
 }
 
 -- one more round is made
-pub leads_round : (workers more n count : ℕ) (l m m' : Machine) → Leads workers (Rounds more ∷ []) l (Rounds n ∷ []) m → n ≡ suc count → (let b = m.board in is_some b.outcome ≡ false) → Leads workers (turns 1 workers) m [] m' → Leads workers (Rounds more ∷ []) l (Rounds count ∷ []) m'
+pub leads_round : (workers more n count : ℕ) (l m m' : Machine) → Leads workers (Rounds more ∷ []) l (Rounds n ∷ []) m → n ≡ suc count → (let b = m.scheduler in is_some b.outcome ≡ false) → Leads workers (turns 1 workers) m [] m' → Leads workers (Rounds more ∷ []) l (Rounds count ∷ []) m'
 leads_round workers more n count l m m' h e going made =
     leads_on workers (Rounds more ∷ []) (Rounds (suc count) ∷ []) l m (subst (λ k. Leads workers (Rounds more ∷ []) l (Rounds k ∷ []) m) e h) (Rounds count ∷ []) m'
     (leads_on workers (Rounds (suc count) ∷ []) (turns 1 workers ++ (Rounds count ∷ [])) m m (begun_rounds workers count m going) (Rounds count ∷ []) m' (leads_ahead workers (turns 1 workers) (Rounds count ∷ []) m m' made))
 
 -- the next round fails
-pub comes_round : (workers more n count : ℕ) (l m : Machine) (f : PlayFault) → Leads workers (Rounds more ∷ []) l (Rounds n ∷ []) m → n ≡ suc count → (let b = m.board in is_some b.outcome ≡ false) → ComesToFault workers (turns 1 workers) m f → ComesToFault workers (Rounds more ∷ []) l f
+pub comes_round : (workers more n count : ℕ) (l m : Machine) (f : PlayFault) → Leads workers (Rounds more ∷ []) l (Rounds n ∷ []) m → n ≡ suc count → (let b = m.scheduler in is_some b.outcome ≡ false) → ComesToFault workers (turns 1 workers) m f → ComesToFault workers (Rounds more ∷ []) l f
 comes_round workers more n count l m f h e going lost =
     comes_later workers (Rounds more ∷ []) (Rounds (suc count) ∷ []) l m (subst (λ k. Leads workers (Rounds more ∷ []) l (Rounds k ∷ []) m) e h) f
     (comes_later workers (Rounds (suc count) ∷ []) (turns 1 workers ++ (Rounds count ∷ [])) m m (begun_rounds workers count m going) f (comes_ahead workers (turns 1 workers) (Rounds count ∷ []) m f lost))
 
 pub passes : (workers line : ℕ) (m : Machine) → ComesToFault workers (Pass line ∷ []) m (faults.Line line)
-passes workers line m = λ p is h rest. Passes line rest h.state h.desk
+passes workers line m = λ p is h rest. Passes line rest h.state h.worker_table

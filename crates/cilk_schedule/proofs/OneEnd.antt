@@ -17,7 +17,7 @@ use Rattle.cilk_runs.specs.Reducers.{View}
 use Rattle.cilk_runs.specs.Steps.{Reaches}
 use Rattle.cilk_runs.specs.FrameEnvs.{FrameEnv}
 use Rattle.cilk_scheduler.specs.WorkerTables.{WorkerTable, IsOver}
-use Rattle.cilk_scheduler.specs.Openings.{first_desk}
+use Rattle.cilk_scheduler.specs.Openings.{first_worker_table}
 use Rattle.cilk_determinacy.specs.Settled.{IsSettled}
 use Rattle.cilk_schedule.specs.Deciding.{Agree}
 use Rattle.cilk_schedule.specs.Deciding as deciding
@@ -77,7 +77,7 @@ module _ (p : Source) (inputs : List ℤ) (workers : ℕ) where
   reached_by tasks s d e going (Passes line rest _ _) = tt
 
   pub reached_end : (steps : List Step) (e : End) → Ends p inputs workers steps e → IsReached e
-  reached_end steps e h = let law = choices_decide p inputs in reached_by (tasks_of steps) h.0 (first_desk (workers - 1)) e (law.first h.0 h.1) h.2
+  reached_end steps e h = let law = choices_decide p inputs in reached_by (tasks_of steps) h.0 (first_worker_table (workers - 1)) e (law.first h.0 h.1) h.2
 
   pub settled_end : (steps : List Step) (s : State FrameEnv View) (d : WorkerTable) → Ends p inputs workers steps (Done s d) → (left : Option Outcome) → Leaves p s left → LeavesAsSettled p inputs left
   settled_end steps s d h None leaves outcome settled = tt
@@ -99,7 +99,7 @@ module _ (p : Source) (inputs : List ℤ) (workers : ℕ) where
 pub one_end : (p : Source) (inputs : List ℤ) → ScriptsHaveOneEnd p inputs
 one_end p inputs workers steps e e' h k =
     let law = choices_decide p inputs in
-    plays_once p inputs workers (tasks_of steps) h.0 k.0 (first_desk (workers - 1)) e e' (law.first h.0 h.1) (law.opens h.0 k.0 h.1 k.1) h.2 k.2
+    plays_once p inputs workers (tasks_of steps) h.0 k.0 (first_worker_table (workers - 1)) e e' (law.first h.0 h.1) (law.opens h.0 k.0 h.1 k.1) h.2 k.2
 
 -- ---- its report is one
 

@@ -33,7 +33,7 @@ few_cells p well =
     omega (arith, few, cells)
 
 module _ (code : CodeView) (p : Source) (inputs : List ℤ) (is_code : IsCodeOf p code) (a : Activation FrameState) (c : CursorView) (cells : ℕ) (cells_is : cells ≡ length p.openings + cells_of p callees.Root)
-    (seat : a.cursor ≡ seated 0 0 Invocation.Call 0 c) (number : a.number ≡ 1) (result : a.result ≡ None) (creator : let l = code.layout in a.creator ≡ Some l.main)
+    (frame_state : a.cursor ≡ seated 0 0 Invocation.Call 0 c) (number : a.number ≡ 1) (result : a.result ≡ None) (creator : let l = code.layout in a.creator ≡ Some l.main)
     (links : HasScope (a ∷ []) a (home_of p callees.Root 1 (length p.openings) [] ∷ [])) (stands : Stands code inputs p callees.Root c [] 0) (owes : c.owed ≡ owed_for asks.Begin) where
   root_lives : Lives code p inputs (a ∷ []) cells 0 a
   root_lives = record {
@@ -47,7 +47,7 @@ module _ (code : CodeView) (p : Source) (inputs : List ℤ) (is_code : IsCodeOf 
   }
 
   root_counts : Counts code p inputs (a ∷ []) cells 0 a
-  root_counts = let e = seat in record {
+  root_counts = let e = frame_state in record {
     parent = let t = ap (λ (x : FrameState). x.parent) e in omega (arith, t);
     last = let t = ap (λ (x : FrameState). x.last) e in omega (arith, t);
     children = let t = ap (λ (x : FrameState). x.children) e in omega (arith, t);
@@ -82,10 +82,10 @@ module _ (code : CodeView) (p : Source) (inputs : List ℤ) (is_code : IsCodeOf 
       at_rests : (j : ℕ) (b : Activation FrameState) (d : CursorView) → slice_get (a ∷ []) j ≡ Some b → (let x = b.cursor in x.cursor ≡ Some d) → Rests code p inputs (a ∷ []) cells 0 b d
       at_rests zero b d at is =
           let e = some_is a b at in
-          let same : c ≡ d = some_is c d (sym (ap (λ (x : FrameState). x.cursor) seat) ∙ subst (λ (z : Activation FrameState). let x = z.cursor in x.cursor ≡ Some d) (sym e) is) in
+          let same : c ≡ d = some_is c d (sym (ap (λ (x : FrameState). x.cursor) frame_state) ∙ subst (λ (z : Activation FrameState). let x = z.cursor in x.cursor ≡ Some d) (sym e) is) in
           subst (λ (z : Activation FrameState). Rests code p inputs (a ∷ []) cells 0 z d) e (record {
             lives = root_lives;
-            stands = subst (λ n. Stands code inputs p callees.Root d [] n) (sym (ap (λ (x : FrameState). x.took) seat)) (subst (λ z. Stands code inputs p callees.Root z [] 0) same stands);
-            fits = subst (λ q. FitsDue d.owed q) (sym (ap (λ (x : FrameState). x.due) seat)) (subst (λ (z : CursorView). z.owed ≡ owed_for asks.Begin) same owes);
+            stands = subst (λ n. Stands code inputs p callees.Root d [] n) (sym (ap (λ (x : FrameState). x.took) frame_state)) (subst (λ z. Stands code inputs p callees.Root z [] 0) same stands);
+            fits = subst (λ q. FitsDue d.owed q) (sym (ap (λ (x : FrameState). x.due) frame_state)) (subst (λ (z : CursorView). z.owed ≡ owed_for asks.Begin) same owes);
           })
       at_rests (suc j) b d at is = let z : None ≡ Some b = at in cc

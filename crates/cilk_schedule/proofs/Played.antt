@@ -18,7 +18,7 @@ use Rattle.cilk_runs.specs.Steps.{IsFirst, Reaches}
 use Rattle.cilk_runs.specs.FrameEnvs.{FrameEnv}
 use Rattle.cilk_scheduler.specs.Schedulers.{Tells}
 use Rattle.cilk_scheduler.specs.WorkerTables.{Chooses, Comes, WorkerTable, StopsAt}
-use Rattle.cilk_scheduler.specs.Openings.{first_desk}
+use Rattle.cilk_scheduler.specs.Openings.{first_worker_table}
 use Rattle.cilk_scheduler.specs.declared.scheduler.Scheduler.{Scheduler}
 use Rattle.cilk_scheduler.specs.declared.choice.Choice.{Choice}
 use Rattle.cilk_scheduler.specs.declared.choice.Stop.{Stop}
@@ -93,8 +93,8 @@ pub moved : (c c' : Bor CodeView) (i i' : Bor (List ℤ)) → c' ≡ c → i' �
 moved c c' i i' e d P x = subst (λ (z : Bor CodeView). P z.now i'.now) (sym e) (subst (λ (y : Bor (List ℤ)). P c.now y.now) (sym d) x)
 
 -- a state and a worker table that a scheduler shows
-pub at_moved : (c c' : Bor CodeView) (i i' : Bor (List ℤ)) → c' ≡ c → i' ≡ i → (p : Source) (b : Scheduler) (Q : State FrameEnv View → WorkerTable → Type 0) → (h : HasReached c.now p i.now b) × Q h.state h.desk → (h' : HasReached c'.now p i'.now b) × Q h'.state h'.desk
-at_moved c c' i i' e d p b Q r = moved c c' i i' e d (λ x y. (h : HasReached x p y b) × Q h.state h.desk) r
+pub at_moved : (c c' : Bor CodeView) (i i' : Bor (List ℤ)) → c' ≡ c → i' ≡ i → (p : Source) (b : Scheduler) (Q : State FrameEnv View → WorkerTable → Type 0) → (h : HasReached c.now p i.now b) × Q h.state h.worker_table → (h' : HasReached c'.now p i'.now b) × Q h'.state h'.worker_table
+at_moved c c' i i' e d p b Q r = moved c c' i i' e d (λ x y. (h : HasReached x p y b) × Q h.state h.worker_table) r
 
 pub lead_same : (m : Machine) → LeadOn [] m m
 lead_same m = record { code = refl; input = refl; reached = λ p is h. (h, (refl, refl)) }
@@ -103,7 +103,7 @@ module _ (done : List Choice) (choice : Choice) (l m m' : Machine) (first : Lead
   code_on : (p : Source) → IsCodeOf p (let c = l.code in c.now) → IsCodeOf p (let c = m.code in c.now)
   code_on p is = subst (λ (x : Bor CodeView). IsCodeOf p x.now) (sym first.code) is
 
-  pub lead_more : (t : Told) → ((p : Source) → IsCodeOf p (let c = m.code in c.now) → LeadsOn (let c = m.code in c.now) p (let i = m.input in i.now) m.board m'.board choice t) → LeadOn (done ++ choice ∷ []) l m'
+  pub lead_more : (t : Told) → ((p : Source) → IsCodeOf p (let c = m.code in c.now) → LeadsOn (let c = m.code in c.now) p (let i = m.input in i.now) m.scheduler m'.scheduler choice t) → LeadOn (done ++ choice ∷ []) l m'
   lead_more t led = record {
     code = same_code ∙ first.code;
     input = same_input ∙ first.input;
@@ -113,25 +113,25 @@ module _ (done : List Choice) (choice : Choice) (l m m' : Machine) (first : Lead
         let x = a.0 in
         let r = led p (code_on p is) x in
         let y = r.0 in
-        at_moved m.code m'.code m.input m'.input same_code same_input p m'.board (λ s d. ChoicesLead p i.now (done ++ choice ∷ []) h.state h.desk s d)
-        (y, lead_on p i.now done choice (comes_of t) h.state x.state y.state h.desk x.desk y.desk a.1 (subst (λ (z : Bor (List ℤ)). Chooses p z.now x.state x.desk choice (comes_of t) y.state y.desk) first.input r.1));
+        at_moved m.code m'.code m.input m'.input same_code same_input p m'.scheduler (λ s d. ChoicesLead p i.now (done ++ choice ∷ []) h.state h.worker_table s d)
+        (y, lead_on p i.now done choice (comes_of t) h.state x.state y.state h.worker_table x.worker_table y.worker_table a.1 (subst (λ (z : Bor (List ℤ)). Chooses p z.now x.state x.worker_table choice (comes_of t) y.state y.worker_table) first.input r.1));
   }
 
   abbrev Stops : Stop → Type 0
-  Stops stop = (p : Source) → IsCodeOf p (let c = m.code in c.now) → (h : IsAt m p) → StopsFrom (let c = m.code in c.now) p (let i = m.input in i.now) m.board h m'.board choice stop
+  Stops stop = (p : Source) → IsCodeOf p (let c = m.code in c.now) → (h : IsAt m p) → StopsFrom (let c = m.code in c.now) p (let i = m.input in i.now) m.scheduler h m'.scheduler choice stop
 
   -- the choices before the stop lead to the state where it happens
-  stops_from : (rest : List Choice) (stop : Stop) → Stops stop → (p : Source) → IsCodeOf p (let c = l.code in c.now) → (h : IsAt l p) → StopFrom (let c = m'.code in c.now) p (let i = m'.input in i.now) (done ++ choice ∷ rest) h.state h.desk m'.board stop
+  stops_from : (rest : List Choice) (stop : Stop) → Stops stop → (p : Source) → IsCodeOf p (let c = l.code in c.now) → (h : IsAt l p) → StopFrom (let c = m'.code in c.now) p (let i = m'.input in i.now) (done ++ choice ∷ rest) h.state h.worker_table m'.scheduler stop
   stops_from rest (stops.At fault strand) halts p is h =
       let i = l.input in
       let a = first.reached p is h in
       let x = a.0 in
       let r = halts p (code_on p is) x in
       let f = r.0 in
-      moved m.code m'.code m.input m'.input same_code same_input (λ y z. (g : HasFault y p z m'.board fault strand) × ChoicesStop p z (done ++ choice ∷ rest) h.state h.desk g.state) (
+      moved m.code m'.code m.input m'.input same_code same_input (λ y z. (g : HasFault y p z m'.scheduler fault strand) × ChoicesStop p z (done ++ choice ∷ rest) h.state h.worker_table g.state) (
         f,
-        subst (λ (z : Bor (List ℤ)). ChoicesStop p z.now (done ++ choice ∷ rest) h.state h.desk f.state) (sym first.input)
-            (stop_behind p i.now done rest choice h.state x.state f.state h.desk x.desk a.1 (subst (λ (z : Bor (List ℤ)). StopsAt p z.now x.state x.desk choice f.state) first.input r.1)),
+        subst (λ (z : Bor (List ℤ)). ChoicesStop p z.now (done ++ choice ∷ rest) h.state h.worker_table f.state) (sym first.input)
+            (stop_behind p i.now done rest choice h.state x.state f.state h.worker_table x.worker_table a.1 (subst (λ (z : Bor (List ℤ)). StopsAt p z.now x.state x.worker_table choice f.state) first.input r.1)),
       )
   stops_from rest stops.Memory halts p is h = tt
 
@@ -147,15 +147,15 @@ leaves_by code p inputs name b s t (Some o) e = t.over o e
 -- ---- a whole list
 
 module _ (code : CodeView) (p : Source) (inputs : List ℤ) (workers : ℕ) (m : Machine) where
-  pub opened_at : (let c = m.code in c.now ≡ code) → (let i = m.input in i.now ≡ inputs) → HasOpened code p inputs m.board (workers - 1) → (h : IsAt m p) × (IsFirst p inputs h.state × (h.desk ≡ first_desk (workers - 1)))
+  pub opened_at : (let c = m.code in c.now ≡ code) → (let i = m.input in i.now ≡ inputs) → HasOpened code p inputs m.scheduler (workers - 1) → (h : IsAt m p) × (IsFirst p inputs h.state × (h.worker_table ≡ first_worker_table (workers - 1)))
   opened_at e d o =
       let i = m.input in
-      subst (λ (x : CodeView). (h : HasReached x p i.now m.board) × (IsFirst p inputs h.state × (h.desk ≡ first_desk (workers - 1)))) (sym e)
-      (subst (λ (y : List ℤ). (h : HasReached code p y m.board) × (IsFirst p inputs h.state × (h.desk ≡ first_desk (workers - 1)))) (sym d)
-      (record { steps = []; state = o.state; reaches = (o.state, o.first, refl); name = λ n. []; desk = first_desk (workers - 1); shows = o.shows }, (o.first, refl)))
+      subst (λ (x : CodeView). (h : HasReached x p i.now m.scheduler) × (IsFirst p inputs h.state × (h.worker_table ≡ first_worker_table (workers - 1)))) (sym e)
+      (subst (λ (y : List ℤ). (h : HasReached code p y m.scheduler) × (IsFirst p inputs h.state × (h.worker_table ≡ first_worker_table (workers - 1)))) (sym d)
+      (record { steps = []; state = o.state; reaches = (o.state, o.first, refl); name = λ n. []; worker_table = first_worker_table (workers - 1); shows = o.shows }, (o.first, refl)))
 
-  pub played_by : (choices : List Choice) (m' : Machine) (shown : Shown) → IsCodeOf p code → (let c = m.code in c.now ≡ code) → (let i = m.input in i.now ≡ inputs) → HasOpened code p inputs m.board (workers - 1) → LeadOn choices m m'
-      → ShowsReached (let c = m'.code in c.now) (let i = m'.input in i.now) m'.board shown → IsPlayed p inputs workers choices shown
+  pub played_by : (choices : List Choice) (m' : Machine) (shown : Shown) → IsCodeOf p code → (let c = m.code in c.now ≡ code) → (let i = m.input in i.now ≡ inputs) → HasOpened code p inputs m.scheduler (workers - 1) → LeadOn choices m m'
+      → ShowsReached (let c = m'.code in c.now) (let i = m'.input in i.now) m'.scheduler shown → IsPlayed p inputs workers choices shown
   played_by choices m' shown is e d o led run =
       let i = m.input in
       let a = opened_at e d o in
@@ -168,16 +168,16 @@ module _ (code : CodeView) (p : Source) (inputs : List ℤ) (workers : ℕ) (m :
         first = h.state;
         opens = a.1.0;
         state = x.state;
-        desk = x.desk;
-        led = subst (λ z. ChoicesLead p inputs choices h.state z x.state x.desk) a.1.1 (subst (λ (z : List ℤ). ChoicesLead p z choices h.state h.desk x.state x.desk) d r.1);
+        worker_table = x.worker_table;
+        led = subst (λ z. ChoicesLead p inputs choices h.state z x.state x.worker_table) a.1.1 (subst (λ (z : List ℤ). ChoicesLead p z choices h.state h.worker_table x.state x.worker_table) d r.1);
         name = x.name;
         shows = run p x.steps x.name x.state (subst (λ (c : Bor CodeView). IsCodeOf p c.now) (sym led.code) of_code) x.reaches y.tells;
       }
 
   -- a stop that is reported with its strand's name
-  pub stopped_by : (choices : List Choice) (m' : Machine) (stop : Stop) (list : List ℕ) → IsCodeOf p code → (let c = m.code in c.now ≡ code) → (let i = m.input in i.now ≡ inputs) → HasOpened code p inputs m.board (workers - 1)
+  pub stopped_by : (choices : List Choice) (m' : Machine) (stop : Stop) (list : List ℕ) → IsCodeOf p code → (let c = m.code in c.now ≡ code) → (let i = m.input in i.now ≡ inputs) → HasOpened code p inputs m.scheduler (workers - 1)
       → HaltAt choices m m' stop → (stop ≡ stops.Memory → list ≡ [])
-      → ((q : Source) (fault : _) (strand : _) → stop ≡ stops.At fault strand → (h : HasFault (let c = m'.code in c.now) q (let i = m'.input in i.now) m'.board fault strand) → NamesStop h.state list) → IsStop p inputs workers choices stop list
+      → ((q : Source) (fault : _) (strand : _) → stop ≡ stops.At fault strand → (h : HasFault (let c = m'.code in c.now) q (let i = m'.input in i.now) m'.scheduler fault strand) → NamesStop h.state list) → IsStop p inputs workers choices stop list
   stopped_by choices m' (stops.At fault strand) list is e d o halt no_name names =
       let i = m.input in
       let i' = m'.input in
@@ -191,7 +191,7 @@ module _ (code : CodeView) (p : Source) (inputs : List ℤ) (workers : ℕ) (m :
         f.state,
         f.name at.place,
         a.1.0,
-        subst (λ z. ChoicesStop p inputs choices h.state z f.state) a.1.1 (subst (λ (z : List ℤ). ChoicesStop p z choices h.state h.desk f.state) same r.1),
+        subst (λ z. ChoicesStop p inputs choices h.state z f.state) a.1.1 (subst (λ (z : List ℤ). ChoicesStop p z choices h.state h.worker_table f.state) same r.1),
         at.stopped,
         subst (λ z. MatchOption z (list ≡ []) (λ s. list ≡ s.frame ++ s.strand ∷ [])) at.stopped (names p fault strand refl f),
       )

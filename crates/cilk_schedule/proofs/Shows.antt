@@ -61,10 +61,10 @@ no_root (j ∷ n) q e = let z : [] ≡ j ∷ (n ++ q ∷ []) = e in cc
 pub record IsNext (frames : List (Activation FrameState)) (k q j : ℕ) : Type 0 where
   pub before : ℕ
   pub place : j ≡ suc before
-  pub seat : Activation FrameState
-  pub at : slice_get frames (suc before) ≡ Some seat
-  pub parent : let y = seat.cursor in y.parent ≡ k
-  pub ordinal : let y = seat.cursor in y.ordinal ≡ suc q
+  pub frame_state : Activation FrameState
+  pub at : slice_get frames (suc before) ≡ Some frame_state
+  pub parent : let y = frame_state.cursor in y.parent ≡ k
+  pub ordinal : let y = frame_state.cursor in y.ordinal ≡ suc q
 
 module _ (frames : List (Activation FrameState)) (name : ℕ → Name) (named : AreNamed frames name) (k : ℕ) where
   among_at : (n q j : ℕ) → n ≤ length frames → slice_get (children_among frames k n) q ≡ Some j → IsNext frames k q j
@@ -82,7 +82,7 @@ module _ (frames : List (Activation FrameState)) (name : ℕ → Name) (named : 
               (λ r. record {
                 before = n;
                 place = sym r.1;
-                seat = g.0;
+                frame_state = g.0;
                 at = g.1;
                 parent = is;
                 ordinal = named.ordinal n g.0 g.1 ∙ ap (λ m. suc (length (children_among frames m (suc n)))) is ∙ ap suc (sym r.0);
@@ -122,19 +122,19 @@ module _ (frames : List (Activation FrameState)) (name : ℕ → Name) (named : 
       ∙ ap (λ (o : Option (Activation FrameState)). option_map link_of o) there in
       cc
 
-  seat_at : (k : ℕ) (f : ShownFrame) → slice_get list k ≡ Some f → (a : Activation FrameState) × (slice_get frames k ≡ Some a)
-  seat_at k f at = get_some frames k (subst (λ n. k < n) as_many (get_low list k f at))
+  frame_state_at : (k : ℕ) (f : ShownFrame) → slice_get list k ≡ Some f → (a : Activation FrameState) × (slice_get frames k ≡ Some a)
+  frame_state_at k f at = get_some frames k (subst (λ n. k < n) as_many (get_low list k f at))
 
   child : (k : ℕ) (f : ShownFrame) → slice_get list (suc k) ≡ Some f → let l = f.link in (l.parent < suc k) × (name (suc k) ≡ name l.parent ++ l.ordinal ∷ [])
   child k f at =
-      let a = seat_at (suc k) f at in
+      let a = frame_state_at (suc k) f at in
       subst (λ (l : Link). (l.parent < suc k) × (name (suc k) ≡ name l.parent ++ l.ordinal ∷ [])) (sym (link_at (suc k) f a.0 at a.1)) (named.child k a.0 a.1)
 
   lists : (k q j : ℕ) (f : ShownFrame) → slice_get list k ≡ Some f → (let c = f.children in slice_get c.items q ≡ Some j) → (j < length list) × (name j ≡ name k ++ suc q ∷ [])
   lists k q j f at is =
       let r = among_at frames name named k (length frames) q j (omega arith) (ap (λ l. slice_get l q) (sym (children parents k f at)) ∙ is) in
-      let c = named.child r.before r.seat r.at in (
-        subst (λ n. j < n) (sym as_many) (subst (λ m. m < length frames) (sym r.place) (get_low frames (suc r.before) r.seat r.at)),
+      let c = named.child r.before r.frame_state r.at in (
+        subst (λ n. j < n) (sym as_many) (subst (λ m. m < length frames) (sym r.place) (get_low frames (suc r.before) r.frame_state r.at)),
         ap name r.place ∙ c.1 ∙ ap₂ (λ m o. name m ++ o ∷ []) r.parent r.ordinal,
       )
 

@@ -62,7 +62,7 @@ module _ (code : CodeView) (p : Source) (inputs : List ℤ) (name : ℕ → Name
           let it = sk.held name b d s v k sh e in
           let f = it.0 in
           let there = is_held l.items (suc v) k e in
-          absurd (can_not (k, record { held = e; first = there.0; last = there.1; seat = f.seat; sits = f.sits; cursor = it.1; has = it.2 }))
+          absurd (can_not (k, record { held = e; first = there.0; last = there.1; frame_state = f.frame_state; sits = f.sits; cursor = it.1; has = it.2 }))
 
   steal_skips : (worker place : ℕ) → b.outcome ≡ None → (CanChoose b (choices.Steal worker place) → ⊥) → Chooses p inputs s d (choices.Steal worker place) Skipped s d
   unfolding located_in
@@ -80,7 +80,7 @@ module _ (code : CodeView) (p : Source) (inputs : List ℤ) (name : ℕ → Name
           let g = located_in l.items place k e in
           let it = offered code p inputs name b d s v place g.0 g.1 sh still idle g.2 in
           let h = it.0 in
-          absurd (can_not (k, record { idle = idle; few = low k e (nat_lt place b.offered) refl; offered = e; seat = h.seat; sits = h.sits; opens = (let q = it.4 in q.0) }))
+          absurd (can_not (k, record { idle = idle; few = low k e (nat_lt place b.offered) refl; offered = e; frame_state = h.frame_state; sits = h.sits; opens = (let q = it.4 in q.0) }))
 
       by : (t : Bool) → (let l = b.workers in is_idle l.items (suc v) ≡ t) → Chooses p inputs s d (choices.Steal (suc v) place) Skipped s d
       by false e = let sk = skips_are_shown code p inputs in sk.busy name b d s (suc v) place sh e

@@ -70,7 +70,7 @@ links_stay code inputs x ask x' went = by x.due went
 pub stand_gone : (code : CodeView) (inputs : List ℤ) (b b' : Scheduler) (k : ℕ) → WentTo code inputs b b' k → let f = b.frames in let g = b'.frames in StandAsBefore f.items g.items
 stand_gone code inputs b b' k go =
     let f = b.frames in
-    subst (λ l. StandAsBefore f.items l) (sym go.frames) (stand_set f.items k go.seat go.came go.sits (let a = go.seat in links_stay code inputs a.cursor b'.asked go.came go.went))
+    subst (λ l. StandAsBefore f.items l) (sym go.frames) (stand_set f.items k go.frame_state go.came go.sits (let a = go.frame_state in links_stay code inputs a.cursor b'.asked go.came go.went))
 
 pub stand_joined : (y : FrameState) (frames frames' : List (Activation FrameState)) (k : ℕ) (a : Activation FrameState) → a ≡ slice_index_or frames k a → k < length frames → (let x = a.cursor in y ≡ record x { join = y.join })
     → frames' ≡ slice_set frames k (record a { cursor = y }) → StandAsBefore frames frames'
@@ -115,6 +115,6 @@ if_err_always (Err e) P h = h
 
 -- the scheduler after a choice that stopped, which keeps the stop
 pub kept_stopped : (b b' b2 : Scheduler) (r r2 : Result Told Stop) (stop : Stop) → r ≡ Err stop → b' ≡ b2 → r ≡ r2 → IfErr r2 (λ z. KeepsTold b b2) → KeepsTold b (record b' { stopped = Some stop })
-kept_stopped b b' b2 r r2 stop is board_is told_is h =
-    let k : KeepsTold b b' = subst (λ q. KeepsTold b q) (sym board_is) (subst (λ q. IfErr q (λ z. KeepsTold b b2)) (sym told_is ∙ is) h) in
+kept_stopped b b' b2 r r2 stop is scheduler_is told_is h =
+    let k : KeepsTold b b' = subst (λ q. KeepsTold b q) (sym scheduler_is) (subst (λ q. IfErr q (λ z. KeepsTold b b2)) (sym told_is ∙ is) h) in
     record { frames = k.frames; journal = k.journal; outcome = k.outcome }

@@ -102,11 +102,11 @@ module _ (code : CodeView) (p : Source) (inputs : List ℤ) (b b1 : Scheduler) (
       let e = b.journal in
       let e1 = b1.journal in
       let c = b.cells in
-      let q = ok.seat in
+      let q = ok.frame_state in
       let y = q.cursor in
-      let x = (let a = go.seat in a.cursor) in
+      let x = (let a = go.frame_state in a.cursor) in
       let ticks : ℕ = y.took - y.counted in
-      let frame : HasFrame b w k = record { worker = u; seat = go.seat; at = at; has = has; sits = go.sits } in
+      let frame : HasFrame b w k = record { worker = u; frame_state = go.frame_state; at = at; has = has; sits = go.sits } in
       let fine : refusal (b.ticks + ticks) (length e.items) (length f1.items) (length c.items) code.layout ask ≡ None =
       subst (λ t. refusal (t + ticks) (length e.items) (length f1.items) (length c.items) code.layout ask ≡ None) go.ticks
       (subst (λ z. refusal (b1.ticks + ticks) (length z.items) (length f1.items) (length c.items) code.layout ask ≡ None) go.journal

@@ -48,7 +48,7 @@ module _ (b b' : Scheduler) (w place victim at k : ℕ) (can : CanSteal b (suc w
         owner = g.0;
         victim = victim;
         at = at;
-        seat = can.seat;
+        frame_state = can.frame_state;
         idles = thief.1;
         free = thief.2;
         owns = g.2;
@@ -67,7 +67,7 @@ module _ (b b' : Scheduler) (w place victim at k : ℕ) (can : CanSteal b (suc w
       let l = b.workers in
       let f = b.frames in
       let h = is_offered in
-      let one : robs.seat ≡ can.seat = same_at f.items k robs.seat can.seat robs.sits can.sits in
+      let one : robs.frame_state ≡ can.frame_state = same_at f.items k robs.frame_state can.frame_state robs.sits can.sits in
       let two : offers_less.owner ≡ g.0 = same_at l.items victim offers_less.owner g.0 offers_less.owns g.2 in
       let awaiting = robs.awaiting in
       let without = offers_less.without in (

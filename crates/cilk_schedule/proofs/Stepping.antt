@@ -91,8 +91,8 @@ module _ (code : CodeView) (p : Source) (inputs : List ℤ) (name : ℕ → Name
       (subst (λ l. Notes code p inputs b b' w k h.came (answered answers.Done h.came) (events.Write i v) (slice_set l i v) u.views) cells_are (subst (λ q. Notes code p inputs b b' w k h.came (answered answers.Done h.came) (events.Write i v) (slice_set cells i v) q) same n))
   shown_by ask act event cells' views' (gives i v a at res) h is same n =
       let c = b.cells in let u = h.worker in let f = b.frames in
-      let here : slice_get frames k ≡ Some (record h.seat { cursor = h.came }) = (sight_stays f.items frames k h.came is).1 h.seat h.sits in
-      let one : a ≡ record h.seat { cursor = h.came } = same_at frames k a (record h.seat { cursor = h.came }) at here in
+      let here : slice_get frames k ≡ Some (record h.frame_state { cursor = h.came }) = (sight_stays f.items frames k h.came is).1 h.frame_state h.sits in
+      let one : a ≡ record h.frame_state { cursor = h.came } = same_at frames k a (record h.frame_state { cursor = h.came }) at here in
       touching.results code p inputs name b b' d s w k i v sh h (sym (ap (λ (z : Activation FrameState). z.result) one) ∙ res)
       (subst (λ l. Notes code p inputs b b' w k h.came (answered answers.Done h.came) (events.Write i v) (slice_set l i v) u.views) cells_are (subst (λ q. Notes code p inputs b b' w k h.came (answered answers.Done h.came) (events.Write i v) (slice_set cells i v) q) same n))
   shown_by ask act event cells' views' (creates r j vs means to) h is same n =
@@ -124,8 +124,8 @@ module _ (code : CodeView) (p : Source) (inputs : List ℤ) (name : ℕ → Name
       let f = b.frames in let f1 = b1.frames in
       let c = b.cells in let c1 = b1.cells in
       let e = b.journal in let e1 = b1.journal in
-      let frame : HasFrame b w k = record { worker = u; seat = go.seat; at = at; has = has; sits = go.sits } in
-      let q = ok.seat in let y = q.cursor in
+      let frame : HasFrame b w k = record { worker = u; frame_state = go.frame_state; at = at; has = has; sits = go.sits } in
+      let q = ok.frame_state in let y = q.cursor in
       let ticks : ℕ = y.took - y.counted in
       let fine : refusal (b.ticks + ticks) (length e.items) (length f1.items) (length c.items) code.layout b1.asked ≡ None =
       subst (λ t. refusal (t + ticks) (length e.items) (length f1.items) (length c.items) code.layout b1.asked ≡ None) go.ticks

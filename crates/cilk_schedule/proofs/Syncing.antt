@@ -79,13 +79,13 @@ module _ (code : CodeView) (p : Source) (inputs : List ℤ) (name : ℕ → Name
   worker = let l = b.workers in held_place l.items v k ready.held
 
   abbrev frame : HasFrame b v k
-  frame = record { worker = worker.0; seat = go.seat; at = worker.1; has = worker.2; sits = go.sits }
+  frame = record { worker = worker.0; frame_state = go.frame_state; at = worker.1; has = worker.2; sits = go.sits }
 
-  went : let x = (let a = go.seat in a.cursor) in WentOn code inputs x asks.Sync go.came
-  went = let x = (let a = go.seat in a.cursor) in subst (λ q. WentOn code inputs x q go.came) sync go.went
+  went : let x = (let a = go.frame_state in a.cursor) in WentOn code inputs x asks.Sync go.came
+  went = let x = (let a = go.frame_state in a.cursor) in subst (λ q. WentOn code inputs x q go.came) sync go.went
 
-  sits_on : let f = b1.frames in slice_get f.items k ≡ Some (record go.seat { cursor = go.came })
-  sits_on = let f = b.frames in ap (λ l. slice_get l k) go.frames ∙ changed_here (λ _. go.came) f.items k go.seat go.sits
+  sits_on : let f = b1.frames in slice_get f.items k ≡ Some (record go.frame_state { cursor = go.came })
+  sits_on = let f = b.frames in ap (λ l. slice_get l k) go.frames ∙ changed_here (λ _. go.came) f.items k go.frame_state go.sits
 
   may : MayBringOwn go.came
   may = (may_bring code p inputs name b d s v k go.came sh frame went).1
@@ -95,7 +95,7 @@ module _ (code : CodeView) (p : Source) (inputs : List ℤ) (name : ℕ → Name
       let f = b1.frames in
       let l = b.workers in
       let u = worker.0 in
-      let one : t.seat ≡ record go.seat { cursor = go.came } = same_at f.items k t.seat (record go.seat { cursor = go.came }) t.sits sits_on in
+      let one : t.frame_state ≡ record go.frame_state { cursor = go.came } = same_at f.items k t.frame_state (record go.frame_state { cursor = go.came }) t.sits sits_on in
       let two : t.worker ≡ u = same_at l.items v t.worker u (ap (λ z. slice_get z.items v) (sym go.workers) ∙ t.at) worker.1 in
       subst (λ (z : Worker). BringsOwn go.came z.views t.brought t.views) two
       (subst (λ (a : Activation FrameState). let w = t.worker in BringsOwn a.cursor w.views t.brought t.views) one t.brings)
@@ -116,7 +116,7 @@ module _ (code : CodeView) (p : Source) (inputs : List ℤ) (name : ℕ → Name
       let c1 = b1.cells in
       let e = b.journal in
       let e1 = b1.journal in
-      let q = ok.seat in
+      let q = ok.frame_state in
       let y = q.cursor in
       let ticks : ℕ = y.took - y.counted in
       let fine : refusal (b.ticks + ticks) (length e.items) (length f1.items) (length c.items) code.layout asks.Sync ≡ None =
@@ -129,7 +129,7 @@ module _ (code : CodeView) (p : Source) (inputs : List ℤ) (name : ℕ → Name
       let h = come.0 in
       let made = wrote.made in
       let n = wrote.noted in
-      let t = wrote.behind (record go.seat { cursor = go.came }) sits_on may in
+      let t = wrote.behind (record go.frame_state { cursor = go.came }) sits_on may in
       let o = t.comes in
       let m = made.workers in
       let fm = made.frames in
@@ -147,13 +147,13 @@ module _ (code : CodeView) (inputs : List ℤ) (b b1 b2 : Scheduler) (worker v k
   ready_at : IsReadyAt b (suc v) k
   ready_at = subst (λ z. IsReadyAt b z k) is ready
 
-  came_at : let f = b1.frames in slice_get f.items k ≡ Some (record go.seat { cursor = go.came })
-  came_at = let f = b.frames in ap (λ l. slice_get l k) go.frames ∙ changed_here (λ _. go.came) f.items k go.seat go.sits
+  came_at : let f = b1.frames in slice_get f.items k ≡ Some (record go.frame_state { cursor = go.came })
+  came_at = let f = b.frames in ap (λ l. slice_get l k) go.frames ∙ changed_here (λ _. go.came) f.items k go.frame_state go.sits
 
   pub waits_are_steps : b1.asked ≡ asks.Sync → ((a : Activation FrameState) → (let f = b1.frames in slice_get f.items k ≡ Some a) → must_wait a.cursor ≡ true)
       → ((a : Activation FrameState) → (let f = b1.frames in slice_get f.items k ≡ Some a) → (let x = a.cursor in x.merged ≡ false) → MayBringOwn a.cursor → StaysAt b1 b2 v k) → b.outcome ≡ None → WaitsAreSteps code inputs b b2 (choices.Run worker) told.Waits
   waits_are_steps sync must stay still = λ p name d s sh.
-      let came : Activation FrameState = record go.seat { cursor = go.came } in
+      let came : Activation FrameState = record go.frame_state { cursor = go.came } in
       let waits = must came came_at in
       subst (λ z. (d' : WorkerTable) × Chooses p inputs s d (choices.Run z) Waited s d' × ShowsBy code p inputs name b2 d' s) (sym is)
       (waits_on code p inputs name b b1 b2 d s v k sh still ready_at go sync waits
@@ -166,5 +166,5 @@ module _ (code : CodeView) (inputs : List ℤ) (b b1 b2 : Scheduler) (worker v k
       (λ kind p name d s sh gone_on.
       let wrote = q.2 kind in
       subst (λ z. (s' : State FrameEnv View) × Chooses p inputs s d (choices.Run z) Did s' d × ShowsBy code p inputs name b2 d s') (sym is)
-      (syncs_on code p inputs name b b1 b2 d s v k sh still ready_at go wrote.asked ok (must wrote.asked (record go.seat { cursor = go.came }) came_at) wrote gone_on))
+      (syncs_on code p inputs name b b1 b2 d s v k sh still ready_at go wrote.asked ok (must wrote.asked (record go.frame_state { cursor = go.came }) came_at) wrote gone_on))
   syncs_are_steps ok must (Err x) q = tt

@@ -107,10 +107,10 @@ pub record Wrote (b b' : Scheduler) (w k : ℕ) (event : numbered.Event) : Type 
 
 -- The frame at place k has stepped to its next request, and nothing else has changed.
 pub record WentTo (code : CodeView) (inputs : List ℤ) (b b' : Scheduler) (k : ℕ) : Type 0 where
-  pub seat : Activation FrameState
+  pub frame_state : Activation FrameState
   pub came : FrameState
-  pub sits : let f = b.frames in slice_get f.items k ≡ Some seat
-  pub went : let x = seat.cursor in WentOn code inputs x b'.asked came
+  pub sits : let f = b.frames in slice_get f.items k ≡ Some frame_state
+  pub went : let x = frame_state.cursor in WentOn code inputs x b'.asked came
   pub frames : let f = b.frames in let g = b'.frames in g.items ≡ changed (λ _. came) f.items k
   pub cells : b'.cells ≡ b.cells
   pub workers : b'.workers ≡ b.workers

@@ -19,19 +19,19 @@ pub record IsReadyAt (b : Scheduler) (worker k : ℕ) : Type 0 where
   pub held : let u = b.workers in held_by u.items worker ≡ Some k
   pub first : 0 < worker
   pub last : let u = b.workers in worker ≤ length u.items
-  pub seat : Activation FrameState
-  pub sits : let f = b.frames in slice_get f.items k ≡ Some seat
+  pub frame_state : Activation FrameState
+  pub sits : let f = b.frames in slice_get f.items k ≡ Some frame_state
   pub cursor : CursorView
-  pub has : let x = seat.cursor in x.cursor ≡ Some cursor
+  pub has : let x = frame_state.cursor in x.cursor ≡ Some cursor
 
 -- a worker is idle and may steal the continuation of frame k, which is offered at this place
 pub record CanSteal (b : Scheduler) (worker place k : ℕ) : Type 0 where
   pub idle : let u = b.workers in is_idle u.items worker ≡ true
   pub few : place < b.offered
   pub offered : let u = b.workers in slice_get (offers u.items) place ≡ Some k
-  pub seat : Activation FrameState
-  pub sits : let f = b.frames in slice_get f.items k ≡ Some seat
-  pub opens : let x = seat.cursor in IsOpen (block_in x.join) x.children
+  pub frame_state : Activation FrameState
+  pub sits : let f = b.frames in slice_get f.items k ≡ Some frame_state
+  pub opens : let x = frame_state.cursor in IsOpen (block_in x.join) x.children
 
 -- the choice can be made
 abbrev pub CanChoose : Scheduler → Choice → Type 0

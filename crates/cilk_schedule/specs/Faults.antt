@@ -61,7 +61,7 @@ pub record KeepsTold (b b' : Scheduler) : Type 0 where
 -- The choice stops the run. A fault stops the free machine too, from the state that the scheduler
 -- showed. Out of memory, the scheduler still records that state.
 abbrev pub StopsFrom : (code : CodeView) (p : Source) (inputs : List ℤ) (b : Scheduler) → HasReached code p inputs b → Scheduler → Choice → Stop → Type 0
-StopsFrom code p inputs b h b' c (stops.At fault strand) = (f : HasFault code p inputs b' fault strand) × StopsAt p inputs h.state h.desk c f.state
+StopsFrom code p inputs b h b' c (stops.At fault strand) = (f : HasFault code p inputs b' fault strand) × StopsAt p inputs h.state h.worker_table c f.state
 StopsFrom code p inputs b h b' c stops.Memory = Tells code p inputs h.name b' h.state
 
 -- the name of the strand that stopped: its frame's name, then its number in the frame

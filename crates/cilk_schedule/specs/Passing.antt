@@ -35,10 +35,10 @@ use Rattle.cilk_scheduler.specs.declared.frame_state.Worker.{Worker}
 -- The last child of the frame at place k is marked as stolen, and its piece is awaited at the
 -- frame's block.
 pub record Robs (frames frames' : List (Activation FrameState)) (k : ℕ) : Type 0 where
-  pub seat : Activation FrameState
+  pub frame_state : Activation FrameState
   pub awaiting : FrameState
-  pub sits : slice_get frames k ≡ Some seat
-  pub awaits : let x = seat.cursor in AwaitsLast x awaiting
+  pub sits : slice_get frames k ≡ Some frame_state
+  pub awaits : let x = frame_state.cursor in AwaitsLast x awaiting
   pub frames_are : frames' ≡ changed robbed (changed (λ _. awaiting) frames k) awaiting.last
 
 -- Worker `victim` no longer offers the continuation at place `at` of its list.
@@ -67,25 +67,25 @@ pub data ComesTo (x : FrameState) (key : ℕ) (last : Bool) (old : Hypermap) (pa
 
 -- The views of worker w are brought so to the block of the frame at place k.
 pub record PieceComes (frames frames' : List (Activation FrameState)) (workers workers' : List Worker) (w k key : ℕ) (last passes : Bool) : Type 0 where
-  pub seat : Activation FrameState
+  pub frame_state : Activation FrameState
   pub worker : Worker
   pub brought : FrameState
   pub views : Hypermap
-  pub sits : slice_get frames k ≡ Some seat
+  pub sits : slice_get frames k ≡ Some frame_state
   pub at : slice_get workers w ≡ Some worker
-  pub comes : let x = seat.cursor in ComesTo x key last worker.views passes brought views
+  pub comes : let x = frame_state.cursor in ComesTo x key last worker.views passes brought views
   pub frames_are : frames' ≡ changed (λ _. brought) frames k
   pub workers_are : workers' ≡ viewing views workers w
 
 -- The own piece of the frame at place k, which worker w holds, is brought to the frame's block.
 pub record OwnComes (frames frames' : List (Activation FrameState)) (workers workers' : List Worker) (w k : ℕ) : Type 0 where
-  pub seat : Activation FrameState
+  pub frame_state : Activation FrameState
   pub worker : Worker
   pub brought : FrameState
   pub views : Hypermap
-  pub sits : slice_get frames k ≡ Some seat
+  pub sits : slice_get frames k ≡ Some frame_state
   pub at : slice_get workers w ≡ Some worker
-  pub brings : let x = seat.cursor in BringsOwn x worker.views brought views
+  pub brings : let x = frame_state.cursor in BringsOwn x worker.views brought views
   pub frames_are : frames' ≡ changed (λ _. brought) frames k
   pub workers_are : workers' ≡ viewing views workers w
 

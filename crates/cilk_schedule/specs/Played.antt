@@ -9,7 +9,7 @@ use Rattle.cilk_runs.specs.Reducers.{View}
 use Rattle.cilk_runs.specs.Steps.{IsFirst, Reaches, outcome_in}
 use Rattle.cilk_runs.specs.FrameEnvs.{FrameEnv}
 use Rattle.cilk_scheduler.specs.WorkerTables.{Chooses, Comes, WorkerTable, IsOver, StopsAt}
-use Rattle.cilk_scheduler.specs.Openings.{first_desk}
+use Rattle.cilk_scheduler.specs.Openings.{first_worker_table}
 use Rattle.cilk_scheduler.specs.declared.scheduler.Scheduler.{Scheduler}
 use Rattle.cilk_scheduler.specs.declared.choice.Choice.{Choice}
 use Rattle.cilk_scheduler.specs.declared.choice.Stop.{Stop}
@@ -56,8 +56,8 @@ pub record IsPlayed (p : Source) (inputs : List ℤ) (workers : ℕ) (choices : 
   pub first : State FrameEnv View
   pub opens : IsFirst p inputs first
   pub state : State FrameEnv View
-  pub desk : WorkerTable
-  pub led : ChoicesLead p inputs choices first (first_desk (workers - 1)) state desk
+  pub worker_table : WorkerTable
+  pub led : ChoicesLead p inputs choices first (first_worker_table (workers - 1)) state worker_table
   pub name : ℕ → Name
   pub shows : ShowsRun p name state shown
 
@@ -65,7 +65,7 @@ pub record IsPlayed (p : Source) (inputs : List ℤ) (workers : ℕ) (choices : 
 -- frame's name, then its number in the frame. A stop out of memory has no name.
 abbrev pub IsStop : Source → List ℤ → ℕ → List Choice → Stop → List ℕ → Type 0
 IsStop p inputs workers choices (stops.At fault strand) list =
-    (first : State FrameEnv View) × (s : State FrameEnv View) × (n : Name) × IsFirst p inputs first × ChoicesStop p inputs choices first (first_desk (workers - 1)) s × (s.stopped ≡ Some (record { frame = n; strand = strand.number; fault = fault }))
+    (first : State FrameEnv View) × (s : State FrameEnv View) × (n : Name) × IsFirst p inputs first × ChoicesStop p inputs choices first (first_worker_table (workers - 1)) s × (s.stopped ≡ Some (record { frame = n; strand = strand.number; fault = fault }))
     × (list ≡ n ++ strand.number ∷ [])
 IsStop p inputs workers choices stops.Memory list = list ≡ []
 
@@ -73,17 +73,17 @@ IsStop p inputs workers choices stops.Memory list = list ≡ []
 
 -- nothing has stopped it
 abbrev pub IsUnstopped : Machine → Type 0
-IsUnstopped m = (let b = m.board in b.stopped ≡ None) × Runs (let c = m.code in c.now) (let i = m.input in i.now) m.board
+IsUnstopped m = (let b = m.scheduler in b.stopped ≡ None) × Runs (let c = m.code in c.now) (let i = m.input in i.now) m.scheduler
 
 -- its scheduler shows a reachable state
 abbrev pub IsAt : Machine → Source → Type 0
-IsAt m p = HasReached (let c = m.code in c.now) p (let i = m.input in i.now) m.board
+IsAt m p = HasReached (let c = m.code in c.now) p (let i = m.input in i.now) m.scheduler
 
 -- The choices lead from each state shown before to one shown after.
 pub record LeadOn (choices : List Choice) (m m' : Machine) : Type 0 where
   pub code : m'.code ≡ m.code
   pub input : m'.input ≡ m.input
-  pub reached : (p : Source) → IsCodeOf p (let c = m.code in c.now) → (h : IsAt m p) → (h' : IsAt m' p) × ChoicesLead p (let i = m.input in i.now) choices h.state h.desk h'.state h'.desk
+  pub reached : (p : Source) → IsCodeOf p (let c = m.code in c.now) → (h : IsAt m p) → (h' : IsAt m' p) × ChoicesLead p (let i = m.input in i.now) choices h.state h.worker_table h'.state h'.worker_table
 
 -- by a fault, the choices stop the run from this state at one that the scheduler records
 abbrev pub StopFrom : (code : CodeView) (p : Source) (inputs : List ℤ) → List Choice → State FrameEnv View → WorkerTable → Scheduler → Stop → Type 0
@@ -94,4 +94,4 @@ StopFrom code p inputs choices s d b stops.Memory = Unit {0}
 pub record HaltAt (choices : List Choice) (m m' : Machine) (stop : Stop) : Type 0 where
   pub code : m'.code ≡ m.code
   pub input : m'.input ≡ m.input
-  pub halted : (p : Source) → IsCodeOf p (let c = m.code in c.now) → (h : IsAt m p) → StopFrom (let c = m'.code in c.now) p (let i = m'.input in i.now) choices h.state h.desk m'.board stop
+  pub halted : (p : Source) → IsCodeOf p (let c = m.code in c.now) → (h : IsAt m p) → StopFrom (let c = m'.code in c.now) p (let i = m'.input in i.now) choices h.state h.worker_table m'.scheduler stop

@@ -12,7 +12,7 @@ use Rattle.cilk_runs.specs.Reducers.{View}
 use Rattle.cilk_runs.specs.Steps.{IsFirst, outcome_in}
 use Rattle.cilk_runs.specs.FrameEnvs.{FrameEnv}
 use Rattle.cilk_scheduler.specs.WorkerTables.{Chooses, Comes, WorkerTable, IsOver, StopsAt}
-use Rattle.cilk_scheduler.specs.Openings.{first_desk}
+use Rattle.cilk_scheduler.specs.Openings.{first_worker_table}
 use Rattle.cilk_scheduler.specs.declared.scheduler.Scheduler.{Scheduler}
 use Rattle.cilk_scheduler.specs.declared.choice.Choice.{Choice}
 use Rattle.cilk_scheduler.specs.declared.choice.Choice.TheVariants as choices
@@ -78,7 +78,7 @@ turns first (suc more) = Turn first ∷ turns (suc first) more
 -- The end of a script: all of it is done, with the run in this state; a choice has stopped the run;
 -- or the choices of a line would exceed the limit.
 pub data End : Type 0 where
-  Done : (state : State FrameEnv View) (desk : WorkerTable) → End
+  Done : (state : State FrameEnv View) (worker_table : WorkerTable) → End
   Stopped : (stop : Stop) → End
   Passed : (line : ℕ) → End
 
@@ -98,7 +98,7 @@ module _ (p : Source) (inputs : List ℤ) where
   -- The steps of a script lead to this end from the opening state, in which the first of the
   -- workers holds the first frame.
   abbrev pub Ends : ℕ → List Step → End → Type 0
-  Ends workers steps e = (s : State FrameEnv View) × IsFirst p inputs s × Plays workers (tasks_of steps) s (first_desk (workers - 1)) e
+  Ends workers steps e = (s : State FrameEnv View) × IsFirst p inputs s × Plays workers (tasks_of steps) s (first_worker_table (workers - 1)) e
 
   -- two ends are the same, up to the views of frames that haven't begun
   abbrev pub SameEnd : End → End → Type 0
@@ -146,11 +146,11 @@ Follows p inputs workers tasks s d left s' d' = (rest : List Task) (e : End) →
 pub record Leads (workers : ℕ) (tasks : List Task) (m : Machine) (left : List Task) (m' : Machine) : Type 0 where
   pub code : m'.code ≡ m.code
   pub input : m'.input ≡ m.input
-  pub reached : (p : Source) → IsCodeOf p (let c = m.code in c.now) → (h : IsAt m p) → (h' : IsAt m' p) × Follows p (let i = m.input in i.now) workers tasks h.state h.desk left h'.state h'.desk
+  pub reached : (p : Source) → IsCodeOf p (let c = m.code in c.now) → (h : IsAt m p) → (h' : IsAt m' p) × Follows p (let i = m.input in i.now) workers tasks h.state h.worker_table left h'.state h'.worker_table
 
 -- one of the tasks ends with this error
 abbrev pub ComesToFault : ℕ → List Task → Machine → PlayFault → Type 0
-ComesToFault workers tasks m f = (p : Source) → IsCodeOf p (let c = m.code in c.now) → (h : IsAt m p) → (rest : List Task) → IsFault (λ e. Plays p (let i = m.input in i.now) workers (tasks ++ rest) h.state h.desk e) f
+ComesToFault workers tasks m f = (p : Source) → IsCodeOf p (let c = m.code in c.now) → (h : IsAt m p) → (rest : List Task) → IsFault (λ e. Plays p (let i = m.input in i.now) workers (tasks ++ rest) h.state h.worker_table e) f
 
 -- If one serial run settles every parallel one, an outcome is that run's.
 abbrev pub LeavesAsSettled : Source → List ℤ → Option Outcome → Type 0

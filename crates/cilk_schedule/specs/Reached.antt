@@ -12,7 +12,7 @@ use Rattle.cilk_scheduler.specs.Acting.{IsShown}
 use Rattle.cilk_scheduler.specs.Schedulers.{ShowsBy}
 use Rattle.cilk_scheduler.specs.WorkerTables.{Chooses, Comes, WorkerTable, Did, Skipped, Stole, Waited}
 use Rattle.cilk_scheduler.specs.GoneOn.{HaveGoneOn}
-use Rattle.cilk_scheduler.specs.Openings.{first_desk}
+use Rattle.cilk_scheduler.specs.Openings.{first_worker_table}
 use Rattle.cilk_scheduler.specs.Parents.{AreStarted, OutliveChildren}
 use Rattle.cilk_scheduler.specs.declared.scheduler.Scheduler.{Scheduler}
 use Rattle.cilk_scheduler.specs.declared.choice.Choice.{Choice}
@@ -41,8 +41,8 @@ pub record HasReached (code : CodeView) (p : Source) (inputs : List ℤ) (b : Sc
   pub state : State FrameEnv View
   pub reaches : Reaches p inputs steps state
   pub name : ℕ → Name
-  pub desk : WorkerTable
-  pub shows : ShowsBy code p inputs name b desk state
+  pub worker_table : WorkerTable
+  pub shows : ShowsBy code p inputs name b worker_table state
 
 -- the result of a choice, in the rules of choices by names
 abbrev pub comes_of : Told → Comes
@@ -54,11 +54,11 @@ comes_of told.Skipped = Skipped
 -- If a scheduler shows a reachable state, so does the next one, and the choice by names leads from
 -- the one state to the other.
 abbrev pub LeadsOn : CodeView → Source → List ℤ → Scheduler → Scheduler → Choice → Told → Type 0
-LeadsOn code p inputs b b' c t = (h : HasReached code p inputs b) → (h' : HasReached code p inputs b') × Chooses p inputs h.state h.desk c (comes_of t) h'.state h'.desk
+LeadsOn code p inputs b b' c t = (h : HasReached code p inputs b) → (h' : HasReached code p inputs b') × Chooses p inputs h.state h.worker_table c (comes_of t) h'.state h'.worker_table
 
 -- The scheduler shows the opening state: the first worker holds the first frame, and `idle` others
 -- are idle.
 pub record HasOpened (code : CodeView) (p : Source) (inputs : List ℤ) (b : Scheduler) (idle : ℕ) : Type 0 where
   pub state : State FrameEnv View
   pub first : IsFirst p inputs state
-  pub shows : ShowsBy code p inputs (λ n. []) b (first_desk idle) state
+  pub shows : ShowsBy code p inputs (λ n. []) b (first_worker_table idle) state

@@ -137,9 +137,9 @@ pub record IsAsked (code : CodeView) (inputs : List ℤ) (b : Scheduler) (k : �
 
 -- The current request causes no fault, with the ticks that the frame at place k has used.
 pub record IsAccepted (code : CodeView) (b : Scheduler) (k : ℕ) : Type 0 where
-  pub seat : Activation FrameState
-  pub sits : let f = b.frames in slice_get f.items k ≡ Some seat
-  pub accepted : let f = b.frames in let c = b.cells in let e = b.journal in let x = seat.cursor in refusal (b.ticks + (x.took - x.counted)) (length e.items) (length f.items) (length c.items) code.layout b.asked ≡ None
+  pub frame_state : Activation FrameState
+  pub sits : let f = b.frames in slice_get f.items k ≡ Some frame_state
+  pub accepted : let f = b.frames in let c = b.cells in let e = b.journal in let x = frame_state.cursor in refusal (b.ticks + (x.took - x.counted)) (length e.items) (length f.items) (length c.items) code.layout b.asked ≡ None
 
 -- the frame at place k has made the current request, which causes no fault
 pub record IsTurn (code : CodeView) (inputs : List ℤ) (b : Scheduler) (k : ℕ) : Type 0 where

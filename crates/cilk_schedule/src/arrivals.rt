@@ -30,11 +30,11 @@ pub fn must_wait(frames: &[Activation<FrameState>], frame: usize) -> bool
     requires { frame < length frames.now }
     ensures { (a : Activation FrameState) → slice_get frames.now frame ≡ Some a → result ≡ must_wait a.cursor }
 {
-    let seat = &frames[frame].cursor;
-    if seat.merged {
+    let frame_state = &frames[frame].cursor;
+    if frame_state.merged {
         return false;
     }
-    match &seat.join {
+    match &frame_state.join {
         Some(join) => join.waits(),
         None => false,
     }
@@ -43,22 +43,28 @@ pub fn must_wait(frames: &[Activation<FrameState>], frame: usize) -> bool
 /// Brings the frame's own views to its sync, whose block isn't complete, and makes the worker idle.
 pub fn wait_at(
     alloc: Global,
-    board: &mut Scheduler,
+    scheduler: &mut Scheduler,
     worker: usize,
     frame: usize,
 ) -> Result<(), AllocError>
-    requires turn { (code : CodeView) × (inputs : List ℤ) × IsAsked code inputs board.old frame }
-    requires works { worker < length board.old.workers.items }
-    requires syncs { board.old.asked ≡ asks.Sync }
-    ensures runs { OnOk result ((code : CodeView) (inputs : List ℤ) → IsAsked code inputs board.old frame → Runs code inputs board.new) }
-    ensures rest { SameRest board.old board.new }
-    ensures outcome { board.new.outcome ≡ board.old.outcome }
-    ensures stands { OnErr result (StandAsBefore board.old.frames.items board.new.frames.items) }
-    ensures stays { OnOk result (WhereOwnIsDue board.old.frames.items frame (StaysAt board.old board.new worker frame)) }
+    requires turn { (code : CodeView) × (inputs : List ℤ) × IsAsked code inputs scheduler.old frame }
+    requires works { worker < length scheduler.old.workers.items }
+    requires syncs { scheduler.old.asked ≡ asks.Sync }
+    ensures runs { OnOk result ((code : CodeView) (inputs : List ℤ) → IsAsked code inputs scheduler.old frame → Runs code inputs scheduler.new) }
+    ensures rest { SameRest scheduler.old scheduler.new }
+    ensures outcome { scheduler.new.outcome ≡ scheduler.old.outcome }
+    ensures stands { OnErr result (StandAsBefore scheduler.old.frames.items scheduler.new.frames.items) }
+    ensures stays { OnOk result (WhereOwnIsDue scheduler.old.frames.items frame (StaysAt scheduler.old scheduler.new worker frame)) }
 {
-    let _waits = bring_own(alloc, &mut board.frames, &mut board.workers, worker, frame)?;
-    wait(&mut board.frames, frame);
-    leave(&mut board.workers, worker);
+    let _waits = bring_own(
+        alloc,
+        &mut scheduler.frames,
+        &mut scheduler.workers,
+        worker,
+        frame,
+    )?;
+    wait(&mut scheduler.frames, frame);
+    leave(&mut scheduler.workers, worker);
     Ok(())
 }
 
@@ -66,23 +72,29 @@ pub fn wait_at(
 /// begins.
 pub fn sync(
     alloc: Global,
-    board: &mut Scheduler,
+    scheduler: &mut Scheduler,
     worker: usize,
     frame: usize,
 ) -> Result<Event, AllocError>
-    requires turn { (code : CodeView) × (inputs : List ℤ) × IsTurn code inputs board.old frame }
-    requires works { worker < length board.old.workers.items }
-    requires syncs { board.old.asked ≡ asks.Sync }
-    ensures made { OnOk result ((code : CodeView) → Makes code board.old board.new frame) }
-    ensures rest { SameRest board.old board.new }
-    ensures outcome { board.new.outcome ≡ board.old.outcome }
-    ensures stands { OnErr result (StandAsBefore board.old.frames.items board.new.frames.items) }
+    requires turn { (code : CodeView) × (inputs : List ℤ) × IsTurn code inputs scheduler.old frame }
+    requires works { worker < length scheduler.old.workers.items }
+    requires syncs { scheduler.old.asked ≡ asks.Sync }
+    ensures made { OnOk result ((code : CodeView) → Makes code scheduler.old scheduler.new frame) }
+    ensures rest { SameRest scheduler.old scheduler.new }
+    ensures outcome { scheduler.new.outcome ≡ scheduler.old.outcome }
+    ensures stands { OnErr result (StandAsBefore scheduler.old.frames.items scheduler.new.frames.items) }
     ensures event { IfOk result (λ e. IsTouch e → ⊥) }
     ensures kind { IfOk result (λ e. e ≡ events.Sync) }
-    ensures behind { OnOk result (WhereOwnMayCome board.old.frames.items frame (GoesBehind board.old board.new worker frame)) }
+    ensures behind { OnOk result (WhereOwnMayCome scheduler.old.frames.items frame (GoesBehind scheduler.old scheduler.new worker frame)) }
 {
-    bring_once(alloc, &mut board.frames, &mut board.workers, worker, frame)?;
-    begin_block(&mut board.frames, frame);
+    bring_once(
+        alloc,
+        &mut scheduler.frames,
+        &mut scheduler.workers,
+        worker,
+        frame,
+    )?;
+    begin_block(&mut scheduler.frames, frame);
     Ok(Event::Sync)
 }
 
@@ -155,15 +167,15 @@ pub fn bring(
 // The same on the frame's state.
 fn bring_to(
     alloc: Global,
-    seat: &mut FrameState,
+    frame_state: &mut FrameState,
     views: &mut Hypermap,
     key: u32,
     last: bool,
 ) -> Result<bool, AllocError>
-    ensures same { seat.new ≡ record seat.old { join = seat.new.join } }
-    ensures comes { IfOk result (λ passes. MayArrive (block_in seat.old.join) key last → ComesTo seat.old key last views.old passes seat.new views.new) }
+    ensures same { frame_state.new ≡ record frame_state.old { join = frame_state.new.join } }
+    ensures comes { IfOk result (λ passes. MayArrive (block_in frame_state.old.join) key last → ComesTo frame_state.old key last views.old passes frame_state.new views.new) }
 {
-    let Some(join) = &mut seat.join else {
+    let Some(join) = &mut frame_state.join else {
         return Ok(false);
     };
     if (!last && join.awaits(key)) || join.fresh(key) {

@@ -35,27 +35,27 @@ use std::alloc::{AllocError, Global};
 pub fn end(
     alloc: Global,
     code: &Code,
-    board: &mut Scheduler,
+    scheduler: &mut Scheduler,
     worker: usize,
     frame: usize,
     value: i64,
 ) -> Result<Event, AllocError>
-    requires turn { (inputs : List ℤ) × IsTurn code.now inputs board.old frame }
-    requires works { worker < length board.old.workers.items }
+    requires turn { (inputs : List ℤ) × IsTurn code.now inputs scheduler.old frame }
+    requires works { worker < length scheduler.old.workers.items }
     requires low { worker < 2 ^ 32 }
-    requires ends { board.old.asked ≡ asks.End value }
-    ensures made { OnOk result (Makes code.now board.old board.new frame) }
-    ensures rest { SameRest board.old board.new }
-    ensures outcome { OnErr result (board.new.outcome ≡ board.old.outcome) }
-    ensures stands { OnErr result (StandAsBefore board.old.frames.items board.new.frames.items) }
+    requires ends { scheduler.old.asked ≡ asks.End value }
+    ensures made { OnOk result (Makes code.now scheduler.old scheduler.new frame) }
+    ensures rest { SameRest scheduler.old scheduler.new }
+    ensures outcome { OnErr result (scheduler.new.outcome ≡ scheduler.old.outcome) }
+    ensures stands { OnErr result (StandAsBefore scheduler.old.frames.items scheduler.new.frames.items) }
     ensures event { IfOk result (λ e. IsTouch e → ⊥) }
     ensures kind { IfOk result (λ e. e ≡ events.End) }
-    ensures ends { OnOk result (EndsFrame code.now board.old board.new worker frame) }
+    ensures ends { OnOk result (EndsFrame code.now scheduler.old scheduler.new worker frame) }
 {
-    let views = &mut board.workers[worker].views;
-    retire_at(code, board.frames.as_slice(), views, frame);
-    depart(alloc, code, board, worker, frame, value)?;
-    finish(&mut board.frames, frame);
+    let views = &mut scheduler.workers[worker].views;
+    retire_at(code, scheduler.frames.as_slice(), views, frame);
+    depart(alloc, code, scheduler, worker, frame, value)?;
+    finish(&mut scheduler.frames, frame);
     Ok(Event::End)
 }
 
@@ -74,32 +74,32 @@ fn retire_at(code: &Code, frames: &[Activation<FrameState>], views: &mut Hyperma
 fn depart(
     alloc: Global,
     code: &Code,
-    board: &mut Scheduler,
+    scheduler: &mut Scheduler,
     worker: usize,
     frame: usize,
     value: i64,
 ) -> Result<(), AllocError>
-    requires here { frame < length board.old.frames.items }
-    requires works { worker < length board.old.workers.items }
+    requires here { frame < length scheduler.old.frames.items }
+    requires works { worker < length scheduler.old.workers.items }
     requires low { worker < 2 ^ 32 }
-    requires parent { (a : Activation FrameState) → slice_get board.old.frames.items frame ≡ Some a → a.cursor.parent < length board.old.frames.items }
-    requires globals { length code.now.layout.openings ≤ length board.old.cells.items }
+    requires parent { (a : Activation FrameState) → slice_get scheduler.old.frames.items frame ≡ Some a → a.cursor.parent < length scheduler.old.frames.items }
+    requires globals { length code.now.layout.openings ≤ length scheduler.old.cells.items }
     requires few { length code.now.layout.reducers ≤ 64 }
-    ensures quiet { OnOk result (IsQuiet board.old.frames.items board.new.frames.items) }
-    ensures cells { board.new.cells ≡ board.old.cells }
-    ensures rest { SameRest board.old board.new }
-    ensures outcome { OnErr result (board.new.outcome ≡ board.old.outcome) }
-    ensures stands { OnErr result (StandAsBefore board.old.frames.items board.new.frames.items) }
-    ensures fewer { board.new.offered ≤ board.old.offered }
-    ensures departs { OnOk result (PartsTo code.now board.old board.new worker frame value) }
+    ensures quiet { OnOk result (IsQuiet scheduler.old.frames.items scheduler.new.frames.items) }
+    ensures cells { scheduler.new.cells ≡ scheduler.old.cells }
+    ensures rest { SameRest scheduler.old scheduler.new }
+    ensures outcome { OnErr result (scheduler.new.outcome ≡ scheduler.old.outcome) }
+    ensures stands { OnErr result (StandAsBefore scheduler.old.frames.items scheduler.new.frames.items) }
+    ensures fewer { scheduler.new.offered ≤ scheduler.old.offered }
+    ensures departs { OnOk result (PartsTo code.now scheduler.old scheduler.new worker frame value) }
 {
     if frame == 0 {
-        return leave_run(alloc, code, board, worker, value);
+        return leave_run(alloc, code, scheduler, worker, value);
     }
-    if board.frames[frame].cursor.stolen {
-        return hand_in(alloc, board, worker, frame);
+    if scheduler.frames[frame].cursor.stolen {
+        return hand_in(alloc, scheduler, worker, frame);
     }
-    go_back(board, worker, frame);
+    go_back(scheduler, worker, frame);
     Ok(())
 }
 
@@ -107,24 +107,30 @@ fn depart(
 fn leave_run(
     alloc: Global,
     code: &Code,
-    board: &mut Scheduler,
+    scheduler: &mut Scheduler,
     worker: usize,
     value: i64,
 ) -> Result<(), AllocError>
-    requires works { worker < length board.old.workers.items }
-    requires globals { length code.now.layout.openings ≤ length board.old.cells.items }
+    requires works { worker < length scheduler.old.workers.items }
+    requires globals { length code.now.layout.openings ≤ length scheduler.old.cells.items }
     requires few { length code.now.layout.reducers ≤ 64 }
-    ensures frames { board.new.frames ≡ board.old.frames }
-    ensures cells { board.new.cells ≡ board.old.cells }
-    ensures rest { SameRest board.old board.new }
-    ensures outcome { OnErr result (board.new.outcome ≡ board.old.outcome) }
-    ensures offered { board.new.offered ≡ board.old.offered }
-    ensures departs { OnOk result (PartsTo code.now board.old board.new worker 0 value) }
+    ensures frames { scheduler.new.frames ≡ scheduler.old.frames }
+    ensures cells { scheduler.new.cells ≡ scheduler.old.cells }
+    ensures rest { SameRest scheduler.old scheduler.new }
+    ensures outcome { OnErr result (scheduler.new.outcome ≡ scheduler.old.outcome) }
+    ensures offered { scheduler.new.offered ≡ scheduler.old.offered }
+    ensures departs { OnOk result (PartsTo code.now scheduler.old scheduler.new worker 0 value) }
 {
-    let views = &mut board.workers[worker].views;
-    let left = outcome(alloc, code.layout(), board.cells.as_slice(), views, value)?;
-    board.outcome = Some(left);
-    leave(&mut board.workers, worker);
+    let views = &mut scheduler.workers[worker].views;
+    let left = outcome(
+        alloc,
+        code.layout(),
+        scheduler.cells.as_slice(),
+        views,
+        value,
+    )?;
+    scheduler.outcome = Some(left);
+    leave(&mut scheduler.workers, worker);
     Ok(())
 }
 
@@ -132,33 +138,38 @@ fn leave_run(
 // block passes, and is idle otherwise.
 fn hand_in(
     alloc: Global,
-    board: &mut Scheduler,
+    scheduler: &mut Scheduler,
     worker: usize,
     frame: usize,
 ) -> Result<(), AllocError>
     requires child { 0 < frame }
-    requires here { frame < length board.old.frames.items }
-    requires works { worker < length board.old.workers.items }
+    requires here { frame < length scheduler.old.frames.items }
+    requires works { worker < length scheduler.old.workers.items }
     requires low { worker < 2 ^ 32 }
-    requires parent { (a : Activation FrameState) → slice_get board.old.frames.items frame ≡ Some a → a.cursor.parent < length board.old.frames.items }
-    requires stolen { (a : Activation FrameState) → slice_get board.old.frames.items frame ≡ Some a → a.cursor.stolen ≡ true }
-    ensures quiet { OnOk result (IsQuiet board.old.frames.items board.new.frames.items) }
-    ensures cells { board.new.cells ≡ board.old.cells }
-    ensures rest { SameRest board.old board.new }
-    ensures outcome { board.new.outcome ≡ board.old.outcome }
-    ensures stands { OnErr result (StandAsBefore board.old.frames.items board.new.frames.items) }
-    ensures offered { board.new.offered ≡ board.old.offered }
-    ensures departs { OnOk result ((code : CodeView) (v : ℤ) → PartsTo code board.old board.new worker frame v) }
+    requires parent { (a : Activation FrameState) → slice_get scheduler.old.frames.items frame ≡ Some a → a.cursor.parent < length scheduler.old.frames.items }
+    requires stolen { (a : Activation FrameState) → slice_get scheduler.old.frames.items frame ≡ Some a → a.cursor.stolen ≡ true }
+    ensures quiet { OnOk result (IsQuiet scheduler.old.frames.items scheduler.new.frames.items) }
+    ensures cells { scheduler.new.cells ≡ scheduler.old.cells }
+    ensures rest { SameRest scheduler.old scheduler.new }
+    ensures outcome { scheduler.new.outcome ≡ scheduler.old.outcome }
+    ensures stands { OnErr result (StandAsBefore scheduler.old.frames.items scheduler.new.frames.items) }
+    ensures offered { scheduler.new.offered ≡ scheduler.old.offered }
+    ensures departs { OnOk result ((code : CodeView) (v : ℤ) → PartsTo code scheduler.old scheduler.new worker frame v) }
 {
-    let child = &board.frames[frame].cursor;
+    let child = &scheduler.frames[frame].cursor;
     let (parent, key) = (child.parent, child.ordinal);
-    let seat = &mut board.frames[parent as usize].cursor;
-    let views = &mut board.workers[worker].views;
-    if bring_awaited(alloc, seat, views, key)? {
-        pass(&mut board.frames, parent as usize);
-        hold(&mut board.frames, &mut board.workers, worker, parent);
+    let frame_state = &mut scheduler.frames[parent as usize].cursor;
+    let views = &mut scheduler.workers[worker].views;
+    if bring_awaited(alloc, frame_state, views, key)? {
+        pass(&mut scheduler.frames, parent as usize);
+        hold(
+            &mut scheduler.frames,
+            &mut scheduler.workers,
+            worker,
+            parent,
+        );
     } else {
-        leave(&mut board.workers, worker);
+        leave(&mut scheduler.workers, worker);
     }
     Ok(())
 }
@@ -168,25 +179,25 @@ fn hand_in(
 // lost.
 fn bring_awaited(
     alloc: Global,
-    seat: &mut FrameState,
+    frame_state: &mut FrameState,
     views: &mut Hypermap,
     key: u32,
 ) -> Result<bool, AllocError>
-    ensures brings { IfOk result (λ passes. MayBring seat.old key → Brings seat.old key views.old passes seat.new views.new) }
-    ensures same { seat.new ≡ record seat.old { join = seat.new.join } }
+    ensures brings { IfOk result (λ passes. MayBring frame_state.old key → Brings frame_state.old key views.old passes frame_state.new views.new) }
+    ensures same { frame_state.new ≡ record frame_state.old { join = frame_state.new.join } }
 {
-    if !may_bring(seat, key) {
+    if !may_bring(frame_state, key) {
         return Ok(false);
     }
-    bring(alloc, seat, views, key)
+    bring(alloc, frame_state, views, key)
 }
 
 // Whether the views of a stolen child may arrive at a block under this key.
-fn may_bring(seat: &FrameState, key: u32) -> bool
-    ensures yes { result ≡ true → MayBring seat.now key }
-    ensures no { MayBring seat.now key → result ≡ true }
+fn may_bring(frame_state: &FrameState, key: u32) -> bool
+    ensures yes { result ≡ true → MayBring frame_state.now key }
+    ensures no { MayBring frame_state.now key → result ≡ true }
 {
-    match &seat.join {
+    match &frame_state.join {
         Some(join) => join.awaits(key) || join.fresh(key),
         None => false,
     }
@@ -194,25 +205,36 @@ fn may_bring(seat: &FrameState, key: u32) -> bool
 
 // The worker continues the parent, which waits for this frame. Its continuation is no longer
 // offered.
-fn go_back(board: &mut Scheduler, worker: usize, frame: usize)
+fn go_back(scheduler: &mut Scheduler, worker: usize, frame: usize)
     requires child { 0 < frame }
-    requires here { frame < length board.old.frames.items }
-    requires works { worker < length board.old.workers.items }
+    requires here { frame < length scheduler.old.frames.items }
+    requires works { worker < length scheduler.old.workers.items }
     requires low { worker < 2 ^ 32 }
-    requires parent { (a : Activation FrameState) → slice_get board.old.frames.items frame ≡ Some a → a.cursor.parent < length board.old.frames.items }
-    requires kept { (a : Activation FrameState) → slice_get board.old.frames.items frame ≡ Some a → a.cursor.stolen ≡ false }
-    ensures quiet { IsQuiet board.old.frames.items board.new.frames.items }
-    ensures cells { board.new.cells ≡ board.old.cells }
-    ensures rest { SameRest board.old board.new }
-    ensures outcome { board.new.outcome ≡ board.old.outcome }
-    ensures fewer { board.new.offered ≤ board.old.offered }
-    ensures departs { (code : CodeView) (v : ℤ) → PartsTo code board.old board.new worker frame v }
+    requires parent { (a : Activation FrameState) → slice_get scheduler.old.frames.items frame ≡ Some a → a.cursor.parent < length scheduler.old.frames.items }
+    requires kept { (a : Activation FrameState) → slice_get scheduler.old.frames.items frame ≡ Some a → a.cursor.stolen ≡ false }
+    ensures quiet { IsQuiet scheduler.old.frames.items scheduler.new.frames.items }
+    ensures cells { scheduler.new.cells ≡ scheduler.old.cells }
+    ensures rest { SameRest scheduler.old scheduler.new }
+    ensures outcome { scheduler.new.outcome ≡ scheduler.old.outcome }
+    ensures fewer { scheduler.new.offered ≤ scheduler.old.offered }
+    ensures departs { (code : CodeView) (v : ℤ) → PartsTo code scheduler.old scheduler.new worker frame v }
 {
-    let parent = board.frames[frame].cursor.parent;
-    let status = board.frames[parent as usize].cursor.status;
-    let frames = board.frames.as_slice();
-    board.offered = reclaim(&mut board.workers, frames, board.offered, status, parent);
-    hold(&mut board.frames, &mut board.workers, worker, parent);
+    let parent = scheduler.frames[frame].cursor.parent;
+    let status = scheduler.frames[parent as usize].cursor.status;
+    let frames = scheduler.frames.as_slice();
+    scheduler.offered = reclaim(
+        &mut scheduler.workers,
+        frames,
+        scheduler.offered,
+        status,
+        parent,
+    );
+    hold(
+        &mut scheduler.frames,
+        &mut scheduler.workers,
+        worker,
+        parent,
+    );
 }
 
 // Withdraws a frame's continuation from the worker that its status names. Returns how many are

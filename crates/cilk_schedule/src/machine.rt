@@ -40,7 +40,7 @@ use std::alloc::{AllocError, Global};
 pub struct Machine<'a> {
     code: &'a Code,
     input: &'a Input,
-    board: Scheduler,
+    scheduler: Scheduler,
 }
 
 impl<'a> Machine<'a> {
@@ -54,13 +54,17 @@ impl<'a> Machine<'a> {
     ) -> Result<Machine<'a>, AllocError>
         requires { IsCode code.now }
         ensures of { IfOk result (λ m. (m.code.now ≡ code.now) × (m.input.now ≡ input.now)) }
-        ensures runs { IfOk result (λ m. Runs m.code.now m.input.now m.board) }
-        ensures workers { IfOk result (λ m. length m.board.workers.items ≡ workers) }
-        ensures running { IfOk result (λ m. (m.board.stopped ≡ None) × (m.board.outcome ≡ None)) }
-        ensures opened { IfOk result (λ m. 0 < workers → (p : Source) → IsCodeOf p code.now → HasOpened code.now p input.now m.board (workers - 1)) }
+        ensures runs { IfOk result (λ m. Runs m.code.now m.input.now m.scheduler) }
+        ensures workers { IfOk result (λ m. length m.scheduler.workers.items ≡ workers) }
+        ensures running { IfOk result (λ m. (m.scheduler.stopped ≡ None) × (m.scheduler.outcome ≡ None)) }
+        ensures opened { IfOk result (λ m. 0 < workers → (p : Source) → IsCodeOf p code.now → HasOpened code.now p input.now m.scheduler (workers - 1)) }
     {
-        let board = open(alloc, code, workers)?;
-        Ok(Machine { code, input, board })
+        let scheduler = open(alloc, code, workers)?;
+        Ok(Machine {
+            code,
+            input,
+            scheduler,
+        })
     }
 
     /// Makes a choice. A choice that can't be made is skipped and changes nothing. Once the run has
@@ -70,89 +74,89 @@ impl<'a> Machine<'a> {
     /// reachable state of the free machine, it does so after the choice too. After a stop the
     /// machine still shows the run before the choice.
     pub fn choose(&mut self, alloc: Global, choice: Choice) -> Result<Told, Stop>
-        requires { self.old.board.stopped ≡ None → Runs self.old.code.now self.old.input.now self.old.board }
-        ensures runs { self.new.board.stopped ≡ None → Runs self.new.code.now self.new.input.now self.new.board }
+        requires { self.old.scheduler.stopped ≡ None → Runs self.old.code.now self.old.input.now self.old.scheduler }
+        ensures runs { self.new.scheduler.stopped ≡ None → Runs self.new.code.now self.new.input.now self.new.scheduler }
         ensures same { (self.new.code ≡ self.old.code) × (self.new.input ≡ self.old.input) }
         ensures skipped { IfOk result (λ t. t ≡ told.Skipped → self.new ≡ self.old) }
-        ensures going { IfOk result (λ told. (self.old.board.stopped ≡ None) × (self.new.board.stopped ≡ None)) }
-        ensures stop { IfErr result (λ stop. self.new.board.stopped ≡ Some stop) }
-        ensures again { (stop : Stop) → self.old.board.stopped ≡ Some stop → (result ≡ Err stop) × (self.new ≡ self.old) }
-        ensures over { self.old.board.stopped ≡ None → self.old.board.outcome ≢ None → (result ≡ Ok told.Skipped) × (self.new ≡ self.old) }
-        ensures made { self.old.board.stopped ≡ None → self.old.board.outcome ≡ None → result ≡ Ok told.Skipped → CanChoose self.old.board choice → ⊥ }
-        ensures vain { self.old.board.stopped ≡ None → (CanChoose self.old.board choice → ⊥) → result ≡ Ok told.Skipped }
-        ensures journal { Writes result self.old.board.journal.items self.new.board.journal.items }
-        ensures steps { IfOk result (λ t. EventsAreSteps self.old.code.now self.old.input.now self.old.board self.new.board choice t) }
-        ensures starts { IfOk result (λ t. StartsAreSteps self.old.code.now self.old.input.now self.old.board self.new.board choice t) }
-        ensures thieves { IfOk result (λ t. StealsAreSteps self.old.code.now self.old.input.now self.old.board self.new.board choice t) }
-        ensures waits { IfOk result (λ t. WaitsAreSteps self.old.code.now self.old.input.now self.old.board self.new.board choice t) }
-        ensures syncs { IfOk result (λ t. SyncsAreSteps self.old.code.now self.old.input.now self.old.board self.new.board choice t) }
-        ensures skips { IfOk result (λ t. SkipsAreSteps self.old.code.now self.old.input.now self.old.board self.new.board choice t) }
-        ensures reached { IfOk result (λ t. (p : Source) → IsCodeOf p self.old.code.now → LeadsOn self.old.code.now p self.old.input.now self.old.board self.new.board choice t) }
-        ensures ends { IfOk result (λ t. EndsAreSteps self.old.code.now self.old.input.now self.old.board self.new.board choice t) }
-        ensures faults { IfErr result (λ stop. self.old.board.stopped ≡ None → FaultsAreStops self.old.code.now self.old.input.now self.old.board self.new.board choice stop) }
-        ensures halted { IfErr result (λ stop. self.old.board.stopped ≡ None → (p : Source) → IsCodeOf p self.old.code.now → HasReached self.old.code.now p self.old.input.now self.old.board → HasStopped self.old.code.now p self.old.input.now self.new.board stop) }
-        ensures stops { IfErr result (λ stop. self.old.board.stopped ≡ None → (p : Source) → IsCodeOf p self.old.code.now → (h : HasReached self.old.code.now p self.old.input.now self.old.board) → StopsFrom self.old.code.now p self.old.input.now self.old.board h self.new.board choice stop) }
-        ensures kept { IfErr result (λ stop. self.old.board.stopped ≡ None → KeepsTold self.old.board self.new.board) }
+        ensures going { IfOk result (λ told. (self.old.scheduler.stopped ≡ None) × (self.new.scheduler.stopped ≡ None)) }
+        ensures stop { IfErr result (λ stop. self.new.scheduler.stopped ≡ Some stop) }
+        ensures again { (stop : Stop) → self.old.scheduler.stopped ≡ Some stop → (result ≡ Err stop) × (self.new ≡ self.old) }
+        ensures over { self.old.scheduler.stopped ≡ None → self.old.scheduler.outcome ≢ None → (result ≡ Ok told.Skipped) × (self.new ≡ self.old) }
+        ensures made { self.old.scheduler.stopped ≡ None → self.old.scheduler.outcome ≡ None → result ≡ Ok told.Skipped → CanChoose self.old.scheduler choice → ⊥ }
+        ensures vain { self.old.scheduler.stopped ≡ None → (CanChoose self.old.scheduler choice → ⊥) → result ≡ Ok told.Skipped }
+        ensures journal { Writes result self.old.scheduler.journal.items self.new.scheduler.journal.items }
+        ensures steps { IfOk result (λ t. EventsAreSteps self.old.code.now self.old.input.now self.old.scheduler self.new.scheduler choice t) }
+        ensures starts { IfOk result (λ t. StartsAreSteps self.old.code.now self.old.input.now self.old.scheduler self.new.scheduler choice t) }
+        ensures thieves { IfOk result (λ t. StealsAreSteps self.old.code.now self.old.input.now self.old.scheduler self.new.scheduler choice t) }
+        ensures waits { IfOk result (λ t. WaitsAreSteps self.old.code.now self.old.input.now self.old.scheduler self.new.scheduler choice t) }
+        ensures syncs { IfOk result (λ t. SyncsAreSteps self.old.code.now self.old.input.now self.old.scheduler self.new.scheduler choice t) }
+        ensures skips { IfOk result (λ t. SkipsAreSteps self.old.code.now self.old.input.now self.old.scheduler self.new.scheduler choice t) }
+        ensures reached { IfOk result (λ t. (p : Source) → IsCodeOf p self.old.code.now → LeadsOn self.old.code.now p self.old.input.now self.old.scheduler self.new.scheduler choice t) }
+        ensures ends { IfOk result (λ t. EndsAreSteps self.old.code.now self.old.input.now self.old.scheduler self.new.scheduler choice t) }
+        ensures faults { IfErr result (λ stop. self.old.scheduler.stopped ≡ None → FaultsAreStops self.old.code.now self.old.input.now self.old.scheduler self.new.scheduler choice stop) }
+        ensures halted { IfErr result (λ stop. self.old.scheduler.stopped ≡ None → (p : Source) → IsCodeOf p self.old.code.now → HasReached self.old.code.now p self.old.input.now self.old.scheduler → HasStopped self.old.code.now p self.old.input.now self.new.scheduler stop) }
+        ensures stops { IfErr result (λ stop. self.old.scheduler.stopped ≡ None → (p : Source) → IsCodeOf p self.old.code.now → (h : HasReached self.old.code.now p self.old.input.now self.old.scheduler) → StopsFrom self.old.code.now p self.old.input.now self.old.scheduler h self.new.scheduler choice stop) }
+        ensures kept { IfErr result (λ stop. self.old.scheduler.stopped ≡ None → KeepsTold self.old.scheduler self.new.scheduler) }
     {
-        choose(alloc, self.code, self.input, &mut self.board, choice)
+        choose(alloc, self.code, self.input, &mut self.scheduler, choice)
     }
 
     /// Returns whether a worker holds a frame. Workers count from 1.
     pub fn holds(&self, worker: u32) -> bool
-        ensures { result ≡ is_some (held_by self.now.board.workers.items worker) }
+        ensures { result ≡ is_some (held_by self.now.scheduler.workers.items worker) }
     {
-        held_by(self.board.workers.as_slice(), worker).is_some()
+        held_by(self.scheduler.workers.as_slice(), worker).is_some()
     }
 
     /// Returns the number of continuations that are offered.
     pub fn offered(&self) -> usize
-        ensures { result ≡ self.now.board.offered }
+        ensures { result ≡ self.now.scheduler.offered }
     {
-        self.board.offered
+        self.scheduler.offered
     }
 
     /// Returns whether the first frame has ended.
     pub fn ended(&self) -> bool
-        ensures { result ≡ is_some self.now.board.outcome }
+        ensures { result ≡ is_some self.now.scheduler.outcome }
     {
-        self.board.outcome.is_some()
+        self.scheduler.outcome.is_some()
     }
 
     /// Returns the run so far: what its frames did, which of them were joined, and the outcome.
     /// Frames are found by paths, which no schedule changes. After a stop it is the run before the
     /// choice that stopped it.
     pub fn shown(&self, alloc: Global) -> Result<Shown, AllocError>
-        ensures outcome { IfOk result (λ shown. shown.outcome ≡ self.now.board.outcome) }
-        ensures run { IfOk result (ShowsReached self.now.code.now self.now.input.now self.now.board) }
+        ensures outcome { IfOk result (λ shown. shown.outcome ≡ self.now.scheduler.outcome) }
+        ensures run { IfOk result (ShowsReached self.now.code.now self.now.input.now self.now.scheduler) }
     {
-        show(alloc, &self.board, self.code.layout().openings.len())
+        show(alloc, &self.scheduler, self.code.layout().openings.len())
     }
 
     /// Returns the outcome, or `None` if the first frame hasn't ended.
     pub fn into_outcome(self) -> Option<Outcome>
-        ensures { result ≡ self.entry.board.outcome }
+        ensures { result ≡ self.entry.scheduler.outcome }
     {
         let Machine {
             code: _code,
             input: _input,
-            board,
+            scheduler,
         } = self;
-        board.into_outcome()
+        scheduler.into_outcome()
     }
 
     /// Returns the name of the strand that stopped: the path of its frame by ordinals, then the
     /// strand's number in its frame. It is empty for [`Stop::Memory`].
     pub fn name(&self, alloc: Global, stop: Stop) -> Result<Vec<u32>, AllocError>
         ensures memory { stop ≡ stops.Memory → IfOk result (λ name. name.items ≡ []) }
-        ensures name { (fault : Fault) (strand : Strand) (names : ℕ → Name) (place : ℕ) → stop ≡ stops.At fault strand → strand.frame ≡ suc place → AreNamed self.now.board.frames.items names → place < length self.now.board.frames.items
+        ensures name { (fault : Fault) (strand : Strand) (names : ℕ → Name) (place : ℕ) → stop ≡ stops.At fault strand → strand.frame ≡ suc place → AreNamed self.now.scheduler.frames.items names → place < length self.now.scheduler.frames.items
             → IfOk result (λ name. name.items ≡ names place ++ strand.number ∷ []) }
-        ensures strand { (p : Source) (fault : Fault) (strand : Strand) → stop ≡ stops.At fault strand → (h : HasFault self.now.code.now p self.now.input.now self.now.board fault strand) → IfOk result (λ name. NamesStop h.state name.items) }
+        ensures strand { (p : Source) (fault : Fault) (strand : Strand) → stop ≡ stops.At fault strand → (h : HasFault self.now.code.now p self.now.input.now self.now.scheduler fault strand) → IfOk result (λ name. NamesStop h.state name.items) }
     {
         let Stop::At { fault: _, strand } = stop else {
             return Ok(Vec::new(alloc));
         };
         let frame = (strand.frame as usize).saturating_sub(1);
-        let mut name = path(alloc, self.board.frames.as_slice(), frame)?;
+        let mut name = path(alloc, self.scheduler.frames.as_slice(), frame)?;
         name.push(strand.number)?;
         Ok(name)
     }
@@ -206,7 +210,7 @@ fn choose_all(alloc: Global, machine: &mut Machine<'_>, choices: &[Choice]) -> R
 fn named(alloc: Global, machine: &Machine<'_>, stop: Stop) -> (Stop, Vec<u32>)
     ensures unnamed { result.0 ≡ stops.Memory → result.1.items ≡ [] }
     ensures same { (result.0 ≡ stop) ⊎ (result.0 ≡ stops.Memory) }
-    ensures named { (p : Source) (fault : Fault) (strand : Strand) → result.0 ≡ stops.At fault strand → (h : HasFault machine.now.code.now p machine.now.input.now machine.now.board fault strand) → NamesStop h.state result.1.items }
+    ensures named { (p : Source) (fault : Fault) (strand : Strand) → result.0 ≡ stops.At fault strand → (h : HasFault machine.now.code.now p machine.now.input.now machine.now.scheduler fault strand) → NamesStop h.state result.1.items }
 {
     match machine.name(alloc, stop) {
         Ok(name) => (stop, name),

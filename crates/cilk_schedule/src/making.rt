@@ -25,68 +25,79 @@ use std::alloc::{AllocError, Global};
 pub fn make(
     alloc: Global,
     code: &Code,
-    board: &mut Scheduler,
+    scheduler: &mut Scheduler,
     worker: usize,
     place: u32,
 ) -> Result<Event, AllocError>
-    requires turn { (inputs : List ℤ) × IsTurn code.now inputs board.old place }
-    requires works { worker < length board.old.workers.items }
+    requires turn { (inputs : List ℤ) × IsTurn code.now inputs scheduler.old place }
+    requires works { worker < length scheduler.old.workers.items }
     requires low { worker < 2 ^ 32 }
-    ensures made { OnOk result (Makes code.now board.old board.new place) }
-    ensures rest { SameRest board.old board.new }
-    ensures outcome { OnErr result (board.new.outcome ≡ board.old.outcome) }
-    ensures stands { OnErr result (StandAsBefore board.old.frames.items board.new.frames.items) }
-    ensures touched { IfOk result (λ e. IsTouch e → Touched board.old board.new worker place e) }
-    ensures starts { IfOk result (λ e. IsStart e → Started code.now board.old board.new worker place e) }
-    ensures syncs { IfOk result (λ e. e ≡ events.Sync → (board.old.asked ≡ asks.Sync) × WhereOwnMayCome board.old.frames.items place (GoesBehind board.old board.new worker place)) }
-    ensures ends { IfOk result (λ e. e ≡ events.End → EndsFrame code.now board.old board.new worker place) }
+    ensures made { OnOk result (Makes code.now scheduler.old scheduler.new place) }
+    ensures rest { SameRest scheduler.old scheduler.new }
+    ensures outcome { OnErr result (scheduler.new.outcome ≡ scheduler.old.outcome) }
+    ensures stands { OnErr result (StandAsBefore scheduler.old.frames.items scheduler.new.frames.items) }
+    ensures touched { IfOk result (λ e. IsTouch e → Touched scheduler.old scheduler.new worker place e) }
+    ensures starts { IfOk result (λ e. IsStart e → Started code.now scheduler.old scheduler.new worker place e) }
+    ensures syncs { IfOk result (λ e. e ≡ events.Sync → (scheduler.old.asked ≡ asks.Sync) × WhereOwnMayCome scheduler.old.frames.items place (GoesBehind scheduler.old scheduler.new worker place)) }
+    ensures ends { IfOk result (λ e. e ≡ events.End → EndsFrame code.now scheduler.old scheduler.new worker place) }
 {
     let frame = place as usize;
-    let Some(brief) = board.asked.brief() else {
-        return start_function(alloc, code, board, worker, place);
+    let Some(small_ask) = scheduler.asked.small_ask() else {
+        return start_function(alloc, code, scheduler, worker, place);
     };
-    match *brief {
+    match *small_ask {
         SmallAsk::Begin => {
-            begin_strand(&mut board.frames, frame);
+            begin_strand(&mut scheduler.frames, frame);
             Ok(Event::Begin { frame: place + 1 })
         }
         SmallAsk::Resume => {
-            begin_strand(&mut board.frames, frame);
+            begin_strand(&mut scheduler.frames, frame);
             Ok(Event::Resume { parent: place + 1 })
         }
-        SmallAsk::Read(cell) => Ok(read(&mut board.frames, board.cells.as_slice(), frame, cell)),
+        SmallAsk::Read(cell) => Ok(read(
+            &mut scheduler.frames,
+            scheduler.cells.as_slice(),
+            frame,
+            cell,
+        )),
         SmallAsk::Write(cell, word) => {
-            Ok(write(&mut board.frames, &mut board.cells, frame, cell, word))
+            Ok(write(
+                &mut scheduler.frames,
+                &mut scheduler.cells,
+                frame,
+                cell,
+                word,
+            ))
         }
         SmallAsk::Result(word) => Ok(write_result(
-            &mut board.frames,
-            &mut board.cells,
+            &mut scheduler.frames,
+            &mut scheduler.cells,
             frame,
             word,
         )),
-        SmallAsk::Turns(how, part) => start_turns(alloc, code, board, worker, place, how, part),
-        SmallAsk::Sync => sync(alloc, board, worker, frame),
-        SmallAsk::End(word) => end(alloc, code, board, worker, frame, word),
+        SmallAsk::Turns(how, part) => start_turns(alloc, code, scheduler, worker, place, how, part),
+        SmallAsk::Sync => sync(alloc, scheduler, worker, frame),
+        SmallAsk::End(word) => end(alloc, code, scheduler, worker, frame, word),
         SmallAsk::Fault(_) => unreachable!(),
         SmallAsk::Create(reducer) => {
-            let views = &mut board.workers[worker].views;
-            create(alloc, &mut board.frames, views, frame, reducer)
+            let views = &mut scheduler.workers[worker].views;
+            create(alloc, &mut scheduler.frames, views, frame, reducer)
         }
         SmallAsk::Update(reducer, word) => {
-            let views = &mut board.workers[worker].views;
-            update(alloc, &mut board.frames, views, frame, reducer, word)
+            let views = &mut scheduler.workers[worker].views;
+            update(alloc, &mut scheduler.frames, views, frame, reducer, word)
         }
         SmallAsk::Set(reducer, word) => {
-            let views = &mut board.workers[worker].views;
-            set(alloc, &mut board.frames, views, frame, reducer, word)
+            let views = &mut scheduler.workers[worker].views;
+            set(alloc, &mut scheduler.frames, views, frame, reducer, word)
         }
         SmallAsk::Value(reducer) => {
-            let views = &mut board.workers[worker].views;
-            value(alloc, &mut board.frames, views, frame, reducer)
+            let views = &mut scheduler.workers[worker].views;
+            value(alloc, &mut scheduler.frames, views, frame, reducer)
         }
         SmallAsk::Print(word) => {
-            let views = &mut board.workers[worker].views;
-            print(alloc, &mut board.frames, views, frame, word)
+            let views = &mut scheduler.workers[worker].views;
+            print(alloc, &mut scheduler.frames, views, frame, word)
         }
     }
 }

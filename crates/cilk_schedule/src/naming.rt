@@ -149,11 +149,11 @@ pub fn path(
         if place == 0 {
             break;
         }
-        let Some(seat) = frames.get(place) else {
+        let Some(frame_state) = frames.get(place) else {
             break;
         };
-        path.push(seat.cursor.ordinal)?;
-        place = seat.cursor.parent as usize;
+        path.push(frame_state.cursor.ordinal)?;
+        place = frame_state.cursor.parent as usize;
     }
     path.reverse();
     Ok(path)

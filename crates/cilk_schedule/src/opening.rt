@@ -2,7 +2,7 @@
 
 ghost use Rattle.std.specs.Prelude.{◌≡◌, ◌+◌, ◌-◌, ◌≤◌, ◌<◌, ◌++◌, ℕ, ℤ, pos, List, None, Some, length, replicate, slice_get, IfOk, OnOk};
 ghost use Rattle.cilk_scheduler.specs.Parts.{OpensAs};
-ghost use Rattle.cilk_scheduler.specs.declared.frame_state.Worker as seat;
+ghost use Rattle.cilk_scheduler.specs.declared.frame_state.Worker as frame_state;
 ghost use Rattle.cilk_program.specs.Syntax.{Source};
 ghost use Rattle.cilk_schedule.specs.Reached.{HasOpened};
 ghost use Rattle.cilk_schedule.specs.Sound.{IsCode, IsCodeOf, Runs};
@@ -30,11 +30,11 @@ pub fn open(alloc: Global, code: &Code, workers: u32) -> Result<Scheduler, Alloc
     let layout = code.layout();
     let mut cells = Vec::from_slice(alloc, layout.openings.as_slice())?;
     add_cells(&mut cells, layout.function_cells(layout.main))?;
-    let seat = FrameState::new(0, 0, Invocation::Call, 0, Cursor::root(alloc, code)?);
+    let frame_state = FrameState::new(0, 0, Invocation::Call, 0, Cursor::root(alloc, code)?);
     let globals = layout.openings.len() as u32;
     let reducers = layout.reducers.len() as u32;
     let mut frames = Vec::new(alloc);
-    frames.push(root(alloc, seat, globals, reducers, layout.main))?;
+    frames.push(root(alloc, frame_state, globals, reducers, layout.main))?;
     Ok(Scheduler {
         frames,
         cells,
@@ -51,7 +51,7 @@ pub fn open(alloc: Global, code: &Code, workers: u32) -> Result<Scheduler, Alloc
 // All workers. The first one holds the first frame.
 fn first_workers(alloc: Global, count: u32) -> Result<Vec<Worker>, AllocError>
     ensures count { IfOk result (λ list. length list.items ≡ count) }
-    ensures opens { IfOk result (λ list. (v : ℕ) (u : seat.Worker) → slice_get list.items v ≡ Some u → OpensAs v u) }
+    ensures opens { IfOk result (λ list. (v : ℕ) (u : frame_state.Worker) → slice_get list.items v ≡ Some u → OpensAs v u) }
 {
     let mut workers = Vec::new(alloc);
     'each: for number in 0..count {

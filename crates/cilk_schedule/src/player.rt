@@ -136,7 +136,7 @@ fn choose(alloc: Global, machine: &mut Machine<'_>, choice: Choice) -> Result<()
 
 // The error that reports a stop.
 fn stopped(alloc: Global, machine: &Machine<'_>, stop: Stop) -> PlayFault
-    ensures { IsFaultOf machine.now.board stop result }
+    ensures { IsFaultOf machine.now.scheduler stop result }
 {
     let Stop::At { fault, strand: _ } = stop else {
         return PlayFault::Memory;

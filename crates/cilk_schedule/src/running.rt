@@ -44,41 +44,41 @@ pub fn choose(
     alloc: Global,
     code: &Code,
     input: &Input,
-    board: &mut Scheduler,
+    scheduler: &mut Scheduler,
     choice: Choice,
 ) -> Result<Told, Stop>
-    requires { board.old.stopped ≡ None → Runs code.now input.now board.old }
-    ensures runs { IfOk result (λ told. Runs code.now input.now board.new) }
-    ensures skipped { IfOk result (λ t. t ≡ told.Skipped → board.new ≡ board.old) }
-    ensures going { IfOk result (λ told. (board.old.stopped ≡ None) × (board.new.stopped ≡ None)) }
-    ensures stop { IfErr result (λ stop. board.new.stopped ≡ Some stop) }
-    ensures again { (stop : Stop) → board.old.stopped ≡ Some stop → (result ≡ Err stop) × (board.new ≡ board.old) }
-    ensures over { board.old.stopped ≡ None → board.old.outcome ≢ None → (result ≡ Ok told.Skipped) × (board.new ≡ board.old) }
-    ensures made { board.old.stopped ≡ None → board.old.outcome ≡ None → result ≡ Ok told.Skipped → CanChoose board.old choice → ⊥ }
-    ensures vain { board.old.stopped ≡ None → (CanChoose board.old choice → ⊥) → result ≡ Ok told.Skipped }
-    ensures journal { Writes result board.old.journal.items board.new.journal.items }
-    ensures steps { IfOk result (λ t. EventsAreSteps code.now input.now board.old board.new choice t) }
-    ensures starts { IfOk result (λ t. StartsAreSteps code.now input.now board.old board.new choice t) }
-    ensures thieves { IfOk result (λ t. StealsAreSteps code.now input.now board.old board.new choice t) }
-    ensures waits { IfOk result (λ t. WaitsAreSteps code.now input.now board.old board.new choice t) }
-    ensures syncs { IfOk result (λ t. SyncsAreSteps code.now input.now board.old board.new choice t) }
-    ensures skips { IfOk result (λ t. SkipsAreSteps code.now input.now board.old board.new choice t) }
-    ensures ends { IfOk result (λ t. EndsAreSteps code.now input.now board.old board.new choice t) }
-    ensures faults { IfErr result (λ stop. board.old.stopped ≡ None → FaultsAreStops code.now input.now board.old board.new choice stop) }
-    ensures kept { IfErr result (λ stop. board.old.stopped ≡ None → KeepsTold board.old board.new) }
+    requires { scheduler.old.stopped ≡ None → Runs code.now input.now scheduler.old }
+    ensures runs { IfOk result (λ told. Runs code.now input.now scheduler.new) }
+    ensures skipped { IfOk result (λ t. t ≡ told.Skipped → scheduler.new ≡ scheduler.old) }
+    ensures going { IfOk result (λ told. (scheduler.old.stopped ≡ None) × (scheduler.new.stopped ≡ None)) }
+    ensures stop { IfErr result (λ stop. scheduler.new.stopped ≡ Some stop) }
+    ensures again { (stop : Stop) → scheduler.old.stopped ≡ Some stop → (result ≡ Err stop) × (scheduler.new ≡ scheduler.old) }
+    ensures over { scheduler.old.stopped ≡ None → scheduler.old.outcome ≢ None → (result ≡ Ok told.Skipped) × (scheduler.new ≡ scheduler.old) }
+    ensures made { scheduler.old.stopped ≡ None → scheduler.old.outcome ≡ None → result ≡ Ok told.Skipped → CanChoose scheduler.old choice → ⊥ }
+    ensures vain { scheduler.old.stopped ≡ None → (CanChoose scheduler.old choice → ⊥) → result ≡ Ok told.Skipped }
+    ensures journal { Writes result scheduler.old.journal.items scheduler.new.journal.items }
+    ensures steps { IfOk result (λ t. EventsAreSteps code.now input.now scheduler.old scheduler.new choice t) }
+    ensures starts { IfOk result (λ t. StartsAreSteps code.now input.now scheduler.old scheduler.new choice t) }
+    ensures thieves { IfOk result (λ t. StealsAreSteps code.now input.now scheduler.old scheduler.new choice t) }
+    ensures waits { IfOk result (λ t. WaitsAreSteps code.now input.now scheduler.old scheduler.new choice t) }
+    ensures syncs { IfOk result (λ t. SyncsAreSteps code.now input.now scheduler.old scheduler.new choice t) }
+    ensures skips { IfOk result (λ t. SkipsAreSteps code.now input.now scheduler.old scheduler.new choice t) }
+    ensures ends { IfOk result (λ t. EndsAreSteps code.now input.now scheduler.old scheduler.new choice t) }
+    ensures faults { IfErr result (λ stop. scheduler.old.stopped ≡ None → FaultsAreStops code.now input.now scheduler.old scheduler.new choice stop) }
+    ensures kept { IfErr result (λ stop. scheduler.old.stopped ≡ None → KeepsTold scheduler.old scheduler.new) }
 {
-    if let Some(stop) = board.stopped {
+    if let Some(stop) = scheduler.stopped {
         return Err(stop);
     }
-    if board.outcome.is_some() {
+    if scheduler.outcome.is_some() {
         return Ok(Told::Skipped);
     }
     let told = match choice {
-        Choice::Run(worker) => run(alloc, code, input, board, worker),
-        Choice::Steal(worker, place) => steal(alloc, board, worker, place),
+        Choice::Run(worker) => run(alloc, code, input, scheduler, worker),
+        Choice::Steal(worker, place) => steal(alloc, scheduler, worker, place),
     };
     if let Err(stop) = told {
-        board.stopped = Some(stop);
+        scheduler.stopped = Some(stop);
     }
     told
 }
@@ -88,54 +88,54 @@ fn run(
     alloc: Global,
     code: &Code,
     input: &Input,
-    board: &mut Scheduler,
+    scheduler: &mut Scheduler,
     worker: u32,
 ) -> Result<Told, Stop>
-    requires { Runs code.now input.now board.old }
-    ensures runs { IfOk result (λ told. Runs code.now input.now board.new) }
-    ensures skipped { IfOk result (λ t. t ≡ told.Skipped → board.new ≡ board.old) }
-    ensures stopped { board.new.stopped ≡ board.old.stopped }
-    ensures made { (k : ℕ) → IsReadyAt board.old worker k → result ≡ Ok told.Skipped → ⊥ }
-    ensures vain { ((k : ℕ) → IsReadyAt board.old worker k → ⊥) → result ≡ Ok told.Skipped }
-    ensures journal { Writes result board.old.journal.items board.new.journal.items }
-    ensures steps { IfOk result (λ t. board.old.outcome ≡ None → EventsAreSteps code.now input.now board.old board.new (choices.Run worker) t) }
-    ensures starts { IfOk result (λ t. board.old.outcome ≡ None → StartsAreSteps code.now input.now board.old board.new (choices.Run worker) t) }
-    ensures thieves { IfOk result (λ t. StealsAreSteps code.now input.now board.old board.new (choices.Run worker) t) }
-    ensures waits { IfOk result (λ t. board.old.outcome ≡ None → WaitsAreSteps code.now input.now board.old board.new (choices.Run worker) t) }
-    ensures syncs { IfOk result (λ t. board.old.outcome ≡ None → SyncsAreSteps code.now input.now board.old board.new (choices.Run worker) t) }
-    ensures ends { IfOk result (λ t. board.old.outcome ≡ None → EndsAreSteps code.now input.now board.old board.new (choices.Run worker) t) }
-    ensures faults { IfErr result (λ stop. FaultsAreStops code.now input.now board.old board.new (choices.Run worker) stop) }
-    ensures kept { IfErr result (λ stop. KeepsTold board.old board.new) }
+    requires { Runs code.now input.now scheduler.old }
+    ensures runs { IfOk result (λ told. Runs code.now input.now scheduler.new) }
+    ensures skipped { IfOk result (λ t. t ≡ told.Skipped → scheduler.new ≡ scheduler.old) }
+    ensures stopped { scheduler.new.stopped ≡ scheduler.old.stopped }
+    ensures made { (k : ℕ) → IsReadyAt scheduler.old worker k → result ≡ Ok told.Skipped → ⊥ }
+    ensures vain { ((k : ℕ) → IsReadyAt scheduler.old worker k → ⊥) → result ≡ Ok told.Skipped }
+    ensures journal { Writes result scheduler.old.journal.items scheduler.new.journal.items }
+    ensures steps { IfOk result (λ t. scheduler.old.outcome ≡ None → EventsAreSteps code.now input.now scheduler.old scheduler.new (choices.Run worker) t) }
+    ensures starts { IfOk result (λ t. scheduler.old.outcome ≡ None → StartsAreSteps code.now input.now scheduler.old scheduler.new (choices.Run worker) t) }
+    ensures thieves { IfOk result (λ t. StealsAreSteps code.now input.now scheduler.old scheduler.new (choices.Run worker) t) }
+    ensures waits { IfOk result (λ t. scheduler.old.outcome ≡ None → WaitsAreSteps code.now input.now scheduler.old scheduler.new (choices.Run worker) t) }
+    ensures syncs { IfOk result (λ t. scheduler.old.outcome ≡ None → SyncsAreSteps code.now input.now scheduler.old scheduler.new (choices.Run worker) t) }
+    ensures ends { IfOk result (λ t. scheduler.old.outcome ≡ None → EndsAreSteps code.now input.now scheduler.old scheduler.new (choices.Run worker) t) }
+    ensures faults { IfErr result (λ stop. FaultsAreStops code.now input.now scheduler.old scheduler.new (choices.Run worker) stop) }
+    ensures kept { IfErr result (λ stop. KeepsTold scheduler.old scheduler.new) }
 {
-    let Some(frame) = ready(board, worker) else {
+    let Some(frame) = ready(scheduler, worker) else {
         return Ok(Told::Skipped);
     };
     let worker = worker as usize - 1;
-    come(code, input, board, frame);
-    if stays_behind(board, frame as usize) {
-        wait_at(alloc, board, worker, frame as usize)?;
+    come(code, input, scheduler, frame);
+    if stays_behind(scheduler, frame as usize) {
+        wait_at(alloc, scheduler, worker, frame as usize)?;
         return Ok(Told::Waits);
     }
-    if let Some(fault) = refused(code, board, frame as usize) {
-        return Err(stop_at(board.frames.as_slice(), frame, fault));
+    if let Some(fault) = refused(code, scheduler, frame as usize) {
+        return Err(stop_at(scheduler.frames.as_slice(), frame, fault));
     }
-    act(alloc, code, board, worker, frame)
+    act(alloc, code, scheduler, worker, frame)
 }
 
 // Steps the frame to its next request.
-fn come(code: &Code, input: &Input, board: &mut Scheduler, frame: u32)
-    requires runs { Runs code.now input.now board.old }
-    requires ready { (worker : ℕ) × IsReadyAt board.old worker frame }
-    ensures asked { IsAsked code.now input.now board.new frame }
-    ensures same { SameShown board.old board.new }
-    ensures went { WentTo code.now input.now board.old board.new frame }
+fn come(code: &Code, input: &Input, scheduler: &mut Scheduler, frame: u32)
+    requires runs { Runs code.now input.now scheduler.old }
+    requires ready { (worker : ℕ) × IsReadyAt scheduler.old worker frame }
+    ensures asked { IsAsked code.now input.now scheduler.new frame }
+    ensures same { SameShown scheduler.old scheduler.new }
+    ensures went { WentTo code.now input.now scheduler.old scheduler.new frame }
 {
     go_on(
         code,
         input,
-        &mut board.frames,
+        &mut scheduler.frames,
         frame as usize,
-        &mut board.asked,
+        &mut scheduler.asked,
     );
 }
 
@@ -143,32 +143,32 @@ fn come(code: &Code, input: &Input, board: &mut Scheduler, frame: u32)
 fn act(
     alloc: Global,
     code: &Code,
-    board: &mut Scheduler,
+    scheduler: &mut Scheduler,
     worker: usize,
     frame: u32,
 ) -> Result<Told, Stop>
-    requires asked { (inputs : List ℤ) × IsAsked code.now inputs board.old frame }
-    requires accepted { IsAccepted code.now board.old frame }
-    requires works { worker < length board.old.workers.items }
+    requires asked { (inputs : List ℤ) × IsAsked code.now inputs scheduler.old frame }
+    requires accepted { IsAccepted code.now scheduler.old frame }
+    requires works { worker < length scheduler.old.workers.items }
     requires low { worker < 2 ^ 32 }
-    ensures runs { IfOk result (λ told. (inputs : List ℤ) → IsAsked code.now inputs board.old frame → Runs code.now inputs board.new) }
+    ensures runs { IfOk result (λ told. (inputs : List ℤ) → IsAsked code.now inputs scheduler.old frame → Runs code.now inputs scheduler.new) }
     ensures did { IfOk result (λ t. (act : Act) × (t ≡ told.Did act)) }
-    ensures journal { Writes result board.old.journal.items board.new.journal.items }
-    ensures stopped { board.new.stopped ≡ board.old.stopped }
+    ensures journal { Writes result scheduler.old.journal.items scheduler.new.journal.items }
+    ensures stopped { scheduler.new.stopped ≡ scheduler.old.stopped }
     ensures synced { IfOk result (λ t. (e : Event) × (t ≡ told.Did (record { frame = frame + 1; event = e }))
-        × (e ≡ events.Sync → WroteSync board.old board.new worker frame)) }
-    ensures wrote { IfOk result (λ t. (e : Event) × (t ≡ told.Did (record { frame = frame + 1; event = e })) × (IsTouch e → Wrote board.old board.new worker frame e)) }
-    ensures starts { IfOk result (λ t. TellsStart code.now board.old board.new worker frame t) }
-    ensures ends { IfOk result (λ t. TellsEnd code.now board.old board.new worker frame t) }
+        × (e ≡ events.Sync → WroteSync scheduler.old scheduler.new worker frame)) }
+    ensures wrote { IfOk result (λ t. (e : Event) × (t ≡ told.Did (record { frame = frame + 1; event = e })) × (IsTouch e → Wrote scheduler.old scheduler.new worker frame e)) }
+    ensures starts { IfOk result (λ t. TellsStart code.now scheduler.old scheduler.new worker frame t) }
+    ensures ends { IfOk result (λ t. TellsEnd code.now scheduler.old scheduler.new worker frame t) }
     ensures memory { IfErr result (λ stop. stop ≡ stops.Memory) }
-    ensures kept { IfErr result (λ stop. KeepsTold board.old board.new) }
+    ensures kept { IfErr result (λ stop. KeepsTold scheduler.old scheduler.new) }
 {
-    board.journal.reserve(1)?;
-    let event = make(alloc, code, board, worker, frame)?;
-    board.ticks = note(
-        &mut board.frames,
-        &mut board.journal,
-        board.ticks,
+    scheduler.journal.reserve(1)?;
+    let event = make(alloc, code, scheduler, worker, frame)?;
+    scheduler.ticks = note(
+        &mut scheduler.frames,
+        &mut scheduler.journal,
+        scheduler.ticks,
         frame,
         event,
     );
@@ -179,26 +179,26 @@ fn act(
 }
 
 // The place of the frame that a worker holds and can continue.
-fn ready(board: &Scheduler, worker: u32) -> Option<u32>
-    ensures { MatchOption result ((k : ℕ) → IsReadyAt board.now worker k → ⊥) (λ k. IsReadyAt board.now worker k) }
+fn ready(scheduler: &Scheduler, worker: u32) -> Option<u32>
+    ensures { MatchOption result ((k : ℕ) → IsReadyAt scheduler.now worker k → ⊥) (λ k. IsReadyAt scheduler.now worker k) }
 {
-    let frame = held_by(board.workers.as_slice(), worker)?;
-    let seat = board.frames.get(frame as usize)?;
-    if seat.cursor.cursor.is_none() {
+    let frame = held_by(scheduler.workers.as_slice(), worker)?;
+    let frame_state = scheduler.frames.get(frame as usize)?;
+    if frame_state.cursor.cursor.is_none() {
         return None;
     }
     Some(frame)
 }
 
 // Whether the frame is at a sync at which it has to wait.
-fn stays_behind(board: &Scheduler, frame: usize) -> bool
-    requires { frame < length board.now.frames.items }
-    ensures waits { IsTrue result → (board.now.asked ≡ asks.Sync)
-        × ((a : Activation FrameState) → slice_get board.now.frames.items frame ≡ Some a → must_wait a.cursor ≡ true) }
-    ensures passes { result ≡ false → board.now.asked ≡ asks.Sync
-        → (a : Activation FrameState) → slice_get board.now.frames.items frame ≡ Some a → must_wait a.cursor ≡ false }
+fn stays_behind(scheduler: &Scheduler, frame: usize) -> bool
+    requires { frame < length scheduler.now.frames.items }
+    ensures waits { IsTrue result → (scheduler.now.asked ≡ asks.Sync)
+        × ((a : Activation FrameState) → slice_get scheduler.now.frames.items frame ≡ Some a → must_wait a.cursor ≡ true) }
+    ensures passes { result ≡ false → scheduler.now.asked ≡ asks.Sync
+        → (a : Activation FrameState) → slice_get scheduler.now.frames.items frame ≡ Some a → must_wait a.cursor ≡ false }
 {
-    at_sync(&board.asked) && must_wait(board.frames.as_slice(), frame)
+    at_sync(&scheduler.asked) && must_wait(scheduler.frames.as_slice(), frame)
 }
 
 // Whether a sync is requested.
@@ -206,29 +206,29 @@ fn at_sync(asked: &AskSlot) -> bool
     ensures is { IsTrue result → asked.now ≡ asks.Sync }
     ensures told { asked.now ≡ asks.Sync → result ≡ true }
 {
-    match asked.brief() {
+    match asked.small_ask() {
         Some(SmallAsk::Sync) => true,
         _ => false,
     }
 }
 
 // The fault that comes instead of the requested event, if any.
-fn refused(code: &Code, board: &Scheduler, frame: usize) -> Option<Fault>
-    requires here { frame < length board.now.frames.items }
-    requires few { (a : Activation FrameState) → slice_get board.now.frames.items frame ≡ Some a → (a.cursor.counted ≤ a.cursor.took) × (board.now.ticks + a.cursor.took < 2 ^ 32) }
-    requires events { length board.now.journal.items < 2 ^ 63 }
-    requires frames { length board.now.frames.items < 2 ^ 63 }
-    requires cells { length board.now.cells.items < 2 ^ 63 }
-    ensures { (a : Activation FrameState) → slice_get board.now.frames.items frame ≡ Some a → result ≡ refusal (board.now.ticks + (a.cursor.took - a.cursor.counted)) (length board.now.journal.items) (length board.now.frames.items) (length board.now.cells.items) code.now.layout board.now.asked }
+fn refused(code: &Code, scheduler: &Scheduler, frame: usize) -> Option<Fault>
+    requires here { frame < length scheduler.now.frames.items }
+    requires few { (a : Activation FrameState) → slice_get scheduler.now.frames.items frame ≡ Some a → (a.cursor.counted ≤ a.cursor.took) × (scheduler.now.ticks + a.cursor.took < 2 ^ 32) }
+    requires events { length scheduler.now.journal.items < 2 ^ 63 }
+    requires frames { length scheduler.now.frames.items < 2 ^ 63 }
+    requires cells { length scheduler.now.cells.items < 2 ^ 63 }
+    ensures { (a : Activation FrameState) → slice_get scheduler.now.frames.items frame ≡ Some a → result ≡ refusal (scheduler.now.ticks + (a.cursor.took - a.cursor.counted)) (length scheduler.now.journal.items) (length scheduler.now.frames.items) (length scheduler.now.cells.items) code.now.layout scheduler.now.asked }
 {
-    let ticks = board.ticks + uncounted(board.frames.as_slice(), frame);
+    let ticks = scheduler.ticks + uncounted(scheduler.frames.as_slice(), frame);
     refusal(
         ticks,
-        board.journal.len(),
-        board.frames.len(),
-        board.cells.len(),
+        scheduler.journal.len(),
+        scheduler.frames.len(),
+        scheduler.cells.len(),
         code.layout(),
-        &board.asked,
+        &scheduler.asked,
     )
 }
 

@@ -140,16 +140,16 @@ fn joins_child(events: &[ShownEvent], ordinal: u32) -> bool
 
 /// Returns what the scheduler's state shows. The first `globals` cells are global. The time is
 /// linear in frames and events, apart from a binary search for the frame of each cell.
-pub fn show(alloc: Global, board: &Scheduler, globals: usize) -> Result<Shown, AllocError>
-    ensures outcome { IfOk result (λ shown. shown.outcome ≡ board.now.outcome) }
-    ensures links { IfOk result (λ shown. links_in shown.frames.items ≡ links_of board.now.frames.items) }
-    ensures run { IfOk result (ShowsScheduler globals board.now) }
+pub fn show(alloc: Global, scheduler: &Scheduler, globals: usize) -> Result<Shown, AllocError>
+    ensures outcome { IfOk result (λ shown. shown.outcome ≡ scheduler.now.outcome) }
+    ensures links { IfOk result (λ shown. links_in shown.frames.items ≡ links_of scheduler.now.frames.items) }
+    ensures run { IfOk result (ShowsScheduler globals scheduler.now) }
 {
-    let mut frames = links(alloc, board.frames.as_slice())?;
-    'each: for entry in board.journal.as_slice() {
-        place(board.frames.as_slice(), globals, &mut frames, *entry)?;
+    let mut frames = links(alloc, scheduler.frames.as_slice())?;
+    'each: for entry in scheduler.journal.as_slice() {
+        place(scheduler.frames.as_slice(), globals, &mut frames, *entry)?;
     }
-    let outcome = left(alloc, &board.outcome)?;
+    let outcome = left(alloc, &scheduler.outcome)?;
     Ok(Shown { frames, outcome })
 }
 

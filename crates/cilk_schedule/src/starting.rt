@@ -22,61 +22,68 @@ use std::alloc::{AllocError, Global};
 pub fn start_function(
     alloc: Global,
     code: &Code,
-    board: &mut Scheduler,
+    scheduler: &mut Scheduler,
     worker: usize,
     frame: u32,
 ) -> Result<Event, AllocError>
-    requires turn { (inputs : List ℤ) × IsTurn code.now inputs board.old frame }
-    requires works { worker < length board.old.workers.items }
+    requires turn { (inputs : List ℤ) × IsTurn code.now inputs scheduler.old frame }
+    requires works { worker < length scheduler.old.workers.items }
     requires low { worker < 2 ^ 32 }
-    requires begins { IsFunctionCall board.old.asked }
-    ensures made { OnOk result (Makes code.now board.old board.new frame) }
-    ensures rest { SameRest board.old board.new }
-    ensures outcome { board.new.outcome ≡ board.old.outcome }
-    ensures same { OnErr result (board.new.frames.items ≡ board.old.frames.items) }
+    requires begins { IsFunctionCall scheduler.old.asked }
+    ensures made { OnOk result (Makes code.now scheduler.old scheduler.new frame) }
+    ensures rest { SameRest scheduler.old scheduler.new }
+    ensures outcome { scheduler.new.outcome ≡ scheduler.old.outcome }
+    ensures same { OnErr result (scheduler.new.frames.items ≡ scheduler.old.frames.items) }
     ensures event { IfOk result (λ e. IsTouch e → ⊥) }
     ensures kind { IfOk result (λ e. e ≡ events.Sync → ⊥) }
-    ensures starts { IfOk result (λ e. Started code.now board.old board.new worker frame e) }
+    ensures starts { IfOk result (λ e. Started code.now scheduler.old scheduler.new worker frame e) }
 {
-    let (how, call) = board.asked.invocation();
+    let (how, call) = scheduler.asked.invocation();
     let count = code.layout().function_cells(call.function);
     let starter = Starter {
         frame,
         worker: worker as u32,
-        base: board.cells.len() as u32,
+        base: scheduler.cells.len() as u32,
     };
-    let child = function_child(alloc, code, board.frames.as_slice(), starter, how, call)?;
-    begin(board, worker as u32, frame, how, child, count)
+    let child = function_child(alloc, code, scheduler.frames.as_slice(), starter, how, call)?;
+    begin(scheduler, worker as u32, frame, how, child, count)
 }
 
 /// Begins the frame of the loop turns that are called or spawned.
 pub fn start_turns(
     alloc: Global,
     code: &Code,
-    board: &mut Scheduler,
+    scheduler: &mut Scheduler,
     worker: usize,
     frame: u32,
     how: Invocation,
     part: LoopPart,
 ) -> Result<Event, AllocError>
-    requires turn { (inputs : List ℤ) × IsTurn code.now inputs board.old frame }
-    requires works { worker < length board.old.workers.items }
+    requires turn { (inputs : List ℤ) × IsTurn code.now inputs scheduler.old frame }
+    requires works { worker < length scheduler.old.workers.items }
     requires low { worker < 2 ^ 32 }
-    requires begins { board.old.asked ≡ asks.Invoke how (callees.Loop part) }
-    ensures made { OnOk result (Makes code.now board.old board.new frame) }
-    ensures rest { SameRest board.old board.new }
-    ensures outcome { board.new.outcome ≡ board.old.outcome }
-    ensures same { OnErr result (board.new.frames.items ≡ board.old.frames.items) }
+    requires begins { scheduler.old.asked ≡ asks.Invoke how (callees.Loop part) }
+    ensures made { OnOk result (Makes code.now scheduler.old scheduler.new frame) }
+    ensures rest { SameRest scheduler.old scheduler.new }
+    ensures outcome { scheduler.new.outcome ≡ scheduler.old.outcome }
+    ensures same { OnErr result (scheduler.new.frames.items ≡ scheduler.old.frames.items) }
     ensures event { IfOk result (λ e. IsTouch e → ⊥) }
     ensures kind { IfOk result (λ e. e ≡ events.Sync → ⊥) }
-    ensures starts { IfOk result (λ e. Started code.now board.old board.new worker frame e) }
+    ensures starts { IfOk result (λ e. Started code.now scheduler.old scheduler.new worker frame e) }
 {
     let count = code.layout().part_cells(&part);
     let starter = Starter {
         frame,
         worker: worker as u32,
-        base: board.cells.len() as u32,
+        base: scheduler.cells.len() as u32,
     };
-    let child = turns_child(alloc, code, board.frames.as_slice(), starter, how, &part)?;
-    begin(board, worker as u32, frame, how, child, count)
+    let child = turns_child(
+        alloc,
+        code,
+        scheduler.frames.as_slice(),
+        starter,
+        how,
+        &part,
+    )?;
+    begin(scheduler, worker as u32, frame, how, child, count)
 }

@@ -31,30 +31,40 @@ use std::alloc::{AllocError, Global};
 
 /// Lets an idle worker steal the continuation at this place among all that are offered. The thief
 /// begins with no views. A steal that isn't possible is skipped.
-pub fn steal(alloc: Global, board: &mut Scheduler, worker: u32, place: usize) -> Result<Told, Stop>
-    requires { (code : CodeView) × (inputs : List ℤ) × Runs code inputs board.old }
-    ensures runs { IfOk result (λ told. (code : CodeView) (inputs : List ℤ) → Runs code inputs board.old → Runs code inputs board.new) }
-    ensures skipped { IfOk result (λ t. t ≡ told.Skipped → board.new ≡ board.old) }
-    ensures outcome { board.new.outcome ≡ board.old.outcome }
-    ensures stopped { board.new.stopped ≡ board.old.stopped }
-    ensures journal { board.new.journal ≡ board.old.journal }
+pub fn steal(
+    alloc: Global,
+    scheduler: &mut Scheduler,
+    worker: u32,
+    place: usize,
+) -> Result<Told, Stop>
+    requires { (code : CodeView) × (inputs : List ℤ) × Runs code inputs scheduler.old }
+    ensures runs { IfOk result (λ told. (code : CodeView) (inputs : List ℤ) → Runs code inputs scheduler.old → Runs code inputs scheduler.new) }
+    ensures skipped { IfOk result (λ t. t ≡ told.Skipped → scheduler.new ≡ scheduler.old) }
+    ensures outcome { scheduler.new.outcome ≡ scheduler.old.outcome }
+    ensures stopped { scheduler.new.stopped ≡ scheduler.old.stopped }
+    ensures journal { scheduler.new.journal ≡ scheduler.old.journal }
     ensures kind { IfOk result (λ t. (t ≡ told.Stole) ⊎ (t ≡ told.Skipped)) }
-    ensures made { (k : ℕ) → CanSteal board.old worker place k → result ≡ Ok told.Skipped → ⊥ }
-    ensures vain { ((k : ℕ) → CanSteal board.old worker place k → ⊥) → result ≡ Ok told.Skipped }
-    ensures thieves { IfOk result (λ t. board.old.outcome ≡ None → (code : CodeView) (inputs : List ℤ)
-        → StealsAreSteps code inputs board.old board.new (choices.Steal worker place) t) }
+    ensures made { (k : ℕ) → CanSteal scheduler.old worker place k → result ≡ Ok told.Skipped → ⊥ }
+    ensures vain { ((k : ℕ) → CanSteal scheduler.old worker place k → ⊥) → result ≡ Ok told.Skipped }
+    ensures thieves { IfOk result (λ t. scheduler.old.outcome ≡ None → (code : CodeView) (inputs : List ℤ)
+        → StealsAreSteps code inputs scheduler.old scheduler.new (choices.Steal worker place) t) }
     ensures memory { IfErr result (λ stop. stop ≡ stops.Memory) }
-    ensures kept { IfErr result (λ stop. KeepsTold board.old board.new) }
+    ensures kept { IfErr result (λ stop. KeepsTold scheduler.old scheduler.new) }
 {
-    let Some(found) = find(board, worker, place) else {
+    let Some(found) = find(scheduler, worker, place) else {
         return Ok(Told::Skipped);
     };
-    rob_at(alloc, &mut board.frames, found.frame as usize)?;
+    rob_at(alloc, &mut scheduler.frames, found.frame as usize)?;
     let thief = worker as usize - 1;
-    withdraw_at(&mut board.workers, found.victim, found.index);
-    clear(alloc, &mut board.workers, thief);
-    board.offered -= 1;
-    hold(&mut board.frames, &mut board.workers, thief, found.frame);
+    withdraw_at(&mut scheduler.workers, found.victim, found.index);
+    clear(alloc, &mut scheduler.workers, thief);
+    scheduler.offered -= 1;
+    hold(
+        &mut scheduler.frames,
+        &mut scheduler.workers,
+        thief,
+        found.frame,
+    );
     Ok(Told::Stole)
 }
 
@@ -68,18 +78,18 @@ struct Offer {
 }
 
 // The continuation at this place among all, if the worker is idle and may steal it.
-fn find(board: &Scheduler, worker: u32, place: usize) -> Option<Offer>
-    ensures can { MatchOption result ((k : ℕ) → CanSteal board.now worker place k → ⊥) (λ found. CanSteal board.now worker place found.frame) }
-    ensures stands { IfSome result (λ found. (g : IsLocated board.now.workers.items place found.victim found.index) × (g.1 ≡ found.frame)) }
+fn find(scheduler: &Scheduler, worker: u32, place: usize) -> Option<Offer>
+    ensures can { MatchOption result ((k : ℕ) → CanSteal scheduler.now worker place k → ⊥) (λ found. CanSteal scheduler.now worker place found.frame) }
+    ensures stands { IfSome result (λ found. (g : IsLocated scheduler.now.workers.items place found.victim found.index) × (g.1 ≡ found.frame)) }
 {
-    if !is_idle(board.workers.as_slice(), worker) || place >= board.offered {
+    if !is_idle(scheduler.workers.as_slice(), worker) || place >= scheduler.offered {
         return None;
     }
-    let (victim, index) = locate(board.workers.as_slice(), place)?;
-    let Some(frame) = offered_at(board.workers.as_slice(), victim, index) else {
+    let (victim, index) = locate(scheduler.workers.as_slice(), place)?;
+    let Some(frame) = offered_at(scheduler.workers.as_slice(), victim, index) else {
         return None;
     };
-    if !may_steal(board.frames.as_slice(), frame as usize) {
+    if !may_steal(scheduler.frames.as_slice(), frame as usize) {
         return None;
     }
     Some(Offer {
@@ -121,11 +131,11 @@ fn may_steal(frames: &[Activation<FrameState>], frame: usize) -> bool
     ensures yes { IsTrue result → (a : Activation FrameState) × (slice_get frames.now frame ≡ Some a) × IsOpen (block_in a.cursor.join) a.cursor.children }
     ensures no { (a : Activation FrameState) → slice_get frames.now frame ≡ Some a → IsOpen (block_in a.cursor.join) a.cursor.children → result ≡ true }
 {
-    let Some(seat) = frames.get(frame) else {
+    let Some(frame_state) = frames.get(frame) else {
         return false;
     };
-    let key = seat.cursor.children;
-    match &seat.cursor.join {
+    let key = frame_state.cursor.children;
+    match &frame_state.cursor.join {
         Some(join) => join.open(key),
         None => key > 0,
     }

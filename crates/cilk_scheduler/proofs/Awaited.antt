@@ -51,26 +51,26 @@ module _ (code : CodeView) (p : Source) (inputs : List ℤ) (name : ℕ → Name
   abbrev sh : ShowsBy code p inputs name b d s
   sh = is_shown.shows
 
-  abbrev seats : List (Activation FrameState)
-  seats = let f = b.frames in f.items
+  abbrev frame_states : List (Activation FrameState)
+  frame_states = let f = b.frames in f.items
 
-  abbrev seat : FrameState
-  seat = let a = h.seat in a.cursor
+  abbrev frame_state : FrameState
+  frame_state = let a = h.frame_state in a.cursor
 
   abbrev up : ℕ
-  up = let a = h.seat in let x = a.cursor in x.parent
+  up = let a = h.frame_state in let x = a.cursor in x.parent
 
   abbrev ordinal : ℕ
-  ordinal = let a = h.seat in let x = a.cursor in x.ordinal
+  ordinal = let a = h.frame_state in let x = a.cursor in x.ordinal
 
   child_is : (up < suc k) × (name (suc k) ≡ name up ++ ordinal ∷ [])
-  child_is = let y = sh in let t = y.tells in let n = t.named in n.child k h.seat h.sits
+  child_is = let y = sh in let t = y.tells in let n = t.named in n.child k h.frame_state h.sits
 
-  low : up < length seats
-  low = let c = child_is in let first = c.0 in let last = get_low seats (suc k) h.seat h.sits in omega (arith, first, last)
+  low : up < length frame_states
+  low = let c = child_is in let first = c.0 in let last = get_low frame_states (suc k) h.frame_state h.sits in omega (arith, first, last)
 
-  above_at : (a : Activation FrameState) × (slice_get seats up ≡ Some a)
-  above_at = get_some seats up low
+  above_at : (a : Activation FrameState) × (slice_get frame_states up ≡ Some a)
+  above_at = get_some frame_states up low
 
   no_sync : asks.End v ≡ asks.Sync → ⊥
   no_sync q = cc
@@ -78,7 +78,7 @@ module _ (code : CodeView) (p : Source) (inputs : List ℤ) (name : ℕ → Name
   here : (f : Frame FrameEnv) × (s.frames (name (suc k)) ≡ Some f) × (has_ended f.deeds ≡ false)
   here =
       let y = sh in
-      let o = y.sits (suc k) h.seat h.sits in
+      let o = y.sits (suc k) h.frame_state h.sits in
       (o.frame, o.here, stepped.goes code p inputs name b d s w (suc k) (asks.End v) is_shown.lays sh h no_sync)
 
   under : IsUnder s (name up) ordinal
@@ -87,18 +87,18 @@ module _ (code : CodeView) (p : Source) (inputs : List ℤ) (name : ℕ → Name
   not_ended : has_ended (deeds_at (s.frames (name up ++ ordinal ∷ []))) ≡ false
   not_ended = let c = child_is in let f = here in ap (λ n. has_ended (deeds_at (s.frames n))) (sym c.1) ∙ ap (λ x. has_ended (deeds_at x)) f.1 ∙ f.2
 
-  module _ (stolen : seat.stolen ≡ true) (a : Activation FrameState) (at : slice_get seats up ≡ Some a) where
+  module _ (stolen : frame_state.stolen ≡ true) (a : Activation FrameState) (at : slice_get frame_states up ≡ Some a) where
     abbrev parent : FrameState
     parent = a.cursor
 
     abbrev sitting : Sits code p inputs name b s up a
-    sitting = let y = is_shown.shows in y.sits (let c = h.seat in let x = c.cursor in x.parent) a at
+    sitting = let y = is_shown.shows in y.sits (let c = h.frame_state in let x = c.cursor in x.parent) a at
 
     abbrev deeds : List (Deed FrameEnv)
-    deeds = let o = (let y = is_shown.shows in y.sits (let c = h.seat in let x = c.cursor in x.parent) a at) in let f = o.frame in f.deeds
+    deeds = let o = (let y = is_shown.shows in y.sits (let c = h.frame_state in let x = c.cursor in x.parent) a at) in let f = o.frame in f.deeds
 
     flag : s.stolen (name up ++ ordinal ∷ []) ≡ true
-    flag = let y = sh in let o = y.sits (suc k) h.seat h.sits in let c = child_is in ap s.stolen (sym c.1) ∙ o.stolen ∙ stolen
+    flag = let y = sh in let o = y.sits (suc k) h.frame_state h.sits in let c = child_is in ap s.stolen (sym c.1) ∙ o.stolen ∙ stolen
 
     parent_is : (let o = sitting in o.frame) ≡ (let u = under in u.parent)
     parent_is = let u = under in let o = sitting in let q : Some o.frame ≡ Some u.parent = sym o.here ∙ u.here in cc
@@ -163,7 +163,7 @@ may_arrive code p inputs name b d s w k v is_shown outlive h =
       r.1,
       (λ stolen.
           let y = is_shown.shows in
-          let a = h.seat in
+          let a = h.frame_state in
           let x = a.cursor in
           let o = y.sits x.parent r.0 r.1 in
           arrives_at code p inputs name b d s w k v is_shown outlive h stolen r.0 r.1 (o.block (going code p inputs name b d s w k v is_shown outlive h stolen r.0 r.1))),

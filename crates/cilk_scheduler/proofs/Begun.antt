@@ -44,13 +44,13 @@ module _ (code : CodeView) (p : Source) (inputs : List ℤ) (b went begun b' : S
   same_length = ap (λ (l : List (Activation FrameState)). length l) gone.frames ∙ changed_length (λ _. h.came) old k
 
   low_on : k < length on
-  low_on = let e = same_length in let l = get_low old k h.seat h.sits in omega (arith, e, l)
+  low_on = let e = same_length in let l = get_low old k h.frame_state h.sits in omega (arith, e, l)
 
   abbrev top : Activation FrameState
-  top = let a = h.seat in record a { cursor = h.came }
+  top = let a = h.frame_state in record a { cursor = h.came }
 
   top_at : slice_get on k ≡ Some top
-  top_at = ap (λ l. slice_get l k) gone.frames ∙ changed_here (λ _. h.came) old k h.seat h.sits
+  top_at = ap (λ l. slice_get l k) gone.frames ∙ changed_here (λ _. h.came) old k h.frame_state h.sits
 
   abbrev start : ℕ → FrameState → FrameState
   start n x = counted (started_at (left_at how w) n x)

@@ -108,28 +108,28 @@ module _ (old new : List (Activation FrameState)) (on : Carries old new) where
     deeds_on t (d ∷ ds) (e ∷ es) h = (deed_on t d e h.0, deeds_on t ds es h.1)
 
 module _ (code : CodeView) (p : Source) (inputs : List ℤ) (name : ℕ → Name) (b b' : Scheduler) (s s' : State FrameEnv View) where
-  abbrev old_seats : List (Activation FrameState)
-  old_seats = let f = b.frames in f.items
+  abbrev old_frame_states : List (Activation FrameState)
+  old_frame_states = let f = b.frames in f.items
 
-  abbrev new_seats : List (Activation FrameState)
-  new_seats = let f = b'.frames in f.items
+  abbrev new_frame_states : List (Activation FrameState)
+  new_frame_states = let f = b'.frames in f.items
 
-  pub seen_on : Carries old_seats new_seats → ((m : Name) (q : ℕ) → q < size_of p (s.frames m) → q < size_of p (s'.frames m)) → (a : Activation FrameState) (y : FrameState) (v : FrameEnv) → Seen code p inputs name b s a v
+  pub seen_on : Carries old_frame_states new_frame_states → ((m : Name) (q : ℕ) → q < size_of p (s.frames m) → q < size_of p (s'.frames m)) → (a : Activation FrameState) (y : FrameState) (v : FrameEnv) → Seen code p inputs name b s a v
       → Seen code p inputs name b' s' (record a { cursor = y }) v
   seen_on on sizes a y v h = record {
     scope = h.scope;
     target = h.target;
     names = h.names;
-    numbers = scope_on old_seats new_seats on a y (numbers_in h.scope) h.numbers;
+    numbers = scope_on old_frame_states new_frame_states on a y (numbers_in h.scope) h.numbers;
     goes_to = h.goes_to;
     lies_at = h.lies_at;
-    sees = frame_more p global_cell global_both (λ (c : CellBoth). IsCell p old_seats name s c.0 c.1) (λ (c : CellBoth). IsCell p new_seats name s' c.0 c.1)
-        (λ (r : ReducerBoth) (q : MonoidKind). (kind_of (r.0 q) ≡ q) × IsInstance p old_seats name (r.0 q) r.1) (λ (r : ReducerBoth) (q : MonoidKind). (kind_of (r.0 q) ≡ q) × IsInstance p new_seats name (r.0 q) r.1)
-        (λ c g. cell_on old_seats new_seats on name p s s' sizes c.0 c.1 g) (λ r q g. (g.0, instance_on old_seats new_seats on name p s s' sizes (r.0 q) r.1 g.1)) v.callee h.scope h.target h.sees;
+    sees = frame_more p global_cell global_both (λ (c : CellBoth). IsCell p old_frame_states name s c.0 c.1) (λ (c : CellBoth). IsCell p new_frame_states name s' c.0 c.1)
+        (λ (r : ReducerBoth) (q : MonoidKind). (kind_of (r.0 q) ≡ q) × IsInstance p old_frame_states name (r.0 q) r.1) (λ (r : ReducerBoth) (q : MonoidKind). (kind_of (r.0 q) ≡ q) × IsInstance p new_frame_states name (r.0 q) r.1)
+        (λ c g. cell_on old_frame_states new_frame_states on name p s s' sizes c.0 c.1 g) (λ r q g. (g.0, instance_on old_frame_states new_frame_states on name p s s' sizes (r.0 q) r.1 g.1)) v.callee h.scope h.target h.sees;
   }
 
   -- the pieces of children that have ended stay, with the flags of the block
-  pub keeps_on : length new_seats ≡ length old_seats → ((i : Instance) (j : numbered.Instance) → IsInstance p new_seats name i j → IsInstance p old_seats name i j) → (n : Name) (ds ds' : List (Deed FrameEnv)) (j : JoinView)
+  pub keeps_on : length new_frame_states ≡ length old_frame_states → ((i : Instance) (j : numbered.Instance) → IsInstance p new_frame_states name i j → IsInstance p old_frame_states name i j) → (n : Name) (ds ds' : List (Deed FrameEnv)) (j : JoinView)
       → stolen_at_block code p inputs name b' s' n ds' ≡ stolen_at_block code p inputs name b s n ds → ((q : ℕ) → has_ended (deeds_at (s'.frames (n ++ q ∷ []))) ≡ has_ended (deeds_at (s.frames (n ++ q ∷ []))))
       → ((i : Instance) (q : ℕ) → has_ended (deeds_at (s.frames (n ++ q ∷ []))) ≡ true → s'.piece (n ++ q ∷ []) i ≡ s.piece (n ++ q ∷ []) i)
       → ((i : Instance) → cond j.closed (s'.piece n i) (unit_of monoid_of i) ≡ cond j.closed (s.piece n i) (unit_of monoid_of i)) → Keeps code p inputs name b s n ds j → Keeps code p inputs name b' s' n ds' j

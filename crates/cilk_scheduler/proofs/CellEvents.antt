@@ -46,7 +46,7 @@ module _ (code : CodeView) (p : Source) (inputs : List ℤ) where
   pub reads : ReadsAreShown code p inputs
   reads name b b' d s w k x n v t h means at notes =
       let sh = t.shows in
-      let o = sh.sits k h.seat h.sits in
+      let o = sh.sits k h.frame_state h.sits in
       let f = o.frame in
       let u = h.worker in
       let y = h.came in
@@ -91,7 +91,7 @@ module _ (code : CodeView) (p : Source) (inputs : List ℤ) where
   pub writes : WritesAreShown code p inputs
   writes name b b' d s w k x n v t h means notes =
       let sh = t.shows in
-      let o = sh.sits k h.seat h.sits in
+      let o = sh.sits k h.frame_state h.sits in
       let f = o.frame in
       let u = h.worker in
       let y = h.came in
@@ -112,7 +112,7 @@ module _ (code : CodeView) (p : Source) (inputs : List ℤ) where
   pub results : ResultsAreShown code p inputs
   results name b b' d s w k n v t h lies notes =
       let sh = t.shows in
-      let o = sh.sits k h.seat h.sits in
+      let o = sh.sits k h.frame_state h.sits in
       let f = o.frame in
       let u = h.worker in
       let y = h.came in

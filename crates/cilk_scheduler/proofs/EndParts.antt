@@ -66,32 +66,32 @@ module _ (code : CodeView) (p : Source) (inputs : List ℤ) where
   -- ---- a frame that is finished
 
   module _ (b b' : Scheduler) (w k : ℕ) (v : ℤ) (h : HasCome code p inputs b w k (asks.End v)) (went : List (Activation FrameState)) (views : Hypermap) (r : HasRetired code p inputs b w k v h went views) where
-    abbrev old_seats : List (Activation FrameState)
-    old_seats = let f = b.frames in f.items
+    abbrev old_frame_states : List (Activation FrameState)
+    old_frame_states = let f = b.frames in f.items
 
-    top_at : slice_get went k ≡ Some (let a = h.seat in record a { cursor = h.came })
-    top_at = ap (λ l. slice_get l k) r.goes ∙ changed_here (λ _. h.came) old_seats k h.seat h.sits
+    top_at : slice_get went k ≡ Some (let a = h.frame_state in record a { cursor = h.came })
+    top_at = ap (λ l. slice_get l k) r.goes ∙ changed_here (λ _. h.came) old_frame_states k h.frame_state h.sits
 
     -- another frame stays where this one has gone on
-    else_went : (j : ℕ) (a : Activation FrameState) → (k ≡ j → ⊥) → slice_get went j ≡ Some a → slice_get old_seats j ≡ Some a
-    else_went j a ne at = sym (changed_off (λ _. h.came) old_seats k j ne) ∙ ap (λ l. slice_get l j) (sym r.goes) ∙ at
+    else_went : (j : ℕ) (a : Activation FrameState) → (k ≡ j → ⊥) → slice_get went j ≡ Some a → slice_get old_frame_states j ≡ Some a
+    else_went j a ne at = sym (changed_off (λ _. h.came) old_frame_states k j ne) ∙ ap (λ l. slice_get l j) (sym r.goes) ∙ at
 
     -- whatever is done to another frame meanwhile
     closed_by : (frames : List (Activation FrameState)) → slice_get frames k ≡ slice_get went k → IsFinished b b' k frames → Closes code p inputs b b' w k v h views
     closed_by frames same f =
-        let a = h.seat in
+        let a = h.frame_state in
         let last : slice_get f.acted k ≡ Some (record a { cursor = finished h.came }) = ap (λ l. slice_get l k) f.finishes ∙ changed_here finished frames k (record a { cursor = h.came }) (same ∙ top_at) in
         record { retires = r.retires (record a { cursor = h.came }) top_at; journal = f.journal; cells = f.cells; ticks = f.ticks (record a { cursor = finished h.came }) last }
 
-    finished_alone : (frames : List (Activation FrameState)) → frames ≡ went → IsFinished b b' k frames → (let g = b'.frames in g.items ≡ changed (λ _. counted (finished h.came)) old_seats k)
+    finished_alone : (frames : List (Activation FrameState)) → frames ≡ went → IsFinished b b' k frames → (let g = b'.frames in g.items ≡ changed (λ _. counted (finished h.came)) old_frame_states k)
     finished_alone frames same f =
-        f.counts ∙ ap (λ l. changed counted l k) (f.finishes ∙ ap (λ l. changed finished l k) (same ∙ r.goes) ∙ changed_twice finished (λ _. h.came) old_seats k) ∙ changed_twice counted (λ _. finished h.came) old_seats k
+        f.counts ∙ ap (λ l. changed counted l k) (f.finishes ∙ ap (λ l. changed finished l k) (same ∙ r.goes) ∙ changed_twice finished (λ _. h.came) old_frame_states k) ∙ changed_twice counted (λ _. finished h.came) old_frame_states k
 
     -- where another frame has changed before
-    finished_beside : (up : ℕ) (g : FrameState → FrameState) (frames : List (Activation FrameState)) → (up ≡ k → ⊥) → frames ≡ changed g went up → IsFinished b b' k frames → (let l = b'.frames in l.items ≡ changed g (changed (λ _. counted (finished h.came)) old_seats k) up)
+    finished_beside : (up : ℕ) (g : FrameState → FrameState) (frames : List (Activation FrameState)) → (up ≡ k → ⊥) → frames ≡ changed g went up → IsFinished b b' k frames → (let l = b'.frames in l.items ≡ changed g (changed (λ _. counted (finished h.came)) old_frame_states k) up)
     finished_beside up g frames ne same f =
         f.counts ∙ ap (λ l. changed counted l k) (f.finishes ∙ ap (λ l. changed finished l k) same ∙ changed_apart finished g went up k ne) ∙ changed_apart counted g (changed finished went k) up k ne
-        ∙ ap (λ l. changed g l up) (ap (λ l. changed counted l k) (ap (λ l. changed finished l k) r.goes ∙ changed_twice finished (λ _. h.came) old_seats k) ∙ changed_twice counted (λ _. finished h.came) old_seats k)
+        ∙ ap (λ l. changed g l up) (ap (λ l. changed counted l k) (ap (λ l. changed finished l k) r.goes ∙ changed_twice finished (λ _. h.came) old_frame_states k) ∙ changed_twice counted (λ _. finished h.came) old_frame_states k)
 
     beside_same : (up : ℕ) (g : FrameState → FrameState) (frames : List (Activation FrameState)) → (up ≡ k → ⊥) → frames ≡ changed g went up → slice_get frames k ≡ slice_get went k
     beside_same up g frames ne same = ap (λ l. slice_get l k) same ∙ changed_off g went up k ne
@@ -113,8 +113,8 @@ module _ (code : CodeView) (p : Source) (inputs : List ℤ) where
   -- ---- a frame that has a parent
 
   module _ (name : ℕ → Name) (b : Scheduler) (d : WorkerTable) (s : State FrameEnv View) (w k : ℕ) (v : ℤ) (sh : ShowsBy code p inputs name b d s) (h : HasCome code p inputs b w (suc k) (asks.End v)) where
-    apart : (let a = h.seat in let x = a.cursor in x.parent) ≡ suc k → ⊥
-    apart e = let t = sh.tells in let n = t.named in let c = n.child k h.seat h.sits in let low = c.0 in omega (arith, e, low)
+    apart : (let a = h.frame_state in let x = a.cursor in x.parent) ≡ suc k → ⊥
+    apart e = let t = sh.tells in let n = t.named in let c = n.child k h.frame_state h.sits in let low = c.0 in omega (arith, e, low)
 
   seeks_back : (b : Scheduler) (up w offered : ℕ) (status : Status) (views : Hypermap) (others : List Worker) → (let l = b.workers in Seeks up status (viewing views l.items w) others b.offered offered)
       → (rest : List Worker) × TakesBack b up status rest offered × (altered (working up) others w ≡ altered (holding up views) rest w)
@@ -133,7 +133,7 @@ module _ (code : CodeView) (p : Source) (inputs : List ℤ) where
   pub go_back : FramesGoBack code p inputs
   go_back name b b' d s w k v sh h went held views viewed others above r kept sits viewed_is seeks held_is workers outcome f =
       let l = b.workers in
-      let x = (let a = h.seat in a.cursor) in
+      let x = (let a = h.frame_state in a.cursor) in
       let y = (let a = above in a.cursor) in
       let ne = apart name b d s w k v sh h in
       let z = seeks_back b x.parent w b'.offered y.status views others (subst (λ ws. Seeks x.parent y.status ws others b.offered b'.offered) viewed_is seeks) in record {
@@ -170,7 +170,7 @@ module _ (code : CodeView) (p : Source) (inputs : List ℤ) where
   pub handed_in : PiecesAreHandedIn code p inputs
   handed_in name b b' d s w k v sh h went brought held views left viewed above joined passes r stolen sits brings brought_is held_is viewed_is workers offered outcome f =
       let l = b.workers in
-      let x = (let a = h.seat in a.cursor) in
+      let x = (let a = h.frame_state in a.cursor) in
       let ne = apart name b d s w k v sh h in
       let y = (let a = above in a.cursor) in
       let z = brought_by y joined x.ordinal views left passes brings in

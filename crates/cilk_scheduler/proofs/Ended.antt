@@ -4,7 +4,7 @@
 -- - `makes`, `own_are`, `left_views`, `left_bare`: the step of the free machine and the views left;
 -- - `Moved`: the changes of frame states and workers;
 -- - `keeps_stays`, `where_else`, `other`, `itself`, `holds_at`: blocks, frame states and workers;
--- - `waits_as`, `desk_kept`: the worker table;
+-- - `waits_as`, `worker_table_kept`: the worker table;
 -- - `shown_after`: the whole.
 use Rattle.std.proofs.Common.{◌≡◌, inl, inr, ⊎_elim, ◌+◌, ◌<◌, ◌≤◌, ℕ, suc, nat_eq, eq-eqb, eqb-true, Bool, true, false, true≢false, cond, ℤ, List, [], ◌∷◌, ◌++◌, length, map, set, slice_get, sum, Option, Some, None, refl, sym, ap, ap₂, ◌∙◌, subst, arith}
 use Rattle.std.proofs.lemmas.Bool.{cases_Bool}
@@ -102,29 +102,29 @@ module _ (code : CodeView) (p : Source) (inputs : List ℤ) (name : ℕ → Name
   abbrev lays : LaysOut p code.layout
   lays = is_shown.lays
 
-  abbrev old_seats : List (Activation FrameState)
-  old_seats = let f = b.frames in f.items
+  abbrev old_frame_states : List (Activation FrameState)
+  old_frame_states = let f = b.frames in f.items
 
   abbrev old_workers : List Worker
   old_workers = let l = b.workers in l.items
 
-  abbrev seat : FrameState
-  seat = let a = h.seat in a.cursor
+  abbrev frame_state : FrameState
+  frame_state = let a = h.frame_state in a.cursor
 
-  abbrev sitting : Sits code p inputs name b s k h.seat
-  sitting = let t = is_shown.shows in t.sits k h.seat h.sits
+  abbrev sitting : Sits code p inputs name b s k h.frame_state
+  sitting = let t = is_shown.shows in t.sits k h.frame_state h.sits
 
   abbrev frame : Frame FrameEnv
-  frame = let o = (let t = is_shown.shows in t.sits k h.seat h.sits) in o.frame
+  frame = let o = (let t = is_shown.shows in t.sits k h.frame_state h.sits) in o.frame
 
   abbrev what : FrameEnv
-  what = let f = (let o = (let t = is_shown.shows in t.sits k h.seat h.sits) in o.frame) in f.what
+  what = let f = (let o = (let t = is_shown.shows in t.sits k h.frame_state h.sits) in o.frame) in f.what
 
   abbrev past : List (Deed FrameEnv)
-  past = let f = (let o = (let t = is_shown.shows in t.sits k h.seat h.sits) in o.frame) in f.deeds
+  past = let f = (let o = (let t = is_shown.shows in t.sits k h.frame_state h.sits) in o.frame) in f.deeds
 
   abbrev gone : List Instance
-  gone = retired_by p (let f = (let o = (let t = is_shown.shows in t.sits k h.seat h.sits) in o.frame) in f.what)
+  gone = retired_by p (let f = (let o = (let t = is_shown.shows in t.sits k h.frame_state h.sits) in o.frame) in f.what)
 
   no_sync : asks.End v ≡ asks.Sync → ⊥
   no_sync q = cc
@@ -138,17 +138,17 @@ module _ (code : CodeView) (p : Source) (inputs : List ℤ) (name : ℕ → Name
   pub going : has_ended (deeds_at (s.frames (name k))) ≡ false
   going = ap (λ f. has_ended (deeds_at f)) here ∙ goes
 
-  low : k < length old_seats
+  low : k < length old_frame_states
   low = stepped.low code p inputs name b d s w k (asks.End v) lays sh h no_sync
 
-  named : AreNamed old_seats name
+  named : AreNamed old_frame_states name
   named = let t = (let t = is_shown.shows in t.tells) in t.named
 
-  pub status_was : seat.status ≡ Held w
+  pub status_was : frame_state.status ≡ Held w
   status_was =
       let t = is_shown.shows in
       let g = t.holds w k h.worker h.at h.has in
-      let same : g.seat ≡ h.seat = (let q : Some g.seat ≡ Some h.seat = sym g.here ∙ h.sits in cc) in
+      let same : g.frame_state ≡ h.frame_state = (let q : Some g.frame_state ≡ Some h.frame_state = sym g.here ∙ h.sits in cc) in
       ap (λ (a : Activation FrameState). let y = a.cursor in y.status) (sym same) ∙ g.held
 
   calm : is_resuming past ≡ false
@@ -156,10 +156,10 @@ module _ (code : CodeView) (p : Source) (inputs : List ℤ) (name : ℕ → Name
 
   -- ---- its own reducers
 
-  kinds_are : created_by code.layout (let a = h.seat in a.creator) ≡ own_reducers p (let x = what in x.callee)
-  kinds_are = by (let a = h.seat in a.creator) refl
+  kinds_are : created_by code.layout (let a = h.frame_state in a.creator) ≡ own_reducers p (let x = what in x.callee)
+  kinds_are = by (let a = h.frame_state in a.creator) refl
     where
-      by : (o : Option ℕ) → (let a = h.seat in a.creator) ≡ o → created_by code.layout o ≡ own_reducers p (let x = what in x.callee)
+      by : (o : Option ℕ) → (let a = h.frame_state in a.creator) ≡ o → created_by code.layout o ≡ own_reducers p (let x = what in x.callee)
       by None e = let o = sitting in sym (o.creates_none e)
       by (Some f) e = let o = sitting in o.creates f e
 
@@ -171,25 +171,25 @@ module _ (code : CodeView) (p : Source) (inputs : List ℤ) (name : ℕ → Name
       ap (λ (x : FrameEnv). instance_in global_named x.sight (places.Own 0 n) kind) it.1
       ∙ ap (λ m. own_named p (let x = what in x.callee) m n kind) (sym o.named)
 
-  pub own_are : AreOwn p old_seats name (own_named p (let x = what in x.callee) (let x = what in x.name)) (let a = h.seat in a.number) (let a = h.seat in a.first) 0 (own_reducers p (let x = what in x.callee))
-  own_are = are_own p old_seats name (own_named p (let x = what in x.callee) (let x = what in x.name)) (let a = h.seat in a.number) (let a = h.seat in a.first) 0 (own_reducers p (let x = what in x.callee)) each
+  pub own_are : AreOwn p old_frame_states name (own_named p (let x = what in x.callee) (let x = what in x.name)) (let a = h.frame_state in a.number) (let a = h.frame_state in a.first) 0 (own_reducers p (let x = what in x.callee))
+  own_are = are_own p old_frame_states name (own_named p (let x = what in x.callee) (let x = what in x.name)) (let a = h.frame_state in a.number) (let a = h.frame_state in a.first) 0 (own_reducers p (let x = what in x.callee)) each
     where
-      means : (n : ℕ) (scope : Scope ℕ numbered.Instance) → SeesAt old_seats k scope → (let a = h.seat in record { frame = a.number; place = a.first + n }) ≡ instance_in global_reducer scope (places.Own 0 n)
+      means : (n : ℕ) (scope : Scope ℕ numbered.Instance) → SeesAt old_frame_states k scope → (let a = h.frame_state in record { frame = a.number; place = a.first + n }) ≡ instance_in global_reducer scope (places.Own 0 n)
       means n scope at =
           let a = at.0 in
-          let same : h.seat ≡ a = (let q : Some h.seat ≡ Some a = sym h.sits ∙ at.1 in cc) in
+          let same : h.frame_state ≡ a = (let q : Some h.frame_state ≡ Some a = sym h.sits ∙ at.1 in cc) in
           let g = at.2 in
           let I : Activation FrameState → numbered.Instance = (λ x. record { frame = x.number; place = x.first + n }) in
           ap I same ∙ ap (λ c. instance_in global_reducer c (places.Own 0 n)) (sym g.scope_is)
 
       each : (q : ℕ) (kind : MonoidKind) → slice_get (own_reducers p (let x = what in x.callee)) q ≡ Some kind
-          → (kind_of (own_named p (let x = what in x.callee) (let x = what in x.name) (0 + q) kind) ≡ kind) × IsInstance p old_seats name (own_named p (let x = what in x.callee) (let x = what in x.name) (0 + q) kind) (let a = h.seat in record { frame = a.number; place = a.first + q })
+          → (kind_of (own_named p (let x = what in x.callee) (let x = what in x.name) (0 + q) kind) ≡ kind) × IsInstance p old_frame_states name (own_named p (let x = what in x.callee) (let x = what in x.name) (0 + q) kind) (let a = h.frame_state in record { frame = a.number; place = a.first + q })
       each q kind at =
           let r : syntax.Reducer = record { place = places.Own 0 q; kind = kind } in
-          let it = ready.means_reducer code p inputs name b d s w k (asks.End v) lays sh h no_sync r (let a = h.seat in record { frame = a.number; place = a.first + q }) (own_there p (let x = what in x.callee) q kind at) (means q) in
+          let it = ready.means_reducer code p inputs name b d s w k (asks.End v) lays sh h no_sync r (let a = h.frame_state in record { frame = a.number; place = a.first + q }) (own_there p (let x = what in x.callee) q kind at) (means q) in
           let e : 0 + q ≡ q = omega arith in
           let f : reducer_seen what r ≡ own_named p (let x = what in x.callee) (let x = what in x.name) (0 + q) kind = own_seen q kind ∙ ap (λ n. own_named p (let x = what in x.callee) (let x = what in x.name) n kind) (sym e) in
-          (ap kind_of (sym f) ∙ it.0, subst (λ i. IsInstance p old_seats name i (let a = h.seat in record { frame = a.number; place = a.first + q })) f it.1)
+          (ap kind_of (sym f) ∙ it.0, subst (λ i. IsInstance p old_frame_states name i (let a = h.frame_state in record { frame = a.number; place = a.first + q })) f it.1)
 
   -- ---- the step
 
@@ -200,8 +200,8 @@ module _ (code : CodeView) (p : Source) (inputs : List ℤ) (name : ℕ → Name
   hand_is = stepped.hand_is code p inputs name b d s w k (asks.End v) lays sh h no_sync
 
   module _ (b' : Scheduler) (views : Hypermap) (c : Closes code p inputs b b' w k v h views) (s' : State FrameEnv View) (m : Makes FrameEnv View monoid_of (Next p inputs) (costs p inputs) s (name k) s') where
-    abbrev new_seats : List (Activation FrameState)
-    new_seats = let f = b'.frames in f.items
+    abbrev new_frame_states : List (Activation FrameState)
+    new_frame_states = let f = b'.frames in f.items
 
     abbrev new_workers : List Worker
     new_workers = let l = b'.workers in l.items
@@ -280,25 +280,25 @@ module _ (code : CodeView) (p : Source) (inputs : List ℤ) (name : ℕ → Name
 
     -- ---- the views that are left
 
-    pub left_views : (i : Instance) (j : numbered.Instance) → IsInstance p old_seats name i j → IsViewOf (kind_of i) (s'.piece (name k) i) (value_in views (kind_of i) j)
+    pub left_views : (i : Instance) (j : numbered.Instance) → IsInstance p old_frame_states name i j → IsViewOf (kind_of i) (s'.piece (name k) i) (value_in views (kind_of i) j)
     left_views i j is =
         let u = h.worker in
-        let a = h.seat in
+        let a = h.frame_state in
         let z = c.retires in
         let own = own_named p (let x = what in x.callee) (let x = what in x.name) in
         let kinds = own_reducers p (let x = what in x.callee) in
         subst (λ x. IsViewOf (kind_of i) x (value_in views (kind_of i) j)) (sym (piece_here i))
-        (lost_views p old_seats name own a.number named i j is a.first 0 kinds own_are u.views views (z (kind_of i) j ∙ ap (λ l. without_own a.number a.first l (kind_of i) j (view_in u.views (kind_of i) j)) kinds_are)
+        (lost_views p old_frame_states name own a.number named i j is a.first 0 kinds own_are u.views views (z (kind_of i) j ∙ ap (λ l. without_own a.number a.first l (kind_of i) j (view_in u.views (kind_of i) j)) kinds_are)
         (s.piece (name k) i) (ready.own_views code p inputs name b d s w k (asks.End v) lays sh h no_sync calm i j is))
 
-    pub left_bare : IsBare (length old_seats) (value_in views)
+    pub left_bare : IsBare (length old_frame_states) (value_in views)
     left_bare =
         let u = h.worker in
-        let a = h.seat in
+        let a = h.frame_state in
         let z = c.retires in
-        lost_bare (length old_seats) a.number a.first (created_by code.layout a.creator) u.views views z (stepped.bare_now code p inputs name b d s w k (asks.End v) lays sh h no_sync)
+        lost_bare (length old_frame_states) a.number a.first (created_by code.layout a.creator) u.views views z (stepped.bare_now code p inputs name b d s w k (asks.End v) lays sh h no_sync)
 
-    piece_bare : (n : Name) (q : ℕ) (kind : MonoidKind) → IsAbsent old_seats name n → s'.piece (name k) (Reducer n q kind) ≡ unit_of monoid_of (Reducer n q kind)
+    piece_bare : (n : Name) (q : ℕ) (kind : MonoidKind) → IsAbsent old_frame_states name n → s'.piece (name k) (Reducer n q kind) ≡ unit_of monoid_of (Reducer n q kind)
     piece_bare n q kind none = piece_here (Reducer n q kind) ∙ by (has_instance gone (Reducer n q kind)) (ready.own_bare code p inputs name b d s w k (asks.End v) lays sh h no_sync n q kind none)
       where
         by : (t : Bool) → s.piece (name k) (Reducer n q kind) ≡ unit_of monoid_of (Reducer n q kind) → cond t ((monoid_of (Reducer n q kind)).unit) (s.piece (name k) (Reducer n q kind)) ≡ unit_of monoid_of (Reducer n q kind)
@@ -309,7 +309,7 @@ module _ (code : CodeView) (p : Source) (inputs : List ℤ) (name : ℕ → Name
     ended = counted (finished h.came)
 
     abbrev now : Activation FrameState
-    now = let a = h.seat in record a { cursor = counted (finished h.came) }
+    now = let a = h.frame_state in record a { cursor = counted (finished h.came) }
 
     -- a worker before and after, where the frame at this index may no longer be offered
     pub record Had (up at : ℕ) (u u' : Worker) : Type 0 where
@@ -326,21 +326,21 @@ module _ (code : CodeView) (p : Source) (inputs : List ℤ) (name : ℕ → Name
     }
 
     -- names stay where the frame has ended
-    pub named_ended : AreNamed (changed (λ _. counted (finished h.came)) old_seats k) name
+    pub named_ended : AreNamed (changed (λ _. counted (finished h.came)) old_frame_states k) name
     named_ended =
         let y = h.came in
         let J : FrameState → FrameState = (λ x. record x { status = Finished; cursor = None; took = (let y = h.came in y.took); counted = (let y = h.came in y.took) }) in
-        let was : h.came ≡ (let y = h.came in record seat { cursor = y.cursor; took = y.took }) = stepped.kept code p inputs name b d s w k (asks.End v) lays sh h no_sync in
-        subst (λ l. AreNamed l name) (changed_known J (λ _. counted (finished h.came)) old_seats k h.seat h.sits (sym (ap (λ (x : FrameState). counted (finished x)) was))) (named_changed J old_seats k name (λ x. (refl, refl)) named)
+        let was : h.came ≡ (let y = h.came in record frame_state { cursor = y.cursor; took = y.took }) = stepped.kept code p inputs name b d s w k (asks.End v) lays sh h no_sync in
+        subst (λ l. AreNamed l name) (changed_known J (λ _. counted (finished h.came)) old_frame_states k h.frame_state h.sits (sym (ap (λ (x : FrameState). counted (finished x)) was))) (named_changed J old_frame_states k name (λ x. (refl, refl)) named)
 
     -- The changes of frame states and workers. Only one other frame may change: the parent.
     pub record Moved (up : ℕ) : Type 0 where
-      pub on : carries.Carries old_seats new_seats
-      pub same_length : length new_seats ≡ length old_seats
-      pub else_at : (j : ℕ) → (k ≡ j → ⊥) → (up ≡ j → ⊥) → slice_get new_seats j ≡ slice_get old_seats j
-      pub now_at : slice_get new_seats k ≡ Some now
-      pub named : AreNamed new_seats name
-      pub above : up < length old_seats
+      pub on : carries.Carries old_frame_states new_frame_states
+      pub same_length : length new_frame_states ≡ length old_frame_states
+      pub else_at : (j : ℕ) → (k ≡ j → ⊥) → (up ≡ j → ⊥) → slice_get new_frame_states j ≡ slice_get old_frame_states j
+      pub now_at : slice_get new_frame_states k ≡ Some now
+      pub named : AreNamed new_frame_states name
+      pub above : up < length old_frame_states
       pub kin : (n : Name) (z : ℕ) → name k ≡ n ++ z ∷ [] → n ≡ name up
       pub worker_on : (at : ℕ) (u : Worker) → slice_get old_workers at ≡ Some u → (u' : Worker) × (slice_get new_workers at ≡ Some u') × Had up at u u'
       pub worker_was : (at : ℕ) (u' : Worker) → slice_get new_workers at ≡ Some u' → (u : Worker) × (slice_get old_workers at ≡ Some u) × Had up at u u'
@@ -348,26 +348,26 @@ module _ (code : CodeView) (p : Source) (inputs : List ℤ) (name : ℕ → Name
     module _ (up : ℕ) (t : Moved up) where
       -- ---- names and numbers
 
-      pub names_differ : (i j : ℕ) → i < length old_seats → j < length old_seats → (i ≡ j → ⊥) → name i ≡ name j → ⊥
+      pub names_differ : (i j : ℕ) → i < length old_frame_states → j < length old_frame_states → (i ≡ j → ⊥) → name i ≡ name j → ⊥
       names_differ i j at at' ne q = ne (named.apart i j at at' q)
 
-      pub child_off : (j : ℕ) → j < length old_seats → (up ≡ j → ⊥) → (z : ℕ) → name k ≡ name j ++ z ∷ [] → ⊥
+      pub child_off : (j : ℕ) → j < length old_frame_states → (up ≡ j → ⊥) → (z : ℕ) → name k ≡ name j ++ z ∷ [] → ⊥
       child_off j at ne z e = ne (sym (named.apart j up at t.above (t.kin (name j) z e)))
 
-      pub instance_back : (i : Instance) (j : numbered.Instance) → IsInstance p new_seats name i j → IsInstance p old_seats name i j
+      pub instance_back : (i : Instance) (j : numbered.Instance) → IsInstance p new_frame_states name i j → IsInstance p old_frame_states name i j
       instance_back Output j g = g
       instance_back (Reducer z q kind) j g = (g.0, subst (λ z. g.0 < z) t.same_length g.1, g.2, g.3, g.4)
 
-      cell_back : (x : Cell) (n : ℕ) → IsCell p new_seats name s' x n → IsCell p old_seats name s x n
+      cell_back : (x : Cell) (n : ℕ) → IsCell p new_frame_states name s' x n → IsCell p old_frame_states name s x n
       cell_back (Global g) n it = it
       cell_back (Own z q) n it =
-          let r = carries.carried_back old_seats new_seats t.on t.same_length it.0 it.1 it.2 in
+          let r = carries.carried_back old_frame_states new_frame_states t.on t.same_length it.0 it.1 it.2 in
           (it.0, r.0, r.1, it.3, it.4 ∙ ap (λ (a : Activation FrameState). a.base + q) r.2, subst (λ y. q < y) (sizes z) it.5)
 
-      pub absent_back : (n : Name) → IsAbsent new_seats name n → IsAbsent old_seats name n
+      pub absent_back : (n : Name) → IsAbsent new_frame_states name n → IsAbsent old_frame_states name n
       absent_back n none = λ j at. none j (subst (λ z. j < z) (sym t.same_length) at)
 
-      absent_on : (n : Name) → IsAbsent old_seats name n → IsAbsent new_seats name n
+      absent_on : (n : Name) → IsAbsent old_frame_states name n → IsAbsent new_frame_states name n
       absent_on n none = λ j at. none j (subst (λ z. j < z) t.same_length at)
 
       -- ---- blocks
@@ -418,7 +418,7 @@ module _ (code : CodeView) (p : Source) (inputs : List ℤ) (name : ℕ → Name
           let z : Some k ≡ Some j = sym h.has ∙ ap (λ (y : Worker). y.frame) same ∙ has in
           cc
 
-      where_else : (j : ℕ) (ds : List (Deed FrameEnv)) (x : FrameState) (z : Status) → (k ≡ j → ⊥) → (up ≡ j → ⊥) → j < length old_seats → IsWhere code p inputs name b s j (name j) ds x z → IsWhere code p inputs name b' s' j (name j) ds x z
+      where_else : (j : ℕ) (ds : List (Deed FrameEnv)) (x : FrameState) (z : Status) → (k ≡ j → ⊥) → (up ≡ j → ⊥) → j < length old_frame_states → IsWhere code p inputs name b s j (name j) ds x z → IsWhere code p inputs name b' s' j (name j) ds x z
       where_else j ds x (Held at) ne ne' there g =
           let r = t.worker_on at g.0 g.1 in
           let o = r.2 in
@@ -448,13 +448,13 @@ module _ (code : CodeView) (p : Source) (inputs : List ℤ) (name : ℕ → Name
       written_here = ap (λ l. events_of k l) c.journal ∙ events_more k entries (record { frame = k; event = events.End }) ∙ ap (λ t. cond t (events_of k entries ++ events.End ∷ []) (events_of k entries)) (eq-eqb k k refl)
 
       -- a frame that stays but for where it is and what lies at its block
-      pub stays_with : (j : ℕ) (a : Activation FrameState) (y : FrameState) → (k ≡ j → ⊥) → slice_get old_seats j ≡ Some a → (let x = a.cursor in y ≡ record x { status = y.status; join = y.join; merged = y.merged })
+      pub stays_with : (j : ℕ) (a : Activation FrameState) (y : FrameState) → (k ≡ j → ⊥) → slice_get old_frame_states j ≡ Some a → (let x = a.cursor in y ≡ record x { status = y.status; join = y.join; merged = y.merged })
           → (o : Sits code p inputs name b s j a) → (let f = o.frame in IsWhere code p inputs name b' s' j (name j) f.deeds y y.status) → (let f = o.frame in has_ended f.deeds ≡ false → HasBlock code p inputs name b' s' (name j) f.deeds y)
           → Sits code p inputs name b' s' j (record a { cursor = y })
       stays_with j a y ne at same o place block =
           let x = a.cursor in
           let f = o.frame in
-          let apart = names_differ k j low (get_low old_seats j a at) ne in
+          let apart = names_differ k j low (get_low old_frame_states j a at) ne in
           let Y : FrameState → FrameState = (λ z. record z { status = y.status; join = y.join; merged = y.merged }) in record {
             frame = o.frame;
             here = frame_else (name j) apart ∙ o.here;
@@ -469,7 +469,7 @@ module _ (code : CodeView) (p : Source) (inputs : List ℤ) (name : ℕ → Name
                 let e = ap (λ (z : FrameState). z.children) same in
                 let g = ap (λ (z : FrameState). z.last) same in
                 let r = o.last (subst (λ n. 0 < n) e some) in
-                (subst (λ z. y.last < z) (sym t.same_length) (subst (λ n. n < length old_seats) (sym g) r.0), ap name g ∙ r.1 ∙ ap (λ n. name j ++ n ∷ []) (sym e));
+                (subst (λ z. y.last < z) (sym t.same_length) (subst (λ n. n < length old_frame_states) (sym g) r.0), ap name g ∙ r.1 ∙ ap (λ n. name j ++ n ∷ []) (sym e));
             strands_are = o.strands_are ∙ ap (λ (z : FrameState). z.strands) (sym same);
             counted = ap (λ (z : FrameState). z.counted) same ∙ o.counted;
             due = λ going.
@@ -477,30 +477,30 @@ module _ (code : CodeView) (p : Source) (inputs : List ℤ) (name : ℕ → Name
                 (it.0, ap (λ (z : FrameState). z.cursor) same ∙ it.1, subst (λ (z : FrameState). IsDue code p inputs f.what f.deeds z.due it.0 z.took) (sym same) it.2);
             is_where = place;
             block = block;
-            written = subst (λ es. AreDeeds p new_seats name s' j f.deeds es) (sym (written_else j ne)) (carries.deeds_on old_seats new_seats t.on name p s s' more j f.deeds (events_of j entries) o.written);
+            written = subst (λ es. AreDeeds p new_frame_states name s' j f.deeds es) (sym (written_else j ne)) (carries.deeds_on old_frame_states new_frame_states t.on name p s s' more j f.deeds (events_of j entries) o.written);
           }
 
-      other : (j : ℕ) (a : Activation FrameState) → (k ≡ j → ⊥) → (up ≡ j → ⊥) → slice_get old_seats j ≡ Some a → Sits code p inputs name b s j a → Sits code p inputs name b' s' j a
+      other : (j : ℕ) (a : Activation FrameState) → (k ≡ j → ⊥) → (up ≡ j → ⊥) → slice_get old_frame_states j ≡ Some a → Sits code p inputs name b s j a → Sits code p inputs name b' s' j a
       other j a ne ne' at o =
           let x = a.cursor in
           let f = o.frame in
-          let there = get_low old_seats j a at in
+          let there = get_low old_frame_states j a at in
           stays_with j a x ne at refl o (where_else j f.deeds x x.status ne ne' there o.is_where) (λ going. block_stays (name j) f.deeds x (names_differ k j low there ne) (λ z is. child_off j there ne' z) (o.block going))
 
-      kept : h.came ≡ (let y = h.came in record seat { cursor = y.cursor; took = y.took })
+      kept : h.came ≡ (let y = h.came in record frame_state { cursor = y.cursor; took = y.took })
       kept = stepped.kept code p inputs name b d s w k (asks.End v) lays sh h no_sync
 
       itself : Sits code p inputs name b' s' k now
       itself =
           let o = sitting in
-          let x = seat in
+          let x = frame_state in
           let longer = past ++ Does (Ends v gone) ∷ [] in
           let n = stepped.named_as code p inputs name b d s w k (asks.End v) lays sh h no_sync in record {
             frame = record frame { deeds = longer };
             here = frame_here;
             named = o.named;
             number = o.number;
-            seen = carries.seen_on code p inputs name b b' s s' t.on more h.seat ended what o.seen;
+            seen = carries.seen_on code p inputs name b b' s s' t.on more h.frame_state ended what o.seen;
             creates = o.creates;
             creates_none = o.creates_none;
             stolen = stolen_at (name k) ∙ o.stolen ∙ ap (λ (z : FrameState). z.stolen) (sym kept);
@@ -509,27 +509,27 @@ module _ (code : CodeView) (p : Source) (inputs : List ℤ) (name : ℕ → Name
                 let e = ap (λ (z : FrameState). z.children) kept in
                 let g = ap (λ (z : FrameState). z.last) kept in
                 let r = o.last (subst (λ n. 0 < n) e some) in
-                (subst (λ z. (let y = h.came in y.last) < z) (sym t.same_length) (subst (λ n. n < length old_seats) (sym g) r.0), ap name g ∙ r.1 ∙ ap (λ n. name k ++ n ∷ []) (sym e));
+                (subst (λ z. (let y = h.came in y.last) < z) (sym t.same_length) (subst (λ n. n < length old_frame_states) (sym g) r.0), ap name g ∙ r.1 ∙ ap (λ n. name k ++ n ∷ []) (sym e));
             strands_are = strands_stay (Ends v gone) refl past ∙ o.strands_are ∙ ap (λ (z : FrameState). z.strands) (sym kept);
             counted = n.1 ∙ ap (taken p inputs what) (sym (but_last_more past (Does (Ends v gone))));
             due = λ going. absurd (true≢false (sym (ended_more past (Does (Ends v gone)) goes) ∙ going));
             is_where = end_last past v gone;
             block = λ going. absurd (true≢false (sym (ended_more past (Does (Ends v gone)) goes) ∙ going));
-            written = subst (λ es. AreDeeds p new_seats name s' k longer es) (sym written_here)
-                (deeds_more p new_seats name s' k past (events_of k entries) (Does (Ends v gone)) events.End (carries.deeds_on old_seats new_seats t.on name p s s' more k past (events_of k entries) o.written) refl);
+            written = subst (λ es. AreDeeds p new_frame_states name s' k longer es) (sym written_here)
+                (deeds_more p new_frame_states name s' k past (events_of k entries) (Does (Ends v gone)) events.End (carries.deeds_on old_frame_states new_frame_states t.on name p s s' more k past (events_of k entries) o.written) refl);
           }
 
       -- ---- workers
 
       -- a worker that had a frame has it with the views that it had
-      pub holds_at : (at j : ℕ) (u u' : Worker) (z : Activation FrameState) → (k ≡ j → ⊥) → u'.views ≡ u.views → (g : Holds code p inputs name b s at u j) → slice_get new_seats j ≡ Some z → (let y = z.cursor in y.status ≡ Held at)
-          → (let y = z.cursor in let a = g.seat in let x = a.cursor in y.merged ≡ x.merged) → Holds code p inputs name b' s' at u' j
+      pub holds_at : (at j : ℕ) (u u' : Worker) (z : Activation FrameState) → (k ≡ j → ⊥) → u'.views ≡ u.views → (g : Holds code p inputs name b s at u j) → slice_get new_frame_states j ≡ Some z → (let y = z.cursor in y.status ≡ Held at)
+          → (let y = z.cursor in let a = g.frame_state in let x = a.cursor in y.merged ≡ x.merged) → Holds code p inputs name b' s' at u' j
       holds_at at j u u' z ne views g is held merged =
-          let x = (let a = g.seat in a.cursor) in
+          let x = (let a = g.frame_state in a.cursor) in
           let y = z.cursor in
-          let apart = names_differ k j low (get_low old_seats j g.seat g.here) ne in
+          let apart = names_differ k j low (get_low old_frame_states j g.frame_state g.here) ne in
           let frame_same = frame_else (name j) apart in record {
-            seat = z;
+            frame_state = z;
             here = is;
             held = held;
             views = λ i q it.
@@ -542,7 +542,7 @@ module _ (code : CodeView) (p : Source) (inputs : List ℤ) (name : ℕ → Name
             used = λ q used.
                 ends_more (name j ++ q ∷ [])
                 (g.used q (subst (λ l. IsUsed l (name j) (deeds_at (s.frames (name j))) x.merged q) m.stolen (subst (λ f. IsUsed s'.stolen (name j) (deeds_at f) x.merged q) frame_same (subst (λ e. IsUsed s'.stolen (name j) (deeds_at (s'.frames (name j))) e q) merged used))));
-            bare = subst (λ n. IsBare n (value_in u'.views)) (sym t.same_length) (subst (λ z. IsBare (length old_seats) (value_in z)) (sym views) g.bare);
+            bare = subst (λ n. IsBare n (value_in u'.views)) (sym t.same_length) (subst (λ z. IsBare (length old_frame_states) (value_in z)) (sym views) g.bare);
           }
 
       -- ---- the worker table, where workers offer what they offered
@@ -551,52 +551,52 @@ module _ (code : CodeView) (p : Source) (inputs : List ℤ) (name : ℕ → Name
       pub offered_off : (at q j : ℕ) (u : Worker) → slice_get old_workers at ≡ Some u → (let o = u.offered in slice_get o.items q ≡ Some j) → k ≡ j → ⊥
       offered_off at q j u is has e =
           let y = sh in
-          let o = y.desk in
+          let o = y.worker_table in
           let g = o.places at q j u is has in
-          let same : g.0 ≡ h.seat = (let z : Some g.0 ≡ Some h.seat = sym g.1 ∙ ap (λ i. slice_get old_seats i) (sym e) ∙ h.sits in cc) in
+          let same : g.0 ≡ h.frame_state = (let z : Some g.0 ≡ Some h.frame_state = sym g.1 ∙ ap (λ i. slice_get old_frame_states i) (sym e) ∙ h.sits in cc) in
           let z : Held w ≡ Offered at = sym status_was ∙ ap (λ (a : Activation FrameState). let x = a.cursor in x.status) (sym same) ∙ g.2 in
           cc
 
       -- the frames that wait, where this is their list
-      pub waits_as : (ws : List Name) → ((j : ℕ) → j < length old_seats → (up ≡ j → ⊥) → (IsIn (name j) ws → IsIn (name j) d.waiting) × (IsIn (name j) d.waiting → IsIn (name j) ws))
-          → ((a : Activation FrameState) → (k ≡ up → ⊥) → slice_get new_seats up ≡ Some a → ((let x = a.cursor in x.status ≡ Waiting) → IsIn (name up) ws) × (IsIn (name up) ws → let x = a.cursor in x.status ≡ Waiting))
+      pub waits_as : (ws : List Name) → ((j : ℕ) → j < length old_frame_states → (up ≡ j → ⊥) → (IsIn (name j) ws → IsIn (name j) d.waiting) × (IsIn (name j) d.waiting → IsIn (name j) ws))
+          → ((a : Activation FrameState) → (k ≡ up → ⊥) → slice_get new_frame_states up ≡ Some a → ((let x = a.cursor in x.status ≡ Waiting) → IsIn (name up) ws) × (IsIn (name up) ws → let x = a.cursor in x.status ≡ Waiting))
           → (IsIn (name k) ws → IsIn (name k) d.waiting)
-          → (j : ℕ) (a : Activation FrameState) → slice_get new_seats j ≡ Some a → ((let x = a.cursor in x.status ≡ Waiting) → IsIn (name j) ws) × (IsIn (name j) ws → let x = a.cursor in x.status ≡ Waiting)
+          → (j : ℕ) (a : Activation FrameState) → slice_get new_frame_states j ≡ Some a → ((let x = a.cursor in x.status ≡ Waiting) → IsIn (name j) ws) × (IsIn (name j) ws → let x = a.cursor in x.status ≡ Waiting)
       waits_as ws others parent own j a at = by (nat_eq k j) refl (nat_eq up j) refl
         where
           by : (x : Bool) → nat_eq k j ≡ x → (y : Bool) → nat_eq up j ≡ y → ((let x = a.cursor in x.status ≡ Waiting) → IsIn (name j) ws) × (IsIn (name j) ws → let x = a.cursor in x.status ≡ Waiting)
           by true q y z =
               let same : k ≡ j = eqb-true k j q in
-              let is : now ≡ a = (let z : Some now ≡ Some a = sym t.now_at ∙ ap (λ i. slice_get new_seats i) same ∙ at in cc) in
+              let is : now ≡ a = (let z : Some now ≡ Some a = sym t.now_at ∙ ap (λ i. slice_get new_frame_states i) same ∙ at in cc) in
               let e = sh in
-              let o = e.desk in
-              let g = o.waiting k h.seat h.sits in (
+              let o = e.worker_table in
+              let g = o.waiting k h.frame_state h.sits in (
                 (λ f. let z : Finished ≡ Waiting = ap (λ (y : Activation FrameState). let x = y.cursor in x.status) is ∙ f in let n : ⊥ = cc in absurd n),
                 (λ f. let z : Held w ≡ Waiting = sym status_was ∙ g.1 (own (subst (λ i. IsIn (name i) ws) (sym same) f)) in let n : ⊥ = cc in absurd n),
               )
           by false q true z =
               let same : up ≡ j = eqb-true up j z in
               let ne : k ≡ up → ⊥ = (λ e. true≢false (sym (eq-eqb k j (e ∙ same)) ∙ q)) in
-              let g = parent a ne (ap (λ i. slice_get new_seats i) same ∙ at) in
+              let g = parent a ne (ap (λ i. slice_get new_frame_states i) same ∙ at) in
               ((λ f. subst (λ i. IsIn (name i) ws) same (g.0 f)), (λ f. g.1 (subst (λ i. IsIn (name i) ws) (sym same) f)))
           by false q false z =
               let ne : k ≡ j → ⊥ = (λ e. true≢false (sym (eq-eqb k j e) ∙ q)) in
               let ne' : up ≡ j → ⊥ = (λ e. true≢false (sym (eq-eqb up j e) ∙ z)) in
               let old = sym (t.else_at j ne ne') ∙ at in
               let e = sh in
-              let o = e.desk in
+              let o = e.worker_table in
               let g = o.waiting j a old in
-              let y = others j (get_low old_seats j a old) ne' in
+              let y = others j (get_low old_frame_states j a old) ne' in
               ((λ f. y.1 (g.0 f)), (λ f. g.1 (y.0 f)))
 
       module _ (f : Worker → Worker) (hand : Option Name) (offers : (u : Worker) → (let x = f u in x.offered) ≡ u.offered) (hands : (u : Worker) → hand_of name (f u) ≡ hand) (workers_are : new_workers ≡ altered f old_workers w) (offered_are : b'.offered ≡ b.offered) where
-        pub desk_kept : (ws : List Name) → ((n : Name) → IsIn n ws → IsIn n d.waiting)
-            → ((at : ℕ) (x : Activation FrameState) → slice_get old_seats up ≡ Some x → (let y = x.cursor in y.status ≡ Offered at) → (z : Activation FrameState) × (slice_get new_seats up ≡ Some z) × (let y = z.cursor in y.status ≡ Offered at))
-            → ((j : ℕ) (a : Activation FrameState) → slice_get new_seats j ≡ Some a → ((let x = a.cursor in x.status ≡ Waiting) → IsIn (name j) ws) × (IsIn (name j) ws → let x = a.cursor in x.status ≡ Waiting))
+        pub worker_table_kept : (ws : List Name) → ((n : Name) → IsIn n ws → IsIn n d.waiting)
+            → ((at : ℕ) (x : Activation FrameState) → slice_get old_frame_states up ≡ Some x → (let y = x.cursor in y.status ≡ Offered at) → (z : Activation FrameState) × (slice_get new_frame_states up ≡ Some z) × (let y = z.cursor in y.status ≡ Offered at))
+            → ((j : ℕ) (a : Activation FrameState) → slice_get new_frame_states j ≡ Some a → ((let x = a.cursor in x.status ≡ Waiting) → IsIn (name j) ws) × (IsIn (name j) ws → let x = a.cursor in x.status ≡ Waiting))
             → IsWorkerTable code p inputs name b' (record d { hands = set d.hands w hand; waiting = ws })
-        desk_kept ws fewer parent waiting =
+        worker_table_kept ws fewer parent waiting =
             let y = sh in
-            let o = y.desk in record {
+            let o = y.worker_table in record {
               hands = ap (λ hs. set hs w hand) o.hands ∙ sym (altering.altered_set f (hand_of name) hand old_workers w hands) ∙ ap (λ ws. map (hand_of name) ws) (sym workers_are);
               offered = o.offered ∙ sym (altering.altered_map f (offers_of name) old_workers w (λ u. ap (λ l. map name l.items) (offers u))) ∙ ap (λ ws. map (offers_of name) ws) (sym workers_are);
               total = offered_are ∙ o.total
@@ -617,38 +617,38 @@ module _ (code : CodeView) (p : Source) (inputs : List ℤ) (name : ℕ → Name
                 let r = altering.altered_from f old_workers w at u (subst (λ ws. slice_get ws at ≡ Some u) workers_are is) in
                 (r.0, r.1, ⊎_elim (λ g. ap (λ (y : Worker). y.offered) g.1 ∙ offers r.0) (λ g. ap (λ (y : Worker). y.offered) g.1) r.2)
 
-            place : (at j : ℕ) (x : Activation FrameState) → (k ≡ j → ⊥) → slice_get old_seats j ≡ Some x → (let y = x.cursor in y.status ≡ Offered at) → (e : Bool) → nat_eq up j ≡ e → (z : Activation FrameState) × (slice_get new_seats j ≡ Some z) × (let y = z.cursor in y.status ≡ Offered at)
+            place : (at j : ℕ) (x : Activation FrameState) → (k ≡ j → ⊥) → slice_get old_frame_states j ≡ Some x → (let y = x.cursor in y.status ≡ Offered at) → (e : Bool) → nat_eq up j ≡ e → (z : Activation FrameState) × (slice_get new_frame_states j ≡ Some z) × (let y = z.cursor in y.status ≡ Offered at)
             place at j x ne is status true e =
                 let same : up ≡ j = eqb-true up j e in
-                let r = parent at x (ap (λ i. slice_get old_seats i) same ∙ is) status in
-                (r.0, ap (λ i. slice_get new_seats i) (sym same) ∙ r.1, r.2)
+                let r = parent at x (ap (λ i. slice_get old_frame_states i) same ∙ is) status in
+                (r.0, ap (λ i. slice_get new_frame_states i) (sym same) ∙ r.1, r.2)
             place at j x ne is status false e = (x, t.else_at j ne (λ z. true≢false (sym (eq-eqb up j z) ∙ e)) ∙ is, status)
 
       -- ---- the whole
 
       -- the parent's state, who has it, and the worker table
       pub record Settled (d' : WorkerTable) : Type 0 where
-        pub parent : (a : Activation FrameState) → (k ≡ up → ⊥) → slice_get new_seats up ≡ Some a → Sits code p inputs name b' s' up a
+        pub parent : (a : Activation FrameState) → (k ≡ up → ⊥) → slice_get new_frame_states up ≡ Some a → Sits code p inputs name b' s' up a
         pub mine : (j : ℕ) (u : Worker) → slice_get new_workers w ≡ Some u → u.frame ≡ Some j → Holds code p inputs name b' s' w u j
         pub held : (at : ℕ) (u : Worker) → (w ≡ at → ⊥) → (k ≡ up → ⊥) → (g : Holds code p inputs name b s at u up)
-            → (z : Activation FrameState) × (slice_get new_seats up ≡ Some z) × (let y = z.cursor in y.status ≡ Held at) × (let y = z.cursor in let a = g.seat in let x = a.cursor in y.merged ≡ x.merged)
-        pub desk : IsWorkerTable code p inputs name b' d'
+            → (z : Activation FrameState) × (slice_get new_frame_states up ≡ Some z) × (let y = z.cursor in y.status ≡ Held at) × (let y = z.cursor in let a = g.frame_state in let x = a.cursor in y.merged ≡ x.merged)
+        pub worker_table : IsWorkerTable code p inputs name b' d'
         pub going : b'.outcome ≡ None → ¬ (HasEnd (deeds_at (s'.frames [])))
         pub over : (o : Outcome) → b'.outcome ≡ Some o → HasEnd (deeds_at (s'.frames [])) × (o ≡ outcome_in p s')
 
       module _ (d' : WorkerTable) (r : Settled d') where
-        seats_sit : (j : ℕ) (a : Activation FrameState) → slice_get new_seats j ≡ Some a → Sits code p inputs name b' s' j a
-        seats_sit j a at = by (nat_eq k j) refl (nat_eq up j) refl
+        frame_states_sit : (j : ℕ) (a : Activation FrameState) → slice_get new_frame_states j ≡ Some a → Sits code p inputs name b' s' j a
+        frame_states_sit j a at = by (nat_eq k j) refl (nat_eq up j) refl
           where
             by : (x : Bool) → nat_eq k j ≡ x → (y : Bool) → nat_eq up j ≡ y → Sits code p inputs name b' s' j a
             by true q y z =
                 let same : k ≡ j = eqb-true k j q in
-                let is : now ≡ a = (let z : Some now ≡ Some a = sym t.now_at ∙ ap (λ i. slice_get new_seats i) same ∙ at in cc) in
+                let is : now ≡ a = (let z : Some now ≡ Some a = sym t.now_at ∙ ap (λ i. slice_get new_frame_states i) same ∙ at in cc) in
                 subst (λ i. Sits code p inputs name b' s' i a) same (subst (λ z. Sits code p inputs name b' s' k z) is itself)
             by false q true z =
                 let same : up ≡ j = eqb-true up j z in
                 let ne : k ≡ up → ⊥ = (λ e. true≢false (sym (eq-eqb k j (e ∙ same)) ∙ q)) in
-                subst (λ i. Sits code p inputs name b' s' i a) same (r.parent a ne (ap (λ i. slice_get new_seats i) same ∙ at))
+                subst (λ i. Sits code p inputs name b' s' i a) same (r.parent a ne (ap (λ i. slice_get new_frame_states i) same ∙ at))
             by false q false z =
                 let ne : k ≡ j → ⊥ = (λ e. true≢false (sym (eq-eqb k j e) ∙ q)) in
                 let ne' : up ≡ j → ⊥ = (λ e. true≢false (sym (eq-eqb up j e) ∙ z)) in
@@ -671,7 +671,7 @@ module _ (code : CodeView) (p : Source) (inputs : List ℤ) (name : ℕ → Name
                 let e = sh in
                 let was : (let x = old.0 in x.frame) ≡ Some j = sym (o.frame_is ne) ∙ has in
                 let g = e.holds at j old.0 old.1 was in
-                let off : k ≡ j → ⊥ = (λ e. let y : Some h.seat ≡ Some g.seat = sym h.sits ∙ ap (λ i. slice_get old_seats i) e ∙ g.here in let x : h.seat ≡ g.seat = cc in
+                let off : k ≡ j → ⊥ = (λ e. let y : Some h.frame_state ≡ Some g.frame_state = sym h.sits ∙ ap (λ i. slice_get old_frame_states i) e ∙ g.here in let x : h.frame_state ≡ g.frame_state = cc in
                 let z : Held w ≡ Held at = sym status_was ∙ ap (λ (a : Activation FrameState). let c = a.cursor in c.status) x ∙ g.held in ne (cc)) in
                 there y z old.0 g off ne (o.views_are ne)
               where
@@ -682,10 +682,10 @@ module _ (code : CodeView) (p : Source) (inputs : List ℤ) (name : ℕ → Name
                     subst (λ i. Holds code p inputs name b' s' at u i) same (holds_at at up u0 u z.0 (λ x. off (x ∙ same)) views (subst (λ i. Holds code p inputs name b s at u0 i) (sym same) g) z.1 z.2 z.3)
                 there false e u0 g off ne views =
                     let ne' : up ≡ j → ⊥ = (λ x. true≢false (sym (eq-eqb up j x) ∙ e)) in
-                    holds_at at j u0 u g.seat off views g (t.else_at j off ne' ∙ g.here) g.held refl
+                    holds_at at j u0 u g.frame_state off views g (t.else_at j off ne' ∙ g.here) g.held refl
 
-        base_was : (j : ℕ) (a : Activation FrameState) → slice_get new_seats j ≡ Some a → (z : Activation FrameState) × (slice_get old_seats j ≡ Some z) × (a.base ≡ z.base)
-        base_was j a at = let r = carries.carried_back old_seats new_seats t.on t.same_length j a at in (r.0, r.1, ap (λ (z : Activation FrameState). z.base) r.2)
+        base_was : (j : ℕ) (a : Activation FrameState) → slice_get new_frame_states j ≡ Some a → (z : Activation FrameState) × (slice_get old_frame_states j ≡ Some z) × (a.base ≡ z.base)
+        base_was j a at = let r = carries.carried_back old_frame_states new_frame_states t.on t.same_length j a at in (r.0, r.1, ap (λ (z : Activation FrameState). z.base) r.2)
 
         joins_are : (n : Name) (q : ℕ) → times (n ++ q ∷ []) s'.joins ≡ joined_at 1 q (deeds_at (s'.frames n))
         joins_are n q =
@@ -705,7 +705,7 @@ module _ (code : CodeView) (p : Source) (inputs : List ℤ) (name : ℕ → Name
             let y = sh in
             let o = y.tells in record {
               named = t.named;
-              here = λ j a at. let z = seats_sit j a at in (z.frame, z.here, z.written);
+              here = λ j a at. let z = frame_states_sit j a at in (z.frame, z.here, z.written);
               absent = λ n none. frame_else n (λ q. absent_back n none k low q) ∙ o.absent n (absent_back n none);
               joins = joins_are;
               going = r.going;
@@ -729,7 +729,7 @@ module _ (code : CodeView) (p : Source) (inputs : List ℤ) (name : ℕ → Name
             let y = sh in record {
               tells = tells_is;
               running = m.stopped ∙ y.running;
-              sits = seats_sit;
+              sits = frame_states_sit;
               unstolen = λ n none. stolen_at n ∙ y.unstolen n (absent_back n none);
               unwritten = λ n q none. memory_at (Own n q) ∙ y.unwritten n q (absent_back n none);
               bare = λ n z q kind none there. bare_by n z q kind (absent_back n none) (λ g. there (absent_on z g)) (same_name (name k) z) refl;
@@ -742,7 +742,7 @@ module _ (code : CodeView) (p : Source) (inputs : List ℤ) (name : ℕ → Name
                   let x = ap (λ (l : List ℤ). length l) c.cells in
                   omega (arith, old, e, u, x);
               holds = still_holds;
-              desk = r.desk;
+              worker_table = r.worker_table;
               ticks = spent_as;
               events = total_at EventTotal ∙ ap (λ n. n + 1) y.events ∙ sym (ap (λ (l : List JournalEntry). length l) c.journal ∙ length_more entries (record { frame = k; event = events.End }));
               frames = total_at FrameTotal ∙ omega arith ∙ y.frames ∙ sym t.same_length;
@@ -752,6 +752,6 @@ module _ (code : CodeView) (p : Source) (inputs : List ℤ) (name : ℕ → Name
               eventless = λ j far. let e = t.same_length in let l = low in written_else j (λ q. omega (arith, l, e, far, q)) ∙ y.eventless j (omega (arith, e, far));
             }
           where
-            bare_by : (n z : Name) (q : ℕ) (kind : MonoidKind) → IsAbsent old_seats name n → (IsAbsent old_seats name z → ⊥) → (x : Bool) → same_name (name k) z ≡ x → s'.piece z (Reducer n q kind) ≡ unit_of monoid_of (Reducer n q kind)
+            bare_by : (n z : Name) (q : ℕ) (kind : MonoidKind) → IsAbsent old_frame_states name n → (IsAbsent old_frame_states name z → ⊥) → (x : Bool) → same_name (name k) z ≡ x → s'.piece z (Reducer n q kind) ≡ unit_of monoid_of (Reducer n q kind)
             bare_by n z q kind none there true is = subst (λ y. s'.piece y (Reducer n q kind) ≡ unit_of monoid_of (Reducer n q kind)) (same_name-eq (name k) z is) (piece_bare n q kind none)
             bare_by n z q kind none there false is = let y = sh in piece_off (Reducer n q kind) z (λ e. true≢false (sym (same_name-refl (name k)) ∙ ap (λ x. same_name (name k) x) e ∙ is)) ∙ y.bare n z q kind none there

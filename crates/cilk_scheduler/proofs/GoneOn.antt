@@ -18,7 +18,7 @@ use Rattle.cilk_runs.proofs.Progress.{progress}
 use Rattle.cilk_runs.specs.FrameEnvMachine.{costs, has_ended, is_end}
 use Rattle.cilk_runs.specs.Reducers.{View, monoid_of}
 use Rattle.cilk_runs.specs.Steps.{IsFirst, Next, OneStep}
-use Rattle.cilk_runs.specs.FrameEnvs.{FrameEnv, first_world}
+use Rattle.cilk_runs.specs.FrameEnvs.{FrameEnv, first_env}
 use Rattle.cilk_scheduler.specs.GoneOn.{FramesGoOnBehind, HaveGoneOn, WentOnBehind}
 use Rattle.cilk_scheduler.proofs.Choosing.{one_step}
 use Rattle.cilk_scheduler.proofs.Onward.{end_of, has_end}
@@ -124,8 +124,8 @@ module _ (s s' : State FrameEnv View) (n : Name) (before : List (Deed FrameEnv))
 module _ (p : Source) (inputs : List ℤ) where
   opens_so : (s : State FrameEnv View) → IsFirst p inputs s → HaveGoneOn s
   opens_so s o [] f q before after what d e =
-      let z : Some (begun (first_world p)) ≡ Some f = sym (o.0 []) ∙ q in
-      let same : begun (first_world p) ≡ f = cc in
+      let z : Some (begun (first_env p)) ≡ Some f = sym (o.0 []) ∙ q in
+      let same : begun (first_env p) ≡ f = cc in
       absurd (no_deed before (d ∷ after) (Invokes Spawn what) (ap (λ (x : Frame FrameEnv). x.deeds) same ∙ e))
   opens_so s o (j ∷ n) f q before after what d e = let no : None ≡ Some f = sym (o.0 (j ∷ n)) ∙ q in let z : ⊥ = cc in absurd z
 

@@ -3,7 +3,7 @@
 -- - `child_is`, `spawn`, `among`: the parent, and this frame among its block's stolen children;
 -- - `kept_before`, `lays_now`, `kept_now`: what lies at the block before and after the arrival;
 -- - `unfinished`, `over_now`: whether the block is complete;
--- - `moved`, `parent_sits`, `holds_parent`, `desk_is`: workers, the parent's state, who holds it,
+-- - `moved`, `parent_sits`, `holds_parent`, `worker_table_is`: workers, the parent's state, who holds it,
 --   and the worker table;
 -- - `arrivals_are_shown`: the law.
 use Rattle.std.proofs.Common.{◌≡◌, ◌⊎◌, inl, inr, ⊎_elim, ◌+◌, ◌<◌, ◌≤◌, ℕ, suc, nat_eq, eq-eqb, eqb-true, Bool, true, false, true≢false, cond, ℤ, List, [], ◌∷◌, ◌++◌, length, set, slice_get, Option, Some, None, refl, sym, ap, ap₂, ◌∙◌, subst, append_assoc, arith}
@@ -85,11 +85,11 @@ module _ (code : CodeView) (p : Source) (inputs : List ℤ) (name : ℕ → Name
   abbrev sh : ShowsBy code p inputs name b d s
   sh = is_shown.shows
 
-  abbrev old_seats : List (Activation FrameState)
-  old_seats = let f = b.frames in f.items
+  abbrev old_frame_states : List (Activation FrameState)
+  old_frame_states = let f = b.frames in f.items
 
-  abbrev new_seats : List (Activation FrameState)
-  new_seats = let f = b'.frames in f.items
+  abbrev new_frame_states : List (Activation FrameState)
+  new_frame_states = let f = b'.frames in f.items
 
   abbrev old_workers : List Worker
   old_workers = let l = b.workers in l.items
@@ -97,38 +97,38 @@ module _ (code : CodeView) (p : Source) (inputs : List ℤ) (name : ℕ → Name
   abbrev new_workers : List Worker
   new_workers = let l = b'.workers in l.items
 
-  abbrev seat : FrameState
-  seat = let a = h.seat in a.cursor
+  abbrev frame_state : FrameState
+  frame_state = let a = h.frame_state in a.cursor
 
   abbrev ordinal : ℕ
-  ordinal = let a = h.seat in let x = a.cursor in x.ordinal
+  ordinal = let a = h.frame_state in let x = a.cursor in x.ordinal
 
   abbrev up : ℕ
-  up = let a = h.seat in let x = a.cursor in x.parent
+  up = let a = h.frame_state in let x = a.cursor in x.parent
 
   abbrev parent : FrameState
   parent = let a = g.above in a.cursor
 
   abbrev sitting : Sits code p inputs name b s up g.above
-  sitting = let y = is_shown.shows in y.sits (let a = h.seat in let x = a.cursor in x.parent) g.above g.sits
+  sitting = let y = is_shown.shows in y.sits (let a = h.frame_state in let x = a.cursor in x.parent) g.above g.sits
 
   abbrev deeds : List (Deed FrameEnv)
-  deeds = let o = (let y = is_shown.shows in y.sits (let a = h.seat in let x = a.cursor in x.parent) g.above g.sits) in let f = o.frame in f.deeds
+  deeds = let o = (let y = is_shown.shows in y.sits (let a = h.frame_state in let x = a.cursor in x.parent) g.above g.sits) in let f = o.frame in f.deeds
 
-  named : AreNamed old_seats name
+  named : AreNamed old_frame_states name
   named = let y = is_shown.shows in let o = y.tells in o.named
 
   child_is : (up < suc k) × (name (suc k) ≡ name up ++ ordinal ∷ [])
-  child_is = let n = named in n.child k h.seat h.sits
+  child_is = let n = named in n.child k h.frame_state h.sits
 
   apart : suc k ≡ up → ⊥
   apart e = let c = child_is in let low = c.0 in omega (arith, e, low)
 
-  low : up < length old_seats
-  low = get_low old_seats up g.above g.sits
+  low : up < length old_frame_states
+  low = get_low old_frame_states up g.above g.sits
 
   names_apart : name (suc k) ≡ name up → ⊥
-  names_apart e = let n = named in apart (n.apart (suc k) up (get_low old_seats (suc k) h.seat h.sits) low e)
+  names_apart e = let n = named in apart (n.apart (suc k) up (get_low old_frame_states (suc k) h.frame_state h.sits) low e)
 
   -- another child of the parent's
   child_ne : (z : ℕ) → (ordinal ≡ z → ⊥) → name (suc k) ≡ name up ++ z ∷ [] → ⊥
@@ -137,7 +137,7 @@ module _ (code : CodeView) (p : Source) (inputs : List ℤ) (name : ℕ → Name
   flag : s.stolen (name up ++ ordinal ∷ []) ≡ true
   flag =
       let y = is_shown.shows in
-      let o = y.sits (suc k) h.seat h.sits in
+      let o = y.sits (suc k) h.frame_state h.sits in
       let c = child_is in
       ap s.stolen (sym c.1) ∙ o.stolen ∙ g.was_stolen
 
@@ -147,7 +147,7 @@ module _ (code : CodeView) (p : Source) (inputs : List ℤ) (name : ℕ → Name
   under : IsUnder s (name up) ordinal
   under =
       let y = is_shown.shows in
-      let o = y.sits (suc k) h.seat h.sits in
+      let o = y.sits (suc k) h.frame_state h.sits in
       let c = child_is in
       under_of s outlive (name up) ordinal o.frame (ap s.frames (sym c.1) ∙ o.here) (ended.goes code p inputs name b d s w (suc k) v is_shown started_as h)
 
@@ -223,7 +223,7 @@ module _ (code : CodeView) (p : Source) (inputs : List ℤ) (name : ℕ → Name
   piece = product g.views
 
   abbrev block_now : JoinView
-  block_now = arrived_at (let a = g.above in let y = a.cursor in block_in y.join) (let a = h.seat in let x = a.cursor in x.ordinal) false (product g.views)
+  block_now = arrived_at (let a = g.above in let y = a.cursor in block_in y.join) (let a = h.frame_state in let x = a.cursor in x.ordinal) false (product g.views)
 
   kept_before : Keeps code p inputs name b s (name up) deeds block × (block.closed ≡ true → parent.status ≡ Waiting)
   kept_before =
@@ -276,25 +276,25 @@ module _ (code : CodeView) (p : Source) (inputs : List ℤ) (name : ℕ → Name
     abbrev change : FrameState → FrameState
     change = λ _. cond g.passes (moved_to (Held w) (passed g.joined)) g.joined
 
-    up_at : slice_get new_seats up ≡ Some (let a = g.above in record a { cursor = parent_with g.passes })
+    up_at : slice_get new_frame_states up ≡ Some (let a = g.above in record a { cursor = parent_with g.passes })
     up_at =
         let a = g.above in
         let B : FrameState → Option (Activation FrameState) = (λ y. Some (record a { cursor = y })) in
-        ap (λ l. slice_get l up) g.frames ∙ changed_here change mid up g.above (changed_off (λ _. counted (finished h.came)) old_seats (suc k) up apart ∙ g.sits) ∙ ap B (parent_is_now g.passes)
+        ap (λ l. slice_get l up) g.frames ∙ changed_here change mid up g.above (changed_off (λ _. counted (finished h.came)) old_frame_states (suc k) up apart ∙ g.sits) ∙ ap B (parent_is_now g.passes)
 
-    named_now : AreNamed new_seats name
+    named_now : AreNamed new_frame_states name
     named_now =
         let J : FrameState → FrameState = (λ y. let x = parent_with g.passes in record y { status = x.status; join = x.join; merged = x.merged }) in
         subst (λ l. AreNamed l name) (sym g.frames)
-        (subst (λ l. AreNamed l name) (changed_known J change mid up g.above (changed_off (λ _. counted (finished h.came)) old_seats (suc k) up apart ∙ g.sits) (sym (parent_is_now g.passes)))
+        (subst (λ l. AreNamed l name) (changed_known J change mid up g.above (changed_off (λ _. counted (finished h.came)) old_frame_states (suc k) up apart ∙ g.sits) (sym (parent_is_now g.passes)))
         (named_changed J mid up name (λ x. (refl, refl)) (ended.named_ended code p inputs name b d s w (suc k) v is_shown started_as h b' g.views g.closes s' m)))
 
     moved : ended.Moved code p inputs name b d s w (suc k) v is_shown started_as h b' g.views g.closes s' m up
     moved = record {
-      on = subst (λ l. carries.Carries old_seats l) (sym g.frames) (carries.carries_then old_seats mid (changed change mid up) (carries.carries_changed (λ _. counted (finished h.came)) old_seats (suc k)) (carries.carries_changed change mid up));
-      same_length = ap (λ (l : List (Activation FrameState)). length l) g.frames ∙ changed_length change mid up ∙ changed_length (λ _. counted (finished h.came)) old_seats (suc k);
-      else_at = λ j ne ne'. ap (λ l. slice_get l j) g.frames ∙ changed_off change mid up j ne' ∙ changed_off (λ _. counted (finished h.came)) old_seats (suc k) j ne;
-      now_at = ap (λ l. slice_get l (suc k)) g.frames ∙ changed_off change mid up (suc k) (λ e. apart (sym e)) ∙ changed_here (λ _. counted (finished h.came)) old_seats (suc k) h.seat h.sits;
+      on = subst (λ l. carries.Carries old_frame_states l) (sym g.frames) (carries.carries_then old_frame_states mid (changed change mid up) (carries.carries_changed (λ _. counted (finished h.came)) old_frame_states (suc k)) (carries.carries_changed change mid up));
+      same_length = ap (λ (l : List (Activation FrameState)). length l) g.frames ∙ changed_length change mid up ∙ changed_length (λ _. counted (finished h.came)) old_frame_states (suc k);
+      else_at = λ j ne ne'. ap (λ l. slice_get l j) g.frames ∙ changed_off change mid up j ne' ∙ changed_off (λ _. counted (finished h.came)) old_frame_states (suc k) j ne;
+      now_at = ap (λ l. slice_get l (suc k)) g.frames ∙ changed_off change mid up (suc k) (λ e. apart (sym e)) ∙ changed_here (λ _. counted (finished h.came)) old_frame_states (suc k) h.frame_state h.sits;
       named = named_now;
       above = low;
       kin = λ n z q. let c = child_is in let r = snoc_name (name up) n ordinal z (sym c.1 ∙ q) in sym r.0;
@@ -338,7 +338,7 @@ module _ (code : CodeView) (p : Source) (inputs : List ℤ) (name : ℕ → Name
     own_same : (i : Instance) → cond block.closed (s'.piece (name up) i) (unit_of monoid_of i) ≡ cond block.closed (s.piece (name up) i) (unit_of monoid_of i)
     own_same i = ap (λ x. cond block.closed x (unit_of monoid_of i)) (ended.piece_off code p inputs name b d s w (suc k) v is_shown started_as h b' g.views g.closes s' m i (name up) names_apart)
 
-    lays_now : (i : Instance) (q : numbered.Instance) → IsInstance p old_seats name i q → let r = block_now.row in
+    lays_now : (i : Instance) (q : numbered.Instance) → IsInstance p old_frame_states name i q → let r = block_now.row in
         Lays (kind_of i) (λ z. s'.piece (name up ++ z ∷ []) i) there_now (cond block.closed (s'.piece (name up) i) (unit_of monoid_of i)) (unit_of monoid_of i) (stolen_at_block code p inputs name b' s' (name up) deeds) (run_at (kind_of i) q r.run) (waits_at (kind_of i) q r.waits)
     lays_now i q is =
         let K = kept_before in
@@ -358,12 +358,12 @@ module _ (code : CodeView) (p : Source) (inputs : List ℤ) (name : ℕ → Name
         let three = lays_among kind kid' kid' (with_one there ordinal) there_now own own' (own_same i) (unit_of monoid_of i) listed (run_at kind q rn.run) (waits_at kind q rn.waits) (λ z at. there_as z) (λ z at x. refl) two in
         subst (λ ks. Lays kind kid' there_now own' (unit_of monoid_of i) ks (run_at kind q rn.run) (waits_at kind q rn.waits)) (sym (flags deeds)) three
 
-    bare_now : let r = block_now.row in ((run : Product) → r.run ≡ Some run → IsBare (length old_seats) run) × ((q : ℕ) (a : Wait Product) (run : Product) → slice_get r.waits q ≡ Some a → a.run ≡ Some run → IsBare (length old_seats) run)
+    bare_now : let r = block_now.row in ((run : Product) → r.run ≡ Some run → IsBare (length old_frame_states) run) × ((q : ℕ) (a : Wait Product) (run : Product) → slice_get r.waits q ≡ Some a → a.run ≡ Some run → IsBare (length old_frame_states) run)
     bare_now =
         let K = kept_before in
         let kb = K.0 in
         let r = block.row in
-        placed_bare (length old_seats) r.run r.waits ordinal piece kb.bare kb.bare_later (ended.left_bare code p inputs name b d s w (suc k) v is_shown started_as h b' g.views g.closes s' m)
+        placed_bare (length old_frame_states) r.run r.waits ordinal piece kb.bare kb.bare_later (ended.left_bare code p inputs name b d s w (suc k) v is_shown started_as h b' g.views g.closes s' m)
 
     kept_now : Keeps code p inputs name b' s' (name up) deeds block_now
     kept_now =
@@ -442,7 +442,7 @@ module _ (code : CodeView) (p : Source) (inputs : List ℤ) (name : ℕ → Name
     -- ---- the parent's state
 
     abbrev Comes : Bool → Type 0
-    Comes t = let j = g.joined in Arrives (let a = g.above in let y = a.cursor in block_in y.join) (let a = h.seat in let x = a.cursor in x.ordinal) false (product g.views) t (block_in j.join) g.left
+    Comes t = let j = g.joined in Arrives (let a = g.above in let y = a.cursor in block_in y.join) (let a = h.frame_state in let x = a.cursor in x.ordinal) false (product g.views) t (block_in j.join) g.left
 
     -- where it passes, the parent waits at its sync, and no key is awaited
     passes_then : Comes true → (parent.status ≡ Waiting) × (block.closed ≡ true) × ((let r = block_now.row in is_empty r.waits) ≡ true)
@@ -528,7 +528,7 @@ module _ (code : CodeView) (p : Source) (inputs : List ℤ) (name : ℕ → Name
 
     -- ---- the worker that continues with it
 
-    lays_whole : Comes true → (i : Instance) (q : numbered.Instance) → IsInstance p old_seats name i q
+    lays_whole : Comes true → (i : Instance) (q : numbered.Instance) → IsInstance p old_frame_states name i q
         → Lays (kind_of i) (λ z. s'.piece (name up ++ z ∷ []) i) there_now (s'.piece (name up) i) (unit_of monoid_of i) (stolen_at_block code p inputs name b' s' (name up) deeds) (Some (product g.left (kind_of i) q)) []
     lays_whole a i q is =
         let r = block_now.row in
@@ -556,7 +556,7 @@ module _ (code : CodeView) (p : Source) (inputs : List ℤ) (name : ℕ → Name
     holds_parent : (u : Worker) → u.views ≡ g.left → g.passes ≡ true → Comes true → Holds code p inputs name b' s' w u up
     holds_parent u views e a =
         let z = bare_now in record {
-          seat = (let a = g.above in record a { cursor = parent_with g.passes });
+          frame_state = (let a = g.above in record a { cursor = parent_with g.passes });
           here = up_at;
           held = ap (λ t. cond t (Held w) parent.status) e;
           views = λ i j is.
@@ -565,7 +565,7 @@ module _ (code : CodeView) (p : Source) (inputs : List ℤ) (name : ℕ → Name
               (sym (ap₂ (λ f t. carried (monoid_of i) (λ n. s'.piece n i) s'.stolen (name up) (deeds_at f) t) parent_frame (ap (λ t. cond t true parent.merged) e)))
               (subst (λ x. IsViewOf (kind_of i) ((monoid_of i).combine (block_view (monoid_of i) (λ z. s'.piece (name up ++ z ∷ []) i) (λ z. s'.stolen (name up ++ z ∷ [])) ((monoid_of i).unit) 1 deeds) (s'.piece (name up) i)) (value_in x (kind_of i) j)) (sym views) whole);
           used = λ q is. used_now q (subst (λ t. IsUsed s'.stolen (name up) (deeds_at (s'.frames (name up))) t q) (ap (λ t. cond t true parent.merged) e) is);
-          bare = subst (λ n. IsBare n (value_in u.views)) (sym moved.same_length) (subst (λ x. IsBare (length old_seats) (value_in x)) (sym views) (z.0 (product g.left) a.1));
+          bare = subst (λ n. IsBare n (value_in u.views)) (sym moved.same_length) (subst (λ x. IsBare (length old_frame_states) (value_in x)) (sym views) (z.0 (product g.left) a.1));
         }
       where
         used_now : (q : ℕ) → IsUsed s'.stolen (name up) (deeds_at (s'.frames (name up))) true q → there_now q ≡ true
@@ -576,20 +576,20 @@ module _ (code : CodeView) (p : Source) (inputs : List ℤ) (name : ℕ → Name
     abbrev waiting_with : Bool → List Name
     waiting_with t = cond t (without d.waiting (name up)) d.waiting
 
-    abbrev desk_with : Bool → WorkerTable
-    desk_with t = record d { hands = set d.hands w (cond t (Some (name up)) None); waiting = cond t (without d.waiting (name up)) d.waiting }
+    abbrev worker_table_with : Bool → WorkerTable
+    worker_table_with t = record d { hands = set d.hands w (cond t (Some (name up)) None); waiting = cond t (without d.waiting (name up)) d.waiting }
 
     fewer : (t : Bool) (n : Name) → IsIn n (waiting_with t) → IsIn n d.waiting
     fewer true n is = in_less d.waiting (name up) n is
     fewer false n is = is
 
-    rest : (t : Bool) (j : ℕ) → j < length old_seats → (up ≡ j → ⊥) → IsIn (name j) d.waiting → IsIn (name j) (waiting_with t)
+    rest : (t : Bool) (j : ℕ) → j < length old_frame_states → (up ≡ j → ⊥) → IsIn (name j) d.waiting → IsIn (name j) (waiting_with t)
     rest true j at ne is = in_rest d.waiting (name up) (name j) (λ e. let n = named in ne (n.apart up j low at e)) is
     rest false j at ne is = is
 
     parent_status : (t : Bool) → Comes t → ((cond t (Held w) parent.status) ≡ Waiting → IsIn (name up) (waiting_with t)) × (IsIn (name up) (waiting_with t) → (cond t (Held w) parent.status) ≡ Waiting)
     parent_status true a = ((λ q. let z : Held w ≡ Waiting = q in let f : ⊥ = cc in absurd f), (λ q. absurd (not_in d.waiting (name up) q)))
-    parent_status false a = let y = sh in let o = y.desk in o.waiting up g.above g.sits
+    parent_status false a = let y = sh in let o = y.worker_table in o.waiting up g.above g.sits
 
     not_offered : (at : ℕ) → parent.status ≡ Waiting → parent.status ≡ Offered at → ⊥
     not_offered at q e = let z : Waiting ≡ Offered at = sym q ∙ e in cc
@@ -598,9 +598,9 @@ module _ (code : CodeView) (p : Source) (inputs : List ℤ) (name : ℕ → Name
     still_offered true a at q = let z = passes_then a in absurd (not_offered at z.0 q)
     still_offered false a at q = q
 
-    desk_is : IsWorkerTable code p inputs name b' (desk_with g.passes)
-    desk_is =
-        ended.desk_kept code p inputs name b d s w (suc k) v is_shown started_as h b' g.views g.closes s' m up moved (with_frame g.passes) (cond g.passes (Some (name up)) None) (offers_same g.passes) (hands_same g.passes) g.workers g.offered (waiting_with g.passes) (fewer g.passes)
+    worker_table_is : IsWorkerTable code p inputs name b' (worker_table_with g.passes)
+    worker_table_is =
+        ended.worker_table_kept code p inputs name b d s w (suc k) v is_shown started_as h b' g.views g.closes s' m up moved (with_frame g.passes) (cond g.passes (Some (name up)) None) (offers_same g.passes) (hands_same g.passes) g.workers g.offered (waiting_with g.passes) (fewer g.passes)
         (λ at x is status.
         let same : g.above ≡ x = (let q : Some g.above ≡ Some x = sym g.sits ∙ is in cc) in
         ((let a = g.above in record a { cursor = parent_with g.passes }), up_at, still_offered g.passes g.arrives at (ap (λ (a : Activation FrameState). let z = a.cursor in z.status) same ∙ status)))
@@ -616,17 +616,17 @@ module _ (code : CodeView) (p : Source) (inputs : List ℤ) (name : ℕ → Name
     held_by true a at q = let z = passes_then a in let n : Waiting ≡ Held at = sym z.0 ∙ q in let f : ⊥ = cc in absurd f
     held_by false a at q = (q, refl)
 
-    settled : ended.Settled code p inputs name b d s w (suc k) v is_shown started_as h b' g.views g.closes s' m up moved (desk_with g.passes)
+    settled : ended.Settled code p inputs name b d s w (suc k) v is_shown started_as h b' g.views g.closes s' m up moved (worker_table_with g.passes)
     settled = record {
       parent = λ a ne is.
           let same : (let y = g.above in record y { cursor = parent_with g.passes }) ≡ a = (let q : Some (let y = g.above in record y { cursor = parent_with g.passes }) ≡ Some a = sym up_at ∙ is in cc) in
           subst (λ z. Sits code p inputs name b' s' up z) same (parent_sits g.passes refl g.arrives);
       mine = λ j u is has. mine_by g.passes refl g.arrives j u (own_now u is) has;
       held = λ at u ne off y.
-          let same : y.seat ≡ g.above = (let z : Some y.seat ≡ Some g.above = sym y.here ∙ g.sits in cc) in
+          let same : y.frame_state ≡ g.above = (let z : Some y.frame_state ≡ Some g.above = sym y.here ∙ g.sits in cc) in
           let r = held_by g.passes g.arrives at (ap (λ (a : Activation FrameState). let x = a.cursor in x.status) (sym same) ∙ y.held) in
           ((let a = g.above in record a { cursor = parent_with g.passes }), up_at, r.0, r.1 ∙ ap (λ (a : Activation FrameState). let x = a.cursor in x.merged) (sym same));
-      desk = desk_is;
+      worker_table = worker_table_is;
       going = λ none f.
           let y = sh in
           let o = y.tells in
@@ -646,19 +646,19 @@ module _ (code : CodeView) (p : Source) (inputs : List ℤ) (name : ℕ → Name
             let f : ⊥ = cc in
             absurd f
 
-    settles : (t : Bool) → Comes t → (before : List (Deed FrameEnv)) (gone : List Instance) → Settles s' d w (name (suc k)) before (End v gone) (desk_with t)
+    settles : (t : Bool) → Comes t → (before : List (Deed FrameEnv)) (gone : List Instance) → Settles s' d w (name (suc k)) before (End v gone) (worker_table_with t)
     settles true a before gone =
         let c = child_is in
         let z = passes_then a in
         let y = goes_where z.0 in
         let x = sh in
-        let o = x.desk in
+        let o = x.worker_table in
         let in_is = o.waiting up g.above g.sits in
         passes_now v gone (name up) ordinal c.1 (ended.stolen_at code p inputs name b d s w (suc k) v is_shown started_as h b' g.views g.closes s' m (name (suc k)) ∙ ap s.stolen c.1 ∙ flag) (in_is.0 z.0) (over_now z.2 y.0)
     settles false a before gone =
         let c = child_is in
         let x = sh in
-        let o = x.desk in
+        let o = x.worker_table in
         let in_is = o.waiting up g.above g.sits in
         leaves v gone (name up) ordinal c.1 (ended.stolen_at code p inputs name b d s w (suc k) v is_shown started_as h b' g.views g.closes s' m (name (suc k)) ∙ ap s.stolen c.1 ∙ flag) (λ both. not_both (in_is.1 both.0) both.1)
       where
@@ -669,19 +669,19 @@ module _ (code : CodeView) (p : Source) (inputs : List ℤ) (name : ℕ → Name
             let closed : block.closed ≡ true = ap (λ (j : JoinView). j.closed) (block_of parent.join i.1 i.2) ∙ i.3 in
             unfinished (waits_then a closed) over
 
-    chooses : Chooses p inputs s d (Run (suc w)) Did s' (desk_with g.passes)
+    chooses : Chooses p inputs s d (Run (suc w)) Did s' (worker_table_with g.passes)
     chooses =
         let f = m.frame in
-        does w (name (suc k)) s' (desk_with g.passes) (ended.hand_is code p inputs name b d s w (suc k) v is_shown started_as h) m
-        (subst (λ a. Settles s' d w (name (suc k)) f.deeds a (desk_with g.passes)) (sym (ended.ask_is code p inputs name b d s w (suc k) v is_shown started_as h b' g.views g.closes s' m)) (settles g.passes g.arrives f.deeds _))
+        does w (name (suc k)) s' (worker_table_with g.passes) (ended.hand_is code p inputs name b d s w (suc k) v is_shown started_as h) m
+        (subst (λ a. Settles s' d w (name (suc k)) f.deeds a (worker_table_with g.passes)) (sym (ended.ask_is code p inputs name b d s w (suc k) v is_shown started_as h b' g.views g.closes s' m)) (settles g.passes g.arrives f.deeds _))
 
   pub arrived : IsEnded code p inputs name b' d s w
   arrived =
       let n = ended.makes code p inputs name b d s w (suc k) v is_shown started_as h in (
         n.after,
-        desk_with n.after n.makes g.passes,
+        worker_table_with n.after n.makes g.passes,
         chooses n.after n.makes,
-        ended.shown_after code p inputs name b d s w (suc k) v is_shown started_as h b' g.views g.closes n.after n.makes up (moved n.after n.makes) (desk_with n.after n.makes g.passes) (settled n.after n.makes),
+        ended.shown_after code p inputs name b d s w (suc k) v is_shown started_as h b' g.views g.closes n.after n.makes up (moved n.after n.makes) (worker_table_with n.after n.makes g.passes) (settled n.after n.makes),
       )
 
 pub arrivals_are_shown : (code : CodeView) (p : Source) (inputs : List ℤ) → ArrivalsAreShown code p inputs

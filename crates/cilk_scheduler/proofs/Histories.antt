@@ -32,7 +32,7 @@ use Rattle.cilk_runs.specs.Runs.{Name, same_name, Cell, Instance, Ask, Read, Wri
 use Rattle.cilk_runs.specs.FrameEnvMachine.{answer_of, answers_of, costs, has_ended, is_end, named_ask, next}
 use Rattle.cilk_runs.specs.Reducers.{View, monoid_of}
 use Rattle.cilk_runs.specs.Steps.{Next, IsFirst, OneStep}
-use Rattle.cilk_runs.specs.FrameEnvs.{FrameEnv, first_world}
+use Rattle.cilk_runs.specs.FrameEnvs.{FrameEnv, first_env}
 use Rattle.cilk_scheduler.specs.Schedulers.{is_resuming}
 use Rattle.cilk_scheduler.specs.Histories.{IsAnswered, AreAnswered, DidAsAsked, BeginsAndResumes, FramesDoAsAsked}
 use Rattle.cilk_scheduler.proofs.Carried.{resuming_event, resuming_child}
@@ -521,8 +521,8 @@ module _ (p : Source) (inputs : List ℤ) where
 
   opens_so : (s : State FrameEnv View) → IsFirst p inputs s → DidAsAsked p inputs s
   opens_so s o [] f q =
-      let z : Some (begun (first_world p)) ≡ Some f = sym (o.0 []) ∙ q in
-      let same : begun (first_world p) ≡ f = cc in
+      let z : Some (begun (first_env p)) ≡ Some f = sym (o.0 []) ∙ q in
+      let same : begun (first_env p) ≡ f = cc in
       subst IsRight same tt
   opens_so s o (j ∷ n) f q = let no : None ≡ Some f = sym (o.0 (j ∷ n)) ∙ q in let z : ⊥ = cc in absurd z
 

@@ -15,7 +15,7 @@ use Rattle.cilk_runs.specs.Runs.{Name, Invoke, Invokes}
 use Rattle.cilk_runs.specs.FrameEnvMachine.{costs, next}
 use Rattle.cilk_runs.specs.Reducers.{View, monoid_of}
 use Rattle.cilk_runs.specs.Steps.{Next}
-use Rattle.cilk_runs.specs.FrameEnvs.{FrameEnv, child_world}
+use Rattle.cilk_runs.specs.FrameEnvs.{FrameEnv, child_env}
 use Rattle.cilk_scheduler.specs.declared.scheduler.Scheduler.{Scheduler}
 use Rattle.cilk_scheduler.specs.declared.choice.Choice.TheVariants.{Run}
 use Rattle.cilk_scheduler.specs.Acting.{IsShown}
@@ -45,7 +45,7 @@ module _ (code : CodeView) (p : Source) (inputs : List ℤ) (name : ℕ → Name
   renamed = named_at name (let f = b.frames in length f.items) (name k ++ suc (started (deeds_at (s.frames (name k)))) ∷ [])
 
   low : k < last
-  low = let f = b.frames in get_low f.items k h.seat h.sits
+  low = let f = b.frames in get_low f.items k h.frame_state h.sits
 
   renamed_low : (j : ℕ) → j < last → renamed j ≡ name j
   renamed_low j less = named_else name last kid j less
@@ -57,10 +57,10 @@ module _ (code : CodeView) (p : Source) (inputs : List ℤ) (name : ℕ → Name
   no_sync q = cc
 
   abbrev frame : Frame FrameEnv
-  frame = let o = shows.sits k h.seat h.sits in o.frame
+  frame = let o = shows.sits k h.frame_state h.sits in o.frame
 
   here : s.frames (name k) ≡ Some frame
-  here = let o = shows.sits k h.seat h.sits in ap s.frames (sym (renamed_low k low)) ∙ o.here
+  here = let o = shows.sits k h.frame_state h.sits in ap s.frames (sym (renamed_low k low)) ∙ o.here
 
   kid_is : kid ≡ name k ++ suc (started frame.deeds) ∷ []
   kid_is = ap (λ f. name k ++ suc (started (deeds_at f)) ∷ []) here
@@ -73,10 +73,10 @@ module _ (code : CodeView) (p : Source) (inputs : List ℤ) (name : ℕ → Name
 
   module _ (s' : State FrameEnv View) (m : Makes FrameEnv View monoid_of (Next p inputs) (costs p inputs) s (renamed k) s') where
     abbrev child_is : FrameEnv
-    child_is = child_world p (let f = (let o = shows.sits k h.seat h.sits in o.frame) in f.what) (suc (started (let f = (let o = shows.sits k h.seat h.sits in o.frame) in f.deeds))) callee
+    child_is = child_env p (let f = (let o = shows.sits k h.frame_state h.sits in o.frame) in f.what) (suc (started (let f = (let o = shows.sits k h.frame_state h.sits in o.frame) in f.deeds))) callee
 
     frame_is : m.frame ≡ frame
-    frame_is = let a = m.asking in let o = shows.sits k h.seat h.sits in let q : Some m.frame ≡ Some frame = sym a.here ∙ o.here in cc
+    frame_is = let a = m.asking in let o = shows.sits k h.frame_state h.sits in let q : Some m.frame ≡ Some frame = sym a.here ∙ o.here in cc
 
     ask_is : m.ask ≡ Invoke how child_is
     ask_is =
@@ -93,7 +93,7 @@ module _ (code : CodeView) (p : Source) (inputs : List ℤ) (name : ℕ → Name
         ∙ ap (λ n. after_deed s.frames n frame (Invokes how child_is)) (renamed_low k low)
 
     starts : Starts code p inputs name b b' s s' w k how callee
-    starts = record { comes = h; frame = frame; child = t.child; status = left_at how w; here = here; fresh = fresh; made = made; is_child = t.is_child; seats_are = t.frames }
+    starts = record { comes = h; frame = frame; child = t.child; status = left_at how w; here = here; fresh = fresh; made = made; is_child = t.is_child; frame_states_are = t.frames }
 
     turn : TakesTurn code p inputs b b' s s' w k how
     turn = record { worker = t.worker; at = worker_now; has = t.has; stolen = m.stolen; written = t.journal }
@@ -111,19 +111,19 @@ module _ (code : CodeView) (p : Source) (inputs : List ℤ) (name : ℕ → Name
     fresh_now : s.frames (renamed k ++ suc (started frame.deeds) ∷ []) ≡ None
     fresh_now = ap (λ n. s.frames (n ++ suc (started frame.deeds) ∷ [])) (renamed_low k low) ∙ fresh
 
-    abbrev desk : WorkerTable
-    desk = invoked.desk_now code p inputs renamed b b' d s s' w k how callee x.lays shows x.asked h t m last_name fresh_now counted child_sits
+    abbrev worker_table : WorkerTable
+    worker_table = invoked.worker_table_now code p inputs renamed b b' d s s' w k how callee x.lays shows x.asked h t m last_name fresh_now counted child_sits
 
-    chosen : Chooses p inputs s d (Run (suc w)) Did s' desk
+    chosen : Chooses p inputs s d (Run (suc w)) Did s' worker_table
     chosen = invoked.settles code p inputs renamed b b' d s s' w k how callee x.lays shows x.asked h t m last_name fresh_now counted child_sits
 
-    shown_after : ShowsBy code p inputs renamed b' desk s'
+    shown_after : ShowsBy code p inputs renamed b' worker_table s'
     shown_after = invoked.shown_then code p inputs renamed b b' d s s' w k how callee x.lays shows x.asked h t m last_name fresh_now counted child_sits
 
   pub goes_to_child : (s' : State FrameEnv View) × (d' : WorkerTable) × Chooses p inputs s d (Run (suc w)) Did s' d' × ShowsBy code p inputs renamed b' d' s'
   goes_to_child =
       let n = stepped.makes code p inputs renamed b d s w k (asks.Invoke how callee) x.lays shows h no_sync (λ q. cc) in
-      (n.after, desk n.after n.makes, chosen n.after n.makes, shown_after n.after n.makes)
+      (n.after, worker_table n.after n.makes, chosen n.after n.makes, shown_after n.after n.makes)
 
 pub invocations_are_shown : (code : CodeView) (p : Source) (inputs : List ℤ) → InvocationsAreShown code p inputs
 invocations_are_shown code p inputs name b b' d s w k how callee behaves x counted h t = goes_to_child code p inputs name b b' d s w k how callee behaves x counted h t

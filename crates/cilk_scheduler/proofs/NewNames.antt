@@ -30,13 +30,13 @@ not_root (j ∷ n) q e = let z : [] ≡ j ∷ (n ++ q ∷ []) = e in cc
 module _ (code : CodeView) (p : Source) (inputs : List ℤ) (name : ℕ → Name) (b : Scheduler) (s : State FrameEnv View) (t : Tells code p inputs name b s) (counts : AreCounted s.frames) (k : ℕ) (x : Activation FrameState)
     (at : (let f = b.frames in slice_get f.items k ≡ Some x)) (f : Frame FrameEnv) (here : s.frames (name k) ≡ Some f) (children : (let y = x.cursor in started f.deeds ≡ y.children))
     (last : (let y = x.cursor in 0 < y.children → (let l = b.frames in y.last < length l.items) × (name y.last ≡ name k ++ y.children ∷ []))) where
-  abbrev seats : List (Activation FrameState)
-  seats = let l = b.frames in l.items
+  abbrev frame_states : List (Activation FrameState)
+  frame_states = let l = b.frames in l.items
 
-  named : AreNamed seats name
+  named : AreNamed frame_states name
   named = t.named
 
-  every : (j : ℕ) (z : Activation FrameState) → slice_get seats (suc j) ≡ Some z → (let y = z.cursor in y.parent ≡ k) → (let y = z.cursor in y.ordinal ≤ started f.deeds)
+  every : (j : ℕ) (z : Activation FrameState) → slice_get frame_states (suc j) ≡ Some z → (let y = z.cursor in y.parent ≡ k) → (let y = z.cursor in y.ordinal ≤ started f.deeds)
   every j z there is =
       let y = z.cursor in
       let c = named.child j z there in
@@ -45,37 +45,37 @@ module _ (code : CodeView) (p : Source) (inputs : List ℤ) (name : ℕ → Name
       let r = counts (name k) y.ordinal g.0 (ap s.frames (sym named_so) ∙ g.1) in
       subst (λ o. y.ordinal ≤ started (deeds_at o)) here r.1
 
-  some : 0 < started f.deeds → HasChild seats k (started f.deeds)
+  some : 0 < started f.deeds → HasChild frame_states k (started f.deeds)
   some more = by (let y = x.cursor in y.last) refl
     where
-      known : (let y = x.cursor in (y.last < length seats) × (name y.last ≡ name k ++ started f.deeds ∷ []))
+      known : (let y = x.cursor in (y.last < length frame_states) × (name y.last ≡ name k ++ started f.deeds ∷ []))
       known =
           let y = x.cursor in
           let e = children in
           let r = last (subst (λ n. 0 < n) children more) in
           (r.0, r.1 ∙ ap (λ n. name k ++ n ∷ []) (sym children))
 
-      by : (m : ℕ) → (let y = x.cursor in y.last ≡ m) → HasChild seats k (started f.deeds)
+      by : (m : ℕ) → (let y = x.cursor in y.last ≡ m) → HasChild frame_states k (started f.deeds)
       by zero e = let r = known in absurd (not_root (name k) (started f.deeds) (sym named.root ∙ ap name (sym e) ∙ r.1))
       by (suc j) e =
           let r = known in
-          let low : suc j < length seats = subst (λ n. n < length seats) e r.0 in
-          let g = get_some seats (suc j) low in
+          let low : suc j < length frame_states = subst (λ n. n < length frame_states) e r.0 in
+          let g = get_some frame_states (suc j) low in
           let c = named.child j g.0 g.1 in
           let y = (let z = g.0 in z.cursor) in
           let less = c.0 in
           let q = snoc_name (name y.parent) (name k) y.ordinal (started f.deeds) (sym c.1 ∙ ap name (sym e) ∙ r.1) in
-          record { before = j; seat = g.0; at = g.1; parent = named.apart y.parent k (omega (arith, less, low)) (get_low seats k x at) q.0; ordinal = q.1 }
+          record { before = j; frame_state = g.0; at = g.1; parent = named.apart y.parent k (omega (arith, less, low)) (get_low frame_states k x at) q.0; ordinal = q.1 }
 
-  pub all_started : length (children_among seats k (length seats)) ≡ started f.deeds
-  all_started = all_counted seats named.ordinal k (started f.deeds) every some
+  pub all_started : length (children_among frame_states k (length frame_states)) ≡ started f.deeds
+  all_started = all_counted frame_states named.ordinal k (started f.deeds) every some
 
 -- a frame was there, started by the same one under the same ordinal
 pub record WasStarted (old : List (Activation FrameState)) (j : ℕ) (a : Activation FrameState) : Type 0 where
-  pub seat : Activation FrameState
-  pub at : slice_get old j ≡ Some seat
-  pub parent : let x = a.cursor in let y = seat.cursor in x.parent ≡ y.parent
-  pub ordinal : let x = a.cursor in let y = seat.cursor in x.ordinal ≡ y.ordinal
+  pub frame_state : Activation FrameState
+  pub at : slice_get old j ≡ Some frame_state
+  pub parent : let x = a.cursor in let y = frame_state.cursor in x.parent ≡ y.parent
+  pub ordinal : let x = a.cursor in let y = frame_state.cursor in x.ordinal ≡ y.ordinal
 
 module _ (old new : List (Activation FrameState)) (name : ℕ → Name) (child : Activation FrameState) (k c : ℕ) (known : AreNamed old name) (low : k < length old) (one_more : length new ≡ suc (length old))
     (was : (j : ℕ) (a : Activation FrameState) → slice_get new j ≡ Some a → WasStarted old j a ⊎ ((length old ≡ j) × (child ≡ a))) (parent : (let x = child.cursor in x.parent ≡ k)) (ordinal : (let x = child.cursor in x.ordinal ≡ suc c))
@@ -91,7 +91,7 @@ module _ (old new : List (Activation FrameState)) (name : ℕ → Name) (child :
     where
       before : WasStarted old (suc j) x → (let y = x.cursor in (y.parent < suc j) × (name (suc j) ≡ name y.parent ++ y.ordinal ∷ []))
       before r =
-          let e = known.child j r.seat r.at in
+          let e = known.child j r.frame_state r.at in
           (subst (λ n. n < suc j) (sym r.parent) e.0, e.1 ∙ ap₂ (λ n q. name n ++ q ∷ []) (sym r.parent) (sym r.ordinal))
 
       newest : (length old ≡ suc j) × (child ≡ x) → (let y = x.cursor in (y.parent < suc j) × (name (suc j) ≡ name y.parent ++ y.ordinal ∷ []))
@@ -106,8 +106,8 @@ module _ (old new : List (Activation FrameState)) (name : ℕ → Name) (child :
       before : WasStarted old (suc j) x → (let y = x.cursor in y.ordinal ≡ suc (length (children_among new y.parent (suc j))))
       before r =
           let y = x.cursor in
-          let less = get_low old (suc j) r.seat r.at in
-          r.ordinal ∙ known.ordinal j r.seat r.at ∙ ap (λ n. suc (length (children_among old n (suc j)))) (sym r.parent) ∙ ap (λ (l : List ℕ). suc (length l)) (sym (among_below old new (length old) same_parents y.parent (suc j) (omega (arith, less))))
+          let less = get_low old (suc j) r.frame_state r.at in
+          r.ordinal ∙ known.ordinal j r.frame_state r.at ∙ ap (λ n. suc (length (children_among old n (suc j)))) (sym r.parent) ∙ ap (λ (l : List ℕ). suc (length l)) (sym (among_below old new (length old) same_parents y.parent (suc j) (omega (arith, less))))
 
       newest : (length old ≡ suc j) × (child ≡ x) → (let y = x.cursor in y.ordinal ≡ suc (length (children_among new y.parent (suc j))))
       newest r =

@@ -2,7 +2,7 @@
 --
 -- - `get_behind`, `get_zero`: a place past a list, and in one of zeros;
 -- - `root_is`: the first frame's activation;
--- - `boards_are_new`: the law.
+-- - `schedulers_are_new`: the law.
 use Rattle.std.proofs.Common.{◌≡◌, ⊎_elim, ◌+◌, ◌<◌, ℕ, zero, suc, nat_eq, eqb-true, false, if◌then◌else◌, ℤ, pos, List, [], ◌∷◌, ◌++◌, length, replicate, slice_get, Option, Some, None, refl, sym, ap, ap₂, ◌∙◌, subst, length-append, arith}
 use Rattle.std.proofs.lemmas.Bool.{cases_Bool}
 use Rattle.std.proofs.lemmas.List.{length-replicate}
@@ -16,7 +16,7 @@ use Rattle.cilk_frames.specs.Sight.{HasScope}
 use Rattle.cilk_frames.specs.declared.activation.Activation.{Activation}
 use Rattle.cilk_scheduler.specs.declared.frame_state.FrameState.{FrameState}
 use Rattle.cilk_scheduler.specs.declared.frame_state.Worker.{Worker}
-use Rattle.cilk_scheduler.specs.Openings.{IsNew, first_seat}
+use Rattle.cilk_scheduler.specs.Openings.{IsNew, first_frame_state}
 use Rattle.cilk_scheduler.specs.Parts.{SchedulersAreNew, OpensAs}
 use Rattle.cilk_scheduler.specs.FrameStates.{seated}
 use Rattle.cilk_scheduler.proofs.Placed.{get_first}
@@ -34,7 +34,7 @@ off_zero : (v : ℕ) → nat_eq (suc v) 0 ≡ false
 off_zero v = ⊎_elim (λ q. let e : suc v ≡ 0 = eqb-true (suc v) 0 q in absurd (omega (arith, e))) (λ f. f) (cases_Bool (nat_eq (suc v) 0))
 
 module _ (code : CodeView) (p : Source) (c : CursorView) (root : Activation FrameState) where
-  root_is : root.cursor ≡ seated 0 0 Call 0 c → root.number ≡ 1 → root.base ≡ length p.openings → root.result ≡ None → (let l = code.layout in root.creator ≡ Some l.main) → root ≡ first_seat code p c root
+  root_is : root.cursor ≡ seated 0 0 Call 0 c → root.number ≡ 1 → root.base ≡ length p.openings → root.result ≡ None → (let l = code.layout in root.creator ≡ Some l.main) → root ≡ first_frame_state code p c root
   root_is cursor number base result creator =
       ap (λ (z : FrameState). record root { cursor = z }) cursor
       ∙ ap (λ (z : ℕ). record root { cursor = seated 0 0 Call 0 c; number = z }) number
@@ -43,19 +43,19 @@ module _ (code : CodeView) (p : Source) (c : CursorView) (root : Activation Fram
       ∙ ap (λ (z : Option ℕ). record root { cursor = seated 0 0 Call 0 c; number = 1; base = length p.openings; result = None; creator = z }) creator
 
 module _ (code : CodeView) (p : Source) (inputs : List ℤ) where
-  pub boards_are_new : SchedulersAreNew code p inputs
-  boards_are_new b c root count lays stands owes sees cursor number base result creator frames cells many each offered journal ticks outcome = by (let l = b.workers in l.items) refl many
+  pub schedulers_are_new : SchedulersAreNew code p inputs
+  schedulers_are_new b c root count lays stands owes sees cursor number base result creator frames cells many each offered journal ticks outcome = by (let l = b.workers in l.items) refl many
     where
       openings : (let l = code.layout in length l.openings) ≡ length p.openings
       openings = ap (λ (z : List ℤ). length z) lays.openings
 
-      is : root ≡ first_seat code p c root
+      is : root ≡ first_frame_state code p c root
       is = root_is code p c root cursor number (base ∙ openings) result creator
 
-      frames_are : (let f = b.frames in f.items) ≡ first_seat code p c root ∷ []
+      frames_are : (let f = b.frames in f.items) ≡ first_frame_state code p c root ∷ []
       frames_are = frames ∙ ap (λ (z : Activation FrameState). z ∷ []) is
 
-      sees_so : let f = b.frames in HasScope f.items (first_seat code p c root) (home_of p callees.Root 1 (length p.openings) [] ∷ [])
+      sees_so : let f = b.frames in HasScope f.items (first_frame_state code p c root) (home_of p callees.Root 1 (length p.openings) [] ∷ [])
       sees_so =
           let f = b.frames in
           let l = code.layout in

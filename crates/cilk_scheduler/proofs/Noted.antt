@@ -92,16 +92,16 @@ none_named r e = let no : ⊥ = cc in absurd no
 
 module _ (code : CodeView) (p : Source) (inputs : List ℤ) where
   module _ (name : ℕ → Name) (b : Scheduler) (d : WorkerTable) (s : State FrameEnv View) (w k : ℕ) (sh : ShowsBy code p inputs name b d s) (f : HasFrame b w k) where
-    abbrev sits : Sits code p inputs name b s k f.seat
-    sits = sh.sits k f.seat f.sits
+    abbrev sits : Sits code p inputs name b s k f.frame_state
+    sits = sh.sits k f.frame_state f.sits
 
-    goes : has_ended (let g = (let o = sh.sits k f.seat f.sits in o.frame) in g.deeds) ≡ false
+    goes : has_ended (let g = (let o = sh.sits k f.frame_state f.sits in o.frame) in g.deeds) ≡ false
     goes =
         let g = sh.holds w k f.worker f.at f.has in
-        let same : g.seat ≡ f.seat = (let q : Some g.seat ≡ Some f.seat = sym g.here ∙ f.sits in cc) in
-        let status : (let a = f.seat in let x = a.cursor in x.status) ≡ Held w = ap (λ (a : Activation FrameState). let y = a.cursor in y.status) (sym same) ∙ g.held in
+        let same : g.frame_state ≡ f.frame_state = (let q : Some g.frame_state ≡ Some f.frame_state = sym g.here ∙ f.sits in cc) in
+        let status : (let a = f.frame_state in let x = a.cursor in x.status) ≡ Held w = ap (λ (a : Activation FrameState). let y = a.cursor in y.status) (sym same) ∙ g.held in
         let o = sits in
-        (subst (λ z. IsWhere code p inputs name b s k (name k) (let t = (let o = sh.sits k f.seat f.sits in o.frame) in t.deeds) (let a = f.seat in a.cursor) z) status o.is_where).4
+        (subst (λ z. IsWhere code p inputs name b s k (name k) (let t = (let o = sh.sits k f.frame_state f.sits in o.frame) in t.deeds) (let a = f.frame_state in a.cursor) z) status o.is_where).4
 
   ready_for : (w : FrameEnv) (deeds : List (Deed FrameEnv)) (x : FrameState) (c : CursorView) (d : Due) → x.cursor ≡ Some c → IsDue code p inputs w deeds d c x.took → IsReadyFor code inputs x d
   ready_for w deeds x c due.Begin at is = tt
@@ -112,7 +112,7 @@ module _ (code : CodeView) (p : Source) (inputs : List ℤ) where
   is_ready name b d s w k sh f =
       let o = sits name b d s w k sh f in
       let g = o.frame in
-      let x = (let a = f.seat in a.cursor) in
+      let x = (let a = f.frame_state in a.cursor) in
       let c = o.due (goes name b d s w k sh f) in
       ready_for g.what g.deeds x c.0 x.due c.1 c.2
 
@@ -120,7 +120,7 @@ module _ (code : CodeView) (p : Source) (inputs : List ℤ) where
   ticks_more name b d s w k ask came sh f went =
       let o = sits name b d s w k sh f in
       let g = o.frame in
-      let x = (let a = f.seat in a.cursor) in
+      let x = (let a = f.frame_state in a.cursor) in
       let c = o.due (goes name b d s w k sh f) in
       let took = (named_next code p inputs g.what g.deeds x came c.0 ask (goes name b d s w k sh f) c.1 c.2 went).1 in
       let counts : came.counted ≡ x.counted = ap (λ (y : FrameState). y.counted) (kept_by code p inputs x came ask x.due went) in
@@ -133,12 +133,12 @@ module _ (code : CodeView) (p : Source) (inputs : List ℤ) where
       let l = b.frames in
       let e = b.journal in
       let c = b.cells in
-      let here : slice_get went k ≡ Some (record f.seat { cursor = came }) = ap (λ z. slice_get z k) went_is ∙ changed_here (λ _. came) l.items k f.seat f.sits in
-      let is : ticks ≡ came.took - came.counted = ticks_are (record f.seat { cursor = came }) here in
+      let here : slice_get went k ≡ Some (record f.frame_state { cursor = came }) = ap (λ z. slice_get z k) went_is ∙ changed_here (λ _. came) l.items k f.frame_state f.sits in
+      let is : ticks ≡ came.took - came.counted = ticks_are (record f.frame_state { cursor = came }) here in
       let many : length went ≡ length l.items = ap (λ (z : List (Activation FrameState)). length z) went_is ∙ changed_length (λ _. came) l.items k in
       let accepted : refusal (b.ticks + (came.took - came.counted)) (length e.items) (length l.items) (length c.items) code.layout ask ≡ None =
       subst (λ n. refusal (b.ticks + (came.took - came.counted)) (length e.items) n (length c.items) code.layout ask ≡ None) many (subst (λ n. refusal (b.ticks + n) (length e.items) (length went) (length c.items) code.layout ask ≡ None) is fine) in (
-        record { worker = f.worker; seat = f.seat; came = came; at = f.at; has = f.has; sits = f.sits; was_open = open_yet; went = gone; accepted = accepted },
+        record { worker = f.worker; frame_state = f.frame_state; came = came; at = f.at; has = f.has; sits = f.sits; was_open = open_yet; went = gone; accepted = accepted },
         refl,
         refl,
         refl,
@@ -154,29 +154,29 @@ module _ (code : CodeView) (p : Source) (inputs : List ℤ) where
   pub read_there : ReadCellsAreThere code p inputs
   read_there name b d s w k x t h =
       let sh = t.shows in
-      let o = sh.sits k h.seat h.sits in
+      let o = sh.sits k h.frame_state h.sits in
       let seen = o.seen in
       let sees = seen.sees in
       let is = there code p inputs name b d s w k (asks.Read x) t.lays sh h (λ q. cc) t.well in
       let own = sees.own is.0 in
       let l = b.cells in
-      (numbers_in seen.scope, (h.seat, h.sits, seen.numbers), subst (λ n. n < length l.items) (cell_numbered seen.scope x) (low_cell name b d s sh _ _ (own.cells x is.1)))
+      (numbers_in seen.scope, (h.frame_state, h.sits, seen.numbers), subst (λ n. n < length l.items) (cell_numbered seen.scope x) (low_cell name b d s sh _ _ (own.cells x is.1)))
 
   pub write_there : WrittenCellsAreThere code p inputs
   write_there name b d s w k x v t h =
       let sh = t.shows in
-      let o = sh.sits k h.seat h.sits in
+      let o = sh.sits k h.frame_state h.sits in
       let seen = o.seen in
       let sees = seen.sees in
       let is = there code p inputs name b d s w k (asks.Write x v) t.lays sh h (λ q. cc) t.well in
       let own = sees.own is.0 in
       let l = b.cells in
-      (numbers_in seen.scope, (h.seat, h.sits, seen.numbers), subst (λ n. n < length l.items) (cell_numbered seen.scope x) (low_cell name b d s sh _ _ (own.cells x is.1)))
+      (numbers_in seen.scope, (h.frame_state, h.sits, seen.numbers), subst (λ n. n < length l.items) (cell_numbered seen.scope x) (low_cell name b d s sh _ _ (own.cells x is.1)))
 
   pub result_there : ResultCellsAreThere code p inputs
   result_there name b d s w k v t h =
       let sh = t.shows in
-      let o = sh.sits k h.seat h.sits in
+      let o = sh.sits k h.frame_state h.sits in
       let seen = o.seen in
       let sees = seen.sees in
       let it = sees.result (there code p inputs name b d s w k (asks.Result v) t.lays sh h (λ q. cc) t.well) in
@@ -204,10 +204,10 @@ module _ (code : CodeView) (p : Source) (inputs : List ℤ) where
   pub reducer_there : ReducersAreThere code p inputs
   reducer_there name b d s w k ask r t h named =
       let sh = t.shows in
-      let o = sh.sits k h.seat h.sits in
+      let o = sh.sits k h.frame_state h.sits in
       let seen = o.seen in
       let is = there code p inputs name b d s w k ask t.lays sh h (λ q. none_named r (sym (ap reducer_asked q) ∙ named)) t.well in
-      ((numbers_in seen.scope, (h.seat, h.sits, seen.numbers)), reducer_small p (well_named_parts p t.well) (body_of p (let f = o.frame in let v = f.what in v.callee)) r.place r.kind (named_there (let f = o.frame in let v = f.what in v.callee) ask r is named))
+      ((numbers_in seen.scope, (h.frame_state, h.sits, seen.numbers)), reducer_small p (well_named_parts p t.well) (body_of p (let f = o.frame in let v = f.what in v.callee)) r.place r.kind (named_there (let f = o.frame in let v = f.what in v.callee) ask r is named))
 
   -- ---- an event is noted
 
@@ -225,9 +225,9 @@ module _ (code : CodeView) (p : Source) (inputs : List ℤ) where
       let u = h.worker in
       let y = act h.came in
       let both : acted ≡ changed (λ _. act h.came) l.items k = acted_is ∙ ap (λ z. changed act z k) went_is ∙ changed_twice act (λ _. h.came) l.items k in
-      let here : slice_get acted k ≡ Some (record h.seat { cursor = act h.came }) = ap (λ z. slice_get z k) both ∙ changed_here (λ _. act h.came) l.items k h.seat h.sits in
+      let here : slice_get acted k ≡ Some (record h.frame_state { cursor = act h.came }) = ap (λ z. slice_get z k) both ∙ changed_here (λ _. act h.came) l.items k h.frame_state h.sits in
       let same = keeps h.came in
-      let spent = ticks_are (record h.seat { cursor = act h.came }) here in
+      let spent = ticks_are (record h.frame_state { cursor = act h.came }) here in
       let x = h.came in
       let ticks : b'.ticks ≡ b.ticks + (x.took - x.counted) = spent ∙ ap (λ n. b.ticks + (n - y.counted)) same.0 ∙ ap (λ n. b.ticks + (x.took - n)) same.1 in
       record {

@@ -33,7 +33,7 @@ use Rattle.cilk_runs.specs.FrameEnvMachine.{costs, opening_values}
 use Rattle.cilk_runs.specs.Reducers.{View, kind_of, monoid_of}
 use Rattle.cilk_runs.specs.Steps.{Next}
 use Rattle.cilk_runs.specs.FrameEnvViews.{IsViewOf}
-use Rattle.cilk_runs.specs.FrameEnvs.{FrameEnv, first_world, own_named}
+use Rattle.cilk_runs.specs.FrameEnvs.{FrameEnv, first_env, own_named}
 use Rattle.cilk_runs.proofs.FrameEnvViews.{are_multiplied}
 use Rattle.cilk_scheduler.specs.declared.scheduler.Scheduler.{Scheduler}
 use Rattle.cilk_scheduler.specs.declared.frame_state.Due.TheVariants as due
@@ -43,7 +43,7 @@ use Rattle.cilk_scheduler.specs.declared.frame_state.Status.TheVariants.{Held, W
 use Rattle.cilk_scheduler.specs.declared.frame_state.Worker.{Worker}
 use Rattle.cilk_scheduler.specs.Schedulers.{carried, IsUsed, hand_of, offers_of, is_there, Seen, Sits, Holds, IsWorkerTable, Tells, ShowsBy}
 use Rattle.cilk_scheduler.specs.Numbered.{IsAbsent, size_of, IsCell, IsInstance, AreDeeds, CellBoth, ReducerBoth, events_of, global_both, global_cell}
-use Rattle.cilk_scheduler.specs.Openings.{IsNew, OpeningsAreShown, OpeningsFit, first_desk, first_seat}
+use Rattle.cilk_scheduler.specs.Openings.{IsNew, OpeningsAreShown, OpeningsFit, first_worker_table, first_frame_state}
 use Rattle.cilk_scheduler.proofs.Onward.{name_off}
 
 pub openings_fit : (p : Source) (inputs : List ℤ) → OpeningsFit p inputs
@@ -58,18 +58,18 @@ openings_fit p inputs well CellTotal =
     omega (arith, a, c)
 
 module _ (code : CodeView) (p : Source) (inputs : List ℤ) (well : IsTrue (is_well_named p)) (lays : LaysOut p code.layout) (b : Scheduler) (h : IsNew code p inputs b) (s : State FrameEnv View)
-    (o : IsOpening FrameEnv View monoid_of (Next p inputs) (costs p inputs) (first_world p) (opening_values p inputs) s) where
+    (o : IsOpening FrameEnv View monoid_of (Next p inputs) (costs p inputs) (first_env p) (opening_values p inputs) s) where
   abbrev name : ℕ → Name
   name n = []
 
-  abbrev seats : List (Activation FrameState)
-  seats = let f = b.frames in f.items
+  abbrev frame_states : List (Activation FrameState)
+  frame_states = let f = b.frames in f.items
 
   abbrev root : Activation FrameState
-  root = first_seat code p h.cursor h.root
+  root = first_frame_state code p h.cursor h.root
 
   abbrev frame : Frame FrameEnv
-  frame = begun (first_world p)
+  frame = begun (first_env p)
 
   here : s.frames [] ≡ Some frame
   here = o.0 []
@@ -77,23 +77,23 @@ module _ (code : CodeView) (p : Source) (inputs : List ℤ) (well : IsTrue (is_w
   no_deeds : deeds_at (s.frames []) ≡ []
   no_deeds = ap (λ f. deeds_at f) here
 
-  one : length seats ≡ 1
+  one : length frame_states ≡ 1
   one = ap (λ (l : List (Activation FrameState)). length l) h.frames
 
-  low : 0 < length seats
+  low : 0 < length frame_states
   low = subst (λ n. 0 < n) (sym one) (omega arith)
 
-  root_at : slice_get seats 0 ≡ Some root
+  root_at : slice_get frame_states 0 ≡ Some root
   root_at = ap (λ l. slice_get l 0) h.frames
 
-  only : (j : ℕ) (a : Activation FrameState) → slice_get seats j ≡ Some a → (0 ≡ j) × (root ≡ a)
+  only : (j : ℕ) (a : Activation FrameState) → slice_get frame_states j ≡ Some a → (0 ≡ j) × (root ≡ a)
   only j a at = by j (ap (λ l. slice_get l j) (sym h.frames) ∙ at)
     where
       by : (j : ℕ) → slice_get (root ∷ []) j ≡ Some a → (0 ≡ j) × (root ≡ a)
       by zero q = let z : Some root ≡ Some a = q in (refl, cc)
       by (suc j) q = let no : None ≡ Some a = q in let f : ⊥ = cc in absurd f
 
-  below_one : (j : ℕ) → j < length seats → j ≡ 0
+  below_one : (j : ℕ) → j < length frame_states → j ≡ 0
   below_one j lt = let e = one in omega (arith, lt, e)
 
   size_is : size_of p (s.frames []) ≡ cells_of p callees.Root
@@ -114,7 +114,7 @@ module _ (code : CodeView) (p : Source) (inputs : List ℤ) (well : IsTrue (is_w
   no_given [] e = refl
   no_given (x ∷ l) e = absurd (omega (arith, e))
 
-  seen : Seen code p inputs name b s root (first_world p)
+  seen : Seen code p inputs name b s root (first_env p)
   seen = record {
     scope = home ∷ [];
     target = None;
@@ -148,7 +148,7 @@ module _ (code : CodeView) (p : Source) (inputs : List ℤ) (well : IsTrue (is_w
     due = λ going. (h.cursor, refl, (refl, h.stands, h.owes, refl));
     is_where = (h.first, first_at, h.has, AtBegin refl, refl, (λ m. absurd (true≢false (sym m))), (λ m q. let z : due.Begin ≡ due.Sync = q in cc));
     block = λ going. inl (refl, refl, refl);
-    written = subst (λ es. AreDeeds p seats name s 0 [] es) (sym (ap (λ l. events_of 0 l) h.journal)) tt;
+    written = subst (λ es. AreDeeds p frame_states name s 0 [] es) (sym (ap (λ l. events_of 0 l) h.journal)) tt;
   }
 
   -- ---- workers
@@ -172,7 +172,7 @@ module _ (code : CodeView) (p : Source) (inputs : List ℤ) (well : IsTrue (is_w
 
       mine : h.first ≡ u → Holds code p inputs name b s 0 u 0
       mine e = record {
-        seat = root;
+        frame_state = root;
         here = root_at;
         held = refl;
         views = λ i j is. subst (λ f. IsViewOf (kind_of i) (let ds = deeds_at f in carried_by i ds) (value_in u.views (kind_of i) j)) (sym here)
@@ -215,8 +215,8 @@ module _ (code : CodeView) (p : Source) (inputs : List ℤ) (well : IsTrue (is_w
       let r = no_total us (λ v y at. each (suc v) y at) in
       omega (arith, g, e, r)
 
-  desk : IsWorkerTable code p inputs name b (let l = h.others in first_desk (length l))
-  desk = record {
+  worker_table : IsWorkerTable code p inputs name b (let l = h.others in first_worker_table (length l))
+  worker_table = record {
     hands = ap₂ (λ a l. a ∷ l) (ap (λ f. hand f) (sym h.has)) (all_idle h.others h.idles) ∙ ap (λ ws. map (hand_of name) ws) (sym h.workers);
     offered = none_offered (h.first ∷ h.others) h.offers ∙ ap (λ ws. map (offers_of name) ws) (sym h.workers);
     total = h.offered ∙ sym (ap (λ ws. sum (map (λ (u : Worker). let f = u.offered in length f.items) ws)) h.workers ∙ no_total (h.first ∷ h.others) h.offers);
@@ -229,10 +229,10 @@ module _ (code : CodeView) (p : Source) (inputs : List ℤ) (well : IsTrue (is_w
       hand : Option ℕ → Option Name
       hand f = let u = h.first in hand_of name (record u { frame = f })
 
-  absent_root : (n : Name) → IsAbsent seats name n → [] ≡ n → ⊥
+  absent_root : (n : Name) → IsAbsent frame_states name n → [] ≡ n → ⊥
   absent_root n none e = none 0 low e
 
-  no_frame : (n : Name) → IsAbsent seats name n → s.frames n ≡ None
+  no_frame : (n : Name) → IsAbsent frame_states name n → s.frames n ≡ None
   no_frame n none = o.0 n ∙ rw (name_off [] n (absent_root n none)) refl
 
   nothing_joined : (n : Name) (q : ℕ) → times (n ++ q ∷ []) s.joins ≡ joined_at 1 q (deeds_at (s.frames n))
@@ -250,7 +250,7 @@ module _ (code : CodeView) (p : Source) (inputs : List ℤ) (well : IsTrue (is_w
       ordinal = λ k x at. let r = only (suc k) x at in let z = r.0 in absurd (omega (arith, z));
       apart = λ j k lt lt' e. below_one j lt ∙ sym (below_one k lt');
     };
-    here = λ k x at. (frame, here, subst (λ es. AreDeeds p seats name s k [] es) (sym (ap (λ l. events_of k l) h.journal)) tt);
+    here = λ k x at. (frame, here, subst (λ es. AreDeeds p frame_states name s k [] es) (sym (ap (λ l. events_of k l) h.journal)) tt);
     absent = no_frame;
     joins = nothing_joined;
     going = λ z g. subst (λ ds. HasEnd ds) no_deeds g;
@@ -259,7 +259,7 @@ module _ (code : CodeView) (p : Source) (inputs : List ℤ) (well : IsTrue (is_w
     ascend = λ i j x y at at' less. let f = only i x at in let g = only j y at' in let u = f.0 in let v = g.0 in absurd (omega (arith, u, v, less));
   }
 
-  memory : (c : Cell) (n : ℕ) → IsCell p seats name s c n → (let l = b.cells in slice_get l.items n ≡ Some (s.memory c))
+  memory : (c : Cell) (n : ℕ) → IsCell p frame_states name s c n → (let l = b.cells in slice_get l.items n ≡ Some (s.memory c))
   memory (Global g) n is = ap (λ m. let l = b.cells in slice_get l.items m) is.0 ∙ h.globals g is.1 ∙ there p.openings g is.1 ∙ ap (λ m. Some (m (Global g))) (sym o.1)
     where
       there : (l : List ℤ) (g : ℕ) → g < length l → slice_get l g ≡ Some (unwrap_or (slice_get l g) (pos 0))
@@ -270,7 +270,7 @@ module _ (code : CodeView) (p : Source) (inputs : List ℤ) (well : IsTrue (is_w
       let r = only is.0 is.1 is.2 in
       ap (λ m. let l = b.cells in slice_get l.items m) (is.4 ∙ ap (λ (a : Activation FrameState). a.base + q) (sym r.1)) ∙ h.own q (subst (λ z. q < z) (ap (λ z. size_of p (s.frames z)) (sym is.3) ∙ size_is) is.5) ∙ ap (λ f. Some (f (Own m q))) (sym o.1)
 
-  shows : ShowsBy code p inputs name b (let l = h.others in first_desk (length l)) s
+  shows : ShowsBy code p inputs name b (let l = h.others in first_worker_table (length l)) s
   shows = record {
     tells = tells;
     running = o.3;
@@ -281,7 +281,7 @@ module _ (code : CodeView) (p : Source) (inputs : List ℤ) (well : IsTrue (is_w
     memory = memory;
     within = λ k x at. let r = only k x at in let l = b.cells in subst (λ (a : Activation FrameState). a.base + size_of p (s.frames []) ≤ length l.items) r.1 (let e = size_is in let c = h.count in omega (arith, e, c));
     holds = holds;
-    desk = desk;
+    worker_table = worker_table;
     ticks = o.6 TickTotal ∙ sym h.ticks;
     events = o.6 EventTotal ∙ sym (ap (λ (l : List JournalEntry). length l) h.journal);
     frames = o.6 FrameTotal ∙ sym one;
@@ -291,12 +291,12 @@ module _ (code : CodeView) (p : Source) (inputs : List ℤ) (well : IsTrue (is_w
     eventless = λ j far. ap (λ l. events_of j l) h.journal;
   }
     where
-      bare_at : (m : Name) (q : ℕ) (kind : MonoidKind) (n : Name) → (IsAbsent seats name m → ⊥) → (c : Bool) → same_name [] m ≡ c → s.piece m (Reducer n q kind) ≡ unit_of monoid_of (Reducer n q kind)
+      bare_at : (m : Name) (q : ℕ) (kind : MonoidKind) (n : Name) → (IsAbsent frame_states name m → ⊥) → (c : Bool) → same_name [] m ≡ c → s.piece m (Reducer n q kind) ≡ unit_of monoid_of (Reducer n q kind)
       bare_at m q kind n there true is = ap (λ z. s.piece z (Reducer n q kind)) (sym (same_name-eq [] m is)) ∙ o.5 (Reducer n q kind)
       bare_at m q kind n there false is = absurd (there (λ j lt e. true≢false (sym (same_name-refl []) ∙ ap (λ z. same_name [] z) e ∙ is)))
 
 pub openings_are_shown : (code : CodeView) (p : Source) (inputs : List ℤ) → OpeningsAreShown code p inputs
 openings_are_shown code p inputs well lays b h =
     let P = progress FrameEnv View monoid_of (Next p inputs) (costs p inputs) in
-    let q = P.opens (first_world p) (opening_values p inputs) in
+    let q = P.opens (first_env p) (opening_values p inputs) in
     (q.0, q.1, shows code p inputs well lays b h q.0 q.1)

@@ -60,30 +60,30 @@ none_waits true h = refl
 none_waits false h = absurd (true≢false h)
 
 module _ (code : CodeView) (p : Source) (inputs : List ℤ) (name : ℕ → Name) (b : Scheduler) (d : WorkerTable) (s : State FrameEnv View) (w k : ℕ) (came : FrameState) (sh : ShowsBy code p inputs name b d s) (gone : HaveGoneOn s) (f : HasFrame b w k)
-    (went : (let a = f.seat in WentOn code inputs a.cursor asks.Sync came)) (must : must_wait came ≡ false) where
+    (went : (let a = f.frame_state in WentOn code inputs a.cursor asks.Sync came)) (must : must_wait came ≡ false) where
   abbrev x : FrameState
-  x = let a = f.seat in a.cursor
+  x = let a = f.frame_state in a.cursor
 
   abbrev past : List (Deed FrameEnv)
-  past = let g = (let o = sh.sits k f.seat f.sits in o.frame) in g.deeds
+  past = let g = (let o = sh.sits k f.frame_state f.sits in o.frame) in g.deeds
 
   status_is : x.status ≡ Held w
   status_is =
       let g = sh.holds w k f.worker f.at f.has in
-      let same : g.seat ≡ f.seat = (let q : Some g.seat ≡ Some f.seat = sym g.here ∙ f.sits in cc) in
+      let same : g.frame_state ≡ f.frame_state = (let q : Some g.frame_state ≡ Some f.frame_state = sym g.here ∙ f.sits in cc) in
       ap (λ (a : Activation FrameState). let y = a.cursor in y.status) (sym same) ∙ g.held
 
   held : IsWhere code p inputs name b s k (name k) past x (Held w)
-  held = let o = sh.sits k f.seat f.sits in subst (λ z. IsWhere code p inputs name b s k (name k) past x z) status_is o.is_where
+  held = let o = sh.sits k f.frame_state f.sits in subst (λ z. IsWhere code p inputs name b s k (name k) past x z) status_is o.is_where
 
   kept_as : came ≡ record x { cursor = came.cursor; took = came.took }
   kept_as = kept_by code p inputs x came asks.Sync x.due went
 
   behind : WentOnBehind s (name k) (deeds_at (s.frames (name k)))
-  behind = let o = sh.sits k f.seat f.sits in let law = gone_on_behind p inputs in law.behind s (name k) gone (subst (λ q. GoesOn FrameEnv View s (name k) (deeds_at q)) (sym o.here) held.3)
+  behind = let o = sh.sits k f.frame_state f.sits in let law = gone_on_behind p inputs in law.behind s (name k) gone (subst (λ q. GoesOn FrameEnv View s (name k) (deeds_at q)) (sym o.here) held.3)
 
   abbrev block : JoinView
-  block = let a = f.seat in let x = a.cursor in block_in x.join
+  block = let a = f.frame_state in let x = a.cursor in block_in x.join
 
   none_left : x.merged ≡ false → (let r = block.row in r.waits) ≡ []
   none_left q =
@@ -93,8 +93,8 @@ module _ (code : CodeView) (p : Source) (inputs : List ℤ) (name : ℕ → Name
 
   there_all : x.merged ≡ false → (q : ℕ) → Stands (stolen_in (λ q. s.stolen (name k ++ q ∷ [])) 1 [] past) q → has_ended (deeds_at (s.frames (name k ++ q ∷ []))) ≡ true
   there_all open_yet q among =
-      let o = sh.sits k f.seat f.sits in
-      let kb = kept code p inputs name b s k f.seat o held.4 open_yet (λ z. let y : Held w ≡ Waiting = sym status_is ∙ z in let n : ⊥ = cc in n) in
+      let o = sh.sits k f.frame_state f.sits in
+      let kb = kept code p inputs name b s k f.frame_state o held.4 open_yet (λ z. let y : Held w ≡ Waiting = sym status_is ∙ z in let n : ⊥ = cc in n) in
       let K = kb.0 in
       let r = block.row in
       let i : numbered.Instance = record { frame = 0; place = 0 } in
@@ -106,8 +106,8 @@ module _ (code : CodeView) (p : Source) (inputs : List ℤ) (name : ℕ → Name
   over_now : (t : Bool) → x.merged ≡ t → BlockIsOver s (name k)
   over_now true q = let g = held.5 q in g.1
   over_now false q =
-      let o = sh.sits k f.seat f.sits in
+      let o = sh.sits k f.frame_state f.sits in
       ended_by s (name k) behind (λ z among. there_all q z (subst (λ ds. Stands (stolen_in (λ q. s.stolen (name k ++ q ∷ [])) 1 [] ds) z) (ap (λ y. deeds_at y) o.here) among))
 
 pub blocks_are_over : (code : CodeView) (p : Source) (inputs : List ℤ) → BlocksAreOver code p inputs
-blocks_are_over code p inputs name b d s w k came sh gone f went must = over_now code p inputs name b d s w k came sh gone f went must (let a = f.seat in let x = a.cursor in x.merged) refl
+blocks_are_over code p inputs name b d s w k came sh gone f went must = over_now code p inputs name b d s w k came sh gone f went must (let a = f.frame_state in let x = a.cursor in x.merged) refl

@@ -22,7 +22,7 @@ use Rattle.cilk_runs.proofs.Progress.{progress}
 use Rattle.cilk_runs.specs.FrameEnvMachine.{asked_after, costs, has_ended, is_end, named_ask, next}
 use Rattle.cilk_runs.specs.Reducers.{View, monoid_of}
 use Rattle.cilk_runs.specs.Steps.{IsFirst, Next, OneStep}
-use Rattle.cilk_runs.specs.FrameEnvs.{FrameEnv, Sight, child_world, first_world, world_of}
+use Rattle.cilk_runs.specs.FrameEnvs.{FrameEnv, Sight, child_env, first_env, env_of}
 use Rattle.cilk_runs.proofs.KeptFrameEnv.{ended_more}
 use Rattle.cilk_scheduler.specs.Histories.{AreAnswered, DidAsAsked, IsAnswered}
 use Rattle.cilk_scheduler.specs.Ordinals.{AreCounted}
@@ -159,7 +159,7 @@ invokes_asked memory number (Pass m) how what q = let f : ⊥ = cc in absurd f
 invokes_asked memory number (Fail x) how what q = let f : ⊥ = cc in absurd f
 
 -- what an invocation starts, by name
-named_invoke : (p : Source) (w : FrameEnv) (j : ℕ) (k : language.Ask) (how : Invocation) (what : FrameEnv) → named_ask p w j k ≡ Invoke how what → (callee : Callee) × (what ≡ child_world p w j callee)
+named_invoke : (p : Source) (w : FrameEnv) (j : ℕ) (k : language.Ask) (how : Invocation) (what : FrameEnv) → named_ask p w j k ≡ Invoke how what → (callee : Callee) × (what ≡ child_env p w j callee)
 named_invoke p w j asks.Begin how what q = let f : ⊥ = cc in absurd f
 named_invoke p w j (asks.Read x) how what q = let f : ⊥ = cc in absurd f
 named_invoke p w j (asks.Write x v) how what q = let f : ⊥ = cc in absurd f
@@ -168,7 +168,7 @@ named_invoke p w j (asks.Update r v) how what q = let f : ⊥ = cc in absurd f
 named_invoke p w j (asks.Set r v) how what q = let f : ⊥ = cc in absurd f
 named_invoke p w j (asks.Value r) how what q = let f : ⊥ = cc in absurd f
 named_invoke p w j (asks.Print v) how what q = let f : ⊥ = cc in absurd f
-named_invoke p w j (asks.Invoke h callee) how what q = let z : Invoke h (child_world p w j callee) ≡ Invoke how what = q in (callee, (let e : child_world p w j callee ≡ what = cc in sym e))
+named_invoke p w j (asks.Invoke h callee) how what q = let z : Invoke h (child_env p w j callee) ≡ Invoke how what = q in (callee, (let e : child_env p w j callee ≡ what = cc in sym e))
 named_invoke p w j asks.Resume how what q = let f : ⊥ = cc in absurd f
 named_invoke p w j asks.Sync how what q = let f : ⊥ = cc in absurd f
 named_invoke p w j (asks.Result v) how what q = let f : ⊥ = cc in absurd f
@@ -188,9 +188,9 @@ module _ (p : Source) (inputs : List ℤ) where
 
   names_open : (s : State FrameEnv View) → IsFirst p inputs s → AreStarted p s
   names_open s o [] f q =
-      let z : Some (begun (first_world p)) ≡ Some f = sym (o.0 []) ∙ q in
-      let same : begun (first_world p) ≡ f = cc in
-      subst (λ (g : Frame FrameEnv). (sight : Sight) × (let w = g.what in w ≡ world_of p [] sight w.callee)) same ([], refl)
+      let z : Some (begun (first_env p)) ≡ Some f = sym (o.0 []) ∙ q in
+      let same : begun (first_env p) ≡ f = cc in
+      subst (λ (g : Frame FrameEnv). (sight : Sight) × (let w = g.what in w ≡ env_of p [] sight w.callee)) same ([], refl)
   names_open s o (j ∷ n) f q = let no : None ≡ Some f = sym (o.0 (j ∷ n)) ∙ q in let z : ⊥ = cc in absurd z
 
   names_keep : (s s' : State FrameEnv View) (n : Name) → AreStarted p s → OneStep p inputs s n s' → AreStarted p s'
@@ -202,14 +202,14 @@ module _ (p : Source) (inputs : List ℤ) where
       made : Makes FrameEnv View monoid_of (Next p inputs) (costs p inputs) s n s' → AreStarted p s'
       made t m g q = on (came s.frames n t.frame (deed_of s.memory (numbers_of monoid_of (s.piece n)) t.ask) m g (sym (ap (λ (z : Frames FrameEnv). z m) t.frames) ∙ q))
         where
-          a : (sight : Sight) × (let f = t.frame in let w = f.what in w ≡ world_of p n sight w.callee)
+          a : (sight : Sight) × (let f = t.frame in let w = f.what in w ≡ env_of p n sight w.callee)
           a = let x = t.asking in h n t.frame x.here
 
-          on : Came s.frames n t.frame (deed_of s.memory (numbers_of monoid_of (s.piece n)) t.ask) m g → (sight : Sight) × (let w = g.what in w ≡ world_of p m sight w.callee)
+          on : Came s.frames n t.frame (deed_of s.memory (numbers_of monoid_of (s.piece n)) t.ask) m g → (sight : Sight) × (let w = g.what in w ≡ env_of p m sight w.callee)
           on (stays e) = h m g e
           on (does_more same is) =
-              subst (λ z. (sight : Sight) × (let w = g.what in w ≡ world_of p z sight w.callee)) same
-              (subst (λ (x : Frame FrameEnv). (sight : Sight) × (let w = x.what in w ≡ world_of p n sight w.callee)) (sym is) a)
+              subst (λ z. (sight : Sight) × (let w = g.what in w ≡ env_of p z sight w.callee)) same
+              (subst (λ (x : Frame FrameEnv). (sight : Sight) × (let w = x.what in w ≡ env_of p n sight w.callee)) (sym is) a)
           on (starts how what e at is) =
               let f = t.frame in
               let x = t.asking in
@@ -219,10 +219,10 @@ module _ (p : Source) (inputs : List ℤ) where
               let c = named_invoke p f.what (suc (started f.deeds)) y.0 how what (y.1 ∙ asked) in
               let w = f.what in
               let its_name : w.name ≡ n = ap (λ (z : FrameEnv). z.name) a.1 in
-              let kid : what ≡ world_of p (n ++ suc (started f.deeds) ∷ []) w.sight c.0 = c.1 ∙ ap (λ z. world_of p (z ++ suc (started f.deeds) ∷ []) w.sight c.0) its_name in
-              subst (λ z. (sight : Sight) × (let w = g.what in w ≡ world_of p z sight w.callee)) at
-              (subst (λ (x : Frame FrameEnv). (sight : Sight) × (let w = x.what in w ≡ world_of p (n ++ suc (started f.deeds) ∷ []) sight w.callee)) (sym is)
-              (w.sight, kid ∙ ap (λ z. world_of p (n ++ suc (started f.deeds) ∷ []) w.sight z) (sym (ap (λ (z : FrameEnv). z.callee) kid))))
+              let kid : what ≡ env_of p (n ++ suc (started f.deeds) ∷ []) w.sight c.0 = c.1 ∙ ap (λ z. env_of p (z ++ suc (started f.deeds) ∷ []) w.sight c.0) its_name in
+              subst (λ z. (sight : Sight) × (let w = g.what in w ≡ env_of p z sight w.callee)) at
+              (subst (λ (x : Frame FrameEnv). (sight : Sight) × (let w = x.what in w ≡ env_of p (n ++ suc (started f.deeds) ∷ []) sight w.callee)) (sym is)
+              (w.sight, kid ∙ ap (λ z. env_of p (n ++ suc (started f.deeds) ∷ []) w.sight z) (sym (ap (λ (z : FrameEnv). z.callee) kid))))
 
   -- a deed after others answers the request after them
   answered_behind : (w : FrameEnv) (past before : List (Deed FrameEnv)) (d : Deed FrameEnv) (after : List (Deed FrameEnv)) → AreAnswered p inputs w past (before ++ d ∷ after) → IsAnswered p inputs w (past ++ before) d
@@ -261,8 +261,8 @@ module _ (p : Source) (inputs : List ℤ) where
     where
       nothing : (m : Name) (f : Frame FrameEnv) (d : Deed FrameEnv) (before after : List (Deed FrameEnv)) → s.frames m ≡ Some f → f.deeds ≡ before ++ d ∷ after → ⊥
       nothing [] f d before after here e =
-          let z : Some (begun (first_world p)) ≡ Some f = sym (o.0 []) ∙ here in
-          let same : begun (first_world p) ≡ f = cc in
+          let z : Some (begun (first_env p)) ≡ Some f = sym (o.0 []) ∙ here in
+          let same : begun (first_env p) ≡ f = cc in
           no_deeds before d after (ap (λ (g : Frame FrameEnv). g.deeds) same ∙ e)
       nothing (j ∷ m) f d before after here e = let no : None ≡ Some f = sym (o.0 (j ∷ m)) ∙ here in cc
 

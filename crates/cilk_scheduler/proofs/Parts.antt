@@ -73,7 +73,7 @@ pub taken : ContinuationsAreTaken
 taken b b' w place k h awaiting without views awaited marked withdrawn cleared awaits awaited_is marked_is without_is items workers_mid empty cleared_is workers_is frames_is offered cells journal ticks outcome =
     let f = b.frames in
     let l = b.workers in
-    let x = (let a = h.seat in a.cursor) in
+    let x = (let a = h.frame_state in a.cursor) in
     let last : awaiting.last ≡ x.last = ap (λ (y : FrameState). y.last) awaits.1 in
     record {
       awaiting = awaiting;
@@ -98,9 +98,9 @@ module _ (code : CodeView) (p : Source) (inputs : List ℤ) where
   offered name b d s w place victim at sh open_yet idle g =
       let l = b.workers in
       let thief = free_worker (slice_get l.items w) idle in
-      let desk = sh.desk in
+      let worker_table = sh.worker_table in
       let k = g.1 in
-      let it = desk.places victim at k g.0 g.2 g.3 in
+      let it = worker_table.places victim at k g.0 g.2 g.3 in
       let o = sh.sits k it.0 it.1 in
       let f = o.frame in
       let x = (let a = it.0 in a.cursor) in
@@ -108,7 +108,7 @@ module _ (code : CodeView) (p : Source) (inputs : List ℤ) where
       let count : started f.deeds ≡ suc (started was.0) = ap (λ ds. started ds) was.2 ∙ started_invokes was.0 Spawn was.1 in
       let children = o.children in
       let last = o.last (omega (arith, count, children)) in (
-        record { thief = thief.0; owner = g.0; victim = victim; at = at; seat = it.0; idles = thief.1; free = thief.2; owns = g.2; stands = g.3; is_place = g.4; sits = it.1; was_open = open_yet },
+        record { thief = thief.0; owner = g.0; victim = victim; at = at; frame_state = it.0; idles = thief.1; free = thief.2; owns = g.2; stands = g.3; is_place = g.4; sits = it.1; was_open = open_yet },
         refl,
         refl,
         refl,
@@ -120,24 +120,24 @@ module _ (code : CodeView) (p : Source) (inputs : List ℤ) where
 
   -- ---- a frame that has come to its sync
 
-  module _ (name : ℕ → Name) (b : Scheduler) (d : WorkerTable) (s : State FrameEnv View) (w k : ℕ) (came : FrameState) (sh : ShowsBy code p inputs name b d s) (f : HasFrame b w k) (went : (let a = f.seat in WentOn code inputs a.cursor asks.Sync came)) where
+  module _ (name : ℕ → Name) (b : Scheduler) (d : WorkerTable) (s : State FrameEnv View) (w k : ℕ) (came : FrameState) (sh : ShowsBy code p inputs name b d s) (f : HasFrame b w k) (went : (let a = f.frame_state in WentOn code inputs a.cursor asks.Sync came)) where
     abbrev x : FrameState
-    x = let a = f.seat in a.cursor
+    x = let a = f.frame_state in a.cursor
 
-    sits : Sits code p inputs name b s k f.seat
-    sits = sh.sits k f.seat f.sits
+    sits : Sits code p inputs name b s k f.frame_state
+    sits = sh.sits k f.frame_state f.sits
 
     abbrev past : List (Deed FrameEnv)
-    past = let g = (let o = sh.sits k f.seat f.sits in o.frame) in g.deeds
+    past = let g = (let o = sh.sits k f.frame_state f.sits in o.frame) in g.deeds
 
     status_is : x.status ≡ Held w
     status_is =
         let g = sh.holds w k f.worker f.at f.has in
-        let same : g.seat ≡ f.seat = (let q : Some g.seat ≡ Some f.seat = sym g.here ∙ f.sits in cc) in
+        let same : g.frame_state ≡ f.frame_state = (let q : Some g.frame_state ≡ Some f.frame_state = sym g.here ∙ f.sits in cc) in
         ap (λ (a : Activation FrameState). let y = a.cursor in y.status) (sym same) ∙ g.held
 
     held : IsWhere code p inputs name b s k (name k) past x (Held w)
-    held = let o = sh.sits k f.seat f.sits in subst (λ z. IsWhere code p inputs name b s k (name k) past x z) status_is o.is_where
+    held = let o = sh.sits k f.frame_state f.sits in subst (λ z. IsWhere code p inputs name b s k (name k) past x z) status_is o.is_where
 
     kept : came ≡ record x { cursor = came.cursor; took = came.took }
     kept = kept_by code p inputs x came asks.Sync x.due went
@@ -154,20 +154,20 @@ module _ (code : CodeView) (p : Source) (inputs : List ℤ) where
     block_is : block_in came.join ≡ block_in x.join
     block_is = ap (λ (y : FrameState). block_in y.join) kept
 
-    asks_sync : next p inputs (let g = (let o = sh.sits k f.seat f.sits in o.frame) in g.what) past ≡ Some Sync
+    asks_sync : next p inputs (let g = (let o = sh.sits k f.frame_state f.sits in o.frame) in g.what) past ≡ Some Sync
     asks_sync =
-        let o = sh.sits k f.seat f.sits in
+        let o = sh.sits k f.frame_state f.sits in
         let g = o.frame in
         let c = o.due held.4 in
         let n = named_next code p inputs g.what g.deeds x came c.0 asks.Sync held.4 c.1 c.2 went in
         n.0
 
     calm : DidAsAsked p inputs s → is_resuming (deeds_at (s.frames (name k))) ≡ false
-    calm asked = let o = sh.sits k f.seat f.sits in ap (λ q. is_resuming (deeds_at q)) o.here ∙ by (is_resuming past) refl
+    calm asked = let o = sh.sits k f.frame_state f.sits in ap (λ q. is_resuming (deeds_at q)) o.here ∙ by (is_resuming past) refl
       where
         by : (t : Bool) → is_resuming past ≡ t → is_resuming past ≡ false
         by true e =
-            let o = sh.sits k f.seat f.sits in
+            let o = sh.sits k f.frame_state f.sits in
             let law = does_as_asked p inputs in
             let ask : Ask FrameEnv = Sync in
             let it = law.order s (name k) o.frame ask asked o.here asks_sync (λ y q. cc) in
@@ -178,17 +178,17 @@ module _ (code : CodeView) (p : Source) (inputs : List ℤ) where
 
     may_arrive : came.merged ≡ false → MayArrive (block_in came.join) (came.children + 1) true
     may_arrive q =
-        let o = sh.sits k f.seat f.sits in
+        let o = sh.sits k f.frame_state f.sits in
         subst (λ j. MayArrive j (came.children + 1) true) (sym block_is)
-        (subst (λ n. MayArrive (block_in x.join) (n + 1) true) (sym key_is) (inr (own_fresh code p inputs name b s k f.seat o held.4 (sym merged_is ∙ q) awake)))
+        (subst (λ n. MayArrive (block_in x.join) (n + 1) true) (sym key_is) (inr (own_fresh code p inputs name b s k f.frame_state o held.4 (sym merged_is ∙ q) awake)))
 
     -- the block passes with the own piece exactly where nothing is awaited
     decides : came.merged ≡ false → (views : Hypermap) → passes (arrived_at (block_in came.join) (came.children + 1) true (product views)) ≡ (if has_awaited (block_in came.join) then false else true)
     decides q views =
-        let o = sh.sits k f.seat f.sits in
+        let o = sh.sits k f.frame_state f.sits in
         subst (λ j. passes (arrived_at j (came.children + 1) true (product views)) ≡ (if has_awaited j then false else true)) (sym block_is)
         (subst (λ n. passes (arrived_at (block_in x.join) (n + 1) true (product views)) ≡ (if has_awaited (block_in x.join) then false else true)) (sym key_is)
-        (own_passes code p inputs name b s k f.seat o held.4 (sym merged_is ∙ q) awake (product views)))
+        (own_passes code p inputs name b s k f.frame_state o held.4 (sym merged_is ∙ q) awake (product views)))
 
   pub may_bring : OwnPiecesMayArrive code p inputs
   may_bring name b d s w k came t f went = (calm name b d s w k came t.shows f went t.asked, may_arrive name b d s w k came t.shows f went)
@@ -216,7 +216,7 @@ module _ (code : CodeView) (p : Source) (inputs : List ℤ) where
           let waits = decides name b d s w k came sh f gone q u.views ∙ ap (λ t. if t then false else true) (sym (must_await came q) ∙ must) in
           record {
             worker = f.worker;
-            seat = f.seat;
+            frame_state = f.frame_state;
             came = came;
             after = (let y = waiting came in record y { join = Some l' });
             views = views;
@@ -248,10 +248,10 @@ module _ (code : CodeView) (p : Source) (inputs : List ℤ) where
 
   module _ (name : ℕ → Name) (b : Scheduler) (d : WorkerTable) (s : State FrameEnv View) (w k : ℕ) (brought : FrameState) (views : Hypermap) (sh : ShowsBy code p inputs name b d s) (h : HasCome code p inputs b w k asks.Sync) where
     has_frame : HasFrame b w k
-    has_frame = record { worker = h.worker; seat = h.seat; at = h.at; has = h.has; sits = h.sits }
+    has_frame = record { worker = h.worker; frame_state = h.frame_state; at = h.at; has = h.has; sits = h.sits }
 
     abbrev before : FrameState
-    before = let a = h.seat in a.cursor
+    before = let a = h.frame_state in a.cursor
 
     abbrev now : FrameState
     now = h.came
@@ -260,7 +260,7 @@ module _ (code : CodeView) (p : Source) (inputs : List ℤ) where
     kept_as = kept_by code p inputs before now asks.Sync before.due h.went
 
     sync_decides : now.merged ≡ false → (let u = h.worker in passes (arrived_at (block_in now.join) (now.children + 1) true (product u.views)) ≡ (if has_awaited (block_in now.join) then false else true))
-    sync_decides q = let u = h.worker in decides name b d s w k h.came sh (record { worker = h.worker; seat = h.seat; at = h.at; has = h.has; sits = h.sits }) h.went q u.views
+    sync_decides q = let u = h.worker in decides name b d s w k h.came sh (record { worker = h.worker; frame_state = h.frame_state; at = h.at; has = h.has; sits = h.sits }) h.went q u.views
 
     views_pass : must_wait now ≡ false → (let u = h.worker in BringsOwn now u.views brought views) → (let u = h.worker in PassesWith before u.views views)
     views_pass must (Passed q same views_same) = HadPassed (sym (ap (λ (y : FrameState). y.merged) kept_as) ∙ q) views_same

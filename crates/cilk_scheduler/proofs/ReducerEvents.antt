@@ -56,7 +56,7 @@ either_one false v = refl
 
 module _ (code : CodeView) (p : Source) (inputs : List ℤ) where
   module _ (name : ℕ → Name) (b : Scheduler) (d : WorkerTable) (s : State FrameEnv View) (w k : ℕ) (ask : language.Ask) (lays : LaysOut p code.layout) (sh : ShowsBy code p inputs name b d s) (h : HasCome code p inputs b w k ask) (no_sync : ask ≡ asks.Sync → ⊥)
-      (calm : is_resuming (let f = (let o = sh.sits k h.seat h.sits in o.frame) in f.deeds) ≡ false) (i0 : Instance) (j0 : numbered.Instance) (views : Hypermap) (y : ViewValue) (X : Instance → View)
+      (calm : is_resuming (let f = (let o = sh.sits k h.frame_state h.sits in o.frame) in f.deeds) ≡ false) (i0 : Instance) (j0 : numbered.Instance) (views : Hypermap) (y : ViewValue) (X : Instance → View)
       (at : let f = b.frames in IsInstance p f.items name i0 j0) (changes : let u = h.worker in ChangesIn u.views views (kind_of i0) j0 (Some y)) (hit : IsViewOf (kind_of i0) (X i0) y) where
     abbrev frames : List (Activation FrameState)
     frames = let f = b.frames in f.items
@@ -93,7 +93,7 @@ module _ (code : CodeView) (p : Source) (inputs : List ℤ) where
   pub creates : CreatesAreShown code p inputs
   creates name b b' d s w k r j views t h means changed notes =
       let sh = t.shows in
-      let o = sh.sits k h.seat h.sits in
+      let o = sh.sits k h.frame_state h.sits in
       let f = o.frame in
       let u = h.worker in
       let y = h.came in
@@ -119,7 +119,7 @@ module _ (code : CodeView) (p : Source) (inputs : List ℤ) where
   pub updates : UpdatesAreShown code p inputs
   updates name b b' d s w k r v j views t h word means changed notes =
       let sh = t.shows in
-      let o = sh.sits k h.seat h.sits in
+      let o = sh.sits k h.frame_state h.sits in
       let f = o.frame in
       let u = h.worker in
       let y = h.came in
@@ -147,7 +147,7 @@ module _ (code : CodeView) (p : Source) (inputs : List ℤ) where
   pub sets : SetsAreShown code p inputs
   sets name b b' d s w k r v j views t h word means changed notes =
       let sh = t.shows in
-      let o = sh.sits k h.seat h.sits in
+      let o = sh.sits k h.frame_state h.sits in
       let f = o.frame in
       let u = h.worker in
       let y = h.came in
@@ -174,7 +174,7 @@ module _ (code : CodeView) (p : Source) (inputs : List ℤ) where
   pub reads_value : ValuesAreShown code p inputs
   reads_value name b b' d s w k r v j views t h means number changed notes =
       let sh = t.shows in
-      let o = sh.sits k h.seat h.sits in
+      let o = sh.sits k h.frame_state h.sits in
       let f = o.frame in
       let u = h.worker in
       let y = h.came in
@@ -202,7 +202,7 @@ module _ (code : CodeView) (p : Source) (inputs : List ℤ) where
   pub prints : PrintsAreShown code p inputs
   prints name b b' d s w k v views t h word changes notes =
       let sh = t.shows in
-      let o = sh.sits k h.seat h.sits in
+      let o = sh.sits k h.frame_state h.sits in
       let f = o.frame in
       let u = h.worker in
       let y = h.came in

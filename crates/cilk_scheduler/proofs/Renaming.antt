@@ -74,17 +74,17 @@ module _ (p : Source) (frames : List (Activation FrameState)) (s : State FrameEn
   absent_as n none j low e = none j low (sym (same j low) ∙ e)
 
 module _ (code : CodeView) (p : Source) (inputs : List ℤ) (b : Scheduler) (s : State FrameEnv View) (name name' : ℕ → Name) (same : (j : ℕ) → (let f = b.frames in j < length f.items) → name' j ≡ name j) where
-  abbrev seats : List (Activation FrameState)
-  seats = let f = b.frames in f.items
+  abbrev frame_states : List (Activation FrameState)
+  frame_states = let f = b.frames in f.items
 
   abbrev also : (j : ℕ) → (let f = b.frames in j < length f.items) → name j ≡ name' j
   also j low = sym (same j low)
 
-  instance_back : (i : Instance) (j : numbered.Instance) → IsInstance p seats name' i j → IsInstance p seats name i j
-  instance_back = instance_as p seats s name' name also
+  instance_back : (i : Instance) (j : numbered.Instance) → IsInstance p frame_states name' i j → IsInstance p frame_states name i j
+  instance_back = instance_as p frame_states s name' name also
 
-  absent_back : (n : Name) → IsAbsent seats name' n → IsAbsent seats name n
-  absent_back = absent_as p seats s name' name also
+  absent_back : (n : Name) → IsAbsent frame_states name' n → IsAbsent frame_states name n
+  absent_back = absent_as p frame_states s name' name also
 
   seen_as : (a : Activation FrameState) (v : FrameEnv) → Seen code p inputs name b s a v → Seen code p inputs name' b s a v
   seen_as a v h = record {
@@ -94,9 +94,9 @@ module _ (code : CodeView) (p : Source) (inputs : List ℤ) (b : Scheduler) (s :
     numbers = h.numbers;
     goes_to = h.goes_to;
     lies_at = h.lies_at;
-    sees = frame_more p global_cell global_both (λ (c : CellBoth). IsCell p seats name s c.0 c.1) (λ (c : CellBoth). IsCell p seats name' s c.0 c.1)
-        (λ (r : ReducerBoth) (q : MonoidKind). (kind_of (r.0 q) ≡ q) × IsInstance p seats name (r.0 q) r.1) (λ (r : ReducerBoth) (q : MonoidKind). (kind_of (r.0 q) ≡ q) × IsInstance p seats name' (r.0 q) r.1)
-        (λ c g. cell_as p seats s name name' same c.0 c.1 g) (λ r q g. (g.0, instance_as p seats s name name' same (r.0 q) r.1 g.1)) v.callee h.scope h.target h.sees;
+    sees = frame_more p global_cell global_both (λ (c : CellBoth). IsCell p frame_states name s c.0 c.1) (λ (c : CellBoth). IsCell p frame_states name' s c.0 c.1)
+        (λ (r : ReducerBoth) (q : MonoidKind). (kind_of (r.0 q) ≡ q) × IsInstance p frame_states name (r.0 q) r.1) (λ (r : ReducerBoth) (q : MonoidKind). (kind_of (r.0 q) ≡ q) × IsInstance p frame_states name' (r.0 q) r.1)
+        (λ c g. cell_as p frame_states s name name' same c.0 c.1 g) (λ r q g. (g.0, instance_as p frame_states s name name' same (r.0 q) r.1 g.1)) v.callee h.scope h.target h.sees;
   }
 
   keeps_as : (n : Name) (ds : List (Deed FrameEnv)) (j : JoinView) → Keeps code p inputs name b s n ds j → Keeps code p inputs name' b s n ds j
@@ -106,12 +106,12 @@ module _ (code : CodeView) (p : Source) (inputs : List ℤ) (b : Scheduler) (s :
   block_as n ds x (inl h) = inl h
   block_as n ds x (inr h) = let l = h.0 in inr (h.0, h.1, ⊎_elim (λ m. inl m) (λ g. inr (keeps_as n ds (shown l.value) g.0, g.1)) h.2)
 
-  sits_as : (k : ℕ) (x : Activation FrameState) → slice_get seats k ≡ Some x → Sits code p inputs name b s k x → Sits code p inputs name' b s k x
+  sits_as : (k : ℕ) (x : Activation FrameState) → slice_get frame_states k ≡ Some x → Sits code p inputs name b s k x → Sits code p inputs name' b s k x
   sits_as k x at o =
       let y = x.cursor in
       let f = o.frame in
       let e = b.journal in
-      let is = same k (get_low seats k x at) in record {
+      let is = same k (get_low frame_states k x at) in record {
         frame = o.frame;
         here = ap s.frames is ∙ o.here;
         named = o.named ∙ sym is;
@@ -127,15 +127,15 @@ module _ (code : CodeView) (p : Source) (inputs : List ℤ) (b : Scheduler) (s :
         due = o.due;
         is_where = subst (λ n. IsWhere code p inputs name b s k n f.deeds y y.status) (sym is) o.is_where;
         block = λ going. subst (λ n. HasBlock code p inputs name' b s n f.deeds y) (sym is) (block_as (name k) f.deeds y (o.block going));
-        written = deeds_as p seats s name name' same k f.deeds _ o.written;
+        written = deeds_as p frame_states s name name' same k f.deeds _ o.written;
       }
 
   holds_as : (w k : ℕ) (u : Worker) → Holds code p inputs name b s w u k → Holds code p inputs name' b s w u k
   holds_as w k u h =
-      let a = h.seat in
+      let a = h.frame_state in
       let y = a.cursor in
-      let is = same k (get_low seats k h.seat h.here) in record {
-        seat = h.seat;
+      let is = same k (get_low frame_states k h.frame_state h.here) in record {
+        frame_state = h.frame_state;
         here = h.here;
         held = h.held;
         views = λ i j at.
@@ -148,22 +148,22 @@ module _ (code : CodeView) (p : Source) (inputs : List ℤ) (b : Scheduler) (s :
     abbrev workers : List Worker
     workers = let l = b.workers in l.items
 
-    low_of : (k : ℕ) (x : Activation FrameState) → slice_get seats k ≡ Some x → k < length seats
-    low_of k x at = get_low seats k x at
+    low_of : (k : ℕ) (x : Activation FrameState) → slice_get frame_states k ≡ Some x → k < length frame_states
+    low_of k x at = get_low frame_states k x at
 
     hand_as : (v : ℕ) (u : Worker) → slice_get workers v ≡ Some u → hand_of name u ≡ hand_of name' u
     hand_as v u at = by u.frame refl
       where
         by : (o : Option ℕ) → u.frame ≡ o → option_map name o ≡ option_map name' o
         by None e = refl
-        by (Some j) e = let g = sh.holds v j u at e in ap Some (also j (low_of j g.seat g.here))
+        by (Some j) e = let g = sh.holds v j u at e in ap Some (also j (low_of j g.frame_state g.here))
 
     offers_as : (v : ℕ) (u : Worker) → slice_get workers v ≡ Some u → offers_of name u ≡ offers_of name' u
-    offers_as v u at = let o = u.offered in map_as name name' o.items (λ q j has. let z = sh.desk in let g = z.places v q j u at has in also j (low_of j g.0 g.1))
+    offers_as v u at = let o = u.offered in map_as name name' o.items (λ q j has. let z = sh.worker_table in let g = z.places v q j u at has in also j (low_of j g.0 g.1))
 
-    desk_as : IsWorkerTable code p inputs name' b d
-    desk_as =
-        let o = sh.desk in record {
+    worker_table_as : IsWorkerTable code p inputs name' b d
+    worker_table_as =
+        let o = sh.worker_table in record {
           hands = o.hands ∙ map_same (hand_of name) (hand_of name') workers hand_as;
           offered = o.offered ∙ map_same (offers_of name) (offers_of name') workers offers_as;
           total = o.total;
@@ -176,7 +176,7 @@ module _ (code : CodeView) (p : Source) (inputs : List ℤ) (b : Scheduler) (s :
           present = λ n is none. o.present n is (absent_back n none);
         }
 
-    named_as : AreNamed seats name → 0 < length seats → AreNamed seats name'
+    named_as : AreNamed frame_states name → 0 < length frame_states → AreNamed frame_states name'
     named_as n some = record {
       root = same 0 some ∙ n.root;
       child = λ k x at.
@@ -189,11 +189,11 @@ module _ (code : CodeView) (p : Source) (inputs : List ℤ) (b : Scheduler) (s :
       apart = λ j k lj lk e. n.apart j k lj lk (sym (same j lj) ∙ e ∙ same k lk);
     }
 
-    tells_as : 0 < length seats → Tells code p inputs name' b s
+    tells_as : 0 < length frame_states → Tells code p inputs name' b s
     tells_as some =
         let o = sh.tells in record {
           named = named_as o.named some;
-          here = λ k x at. let r = o.here k x at in (r.0, ap s.frames (same k (low_of k x at)) ∙ r.1, deeds_as p seats s name name' same k (let f = r.0 in f.deeds) _ r.2);
+          here = λ k x at. let r = o.here k x at in (r.0, ap s.frames (same k (low_of k x at)) ∙ r.1, deeds_as p frame_states s name name' same k (let f = r.0 in f.deeds) _ r.2);
           absent = λ n none. o.absent n (absent_back n none);
           joins = o.joins;
           going = o.going;
@@ -202,18 +202,18 @@ module _ (code : CodeView) (p : Source) (inputs : List ℤ) (b : Scheduler) (s :
           ascend = λ j k x y at at' less. subst (λ n. x.base + size_of p (s.frames n) ≤ y.base) (also j (low_of j x at)) (o.ascend j k x y at at' less);
         }
 
-    pub shown_as : 0 < length seats → ShowsBy code p inputs name' b d s
+    pub shown_as : 0 < length frame_states → ShowsBy code p inputs name' b d s
     shown_as some = record {
       tells = tells_as some;
       running = sh.running;
       sits = λ k x at. sits_as k x at (sh.sits k x at);
       unstolen = λ n none. sh.unstolen n (absent_back n none);
       unwritten = λ n q none. sh.unwritten n q (absent_back n none);
-      bare = λ n m q kind none there. sh.bare n m q kind (absent_back n none) (λ g. there (absent_as p seats s name name' same m g));
-      memory = λ c n is. sh.memory c n (cell_as p seats s name' name also c n is);
+      bare = λ n m q kind none there. sh.bare n m q kind (absent_back n none) (λ g. there (absent_as p frame_states s name name' same m g));
+      memory = λ c n is. sh.memory c n (cell_as p frame_states s name' name also c n is);
       within = λ k x at. subst (λ n. let l = b.cells in x.base + size_of p (s.frames n) ≤ length l.items) (also k (low_of k x at)) (sh.within k x at);
       holds = λ w k u at has. holds_as w k u (sh.holds w k u at has);
-      desk = desk_as;
+      worker_table = worker_table_as;
       ticks = sh.ticks;
       events = sh.events;
       frames = sh.frames;

@@ -4,7 +4,7 @@
 -- - `child_is`, `last_deed`, `awaits`: the parent waits for this frame;
 -- - `Had`, `moved`: the changes of workers and frame states;
 -- - `parent_sits`, `holds_parent`: the parent's state, and the worker that has it;
--- - `desk_called`, `desk_offered`: the worker table;
+-- - `worker_table_called`, `worker_table_offered`: the worker table;
 -- - `returns_are_shown`: the law.
 use Rattle.std.proofs.Common.{◌≡◌, ◌⊎◌, inl, inr, ⊎_elim, ◌+◌, ◌-◌, ◌<◌, ℕ, suc, Bool, true, false, true≢false, cond, ℤ, List, [], ◌∷◌, ◌++◌, length, map, set, slice_get, sum, Some, None, refl, sym, ap, ◌∙◌, subst, arith}
 use Rattle.std.specs.Prelude.{remove}
@@ -75,11 +75,11 @@ module _ (code : CodeView) (p : Source) (inputs : List ℤ) (name : ℕ → Name
   abbrev sh : ShowsBy code p inputs name b d s
   sh = is_shown.shows
 
-  abbrev old_seats : List (Activation FrameState)
-  old_seats = let f = b.frames in f.items
+  abbrev old_frame_states : List (Activation FrameState)
+  old_frame_states = let f = b.frames in f.items
 
-  abbrev new_seats : List (Activation FrameState)
-  new_seats = let f = b'.frames in f.items
+  abbrev new_frame_states : List (Activation FrameState)
+  new_frame_states = let f = b'.frames in f.items
 
   abbrev old_workers : List Worker
   old_workers = let l = b.workers in l.items
@@ -87,49 +87,49 @@ module _ (code : CodeView) (p : Source) (inputs : List ℤ) (name : ℕ → Name
   abbrev new_workers : List Worker
   new_workers = let l = b'.workers in l.items
 
-  abbrev seat : FrameState
-  seat = let a = h.seat in a.cursor
+  abbrev frame_state : FrameState
+  frame_state = let a = h.frame_state in a.cursor
 
   abbrev up : ℕ
-  up = let a = h.seat in let x = a.cursor in x.parent
+  up = let a = h.frame_state in let x = a.cursor in x.parent
 
   abbrev parent : FrameState
   parent = let a = g.above in a.cursor
 
   abbrev sitting : Sits code p inputs name b s up g.above
-  sitting = let y = is_shown.shows in y.sits (let a = h.seat in let x = a.cursor in x.parent) g.above g.sits
+  sitting = let y = is_shown.shows in y.sits (let a = h.frame_state in let x = a.cursor in x.parent) g.above g.sits
 
   abbrev deeds : List (Deed FrameEnv)
-  deeds = let o = (let y = is_shown.shows in y.sits (let a = h.seat in let x = a.cursor in x.parent) g.above g.sits) in let f = o.frame in f.deeds
+  deeds = let o = (let y = is_shown.shows in y.sits (let a = h.frame_state in let x = a.cursor in x.parent) g.above g.sits) in let f = o.frame in f.deeds
 
-  named : AreNamed old_seats name
+  named : AreNamed old_frame_states name
   named = let y = is_shown.shows in let o = y.tells in o.named
 
-  child_is : (up < suc k) × (name (suc k) ≡ name up ++ seat.ordinal ∷ [])
-  child_is = let n = named in n.child k h.seat h.sits
+  child_is : (up < suc k) × (name (suc k) ≡ name up ++ frame_state.ordinal ∷ [])
+  child_is = let n = named in n.child k h.frame_state h.sits
 
   apart : suc k ≡ up → ⊥
   apart e = let c = child_is in let low = c.0 in omega (arith, e, low)
 
-  low : up < length old_seats
-  low = get_low old_seats up g.above g.sits
+  low : up < length old_frame_states
+  low = get_low old_frame_states up g.above g.sits
 
-  under : IsUnder s (name up) seat.ordinal
+  under : IsUnder s (name up) frame_state.ordinal
   under =
       let y = is_shown.shows in
-      let o = y.sits (suc k) h.seat h.sits in
+      let o = y.sits (suc k) h.frame_state h.sits in
       let c = child_is in
-      under_of s outlive (name up) seat.ordinal o.frame (ap s.frames (sym c.1) ∙ o.here) (ended.goes code p inputs name b d s w (suc k) v is_shown started_as h)
+      under_of s outlive (name up) frame_state.ordinal o.frame (ap s.frames (sym c.1) ∙ o.here) (ended.goes code p inputs name b d s w (suc k) v is_shown started_as h)
 
-  not_stolen : s.stolen (name up ++ seat.ordinal ∷ []) ≡ false
+  not_stolen : s.stolen (name up ++ frame_state.ordinal ∷ []) ≡ false
   not_stolen =
       let y = is_shown.shows in
-      let o = y.sits (suc k) h.seat h.sits in
+      let o = y.sits (suc k) h.frame_state h.sits in
       let c = child_is in
       ap s.stolen (sym c.1) ∙ o.stolen ∙ g.was_kept
 
   -- the parent's last deed started this frame
-  last_deed : (before : List (Deed FrameEnv)) × (how : Invocation) × (what : FrameEnv) × (deeds ≡ before ++ Invokes how what ∷ []) × (seat.ordinal ≡ suc (started before))
+  last_deed : (before : List (Deed FrameEnv)) × (how : Invocation) × (what : FrameEnv) × (deeds ≡ before ++ Invokes how what ∷ []) × (frame_state.ordinal ≡ suc (started before))
   last_deed =
       let u = under in
       let o = sitting in
@@ -143,7 +143,7 @@ module _ (code : CodeView) (p : Source) (inputs : List ℤ) (name : ℕ → Name
       let same : o.frame ≡ u.parent = (let q : Some o.frame ≡ Some u.parent = sym o.here ∙ u.here in cc) in
       ap (λ (f : Frame FrameEnv). has_ended f.deeds) same ∙ u.goes
 
-  starts : started deeds ≡ seat.ordinal
+  starts : started deeds ≡ frame_state.ordinal
   starts = let l = last_deed in ap (λ ds. started ds) l.3 ∙ started_invokes l.0 l.1 l.2 ∙ sym l.4
 
   -- so the parent doesn't continue
@@ -163,7 +163,7 @@ module _ (code : CodeView) (p : Source) (inputs : List ℤ) (name : ℕ → Name
   no_goes (AfterSteal before what q e) =
       let l = last_deed in
       let r = snoc_one l.0 before (Invokes l.1 l.2) (Invokes _ what) (sym l.3 ∙ q) in
-      let at : child_after (name up) before ≡ name up ++ seat.ordinal ∷ [] = ap (λ ds. name up ++ suc (started ds) ∷ []) (sym r.0) ∙ ap (λ n. name up ++ n ∷ []) (sym l.4) in
+      let at : child_after (name up) before ≡ name up ++ frame_state.ordinal ∷ [] = ap (λ ds. name up ++ suc (started ds) ∷ []) (sym r.0) ∙ ap (λ n. name up ++ n ∷ []) (sym l.4) in
       true≢false (sym e ∙ ap s.stolen at ∙ not_stolen)
 
   -- it waits for this frame
@@ -287,13 +287,13 @@ module _ (code : CodeView) (p : Source) (inputs : List ℤ) (name : ℕ → Name
 
     moved : ended.Moved code p inputs name b d s w (suc k) v is_shown started_as h b' g.views g.closes s' m up
     moved = record {
-      on = subst (λ l. carries.Carries old_seats l) (sym g.frames) (carries.carries_then old_seats mid (changed (moved_to (Held w)) mid up) (carries.carries_changed (λ _. counted (finished h.came)) old_seats (suc k)) (carries.carries_changed (moved_to (Held w)) mid up));
-      same_length = ap (λ (l : List (Activation FrameState)). length l) g.frames ∙ changed_length (moved_to (Held w)) mid up ∙ changed_length (λ _. counted (finished h.came)) old_seats (suc k);
-      else_at = λ j ne ne'. ap (λ l. slice_get l j) g.frames ∙ changed_off (moved_to (Held w)) mid up j ne' ∙ changed_off (λ _. counted (finished h.came)) old_seats (suc k) j ne;
-      now_at = ap (λ l. slice_get l (suc k)) g.frames ∙ changed_off (moved_to (Held w)) mid up (suc k) (λ e. apart (sym e)) ∙ changed_here (λ _. counted (finished h.came)) old_seats (suc k) h.seat h.sits;
+      on = subst (λ l. carries.Carries old_frame_states l) (sym g.frames) (carries.carries_then old_frame_states mid (changed (moved_to (Held w)) mid up) (carries.carries_changed (λ _. counted (finished h.came)) old_frame_states (suc k)) (carries.carries_changed (moved_to (Held w)) mid up));
+      same_length = ap (λ (l : List (Activation FrameState)). length l) g.frames ∙ changed_length (moved_to (Held w)) mid up ∙ changed_length (λ _. counted (finished h.came)) old_frame_states (suc k);
+      else_at = λ j ne ne'. ap (λ l. slice_get l j) g.frames ∙ changed_off (moved_to (Held w)) mid up j ne' ∙ changed_off (λ _. counted (finished h.came)) old_frame_states (suc k) j ne;
+      now_at = ap (λ l. slice_get l (suc k)) g.frames ∙ changed_off (moved_to (Held w)) mid up (suc k) (λ e. apart (sym e)) ∙ changed_here (λ _. counted (finished h.came)) old_frame_states (suc k) h.frame_state h.sits;
       named = subst (λ l. AreNamed l name) (sym g.frames) (named_changed (moved_to (Held w)) mid up name (λ x. (refl, refl)) (ended.named_ended code p inputs name b d s w (suc k) v is_shown started_as h b' g.views g.closes s' m));
       above = low;
-      kin = λ n z q. let c = child_is in let r = snoc_name (name up) n seat.ordinal z (sym c.1 ∙ q) in sym r.0;
+      kin = λ n z q. let c = child_is in let r = snoc_name (name up) n frame_state.ordinal z (sym c.1 ∙ q) in sym r.0;
       worker_on = λ at u is.
           let x = mid_on taken at u is in
           let r = altering.altered_on (holding up g.views) g.others w at x.0 x.1 in
@@ -307,8 +307,8 @@ module _ (code : CodeView) (p : Source) (inputs : List ℤ) (name : ℕ → Name
     abbrev parent_now : FrameState
     parent_now = let a = g.above in let y = a.cursor in record y { status = Held w }
 
-    up_at : slice_get new_seats up ≡ Some (let a = g.above in record a { cursor = parent_now })
-    up_at = ap (λ l. slice_get l up) g.frames ∙ changed_here (moved_to (Held w)) mid up g.above (changed_off (λ _. counted (finished h.came)) old_seats (suc k) up apart ∙ g.sits)
+    up_at : slice_get new_frame_states up ≡ Some (let a = g.above in record a { cursor = parent_now })
+    up_at = ap (λ l. slice_get l up) g.frames ∙ changed_here (moved_to (Held w)) mid up g.above (changed_off (λ _. counted (finished h.came)) old_frame_states (suc k) up apart ∙ g.sits)
 
     -- the worker has the parent then
     own_now : (u : Worker) → slice_get new_workers w ≡ Some u → (u.frame ≡ Some up) × (u.views ≡ g.views)
@@ -322,7 +322,7 @@ module _ (code : CodeView) (p : Source) (inputs : List ℤ) (name : ℕ → Name
         let r = altering.altered_on (holding up g.views) g.others w w x.0 x.1 in
         (r.0, ap (λ l. slice_get l w) g.workers ∙ r.1)
 
-    child_ended : has_ended (deeds_at (s'.frames (name up ++ seat.ordinal ∷ []))) ≡ true
+    child_ended : has_ended (deeds_at (s'.frames (name up ++ frame_state.ordinal ∷ []))) ≡ true
     child_ended = let c = child_is in ap (λ n. has_ended (deeds_at (s'.frames n))) (sym c.1) ∙ ended.ended_here code p inputs name b d s w (suc k) v is_shown started_as h b' g.views g.closes s' m
 
     -- ---- the parent's state
@@ -333,7 +333,7 @@ module _ (code : CodeView) (p : Source) (inputs : List ℤ) (name : ℕ → Name
         let x = own_now u.0 u.1 in
         let l = last_deed in
         let z = waits in
-        let at : seat.ordinal ≡ suc (started l.0) = l.4 in (
+        let at : frame_state.ordinal ≡ suc (started l.0) = l.4 in (
           u.0,
           u.1,
           x.0,
@@ -346,8 +346,8 @@ module _ (code : CodeView) (p : Source) (inputs : List ℤ) (name : ℕ → Name
     block_parent : HasBlock code p inputs name b s (name up) deeds parent → HasBlock code p inputs name b' s' (name up) deeds parent_now
     block_parent o =
         ⊎_elim (λ x. inl x) (λ x. inr (x.0, x.1, ⊎_elim (λ y. inl y) (λ y. inr (y.0, (λ c. absurd (not_waiting (y.1 c))))) x.2))
-        (ended.block_stays code p inputs name b d s w (suc k) v is_shown started_as h b' g.views g.closes s' m up moved (name up) deeds parent (λ e. let n = named in apart (n.apart (suc k) up (get_low old_seats (suc k) h.seat h.sits) low e))
-        (λ z is e. let c = child_is in let r = snoc_name (name up) (name up) seat.ordinal z (sym c.1 ∙ e) in true≢false (sym is ∙ ap (λ n. s.stolen (name up ++ n ∷ [])) (sym r.1) ∙ not_stolen)) o)
+        (ended.block_stays code p inputs name b d s w (suc k) v is_shown started_as h b' g.views g.closes s' m up moved (name up) deeds parent (λ e. let n = named in apart (n.apart (suc k) up (get_low old_frame_states (suc k) h.frame_state h.sits) low e))
+        (λ z is e. let c = child_is in let r = snoc_name (name up) (name up) frame_state.ordinal z (sym c.1 ∙ e) in true≢false (sym is ∙ ap (λ n. s.stolen (name up ++ n ∷ [])) (sym r.1) ∙ not_stolen)) o)
 
     parent_sits : Sits code p inputs name b' s' up (let a = g.above in record a { cursor = parent_now })
     parent_sits = let o = sitting in ended.stays_with code p inputs name b d s w (suc k) v is_shown started_as h b' g.views g.closes s' m up moved up g.above parent_now apart g.sits refl o where_parent (λ q. block_parent (o.block q))
@@ -355,7 +355,7 @@ module _ (code : CodeView) (p : Source) (inputs : List ℤ) (name : ℕ → Name
     -- ---- the worker that has it
 
     parent_frame : s'.frames (name up) ≡ Some (let o = sitting in o.frame)
-    parent_frame = let o = sitting in ended.frame_else code p inputs name b d s w (suc k) v is_shown started_as h b' g.views g.closes s' m (name up) (λ e. let n = named in apart (n.apart (suc k) up (get_low old_seats (suc k) h.seat h.sits) low e)) ∙ o.here
+    parent_frame = let o = sitting in ended.frame_else code p inputs name b d s w (suc k) v is_shown started_as h b' g.views g.closes s' m (name up) (λ e. let n = named in apart (n.apart (suc k) up (get_low old_frame_states (suc k) h.frame_state h.sits) low e)) ∙ o.here
 
     flag_now : s'.stolen (name up ++ started deeds ∷ []) ≡ false
     flag_now = ended.stolen_at code p inputs name b d s w (suc k) v is_shown started_as h b' g.views g.closes s' m (name up ++ started deeds ∷ []) ∙ ap (λ n. s.stolen (name up ++ n ∷ [])) starts ∙ not_stolen
@@ -371,37 +371,37 @@ module _ (code : CodeView) (p : Source) (inputs : List ℤ) (name : ℕ → Name
 
     holds_parent : (u : Worker) → u.views ≡ g.views → Holds code p inputs name b' s' w u up
     holds_parent u views = record {
-      seat = (let a = g.above in record a { cursor = parent_now });
+      frame_state = (let a = g.above in record a { cursor = parent_now });
       here = up_at;
       held = refl;
       views = λ i j is.
           subst (λ x. IsViewOf (kind_of i) x (value_in u.views (kind_of i) j)) (sym (carried_now i))
           (subst (λ x. IsViewOf (kind_of i) (s'.piece (name (suc k)) i) (value_in x (kind_of i) j)) (sym views) (ended.left_views code p inputs name b d s w (suc k) v is_shown started_as h b' g.views g.closes s' m i j (ended.instance_back code p inputs name b d s w (suc k) v is_shown started_as h b' g.views g.closes s' m up moved i j is)));
       used = λ q is. used_now q is;
-      bare = subst (λ n. IsBare n (value_in u.views)) (sym moved.same_length) (subst (λ x. IsBare (length old_seats) (value_in x)) (sym views) (ended.left_bare code p inputs name b d s w (suc k) v is_shown started_as h b' g.views g.closes s' m));
+      bare = subst (λ n. IsBare n (value_in u.views)) (sym moved.same_length) (subst (λ x. IsBare (length old_frame_states) (value_in x)) (sym views) (ended.left_bare code p inputs name b d s w (suc k) v is_shown started_as h b' g.views g.closes s' m));
     }
       where
         used_now : (q : ℕ) → IsUsed s'.stolen (name up) (deeds_at (s'.frames (name up))) parent_now.merged q → is_there code p inputs name b' s' (name up) q ≡ true
         used_now q is =
             let z = waits in
             ⊎_elim (λ a. absurd (true≢false (sym a.0 ∙ z.unmerged)))
-            (λ a. let e : q ≡ seat.ordinal = a.2 ∙ ap (λ f. started (deeds_at f)) parent_frame ∙ starts in ap (λ n. has_ended (deeds_at (s'.frames (name up ++ n ∷ [])))) e ∙ child_ended) is
+            (λ a. let e : q ≡ frame_state.ordinal = a.2 ∙ ap (λ f. started (deeds_at f)) parent_frame ∙ starts in ap (λ n. has_ended (deeds_at (s'.frames (name up ++ n ∷ [])))) e ∙ child_ended) is
 
     -- ---- the worker table
 
-    abbrev desk_now : WorkerTable
-    desk_now = holds (record d { offered = withdrawn d.offered (name up) }) w (name up)
+    abbrev worker_table_now : WorkerTable
+    worker_table_now = holds (record d { offered = withdrawn d.offered (name up) }) w (name up)
 
-    same_place : (j : ℕ) → j < length old_seats → name j ≡ name up → j ≡ up
+    same_place : (j : ℕ) → j < length old_frame_states → name j ≡ name up → j ≡ up
     same_place j at e = let n = named in n.apart j up at low e
 
-    waiting_now : (j : ℕ) (a : Activation FrameState) → slice_get new_seats j ≡ Some a → ((let x = a.cursor in x.status ≡ Waiting) → IsIn (name j) d.waiting) × (IsIn (name j) d.waiting → let x = a.cursor in x.status ≡ Waiting)
+    waiting_now : (j : ℕ) (a : Activation FrameState) → slice_get new_frame_states j ≡ Some a → ((let x = a.cursor in x.status ≡ Waiting) → IsIn (name j) d.waiting) × (IsIn (name j) d.waiting → let x = a.cursor in x.status ≡ Waiting)
     waiting_now =
         ended.waits_as code p inputs name b d s w (suc k) v is_shown started_as h b' g.views g.closes s' m up moved d.waiting (λ j there ne. ((λ x. x), (λ x. x)))
         (λ a ne is.
         let same : (let y = g.above in record y { cursor = parent_now }) ≡ a = (let q : Some (let y = g.above in record y { cursor = parent_now }) ≡ Some a = sym up_at ∙ is in cc) in
         let y = sh in
-        let o = y.desk in
+        let o = y.worker_table in
         let old = o.waiting up g.above g.sits in (
           (λ f. let z : Held w ≡ Waiting = ap (λ (y : Activation FrameState). let x = y.cursor in x.status) same ∙ f in let n : ⊥ = cc in absurd n),
           (λ f. absurd (not_waiting (old.1 f))),
@@ -411,26 +411,26 @@ module _ (code : CodeView) (p : Source) (inputs : List ℤ) (name : ℕ → Name
     offering : (at q : ℕ) (u : Worker) → slice_get old_workers at ≡ Some u → (let o = u.offered in slice_get o.items q ≡ Some up) → parent.status ≡ Offered at
     offering at q u is has =
         let y = sh in
-        let o = y.desk in
+        let o = y.worker_table in
         let r = o.places at q up u is has in
         let same : r.0 ≡ g.above = (let z : Some r.0 ≡ Some g.above = sym r.1 ∙ g.sits in cc) in
         ap (λ (a : Activation FrameState). let x = a.cursor in x.status) (sym same) ∙ r.2
 
-    offerer : (at q j : ℕ) (u : Worker) → slice_get old_workers at ≡ Some u → (let o = u.offered in slice_get o.items q ≡ Some j) → j < length old_seats
-    offerer at q j u is has = let y = sh in let o = y.desk in let r = o.places at q j u is has in get_low old_seats j r.0 r.1
+    offerer : (at q j : ℕ) (u : Worker) → slice_get old_workers at ≡ Some u → (let o = u.offered in slice_get o.items q ≡ Some j) → j < length old_frame_states
+    offerer at q j u is has = let y = sh in let o = y.worker_table in let r = o.places at q j u is has in get_low old_frame_states j r.0 r.1
 
-    desk_called : ((at : ℕ) → parent.status ≡ Offered at → ⊥) → g.others ≡ old_workers → b'.offered ≡ b.offered → IsWorkerTable code p inputs name b' desk_now
-    desk_called never o n =
+    worker_table_called : ((at : ℕ) → parent.status ≡ Offered at → ⊥) → g.others ≡ old_workers → b'.offered ≡ b.offered → IsWorkerTable code p inputs name b' worker_table_now
+    worker_table_called never o n =
         let y = sh in
-        let k0 = y.desk in
+        let k0 = y.worker_table in
         subst (λ l. IsWorkerTable code p inputs name b' (record d { hands = set d.hands w (Some (name up)); offered = l })) (sym none_goes)
-        (ended.desk_kept code p inputs name b d s w (suc k) v is_shown started_as h b' g.views g.closes s' m up moved (holding up g.views) (Some (name up)) (λ u. refl) (λ u. refl) (g.workers ∙ ap (λ l. altered (holding up g.views) l w) o) n d.waiting (λ n is. is)
+        (ended.worker_table_kept code p inputs name b d s w (suc k) v is_shown started_as h b' g.views g.closes s' m up moved (holding up g.views) (Some (name up)) (λ u. refl) (λ u. refl) (g.workers ∙ ap (λ l. altered (holding up g.views) l w) o) n d.waiting (λ n is. is)
         (λ at x is status. let same : g.above ≡ x = (let q : Some g.above ≡ Some x = sym g.sits ∙ is in cc) in absurd (never at (ap (λ (a : Activation FrameState). let z = a.cursor in z.status) same ∙ status))) waiting_now)
       where
         none_goes : withdrawn d.offered (name up) ≡ d.offered
         none_goes =
             let y = sh in
-            let k0 = y.desk in
+            let k0 = y.worker_table in
             let each : (at : ℕ) (u : Worker) → slice_get old_workers at ≡ Some u → without (offers_of name u) (name up) ≡ offers_of name u =
             (λ at u is. let l = u.offered in altering.without_none name (name up) l.items (λ q j has. name_off (name j) (name up) (λ z. never at (offering at q u is (has ∙ ap (λ i. Some i) (same_place j (offerer at q j u is has) z)))))) in
             ap (λ l. withdrawn l (name up)) k0.offered ∙ altering.withdrawn_is name (name up) (λ u. u) old_workers 0 (λ at u is. ((λ e. each at u is), (λ e. each at u is)))
@@ -466,7 +466,7 @@ module _ (code : CodeView) (p : Source) (inputs : List ℤ) (name : ℕ → Name
             let l = owner.offered in
             ap (λ (z : Worker). without (offers_of name z) (name up)) (owner_is at u is e)
             ∙ altering.without_one name (name up) l.items place up stands (same_name-refl (name up))
-            (λ q j here ne. name_off (name j) (name up) (λ z. ne (let x = sh in let y = x.desk in y.once victim place q up owner owns stands (here ∙ ap (λ i. Some i) (same_place j (offerer victim q j owner owns here) z)))))
+            (λ q j here ne. name_off (name j) (name up) (λ z. ne (let x = sh in let y = x.worker_table in y.once victim place q up owner owns stands (here ∙ ap (λ i. Some i) (same_place j (offerer victim q j owner owns here) z)))))
             ∙ ap (λ (ns : List ℕ). map name ns) (sym left)),
         (λ ne.
             let l = u.offered in
@@ -476,7 +476,7 @@ module _ (code : CodeView) (p : Source) (inputs : List ℤ) (name : ℕ → Name
       total_now : b'.offered ≡ sum (map (λ (u : Worker). let o = u.offered in length o.items) new_workers)
       total_now =
           let x = sh in
-          let y = x.desk in
+          let y = x.worker_table in
           let o = owner.offered in
           let one : (let l = free.offered in length l.items) + 1 ≡ (let l = owner.offered in length l.items) = ap (λ (ns : List ℕ). length ns + 1) left ∙ length-remove o.items place (get_low o.items place up stands) in
           let a = altering.altered_sum (λ _. free) (λ (u : Worker). let o = u.offered in length o.items) old_workers victim owner owns one in
@@ -499,18 +499,18 @@ module _ (code : CodeView) (p : Source) (inputs : List ℤ) (name : ℕ → Name
 
       once_now : (at q r j : ℕ) (u u' : Worker) → slice_get old_workers at ≡ Some u → ((victim ≡ at → ⊥) × ((let o = u'.offered in o.items) ≡ (let o = u.offered in o.items))) ⊎ ((victim ≡ at) × (u ≡ owner) × ((let o = u'.offered in o.items) ≡ remove (let o = u.offered in o.items) place))
           → (let o = u'.offered in slice_get o.items q ≡ Some j) → (let o = u'.offered in slice_get o.items r ≡ Some j) → q ≡ r
-      once_now at q r j u u' is (inl e) has also = let x = sh in let y = x.desk in y.once at q r j u is (ap (λ l. slice_get l q) (sym e.1) ∙ has) (ap (λ l. slice_get l r) (sym e.1) ∙ also)
+      once_now at q r j u u' is (inl e) has also = let x = sh in let y = x.worker_table in y.once at q r j u is (ap (λ l. slice_get l q) (sym e.1) ∙ has) (ap (λ l. slice_get l r) (sym e.1) ∙ also)
       once_now at q r j u u' is (inr e) has also =
           let x = sh in
-          let y = x.desk in
+          let y = x.worker_table in
           let l = u.offered in
           altering.skip_one place q r (y.once at (altering.skip place q) (altering.skip place r) j u is (sym (altering.remove_get l.items place q (inside at u e.1)) ∙ ap (λ l. slice_get l q) (sym e.2) ∙ has)
           (sym (altering.remove_get l.items place r (inside at u e.1)) ∙ ap (λ l. slice_get l r) (sym e.2) ∙ also))
 
-      desk_offered : IsWorkerTable code p inputs name b' desk_now
-      desk_offered =
+      worker_table_offered : IsWorkerTable code p inputs name b' worker_table_now
+      worker_table_offered =
           let x = sh in
-          let o = x.desk in record {
+          let o = x.worker_table in record {
             hands = ap (λ hs. set hs w (Some (name up))) (o.hands ∙ sym (altering.altered_map_at (λ _. free) (hand_of name) old_workers victim owner owns (ap (λ f. option_map name f) frame_is)) ∙ ap (λ ws. map (hand_of name) ws) (sym others_are))
                 ∙ sym (altering.altered_set (holding up g.views) (hand_of name) (Some (name up)) g.others w (λ u. refl)) ∙ ap (λ ws. map (hand_of name) ws) (sym g.workers);
             offered = ap (λ l. withdrawn l (name up)) o.offered ∙ altering.withdrawn_is name (name up) (λ _. free) old_workers victim offers_now ∙ ap (λ ws. map (offers_of name) ws) (sym others_are)
@@ -530,11 +530,11 @@ module _ (code : CodeView) (p : Source) (inputs : List ℤ) (name : ℕ → Name
             present = λ n is none. o.present n is (ended.absent_back code p inputs name b d s w (suc k) v is_shown started_as h b' g.views g.closes s' m up moved n none);
           }
 
-    desk_by : Taken → IsWorkerTable code p inputs name b' desk_now
-    desk_by (kept never o n) = desk_called never o n
-    desk_by (freed victim place owner free e owns stands f y left o n) = desk_offered victim place owner free e owns stands f left o n
+    worker_table_by : Taken → IsWorkerTable code p inputs name b' worker_table_now
+    worker_table_by (kept never o n) = worker_table_called never o n
+    worker_table_by (freed victim place owner free e owns stands f y left o n) = worker_table_offered victim place owner free e owns stands f left o n
 
-    settled : ended.Settled code p inputs name b d s w (suc k) v is_shown started_as h b' g.views g.closes s' m up moved desk_now
+    settled : ended.Settled code p inputs name b d s w (suc k) v is_shown started_as h b' g.views g.closes s' m up moved worker_table_now
     settled = record {
       parent = λ a ne is.
           let same : (let y = g.above in record y { cursor = parent_now }) ≡ a = (let q : Some (let y = g.above in record y { cursor = parent_now }) ≡ Some a = sym up_at ∙ is in cc) in
@@ -544,24 +544,24 @@ module _ (code : CodeView) (p : Source) (inputs : List ℤ) (name : ℕ → Name
           let e : up ≡ j = (let z : Some up ≡ Some j = sym x.0 ∙ has in cc) in
           subst (λ i. Holds code p inputs name b' s' w u i) e (holds_parent u x.1);
       held = λ at u ne off y.
-          let same : y.seat ≡ g.above = (let z : Some y.seat ≡ Some g.above = sym y.here ∙ g.sits in cc) in
+          let same : y.frame_state ≡ g.above = (let z : Some y.frame_state ≡ Some g.above = sym y.here ∙ g.sits in cc) in
           absurd (not_held at (ap (λ (a : Activation FrameState). let x = a.cursor in x.status) (sym same) ∙ y.held));
-      desk = desk_by taken;
+      worker_table = worker_table_by taken;
       going = λ none f.
           let y = sh in
           let o = y.tells in
           let c = child_is in
-          o.going h.was_open (subst (λ f. HasEnd (deeds_at f)) (ended.frame_else code p inputs name b d s w (suc k) v is_shown started_as h b' g.views g.closes s' m [] (λ e. no_snoc (name up) seat.ordinal (sym e ∙ c.1))) f);
+          o.going h.was_open (subst (λ f. HasEnd (deeds_at f)) (ended.frame_else code p inputs name b d s w (suc k) v is_shown started_as h b' g.views g.closes s' m [] (λ e. no_snoc (name up) frame_state.ordinal (sym e ∙ c.1))) f);
       over = λ o at. let no : None ≡ Some o = sym h.was_open ∙ sym g.outcome ∙ at in let f : ⊥ = cc in absurd f;
     }
 
-    chooses : Chooses p inputs s d (Run (suc w)) Did s' desk_now
+    chooses : Chooses p inputs s d (Run (suc w)) Did s' worker_table_now
     chooses =
         let f = m.frame in
         let c = child_is in
-        does w (name (suc k)) s' desk_now (ended.hand_is code p inputs name b d s w (suc k) v is_shown started_as h) m
-        (subst (λ a. Settles s' d w (name (suc k)) f.deeds a desk_now) (sym (ended.ask_is code p inputs name b d s w (suc k) v is_shown started_as h b' g.views g.closes s' m))
-        (returns v _ (name up) seat.ordinal c.1 (ended.stolen_at code p inputs name b d s w (suc k) v is_shown started_as h b' g.views g.closes s' m (name (suc k)) ∙ ap s.stolen c.1 ∙ not_stolen)))
+        does w (name (suc k)) s' worker_table_now (ended.hand_is code p inputs name b d s w (suc k) v is_shown started_as h) m
+        (subst (λ a. Settles s' d w (name (suc k)) f.deeds a worker_table_now) (sym (ended.ask_is code p inputs name b d s w (suc k) v is_shown started_as h b' g.views g.closes s' m))
+        (returns v _ (name up) frame_state.ordinal c.1 (ended.stolen_at code p inputs name b d s w (suc k) v is_shown started_as h b' g.views g.closes s' m (name (suc k)) ∙ ap s.stolen c.1 ∙ not_stolen)))
 
   pub returned : IsEnded code p inputs name b' d s w
   returned =

@@ -54,8 +54,8 @@ result_end (Does (Passes m) ∷ ds) v gone h = result_end ds v gone h
 result_end (Invokes b w ∷ ds) v gone h = result_end ds v gone h
 
 module _ (code : CodeView) (p : Source) (inputs : List ℤ) (name : ℕ → Name) (b b' : Scheduler) (d : WorkerTable) (s : State FrameEnv View) (w : ℕ) (v : ℤ) (is_shown : IsShown code p inputs name b d s) (started_as : AreStarted p s) (h : HasCome code p inputs b w 0 (asks.End v)) (e : EndsRun code p inputs b b' w v h) where
-  abbrev old_seats : List (Activation FrameState)
-  old_seats = let f = b.frames in f.items
+  abbrev old_frame_states : List (Activation FrameState)
+  old_frame_states = let f = b.frames in f.items
 
   abbrev old_workers : List Worker
   old_workers = let l = b.workers in l.items
@@ -66,12 +66,12 @@ module _ (code : CodeView) (p : Source) (inputs : List ℤ) (name : ℕ → Name
   module _ (s' : State FrameEnv View) (m : Makes FrameEnv View monoid_of (Next p inputs) (costs p inputs) s (name 0) s') where
     moved : ended.Moved code p inputs name b d s w 0 v is_shown started_as h b' e.views e.closes s' m 0
     moved = record {
-      on = subst (λ l. carries.Carries old_seats l) (sym e.frames) (carries.carries_changed (λ _. counted (finished h.came)) old_seats 0);
-      same_length = ap (λ (l : List (Activation FrameState)). length l) e.frames ∙ changed_length (λ _. counted (finished h.came)) old_seats 0;
-      else_at = λ j ne ne'. ap (λ l. slice_get l j) e.frames ∙ changed_off (λ _. counted (finished h.came)) old_seats 0 j ne;
-      now_at = ap (λ l. slice_get l 0) e.frames ∙ changed_here (λ _. counted (finished h.came)) old_seats 0 h.seat h.sits;
+      on = subst (λ l. carries.Carries old_frame_states l) (sym e.frames) (carries.carries_changed (λ _. counted (finished h.came)) old_frame_states 0);
+      same_length = ap (λ (l : List (Activation FrameState)). length l) e.frames ∙ changed_length (λ _. counted (finished h.came)) old_frame_states 0;
+      else_at = λ j ne ne'. ap (λ l. slice_get l j) e.frames ∙ changed_off (λ _. counted (finished h.came)) old_frame_states 0 j ne;
+      now_at = ap (λ l. slice_get l 0) e.frames ∙ changed_here (λ _. counted (finished h.came)) old_frame_states 0 h.frame_state h.sits;
       named = subst (λ l. AreNamed l name) (sym e.frames) (ended.named_ended code p inputs name b d s w 0 v is_shown started_as h b' e.views e.closes s' m);
-      above = get_low old_seats 0 h.seat h.sits;
+      above = get_low old_frame_states 0 h.frame_state h.sits;
       kin = λ n z q. absurd (no_snoc n z (sym root ∙ q));
       worker_on = λ at u is.
           let r = altering.altered_on (idling e.left) old_workers w at u is in
@@ -82,22 +82,22 @@ module _ (code : CodeView) (p : Source) (inputs : List ℤ) (name : ℕ → Name
     }
 
     -- the first frame's view of a reducer is the worker's
-    view_is : (i : Instance) (j : numbered.Instance) → IsInstance p old_seats name i j → IsViewOf (kind_of i) (s'.piece [] i) (value_in e.views (kind_of i) j)
+    view_is : (i : Instance) (j : numbered.Instance) → IsInstance p old_frame_states name i j → IsViewOf (kind_of i) (s'.piece [] i) (value_in e.views (kind_of i) j)
     view_is i j is = subst (λ n. IsViewOf (kind_of i) (s'.piece n i) (value_in e.views (kind_of i) j)) root (ended.left_views code p inputs name b d s w 0 v is_shown started_as h b' e.views e.closes s' m i j is)
 
-    frame_now : s'.frames [] ≡ Some (let y = is_shown.shows in let o = y.sits 0 h.seat h.sits in let f = o.frame in record f { deeds = f.deeds ++ Does (Ends v (retired_by p f.what)) ∷ [] })
+    frame_now : s'.frames [] ≡ Some (let y = is_shown.shows in let o = y.sits 0 h.frame_state h.sits in let f = o.frame in record f { deeds = f.deeds ++ Does (Ends v (retired_by p f.what)) ∷ [] })
     frame_now = ap s'.frames (sym root) ∙ ended.frame_here code p inputs name b d s w 0 v is_shown started_as h b' e.views e.closes s' m
 
     ended_now : HasEnd (deeds_at (s'.frames []))
-    ended_now = subst (λ f. HasEnd (deeds_at f)) (sym frame_now) (ended.end_last (let y = is_shown.shows in let o = y.sits 0 h.seat h.sits in let f = o.frame in f.deeds) v (let y = is_shown.shows in let o = y.sits 0 h.seat h.sits in let f = o.frame in retired_by p f.what))
+    ended_now = subst (λ f. HasEnd (deeds_at f)) (sym frame_now) (ended.end_last (let y = is_shown.shows in let o = y.sits 0 h.frame_state h.sits in let f = o.frame in f.deeds) v (let y = is_shown.shows in let o = y.sits 0 h.frame_state h.sits in let f = o.frame in retired_by p f.what))
 
     outcome_is : (let c = b.cells in outcome_of code.layout c.items e.views v) ≡ outcome_in p s'
     outcome_is =
         let y = is_shown.shows in
         let c = b.cells in
-        let low = get_low old_seats 0 h.seat h.sits in
+        let low = get_low old_frame_states 0 h.frame_state h.sits in
         left_is e.views (λ i. s'.piece [] i) (λ n k. view_is (global_named n k) (global_reducer n) (0, low, root, refl, refl)) p code.layout c.items v s' is_shown.lays (λ i. refl)
-        (ap (λ f. result_in (deeds_at f)) frame_now ∙ result_end (let o = y.sits 0 h.seat h.sits in let f = o.frame in f.deeds) v _ (ended.goes code p inputs name b d s w 0 v is_shown started_as h))
+        (ap (λ f. result_in (deeds_at f)) frame_now ∙ result_end (let o = y.sits 0 h.frame_state h.sits in let f = o.frame in f.deeds) v _ (ended.goes code p inputs name b d s w 0 v is_shown started_as h))
         (λ n lt. y.memory (Global n) n (refl, lt) ∙ ap (λ x. Some x) (sym (ended.memory_at code p inputs name b d s w 0 v is_shown started_as h b' e.views e.closes s' m (Global n))))
         (view_is Output (record { frame = 0; place = 0 }) (refl, refl))
 
@@ -108,9 +108,9 @@ module _ (code : CodeView) (p : Source) (inputs : List ℤ) (name : ℕ → Name
           let r = altering.altered_from (idling e.left) old_workers w w u (sym (ap (λ l. slice_get l w) e.workers) ∙ is) in
           ⊎_elim (λ g. let no : None ≡ Some j = ap (λ (z : Worker). z.frame) (sym g.1) ∙ has in let f : ⊥ = cc in absurd f) (λ g. absurd (g.0 refl)) r.2;
       held = λ at u ne off. absurd (off refl);
-      desk = ended.desk_kept code p inputs name b d s w 0 v is_shown started_as h b' e.views e.closes s' m 0 moved (idling e.left) None (λ u. refl) (λ u. refl) e.workers e.offered d.waiting (λ n is. is)
+      worker_table = ended.worker_table_kept code p inputs name b d s w 0 v is_shown started_as h b' e.views e.closes s' m 0 moved (idling e.left) None (λ u. refl) (λ u. refl) e.workers e.offered d.waiting (λ n is. is)
           (λ at x is status.
-          let same : h.seat ≡ x = (let q : Some h.seat ≡ Some x = sym h.sits ∙ is in cc) in
+          let same : h.frame_state ≡ x = (let q : Some h.frame_state ≡ Some x = sym h.sits ∙ is in cc) in
           let z = sym (ended.status_was code p inputs name b d s w 0 v is_shown started_as h) ∙ ap (λ (a : Activation FrameState). let y = a.cursor in y.status) same ∙ status in
           absurd (not_both w at z))
           (ended.waits_as code p inputs name b d s w 0 v is_shown started_as h b' e.views e.closes s' m 0 moved d.waiting (λ j low ne. ((λ x. x), (λ x. x))) (λ a ne. absurd (ne refl)) (λ x. x));

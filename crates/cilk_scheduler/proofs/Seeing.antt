@@ -109,8 +109,8 @@ module _ (code : CodeView) (p : Source) (inputs : List ℤ) (name : ℕ → Name
   named : AreNamed frames name
   named = let t = sh.tells in t.named
 
-  seat_same : (k : ℕ) (x y : Activation FrameState) → slice_get frames k ≡ Some x → slice_get frames k ≡ Some y → x ≡ y
-  seat_same k x y h g = let q : Some x ≡ Some y = sym h ∙ g in cc
+  frame_state_same : (k : ℕ) (x y : Activation FrameState) → slice_get frames k ≡ Some x → slice_get frames k ≡ Some y → x ≡ y
+  frame_state_same k x y h g = let q : Some x ≡ Some y = sym h ∙ g in cc
 
   -- a frame has one place
   place_same : (m : Name) (j k : ℕ) (x y : Activation FrameState) → slice_get frames j ≡ Some x → slice_get frames k ≡ Some y → name j ≡ m → name k ≡ m → j ≡ k
@@ -121,7 +121,7 @@ module _ (code : CodeView) (p : Source) (inputs : List ℤ) (name : ℕ → Name
   one_cell_number (Global g) n m h h' = h.0 ∙ sym h'.0
   one_cell_number (Own z q) n m h h' =
       let at = place_same z h.0 h'.0 h.1 h'.1 h.2 h'.2 h.3 h'.3 in
-      let same = seat_same h'.0 h.1 h'.1 (subst (λ j. slice_get frames j ≡ Some h.1) at h.2) h'.2 in
+      let same = frame_state_same h'.0 h.1 h'.1 (subst (λ j. slice_get frames j ≡ Some h.1) at h.2) h'.2 in
       h.4 ∙ ap (λ (x : Activation FrameState). x.base + q) same ∙ sym h'.4
 
   -- frames' cells lie past the global ones
@@ -154,7 +154,7 @@ module _ (code : CodeView) (p : Source) (inputs : List ℤ) (name : ℕ → Name
       (λ least. ⊎_elim (λ less. absurd (blocks_apart h'.0 h.0 h'.1 h.1 q' q n h'.2 h.2 h'.4 small' h.4 less))
       (λ most.
       let at : h.0 ≡ h'.0 = omega (arith, least, most) in
-      let same = seat_same h'.0 h.1 h'.1 (subst (λ j. slice_get frames j ≡ Some h.1) at h.2) h'.2 in
+      let same = frame_state_same h'.0 h.1 h'.1 (subst (λ j. slice_get frames j ≡ Some h.1) at h.2) h'.2 in
       let bases : (let x = h.1 in x.base) ≡ (let y = h'.1 in y.base) = ap (λ (x : Activation FrameState). x.base) same in
       let e = h.4 in
       let e' = h'.4 in

@@ -62,10 +62,10 @@ HaveOrdinals frames = (k : ℕ) (x : Activation FrameState) → slice_get frames
 -- a child of frame k with this ordinal, and the place before its own
 pub record HasChild (frames : List (Activation FrameState)) (k q : ℕ) : Type 0 where
   pub before : ℕ
-  pub seat : Activation FrameState
-  pub at : slice_get frames (suc before) ≡ Some seat
-  pub parent : let y = seat.cursor in y.parent ≡ k
-  pub ordinal : let y = seat.cursor in y.ordinal ≡ q
+  pub frame_state : Activation FrameState
+  pub at : slice_get frames (suc before) ≡ Some frame_state
+  pub parent : let y = frame_state.cursor in y.parent ≡ k
+  pub ordinal : let y = frame_state.cursor in y.ordinal ≡ q
 
 module _ (frames : List (Activation FrameState)) (o : HaveOrdinals frames) (k : ℕ) where
   pub latest_child : (n : ℕ) → n ≤ length frames → (length (children_among frames k n) ≡ 0) ⊎ (HasChild frames k (length (children_among frames k n)))
@@ -82,14 +82,14 @@ module _ (frames : List (Activation FrameState)) (o : HaveOrdinals frames) (k : 
               let is = eqb-true (let x = r.0 in let y = x.cursor in y.parent) k e in
               let now : length (children_among frames k (suc (suc j))) ≡ length (children_among frames k (suc j)) + 1 = ap (λ (l : List ℕ). length l) (among_here frames k j r.0 r.1 is) ∙ length_more (children_among frames k (suc j)) (suc j) in
               let ordinal = o j r.0 r.1 ∙ ap (λ m. suc (length (children_among frames m (suc j)))) is in
-              inr (record { before = j; seat = r.0; at = r.1; parent = is; ordinal = omega (arith, now, ordinal) })
+              inr (record { before = j; frame_state = r.0; at = r.1; parent = is; ordinal = omega (arith, now, ordinal) })
           on false e = subst (λ l. (length l ≡ 0) ⊎ HasChild frames k (length l)) (sym (among_past frames k j r.0 r.1 e)) before
 
   pub all_counted : (c : ℕ) → ((j : ℕ) (x : Activation FrameState) → slice_get frames (suc j) ≡ Some x → (let y = x.cursor in y.parent ≡ k) → (let y = x.cursor in y.ordinal ≤ c)) → (0 < c → HasChild frames k c) → length (children_among frames k (length frames)) ≡ c
   all_counted c every some = omega (arith, up, down)
     where
       up : length (children_among frames k (length frames)) ≤ c
-      up = ⊎_elim (λ e. omega (arith, e)) (λ r. let low = every r.before r.seat r.at r.parent in let e = r.ordinal in omega (arith, low, e)) (latest_child (length frames) (omega arith))
+      up = ⊎_elim (λ e. omega (arith, e)) (λ r. let low = every r.before r.frame_state r.at r.parent in let e = r.ordinal in omega (arith, low, e)) (latest_child (length frames) (omega arith))
 
       down : c ≤ length (children_among frames k (length frames))
       down = ⊎_elim there (λ none. omega (arith, none)) (cases_lt 0 c)
@@ -98,10 +98,10 @@ module _ (frames : List (Activation FrameState)) (o : HaveOrdinals frames) (k : 
           there more =
               let r = some more in
               let j = r.before in
-              let low = get_low frames (suc j) r.seat r.at in
+              let low = get_low frames (suc j) r.frame_state r.at in
               let rest : length frames ≡ suc (suc j) + (length frames - suc (suc j)) = omega (arith, low) in
-              let now : length (children_among frames k (suc (suc j))) ≡ length (children_among frames k (suc j)) + 1 = ap (λ (l : List ℕ). length l) (among_here frames k j r.seat r.at r.parent) ∙ length_more (children_among frames k (suc j)) (suc j) in
-              let ordinal = o j r.seat r.at ∙ ap (λ m. suc (length (children_among frames m (suc j)))) r.parent in
+              let now : length (children_among frames k (suc (suc j))) ≡ length (children_among frames k (suc j)) + 1 = ap (λ (l : List ℕ). length l) (among_here frames k j r.frame_state r.at r.parent) ∙ length_more (children_among frames k (suc j)) (suc j) in
+              let ordinal = o j r.frame_state r.at ∙ ap (λ m. suc (length (children_among frames m (suc j)))) r.parent in
               let is = r.ordinal in
               let grown = subst (λ m. length (children_among frames k (suc (suc j))) ≤ length (children_among frames k m)) (sym rest) (among_grows frames k (suc (suc j)) (length frames - suc (suc j))) in
               omega (arith, now, ordinal, is, grown)

@@ -41,7 +41,7 @@ use Rattle.cilk_runs.proofs.Basics.{same_name-refl, same_name-eq}
 use Rattle.cilk_runs.specs.KeptFrameEnv.{IsTold}
 use Rattle.cilk_runs.specs.FrameEnvMachine.{answers_of}
 use Rattle.cilk_runs.specs.Reducers.{View, kind_of}
-use Rattle.cilk_runs.specs.FrameEnvs.{FrameEnv, child_world, global_named, home_named, own_named}
+use Rattle.cilk_runs.specs.FrameEnvs.{FrameEnv, child_env, global_named, home_named, own_named}
 use Rattle.cilk_scheduler.specs.declared.scheduler.Scheduler.{Scheduler}
 use Rattle.cilk_scheduler.specs.declared.frame_state.Due.{Due}
 use Rattle.cilk_scheduler.specs.declared.frame_state.Due.TheVariants as due
@@ -158,8 +158,8 @@ module _ (code : CodeView) (p : Source) (inputs : List ℤ) where
     abbrev came : FrameState
     came = let h = t.comes in h.came
 
-    abbrev seat : Activation FrameState
-    seat = let h = t.comes in h.seat
+    abbrev frame_state : Activation FrameState
+    frame_state = let h = t.comes in h.frame_state
 
     abbrev went : List (Activation FrameState)
     went = changed (λ _. came) old k
@@ -174,7 +174,7 @@ module _ (code : CodeView) (p : Source) (inputs : List ℤ) where
     parent = let f = t.frame in f.what
 
     abbrev child_is : FrameEnv
-    child_is = child_world p parent (suc (started (let f = t.frame in f.deeds))) callee
+    child_is = child_env p parent (suc (started (let f = t.frame in f.deeds))) callee
 
     abbrev after : FrameState → FrameState
     after _ = counted (started_at t.status (length old) came)
@@ -182,14 +182,14 @@ module _ (code : CodeView) (p : Source) (inputs : List ℤ) where
     abbrev shows : ShowsBy code p inputs name b d s
     shows = x.shows
 
-    abbrev sits : Sits code p inputs name b s k seat
-    sits = let h = t.comes in shows.sits k seat h.sits
+    abbrev sits : Sits code p inputs name b s k frame_state
+    sits = let h = t.comes in shows.sits k frame_state h.sits
 
     frame_is : (let o = sits in o.frame) ≡ t.frame
     frame_is = let o = sits in let q : Some o.frame ≡ Some t.frame = sym o.here ∙ t.here in cc
 
     from_went : new ≡ changed after went k ++ t.child ∷ []
-    from_went = t.seats_are ∙ ap (λ l. l ++ t.child ∷ []) (sym (changed_twice after (λ _. came) old k))
+    from_went = t.frame_states_are ∙ ap (λ l. l ++ t.child ∷ []) (sym (changed_twice after (λ _. came) old k))
 
     on_went : Carries went new
     on_went = subst (λ l. Carries went l) (sym from_went) (carries_then went (changed after went k) (changed after went k ++ t.child ∷ []) (carries_changed after went k) (carries_more (changed after went k) t.child))
@@ -198,13 +198,13 @@ module _ (code : CodeView) (p : Source) (inputs : List ℤ) where
     on = carries_then old went new (carries_changed (λ _. came) old k) on_went
 
     one_more : length new ≡ suc (length old)
-    one_more = ap (λ (l : List (Activation FrameState)). length l) t.seats_are ∙ more_length (changed after old k) t.child ∙ ap suc (changed_length after old k)
+    one_more = ap (λ (l : List (Activation FrameState)). length l) t.frame_states_are ∙ more_length (changed after old k) t.child ∙ ap suc (changed_length after old k)
 
     child_at : slice_get new (length old) ≡ Some t.child
-    child_at = ap (λ l. slice_get l (length old)) t.seats_are ∙ subst (λ n. slice_get (changed after old k ++ t.child ∷ []) n ≡ Some t.child) (changed_length after old k) (last_there (changed after old k) t.child)
+    child_at = ap (λ l. slice_get l (length old)) t.frame_states_are ∙ subst (λ n. slice_get (changed after old k ++ t.child ∷ []) n ≡ Some t.child) (changed_length after old k) (last_there (changed after old k) t.child)
 
     low : k < length old
-    low = let h = t.comes in get_low old k seat h.sits
+    low = let h = t.comes in get_low old k frame_state h.sits
 
     sizes : (m : Name) (q : ℕ) → q < size_of p (s.frames m) → q < size_of p (s'.frames m)
     sizes = sizes_more p s s' (name k) t.frame how child_is t.here t.fresh t.made
@@ -230,8 +230,8 @@ module _ (code : CodeView) (p : Source) (inputs : List ℤ) where
     globals : GlobalsAreThere p global_cell global_both HasCell HasReducer
     globals = record { cells = λ n lt. (refl, lt); reducers = λ n q is. (refl, (0, (let e = one_more in omega (arith, e)), root_named, refl, refl)) }
 
-    seen : Seen code p inputs name b s seat parent
-    seen = subst (λ (f : Frame FrameEnv). Seen code p inputs name b s seat f.what) frame_is (let o = sits in o.seen)
+    seen : Seen code p inputs name b s frame_state parent
+    seen = subst (λ (f : Frame FrameEnv). Seen code p inputs name b s frame_state f.what) frame_is (let o = sits in o.seen)
 
     parent_sees : (let e = seen in FrameSees p global_cell global_both HasCell HasReducer parent.callee e.scope e.target)
     parent_sees =
@@ -249,12 +249,12 @@ module _ (code : CodeView) (p : Source) (inputs : List ℤ) where
     callee_can =
         let o = sits in
         let h = t.comes in
-        let y = (let a = seat in a.cursor) in
+        let y = (let a = frame_state in a.cursor) in
         let c = o.due (goes code p inputs name b d s w k (asks.Invoke how callee) x.lays shows h (λ q. cc)) in
         subst (λ (f : Frame FrameEnv). let v = f.what in CanInvoke v.callee callee) frame_is (let f = o.frame in may_invoke f.what f.deeds y came c.0 how callee y.due c.1 c.2 h.went)
 
     sees_went : (let e = seen in SeesAt went k (numbers_in e.scope))
-    sees_went = let h = t.comes in let e = seen in sees_changed (λ _. came) old k k (numbers_in e.scope) (seat, h.sits, e.numbers)
+    sees_went = let h = t.comes in let e = seen in sees_changed (λ _. came) old k k (numbers_in e.scope) (frame_state, h.sits, e.numbers)
 
     child_cell : (q : ℕ) → q < cells_of p callee → (let c = b.cells in HasCell (Own child_name q, length c.items + q))
     child_cell q less =
@@ -293,8 +293,8 @@ module _ (code : CodeView) (p : Source) (inputs : List ℤ) where
     cursor_is =
         let i = t.is_child in
         let h = t.comes in
-        let top = record seat { cursor = came } in
-        (came.children + 1, i.seat top (changed_here (λ _. came) old k seat h.sits))
+        let top = record frame_state { cursor = came } in
+        (came.children + 1, i.frame_state top (changed_here (λ _. came) old k frame_state h.sits))
 
     -- two frames have two names
     is_last : (m : ℕ) → m < length new → length old ≤ m → m ≡ length old
@@ -315,7 +315,7 @@ module _ (code : CodeView) (p : Source) (inputs : List ℤ) where
       → let f = b.frames in
       let g = t.frame in
       let n = name k ++ suc (started g.deeds) ∷ [] in
-      Seen code p inputs (named_at name (length f.items) n) b' s' t.child (child_world p g.what (suc (started g.deeds)) (callees.Function c))
+      Seen code p inputs (named_at name (length f.items) n) b' s' t.child (child_env p g.what (suc (started g.deeds)) (callees.Function c))
   function_seen name b b' d s s' w k how c x t =
       let f = b.frames in
       let l = b.cells in
@@ -346,7 +346,7 @@ module _ (code : CodeView) (p : Source) (inputs : List ℤ) where
       → let f = b.frames in
       let g = t.frame in
       let n = name k ++ suc (started g.deeds) ∷ [] in
-      Seen code p inputs (named_at name (length f.items) n) b' s' t.child (child_world p g.what (suc (started g.deeds)) (callees.Loop c))
+      Seen code p inputs (named_at name (length f.items) n) b' s' t.child (child_env p g.what (suc (started g.deeds)) (callees.Loop c))
   turns_seen name b b' d s s' w k how c x t =
       let f = b.frames in
       let l = b.cells in
@@ -394,7 +394,7 @@ children_sit code p inputs name b b' d s s' w k how callee behaves x t u =
     let a = t.child in
     let n = name k ++ suc (started g.deeds) ∷ [] in
     let renamed = named_at name (length f.items) n in
-    let world = child_world p g.what (suc (started g.deeds)) callee in
+    let env = child_env p g.what (suc (started g.deeds)) callee in
     let seen = children_see code p inputs name b b' d s s' w k how callee x t in
     let sees = seen.sees in
     let here = named_here name (length f.items) n in
@@ -403,7 +403,7 @@ children_sit code p inputs name b b' d s s' w k how callee behaves x t u =
     let shown = x.shows in
     let less = low code p inputs name b b' d s s' w k how callee x t in
     subst (λ y. Sits code p inputs renamed b' s' (length f.items) (record a { cursor = y })) (sym it.1) (record {
-      frame = begun world;
+      frame = begun env;
       here = ap s'.frames here ∙ kid_here code p inputs name b b' d s s' w k how callee x t;
       named = ap (λ m. m ++ suc (started g.deeds) ∷ []) (named_parent code p inputs name b b' d s s' w k how callee x t) ∙ sym here;
       number = i.number ∙ number_is code p inputs name b b' d s s' w k how callee x t;

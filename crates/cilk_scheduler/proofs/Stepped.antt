@@ -102,34 +102,34 @@ module _ (code : CodeView) (p : Source) (inputs : List ℤ) where
 
   module _ (name : ℕ → Name) (b : Scheduler) (d : WorkerTable) (s : State FrameEnv View) (w k : ℕ) (ask : language.Ask) (lays : LaysOut p code.layout) (sh : ShowsBy code p inputs name b d s) (h : HasCome code p inputs b w k ask) (no_sync : ask ≡ asks.Sync → ⊥) where
     abbrev x : FrameState
-    x = let a = h.seat in a.cursor
+    x = let a = h.frame_state in a.cursor
 
     abbrev frame : Frame FrameEnv
-    frame = let o = sh.sits k h.seat h.sits in o.frame
+    frame = let o = sh.sits k h.frame_state h.sits in o.frame
 
     abbrev what : FrameEnv
-    what = let f = (let o = sh.sits k h.seat h.sits in o.frame) in f.what
+    what = let f = (let o = sh.sits k h.frame_state h.sits in o.frame) in f.what
 
     abbrev past : List (Deed FrameEnv)
-    past = let f = (let o = sh.sits k h.seat h.sits in o.frame) in f.deeds
+    past = let f = (let o = sh.sits k h.frame_state h.sits in o.frame) in f.deeds
 
     abbrev named : Ask FrameEnv
     named = named_ask p what (suc (started past)) ask
 
-    sits : Sits code p inputs name b s k h.seat
-    sits = sh.sits k h.seat h.sits
+    sits : Sits code p inputs name b s k h.frame_state
+    sits = sh.sits k h.frame_state h.sits
 
     pub here : s.frames (name k) ≡ Some frame
-    here = let o = sh.sits k h.seat h.sits in o.here
+    here = let o = sh.sits k h.frame_state h.sits in o.here
 
     status_is : x.status ≡ Held w
     status_is =
         let g = sh.holds w k h.worker h.at h.has in
-        let same : g.seat ≡ h.seat = (let q : Some g.seat ≡ Some h.seat = sym g.here ∙ h.sits in cc) in
+        let same : g.frame_state ≡ h.frame_state = (let q : Some g.frame_state ≡ Some h.frame_state = sym g.here ∙ h.sits in cc) in
         ap (λ (a : Activation FrameState). let y = a.cursor in y.status) (sym same) ∙ g.held
 
     held : IsWhere code p inputs name b s k (name k) past x (Held w)
-    held = let o = sh.sits k h.seat h.sits in subst (λ z. IsWhere code p inputs name b s k (name k) past x z) status_is o.is_where
+    held = let o = sh.sits k h.frame_state h.sits in subst (λ z. IsWhere code p inputs name b s k (name k) past x z) status_is o.is_where
 
     pub goes : has_ended past ≡ false
     goes = held.4
@@ -138,7 +138,7 @@ module _ (code : CodeView) (p : Source) (inputs : List ℤ) where
     unmerged = ⊎_elim (λ m. let g = held.5 m in absurd (no_sync (subst (λ z. WentOnFrom code inputs z x ask h.came) g.0 h.went).0)) (λ f. f) (cases_Bool x.merged)
 
     dues : (c : CursorView) × (x.cursor ≡ Some c) × IsDue code p inputs what past x.due c x.took
-    dues = let o = sh.sits k h.seat h.sits in o.due goes
+    dues = let o = sh.sits k h.frame_state h.sits in o.due goes
 
     pub named_as : (next p inputs what past ≡ Some named) × ((let y = h.came in y.took) ≡ taken p inputs what past)
     named_as = named_next code p inputs what past x h.came dues.0 ask goes dues.1 dues.2 h.went
@@ -154,7 +154,7 @@ module _ (code : CodeView) (p : Source) (inputs : List ℤ) where
 
     pub spent_is : spent ≡ (let C = costs p inputs in s.totals TickTotal + C.ticks what past)
     spent_is =
-        let o = sh.sits k h.seat h.sits in
+        let o = sh.sits k h.frame_state h.sits in
         ap₂ (λ n m. n + m) (sym sh.ticks) (ap₂ (λ n m. n - m) named_as.1 (ap (λ (y : FrameState). y.counted) kept ∙ o.counted))
 
     pub no_fault : fault_of (costs p inputs) s.totals what past named ≡ None
@@ -175,7 +175,7 @@ module _ (code : CodeView) (p : Source) (inputs : List ℤ) where
 
     pub hand_is : slice_get d.hands w ≡ Some (Some (name k))
     hand_is =
-        let o = sh.desk in
+        let o = sh.worker_table in
         let l = b.workers in
         ap (λ hs. slice_get hs w) o.hands ∙ mapped l.items w h.at
       where
@@ -189,8 +189,8 @@ module _ (code : CodeView) (p : Source) (inputs : List ℤ) where
     carries i j is =
         let g = sh.holds w k h.worker h.at h.has in
         let u = h.worker in
-        let same : g.seat ≡ h.seat = (let q : Some g.seat ≡ Some h.seat = sym g.here ∙ h.sits in cc) in
-        let merged : (let a = g.seat in let y = a.cursor in y.merged) ≡ false = ap (λ (a : Activation FrameState). let y = a.cursor in y.merged) same ∙ unmerged in
+        let same : g.frame_state ≡ h.frame_state = (let q : Some g.frame_state ≡ Some h.frame_state = sym g.here ∙ h.sits in cc) in
+        let merged : (let a = g.frame_state in let y = a.cursor in y.merged) ≡ false = ap (λ (a : Activation FrameState). let y = a.cursor in y.merged) same ∙ unmerged in
         subst (λ f. IsViewOf (kind_of i) (carried (monoid_of i) (λ m. s.piece m i) s.stolen (name k) (deeds_at f) false) (value_in u.views (kind_of i) j)) here
         (subst (λ t. IsViewOf (kind_of i) (carried (monoid_of i) (λ m. s.piece m i) s.stolen (name k) (deeds_at (s.frames (name k))) t) (value_in u.views (kind_of i) j)) merged (g.views i j is))
 
@@ -198,16 +198,16 @@ module _ (code : CodeView) (p : Source) (inputs : List ℤ) where
     bare_now = let g = sh.holds w k h.worker h.at h.has in g.bare
 
     pub strands_now : strands past ≡ (let y = h.came in y.strands)
-    strands_now = let o = sh.sits k h.seat h.sits in o.strands_are ∙ sym (ap (λ (y : FrameState). y.strands) kept)
+    strands_now = let o = sh.sits k h.frame_state h.sits in o.strands_are ∙ sym (ap (λ (y : FrameState). y.strands) kept)
 
     pub low : (let f = b.frames in k < length f.items)
-    low = let f = b.frames in get_low f.items k h.seat h.sits
+    low = let f = b.frames in get_low f.items k h.frame_state h.sits
 
     -- The event, and the scheduler after it.
-    module _ (b' : Scheduler) (e : Event) (begun : ℕ) (answer : Answer) (next_seat : FrameState) (event : numbered_event.Event) (cells : List ℤ) (views : Hypermap) (notes : Notes code p inputs b b' w k h.came next_seat event cells views)
+    module _ (b' : Scheduler) (e : Event) (begun : ℕ) (answer : Answer) (next_frame_state : FrameState) (event : numbered_event.Event) (cells : List ℤ) (views : Hypermap) (notes : Notes code p inputs b b' w k h.came next_frame_state event cells views)
         (deed_is : deed_of s.memory (numbers_of monoid_of (s.piece (name k))) named ≡ Does e) (is_plain : IsPlain e) (no_joins : joined_by named (name k) past ≡ []) (no_frame : frame_cost named ≡ 0) (no_cells : (let C = costs p inputs in cells_of C.cells named) ≡ 0)
         (not_sync : named ≡ Sync → ⊥) (not_call : (v : FrameEnv) → named ≡ Invoke Call v → ⊥) (not_spawn : (v : FrameEnv) → named ≡ Invoke Spawn v → ⊥) (not_end : (v : ℤ) (gone : List Instance) → named ≡ End v gone → ⊥)
-        (next_is : next_seat ≡ (let y = h.came in record y { strands = begun; due = due.Answer answer })) (has_answer : HasAnswer ask) (fits : Fits (owed_for ask) answer) (answers : word_in answer ≡ answer_of (Does e))
+        (next_is : next_frame_state ≡ (let y = h.came in record y { strands = begun; due = due.Answer answer })) (has_answer : HasAnswer ask) (fits : Fits (owed_for ask) answer) (answers : word_in answer ≡ answer_of (Does e))
         (strands_are : strands (past ++ Does e ∷ []) ≡ begun) (means : (let f = b.frames in IsDeed p f.items name s k (Does e) event))
         (same_cells : (let c = b.cells in length cells ≡ length c.items)) (memory_is : (c : Cell) (n : ℕ) → (let f = b.frames in IsCell p f.items name s c n) → slice_get cells n ≡ Some (effect {W = FrameEnv} (Does e) c (s.memory c)))
         (blank : (n : Name) (q : ℕ) → (let f = b.frames in IsAbsent f.items name n) → effect {W = FrameEnv} (Does e) (Own n q) (s.memory (Own n q)) ≡ s.memory (Own n q))
@@ -235,7 +235,7 @@ module _ (code : CodeView) (p : Source) (inputs : List ℤ) where
         total_at : (total : Total) → s'.totals total ≡ s.totals total + cost (costs p inputs) total what past named
         total_at total = m.totals total ∙ ap₂ (λ (f : Frame FrameEnv) a. s.totals total + cost (costs p inputs) total f.what f.deeds a) frame_is ask_is
 
-        next_now : counted next_seat ≡ touched true begun (let y = h.came in y.took) (let z = stands_at in z.cursor) answer x
+        next_now : counted next_frame_state ≡ touched true begun (let y = h.came in y.took) (let z = stands_at in z.cursor) answer x
         next_now =
             let z = stands_at in
             let y = h.came in
@@ -249,7 +249,7 @@ module _ (code : CodeView) (p : Source) (inputs : List ℤ) where
             let z = stands_at in
             let y = h.came in record {
               worker = h.worker;
-              seat = h.seat;
+              frame_state = h.frame_state;
               frame = frame;
               at = h.at;
               has = h.has;
@@ -268,7 +268,7 @@ module _ (code : CodeView) (p : Source) (inputs : List ℤ) where
               took = y.took;
               cursor = z.cursor;
               answer = answer;
-              seats_are = notes.frames ∙ same_change;
+              frame_states_are = notes.frames ∙ same_change;
               told = record { past = past; last = Does e; deeds_are = refl; stands = z.stands has_answer; fits = subst (λ o. Fits o answer) (sym (z.owes has_answer)) fits; answers = answers; took_is = named_as.1; small = z.small };
               took_is = named_as.1;
               strands_are = strands_are;
@@ -301,13 +301,13 @@ module _ (code : CodeView) (p : Source) (inputs : List ℤ) where
                 at_name : (t : Bool) → t ≡ true → (u v : View) → cond t u v ≡ u
                 at_name t q u v = rw q refl
 
-            same_change : (let f = b.frames in changed (λ _. counted next_seat) f.items k ≡ changed (touched true begun (let y = h.came in y.took) (let z = stands_at in z.cursor) answer) f.items k)
+            same_change : (let f = b.frames in changed (λ _. counted next_frame_state) f.items k ≡ changed (touched true begun (let y = h.came in y.took) (let z = stands_at in z.cursor) answer) f.items k)
             same_change = let f = b.frames in by f.items k h.sits
               where
-                by : (list : List (Activation FrameState)) (j : ℕ) → slice_get list j ≡ Some h.seat → changed (λ _. counted next_seat) list j ≡ changed (touched true begun (let y = h.came in y.took) (let z = stands_at in z.cursor) answer) list j
+                by : (list : List (Activation FrameState)) (j : ℕ) → slice_get list j ≡ Some h.frame_state → changed (λ _. counted next_frame_state) list j ≡ changed (touched true begun (let y = h.came in y.took) (let z = stands_at in z.cursor) answer) list j
                 by [] j q = refl
                 by (a ∷ list) zero q =
-                    let same : h.seat ≡ a = (let g : Some a ≡ Some h.seat = q in cc) in
+                    let same : h.frame_state ≡ a = (let g : Some a ≡ Some h.frame_state = q in cc) in
                     let C : FrameState → Activation FrameState = (λ y. record a { cursor = y }) in
                     ap (λ y. C y ∷ list) (next_now ∙ ap (λ (g : Activation FrameState). touched true begun (let y = h.came in y.took) (let z = stands_at in z.cursor) answer g.cursor) same)
                 by (a ∷ list) (suc j) q = ap (λ l. a ∷ l) (by list j q)

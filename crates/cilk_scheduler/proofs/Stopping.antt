@@ -205,34 +205,34 @@ module _ (p : Source) (inputs : List ℤ) (s : State FrameEnv View) (n : Name) (
 module _ (code : CodeView) (p : Source) (inputs : List ℤ) (name : ℕ → Name) (b b' : Scheduler) (d : WorkerTable) (s : State FrameEnv View) (w k : ℕ) (ask : language.Ask) (fault : Fault) (lays : LaysOut p code.layout) (sh : ShowsBy code p inputs name b d s)
     (h : IsRefused code p inputs b w k ask fault) (over_at : ask ≡ asks.Sync → BlockIsOver s (name k)) where
   abbrev x : FrameState
-  x = let a = h.seat in a.cursor
+  x = let a = h.frame_state in a.cursor
 
   abbrev frame : Frame FrameEnv
-  frame = let o = sh.sits k h.seat h.sits in o.frame
+  frame = let o = sh.sits k h.frame_state h.sits in o.frame
 
   abbrev what : FrameEnv
-  what = let f = (let o = sh.sits k h.seat h.sits in o.frame) in f.what
+  what = let f = (let o = sh.sits k h.frame_state h.sits in o.frame) in f.what
 
   abbrev past : List (Deed FrameEnv)
-  past = let f = (let o = sh.sits k h.seat h.sits in o.frame) in f.deeds
+  past = let f = (let o = sh.sits k h.frame_state h.sits in o.frame) in f.deeds
 
   abbrev named : Ask FrameEnv
   named = named_ask p what (suc (started past)) ask
 
   here : s.frames (name k) ≡ Some frame
-  here = let o = sh.sits k h.seat h.sits in o.here
+  here = let o = sh.sits k h.frame_state h.sits in o.here
 
   status_is : x.status ≡ Held w
   status_is =
       let g = sh.holds w k h.worker h.at h.has in
-      let same : g.seat ≡ h.seat = (let q : Some g.seat ≡ Some h.seat = sym g.here ∙ h.sits in cc) in
+      let same : g.frame_state ≡ h.frame_state = (let q : Some g.frame_state ≡ Some h.frame_state = sym g.here ∙ h.sits in cc) in
       ap (λ (a : Activation FrameState). let y = a.cursor in y.status) (sym same) ∙ g.held
 
   held : IsWhere code p inputs name b s k (name k) past x (Held w)
-  held = let o = sh.sits k h.seat h.sits in subst (λ z. IsWhere code p inputs name b s k (name k) past x z) status_is o.is_where
+  held = let o = sh.sits k h.frame_state h.sits in subst (λ z. IsWhere code p inputs name b s k (name k) past x z) status_is o.is_where
 
   dues : (c : CursorView) × (x.cursor ≡ Some c) × IsDue code p inputs what past x.due c x.took
-  dues = let o = sh.sits k h.seat h.sits in o.due held.4
+  dues = let o = sh.sits k h.frame_state h.sits in o.due held.4
 
   named_as : (next p inputs what past ≡ Some named) × ((let y = h.came in y.took) ≡ taken p inputs what past)
   named_as = named_next code p inputs what past x h.came dues.0 ask held.4 dues.1 dues.2 h.went
@@ -245,7 +245,7 @@ module _ (code : CodeView) (p : Source) (inputs : List ℤ) (name : ℕ → Name
 
   spent_is : spent ≡ (let C = costs p inputs in s.totals TickTotal + C.ticks what past)
   spent_is =
-      let o = sh.sits k h.seat h.sits in
+      let o = sh.sits k h.frame_state h.sits in
       ap₂ (λ n m. n + m) (sym sh.ticks) (ap₂ (λ n m. n - m) named_as.1 (ap (λ (y : FrameState). y.counted) kept ∙ o.counted))
 
   why : fault_of (costs p inputs) s.totals what past named ≡ Some fault
@@ -267,11 +267,11 @@ module _ (code : CodeView) (p : Source) (inputs : List ℤ) (name : ℕ → Name
   stops = record { frame = frame; ask = named; fault = fault; asking = asking p inputs s (name k) frame named sh.running may fault why; why = why; after = refl }
 
   strand_is : strand_of past ≡ latest x.strands
-  strand_is = let o = sh.sits k h.seat h.sits in ap latest o.strands_are
+  strand_is = let o = sh.sits k h.frame_state h.sits in ap latest o.strands_are
 
   hand_is : slice_get d.hands w ≡ Some (Some (name k))
   hand_is =
-      let o = sh.desk in
+      let o = sh.worker_table in
       let l = b.workers in
       ap (λ hs. slice_get hs w) o.hands ∙ slice_get-map (hand_of name) l.items w ∙ ap (λ u. option_map (hand_of name) u) h.at ∙ ap (λ f. Some (option_map name f)) h.has
 
@@ -281,7 +281,7 @@ module _ (code : CodeView) (p : Source) (inputs : List ℤ) (name : ℕ → Name
       let f = b.frames in
       let y = h.came in
       let G : FrameState → FrameState = (λ z. record z { cursor = y.cursor; took = y.took }) in
-      let known = is ∙ changed_known (λ _. h.came) G f.items k h.seat h.sits kept in record {
+      let known = is ∙ changed_known (λ _. h.came) G f.items k h.frame_state h.sits kept in record {
         as_many = ap (λ (l : List (Activation FrameState)). length l) known ∙ changed_length G f.items k;
         each = λ j a at.
             let r = changed_from G f.items k j a (ap (λ l. slice_get l j) (sym known) ∙ at) in
@@ -306,10 +306,10 @@ module _ (code : CodeView) (p : Source) (inputs : List ℤ) (name : ℕ → Name
   workers = let l = b.workers in l.items
 
   hand_at : (w : ℕ) → slice_get d.hands w ≡ option_map (hand_of name) (slice_get workers w)
-  hand_at w = let o = sh.desk in ap (λ hs. slice_get hs w) o.hands ∙ slice_get-map (hand_of name) workers w
+  hand_at w = let o = sh.worker_table in ap (λ hs. slice_get hs w) o.hands ∙ slice_get-map (hand_of name) workers w
 
   offered_at : (place : ℕ) → slice_get (all_offered d.offered) place ≡ option_map name (slice_get (offers workers) place)
-  offered_at place = let o = sh.desk in ap (λ l. slice_get (all_offered l) place) o.offered ∙ ap (λ l. slice_get l place) (altering.offered_are name workers) ∙ slice_get-map name (offers workers) place
+  offered_at place = let o = sh.worker_table in ap (λ l. slice_get (all_offered l) place) o.offered ∙ ap (λ l. slice_get l place) (altering.offered_are name workers) ∙ slice_get-map name (offers workers) place
 
   no_hand : (o : Option Worker) → frame_in o ≡ None → (n : Name) → option_map (hand_of name) o ≡ Some (Some n) → ⊥
   no_hand None h n q = let f : ⊥ = cc in f
@@ -356,23 +356,23 @@ module _ (code : CodeView) (p : Source) (inputs : List ℤ) (name : ℕ → Name
       omega (arith, e, h, g)
 
   past_all : (place : ℕ) → b.offered ≤ place → slice_get (offers workers) place ≡ None
-  past_all place le = let o = sh.desk in let e = o.total in let c = count_is workers in slice_get_past (offers workers) place (omega (arith, e, c, le))
+  past_all place le = let o = sh.worker_table in let e = o.total in let c = count_is workers in slice_get_past (offers workers) place (omega (arith, e, c, le))
 
   has_worker : (o : Option Worker) (k : ℕ) → frame_in o ≡ Some k → (u : Worker) × (o ≡ Some u) × (u.frame ≡ Some k)
   has_worker None k h = let f : ⊥ = cc in absurd f
   has_worker (Some u) k h = (u, refl, h)
 
-  held_there : (w k : ℕ) → held_by workers (suc w) ≡ Some k → (f : HasFrame b w k) × (c : CursorView) × (let a = f.seat in let x = a.cursor in x.cursor ≡ Some c)
+  held_there : (w k : ℕ) → held_by workers (suc w) ≡ Some k → (f : HasFrame b w k) × (c : CursorView) × (let a = f.frame_state in let x = a.cursor in x.cursor ≡ Some c)
   held_there w k h =
       let u = has_worker (slice_get workers w) k h in
       let g = sh.holds w k u.0 u.1 u.2 in
-      let o = sh.sits k g.seat g.here in
-      let a = g.seat in
+      let o = sh.sits k g.frame_state g.here in
+      let a = g.frame_state in
       let x = a.cursor in
       let f = o.frame in
       let is : IsWhere code p inputs name b s k (name k) f.deeds x (Held w) = subst (λ z. IsWhere code p inputs name b s k (name k) f.deeds x z) g.held o.is_where in
       let c = o.due is.4 in
-      (record { worker = u.0; seat = g.seat; at = u.1; has = u.2; sits = g.here }, c.0, c.1)
+      (record { worker = u.0; frame_state = g.frame_state; at = u.1; has = u.2; sits = g.here }, c.0, c.1)
 
 pub skips_are_shown : (code : CodeView) (p : Source) (inputs : List ℤ) → SkipsAreShown code p inputs
 skips_are_shown code p inputs = record {

@@ -67,7 +67,7 @@ either false t u v z a b = a
 module _ (code : CodeView) (p : Source) (inputs : List ℤ) where
   pub begins : BeginsAreShown code p inputs
   begins name b b' d s w k lays sh asked h notes =
-      let o = sh.sits k h.seat h.sits in
+      let o = sh.sits k h.frame_state h.sits in
       let f = o.frame in
       let u = h.worker in
       let y = h.came in
@@ -86,7 +86,7 @@ module _ (code : CodeView) (p : Source) (inputs : List ℤ) where
 
   pub resumes : ResumesAreShown code p inputs
   resumes name b b' d s w k lays sh asked h notes =
-      let o = sh.sits k h.seat h.sits in
+      let o = sh.sits k h.frame_state h.sits in
       let f = o.frame in
       let u = h.worker in
       let y = h.came in
@@ -101,7 +101,7 @@ module _ (code : CodeView) (p : Source) (inputs : List ℤ) where
       (λ i j is. carries code p inputs name b d s w k asks.Resume lays sh h (λ q. cc) i j is)
       (bare_now code p inputs name b d s w k asks.Resume lays sh h (λ q. cc))
       (λ n q kind none.
-      let x = (let a = h.seat in a.cursor) in
+      let x = (let a = h.frame_state in a.cursor) in
       let some : 0 < x.children = subst (λ m. 0 < m) o.children (resuming_some f.deeds resuming) in
       let l = o.last some in
       either (is_resuming f.deeds) (s.stolen (name k ++ started f.deeds ∷ [])) (s.piece (name k) (Reducer n q kind)) (s.piece (name k ++ started f.deeds ∷ []) (Reducer n q kind)) (unit_of monoid_of (Reducer n q kind))

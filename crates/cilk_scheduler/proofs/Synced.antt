@@ -152,35 +152,35 @@ empty_list (v ∷ ws) h = absurd (true≢false (sym h))
 
 module _ (code : CodeView) (p : Source) (inputs : List ℤ) (name : ℕ → Name) (b : Scheduler) (d : WorkerTable) (s : State FrameEnv View) (w k : ℕ) (lays : LaysOut p code.layout) (sh : ShowsBy code p inputs name b d s) (asked : DidAsAsked p inputs s) (gone : HaveGoneOn s)
     (h : HasCome code p inputs b w k asks.Sync) where
-  abbrev seats : List (Activation FrameState)
-  seats = let f = b.frames in f.items
+  abbrev frame_states : List (Activation FrameState)
+  frame_states = let f = b.frames in f.items
 
   abbrev x : FrameState
-  x = let a = h.seat in a.cursor
+  x = let a = h.frame_state in a.cursor
 
   abbrev frame : Frame FrameEnv
-  frame = let o = sh.sits k h.seat h.sits in o.frame
+  frame = let o = sh.sits k h.frame_state h.sits in o.frame
 
   abbrev what : FrameEnv
-  what = let f = (let o = sh.sits k h.seat h.sits in o.frame) in f.what
+  what = let f = (let o = sh.sits k h.frame_state h.sits in o.frame) in f.what
 
   abbrev past : List (Deed FrameEnv)
-  past = let f = (let o = sh.sits k h.seat h.sits in o.frame) in f.deeds
+  past = let f = (let o = sh.sits k h.frame_state h.sits in o.frame) in f.deeds
 
   abbrev loose : ℕ → Bool
   loose = λ q. s.stolen (name k ++ q ∷ [])
 
   here : s.frames (name k) ≡ Some frame
-  here = let o = sh.sits k h.seat h.sits in o.here
+  here = let o = sh.sits k h.frame_state h.sits in o.here
 
   status_is : x.status ≡ Held w
   status_is =
       let g = sh.holds w k h.worker h.at h.has in
-      let same : g.seat ≡ h.seat = (let q : Some g.seat ≡ Some h.seat = sym g.here ∙ h.sits in cc) in
+      let same : g.frame_state ≡ h.frame_state = (let q : Some g.frame_state ≡ Some h.frame_state = sym g.here ∙ h.sits in cc) in
       ap (λ (a : Activation FrameState). let y = a.cursor in y.status) (sym same) ∙ g.held
 
   held : IsWhere code p inputs name b s k (name k) past x (Held w)
-  held = let o = sh.sits k h.seat h.sits in subst (λ z. IsWhere code p inputs name b s k (name k) past x z) status_is o.is_where
+  held = let o = sh.sits k h.frame_state h.sits in subst (λ z. IsWhere code p inputs name b s k (name k) past x z) status_is o.is_where
 
   goes : has_ended past ≡ false
   goes = held.4
@@ -189,7 +189,7 @@ module _ (code : CodeView) (p : Source) (inputs : List ℤ) (name : ℕ → Name
   behind = let law = gone_on_behind p inputs in law.behind s (name k) gone (subst (λ f. GoesOn FrameEnv View s (name k) (deeds_at f)) (sym here) held.3)
 
   dues : (c : CursorView) × (x.cursor ≡ Some c) × IsDue code p inputs what past x.due c x.took
-  dues = let o = sh.sits k h.seat h.sits in o.due goes
+  dues = let o = sh.sits k h.frame_state h.sits in o.due goes
 
   named_as : (next p inputs what past ≡ Some Sync) × ((let y = h.came in y.took) ≡ taken p inputs what past)
   named_as = named_next code p inputs what past x h.came dues.0 asks.Sync goes dues.1 dues.2 h.went
@@ -208,7 +208,7 @@ module _ (code : CodeView) (p : Source) (inputs : List ℤ) (name : ℕ → Name
 
   spent_is : spent ≡ (let C = costs p inputs in s.totals TickTotal + C.ticks what past)
   spent_is =
-      let o = sh.sits k h.seat h.sits in
+      let o = sh.sits k h.frame_state h.sits in
       ap₂ (λ n m. n + m) (sym sh.ticks) (ap₂ (λ n m. n - m) named_as.1 (ap (λ (y : FrameState). y.counted) kept ∙ o.counted))
 
   no_fault : fault_of (costs p inputs) s.totals what past ask ≡ None
@@ -236,27 +236,27 @@ module _ (code : CodeView) (p : Source) (inputs : List ℤ) (name : ℕ → Name
   -- ---- the views after it, and that each child has ended
 
   pub record Merges (views : Hypermap) : Type 0 where
-    pub views_are : (i : Instance) (j : numbered.Instance) → IsInstance p seats name i j
+    pub views_are : (i : Instance) (j : numbered.Instance) → IsInstance p frame_states name i j
         → IsViewOf (kind_of i) ((monoid_of i).combine (block_view (monoid_of i) (λ q. s.piece (name k ++ q ∷ []) i) (λ q. s.stolen (name k ++ q ∷ [])) ((monoid_of i).unit) 1 past) (s.piece (name k) i)) (value_in views (kind_of i) j)
     pub over : BlockIsOver s (name k)
-    pub bare : IsBare (length seats) (value_in views)
+    pub bare : IsBare (length frame_states) (value_in views)
 
   -- the worker's views, by whether the block has passed
-  holds_views : (t : Bool) → x.merged ≡ t → (i : Instance) (j : numbered.Instance) → IsInstance p seats name i j → IsViewOf (kind_of i) (carried (monoid_of i) (λ m. s.piece m i) s.stolen (name k) past t) (let u = h.worker in value_in u.views (kind_of i) j)
+  holds_views : (t : Bool) → x.merged ≡ t → (i : Instance) (j : numbered.Instance) → IsInstance p frame_states name i j → IsViewOf (kind_of i) (carried (monoid_of i) (λ m. s.piece m i) s.stolen (name k) past t) (let u = h.worker in value_in u.views (kind_of i) j)
   holds_views t q i j is =
       let g = sh.holds w k h.worker h.at h.has in
       let u = h.worker in
-      let same : g.seat ≡ h.seat = (let e : Some g.seat ≡ Some h.seat = sym g.here ∙ h.sits in cc) in
-      let merged : (let a = g.seat in let y = a.cursor in y.merged) ≡ t = ap (λ (a : Activation FrameState). let y = a.cursor in y.merged) same ∙ q in
+      let same : g.frame_state ≡ h.frame_state = (let e : Some g.frame_state ≡ Some h.frame_state = sym g.here ∙ h.sits in cc) in
+      let merged : (let a = g.frame_state in let y = a.cursor in y.merged) ≡ t = ap (λ (a : Activation FrameState). let y = a.cursor in y.merged) same ∙ q in
       subst (λ f. IsViewOf (kind_of i) (carried (monoid_of i) (λ m. s.piece m i) s.stolen (name k) (deeds_at f) t) (value_in u.views (kind_of i) j)) here
       (subst (λ t. IsViewOf (kind_of i) (carried (monoid_of i) (λ m. s.piece m i) s.stolen (name k) (deeds_at (s.frames (name k))) t) (value_in u.views (kind_of i) j)) merged (g.views i j is))
 
-  piece_is : x.merged ≡ false → (i : Instance) (j : numbered.Instance) → IsInstance p seats name i j → IsViewOf (kind_of i) (s.piece (name k) i) (let u = h.worker in value_in u.views (kind_of i) j)
+  piece_is : x.merged ≡ false → (i : Instance) (j : numbered.Instance) → IsInstance p frame_states name i j → IsViewOf (kind_of i) (s.piece (name k) i) (let u = h.worker in value_in u.views (kind_of i) j)
   piece_is q i j is =
       let u = h.worker in
       subst (λ v. IsViewOf (kind_of i) v (value_in u.views (kind_of i) j)) (plain (monoid_of i) (λ m. s.piece m i) s.stolen (name k) past false refl calm) (holds_views false q i j is)
 
-  bare_now : let u = h.worker in IsBare (length seats) (value_in u.views)
+  bare_now : let u = h.worker in IsBare (length frame_states) (value_in u.views)
   bare_now = let g = sh.holds w k h.worker h.at h.has in g.bare
 
   -- each spawned child has ended, once the stolen ones have
@@ -286,7 +286,7 @@ module _ (code : CodeView) (p : Source) (inputs : List ℤ) (name : ℕ → Name
       }
     where
       listed : stolen_in loose 1 [] past ≡ []
-      listed = let o = sh.sits k h.seat h.sits in ⊎_elim (λ g. g.1) (λ g. no g.0 g.1) (o.block goes)
+      listed = let o = sh.sits k h.frame_state h.sits in ⊎_elim (λ g. g.1) (λ g. no g.0 g.1) (o.block goes)
         where
           no : (l : _) → x.join ≡ Some l → stolen_in loose 1 [] past ≡ []
           no l at = let e : None ≡ Some l = sym none ∙ at in let z : ⊥ = cc in absurd z
@@ -314,7 +314,7 @@ module _ (code : CodeView) (p : Source) (inputs : List ℤ) (name : ℕ → Name
 
     before : Keeps code p inputs name b s (name k) past block × (block.closed ≡ false)
     before =
-        let o = sh.sits k h.seat h.sits in
+        let o = sh.sits k h.frame_state h.sits in
         ⊎_elim (λ g. let e : block ≡ opening = ap (λ z. block_in z) g.0 in (subst (λ j. Keeps code p inputs name b s (name k) past j) (sym e) (opening_keeps code p inputs name b s (name k) past g.1), ap (λ (j : JoinView). j.closed) e))
         (λ g. let l = g.0 in let e : block ≡ shown l.value = block_of x.join g.0 g.1 in
         ⊎_elim (λ m. absurd (true≢false (sym m ∙ unmerged)))
@@ -324,13 +324,13 @@ module _ (code : CodeView) (p : Source) (inputs : List ℤ) (name : ℕ → Name
         open_one : (j : JoinView) → (j.closed ≡ true → x.status ≡ Waiting) → j.closed ≡ false
         open_one j g = ⊎_elim (λ q. let z : Held w ≡ Waiting = sym status_is ∙ g q in let f : ⊥ = cc in absurd f) (λ f. f) (cases_Bool j.closed)
 
-    lays_now : (i : Instance) (q : numbered.Instance) → IsInstance p seats name i q → let r = block_now.row in
+    lays_now : (i : Instance) (q : numbered.Instance) → IsInstance p frame_states name i q → let r = block_now.row in
         Lays (kind_of i) (λ z. s.piece (name k ++ z ∷ []) i) there (s.piece (name k) i) (unit_of monoid_of i) (stolen_in loose 1 [] past) (run_at (kind_of i) q r.run) (waits_at (kind_of i) q r.waits)
     lays_now i q is =
         let kb = before.0 in
         let r = block.row in
         let kind = kind_of i in
-        let o = sh.sits k h.seat h.sits in
+        let o = sh.sits k h.frame_state h.sits in
         let n : x.children ≡ started past = sym o.children in
         let one = subst (λ c. Lays kind (λ z. s.piece (name k ++ z ∷ []) i) there (cond c (s.piece (name k) i) (unit_of monoid_of i)) (unit_of monoid_of i) (stolen_in loose 1 [] past) (run_at kind q r.run) (waits_at kind q r.waits)) before.1 (kb.lays i q is) in
         let two = blocks.closes kind (λ z. s.piece (name k ++ z ∷ []) i) there (unit_of monoid_of i) (stolen_in loose 1 [] past) (run_at kind q r.run) (waits_at kind q r.waits) key (s.piece (name k) i) (piece kind q) (piece_is unmerged i q is)
@@ -338,7 +338,7 @@ module _ (code : CodeView) (p : Source) (inputs : List ℤ) (name : ℕ → Name
         subst (λ (y : Row ViewValue). Lays kind (λ z. s.piece (name k ++ z ∷ []) i) there (s.piece (name k) i) (unit_of monoid_of i) (stolen_in loose 1 [] past) y.run y.waits) (placed_row kind q r.run r.waits key piece) two
 
     module _ (none : (let r = block_now.row in is_empty r.waits) ≡ true) (whole : (let r = block_now.row in r.run) ≡ Some (product views)) where
-      lays_whole : (i : Instance) (q : numbered.Instance) → IsInstance p seats name i q
+      lays_whole : (i : Instance) (q : numbered.Instance) → IsInstance p frame_states name i q
           → Lays (kind_of i) (λ z. s.piece (name k ++ z ∷ []) i) there (s.piece (name k) i) (unit_of monoid_of i) (stolen_in loose 1 [] past) (Some (product views (kind_of i) q)) []
       lays_whole i q is =
           let r = block_now.row in
@@ -349,7 +349,7 @@ module _ (code : CodeView) (p : Source) (inputs : List ℤ) (name : ℕ → Name
       all_arrived =
           let kb = before.0 in
           let r = block.row in
-          let z = placed_bare (length seats) r.run r.waits key piece kb.bare kb.bare_later bare_now in record {
+          let z = placed_bare (length frame_states) r.run r.waits key piece kb.bare kb.bare_later bare_now in record {
             views_are = λ i j is. blocks.passes (kind_of i) (λ z. s.piece (name k ++ z ∷ []) i) loose there (s.piece (name k) i) past (Some (product views (kind_of i) j)) (lays_whole i j is);
             over = over_by (λ q among. blocks.none_awaited (kind_of Output) (λ z. s.piece (name k ++ z ∷ []) Output) there (s.piece (name k) Output) (unit_of monoid_of Output) (stolen_in loose 1 [] past) (Some (product views (kind_of Output) (record { frame = 0; place = 0 })))
                 (lays_whole Output (record { frame = 0; place = 0 }) (refl, refl)) q among);
@@ -365,15 +365,15 @@ module _ (code : CodeView) (p : Source) (inputs : List ℤ) (name : ℕ → Name
 
   hand_is : slice_get d.hands w ≡ Some (Some (name k))
   hand_is =
-      let o = sh.desk in
+      let o = sh.worker_table in
       let l = b.workers in
       ap (λ hs. slice_get hs w) o.hands ∙ slice_get-map (hand_of name) l.items w ∙ ap (λ u. option_map (hand_of name) u) h.at ∙ ap (λ f. Some (option_map name f)) h.has
 
-  low : k < length seats
-  low = get_low seats k h.seat h.sits
+  low : k < length frame_states
+  low = get_low frame_states k h.frame_state h.sits
 
   -- a stolen child is there
-  child_there : (q : ℕ) → loose q ≡ true → IsAbsent seats name (name k ++ q ∷ []) → ⊥
+  child_there : (q : ℕ) → loose q ≡ true → IsAbsent frame_states name (name k ++ q ∷ []) → ⊥
   child_there q t none = true≢false (sym t ∙ sh.unstolen (name k ++ q ∷ []) none)
 
   module _ (b' : Scheduler) (views : Hypermap) (merge : Merges views) (notes : (let c = b.cells in Notes code p inputs b b' w k h.came (synced h.came) events.Sync c.items views)) where
@@ -425,9 +425,9 @@ module _ (code : CodeView) (p : Source) (inputs : List ℤ) (name : ℕ → Name
       touches =
           let z = stands_at in
           let y = h.came in
-          let o = sh.sits k h.seat h.sits in record {
+          let o = sh.sits k h.frame_state h.sits in record {
             worker = h.worker;
-            seat = h.seat;
+            frame_state = h.frame_state;
             frame = frame;
             at = h.at;
             has = h.has;
@@ -446,7 +446,7 @@ module _ (code : CodeView) (p : Source) (inputs : List ℤ) (name : ℕ → Name
             took = y.took;
             cursor = z.cursor;
             answer = Done;
-            seats_are = notes.frames ∙ changed_known (λ _. counted (synced h.came)) (touched false (y.strands + 1) y.took z.cursor Done) seats k h.seat h.sits next_now;
+            frame_states_are = notes.frames ∙ changed_known (λ _. counted (synced h.came)) (touched false (y.strands + 1) y.took z.cursor Done) frame_states k h.frame_state h.sits next_now;
             told = record { past = past; last = Does Syncs; deeds_are = refl; stands = z.stands tt; fits = subst (λ owed. Fits owed Done) (sym (z.owes tt)) tt; answers = refl; took_is = named_as.1; small = z.small };
             took_is = named_as.1;
             strands_are = strands_sync past ∙ ap (λ n. n + 1) (o.strands_are ∙ sym (ap (λ (a : FrameState). a.strands) kept));

@@ -2,9 +2,9 @@
 --
 -- - `was`, `starts`, `not_yet`, `thief_goes`: the frame that is offered, and the free machine's
 --   step;
--- - `now_at`, `which`, `seat_later`, `same_length`, `on`: the frame states before and after;
+-- - `now_at`, `which`, `frame_state_later`, `same_length`, `on`: the frame states before and after;
 -- - `worker_on`, `worker_was`, `not_thief`: the workers before and after;
--- - `desk_is`, `named_now`: the worker table, and the names of frames;
+-- - `worker_table_is`, `named_now`: the worker table, and the names of frames;
 -- - `hand_is`, `offered_is`: the choice.
 use Rattle.std.proofs.Common.{◌≡◌, ◌⊎◌, inl, inr, ⊎_elim, ◌+◌, ◌<◌, ℕ, suc, nat_eq, eq-eqb, eqb-true, Bool, true, false, true≢false, ℤ, List, [], ◌∷◌, ◌++◌, length, map, set, slice_get, sum, Option, Some, None, refl, sym, ap, ◌∙◌, subst, arith}
 use Rattle.std.specs.Prelude.{remove}
@@ -43,11 +43,11 @@ use Rattle.cilk_scheduler.proofs.Onward.{name_off, longer}
 use Rattle.cilk_scheduler.proofs.Plain.{get_low}
 
 module _ (code : CodeView) (p : Source) (inputs : List ℤ) (name : ℕ → Name) (b b' : Scheduler) (d : WorkerTable) (s : State FrameEnv View) (w place k : ℕ) (sh : ShowsBy code p inputs name b d s) (h : IsOffered b w place k) (t : TakesOver b b' w place k h) where
-  abbrev pub old_seats : List (Activation FrameState)
-  old_seats = let f = b.frames in f.items
+  abbrev pub old_frame_states : List (Activation FrameState)
+  old_frame_states = let f = b.frames in f.items
 
-  abbrev pub new_seats : List (Activation FrameState)
-  new_seats = let f = b'.frames in f.items
+  abbrev pub new_frame_states : List (Activation FrameState)
+  new_frame_states = let f = b'.frames in f.items
 
   abbrev pub old_workers : List Worker
   old_workers = let l = b.workers in l.items
@@ -55,33 +55,33 @@ module _ (code : CodeView) (p : Source) (inputs : List ℤ) (name : ℕ → Name
   abbrev pub new_workers : List Worker
   new_workers = let l = b'.workers in l.items
 
-  abbrev pub seat : FrameState
-  seat = let a = h.seat in a.cursor
+  abbrev pub frame_state : FrameState
+  frame_state = let a = h.frame_state in a.cursor
 
   abbrev pub frame : Frame FrameEnv
-  frame = let o = sh.sits k h.seat h.sits in o.frame
+  frame = let o = sh.sits k h.frame_state h.sits in o.frame
 
   abbrev pub past : List (Deed FrameEnv)
-  past = let f = (let o = sh.sits k h.seat h.sits in o.frame) in f.deeds
+  past = let f = (let o = sh.sits k h.frame_state h.sits in o.frame) in f.deeds
 
-  sitting : Sits code p inputs name b s k h.seat
-  sitting = sh.sits k h.seat h.sits
+  sitting : Sits code p inputs name b s k h.frame_state
+  sitting = sh.sits k h.frame_state h.sits
 
-  pub named : AreNamed old_seats name
+  pub named : AreNamed old_frame_states name
   named = let q = sh.tells in q.named
 
-  pub low : k < length old_seats
-  low = get_low old_seats k h.seat h.sits
+  pub low : k < length old_frame_states
+  low = get_low old_frame_states k h.frame_state h.sits
 
-  pub status_was : seat.status ≡ Offered h.victim
+  pub status_was : frame_state.status ≡ Offered h.victim
   status_was =
-      let o = sh.desk in
+      let o = sh.worker_table in
       let g = o.places h.victim h.at k h.owner h.owns h.stands in
-      let same : g.0 ≡ h.seat = (let q : Some g.0 ≡ Some h.seat = sym g.1 ∙ h.sits in cc) in
+      let same : g.0 ≡ h.frame_state = (let q : Some g.0 ≡ Some h.frame_state = sym g.1 ∙ h.sits in cc) in
       ap (λ (a : Activation FrameState). let x = a.cursor in x.status) (sym same) ∙ g.2
 
-  pub was : IsWhere code p inputs name b s k (name k) past seat (Offered h.victim)
-  was = let o = sh.sits k h.seat h.sits in subst (λ z. IsWhere code p inputs name b s k (name k) past seat z) status_was o.is_where
+  pub was : IsWhere code p inputs name b s k (name k) past frame_state (Offered h.victim)
+  was = let o = sh.sits k h.frame_state h.sits in subst (λ z. IsWhere code p inputs name b s k (name k) past frame_state z) status_was o.is_where
 
   abbrev pub before : List (Deed FrameEnv)
   before = was.0
@@ -95,18 +95,18 @@ module _ (code : CodeView) (p : Source) (inputs : List ℤ) (name : ℕ → Name
   pub starts : started past ≡ ordinal
   starts = ap (λ ds. started ds) was.2 ∙ started_invokes was.0 Spawn was.1
 
-  pub children_are : seat.children ≡ ordinal
-  children_are = let o = sh.sits k h.seat h.sits in sym o.children ∙ starts
+  pub children_are : frame_state.children ≡ ordinal
+  children_are = let o = sh.sits k h.frame_state h.sits in sym o.children ∙ starts
 
-  pub last_is : (seat.last < length old_seats) × (name seat.last ≡ child)
+  pub last_is : (frame_state.last < length old_frame_states) × (name frame_state.last ≡ child)
   last_is =
-      let o = sh.sits k h.seat h.sits in
+      let o = sh.sits k h.frame_state h.sits in
       let e = children_are in
       let r = o.last (omega (arith, e)) in
       (r.0, r.1 ∙ ap (λ q. name k ++ q ∷ []) e)
 
   pub going : has_ended (deeds_at (s.frames (name k))) ≡ false
-  going = let o = sh.sits k h.seat h.sits in ap (λ f. has_ended (deeds_at f)) o.here ∙ was.10
+  going = let o = sh.sits k h.frame_state h.sits in ap (λ f. has_ended (deeds_at f)) o.here ∙ was.10
 
   pub not_yet : s.stolen child ≡ false
   not_yet = ap (λ q. s.stolen (name k ++ q ∷ [])) (sym starts) ∙ was.4
@@ -114,76 +114,76 @@ module _ (code : CodeView) (p : Source) (inputs : List ℤ) (name : ℕ → Name
   pub thief_goes : HasThief FrameEnv View monoid_of (Next p inputs) (costs p inputs) s (name k) (child_after (name k) was.0)
   thief_goes =
       let P = progress FrameEnv View monoid_of (Next p inputs) (costs p inputs) in
-      let o = sh.sits k h.seat h.sits in
+      let o = sh.sits k h.frame_state h.sits in
       P.steals s (name k) frame was.0 was.1 sh.running o.here was.2 not_yet
 
   -- ---- names of frames
 
-  pub names_differ : (i j : ℕ) → i < length old_seats → j < length old_seats → (i ≡ j → ⊥) → name i ≡ name j → ⊥
+  pub names_differ : (i j : ℕ) → i < length old_frame_states → j < length old_frame_states → (i ≡ j → ⊥) → name i ≡ name j → ⊥
   names_differ i j at at' ne q = ne (named.apart i j at at' q)
 
-  child_apart : k ≡ seat.last → ⊥
+  child_apart : k ≡ frame_state.last → ⊥
   child_apart q = longer (name k) ordinal (sym last_is.1 ∙ ap name (sym q))
 
   -- ---- where frames are
 
   abbrev pub taken : FrameState
-  taken = record seat { status = Held w; join = (let y = t.awaiting in y.join) }
+  taken = record frame_state { status = Held w; join = (let y = t.awaiting in y.join) }
 
   abbrev pub now : Activation FrameState
-  now = let a = h.seat in record a { cursor = record seat { status = Held w; join = (let y = t.awaiting in y.join) } }
+  now = let a = h.frame_state in record a { cursor = record frame_state { status = Held w; join = (let y = t.awaiting in y.join) } }
 
   abbrev mid : List (Activation FrameState)
   mid = changed (λ _. t.awaiting) (let f = b.frames in f.items) k
 
   abbrev later : List (Activation FrameState)
-  later = changed robbed (changed (λ _. t.awaiting) (let f = b.frames in f.items) k) seat.last
+  later = changed robbed (changed (λ _. t.awaiting) (let f = b.frames in f.items) k) frame_state.last
 
-  pub now_at : slice_get new_seats k ≡ Some now
+  pub now_at : slice_get new_frame_states k ≡ Some now
   now_at =
-      let a = h.seat in
+      let a = h.frame_state in
       let x = a.cursor in
       let B : FrameState → Option (Activation FrameState) = (λ y. Some (record a { cursor = moved_to (Held w) y })) in
       let g = t.awaits in
       ap (λ l. slice_get l k) t.frames
-      ∙ changed_here (moved_to (Held w)) later k (record a { cursor = t.awaiting }) (changed_off robbed mid seat.last k (λ q. child_apart (sym q)) ∙ changed_here (λ _. t.awaiting) old_seats k h.seat h.sits)
+      ∙ changed_here (moved_to (Held w)) later k (record a { cursor = t.awaiting }) (changed_off robbed mid frame_state.last k (λ q. child_apart (sym q)) ∙ changed_here (λ _. t.awaiting) old_frame_states k h.frame_state h.sits)
       ∙ ap B g.1
 
-  child_at : (a : Activation FrameState) → slice_get old_seats seat.last ≡ Some a → slice_get new_seats seat.last ≡ Some (record a { cursor = robbed a.cursor })
-  child_at a at = ap (λ l. slice_get l seat.last) t.frames ∙ changed_off (moved_to (Held w)) later k seat.last child_apart ∙ changed_here robbed mid seat.last a (changed_off (λ _. t.awaiting) old_seats k seat.last child_apart ∙ at)
+  child_at : (a : Activation FrameState) → slice_get old_frame_states frame_state.last ≡ Some a → slice_get new_frame_states frame_state.last ≡ Some (record a { cursor = robbed a.cursor })
+  child_at a at = ap (λ l. slice_get l frame_state.last) t.frames ∙ changed_off (moved_to (Held w)) later k frame_state.last child_apart ∙ changed_here robbed mid frame_state.last a (changed_off (λ _. t.awaiting) old_frame_states k frame_state.last child_apart ∙ at)
 
-  else_at : (j : ℕ) → (k ≡ j → ⊥) → (seat.last ≡ j → ⊥) → slice_get new_seats j ≡ slice_get old_seats j
-  else_at j ne ne' = ap (λ l. slice_get l j) t.frames ∙ changed_off (moved_to (Held w)) later k j ne ∙ changed_off robbed mid seat.last j ne' ∙ changed_off (λ _. t.awaiting) old_seats k j ne
+  else_at : (j : ℕ) → (k ≡ j → ⊥) → (frame_state.last ≡ j → ⊥) → slice_get new_frame_states j ≡ slice_get old_frame_states j
+  else_at j ne ne' = ap (λ l. slice_get l j) t.frames ∙ changed_off (moved_to (Held w)) later k j ne ∙ changed_off robbed mid frame_state.last j ne' ∙ changed_off (λ _. t.awaiting) old_frame_states k j ne
 
-  pub same_length : length new_seats ≡ length old_seats
-  same_length = ap (λ (l : List (Activation FrameState)). length l) t.frames ∙ changed_length (moved_to (Held w)) later k ∙ changed_length robbed mid seat.last ∙ changed_length (λ _. t.awaiting) old_seats k
+  pub same_length : length new_frame_states ≡ length old_frame_states
+  same_length = ap (λ (l : List (Activation FrameState)). length l) t.frames ∙ changed_length (moved_to (Held w)) later k ∙ changed_length robbed mid frame_state.last ∙ changed_length (λ _. t.awaiting) old_frame_states k
 
-  pub on : carries.Carries old_seats new_seats
-  on = subst (λ l. carries.Carries old_seats l) (sym t.frames)
-      (carries.carries_then old_seats mid (changed (moved_to (Held w)) later k) (carries.carries_changed (λ _. t.awaiting) old_seats k)
-      (carries.carries_then mid later (changed (moved_to (Held w)) later k) (carries.carries_changed robbed mid seat.last) (carries.carries_changed (moved_to (Held w)) later k)))
+  pub on : carries.Carries old_frame_states new_frame_states
+  on = subst (λ l. carries.Carries old_frame_states l) (sym t.frames)
+      (carries.carries_then old_frame_states mid (changed (moved_to (Held w)) later k) (carries.carries_changed (λ _. t.awaiting) old_frame_states k)
+      (carries.carries_then mid later (changed (moved_to (Held w)) later k) (carries.carries_changed robbed mid frame_state.last) (carries.carries_changed (moved_to (Held w)) later k)))
 
   -- a frame is this one, its last child, or another that stays
   pub data Which (j : ℕ) (a : Activation FrameState) : Type 0 where
     taken_over : k ≡ j → now ≡ a → Which j a
-    marked : (x : Activation FrameState) → (k ≡ j → ⊥) → slice_get old_seats j ≡ Some x → seat.last ≡ j → a ≡ record x { cursor = robbed x.cursor } → Which j a
-    stays : (k ≡ j → ⊥) → slice_get old_seats j ≡ Some a → (seat.last ≡ j → ⊥) → Which j a
+    marked : (x : Activation FrameState) → (k ≡ j → ⊥) → slice_get old_frame_states j ≡ Some x → frame_state.last ≡ j → a ≡ record x { cursor = robbed x.cursor } → Which j a
+    stays : (k ≡ j → ⊥) → slice_get old_frame_states j ≡ Some a → (frame_state.last ≡ j → ⊥) → Which j a
 
-  pub which : (j : ℕ) (a : Activation FrameState) → slice_get new_seats j ≡ Some a → Which j a
-  which j a at = by (nat_eq k j) refl (nat_eq seat.last j) refl
+  pub which : (j : ℕ) (a : Activation FrameState) → slice_get new_frame_states j ≡ Some a → Which j a
+  which j a at = by (nat_eq k j) refl (nat_eq frame_state.last j) refl
     where
-      by : (c : Bool) → nat_eq k j ≡ c → (e : Bool) → nat_eq seat.last j ≡ e → Which j a
+      by : (c : Bool) → nat_eq k j ≡ c → (e : Bool) → nat_eq frame_state.last j ≡ e → Which j a
       by true q e r =
           let same : k ≡ j = eqb-true k j q in
-          taken_over same (let z : Some now ≡ Some a = sym now_at ∙ ap (λ i. slice_get new_seats i) same ∙ at in cc)
+          taken_over same (let z : Some now ≡ Some a = sym now_at ∙ ap (λ i. slice_get new_frame_states i) same ∙ at in cc)
       by false q true r =
-          let same : seat.last ≡ j = eqb-true seat.last j r in
-          let old = carries.carried_back old_seats new_seats on same_length j a at in
-          let here : slice_get old_seats seat.last ≡ Some old.0 = ap (λ i. slice_get old_seats i) same ∙ old.1 in
-          marked old.0 (λ z. true≢false (sym (eq-eqb k j z) ∙ q)) old.1 same (let z : Some (record old.0 { cursor = robbed (let y = old.0 in y.cursor) }) ≡ Some a = sym (child_at old.0 here) ∙ ap (λ i. slice_get new_seats i) same ∙ at in cc)
+          let same : frame_state.last ≡ j = eqb-true frame_state.last j r in
+          let old = carries.carried_back old_frame_states new_frame_states on same_length j a at in
+          let here : slice_get old_frame_states frame_state.last ≡ Some old.0 = ap (λ i. slice_get old_frame_states i) same ∙ old.1 in
+          marked old.0 (λ z. true≢false (sym (eq-eqb k j z) ∙ q)) old.1 same (let z : Some (record old.0 { cursor = robbed (let y = old.0 in y.cursor) }) ≡ Some a = sym (child_at old.0 here) ∙ ap (λ i. slice_get new_frame_states i) same ∙ at in cc)
       by false q false r =
           let ne : k ≡ j → ⊥ = (λ z. true≢false (sym (eq-eqb k j z) ∙ q)) in
-          let ne' : seat.last ≡ j → ⊥ = (λ z. true≢false (sym (eq-eqb seat.last j z) ∙ r)) in
+          let ne' : frame_state.last ≡ j → ⊥ = (λ z. true≢false (sym (eq-eqb frame_state.last j z) ∙ r)) in
           stays ne (sym (else_at j ne ne') ∙ at) ne'
 
   -- ---- workers
@@ -245,33 +245,33 @@ module _ (code : CodeView) (p : Source) (inputs : List ℤ) (name : ℕ → Name
       let f : ⊥ = cc in
       f
 
-  pub seat_later : (j : ℕ) (a : Activation FrameState) → (k ≡ j → ⊥) → slice_get old_seats j ≡ Some a
-      → (z : Activation FrameState) × (slice_get new_seats j ≡ Some z) × ((let y = z.cursor in y.status) ≡ (let x = a.cursor in x.status)) × ((let y = z.cursor in y.merged) ≡ (let x = a.cursor in x.merged))
-  seat_later j a ne at = by (nat_eq seat.last j) refl
+  pub frame_state_later : (j : ℕ) (a : Activation FrameState) → (k ≡ j → ⊥) → slice_get old_frame_states j ≡ Some a
+      → (z : Activation FrameState) × (slice_get new_frame_states j ≡ Some z) × ((let y = z.cursor in y.status) ≡ (let x = a.cursor in x.status)) × ((let y = z.cursor in y.merged) ≡ (let x = a.cursor in x.merged))
+  frame_state_later j a ne at = by (nat_eq frame_state.last j) refl
     where
-      by : (c : Bool) → nat_eq seat.last j ≡ c → (z : Activation FrameState) × (slice_get new_seats j ≡ Some z) × ((let y = z.cursor in y.status) ≡ (let x = a.cursor in x.status)) × ((let y = z.cursor in y.merged) ≡ (let x = a.cursor in x.merged))
+      by : (c : Bool) → nat_eq frame_state.last j ≡ c → (z : Activation FrameState) × (slice_get new_frame_states j ≡ Some z) × ((let y = z.cursor in y.status) ≡ (let x = a.cursor in x.status)) × ((let y = z.cursor in y.merged) ≡ (let x = a.cursor in x.merged))
       by true q =
-          let same : seat.last ≡ j = eqb-true seat.last j q in
-          (record a { cursor = robbed a.cursor }, ap (λ i. slice_get new_seats i) (sym same) ∙ child_at a (ap (λ i. slice_get old_seats i) same ∙ at), refl, refl)
-      by false q = (a, else_at j ne (λ z. true≢false (sym (eq-eqb seat.last j z) ∙ q)) ∙ at, refl, refl)
+          let same : frame_state.last ≡ j = eqb-true frame_state.last j q in
+          (record a { cursor = robbed a.cursor }, ap (λ i. slice_get new_frame_states i) (sym same) ∙ child_at a (ap (λ i. slice_get old_frame_states i) same ∙ at), refl, refl)
+      by false q = (a, else_at j ne (λ z. true≢false (sym (eq-eqb frame_state.last j z) ∙ q)) ∙ at, refl, refl)
 
   -- ---- the worker table
 
-  abbrev pub desk_now : WorkerTable
-  desk_now = holds (record d { offered = withdrawn d.offered (name k) }) w (name k)
+  abbrev pub worker_table_now : WorkerTable
+  worker_table_now = holds (record d { offered = withdrawn d.offered (name k) }) w (name k)
 
-  same_place : (j : ℕ) → j < length old_seats → name j ≡ name k → j ≡ k
+  same_place : (j : ℕ) → j < length old_frame_states → name j ≡ name k → j ≡ k
   same_place j at e = named.apart j k at low e
 
-  offerer : (v q j : ℕ) (u : Worker) → slice_get old_workers v ≡ Some u → (let o = u.offered in slice_get o.items q ≡ Some j) → j < length old_seats
-  offerer v q j u at has = let o = sh.desk in let g = o.places v q j u at has in get_low old_seats j g.0 g.1
+  offerer : (v q j : ℕ) (u : Worker) → slice_get old_workers v ≡ Some u → (let o = u.offered in slice_get o.items q ≡ Some j) → j < length old_frame_states
+  offerer v q j u at has = let o = sh.worker_table in let g = o.places v q j u at has in get_low old_frame_states j g.0 g.1
 
   -- only the victim offers the frame, and only there
   only_there : (v q : ℕ) (u : Worker) → slice_get old_workers v ≡ Some u → (let o = u.offered in slice_get o.items q ≡ Some k) → h.victim ≡ v
   only_there v q u at has =
-      let o = sh.desk in
+      let o = sh.worker_table in
       let g = o.places v q k u at has in
-      let same : g.0 ≡ h.seat = (let z : Some g.0 ≡ Some h.seat = sym g.1 ∙ h.sits in cc) in
+      let same : g.0 ≡ h.frame_state = (let z : Some g.0 ≡ Some h.frame_state = sym g.1 ∙ h.sits in cc) in
       let z : Offered h.victim ≡ Offered v = sym status_was ∙ ap (λ (a : Activation FrameState). let x = a.cursor in x.status) (sym same) ∙ g.2 in
       cc
 
@@ -283,7 +283,7 @@ module _ (code : CodeView) (p : Source) (inputs : List ℤ) (name : ℕ → Name
         let same : u ≡ h.owner = (let q : Some u ≡ Some h.owner = sym at ∙ ap (λ i. slice_get old_workers i) (sym e) ∙ h.owns in cc) in
         ap (λ (z : Worker). without (offers_of name z) (name k)) same
         ∙ altering.without_one name (name k) l.items h.at k h.stands (same_name-refl (name k))
-        (λ q j here ne. name_off (name j) (name k) (λ z. ne (let y = sh.desk in y.once h.victim h.at q k h.owner h.owns h.stands (here ∙ ap (λ i. Some i) (same_place j (offerer h.victim q j h.owner h.owns here) z)))))
+        (λ q j here ne. name_off (name j) (name k) (λ z. ne (let y = sh.worker_table in y.once h.victim h.at q k h.owner h.owns h.stands (here ∙ ap (λ i. Some i) (same_place j (offerer h.victim q j h.owner h.owns here) z)))))
         ∙ ap (λ (ns : List ℕ). map name ns) (sym t.withdrawn)),
     (λ ne.
         let l = u.offered in
@@ -302,7 +302,7 @@ module _ (code : CodeView) (p : Source) (inputs : List ℤ) (name : ℕ → Name
 
   total_now : b'.offered ≡ sum (map (λ (u : Worker). let o = u.offered in length o.items) new_workers)
   total_now =
-      let o = sh.desk in
+      let o = sh.worker_table in
       let a = altering.altered_sum (λ _. t.without) (λ (u : Worker). let o = u.offered in length o.items) old_workers h.victim h.owner h.owns fewer in
       let c = ap (λ ws. sum (map (λ (u : Worker). let o = u.offered in length o.items) ws)) t.workers ∙ ap (λ ns. sum ns) (altering.altered_map (holding k t.views) (λ (u : Worker). let o = u.offered in length o.items) halfway w (λ u. refl)) in
       let e = o.total in
@@ -322,7 +322,7 @@ module _ (code : CodeView) (p : Source) (inputs : List ℤ) (name : ℕ → Name
 
   once_now : (v q r j : ℕ) (u u' : Worker) → slice_get old_workers v ≡ Some u → Had v u u' → (let o = u'.offered in slice_get o.items q ≡ Some j) → (let o = u'.offered in slice_get o.items r ≡ Some j) → q ≡ r
   once_now v q r j u u' at o has also =
-      let y = sh.desk in
+      let y = sh.worker_table in
       ⊎_elim (λ g. y.once v q r j u at (ap (λ l. slice_get l q) (sym g.1) ∙ has) (ap (λ l. slice_get l r) (sym g.1) ∙ also))
       (λ g.
       let x = h.owner in
@@ -332,24 +332,24 @@ module _ (code : CodeView) (p : Source) (inputs : List ℤ) (name : ℕ → Name
       altering.skip_one h.at q r (y.once v (altering.skip h.at q) (altering.skip h.at r) j u at (sym (altering.remove_get l.items h.at q inside) ∙ ap (λ l. slice_get l q) (sym g.2) ∙ has)
       (sym (altering.remove_get l.items h.at r inside) ∙ ap (λ l. slice_get l r) (sym g.2) ∙ also))) o.offers_are
 
-  waits_as : (j : ℕ) (a : Activation FrameState) → slice_get new_seats j ≡ Some a → ((let x = a.cursor in x.status ≡ Waiting) → IsIn (name j) d.waiting) × (IsIn (name j) d.waiting → let x = a.cursor in x.status ≡ Waiting)
+  waits_as : (j : ℕ) (a : Activation FrameState) → slice_get new_frame_states j ≡ Some a → ((let x = a.cursor in x.status ≡ Waiting) → IsIn (name j) d.waiting) × (IsIn (name j) d.waiting → let x = a.cursor in x.status ≡ Waiting)
   waits_as j a at = by (which j a at)
     where
       by : Which j a → ((let x = a.cursor in x.status ≡ Waiting) → IsIn (name j) d.waiting) × (IsIn (name j) d.waiting → let x = a.cursor in x.status ≡ Waiting)
       by (taken_over same is) = (
         (λ q. let z : Held w ≡ Waiting = ap (λ (y : Activation FrameState). let x = y.cursor in x.status) is ∙ q in let f : ⊥ = cc in absurd f),
-        (λ q. let o = sh.desk in let g = o.waiting k h.seat h.sits in let z : Offered h.victim ≡ Waiting = sym status_was ∙ g.1 (subst (λ i. IsIn (name i) d.waiting) (sym same) q) in let f : ⊥ = cc in absurd f),
+        (λ q. let o = sh.worker_table in let g = o.waiting k h.frame_state h.sits in let z : Offered h.victim ≡ Waiting = sym status_was ∙ g.1 (subst (λ i. IsIn (name i) d.waiting) (sym same) q) in let f : ⊥ = cc in absurd f),
       )
       by (marked x ne at' same is) =
-          let o = sh.desk in
+          let o = sh.worker_table in
           let g = o.waiting j x at' in
           let e : (let c = a.cursor in c.status) ≡ (let c = x.cursor in c.status) = ap (λ (y : Activation FrameState). let c = y.cursor in c.status) is in
           ((λ q. g.0 (sym e ∙ q)), (λ q. e ∙ g.1 q))
-      by (stays ne at' ne') = let o = sh.desk in o.waiting j a at'
+      by (stays ne at' ne') = let o = sh.worker_table in o.waiting j a at'
 
-  pub desk_is : IsWorkerTable code p inputs name b' desk_now
-  desk_is =
-      let o = sh.desk in record {
+  pub worker_table_is : IsWorkerTable code p inputs name b' worker_table_now
+  worker_table_is =
+      let o = sh.worker_table in record {
         hands = ap (λ hs. set hs w (Some (name k))) (o.hands ∙ sym (altering.altered_map_at (λ _. t.without) (hand_of name) old_workers h.victim h.owner h.owns (ap (λ f. option_map name f) t.same_frame)))
             ∙ sym (altering.altered_set (holding k t.views) (hand_of name) (Some (name k)) halfway w (λ u. refl)) ∙ ap (λ ws. map (hand_of name) ws) (sym t.workers);
         offered = ap (λ l. withdrawn l (name k)) o.offered ∙ altering.withdrawn_is name (name k) (λ _. t.without) old_workers h.victim offers_now
@@ -363,7 +363,7 @@ module _ (code : CodeView) (p : Source) (inputs : List ℤ) (name : ℕ → Name
             let mine : h.victim ≡ v = only_there v z.0 r.0 r.1 (z.1 ∙ ap (λ i. Some i) (sym e)) in
             let same : r.0 ≡ h.owner = (let y : Some r.0 ≡ Some h.owner = sym r.1 ∙ ap (λ i. slice_get old_workers i) (sym mine) ∙ h.owns in cc) in
             z.2 mine (o.once h.victim z.0 h.at k h.owner h.owns (ap (λ (y : Worker). let l = y.offered in slice_get l.items z.0) (sym same) ∙ z.1 ∙ ap (λ i. Some i) (sym e)) h.stands)) in
-            let y = seat_later j g.0 ne g.1 in
+            let y = frame_state_later j g.0 ne g.1 in
             (y.0, y.1, y.2 ∙ g.2);
         once = λ v q r j u at has also. let z = worker_was v u at in once_now v q r j z.0 u z.1 z.2 has also;
         waiting = waits_as;
@@ -372,21 +372,21 @@ module _ (code : CodeView) (p : Source) (inputs : List ℤ) (name : ℕ → Name
 
   -- ---- names
 
-  pub named_now : AreNamed new_seats name
+  pub named_now : AreNamed new_frame_states name
   named_now =
       let g = t.awaits in
       let J : FrameState → FrameState = (λ y. record y { join = (let z = t.awaiting in z.join) }) in
-      let first : AreNamed mid name = subst (λ l. AreNamed l name) (sym (changed_known (λ _. t.awaiting) J old_seats k h.seat h.sits g.1)) (named_changed J old_seats k name (λ x. (refl, refl)) named) in
-      subst (λ l. AreNamed l name) (sym t.frames) (named_changed (moved_to (Held w)) later k name (λ x. (refl, refl)) (named_changed robbed mid seat.last name (λ x. (refl, refl)) first))
+      let first : AreNamed mid name = subst (λ l. AreNamed l name) (sym (changed_known (λ _. t.awaiting) J old_frame_states k h.frame_state h.sits g.1)) (named_changed J old_frame_states k name (λ x. (refl, refl)) named) in
+      subst (λ l. AreNamed l name) (sym t.frames) (named_changed (moved_to (Held w)) later k name (λ x. (refl, refl)) (named_changed robbed mid frame_state.last name (λ x. (refl, refl)) first))
 
   -- ---- the choice
 
   pub hand_is : slice_get d.hands w ≡ Some None
   hand_is =
-      let o = sh.desk in
+      let o = sh.worker_table in
       ap (λ hs. slice_get hs w) o.hands ∙ slice_get-map (hand_of name) old_workers w ∙ ap (λ u. option_map (hand_of name) u) h.idles ∙ ap (λ f. Some (option_map name f)) h.free
 
   pub offered_is : slice_get (all_offered d.offered) place ≡ Some (name k)
   offered_is =
-      let o = sh.desk in
+      let o = sh.worker_table in
       ap (λ l. slice_get (all_offered l) place) o.offered ∙ ap (λ l. slice_get l place) (altering.offered_are name old_workers) ∙ slice_get-map name (offers old_workers) place ∙ ap (λ j. option_map name j) h.is_place

@@ -117,11 +117,11 @@ if_one true u h = refl
 if_one false u h = h
 
 module _ (code : CodeView) (p : Source) (inputs : List ℤ) (name : ℕ → Name) (b b' : Scheduler) (d : WorkerTable) (s : State FrameEnv View) (w place k : ℕ) (sh : ShowsBy code p inputs name b d s) (h : IsOffered b w place k) (t : TakesOver b b' w place k h) where
-  abbrev old_seats : List (Activation FrameState)
-  old_seats = taking.old_seats code p inputs name b b' d s w place k sh h t
+  abbrev old_frame_states : List (Activation FrameState)
+  old_frame_states = taking.old_frame_states code p inputs name b b' d s w place k sh h t
 
-  abbrev new_seats : List (Activation FrameState)
-  new_seats = taking.new_seats code p inputs name b b' d s w place k sh h t
+  abbrev new_frame_states : List (Activation FrameState)
+  new_frame_states = taking.new_frame_states code p inputs name b b' d s w place k sh h t
 
   abbrev old_workers : List Worker
   old_workers = taking.old_workers code p inputs name b b' d s w place k sh h t
@@ -129,8 +129,8 @@ module _ (code : CodeView) (p : Source) (inputs : List ℤ) (name : ℕ → Name
   abbrev new_workers : List Worker
   new_workers = taking.new_workers code p inputs name b b' d s w place k sh h t
 
-  abbrev seat : FrameState
-  seat = taking.seat code p inputs name b b' d s w place k sh h t
+  abbrev frame_state : FrameState
+  frame_state = taking.frame_state code p inputs name b b' d s w place k sh h t
 
   abbrev frame : Frame FrameEnv
   frame = taking.frame code p inputs name b b' d s w place k sh h t
@@ -138,16 +138,16 @@ module _ (code : CodeView) (p : Source) (inputs : List ℤ) (name : ℕ → Name
   abbrev past : List (Deed FrameEnv)
   past = taking.past code p inputs name b b' d s w place k sh h t
 
-  named : AreNamed old_seats name
+  named : AreNamed old_frame_states name
   named = taking.named code p inputs name b b' d s w place k sh h t
 
-  low : k < length old_seats
+  low : k < length old_frame_states
   low = taking.low code p inputs name b b' d s w place k sh h t
 
-  status_was : seat.status ≡ Offered h.victim
+  status_was : frame_state.status ≡ Offered h.victim
   status_was = taking.status_was code p inputs name b b' d s w place k sh h t
 
-  abbrev was : IsWhere code p inputs name b s k (name k) past seat (Offered h.victim)
+  abbrev was : IsWhere code p inputs name b s k (name k) past frame_state (Offered h.victim)
   was = taking.was code p inputs name b b' d s w place k sh h t
 
   abbrev before : List (Deed FrameEnv)
@@ -162,10 +162,10 @@ module _ (code : CodeView) (p : Source) (inputs : List ℤ) (name : ℕ → Name
   starts : started past ≡ ordinal
   starts = taking.starts code p inputs name b b' d s w place k sh h t
 
-  children_are : seat.children ≡ ordinal
+  children_are : frame_state.children ≡ ordinal
   children_are = taking.children_are code p inputs name b b' d s w place k sh h t
 
-  last_is : (seat.last < length old_seats) × (name seat.last ≡ child)
+  last_is : (frame_state.last < length old_frame_states) × (name frame_state.last ≡ child)
   last_is = taking.last_is code p inputs name b b' d s w place k sh h t
 
   going : has_ended (deeds_at (s.frames (name k))) ≡ false
@@ -177,7 +177,7 @@ module _ (code : CodeView) (p : Source) (inputs : List ℤ) (name : ℕ → Name
   thief_goes : HasThief FrameEnv View monoid_of (Next p inputs) (costs p inputs) s (name k) (child_after (name k) was.0)
   thief_goes = taking.thief_goes code p inputs name b b' d s w place k sh h t
 
-  names_differ : (i j : ℕ) → i < length old_seats → j < length old_seats → (i ≡ j → ⊥) → name i ≡ name j → ⊥
+  names_differ : (i j : ℕ) → i < length old_frame_states → j < length old_frame_states → (i ≡ j → ⊥) → name i ≡ name j → ⊥
   names_differ = taking.names_differ code p inputs name b b' d s w place k sh h t
 
   abbrev taken : FrameState
@@ -186,13 +186,13 @@ module _ (code : CodeView) (p : Source) (inputs : List ℤ) (name : ℕ → Name
   abbrev now : Activation FrameState
   now = taking.now code p inputs name b b' d s w place k sh h t
 
-  now_at : slice_get new_seats k ≡ Some now
+  now_at : slice_get new_frame_states k ≡ Some now
   now_at = taking.now_at code p inputs name b b' d s w place k sh h t
 
-  same_length : length new_seats ≡ length old_seats
+  same_length : length new_frame_states ≡ length old_frame_states
   same_length = taking.same_length code p inputs name b b' d s w place k sh h t
 
-  on : carries.Carries old_seats new_seats
+  on : carries.Carries old_frame_states new_frame_states
   on = taking.on code p inputs name b b' d s w place k sh h t
 
   abbrev Had : ℕ → Worker → Worker → Type 0
@@ -201,7 +201,7 @@ module _ (code : CodeView) (p : Source) (inputs : List ℤ) (name : ℕ → Name
   abbrev Which : ℕ → Activation FrameState → Type 0
   Which = taking.Which code p inputs name b b' d s w place k sh h t
 
-  which : (j : ℕ) (a : Activation FrameState) → slice_get new_seats j ≡ Some a → Which j a
+  which : (j : ℕ) (a : Activation FrameState) → slice_get new_frame_states j ≡ Some a → Which j a
   which = taking.which code p inputs name b b' d s w place k sh h t
 
   worker_on : (v : ℕ) (u : Worker) → slice_get old_workers v ≡ Some u → (u' : Worker) × (slice_get new_workers v ≡ Some u') × Had v u u'
@@ -213,17 +213,17 @@ module _ (code : CodeView) (p : Source) (inputs : List ℤ) (name : ℕ → Name
   not_thief : (v j : ℕ) (u : Worker) → slice_get old_workers v ≡ Some u → u.frame ≡ Some j → w ≡ v → ⊥
   not_thief = taking.not_thief code p inputs name b b' d s w place k sh h t
 
-  seat_later : (j : ℕ) (a : Activation FrameState) → (k ≡ j → ⊥) → slice_get old_seats j ≡ Some a
-      → (z : Activation FrameState) × (slice_get new_seats j ≡ Some z) × ((let y = z.cursor in y.status) ≡ (let x = a.cursor in x.status)) × ((let y = z.cursor in y.merged) ≡ (let x = a.cursor in x.merged))
-  seat_later = taking.seat_later code p inputs name b b' d s w place k sh h t
+  frame_state_later : (j : ℕ) (a : Activation FrameState) → (k ≡ j → ⊥) → slice_get old_frame_states j ≡ Some a
+      → (z : Activation FrameState) × (slice_get new_frame_states j ≡ Some z) × ((let y = z.cursor in y.status) ≡ (let x = a.cursor in x.status)) × ((let y = z.cursor in y.merged) ≡ (let x = a.cursor in x.merged))
+  frame_state_later = taking.frame_state_later code p inputs name b b' d s w place k sh h t
 
-  abbrev desk_now : WorkerTable
-  desk_now = taking.desk_now code p inputs name b b' d s w place k sh h t
+  abbrev worker_table_now : WorkerTable
+  worker_table_now = taking.worker_table_now code p inputs name b b' d s w place k sh h t
 
-  desk_is : IsWorkerTable code p inputs name b' desk_now
-  desk_is = taking.desk_is code p inputs name b b' d s w place k sh h t
+  worker_table_is : IsWorkerTable code p inputs name b' worker_table_now
+  worker_table_is = taking.worker_table_is code p inputs name b b' d s w place k sh h t
 
-  named_now : AreNamed new_seats name
+  named_now : AreNamed new_frame_states name
   named_now = taking.named_now code p inputs name b b' d s w place k sh h t
 
   hand_is : slice_get d.hands w ≡ Some None
@@ -235,7 +235,7 @@ module _ (code : CodeView) (p : Source) (inputs : List ℤ) (name : ℕ → Name
   module _ (s' : State FrameEnv View) (st : Steals FrameEnv View monoid_of (Next p inputs) (costs p inputs) s (name k) s') where
     before_is : st.before ≡ was.0
     before_is =
-        let o = sh.sits k h.seat h.sits in
+        let o = sh.sits k h.frame_state h.sits in
         let same : st.frame ≡ frame = (let q : Some st.frame ≡ Some frame = sym st.here ∙ o.here in cc) in
         let r = snoc_one st.before was.0 (Invokes Spawn st.what) (Invokes Spawn was.1) (sym st.spawned ∙ ap (λ (f : Frame FrameEnv). f.deeds) same ∙ was.2) in
         r.0
@@ -279,20 +279,20 @@ module _ (code : CodeView) (p : Source) (inputs : List ℤ) (name : ℕ → Name
     more : (m : Name) (q : ℕ) → q < size_of p (s.frames m) → q < size_of p (s'.frames m)
     more m q lt = subst (λ n. q < n) (sym (sizes m)) lt
 
-    instance_back : (i : Instance) (j : numbered.Instance) → IsInstance p new_seats name i j → IsInstance p old_seats name i j
+    instance_back : (i : Instance) (j : numbered.Instance) → IsInstance p new_frame_states name i j → IsInstance p old_frame_states name i j
     instance_back Output j g = g
     instance_back (Reducer m q kind) j g = (g.0, subst (λ z. g.0 < z) same_length g.1, g.2, g.3, g.4)
 
-    cell_back : (c : Cell) (n : ℕ) → IsCell p new_seats name s' c n → IsCell p old_seats name s c n
+    cell_back : (c : Cell) (n : ℕ) → IsCell p new_frame_states name s' c n → IsCell p old_frame_states name s c n
     cell_back (Global g) n it = it
     cell_back (Own m q) n it =
-        let r = carries.carried_back old_seats new_seats on same_length it.0 it.1 it.2 in
+        let r = carries.carried_back old_frame_states new_frame_states on same_length it.0 it.1 it.2 in
         (it.0, r.0, r.1, it.3, it.4 ∙ ap (λ (a : Activation FrameState). a.base + q) r.2, subst (λ z. q < z) (sizes m) it.5)
 
-    absent_back : (n : Name) → IsAbsent new_seats name n → IsAbsent old_seats name n
+    absent_back : (n : Name) → IsAbsent new_frame_states name n → IsAbsent old_frame_states name n
     absent_back n none = λ j at. none j (subst (λ z. j < z) (sym same_length) at)
 
-    absent_on : (n : Name) → IsAbsent old_seats name n → IsAbsent new_seats name n
+    absent_on : (n : Name) → IsAbsent old_frame_states name n → IsAbsent new_frame_states name n
     absent_on n none = λ j at. none j (subst (λ z. j < z) same_length at)
 
     -- ---- blocks
@@ -345,13 +345,13 @@ module _ (code : CodeView) (p : Source) (inputs : List ℤ) (name : ℕ → Name
 
     -- ---- frame states
 
-    other : (j : ℕ) (a : Activation FrameState) (flag : Bool) → (k ≡ j → ⊥) → slice_get old_seats j ≡ Some a → s'.stolen (name j) ≡ flag → Sits code p inputs name b s j a
+    other : (j : ℕ) (a : Activation FrameState) (flag : Bool) → (k ≡ j → ⊥) → slice_get old_frame_states j ≡ Some a → s'.stolen (name j) ≡ flag → Sits code p inputs name b s j a
         → Sits code p inputs name b' s' j (let x = a.cursor in record a { cursor = record x { stolen = flag } })
     other j a flag off at mark o =
         let x = a.cursor in
         let f = o.frame in
         let e = b.journal in
-        let apart = names_differ k j low (get_low old_seats j a at) off in record {
+        let apart = names_differ k j low (get_low old_frame_states j a at) off in record {
           frame = o.frame;
           here = frame_same (name j) ∙ o.here;
           named = o.named;
@@ -367,7 +367,7 @@ module _ (code : CodeView) (p : Source) (inputs : List ℤ) (name : ℕ → Name
           due = o.due;
           is_where = where_else j (name j) f.deeds x x.status off apart o.is_where;
           block = λ going. block_else (name j) f.deeds x apart (o.block going);
-          written = subst (λ es. AreDeeds p new_seats name s' j f.deeds es) (sym (written_now j)) (carries.deeds_on old_seats new_seats on name p s s' more j f.deeds (events_of j e.items) o.written);
+          written = subst (λ es. AreDeeds p new_frame_states name s' j f.deeds es) (sym (written_now j)) (carries.deeds_on old_frame_states new_frame_states on name p s s' more j f.deeds (events_of j e.items) o.written);
         }
 
     -- ---- the frame that is taken over
@@ -393,18 +393,18 @@ module _ (code : CodeView) (p : Source) (inputs : List ℤ) (name : ℕ → Name
         ∙ ap (λ t. cond t (earlier ++ ordinal ∷ []) earlier) stolen_child
 
     abbrev block : JoinView
-    block = let a = h.seat in let x = a.cursor in block_in x.join
+    block = let a = h.frame_state in let x = a.cursor in block_in x.join
 
     kept_before : Keeps code p inputs name b s (name k) past block × (block.closed ≡ false)
     kept_before =
-        let o = sh.sits k h.seat h.sits in
+        let o = sh.sits k h.frame_state h.sits in
         ⊎_elim (λ g. let e : block ≡ opening = ap (λ z. block_in z) g.0 in (subst (λ j. Keeps code p inputs name b s (name k) past j) (sym e) (opening_keeps code p inputs name b s (name k) past g.1), ap (λ (j : JoinView). j.closed) e))
-        (λ g. let l = g.0 in let e : block ≡ shown l.value = block_of seat.join g.0 g.1 in
+        (λ g. let l = g.0 in let e : block ≡ shown l.value = block_of frame_state.join g.0 g.1 in
         ⊎_elim (λ m. absurd (true≢false (sym m ∙ was.5)))
         (λ z. (subst (λ j. Keeps code p inputs name b s (name k) past j) (sym e) z.0, ap (λ (j : JoinView). j.closed) e ∙ open_one (shown l.value) z.1)) g.2)
         (o.block was.10)
       where
-        open_one : (j : JoinView) → (j.closed ≡ true → seat.status ≡ Waiting) → j.closed ≡ false
+        open_one : (j : JoinView) → (j.closed ≡ true → frame_state.status ≡ Waiting) → j.closed ≡ false
         open_one j g = ⊎_elim (λ q. let z : Offered h.victim ≡ Waiting = sym status_was ∙ g q in let f : ⊥ = cc in absurd f) (λ f. f) (cases_Bool j.closed)
 
     less : block.stolen < ordinal
@@ -415,17 +415,17 @@ module _ (code : CodeView) (p : Source) (inputs : List ℤ) (name : ℕ → Name
         let l = stolen_low was_stolen 1 [] was.0 ordinal (omega arith) (omega arith) in
         omega (arith, e, l)
 
-    not_arrived : nat_eq block.arrived seat.children ≡ false
+    not_arrived : nat_eq block.arrived frame_state.children ≡ false
     not_arrived =
-        ⊎_elim (λ q. let kb = kept_before in let K = kb.0 in let z : block.arrived ≡ seat.children = eqb-true block.arrived seat.children q in let y = K.arrived kb.1 in let u = less in let v = children_are in absurd (omega (arith, z, y, u, v))) (λ f. f)
-        (cases_Bool (nat_eq block.arrived seat.children))
+        ⊎_elim (λ q. let kb = kept_before in let K = kb.0 in let z : block.arrived ≡ frame_state.children = eqb-true block.arrived frame_state.children q in let y = K.arrived kb.1 in let u = less in let v = children_are in absurd (omega (arith, z, y, u, v))) (λ f. f)
+        (cases_Bool (nat_eq block.arrived frame_state.children))
 
-    waits_now : (let j = stolen_at block seat.children in let r = j.row in r.waits) ≡ (let r = block.row in r.waits ++ wait ordinal None ∷ [])
+    waits_now : (let j = stolen_at block frame_state.children in let r = j.row in r.waits) ≡ (let r = block.row in r.waits ++ wait ordinal None ∷ [])
     waits_now =
         let r = block.row in
-        ap (λ t. r.waits ++ cond t [] (wait seat.children None ∷ [])) not_arrived ∙ ap (λ q. r.waits ++ wait q None ∷ []) children_are
+        ap (λ t. r.waits ++ cond t [] (wait frame_state.children None ∷ [])) not_arrived ∙ ap (λ q. r.waits ++ wait q None ∷ []) children_are
 
-    kept_after : Keeps code p inputs name b' s' (name k) past (stolen_at block seat.children)
+    kept_after : Keeps code p inputs name b' s' (name k) past (stolen_at block frame_state.children)
     kept_after =
         let kb = kept_before in
         let K = kb.0 in
@@ -455,7 +455,7 @@ module _ (code : CodeView) (p : Source) (inputs : List ℤ) (name : ℕ → Name
     block_here =
         let kb = kept_before in
         let g = t.awaits in
-        let j = some_join (let y = t.awaiting in y.join) (stolen_at block seat.children) g.0 (let e = children_are in omega (arith, e)) in
+        let j = some_join (let y = t.awaiting in y.join) (stolen_at block frame_state.children) g.0 (let e = children_are in omega (arith, e)) in
         inr (
           j.0,
           j.1,
@@ -474,29 +474,29 @@ module _ (code : CodeView) (p : Source) (inputs : List ℤ) (name : ℕ → Name
 
     itself : Sits code p inputs name b' s' k now
     itself =
-        let o = sh.sits k h.seat h.sits in
+        let o = sh.sits k h.frame_state h.sits in
         let f = o.frame in
         let e = b.journal in record {
           frame = o.frame;
           here = frame_same (name k) ∙ o.here;
           named = o.named;
           number = o.number;
-          seen = carries.seen_on code p inputs name b b' s s' on more h.seat taken f.what o.seen;
+          seen = carries.seen_on code p inputs name b b' s s' on more h.frame_state taken f.what o.seen;
           creates = o.creates;
           creates_none = o.creates_none;
           stolen = stolen_off (name k) (λ z. longer (name k) ordinal z) ∙ o.stolen;
           children = o.children;
-          last = λ some. let r = o.last some in (subst (λ z. seat.last < z) (sym same_length) r.0, r.1);
+          last = λ some. let r = o.last some in (subst (λ z. frame_state.last < z) (sym same_length) r.0, r.1);
           strands_are = o.strands_are;
           counted = o.counted;
           due = o.due;
           is_where = where_here;
           block = λ q. block_here;
-          written = subst (λ es. AreDeeds p new_seats name s' k f.deeds es) (sym (written_now k)) (carries.deeds_on old_seats new_seats on name p s s' more k f.deeds (events_of k e.items) o.written);
+          written = subst (λ es. AreDeeds p new_frame_states name s' k f.deeds es) (sym (written_now k)) (carries.deeds_on old_frame_states new_frame_states on name p s s' more k f.deeds (events_of k e.items) o.written);
         }
 
-    seats_sit : (j : ℕ) (a : Activation FrameState) → slice_get new_seats j ≡ Some a → Sits code p inputs name b' s' j a
-    seats_sit j a at = by (which j a at)
+    frame_states_sit : (j : ℕ) (a : Activation FrameState) → slice_get new_frame_states j ≡ Some a → Sits code p inputs name b' s' j a
+    frame_states_sit j a at = by (which j a at)
       where
         by : Which j a → Sits code p inputs name b' s' j a
         by (taken_over same is) = subst (λ i. Sits code p inputs name b' s' i a) same (subst (λ z. Sits code p inputs name b' s' k z) is itself)
@@ -505,20 +505,20 @@ module _ (code : CodeView) (p : Source) (inputs : List ℤ) (name : ℕ → Name
         by (stays ne at' ne') =
             let o = sh.sits j a at' in
             let x = a.cursor in
-            other j a x.stolen ne at' (stolen_off (name j) (λ e. ne' (named.apart seat.last j last_is.0 (get_low old_seats j a at') (last_is.1 ∙ e))) ∙ o.stolen) o
+            other j a x.stolen ne at' (stolen_off (name j) (λ e. ne' (named.apart frame_state.last j last_is.0 (get_low old_frame_states j a at') (last_is.1 ∙ e))) ∙ o.stolen) o
 
     -- ---- workers
 
-    own_piece : (i : Instance) → carried (monoid_of i) (λ m. s'.piece m i) s'.stolen (name k) (deeds_at (s'.frames (name k))) seat.merged ≡ unit_of monoid_of i
+    own_piece : (i : Instance) → carried (monoid_of i) (λ m. s'.piece m i) s'.stolen (name k) (deeds_at (s'.frames (name k))) frame_state.merged ≡ unit_of monoid_of i
     own_piece i =
-        let o = sh.sits k h.seat h.sits in
-        ap (λ f. carried (monoid_of i) (λ m. s'.piece m i) s'.stolen (name k) (deeds_at f) seat.merged) (frame_same (name k) ∙ o.here)
-        ∙ taken_up (monoid_of i) (λ m. s'.piece m i) s'.stolen (name k) past seat.merged was.5 (ap (λ ds. is_resuming ds) was.2 ∙ resuming_child was.0 Spawn was.1) (ap (λ q. s'.stolen (name k ++ q ∷ [])) starts ∙ stolen_child)
+        let o = sh.sits k h.frame_state h.sits in
+        ap (λ f. carried (monoid_of i) (λ m. s'.piece m i) s'.stolen (name k) (deeds_at f) frame_state.merged) (frame_same (name k) ∙ o.here)
+        ∙ taken_up (monoid_of i) (λ m. s'.piece m i) s'.stolen (name k) past frame_state.merged was.5 (ap (λ ds. is_resuming ds) was.2 ∙ resuming_child was.0 Spawn was.1) (ap (λ q. s'.stolen (name k ++ q ∷ [])) starts ∙ stolen_child)
         ∙ piece_here i
 
     holds_here : (u : Worker) → u.views ≡ t.views → Holds code p inputs name b' s' w u k
     holds_here u views = record {
-      seat = now;
+      frame_state = now;
       here = now_at;
       held = refl;
       views = λ i j is. subst (λ v. IsViewOf (kind_of i) v (value_in u.views (kind_of i) j)) (sym (own_piece i)) (subst (λ z. IsViewOf (kind_of i) (unit_of monoid_of i) z) (sym (value_is (kind_of i) j)) (let m = are_multiplied in m.unit (kind_of i)));
@@ -530,19 +530,19 @@ module _ (code : CodeView) (p : Source) (inputs : List ℤ) (name : ℕ → Name
         value_is kind j = ap (λ z. value_in z kind j) views ∙ ap (or_unit (structure_of kind)) (each_kind (λ q. (i : numbered.Instance) → view_in t.views q i ≡ None) t.empty kind j)
 
         deeds_now : deeds_at (s'.frames (name k)) ≡ past
-        deeds_now = let o = sh.sits k h.seat h.sits in ap (λ f. deeds_at f) (frame_same (name k) ∙ o.here)
+        deeds_now = let o = sh.sits k h.frame_state h.sits in ap (λ f. deeds_at f) (frame_same (name k) ∙ o.here)
 
-        unused : (q : ℕ) → IsUsed s'.stolen (name k) (deeds_at (s'.frames (name k))) seat.merged q → is_there code p inputs name b' s' (name k) q ≡ true
+        unused : (q : ℕ) → IsUsed s'.stolen (name k) (deeds_at (s'.frames (name k))) frame_state.merged q → is_there code p inputs name b' s' (name k) q ≡ true
         unused q g = ⊎_elim (λ a. absurd (true≢false (sym a.0 ∙ was.5)))
             (λ a. let e : q ≡ ordinal = a.2 ∙ ap (λ ds. started ds) deeds_now ∙ starts in absurd (true≢false (sym stolen_child ∙ ap (λ z. s'.stolen (name k ++ z ∷ [])) (sym e) ∙ a.3))) g
 
     holds_else : (v j : ℕ) (u u' : Worker) → (k ≡ j → ⊥) → u'.views ≡ u.views → Holds code p inputs name b s v u j → Holds code p inputs name b' s' v u' j
     holds_else v j u u' ne views g =
-        let x = (let a = g.seat in a.cursor) in
-        let apart = names_differ k j low (get_low old_seats j g.seat g.here) ne in
-        let z = seat_later j g.seat ne g.here in
+        let x = (let a = g.frame_state in a.cursor) in
+        let apart = names_differ k j low (get_low old_frame_states j g.frame_state g.here) ne in
+        let z = frame_state_later j g.frame_state ne g.here in
         let y = (let a = z.0 in a.cursor) in record {
-          seat = z.0;
+          frame_state = z.0;
           here = z.1;
           held = z.2 ∙ g.held;
           views = λ i q is.
@@ -553,7 +553,7 @@ module _ (code : CodeView) (p : Source) (inputs : List ℤ) (name : ℕ → Name
               subst (λ z. IsViewOf (kind_of i) (carried (monoid_of i) (λ m. s'.piece m i) s'.stolen (name j) (deeds_at (s'.frames (name j))) y.merged) (value_in z (kind_of i) q)) (sym views)
               (subst (λ z. IsViewOf (kind_of i) z (value_in u.views (kind_of i) q)) (sym same) (g.views i q (instance_back i q is)));
           used = λ q is. ends_same (name j ++ q ∷ []) ∙ g.used q (used_by x.merged y.merged z.3 apart q is);
-          bare = subst (λ n. IsBare n (value_in u'.views)) (sym same_length) (subst (λ z. IsBare (length old_seats) (value_in z)) (sym views) g.bare);
+          bare = subst (λ n. IsBare n (value_in u'.views)) (sym same_length) (subst (λ z. IsBare (length old_frame_states) (value_in z)) (sym views) g.bare);
         }
       where
         used_by : (m m' : Bool) → m' ≡ m → (name k ≡ name j → ⊥) → (q : ℕ) → IsUsed s'.stolen (name j) (deeds_at (s'.frames (name j))) m' q → IsUsed s.stolen (name j) (deeds_at (s.frames (name j))) m q
@@ -578,20 +578,20 @@ module _ (code : CodeView) (p : Source) (inputs : List ℤ) (name : ℕ → Name
             let r = worker_was v u at in
             let o = r.2 in
             let g = sh.holds v j r.0 r.1 (sym (o.frame_is ne) ∙ has) in
-            let off : k ≡ j → ⊥ = (λ e. let y : Some h.seat ≡ Some g.seat = sym h.sits ∙ ap (λ i. slice_get old_seats i) e ∙ g.here in let x : h.seat ≡ g.seat = cc in
+            let off : k ≡ j → ⊥ = (λ e. let y : Some h.frame_state ≡ Some g.frame_state = sym h.sits ∙ ap (λ i. slice_get old_frame_states i) e ∙ g.here in let x : h.frame_state ≡ g.frame_state = cc in
             let z : Offered h.victim ≡ Held v = sym status_was ∙ ap (λ (a : Activation FrameState). let c = a.cursor in c.status) x ∙ g.held in let f : ⊥ = cc in f) in
             holds_else v j r.0 u off (o.views_are ne) g
 
     -- ---- what is shown
 
-    base_was : (j : ℕ) (a : Activation FrameState) → slice_get new_seats j ≡ Some a → (z : Activation FrameState) × (slice_get old_seats j ≡ Some z) × (a.base ≡ z.base)
-    base_was j a at = let r = carries.carried_back old_seats new_seats on same_length j a at in (r.0, r.1, ap (λ (z : Activation FrameState). z.base) r.2)
+    base_was : (j : ℕ) (a : Activation FrameState) → slice_get new_frame_states j ≡ Some a → (z : Activation FrameState) × (slice_get old_frame_states j ≡ Some z) × (a.base ≡ z.base)
+    base_was j a at = let r = carries.carried_back old_frame_states new_frame_states on same_length j a at in (r.0, r.1, ap (λ (z : Activation FrameState). z.base) r.2)
 
     tells_is : Tells code p inputs name b' s'
     tells_is =
         let o = sh.tells in record {
           named = named_now;
-          here = λ j a at. let z = seats_sit j a at in (z.frame, z.here, z.written);
+          here = λ j a at. let z = frame_states_sit j a at in (z.frame, z.here, z.written);
           absent = λ n none. frame_same n ∙ o.absent n (absent_back n none);
           joins = λ n q. ap (λ l. times (n ++ q ∷ []) l) st.joins ∙ o.joins n q ∙ ap (λ f. joined_at 1 q (deeds_at f)) (sym (frame_same n));
           going = λ z g. o.going h.was_open (subst (λ f. HasEnd (deeds_at f)) (frame_same []) g);
@@ -609,12 +609,12 @@ module _ (code : CodeView) (p : Source) (inputs : List ℤ) (name : ℕ → Name
 
     -- ---- the whole
 
-    shown_after : ShowsBy code p inputs name b' desk_now s'
+    shown_after : ShowsBy code p inputs name b' worker_table_now s'
     shown_after = record {
       tells = tells_is;
       running = st.stopped ∙ sh.running;
-      sits = seats_sit;
-      unstolen = λ n none. stolen_off n (λ e. absent_back n none seat.last last_is.0 (last_is.1 ∙ e)) ∙ sh.unstolen n (absent_back n none);
+      sits = frame_states_sit;
+      unstolen = λ n none. stolen_off n (λ e. absent_back n none frame_state.last last_is.0 (last_is.1 ∙ e)) ∙ sh.unstolen n (absent_back n none);
       unwritten = λ n q none. ap (λ m. m (Own n q)) st.memory ∙ sh.unwritten n q (absent_back n none);
       bare = λ n m q kind none there. bare_by n m q kind (absent_back n none) (λ g. there (absent_on m g)) (same_name (name k) m) refl;
       memory = λ c n is. ap (λ l. slice_get l n) t.cells ∙ sh.memory c n (cell_back c n is) ∙ ap (λ m. Some (m c)) (sym st.memory);
@@ -626,7 +626,7 @@ module _ (code : CodeView) (p : Source) (inputs : List ℤ) (name : ℕ → Name
           let v = ap (λ (l : List ℤ). length l) t.cells in
           omega (arith, old, e, u, v);
       holds = still_holds;
-      desk = desk_is;
+      worker_table = worker_table_is;
       ticks = ap (λ z. z TickTotal) st.totals ∙ sh.ticks ∙ sym t.ticks;
       events = ap (λ z. z EventTotal) st.totals ∙ sh.events ∙ sym (ap (λ (l : List JournalEntry). length l) t.journal);
       frames = ap (λ z. z FrameTotal) st.totals ∙ sh.frames ∙ sym same_length;
@@ -636,7 +636,7 @@ module _ (code : CodeView) (p : Source) (inputs : List ℤ) (name : ℕ → Name
       eventless = λ j far. let e = same_length in written_now j ∙ sh.eventless j (omega (arith, e, far));
     }
       where
-        bare_by : (n m : Name) (q : ℕ) (kind : MonoidKind) → IsAbsent old_seats name n → (IsAbsent old_seats name m → ⊥) → (c : Bool) → same_name (name k) m ≡ c → s'.piece m (Reducer n q kind) ≡ unit_of monoid_of (Reducer n q kind)
+        bare_by : (n m : Name) (q : ℕ) (kind : MonoidKind) → IsAbsent old_frame_states name n → (IsAbsent old_frame_states name m → ⊥) → (c : Bool) → same_name (name k) m ≡ c → s'.piece m (Reducer n q kind) ≡ unit_of monoid_of (Reducer n q kind)
         bare_by n m q kind none there true is = ap (λ z. s'.piece z (Reducer n q kind)) (sym (same_name-eq (name k) m is)) ∙ piece_here (Reducer n q kind)
         bare_by n m q kind none there false is = piece_off (Reducer n q kind) m (λ e. true≢false (sym (same_name-refl (name k)) ∙ ap (λ z. same_name (name k) z) e ∙ is)) ∙ sh.bare n m q kind none there
 

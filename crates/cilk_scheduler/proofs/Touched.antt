@@ -4,7 +4,7 @@
 -- - `joined_child`: how often a child is joined, by its parent's deeds;
 -- - `other`: each other frame's state stays;
 -- - `itself`: the frame's own state;
--- - `still_holds`, `desk_is`, `tells_is`: workers, the worker table, what is shown;
+-- - `still_holds`, `worker_table_is`, `tells_is`: workers, the worker table, what is shown;
 -- - `touched_is`: the law.
 use Rattle.std.proofs.Common.{◌≡◌, inl, inr, ⊎_elim, ◌+◌, ◌<◌, ◌≤◌, ℕ, nat_eq, eq-eqb, eqb-true, Bool, true, false, true≢false, cond, ℤ, List, [], ◌∷◌, ◌++◌, length, map, slice_get, sum, Some, None, refl, sym, ap, ◌∙◌, subst, arith}
 use Rattle.std.proofs.lemmas.Bool.{cases_Bool}
@@ -61,11 +61,11 @@ joined_child t (j ∷ i ∷ n) q = joined_child (below t j) (i ∷ n) q
 
 module _ (code : CodeView) (p : Source) (inputs : List ℤ) (name : ℕ → Name) (b b' : Scheduler) (d : WorkerTable) (s s' : State FrameEnv View) (w k : ℕ) (e : Event) (entry : JournalEntry)
     (sh : ShowsBy code p inputs name b d s) (t : Touches code p inputs name b b' s s' w k e entry) where
-  abbrev old_seats : List (Activation FrameState)
-  old_seats = let f = b.frames in f.items
+  abbrev old_frame_states : List (Activation FrameState)
+  old_frame_states = let f = b.frames in f.items
 
-  abbrev new_seats : List (Activation FrameState)
-  new_seats = let f = b'.frames in f.items
+  abbrev new_frame_states : List (Activation FrameState)
+  new_frame_states = let f = b'.frames in f.items
 
   abbrev change : FrameState → FrameState
   change = touched t.same_block t.begun t.took t.cursor t.answer
@@ -79,7 +79,7 @@ module _ (code : CodeView) (p : Source) (inputs : List ℤ) (name : ℕ → Name
   abbrev longer_past : List (Deed FrameEnv)
   longer_past = past ++ Does e ∷ []
 
-  named : AreNamed old_seats name
+  named : AreNamed old_frame_states name
   named = let q = sh.tells in q.named
 
   lasting : is_end (Does e) ≡ false
@@ -89,11 +89,11 @@ module _ (code : CodeView) (p : Source) (inputs : List ℤ) (name : ℕ → Name
       by true h = plain_lasts e h
       by false h = ap (λ x. is_end (Does x)) h
 
-  low : k < length old_seats
-  low = get_low old_seats k t.seat t.sits
+  low : k < length old_frame_states
+  low = get_low old_frame_states k t.frame_state t.sits
 
-  same_length : length new_seats ≡ length old_seats
-  same_length = ap (λ (l : List (Activation FrameState)). length l) t.seats_are ∙ changed_length change old_seats k
+  same_length : length new_frame_states ≡ length old_frame_states
+  same_length = ap (λ (l : List (Activation FrameState)). length l) t.frame_states_are ∙ changed_length change old_frame_states k
 
   -- ---- frames by name
 
@@ -109,7 +109,7 @@ module _ (code : CodeView) (p : Source) (inputs : List ℤ) (name : ℕ → Name
   ends_same : (m : Name) → has_ended (deeds_at (s'.frames m)) ≡ has_ended (deeds_at (s.frames m))
   ends_same m = ended_same s s' (name k) t.frame e t.here t.goes lasting t.frames t.stolen m
 
-  names_differ : (j : ℕ) → j < length old_seats → (k ≡ j → ⊥) → name k ≡ name j → ⊥
+  names_differ : (j : ℕ) → j < length old_frame_states → (k ≡ j → ⊥) → name k ≡ name j → ⊥
   names_differ j at ne q = ne (named.apart k j low at q)
 
   -- a piece of a frame that has ended stays
@@ -119,54 +119,54 @@ module _ (code : CodeView) (p : Source) (inputs : List ℤ) (name : ℕ → Name
 
   -- ---- numbers
 
-  instance_back : (i : Instance) (j : numbered.Instance) → IsInstance p new_seats name i j → IsInstance p old_seats name i j
+  instance_back : (i : Instance) (j : numbered.Instance) → IsInstance p new_frame_states name i j → IsInstance p old_frame_states name i j
   instance_back Output j h = h
   instance_back (Reducer m q kind) j h = (h.0, subst (λ z. h.0 < z) same_length h.1, h.2, h.3, h.4)
 
-  instance_on : (i : Instance) (j : numbered.Instance) → IsInstance p old_seats name i j → IsInstance p new_seats name i j
-  instance_on i j h = subst (λ l. IsInstance p l name i j) (sym t.seats_are) (instance_changed change old_seats k name p s s' sizes i j h)
+  instance_on : (i : Instance) (j : numbered.Instance) → IsInstance p old_frame_states name i j → IsInstance p new_frame_states name i j
+  instance_on i j h = subst (λ l. IsInstance p l name i j) (sym t.frame_states_are) (instance_changed change old_frame_states k name p s s' sizes i j h)
 
-  cell_on : (c : Cell) (n : ℕ) → IsCell p old_seats name s c n → IsCell p new_seats name s' c n
-  cell_on c n h = subst (λ l. IsCell p l name s' c n) (sym t.seats_are) (cell_changed change old_seats k name p s s' sizes c n h)
+  cell_on : (c : Cell) (n : ℕ) → IsCell p old_frame_states name s c n → IsCell p new_frame_states name s' c n
+  cell_on c n h = subst (λ l. IsCell p l name s' c n) (sym t.frame_states_are) (cell_changed change old_frame_states k name p s s' sizes c n h)
 
   -- a frame was one before
   pub record Was (j : ℕ) (a : Activation FrameState) : Type 0 where
     pub before : Activation FrameState
-    pub there : slice_get old_seats j ≡ Some before
+    pub there : slice_get old_frame_states j ≡ Some before
     pub base : a.base ≡ before.base
     pub status : (let x = a.cursor in x.status) ≡ (let x = before.cursor in x.status)
 
-  was : (j : ℕ) (a : Activation FrameState) → slice_get new_seats j ≡ Some a → Was j a
+  was : (j : ℕ) (a : Activation FrameState) → slice_get new_frame_states j ≡ Some a → Was j a
   was j a at =
-      let r = changed_from change old_seats k j a (subst (λ l. slice_get l j ≡ Some a) t.seats_are at) in record {
+      let r = changed_from change old_frame_states k j a (subst (λ l. slice_get l j ≡ Some a) t.frame_states_are at) in record {
         before = r.0;
         there = r.1;
         base = ap (λ (z : Activation FrameState). z.base) r.2;
         status = ⊎_elim (λ q. ap (λ (x : FrameState). x.status) q) (λ q. ap (λ (x : FrameState). x.status) q) r.3;
       }
 
-  cell_back : (c : Cell) (n : ℕ) → IsCell p new_seats name s' c n → IsCell p old_seats name s c n
+  cell_back : (c : Cell) (n : ℕ) → IsCell p new_frame_states name s' c n → IsCell p old_frame_states name s c n
   cell_back (Global g) n h = h
   cell_back (Own m q) n h = let r = was h.0 h.1 h.2 in (h.0, r.before, r.there, h.3, h.4 ∙ ap (λ z. z + q) r.base, subst (λ z. q < z) (sym (sizes m)) h.5)
 
-  absent_back : (n : Name) → IsAbsent new_seats name n → IsAbsent old_seats name n
+  absent_back : (n : Name) → IsAbsent new_frame_states name n → IsAbsent old_frame_states name n
   absent_back n none = λ j at. none j (subst (λ z. j < z) (sym same_length) at)
 
-  absent_on : (n : Name) → IsAbsent old_seats name n → IsAbsent new_seats name n
+  absent_on : (n : Name) → IsAbsent old_frame_states name n → IsAbsent new_frame_states name n
   absent_on n none = λ j at. none j (subst (λ z. j < z) same_length at)
 
   -- where frames are
-  off_at : (j : ℕ) (a : Activation FrameState) → (k ≡ j → ⊥) → slice_get old_seats j ≡ Some a → slice_get new_seats j ≡ Some a
-  off_at j a ne at = ap (λ l. slice_get l j) t.seats_are ∙ changed_off change old_seats k j ne ∙ at
+  off_at : (j : ℕ) (a : Activation FrameState) → (k ≡ j → ⊥) → slice_get old_frame_states j ≡ Some a → slice_get new_frame_states j ≡ Some a
+  off_at j a ne at = ap (λ l. slice_get l j) t.frame_states_are ∙ changed_off change old_frame_states k j ne ∙ at
 
-  off_back : (j : ℕ) (a : Activation FrameState) → (k ≡ j → ⊥) → slice_get new_seats j ≡ Some a → slice_get old_seats j ≡ Some a
-  off_back j a ne at = sym (changed_off change old_seats k j ne) ∙ sym (ap (λ l. slice_get l j) t.seats_are) ∙ at
+  off_back : (j : ℕ) (a : Activation FrameState) → (k ≡ j → ⊥) → slice_get new_frame_states j ≡ Some a → slice_get old_frame_states j ≡ Some a
+  off_back j a ne at = sym (changed_off change old_frame_states k j ne) ∙ sym (ap (λ l. slice_get l j) t.frame_states_are) ∙ at
 
   abbrev now : Activation FrameState
-  now = let a = t.seat in record a { cursor = change a.cursor }
+  now = let a = t.frame_state in record a { cursor = change a.cursor }
 
-  now_at : slice_get new_seats k ≡ Some now
-  now_at = ap (λ l. slice_get l k) t.seats_are ∙ changed_here change old_seats k t.seat t.sits
+  now_at : slice_get new_frame_states k ≡ Some now
+  now_at = ap (λ l. slice_get l k) t.frame_states_are ∙ changed_here change old_frame_states k t.frame_state t.sits
 
   -- ---- what frames see
 
@@ -175,11 +175,11 @@ module _ (code : CodeView) (p : Source) (inputs : List ℤ) (name : ℕ → Name
     scope = h.scope;
     target = h.target;
     names = h.names;
-    numbers = subst (λ l. HasScope l (record a { cursor = y }) (numbers_in h.scope)) (sym t.seats_are) (scope_changed change old_seats k a y (numbers_in h.scope) h.numbers);
+    numbers = subst (λ l. HasScope l (record a { cursor = y }) (numbers_in h.scope)) (sym t.frame_states_are) (scope_changed change old_frame_states k a y (numbers_in h.scope) h.numbers);
     goes_to = h.goes_to;
     lies_at = h.lies_at;
-    sees = frame_more p global_cell global_both (λ (c : CellBoth). IsCell p old_seats name s c.0 c.1) (λ (c : CellBoth). IsCell p new_seats name s' c.0 c.1)
-        (λ (r : ReducerBoth) (q : MonoidKind). (kind_of (r.0 q) ≡ q) × IsInstance p old_seats name (r.0 q) r.1) (λ (r : ReducerBoth) (q : MonoidKind). (kind_of (r.0 q) ≡ q) × IsInstance p new_seats name (r.0 q) r.1)
+    sees = frame_more p global_cell global_both (λ (c : CellBoth). IsCell p old_frame_states name s c.0 c.1) (λ (c : CellBoth). IsCell p new_frame_states name s' c.0 c.1)
+        (λ (r : ReducerBoth) (q : MonoidKind). (kind_of (r.0 q) ≡ q) × IsInstance p old_frame_states name (r.0 q) r.1) (λ (r : ReducerBoth) (q : MonoidKind). (kind_of (r.0 q) ≡ q) × IsInstance p new_frame_states name (r.0 q) r.1)
         (λ c g. cell_on c.0 c.1 g) (λ r q g. (g.0, instance_on (r.0 q) r.1 g.1)) v.callee h.scope h.target h.sees;
   }
 
@@ -240,8 +240,8 @@ module _ (code : CodeView) (p : Source) (inputs : List ℤ) (name : ℕ → Name
   abbrev entries : List JournalEntry
   entries = let l = b.journal in l.items
 
-  deeds_on : (j : ℕ) (ds : List (Deed FrameEnv)) (es : List numbered_event.Event) → AreDeeds p old_seats name s j ds es → AreDeeds p new_seats name s' j ds es
-  deeds_on j ds es h = subst (λ l. AreDeeds p l name s' j ds es) (sym t.seats_are) (deeds_changed change old_seats k name p s s' sizes j ds es h)
+  deeds_on : (j : ℕ) (ds : List (Deed FrameEnv)) (es : List numbered_event.Event) → AreDeeds p old_frame_states name s j ds es → AreDeeds p new_frame_states name s' j ds es
+  deeds_on j ds es h = subst (λ l. AreDeeds p l name s' j ds es) (sym t.frame_states_are) (deeds_changed change old_frame_states k name p s s' sizes j ds es h)
 
   not_of : (j : ℕ) → (k ≡ j → ⊥) → nat_eq entry.frame j ≡ false
   not_of j ne = ⊎_elim (λ q. absurd (ne (sym t.by_frame ∙ eqb-true entry.frame j q))) (λ f. f) (cases_Bool (nat_eq entry.frame j))
@@ -254,11 +254,11 @@ module _ (code : CodeView) (p : Source) (inputs : List ℤ) (name : ℕ → Name
 
   -- ---- frame states
 
-  pub other : (j : ℕ) (a : Activation FrameState) → (k ≡ j → ⊥) → slice_get old_seats j ≡ Some a → Sits code p inputs name b s j a → Sits code p inputs name b' s' j a
+  pub other : (j : ℕ) (a : Activation FrameState) → (k ≡ j → ⊥) → slice_get old_frame_states j ≡ Some a → Sits code p inputs name b s j a → Sits code p inputs name b' s' j a
   other j a ne at o =
       let x = a.cursor in
       let f = o.frame in
-      let apart = names_differ j (get_low old_seats j a at) ne in record {
+      let apart = names_differ j (get_low old_frame_states j a at) ne in record {
         frame = o.frame;
         here = else_at (name j) apart ∙ o.here;
         named = o.named;
@@ -274,23 +274,23 @@ module _ (code : CodeView) (p : Source) (inputs : List ℤ) (name : ℕ → Name
         due = o.due;
         is_where = where_else j (name j) f.deeds x x.status apart o.is_where;
         block = λ going. block_else (name j) f.deeds x apart (o.block going);
-        written = subst (λ es. AreDeeds p new_seats name s' j f.deeds es) (sym (written_else j ne)) (deeds_on j f.deeds (events_of j entries) o.written);
+        written = subst (λ es. AreDeeds p new_frame_states name s' j f.deeds es) (sym (written_else j ne)) (deeds_on j f.deeds (events_of j entries) o.written);
       }
 
   -- the frame is the worker's
-  abbrev seat_now : FrameState
-  seat_now = let a = t.seat in a.cursor
+  abbrev frame_state_now : FrameState
+  frame_state_now = let a = t.frame_state in a.cursor
 
-  status_is : seat_now.status ≡ Held w
+  status_is : frame_state_now.status ≡ Held w
   status_is =
       let h = sh.holds w k t.worker t.at t.has in
-      let same : h.seat ≡ t.seat = (let q : Some h.seat ≡ Some t.seat = sym h.here ∙ t.sits in cc) in
+      let same : h.frame_state ≡ t.frame_state = (let q : Some h.frame_state ≡ Some t.frame_state = sym h.here ∙ t.sits in cc) in
       ap (λ (a : Activation FrameState). let x = a.cursor in x.status) (sym same) ∙ h.held
 
-  own_open : (j : JoinView) → (j.closed ≡ true → seat_now.status ≡ Waiting) → j.closed ≡ false
+  own_open : (j : JoinView) → (j.closed ≡ true → frame_state_now.status ≡ Waiting) → j.closed ≡ false
   own_open j g = ⊎_elim (λ q. let z : Held w ≡ Waiting = sym status_is ∙ g q in let f : ⊥ = cc in absurd f) (λ f. f) (cases_Bool j.closed)
 
-  plain_block : IsPlain e → HasBlock code p inputs name b s (name k) past seat_now → HasBlock code p inputs name b' s' (name k) longer_past (touched true t.begun t.took t.cursor t.answer seat_now)
+  plain_block : IsPlain e → HasBlock code p inputs name b s (name k) past frame_state_now → HasBlock code p inputs name b' s' (name k) longer_past (touched true t.begun t.took t.cursor t.answer frame_state_now)
   plain_block is_plain (inl h) = inl (h.0, flags_same (name k) longer_past ∙ stolen_plain (λ q. s.stolen (name k ++ q ∷ [])) 1 [] past e is_plain ∙ h.1, h.2)
   plain_block is_plain (inr h) =
       let l = h.0 in
@@ -305,40 +305,40 @@ module _ (code : CodeView) (p : Source) (inputs : List ℤ) (name : ℕ → Name
         )) h.2,
       )
 
-  block_here : HasBlock code p inputs name b s (name k) past seat_now → HasBlock code p inputs name b' s' (name k) longer_past (change seat_now)
+  block_here : HasBlock code p inputs name b s (name k) past frame_state_now → HasBlock code p inputs name b' s' (name k) longer_past (change frame_state_now)
   block_here h = by t.same_block t.is_plain
     where
-      by : (c : Bool) → IsInBlock c e → HasBlock code p inputs name b' s' (name k) longer_past (touched c t.begun t.took t.cursor t.answer seat_now)
+      by : (c : Bool) → IsInBlock c e → HasBlock code p inputs name b' s' (name k) longer_past (touched c t.begun t.took t.cursor t.answer frame_state_now)
       by true is = plain_block is h
       by false is =
           let loose : ℕ → Bool = (λ q. s.stolen (name k ++ q ∷ [])) in
           inl (refl, flags_same (name k) longer_past ∙ ap (λ x. stolen_in loose 1 [] (past ++ Does x ∷ [])) is ∙ stolen_sync loose 1 [] past, refl)
 
   -- its block hasn't passed then
-  merged_now : (let x = change seat_now in x.merged) ≡ false
+  merged_now : (let x = change frame_state_now in x.merged) ≡ false
   merged_now = by t.same_block t.unmerged
     where
-      by : (c : Bool) → (c ≡ true → seat_now.merged ≡ false) → cond c seat_now.merged false ≡ false
+      by : (c : Bool) → (c ≡ true → frame_state_now.merged ≡ false) → cond c frame_state_now.merged false ≡ false
       by true h = h refl
       by false h = refl
 
-  where_here : IsWhere code p inputs name b' s' k (name k) longer_past (change seat_now) seat_now.status
+  where_here : IsWhere code p inputs name b' s' k (name k) longer_past (change frame_state_now) frame_state_now.status
   where_here =
       let r = worker_on w t.worker t.at in
-      subst (λ z. IsWhere code p inputs name b' s' k (name k) longer_past (change seat_now) z) (sym status_is)
+      subst (λ z. IsWhere code p inputs name b' s' k (name k) longer_past (change frame_state_now) z) (sym status_is)
       (r.0, r.1, r.2 ∙ t.has, AfterEvent past e refl, ended_more past (Does e) t.goes ∙ lasting, (λ m. absurd (true≢false (sym m ∙ merged_now))), (λ m q. let z : due.Answer t.answer ≡ due.Sync = q in cc))
 
-  pub itself : Sits code p inputs name b s k t.seat → Sits code p inputs name b' s' k now
+  pub itself : Sits code p inputs name b s k t.frame_state → Sits code p inputs name b' s' k now
   itself o =
-      let x = seat_now in
+      let x = frame_state_now in
       let same : o.frame ≡ t.frame = (let q : Some o.frame ≡ Some t.frame = sym o.here ∙ t.here in cc) in record {
         frame = record t.frame { deeds = longer_past };
         here = here_at;
         named = subst (λ (f : Frame FrameEnv). (let v = f.what in v.name) ≡ name k) same o.named;
         number = o.number;
-        seen = seen_on t.seat (change x) what (subst (λ (f : Frame FrameEnv). Seen code p inputs name b s t.seat f.what) same o.seen);
-        creates = subst (λ (f : Frame FrameEnv). (function : ℕ) → (let a = t.seat in a.creator ≡ Some function) → let g = function_frame code.layout function in let v = f.what in g.reducers ≡ own_reducers p v.callee) same o.creates;
-        creates_none = subst (λ (f : Frame FrameEnv). (let a = t.seat in a.creator ≡ None) → let v = f.what in own_reducers p v.callee ≡ []) same o.creates_none;
+        seen = seen_on t.frame_state (change x) what (subst (λ (f : Frame FrameEnv). Seen code p inputs name b s t.frame_state f.what) same o.seen);
+        creates = subst (λ (f : Frame FrameEnv). (function : ℕ) → (let a = t.frame_state in a.creator ≡ Some function) → let g = function_frame code.layout function in let v = f.what in g.reducers ≡ own_reducers p v.callee) same o.creates;
+        creates_none = subst (λ (f : Frame FrameEnv). (let a = t.frame_state in a.creator ≡ None) → let v = f.what in own_reducers p v.callee ≡ []) same o.creates_none;
         stolen = ap (λ l. l (name k)) t.stolen ∙ o.stolen;
         children = started_does past e ∙ ap (λ (f : Frame FrameEnv). started f.deeds) (sym same) ∙ o.children;
         last = λ some. let r = o.last some in (subst (λ z. x.last < z) (sym same_length) r.0, r.1);
@@ -347,53 +347,53 @@ module _ (code : CodeView) (p : Source) (inputs : List ℤ) (name : ℕ → Name
         due = λ going. (t.cursor, refl, t.told);
         is_where = where_here;
         block = λ going. block_here (o_block same o.block);
-        written = subst (λ es. AreDeeds p new_seats name s' k longer_past es) (sym written_here)
-            (deeds_more p new_seats name s' k past (events_of k entries) (Does e) entry.event (deeds_on k past (events_of k entries) (subst (λ (f : Frame FrameEnv). AreDeeds p old_seats name s k f.deeds (events_of k entries)) same o.written))
-            (subst (λ l. IsDeed p l name s' k (Does e) entry.event) (sym t.seats_are) (deed_changed change old_seats k name p s s' sizes k (Does e) entry.event t.means)));
+        written = subst (λ es. AreDeeds p new_frame_states name s' k longer_past es) (sym written_here)
+            (deeds_more p new_frame_states name s' k past (events_of k entries) (Does e) entry.event (deeds_on k past (events_of k entries) (subst (λ (f : Frame FrameEnv). AreDeeds p old_frame_states name s k f.deeds (events_of k entries)) same o.written))
+            (subst (λ l. IsDeed p l name s' k (Does e) entry.event) (sym t.frame_states_are) (deed_changed change old_frame_states k name p s s' sizes k (Does e) entry.event t.means)));
       }
     where
-      o_block : (same : o.frame ≡ t.frame) → (let f = o.frame in has_ended f.deeds ≡ false → HasBlock code p inputs name b s (name k) f.deeds seat_now) → HasBlock code p inputs name b s (name k) past seat_now
-      o_block same h = subst (λ (f : Frame FrameEnv). has_ended f.deeds ≡ false → HasBlock code p inputs name b s (name k) f.deeds seat_now) same h t.goes
+      o_block : (same : o.frame ≡ t.frame) → (let f = o.frame in has_ended f.deeds ≡ false → HasBlock code p inputs name b s (name k) f.deeds frame_state_now) → HasBlock code p inputs name b s (name k) past frame_state_now
+      o_block same h = subst (λ (f : Frame FrameEnv). has_ended f.deeds ≡ false → HasBlock code p inputs name b s (name k) f.deeds frame_state_now) same h t.goes
 
-  pub seats_sit : (j : ℕ) (a : Activation FrameState) → slice_get new_seats j ≡ Some a → Sits code p inputs name b' s' j a
-  seats_sit j a at = by (nat_eq k j) refl
+  pub frame_states_sit : (j : ℕ) (a : Activation FrameState) → slice_get new_frame_states j ≡ Some a → Sits code p inputs name b' s' j a
+  frame_states_sit j a at = by (nat_eq k j) refl
     where
       by : (c : Bool) → nat_eq k j ≡ c → Sits code p inputs name b' s' j a
       by true q =
           let same : k ≡ j = eqb-true k j q in
-          let is : now ≡ a = (let z : Some now ≡ Some a = sym now_at ∙ ap (λ i. slice_get new_seats i) same ∙ at in cc) in
-          subst (λ i. Sits code p inputs name b' s' i a) same (subst (λ z. Sits code p inputs name b' s' k z) is (itself (sh.sits k t.seat t.sits)))
+          let is : now ≡ a = (let z : Some now ≡ Some a = sym now_at ∙ ap (λ i. slice_get new_frame_states i) same ∙ at in cc) in
+          subst (λ i. Sits code p inputs name b' s' i a) same (subst (λ z. Sits code p inputs name b' s' k z) is (itself (sh.sits k t.frame_state t.sits)))
       by false q =
           let ne : k ≡ j → ⊥ = (λ r. true≢false (sym (eq-eqb k j r) ∙ q)) in
           other j a ne (off_back j a ne at) (sh.sits j a (off_back j a ne at))
 
   -- ---- workers
 
-  own_piece : (i : Instance) → carried (monoid_of i) (λ m. s'.piece m i) s'.stolen (name k) (deeds_at (s'.frames (name k))) (let x = change seat_now in x.merged) ≡ s'.piece (name k) i
+  own_piece : (i : Instance) → carried (monoid_of i) (λ m. s'.piece m i) s'.stolen (name k) (deeds_at (s'.frames (name k))) (let x = change frame_state_now in x.merged) ≡ s'.piece (name k) i
   own_piece i =
-      ap (λ f. carried (monoid_of i) (λ m. s'.piece m i) s'.stolen (name k) (deeds_at f) (let x = change seat_now in x.merged)) here_at ∙ plain (monoid_of i) (λ m. s'.piece m i) s'.stolen (name k) longer_past (let x = change seat_now in x.merged) merged_now (resuming_event past e)
+      ap (λ f. carried (monoid_of i) (λ m. s'.piece m i) s'.stolen (name k) (deeds_at f) (let x = change frame_state_now in x.merged)) here_at ∙ plain (monoid_of i) (λ m. s'.piece m i) s'.stolen (name k) longer_past (let x = change frame_state_now in x.merged) merged_now (resuming_event past e)
 
-  own_unused : (q : ℕ) → IsUsed s'.stolen (name k) (deeds_at (s'.frames (name k))) (let x = change seat_now in x.merged) q → ⊥
-  own_unused q h = unused s'.stolen (name k) longer_past (let x = change seat_now in x.merged) q merged_now (resuming_event past e) (subst (λ f. IsUsed s'.stolen (name k) (deeds_at f) (let x = change seat_now in x.merged) q) here_at h)
+  own_unused : (q : ℕ) → IsUsed s'.stolen (name k) (deeds_at (s'.frames (name k))) (let x = change frame_state_now in x.merged) q → ⊥
+  own_unused q h = unused s'.stolen (name k) longer_past (let x = change frame_state_now in x.merged) q merged_now (resuming_event past e) (subst (λ f. IsUsed s'.stolen (name k) (deeds_at f) (let x = change frame_state_now in x.merged) q) here_at h)
 
   holds_here : (u : Worker) → u.views ≡ t.views → Holds code p inputs name b' s' w u k
   holds_here u views = record {
-    seat = now;
+    frame_state = now;
     here = now_at;
     held = status_is;
     views = λ i j is. subst (λ v. IsViewOf (kind_of i) v (value_in u.views (kind_of i) j)) (sym (own_piece i)) (subst (λ h. IsViewOf (kind_of i) (s'.piece (name k) i) (value_in h (kind_of i) j)) (sym views) (t.views_are i j (instance_back i j is)));
     used = λ q h. absurd (own_unused q h);
-    bare = subst (λ n. IsBare n (value_in u.views)) (sym same_length) (subst (λ h. IsBare (length old_seats) (value_in h)) (sym views) t.bare_views);
+    bare = subst (λ n. IsBare n (value_in u.views)) (sym same_length) (subst (λ h. IsBare (length old_frame_states) (value_in h)) (sym views) t.bare_views);
   }
 
   holds_else : (v j : ℕ) (u u' : Worker) → (k ≡ j → ⊥) → u'.views ≡ u.views → Holds code p inputs name b s v u j → Holds code p inputs name b' s' v u' j
   holds_else v j u u' ne views h =
-      let x = (let a = h.seat in a.cursor) in
+      let x = (let a = h.frame_state in a.cursor) in
       let at = h.here in
-      let apart = names_differ j (get_low old_seats j h.seat at) ne in
+      let apart = names_differ j (get_low old_frame_states j h.frame_state at) ne in
       let frame_is = else_at (name j) apart in record {
-        seat = h.seat;
-        here = off_at j h.seat ne at;
+        frame_state = h.frame_state;
+        here = off_at j h.frame_state ne at;
         held = h.held;
         views = λ i q is.
             let same : carried (monoid_of i) (λ m. s'.piece m i) s'.stolen (name j) (deeds_at (s'.frames (name j))) x.merged ≡ carried (monoid_of i) (λ m. s.piece m i) s.stolen (name j) (deeds_at (s.frames (name j))) x.merged =
@@ -404,13 +404,13 @@ module _ (code : CodeView) (p : Source) (inputs : List ℤ) (name : ℕ → Name
             (subst (λ z. IsViewOf (kind_of i) z (value_in u.views (kind_of i) q)) (sym same) (h.views i q (instance_back i q is)));
         used = λ q is.
             ends_same (name j ++ q ∷ []) ∙ h.used q (subst (λ l. IsUsed l (name j) (deeds_at (s.frames (name j))) x.merged q) t.stolen (subst (λ f. IsUsed s'.stolen (name j) (deeds_at f) x.merged q) frame_is is));
-        bare = subst (λ n. IsBare n (value_in u'.views)) (sym same_length) (subst (λ z. IsBare (length old_seats) (value_in z)) (sym views) h.bare);
+        bare = subst (λ n. IsBare n (value_in u'.views)) (sym same_length) (subst (λ z. IsBare (length old_frame_states) (value_in z)) (sym views) h.bare);
       }
 
   -- a frame has one holder
   one_holder : (v : ℕ) (u : Worker) → Holds code p inputs name b s v u k → w ≡ v
   one_holder v u h =
-      let same : h.seat ≡ t.seat = (let q : Some h.seat ≡ Some t.seat = sym h.here ∙ t.sits in cc) in
+      let same : h.frame_state ≡ t.frame_state = (let q : Some h.frame_state ≡ Some t.frame_state = sym h.here ∙ t.sits in cc) in
       let q : Held w ≡ Held v = sym status_is ∙ ap (λ (a : Activation FrameState). let x = a.cursor in x.status) (sym same) ∙ h.held in
       cc
 
@@ -436,22 +436,22 @@ module _ (code : CodeView) (p : Source) (inputs : List ℤ) (name : ℕ → Name
 
   -- ---- the worker table
 
-  status_on : (j : ℕ) (a : Activation FrameState) → slice_get old_seats j ≡ Some a → (a' : Activation FrameState) × (slice_get new_seats j ≡ Some a') × ((let x = a'.cursor in x.status) ≡ (let x = a.cursor in x.status))
+  status_on : (j : ℕ) (a : Activation FrameState) → slice_get old_frame_states j ≡ Some a → (a' : Activation FrameState) × (slice_get new_frame_states j ≡ Some a') × ((let x = a'.cursor in x.status) ≡ (let x = a.cursor in x.status))
   status_on j a at = by (nat_eq k j) refl
     where
-      by : (c : Bool) → nat_eq k j ≡ c → (a' : Activation FrameState) × (slice_get new_seats j ≡ Some a') × ((let x = a'.cursor in x.status) ≡ (let x = a.cursor in x.status))
+      by : (c : Bool) → nat_eq k j ≡ c → (a' : Activation FrameState) × (slice_get new_frame_states j ≡ Some a') × ((let x = a'.cursor in x.status) ≡ (let x = a.cursor in x.status))
       by true q =
           let same : k ≡ j = eqb-true k j q in
-          let is : t.seat ≡ a = (let z : Some t.seat ≡ Some a = sym t.sits ∙ ap (λ i. slice_get old_seats i) same ∙ at in cc) in
-          (now, subst (λ i. slice_get new_seats i ≡ Some now) same now_at, ap (λ (z : Activation FrameState). let x = z.cursor in x.status) is)
+          let is : t.frame_state ≡ a = (let z : Some t.frame_state ≡ Some a = sym t.sits ∙ ap (λ i. slice_get old_frame_states i) same ∙ at in cc) in
+          (now, subst (λ i. slice_get new_frame_states i ≡ Some now) same now_at, ap (λ (z : Activation FrameState). let x = z.cursor in x.status) is)
       by false q = (a, off_at j a (λ r. true≢false (sym (eq-eqb k j r) ∙ q)) at, refl)
 
   worker_was : (v : ℕ) (u : Worker) → (let l = b'.workers in slice_get l.items v ≡ Some u) → (u' : Worker) × (let l = b.workers in slice_get l.items v ≡ Some u') × (u.offered ≡ u'.offered)
   worker_was v u at = let l = b.workers in let r = viewing_from t.views l.items w v u (subst (λ ws. slice_get ws v ≡ Some u) t.workers_are at) in (r.0, r.1, r.3)
 
-  desk_is : IsWorkerTable code p inputs name b' d
-  desk_is =
-      let o = sh.desk in
+  worker_table_is : IsWorkerTable code p inputs name b' d
+  worker_table_is =
+      let o = sh.worker_table in
       let l = b.workers in record {
         hands = o.hands ∙ sym (ap (λ ws. map (hand_of name) ws) t.workers_are ∙ viewing_hands t.views name l.items w);
         offered = o.offered ∙ sym (ap (λ ws. map (offers_of name) ws) t.workers_are ∙ viewing_offers t.views name l.items w);
@@ -508,8 +508,8 @@ module _ (code : CodeView) (p : Source) (inputs : List ℤ) (name : ℕ → Name
   tells_is : Tells code p inputs name b' s'
   tells_is =
       let o = sh.tells in record {
-        named = subst (λ l. AreNamed l name) (sym t.seats_are) (named_changed change old_seats k name (λ x. (refl, refl)) named);
-        here = λ j a at. let z = seats_sit j a at in (z.frame, z.here, z.written);
+        named = subst (λ l. AreNamed l name) (sym t.frame_states_are) (named_changed change old_frame_states k name (λ x. (refl, refl)) named);
+        here = λ j a at. let z = frame_states_sit j a at in (z.frame, z.here, z.written);
         absent = λ n none. else_at n (λ q. absent_back n none k low q) ∙ o.absent n (absent_back n none);
         joins = λ n q. joins_are n q (o.joins n q);
         going = λ z h. o.going t.was_open (more_deeds (λ ds. HasEnd ds) end_before [] h);
@@ -527,7 +527,7 @@ module _ (code : CodeView) (p : Source) (inputs : List ℤ) (name : ℕ → Name
   shown_after = record {
     tells = tells_is;
     running = t.running ∙ sh.running;
-    sits = seats_sit;
+    sits = frame_states_sit;
     unstolen = λ n none. ap (λ l. l n) t.stolen ∙ sh.unstolen n (absent_back n none);
     unwritten = λ n q none. t.unwritten n q (absent_back n none) ∙ sh.unwritten n q (absent_back n none);
     bare = λ n m q kind none there. bare_by n m q kind (absent_back n none) (λ h. there (absent_on m h)) (same_name (name k) m) refl;
@@ -537,7 +537,7 @@ module _ (code : CodeView) (p : Source) (inputs : List ℤ) (name : ℕ → Name
         let l = b'.cells in
         subst (λ z. z + size_of p (s'.frames (name j)) ≤ length l.items) (sym f.base) (subst (λ z. (let a = f.before in a.base) + z ≤ length l.items) (sizes (name j)) (subst (λ z. (let a = f.before in a.base) + size_of p (s.frames (name j)) ≤ z) (sym t.cells) (sh.within j f.before f.there)));
     holds = λ v j u at has. still_holds v j u at has;
-    desk = desk_is;
+    worker_table = worker_table_is;
     ticks = t.ticks;
     events = t.events ∙ ap (λ n. n + 1) sh.events ∙ sym (ap (λ (l : List JournalEntry). length l) t.written ∙ length_more entries entry);
     frames = t.frame_total ∙ sh.frames ∙ sym same_length;
@@ -547,7 +547,7 @@ module _ (code : CodeView) (p : Source) (inputs : List ℤ) (name : ℕ → Name
     eventless = λ j far. let l = low in let e = same_length in written_else j (λ q. omega (arith, l, e, far, q)) ∙ sh.eventless j (omega (arith, e, far));
   }
     where
-      bare_by : (n m : Name) (q : ℕ) (kind : MonoidKind) → IsAbsent old_seats name n → (IsAbsent old_seats name m → ⊥) → (c : Bool) → same_name (name k) m ≡ c → s'.piece m (Reducer n q kind) ≡ unit_of monoid_of (Reducer n q kind)
+      bare_by : (n m : Name) (q : ℕ) (kind : MonoidKind) → IsAbsent old_frame_states name n → (IsAbsent old_frame_states name m → ⊥) → (c : Bool) → same_name (name k) m ≡ c → s'.piece m (Reducer n q kind) ≡ unit_of monoid_of (Reducer n q kind)
       bare_by n m q kind none there true is = subst (λ z. s'.piece z (Reducer n q kind) ≡ unit_of monoid_of (Reducer n q kind)) (same_name-eq (name k) m is) (t.bare n q kind none)
       bare_by n m q kind none there false is = t.others (Reducer n q kind) m is ∙ sh.bare n m q kind none there
 

@@ -2,7 +2,7 @@
 --
 -- - `placed_row`, `placed_bare`, `awaited_one`: a piece's place in a row of all reducers;
 -- - `split`, `not_among`: the stolen children of a block, and the deeds that started them;
--- - `itself`, `desk_is`, `tells_is`: the frame's state, the worker table, what is shown;
+-- - `itself`, `worker_table_is`, `tells_is`: the frame's state, the worker table, what is shown;
 -- - `waits_are_shown`: the law.
 use Rattle.std.proofs.Common.{◌≡◌, ◌⊎◌, inl, inr, ⊎_elim, ◌+◌, ◌<◌, ◌≤◌, Box, ℕ, zero, suc, nat_eq, eq-eqb, eqb-true, Bool, true, false, true≢false, cond, ℤ, List, [], ◌∷◌, ◌++◌, length, map, set, slice_get, sum, Option, Some, None, refl, sym, ap, ap₂, ◌∙◌, subst, arith}
 use Rattle.std.specs.Option.{option_map}
@@ -196,11 +196,11 @@ not_among loose k ks (Invokes Call w ∷ ds) z le h = not_among loose (suc k) ks
 not_among loose k ks (Invokes Spawn w ∷ ds) z le h = not_among loose (suc k) (cond (loose k) (ks ++ k ∷ []) ks) ds z (omega (arith, le)) (off_cond (loose k) ks k z h (below_off k z (omega (arith, le))))
 
 module _ (code : CodeView) (p : Source) (inputs : List ℤ) (name : ℕ → Name) (b b' : Scheduler) (d : WorkerTable) (s : State FrameEnv View) (w k : ℕ) (sh : ShowsBy code p inputs name b d s) (quiet : is_resuming (deeds_at (s.frames (name k))) ≡ false) (h : StaysBehind code p inputs b b' w k) where
-  abbrev old_seats : List (Activation FrameState)
-  old_seats = let f = b.frames in f.items
+  abbrev old_frame_states : List (Activation FrameState)
+  old_frame_states = let f = b.frames in f.items
 
-  abbrev new_seats : List (Activation FrameState)
-  new_seats = let f = b'.frames in f.items
+  abbrev new_frame_states : List (Activation FrameState)
+  new_frame_states = let f = b'.frames in f.items
 
   abbrev old_workers : List Worker
   old_workers = let l = b.workers in l.items
@@ -208,82 +208,82 @@ module _ (code : CodeView) (p : Source) (inputs : List ℤ) (name : ℕ → Name
   abbrev new_workers : List Worker
   new_workers = let l = b'.workers in l.items
 
-  abbrev seat : FrameState
-  seat = let a = h.seat in a.cursor
+  abbrev frame_state : FrameState
+  frame_state = let a = h.frame_state in a.cursor
 
   abbrev frame : Frame FrameEnv
-  frame = let o = sh.sits k h.seat h.sits in o.frame
+  frame = let o = sh.sits k h.frame_state h.sits in o.frame
 
   abbrev what : FrameEnv
-  what = let f = (let o = sh.sits k h.seat h.sits in o.frame) in f.what
+  what = let f = (let o = sh.sits k h.frame_state h.sits in o.frame) in f.what
 
   abbrev past : List (Deed FrameEnv)
-  past = let f = (let o = sh.sits k h.seat h.sits in o.frame) in f.deeds
+  past = let f = (let o = sh.sits k h.frame_state h.sits in o.frame) in f.deeds
 
-  low : k < length old_seats
-  low = get_low old_seats k h.seat h.sits
+  low : k < length old_frame_states
+  low = get_low old_frame_states k h.frame_state h.sits
 
   here : s.frames (name k) ≡ Some frame
-  here = let o = sh.sits k h.seat h.sits in o.here
+  here = let o = sh.sits k h.frame_state h.sits in o.here
 
-  status_was : seat.status ≡ Held w
+  status_was : frame_state.status ≡ Held w
   status_was =
       let g = sh.holds w k h.worker h.at h.has in
-      let same : g.seat ≡ h.seat = (let q : Some g.seat ≡ Some h.seat = sym g.here ∙ h.sits in cc) in
+      let same : g.frame_state ≡ h.frame_state = (let q : Some g.frame_state ≡ Some h.frame_state = sym g.here ∙ h.sits in cc) in
       ap (λ (a : Activation FrameState). let x = a.cursor in x.status) (sym same) ∙ g.held
 
-  was : IsWhere code p inputs name b s k (name k) past seat (Held w)
-  was = let o = sh.sits k h.seat h.sits in subst (λ z. IsWhere code p inputs name b s k (name k) past seat z) status_was o.is_where
+  was : IsWhere code p inputs name b s k (name k) past frame_state (Held w)
+  was = let o = sh.sits k h.frame_state h.sits in subst (λ z. IsWhere code p inputs name b s k (name k) past frame_state z) status_was o.is_where
 
   -- ---- the frame's request
 
-  dues : (c : CursorView) × (seat.cursor ≡ Some c) × IsDue code p inputs what past seat.due c seat.took
-  dues = let o = sh.sits k h.seat h.sits in o.due was.4
+  dues : (c : CursorView) × (frame_state.cursor ≡ Some c) × IsDue code p inputs what past frame_state.due c frame_state.took
+  dues = let o = sh.sits k h.frame_state h.sits in o.due was.4
 
-  kept : h.came ≡ (let y = h.came in record seat { cursor = y.cursor; took = y.took })
-  kept = kept_by code p inputs seat h.came asks.Sync seat.due h.went
+  kept : h.came ≡ (let y = h.came in record frame_state { cursor = y.cursor; took = y.took })
+  kept = kept_by code p inputs frame_state h.came asks.Sync frame_state.due h.went
 
   now_due : (c : CursorView) × ((let y = h.came in y.cursor) ≡ Some c) × IsDue code p inputs what past due.Sync c (let y = h.came in y.took)
   now_due =
-      let z = standing code p inputs what past seat h.came dues.0 asks.Sync seat.due was.4 dues.1 dues.2 h.went in
-      let n = named_next code p inputs what past seat h.came dues.0 asks.Sync was.4 dues.1 dues.2 h.went in
+      let z = standing code p inputs what past frame_state h.came dues.0 asks.Sync frame_state.due was.4 dues.1 dues.2 h.went in
+      let n = named_next code p inputs what past frame_state h.came dues.0 asks.Sync was.4 dues.1 dues.2 h.went in
       (z.cursor, z.is, (z.stands tt, z.owes tt, n.0, n.1, z.small))
 
   -- ---- where frames are
 
   abbrev behind : FrameState
-  behind = let y = h.came in let z = h.after in record seat { status = Waiting; due = due.Sync; cursor = y.cursor; took = y.took; join = z.join }
+  behind = let y = h.came in let z = h.after in record frame_state { status = Waiting; due = due.Sync; cursor = y.cursor; took = y.took; join = z.join }
 
   abbrev now : Activation FrameState
-  now = let a = h.seat in record a { cursor = behind }
+  now = let a = h.frame_state in record a { cursor = behind }
 
   after_as : h.after ≡ behind
   after_as = let z = h.after in h.after_is ∙ ap (λ (y : FrameState). record y { status = Waiting; due = due.Sync; join = z.join }) kept
 
-  now_at : slice_get new_seats k ≡ Some now
+  now_at : slice_get new_frame_states k ≡ Some now
   now_at =
-      let a = h.seat in
+      let a = h.frame_state in
       let B : FrameState → Option (Activation FrameState) = (λ y. Some (record a { cursor = y })) in
-      ap (λ l. slice_get l k) h.frames ∙ changed_here (λ _. h.after) old_seats k h.seat h.sits ∙ ap B after_as
+      ap (λ l. slice_get l k) h.frames ∙ changed_here (λ _. h.after) old_frame_states k h.frame_state h.sits ∙ ap B after_as
 
-  else_at : (j : ℕ) → (k ≡ j → ⊥) → slice_get new_seats j ≡ slice_get old_seats j
-  else_at j ne = ap (λ l. slice_get l j) h.frames ∙ changed_off (λ _. h.after) old_seats k j ne
+  else_at : (j : ℕ) → (k ≡ j → ⊥) → slice_get new_frame_states j ≡ slice_get old_frame_states j
+  else_at j ne = ap (λ l. slice_get l j) h.frames ∙ changed_off (λ _. h.after) old_frame_states k j ne
 
-  same_length : length new_seats ≡ length old_seats
-  same_length = ap (λ (l : List (Activation FrameState)). length l) h.frames ∙ changed_length (λ _. h.after) old_seats k
+  same_length : length new_frame_states ≡ length old_frame_states
+  same_length = ap (λ (l : List (Activation FrameState)). length l) h.frames ∙ changed_length (λ _. h.after) old_frame_states k
 
-  on : carries.Carries old_seats new_seats
-  on = subst (λ l. carries.Carries old_seats l) (sym h.frames) (carries.carries_changed (λ _. h.after) old_seats k)
+  on : carries.Carries old_frame_states new_frame_states
+  on = subst (λ l. carries.Carries old_frame_states l) (sym h.frames) (carries.carries_changed (λ _. h.after) old_frame_states k)
 
   pub data Which (j : ℕ) (a : Activation FrameState) : Type 0 where
     behind_is : k ≡ j → now ≡ a → Which j a
-    stays : (k ≡ j → ⊥) → slice_get old_seats j ≡ Some a → Which j a
+    stays : (k ≡ j → ⊥) → slice_get old_frame_states j ≡ Some a → Which j a
 
-  which : (j : ℕ) (a : Activation FrameState) → slice_get new_seats j ≡ Some a → Which j a
+  which : (j : ℕ) (a : Activation FrameState) → slice_get new_frame_states j ≡ Some a → Which j a
   which j a at = by (nat_eq k j) refl
     where
       by : (c : Bool) → nat_eq k j ≡ c → Which j a
-      by true q = let same : k ≡ j = eqb-true k j q in behind_is same (let z : Some now ≡ Some a = sym now_at ∙ ap (λ i. slice_get new_seats i) same ∙ at in cc)
+      by true q = let same : k ≡ j = eqb-true k j q in behind_is same (let z : Some now ≡ Some a = sym now_at ∙ ap (λ i. slice_get new_frame_states i) same ∙ at in cc)
       by false q = let ne : k ≡ j → ⊥ = (λ z. true≢false (sym (eq-eqb k j z) ∙ q)) in stays ne (sym (else_at j ne) ∙ at)
 
   -- ---- workers
@@ -309,20 +309,20 @@ module _ (code : CodeView) (p : Source) (inputs : List ℤ) (name : ℕ → Name
   more : (m : Name) (q : ℕ) → q < size_of p (s.frames m) → q < size_of p (s.frames m)
   more m q lt = lt
 
-  instance_back : (i : Instance) (j : numbered.Instance) → IsInstance p new_seats name i j → IsInstance p old_seats name i j
+  instance_back : (i : Instance) (j : numbered.Instance) → IsInstance p new_frame_states name i j → IsInstance p old_frame_states name i j
   instance_back Output j g = g
   instance_back (Reducer m q kind) j g = (g.0, subst (λ z. g.0 < z) same_length g.1, g.2, g.3, g.4)
 
-  cell_back : (c : Cell) (n : ℕ) → IsCell p new_seats name s c n → IsCell p old_seats name s c n
+  cell_back : (c : Cell) (n : ℕ) → IsCell p new_frame_states name s c n → IsCell p old_frame_states name s c n
   cell_back (Global g) n it = it
   cell_back (Own m q) n it =
-      let r = carries.carried_back old_seats new_seats on same_length it.0 it.1 it.2 in
+      let r = carries.carried_back old_frame_states new_frame_states on same_length it.0 it.1 it.2 in
       (it.0, r.0, r.1, it.3, it.4 ∙ ap (λ (a : Activation FrameState). a.base + q) r.2, it.5)
 
-  absent_back : (n : Name) → IsAbsent new_seats name n → IsAbsent old_seats name n
+  absent_back : (n : Name) → IsAbsent new_frame_states name n → IsAbsent old_frame_states name n
   absent_back n none = λ j at. none j (subst (λ z. j < z) (sym same_length) at)
 
-  absent_on : (n : Name) → IsAbsent old_seats name n → IsAbsent new_seats name n
+  absent_on : (n : Name) → IsAbsent old_frame_states name n → IsAbsent new_frame_states name n
   absent_on n none = λ j at. none j (subst (λ z. j < z) same_length at)
 
   -- ---- blocks
@@ -368,7 +368,7 @@ module _ (code : CodeView) (p : Source) (inputs : List ℤ) (name : ℕ → Name
         due = o.due;
         is_where = where_else j (name j) f.deeds x x.status off o.is_where;
         block = λ going. block_else (name j) f.deeds x (o.block going);
-        written = subst (λ es. AreDeeds p new_seats name s j f.deeds es) (sym (written_now j)) (carries.deeds_on old_seats new_seats on name p s s more j f.deeds (events_of j e.items) o.written);
+        written = subst (λ es. AreDeeds p new_frame_states name s j f.deeds es) (sym (written_now j)) (carries.deeds_on old_frame_states new_frame_states on name p s s more j f.deeds (events_of j e.items) o.written);
       }
 
   -- ---- the frame's block
@@ -385,44 +385,44 @@ module _ (code : CodeView) (p : Source) (inputs : List ℤ) (name : ℕ → Name
   abbrev block_now : JoinView
   block_now = arrived_at (let y = h.came in block_in y.join) (let y = h.came in y.children + 1) true (let u = h.worker in product u.views)
 
-  block_is : block ≡ block_in seat.join
+  block_is : block ≡ block_in frame_state.join
   block_is = ap (λ (y : FrameState). block_in y.join) kept
 
   key_is : key ≡ started past + 1
-  key_is = let o = sh.sits k h.seat h.sits in ap (λ (y : FrameState). y.children + 1) kept ∙ ap (λ n. n + 1) (sym o.children)
+  key_is = let o = sh.sits k h.frame_state h.sits in ap (λ (y : FrameState). y.children + 1) kept ∙ ap (λ n. n + 1) (sym o.children)
 
   kept_before : Keeps code p inputs name b s (name k) past block
   kept_before =
-      let o = sh.sits k h.seat h.sits in
+      let o = sh.sits k h.frame_state h.sits in
       ⊎_elim (λ g. let e : block ≡ opening = block_is ∙ ap (λ z. block_in z) g.0 in subst (λ j. Keeps code p inputs name b s (name k) past j) (sym e) (opening_keeps code p inputs name b s (name k) past g.1))
-      (λ g. let l = g.0 in let e : block ≡ shown l.value = block_is ∙ block_of seat.join g.0 g.1 in
+      (λ g. let l = g.0 in let e : block ≡ shown l.value = block_is ∙ block_of frame_state.join g.0 g.1 in
       ⊎_elim (λ m. absurd (true≢false (sym m ∙ h.unmerged))) (λ z. subst (λ j. Keeps code p inputs name b s (name k) past j) (sym e) z.0) g.2)
       (o.block was.4)
 
   open_before : block.closed ≡ false
   open_before =
-      let o = sh.sits k h.seat h.sits in
+      let o = sh.sits k h.frame_state h.sits in
       ⊎_elim (λ g. let e : block ≡ opening = block_is ∙ ap (λ z. block_in z) g.0 in ap (λ (j : JoinView). j.closed) e)
-      (λ g. let l = g.0 in let e : block ≡ shown l.value = block_is ∙ block_of seat.join g.0 g.1 in
+      (λ g. let l = g.0 in let e : block ≡ shown l.value = block_is ∙ block_of frame_state.join g.0 g.1 in
       ⊎_elim (λ m. absurd (true≢false (sym m ∙ h.unmerged))) (λ z. ap (λ (j : JoinView). j.closed) e ∙ open_one (shown l.value) z.1) g.2)
       (o.block was.4)
     where
-      open_one : (j : JoinView) → (j.closed ≡ true → seat.status ≡ Waiting) → j.closed ≡ false
+      open_one : (j : JoinView) → (j.closed ≡ true → frame_state.status ≡ Waiting) → j.closed ≡ false
       open_one j g = ⊎_elim (λ q. let z : Held w ≡ Waiting = sym status_was ∙ g q in let f : ⊥ = cc in absurd f) (λ f. f) (cases_Bool j.closed)
 
   -- the worker's views are the frame's own piece
-  piece_is : (i : Instance) (j : numbered.Instance) → IsInstance p old_seats name i j → IsViewOf (kind_of i) (s.piece (name k) i) (piece (kind_of i) j)
+  piece_is : (i : Instance) (j : numbered.Instance) → IsInstance p old_frame_states name i j → IsViewOf (kind_of i) (s.piece (name k) i) (piece (kind_of i) j)
   piece_is i j is =
       let g = sh.holds w k h.worker h.at h.has in
       let u = h.worker in
-      let same : g.seat ≡ h.seat = (let q : Some g.seat ≡ Some h.seat = sym g.here ∙ h.sits in cc) in
-      let merged : (let a = g.seat in let y = a.cursor in y.merged) ≡ false = ap (λ (a : Activation FrameState). let y = a.cursor in y.merged) same ∙ h.unmerged in
-      subst (λ v. IsViewOf (kind_of i) v (value_in u.views (kind_of i) j)) (plain (monoid_of i) (λ m. s.piece m i) s.stolen (name k) (deeds_at (s.frames (name k))) (let a = g.seat in let y = a.cursor in y.merged) merged quiet) (g.views i j is)
+      let same : g.frame_state ≡ h.frame_state = (let q : Some g.frame_state ≡ Some h.frame_state = sym g.here ∙ h.sits in cc) in
+      let merged : (let a = g.frame_state in let y = a.cursor in y.merged) ≡ false = ap (λ (a : Activation FrameState). let y = a.cursor in y.merged) same ∙ h.unmerged in
+      subst (λ v. IsViewOf (kind_of i) v (value_in u.views (kind_of i) j)) (plain (monoid_of i) (λ m. s.piece m i) s.stolen (name k) (deeds_at (s.frames (name k))) (let a = g.frame_state in let y = a.cursor in y.merged) merged quiet) (g.views i j is)
 
   abbrev listed : List ℕ
-  listed = stolen_at_block code p inputs name b s (name k) (let f = (let o = sh.sits k h.seat h.sits in o.frame) in f.deeds)
+  listed = stolen_at_block code p inputs name b s (name k) (let f = (let o = sh.sits k h.frame_state h.sits in o.frame) in f.deeds)
 
-  lays_now : (i : Instance) (q : numbered.Instance) → IsInstance p old_seats name i q → let r = block_now.row in
+  lays_now : (i : Instance) (q : numbered.Instance) → IsInstance p old_frame_states name i q → let r = block_now.row in
       Lays (kind_of i) (λ z. s.piece (name k ++ z ∷ []) i) (is_there code p inputs name b s (name k)) (s.piece (name k) i) (unit_of monoid_of i) listed (run_at (kind_of i) q r.run) (waits_at (kind_of i) q r.waits)
   lays_now i q is =
       let kb = kept_before in
@@ -438,7 +438,7 @@ module _ (code : CodeView) (p : Source) (inputs : List ℤ) (name : ℕ → Name
       let kb = kept_before in
       let r = block.row in
       let g = sh.holds w k h.worker h.at h.has in
-      let z = placed_bare (length old_seats) r.run r.waits key piece kb.bare kb.bare_later g.bare in record {
+      let z = placed_bare (length old_frame_states) r.run r.waits key piece kb.bare kb.bare_later g.bare in record {
         lays = lays_now;
         stolen = kb.stolen;
         arrived = λ c. absurd (true≢false c);
@@ -464,7 +464,7 @@ module _ (code : CodeView) (p : Source) (inputs : List ℤ) (name : ℕ → Name
 
   itself : Sits code p inputs name b' s k now
   itself =
-      let o = sh.sits k h.seat h.sits in
+      let o = sh.sits k h.frame_state h.sits in
       let f = o.frame in
       let e = b.journal in
       let a = h.arrives in
@@ -474,22 +474,22 @@ module _ (code : CodeView) (p : Source) (inputs : List ℤ) (name : ℕ → Name
         here = o.here;
         named = o.named;
         number = o.number;
-        seen = carries.seen_on code p inputs name b b' s s on more h.seat behind f.what o.seen;
+        seen = carries.seen_on code p inputs name b b' s s on more h.frame_state behind f.what o.seen;
         creates = o.creates;
         creates_none = o.creates_none;
         stolen = o.stolen;
         children = o.children;
-        last = λ some. let r = o.last some in (subst (λ z. seat.last < z) (sym same_length) r.0, r.1);
+        last = λ some. let r = o.last some in (subst (λ z. frame_state.last < z) (sym same_length) r.0, r.1);
         strands_are = o.strands_are;
         counted = o.counted;
         due = λ going. now_due;
         is_where = (refl, l.0, l.1, c, unfinished, was.3, was.4, h.unmerged);
         block = λ going. inr (l.0, l.1, inr (keeps_same (name k) past (shown (let x = l.0 in x.value)) (subst (λ z. Keeps code p inputs name b s (name k) past z) (sym l.2) kept_now), (λ q. refl)));
-        written = subst (λ es. AreDeeds p new_seats name s k f.deeds es) (sym (written_now k)) (carries.deeds_on old_seats new_seats on name p s s more k f.deeds (events_of k e.items) o.written);
+        written = subst (λ es. AreDeeds p new_frame_states name s k f.deeds es) (sym (written_now k)) (carries.deeds_on old_frame_states new_frame_states on name p s s more k f.deeds (events_of k e.items) o.written);
       }
 
-  seats_sit : (j : ℕ) (a : Activation FrameState) → slice_get new_seats j ≡ Some a → Sits code p inputs name b' s j a
-  seats_sit j a at = by (which j a at)
+  frame_states_sit : (j : ℕ) (a : Activation FrameState) → slice_get new_frame_states j ≡ Some a → Sits code p inputs name b' s j a
+  frame_states_sit j a at = by (which j a at)
     where
       by : Which j a → Sits code p inputs name b' s j a
       by (behind_is same is) = subst (λ i. Sits code p inputs name b' s i a) same (subst (λ z. Sits code p inputs name b' s k z) is itself)
@@ -504,9 +504,9 @@ module _ (code : CodeView) (p : Source) (inputs : List ℤ) (name : ℕ → Name
     where
       held : (z : Worker) → (w ≡ v → ⊥) → Holds code p inputs name b s v z j → Holds code p inputs name b' s v z j
       held z ne g =
-          let off : k ≡ j → ⊥ = (λ e. let y : Some h.seat ≡ Some g.seat = sym h.sits ∙ ap (λ i. slice_get old_seats i) e ∙ g.here in let x : h.seat ≡ g.seat = cc in
+          let off : k ≡ j → ⊥ = (λ e. let y : Some h.frame_state ≡ Some g.frame_state = sym h.sits ∙ ap (λ i. slice_get old_frame_states i) e ∙ g.here in let x : h.frame_state ≡ g.frame_state = cc in
           let z : Held w ≡ Held v = sym status_was ∙ ap (λ (a : Activation FrameState). let c = a.cursor in c.status) x ∙ g.held in ne (cc)) in record {
-            seat = g.seat;
+            frame_state = g.frame_state;
             here = else_at j off ∙ g.here;
             held = g.held;
             views = λ i q is. g.views i q (instance_back i q is);
@@ -516,19 +516,19 @@ module _ (code : CodeView) (p : Source) (inputs : List ℤ) (name : ℕ → Name
 
   -- ---- the worker table
 
-  abbrev desk_now : WorkerTable
-  desk_now = idle (record d { waiting = name k ∷ d.waiting }) w
+  abbrev worker_table_now : WorkerTable
+  worker_table_now = idle (record d { waiting = name k ∷ d.waiting }) w
 
-  desk_is : IsWorkerTable code p inputs name b' desk_now
-  desk_is =
-      let o = sh.desk in record {
+  worker_table_is : IsWorkerTable code p inputs name b' worker_table_now
+  worker_table_is =
+      let o = sh.worker_table in record {
         hands = ap (λ hs. set hs w None) o.hands ∙ sym (altering.altered_set (idling h.views) (hand_of name) None old_workers w (λ u. refl)) ∙ ap (λ ws. map (hand_of name) ws) (sym h.workers);
         offered = o.offered ∙ sym (altering.altered_map (idling h.views) (offers_of name) old_workers w (λ u. refl)) ∙ ap (λ ws. map (offers_of name) ws) (sym h.workers);
         total = h.offered ∙ o.total ∙ ap (λ ns. sum ns) (sym (ap (λ ws. map (λ (u : Worker). let f = u.offered in length f.items) ws) h.workers ∙ altering.altered_map (idling h.views) (λ (u : Worker). let f = u.offered in length f.items) old_workers w (λ u. refl)));
         places = λ v q j u at has.
             let r = worker_was v u at in
             let g = o.places v q j r.0 r.1 (subst (λ f. slice_get f.items q ≡ Some j) (offers_same v r.0 u r.2) has) in
-            let ne : k ≡ j → ⊥ = (λ e. let y : Some h.seat ≡ Some g.0 = sym h.sits ∙ ap (λ i. slice_get old_seats i) e ∙ g.1 in let x : h.seat ≡ g.0 = cc in
+            let ne : k ≡ j → ⊥ = (λ e. let y : Some h.frame_state ≡ Some g.0 = sym h.sits ∙ ap (λ i. slice_get old_frame_states i) e ∙ g.1 in let x : h.frame_state ≡ g.0 = cc in
             let z : Held w ≡ Offered v = sym status_was ∙ ap (λ (a : Activation FrameState). let c = a.cursor in c.status) x ∙ g.2 in let f : ⊥ = cc in f) in
             (g.0, else_at j ne ∙ g.1, g.2);
         once = λ v q i j u at has also.
@@ -538,31 +538,31 @@ module _ (code : CodeView) (p : Source) (inputs : List ℤ) (name : ℕ → Name
         present = λ n is none. ⊎_elim (λ e. absent_back n none k low e) (λ y. o.present n y (absent_back n none)) is;
       }
     where
-      waits_as : (j : ℕ) (a : Activation FrameState) → slice_get new_seats j ≡ Some a → ((let x = a.cursor in x.status ≡ Waiting) → IsIn (name j) (name k ∷ d.waiting)) × (IsIn (name j) (name k ∷ d.waiting) → let x = a.cursor in x.status ≡ Waiting)
+      waits_as : (j : ℕ) (a : Activation FrameState) → slice_get new_frame_states j ≡ Some a → ((let x = a.cursor in x.status ≡ Waiting) → IsIn (name j) (name k ∷ d.waiting)) × (IsIn (name j) (name k ∷ d.waiting) → let x = a.cursor in x.status ≡ Waiting)
       waits_as j a at = by (which j a at)
         where
           by : Which j a → ((let x = a.cursor in x.status ≡ Waiting) → IsIn (name j) (name k ∷ d.waiting)) × (IsIn (name j) (name k ∷ d.waiting) → let x = a.cursor in x.status ≡ Waiting)
           by (behind_is same is) = ((λ q. inl (ap name same)), (λ q. ap (λ (y : Activation FrameState). let x = y.cursor in x.status) (sym is)))
           by (stays ne at') =
-              let o = sh.desk in
+              let o = sh.worker_table in
               let g = o.waiting j a at' in
               let t = sh.tells in
               let n = t.named in
-              ((λ q. inr (g.0 q)), (λ q. ⊎_elim (λ e. absurd (ne (n.apart k j low (get_low old_seats j a at') e))) (λ y. g.1 y) q))
+              ((λ q. inr (g.0 q)), (λ q. ⊎_elim (λ e. absurd (ne (n.apart k j low (get_low old_frame_states j a at') e))) (λ y. g.1 y) q))
 
   -- ---- what is shown
 
-  base_was : (j : ℕ) (a : Activation FrameState) → slice_get new_seats j ≡ Some a → (z : Activation FrameState) × (slice_get old_seats j ≡ Some z) × (a.base ≡ z.base)
-  base_was j a at = let r = carries.carried_back old_seats new_seats on same_length j a at in (r.0, r.1, ap (λ (z : Activation FrameState). z.base) r.2)
+  base_was : (j : ℕ) (a : Activation FrameState) → slice_get new_frame_states j ≡ Some a → (z : Activation FrameState) × (slice_get old_frame_states j ≡ Some z) × (a.base ≡ z.base)
+  base_was j a at = let r = carries.carried_back old_frame_states new_frame_states on same_length j a at in (r.0, r.1, ap (λ (z : Activation FrameState). z.base) r.2)
 
   tells_is : Tells code p inputs name b' s
   tells_is =
       let o = sh.tells in
       let J : FrameState → FrameState = (λ y. let x = h.after in record y { status = x.status; due = x.due; cursor = x.cursor; took = x.took; join = x.join }) in
-      let same : J seat ≡ h.after = sym (after_as ∙ ap (λ (x : FrameState). record seat { status = x.status; due = x.due; cursor = x.cursor; took = x.took; join = x.join }) (sym after_as)) in
+      let same : J frame_state ≡ h.after = sym (after_as ∙ ap (λ (x : FrameState). record frame_state { status = x.status; due = x.due; cursor = x.cursor; took = x.took; join = x.join }) (sym after_as)) in
       record {
-        named = subst (λ l. AreNamed l name) (sym h.frames) (subst (λ l. AreNamed l name) (changed_known J (λ _. h.after) old_seats k h.seat h.sits same) (named_changed J old_seats k name (λ x. (refl, refl)) o.named));
-        here = λ j a at. let z = seats_sit j a at in (z.frame, z.here, z.written);
+        named = subst (λ l. AreNamed l name) (sym h.frames) (subst (λ l. AreNamed l name) (changed_known J (λ _. h.after) old_frame_states k h.frame_state h.sits same) (named_changed J old_frame_states k name (λ x. (refl, refl)) o.named));
+        here = λ j a at. let z = frame_states_sit j a at in (z.frame, z.here, z.written);
         absent = λ n none. o.absent n (absent_back n none);
         joins = o.joins;
         going = λ z. o.going h.was_open;
@@ -577,11 +577,11 @@ module _ (code : CodeView) (p : Source) (inputs : List ℤ) (name : ℕ → Name
             omega (arith, old, u, v);
       }
 
-  shown_after : ShowsBy code p inputs name b' desk_now s
+  shown_after : ShowsBy code p inputs name b' worker_table_now s
   shown_after = record {
     tells = tells_is;
     running = sh.running;
-    sits = seats_sit;
+    sits = frame_states_sit;
     unstolen = λ n none. sh.unstolen n (absent_back n none);
     unwritten = λ n q none. sh.unwritten n q (absent_back n none);
     bare = λ n m q kind none there. sh.bare n m q kind (absent_back n none) (λ g. there (absent_on m g));
@@ -593,7 +593,7 @@ module _ (code : CodeView) (p : Source) (inputs : List ℤ) (name : ℕ → Name
         let v = ap (λ (l : List ℤ). length l) h.cells in
         omega (arith, old, u, v);
     holds = still_holds;
-    desk = desk_is;
+    worker_table = worker_table_is;
     ticks = sh.ticks ∙ sym h.ticks;
     events = sh.events ∙ sym (ap (λ (l : List JournalEntry). length l) h.journal);
     frames = sh.frames ∙ sym same_length;
@@ -605,13 +605,13 @@ module _ (code : CodeView) (p : Source) (inputs : List ℤ) (name : ℕ → Name
 
   hand_is : slice_get d.hands w ≡ Some (Some (name k))
   hand_is =
-      let o = sh.desk in
+      let o = sh.worker_table in
       ap (λ hs. slice_get hs w) o.hands ∙ slice_get-map (hand_of name) old_workers w ∙ ap (λ u. option_map (hand_of name) u) h.at ∙ ap (λ f. Some (option_map name f)) h.has
 
   pub waited : (d' : WorkerTable) × Chooses p inputs s d (Run (suc w)) Waited s d' × ShowsBy code p inputs name b' d' s
   waited =
       let n = now_due in
-      (desk_now, waits w (name k) frame hand_is (record { here = here; next = (let y = n.2 in y.2); goes_on = was.3 }) unfinished, shown_after)
+      (worker_table_now, waits w (name k) frame hand_is (record { here = here; next = (let y = n.2 in y.2); goes_on = was.3 }) unfinished, shown_after)
 
 pub waits_are_shown : (code : CodeView) (p : Source) (inputs : List ℤ) → WaitsAreShown code p inputs
 waits_are_shown code p inputs name b b' d s w k sh quiet h = waited code p inputs name b b' d s w k sh quiet h

@@ -63,7 +63,7 @@ module _ (code : CodeView) (p : Source) (inputs : List ℤ) where
   -- a frame's result is stored in the cell for it
   abbrev pub ResultsAreShown : Type 0
   ResultsAreShown =
-      (name : ℕ → Name) (b b' : Scheduler) (d : WorkerTable) (s : State FrameEnv View) (w k n : ℕ) (v : ℤ) → IsShown name b d s → (h : HasCome code p inputs b w k (asks.Result v)) → (let a = h.seat in a.result ≡ Some n)
+      (name : ℕ → Name) (b b' : Scheduler) (d : WorkerTable) (s : State FrameEnv View) (w k n : ℕ) (v : ℤ) → IsShown name b d s → (h : HasCome code p inputs b w k (asks.Result v)) → (let a = h.frame_state in a.result ≡ Some n)
       → (let c = b.cells in let u = h.worker in Notes code p inputs b b' w k h.came (answered answers.Done h.came) (events.Write n v) (slice_set c.items n v) u.views) → IsDone code p inputs name b' d s w
 
   -- a frame creates a reducer, whose view is the unit

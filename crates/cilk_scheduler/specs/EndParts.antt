@@ -68,26 +68,26 @@ module _ (code : CodeView) (p : Source) (inputs : List ℤ) where
   abbrev pub FramesGoBack : Type 0
   FramesGoBack =
       (name : ℕ → Name) (b b' : Scheduler) (d : WorkerTable) (s : State FrameEnv View) (w k : ℕ) (v : ℤ) → ShowsBy code p inputs name b d s → (h : HasCome code p inputs b w (suc k) (asks.End v)) (went held : List (Activation FrameState)) (views : Hypermap) (viewed others : List Worker) (above : Activation FrameState)
-      → HasRetired b w (suc k) v h went views → (let a = h.seat in let x = a.cursor in x.stolen ≡ false) → (let a = h.seat in let x = a.cursor in slice_get went x.parent ≡ Some above) → (let l = b.workers in viewed ≡ viewing views l.items w)
-      → (let a = h.seat in let x = a.cursor in let y = above.cursor in Seeks x.parent y.status viewed others b.offered b'.offered) → (let a = h.seat in let x = a.cursor in held ≡ changed (moved_to (Held w)) went x.parent)
-      → (let a = h.seat in let x = a.cursor in let l = b'.workers in l.items ≡ altered (working x.parent) others w) → b'.outcome ≡ b.outcome → IsFinished b b' (suc k) held → GoesBack code p inputs b b' w (suc k) v h
+      → HasRetired b w (suc k) v h went views → (let a = h.frame_state in let x = a.cursor in x.stolen ≡ false) → (let a = h.frame_state in let x = a.cursor in slice_get went x.parent ≡ Some above) → (let l = b.workers in viewed ≡ viewing views l.items w)
+      → (let a = h.frame_state in let x = a.cursor in let y = above.cursor in Seeks x.parent y.status viewed others b.offered b'.offered) → (let a = h.frame_state in let x = a.cursor in held ≡ changed (moved_to (Held w)) went x.parent)
+      → (let a = h.frame_state in let x = a.cursor in let l = b'.workers in l.items ≡ altered (working x.parent) others w) → b'.outcome ≡ b.outcome → IsFinished b b' (suc k) held → GoesBack code p inputs b b' w (suc k) v h
 
   -- A frame beside which the continuation was stolen: its piece has arrived at its parent's block.
   -- If the block passes, the worker holds the parent.
   abbrev pub PiecesAreHandedIn : Type 0
   PiecesAreHandedIn =
       (name : ℕ → Name) (b b' : Scheduler) (d : WorkerTable) (s : State FrameEnv View) (w k : ℕ) (v : ℤ) → ShowsBy code p inputs name b d s → (h : HasCome code p inputs b w (suc k) (asks.End v)) (went brought held : List (Activation FrameState)) (views left : Hypermap) (viewed : List Worker) (above : Activation FrameState) (joined : FrameState) (passes : Bool)
-      → HasRetired b w (suc k) v h went views → (let a = h.seat in let x = a.cursor in x.stolen ≡ true) → (let a = h.seat in let x = a.cursor in slice_get went x.parent ≡ Some above)
-      → (let a = h.seat in let x = a.cursor in Brings above.cursor x.ordinal views passes joined left) → (let a = h.seat in let x = a.cursor in brought ≡ changed (λ _. joined) went x.parent)
-      → (let a = h.seat in let x = a.cursor in held ≡ cond passes (changed (moved_to (Held w)) (changed passed brought x.parent) x.parent) brought) → (let l = b.workers in viewed ≡ viewing left l.items w)
-      → (let a = h.seat in let x = a.cursor in let l = b'.workers in l.items ≡ altered (cond passes (working x.parent) freed) viewed w) → b'.offered ≡ b.offered → b'.outcome ≡ b.outcome → IsFinished b b' (suc k) held → HandsIn code p inputs b b' w (suc k) v h
+      → HasRetired b w (suc k) v h went views → (let a = h.frame_state in let x = a.cursor in x.stolen ≡ true) → (let a = h.frame_state in let x = a.cursor in slice_get went x.parent ≡ Some above)
+      → (let a = h.frame_state in let x = a.cursor in Brings above.cursor x.ordinal views passes joined left) → (let a = h.frame_state in let x = a.cursor in brought ≡ changed (λ _. joined) went x.parent)
+      → (let a = h.frame_state in let x = a.cursor in held ≡ cond passes (changed (moved_to (Held w)) (changed passed brought x.parent) x.parent) brought) → (let l = b.workers in viewed ≡ viewing left l.items w)
+      → (let a = h.frame_state in let x = a.cursor in let l = b'.workers in l.items ≡ altered (cond passes (working x.parent) freed) viewed w) → b'.offered ≡ b.offered → b'.outcome ≡ b.outcome → IsFinished b b' (suc k) held → HandsIn code p inputs b b' w (suc k) v h
 
   -- The parent of a frame that a worker holds is in the list. If the continuation beside the frame
   -- was stolen, its piece may arrive at the parent's block.
   abbrev pub PiecesMayArrive : Type 0
   PiecesMayArrive =
       (name : ℕ → Name) (b : Scheduler) (d : WorkerTable) (s : State FrameEnv View) (w k : ℕ) (v : ℤ) → IsShown code p inputs name b d s → OutliveChildren s → (h : HasCome code p inputs b w (suc k) (asks.End v))
-      → let a = h.seat in
+      → let a = h.frame_state in
       let x = a.cursor in
       let f = b.frames in
       (above : Activation FrameState) × (slice_get f.items x.parent ≡ Some above) × (x.stolen ≡ true → let y = above.cursor in (l : _) × (y.join ≡ Some l) × MayArrive (shown l.value) x.ordinal false)

@@ -55,7 +55,7 @@ module _ (code : CodeView) (p : Source) (inputs : List ℤ) where
   -- The worker's views lose the frame's own reducers, its end is recorded, and its ticks are
   -- counted.
   pub record Closes (b b' : Scheduler) (w k : ℕ) (v : ℤ) (h : HasCome code p inputs b w k (asks.End v)) (views : Hypermap) : Type 0 where
-    pub retires : let u = h.worker in RetiresOwn code.layout h.seat u.views views
+    pub retires : let u = h.worker in RetiresOwn code.layout h.frame_state u.views views
     pub journal : let e = b.journal in let l = b'.journal in l.items ≡ e.items ++ (record { frame = k; event = events.End }) ∷ []
     pub cells : let c = b.cells in let d = b'.cells in d.items ≡ c.items
     pub ticks : let x = h.came in b'.ticks ≡ b.ticks + (x.took - x.counted)
@@ -77,11 +77,11 @@ module _ (code : CodeView) (p : Source) (inputs : List ℤ) where
     pub above : Activation FrameState
     pub others : List Worker
     pub closes : Closes b b' w k v h views
-    pub was_kept : let a = h.seat in let x = a.cursor in x.stolen ≡ false
-    pub sits : let a = h.seat in let x = a.cursor in let f = b.frames in slice_get f.items x.parent ≡ Some above
-    pub frames : let a = h.seat in let x = a.cursor in let f = b.frames in let g = b'.frames in g.items ≡ changed (moved_to (Held w)) (changed (λ _. counted (finished h.came)) f.items k) x.parent
-    pub back : let a = h.seat in let x = a.cursor in let y = above.cursor in TakesBack b x.parent y.status others b'.offered
-    pub workers : let a = h.seat in let x = a.cursor in let m = b'.workers in m.items ≡ altered (holding x.parent views) others w
+    pub was_kept : let a = h.frame_state in let x = a.cursor in x.stolen ≡ false
+    pub sits : let a = h.frame_state in let x = a.cursor in let f = b.frames in slice_get f.items x.parent ≡ Some above
+    pub frames : let a = h.frame_state in let x = a.cursor in let f = b.frames in let g = b'.frames in g.items ≡ changed (moved_to (Held w)) (changed (λ _. counted (finished h.came)) f.items k) x.parent
+    pub back : let a = h.frame_state in let x = a.cursor in let y = above.cursor in TakesBack b x.parent y.status others b'.offered
+    pub workers : let a = h.frame_state in let x = a.cursor in let m = b'.workers in m.items ≡ altered (holding x.parent views) others w
     pub outcome : b'.outcome ≡ b.outcome
 
   -- A frame ends beside which the continuation was stolen: its piece arrives at its parent's block.
@@ -94,12 +94,12 @@ module _ (code : CodeView) (p : Source) (inputs : List ℤ) where
     pub joined : FrameState
     pub passes : Bool
     pub closes : Closes b b' w k v h views
-    pub was_stolen : let a = h.seat in let x = a.cursor in x.stolen ≡ true
-    pub sits : let a = h.seat in let x = a.cursor in let f = b.frames in slice_get f.items x.parent ≡ Some above
-    pub arrives : let a = h.seat in let x = a.cursor in let y = above.cursor in Arrives (block_in y.join) x.ordinal false (product views) passes (block_in joined.join) left
+    pub was_stolen : let a = h.frame_state in let x = a.cursor in x.stolen ≡ true
+    pub sits : let a = h.frame_state in let x = a.cursor in let f = b.frames in slice_get f.items x.parent ≡ Some above
+    pub arrives : let a = h.frame_state in let x = a.cursor in let y = above.cursor in Arrives (block_in y.join) x.ordinal false (product views) passes (block_in joined.join) left
     pub joined_is : joined ≡ (let y = above.cursor in record y { join = joined.join })
-    pub frames : let a = h.seat in let x = a.cursor in let f = b.frames in let g = b'.frames in g.items ≡ changed (λ _. cond passes (moved_to (Held w) (passed joined)) joined) (changed (λ _. counted (finished h.came)) f.items k) x.parent
-    pub workers : let a = h.seat in let x = a.cursor in let l = b.workers in let m = b'.workers in m.items ≡ altered (cond passes (holding x.parent left) (idling left)) l.items w
+    pub frames : let a = h.frame_state in let x = a.cursor in let f = b.frames in let g = b'.frames in g.items ≡ changed (λ _. cond passes (moved_to (Held w) (passed joined)) joined) (changed (λ _. counted (finished h.came)) f.items k) x.parent
+    pub workers : let a = h.frame_state in let x = a.cursor in let l = b.workers in let m = b'.workers in m.items ≡ altered (cond passes (holding x.parent left) (idling left)) l.items w
     pub offered : b'.offered ≡ b.offered
     pub outcome : b'.outcome ≡ b.outcome
 

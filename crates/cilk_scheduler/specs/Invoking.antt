@@ -37,7 +37,7 @@ pub record IsChild (code : CodeView) (frames : List (Activation FrameState)) (k 
   pub cursor : CursorView
   pub stands : (p : Source) (inputs : List ℤ) → Behaves p code → CalleeIsFit p callee → Stands code inputs p callee cursor [] 0
   pub owes : cursor.owed ≡ owed_for Begin
-  pub seat : (top : Activation FrameState) → slice_get frames k ≡ Some top → a.cursor ≡ seated k (let x = top.cursor in x.children + 1) how worker cursor
+  pub frame_state : (top : Activation FrameState) → slice_get frames k ≡ Some top → a.cursor ≡ seated k (let x = top.cursor in x.children + 1) how worker cursor
   pub number : a.number ≡ length frames + 1
   pub base_is : a.base ≡ base
   pub sees : (p : Source) (scope : Scope ℕ Instance) → SeesAt frames k scope → HasScope frames a (home_of p callee (length frames + 1) base (given_to callee scope) ∷ outer_of callee scope)

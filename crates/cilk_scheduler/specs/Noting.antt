@@ -33,10 +33,10 @@ use Rattle.cilk_scheduler.specs.Steps.{HasCome, Notes}
 -- worker w holds frame k
 pub record HasFrame (b : Scheduler) (w k : ℕ) : Type 0 where
   pub worker : Worker
-  pub seat : Activation FrameState
+  pub frame_state : Activation FrameState
   pub at : let l = b.workers in slice_get l.items w ≡ Some worker
   pub has : worker.frame ≡ Some k
-  pub sits : let f = b.frames in slice_get f.items k ≡ Some seat
+  pub sits : let f = b.frames in slice_get f.items k ≡ Some frame_state
 
 -- the place means a cell of the scheduler to frame k
 abbrev pub CellIsThere : Scheduler → ℕ → Place → Type 0
@@ -72,21 +72,21 @@ SightStays =
 module _ (code : CodeView) (p : Source) (inputs : List ℤ) where
   -- the frame that a worker holds may continue
   abbrev pub FramesAreReady : Type 0
-  FramesAreReady = (name : ℕ → Name) (b : Scheduler) (d : WorkerTable) (s : State FrameEnv View) (w k : ℕ) → ShowsBy code p inputs name b d s → (f : HasFrame b w k) → (let a = f.seat in IsReady code inputs a.cursor)
+  FramesAreReady = (name : ℕ → Name) (b : Scheduler) (d : WorkerTable) (s : State FrameEnv View) (w k : ℕ) → ShowsBy code p inputs name b d s → (f : HasFrame b w k) → (let a = f.frame_state in IsReady code inputs a.cursor)
 
   -- once it has continued, no more ticks are counted than it used
   abbrev pub TicksAreMore : Type 0
   TicksAreMore =
-      (name : ℕ → Name) (b : Scheduler) (d : WorkerTable) (s : State FrameEnv View) (w k : ℕ) (ask : Ask) (came : FrameState) → ShowsBy code p inputs name b d s → (f : HasFrame b w k) → (let a = f.seat in WentOn code inputs a.cursor ask came) → came.counted ≤ came.took
+      (name : ℕ → Name) (b : Scheduler) (d : WorkerTable) (s : State FrameEnv View) (w k : ℕ) (ask : Ask) (came : FrameState) → ShowsBy code p inputs name b d s → (f : HasFrame b w k) → (let a = f.frame_state in WentOn code inputs a.cursor ask came) → came.counted ≤ came.took
 
   -- It has reached its request if its code leads there and no fault comes in place of the event.
   -- The ticks are within their limit then.
   abbrev pub FramesCome : Type 0
   FramesCome =
-      (b : Scheduler) (w k ticks : ℕ) (ask : Ask) (came : FrameState) (went : List (Activation FrameState)) (f : HasFrame b w k) → b.outcome ≡ None → (let a = f.seat in WentOn code inputs a.cursor ask came)
+      (b : Scheduler) (w k ticks : ℕ) (ask : Ask) (came : FrameState) (went : List (Activation FrameState)) (f : HasFrame b w k) → b.outcome ≡ None → (let a = f.frame_state in WentOn code inputs a.cursor ask came)
       → (let l = b.frames in went ≡ changed (λ _. came) l.items k) → ((a : Activation FrameState) → slice_get went k ≡ Some a → ticks ≡ (let x = a.cursor in x.took - x.counted))
       → (let e = b.journal in let c = b.cells in refusal (b.ticks + ticks) (length e.items) (length went) (length c.items) code.layout ask ≡ None)
-      → (h : HasCome code p inputs b w k ask) × (h.worker ≡ f.worker) × (h.seat ≡ f.seat) × (h.came ≡ came) × (b.ticks + (came.took - came.counted) ≤ MAX_TICKS)
+      → (h : HasCome code p inputs b w k ask) × (h.worker ≡ f.worker) × (h.frame_state ≡ f.frame_state) × (h.came ≡ came) × (b.ticks + (came.took - came.counted) ≤ MAX_TICKS)
 
   -- the cells that are read, written and used for results exist
   abbrev pub ReadCellsAreThere : Type 0
@@ -98,7 +98,7 @@ module _ (code : CodeView) (p : Source) (inputs : List ℤ) where
   abbrev pub ResultCellsAreThere : Type 0
   ResultCellsAreThere =
       (name : ℕ → Name) (b : Scheduler) (d : WorkerTable) (s : State FrameEnv View) (w k : ℕ) (v : ℤ) → IsShown code p inputs name b d s → (h : HasCome code p inputs b w k (asks.Result v))
-      → (n : ℕ) × (let a = h.seat in a.result ≡ Some n) × (let c = b.cells in n < length c.items)
+      → (n : ℕ) × (let a = h.frame_state in a.result ≡ Some n) × (let c = b.cells in n < length c.items)
 
   -- the reducers that requests name exist
   abbrev pub ReducersAreThere : Type 0

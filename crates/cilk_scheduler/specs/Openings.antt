@@ -28,12 +28,12 @@ use Rattle.cilk_scheduler.specs.WorkerTables.{WorkerTable}
 use Rattle.cilk_scheduler.specs.FrameStates.{seated}
 
 -- the first worker holds the first frame, the others are idle, and nothing is offered
-abbrev pub first_desk : ℕ → WorkerTable
-first_desk idle = record { hands = Some [] ∷ replicate idle None; offered = [] ∷ replicate idle []; waiting = [] }
+abbrev pub first_worker_table : ℕ → WorkerTable
+first_worker_table idle = record { hands = Some [] ∷ replicate idle None; offered = [] ∷ replicate idle []; waiting = [] }
 
 -- the first frame before its begin
-abbrev pub first_seat : CodeView → Source → CursorView → Activation FrameState → Activation FrameState
-first_seat code p c a = record a { cursor = seated 0 0 Call 0 c; number = 1; base = length p.openings; result = None; creator = Some (let l = code.layout in l.main) }
+abbrev pub first_frame_state : CodeView → Source → CursorView → Activation FrameState → Activation FrameState
+first_frame_state code p c a = record a { cursor = seated 0 0 Call 0 c; number = 1; base = length p.openings; result = None; creator = Some (let l = code.layout in l.main) }
 
 -- A well-named program is within the limits before its first event: 1,000,000 globals and 256 cells
 -- of a frame.
@@ -48,10 +48,10 @@ module _ (code : CodeView) (p : Source) (inputs : List ℤ) where
     pub cursor : CursorView
     pub first : Worker
     pub others : List Worker
-    pub frames : let f = b.frames in f.items ≡ first_seat code p cursor root ∷ []
+    pub frames : let f = b.frames in f.items ≡ first_frame_state code p cursor root ∷ []
     pub stands : Stands code inputs p callees.Root cursor [] 0
     pub owes : cursor.owed ≡ Nothing
-    pub sees : let f = b.frames in HasScope f.items (first_seat code p cursor root) (home_of p callees.Root 1 (length p.openings) [] ∷ [])
+    pub sees : let f = b.frames in HasScope f.items (first_frame_state code p cursor root) (home_of p callees.Root 1 (length p.openings) [] ∷ [])
     pub count : let l = b.cells in length l.items ≡ length p.openings + cells_of p callees.Root
     pub globals : let l = b.cells in (n : ℕ) → n < length p.openings → slice_get l.items n ≡ slice_get p.openings n
     pub own : let l = b.cells in (n : ℕ) → n < cells_of p callees.Root → slice_get l.items (length p.openings + n) ≡ Some (pos 0)
@@ -67,4 +67,4 @@ module _ (code : CodeView) (p : Source) (inputs : List ℤ) where
 
   -- A new scheduler shows the first state of the free machine.
   abbrev pub OpeningsAreShown : Type 0
-  OpeningsAreShown = IsTrue (is_well_named p) → LaysOut p code.layout → (b : Scheduler) (h : IsNew b) → (s : State FrameEnv View) × IsFirst p inputs s × (let l = h.others in ShowsBy code p inputs (λ n. []) b (first_desk (length l)) s)
+  OpeningsAreShown = IsTrue (is_well_named p) → LaysOut p code.layout → (b : Scheduler) (h : IsNew b) → (s : State FrameEnv View) × IsFirst p inputs s × (let l = h.others in ShowsBy code p inputs (λ n. []) b (first_worker_table (length l)) s)

@@ -10,7 +10,7 @@ use Rattle.cilk_runs.specs.Runs.{Name, Deed, Invokes}
 use Rattle.cilk_runs.specs.FrameEnvMachine.{has_ended}
 use Rattle.cilk_runs.specs.Reducers.{View}
 use Rattle.cilk_runs.specs.Steps.{IsFirst, OneStep, Reaches}
-use Rattle.cilk_runs.specs.FrameEnvs.{FrameEnv, Sight, world_of}
+use Rattle.cilk_runs.specs.FrameEnvs.{FrameEnv, Sight, env_of}
 use Rattle.cilk_scheduler.specs.Histories.{DidAsAsked}
 use Rattle.cilk_scheduler.specs.Ordinals.{AreCounted}
 
@@ -35,7 +35,7 @@ pub record OutliveChildren (s : State FrameEnv View) : Type 0 where
 
 -- each frame runs what was started under its name
 abbrev pub AreStarted : Source → State FrameEnv View → Type 0
-AreStarted p s = (n : Name) (f : Frame FrameEnv) → s.frames n ≡ Some f → (sight : Sight) × (let w = f.what in w ≡ world_of p n sight w.callee)
+AreStarted p s = (n : Name) (f : Frame FrameEnv) → s.frames n ≡ Some f → (sight : Sight) × (let w = f.what in w ≡ env_of p n sight w.callee)
 
 -- each child was started under its parent's name and its ordinal
 abbrev pub ChildrenAreNamed : State FrameEnv View → Type 0

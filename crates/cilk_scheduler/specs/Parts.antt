@@ -69,7 +69,7 @@ OpensAs v u = (u.frame ≡ (if nat_eq v 0 then Some 0 else None)) × (let o = u.
 abbrev pub ContinuationsAreTaken : Type 0
 ContinuationsAreTaken =
     (b b' : Scheduler) (w place k : ℕ) (h : IsOffered b w place k) (awaiting : FrameState) (without : Worker) (views : Hypermap) (awaited marked : List (Activation FrameState)) (withdrawn cleared : List Worker)
-    → (let a = h.seat in AwaitsLast a.cursor awaiting) → (let f = b.frames in awaited ≡ changed (λ _. awaiting) f.items k) → marked ≡ changed robbed awaited awaiting.last
+    → (let a = h.frame_state in AwaitsLast a.cursor awaiting) → (let f = b.frames in awaited ≡ changed (λ _. awaiting) f.items k) → marked ≡ changed robbed awaited awaiting.last
     → (let u = h.owner in without ≡ record u { offered = without.offered }) → (let u = h.owner in let o = u.offered in let l = without.offered in l.items ≡ remove o.items h.at) → (let l = b.workers in withdrawn ≡ altered (λ _. without) l.items h.victim)
     → EachKind (λ q. (j : Instance) → view_in views q j ≡ None) → cleared ≡ viewing views withdrawn w → (let l = b'.workers in l.items ≡ altered (working k) cleared w) → (let f = b'.frames in f.items ≡ changed (moved_to (Held w)) marked k)
     → b'.offered ≡ b.offered - 1 → (let c = b.cells in let d = b'.cells in d.items ≡ c.items) → (let e = b.journal in let l = b'.journal in l.items ≡ e.items) → b'.ticks ≡ b.ticks → b'.outcome ≡ b.outcome
@@ -81,20 +81,20 @@ module _ (code : CodeView) (p : Source) (inputs : List ℤ) where
   abbrev pub ContinuationsAreOffered : Type 0
   ContinuationsAreOffered =
       (name : ℕ → Name) (b : Scheduler) (d : WorkerTable) (s : State FrameEnv View) (w place victim at : ℕ) → ShowsBy code p inputs name b d s → b.outcome ≡ None → (let l = b.workers in is_idle l.items (suc w) ≡ true) → (g : (let l = b.workers in IsLocated l.items place victim at))
-      → (h : IsOffered b w place g.1) × (h.owner ≡ g.0) × (h.victim ≡ victim) × (h.at ≡ at) × (let a = h.seat in let x = a.cursor in let f = b.frames in IsOpen (block_in x.join) x.children × (x.last < length f.items))
+      → (h : IsOffered b w place g.1) × (h.owner ≡ g.0) × (h.victim ≡ victim) × (h.at ≡ at) × (let a = h.frame_state in let x = a.cursor in let f = b.frames in IsOpen (block_in x.join) x.children × (x.last < length f.items))
 
   -- A worker's frame at a sync started no child with its last event. Its own piece may arrive at
   -- its block, if that hasn't passed.
   abbrev pub OwnPiecesMayArrive : Type 0
   OwnPiecesMayArrive =
-      (name : ℕ → Name) (b : Scheduler) (d : WorkerTable) (s : State FrameEnv View) (w k : ℕ) (came : FrameState) → IsShown code p inputs name b d s → (f : HasFrame b w k) → (let a = f.seat in WentOn code inputs a.cursor asks.Sync came)
+      (name : ℕ → Name) (b : Scheduler) (d : WorkerTable) (s : State FrameEnv View) (w k : ℕ) (came : FrameState) → IsShown code p inputs name b d s → (f : HasFrame b w k) → (let a = f.frame_state in WentOn code inputs a.cursor asks.Sync came)
       → (is_resuming (deeds_at (s.frames (name k))) ≡ false) × (came.merged ≡ false → MayArrive (block_in came.join) (came.children + 1) true)
 
   -- It waits if it must.
   abbrev pub FramesStayBehind : Type 0
   FramesStayBehind =
       (name : ℕ → Name) (b b' : Scheduler) (d : WorkerTable) (s : State FrameEnv View) (w k : ℕ) (came brought : FrameState) (views : Hypermap) (went arrived : List (Activation FrameState)) (viewed : List Worker) → ShowsBy code p inputs name b d s → (f : HasFrame b w k) → b.outcome ≡ None
-      → (let a = f.seat in WentOn code inputs a.cursor asks.Sync came) → (let l = b.frames in went ≡ changed (λ _. came) l.items k) → must_wait came ≡ true → (let u = f.worker in BringsOwn came u.views brought views)
+      → (let a = f.frame_state in WentOn code inputs a.cursor asks.Sync came) → (let l = b.frames in went ≡ changed (λ _. came) l.items k) → must_wait came ≡ true → (let u = f.worker in BringsOwn came u.views brought views)
       → arrived ≡ changed (λ _. brought) went k → (let l = b'.frames in l.items ≡ changed waiting arrived k) → (let l = b.workers in viewed ≡ viewing views l.items w) → (let l = b'.workers in l.items ≡ altered freed viewed w)
       → b'.offered ≡ b.offered → (let c = b.cells in let d = b'.cells in d.items ≡ c.items) → (let e = b.journal in let l = b'.journal in l.items ≡ e.items) → b'.ticks ≡ b.ticks → b'.outcome ≡ b.outcome
       → StaysBehind code p inputs b b' w k
@@ -107,7 +107,7 @@ module _ (code : CodeView) (p : Source) (inputs : List ℤ) where
       → arrived ≡ changed (λ _. brought) went k → acted ≡ changed synced arrived k → (let l = b'.frames in l.items ≡ changed counted acted k) → ((a : Activation FrameState) → slice_get acted k ≡ Some a → b'.ticks ≡ b.ticks + (let x = a.cursor in x.took - x.counted))
       → (let e = b.journal in let l = b'.journal in l.items ≡ e.items ++ (record { frame = k; event = events.Sync }) ∷ []) → (let c = b.cells in let d = b'.cells in d.items ≡ c.items) → (let l = b.workers in let m = b'.workers in m.items ≡ viewing views l.items w)
       → b'.offered ≡ b.offered → b'.outcome ≡ b.outcome
-      → (let a = h.seat in let u = h.worker in PassesWith a.cursor u.views views) × (let c = b.cells in Notes code p inputs b b' w k h.came (synced h.came) events.Sync c.items views)
+      → (let a = h.frame_state in let u = h.worker in PassesWith a.cursor u.views views) × (let c = b.cells in Notes code p inputs b b' w k h.came (synced h.came) events.Sync c.items views)
 
   -- A scheduler is new if it was made of the first frame's cursor and activation, the global cells
   -- and that frame's cells, which hold 0, and workers, of which the first alone holds the frame.

@@ -103,22 +103,22 @@ module _ (code : CodeView) (p : Source) (inputs : List ℤ) where
   IsDue w deeds due.Sync c took = Stands code inputs p w.callee c (answers_of deeds) took × (c.owed ≡ Nothing) × (next p inputs w deeds ≡ Some Sync) × (took ≡ taken p inputs w deeds) × (took ≤ MAX_TICKS)
 
   module _ (name : ℕ → Name) (b : Scheduler) (s : State FrameEnv View) where
-    abbrev pub seats : List (Activation FrameState)
-    seats = let f = b.frames in f.items
+    abbrev pub frame_states : List (Activation FrameState)
+    frame_states = let f = b.frames in f.items
 
     -- a cell of the scheduler, and a reducer of one of its frames, by name and by number
     abbrev pub HasCell : CellBoth → Type 0
-    HasCell c = IsCell p seats name s c.0 c.1
+    HasCell c = IsCell p frame_states name s c.0 c.1
 
     abbrev pub HasReducer : ReducerBoth → MonoidKind → Type 0
-    HasReducer r k = (kind_of (r.0 k) ≡ k) × IsInstance p seats name (r.0 k) r.1
+    HasReducer r k = (kind_of (r.0 k) ≡ k) × IsInstance p frame_states name (r.0 k) r.1
 
     -- All that a frame sees, by names and by numbers at once, exists.
     pub record Seen (x : Activation FrameState) (w : FrameEnv) : Type 0 where
       pub scope : Scope CellBoth ReducerBoth
       pub target : Option CellBoth
       pub names : w.sight ≡ names_in scope
-      pub numbers : HasScope seats x (numbers_in scope)
+      pub numbers : HasScope frame_states x (numbers_in scope)
       pub goes_to : w.result ≡ option_map (λ (c : CellBoth). c.0) target
       pub lies_at : x.result ≡ option_map (λ (c : CellBoth). c.1) target
       pub sees : FrameSees p global_cell global_both HasCell HasReducer w.callee scope target
@@ -132,12 +132,12 @@ module _ (code : CodeView) (p : Source) (inputs : List ℤ) where
 
     -- The pieces at a frame's block, with its own once that has arrived.
     pub record Keeps (n : Name) (deeds : List (Deed FrameEnv)) (j : JoinView) : Type 0 where
-      pub lays : (i : Instance) (k : numbered.Instance) → IsInstance p seats name i k → let r = j.row in
+      pub lays : (i : Instance) (k : numbered.Instance) → IsInstance p frame_states name i k → let r = j.row in
           Lays (kind_of i) (λ q. s.piece (n ++ q ∷ []) i) (is_there n) (cond j.closed (s.piece n i) (unit_of monoid_of i)) (unit_of monoid_of i) (stolen_at_block n deeds) (run_at (kind_of i) k r.run) (waits_at (kind_of i) k r.waits)
       pub stolen : j.stolen ≡ greatest (stolen_at_block n deeds)
       pub arrived : j.closed ≡ false → j.arrived ≤ j.stolen
-      pub bare : let r = j.row in (run : Product) → (r.run ≡ Some run → IsBare (length seats) run)
-      pub bare_later : let r = j.row in (q : ℕ) (a : Wait Product) (run : Product) → slice_get r.waits q ≡ Some a → a.run ≡ Some run → IsBare (length seats) run
+      pub bare : let r = j.row in (run : Product) → (r.run ≡ Some run → IsBare (length frame_states) run)
+      pub bare_later : let r = j.row in (q : ℕ) (a : Wait Product) (run : Product) → slice_get r.waits q ≡ Some a → a.run ≡ Some run → IsBare (length frame_states) run
 
     -- A block has a join if a continuation of it was stolen. The frame's own piece has arrived
     -- there only if the frame waits or the block has passed.
@@ -169,23 +169,23 @@ module _ (code : CodeView) (p : Source) (inputs : List ℤ) where
       pub creates_none : x.creator ≡ None → let w = frame.what in own_reducers p w.callee ≡ []
       pub stolen : let a = x.cursor in s.stolen (name k) ≡ a.stolen
       pub children : let a = x.cursor in started frame.deeds ≡ a.children
-      pub last : let a = x.cursor in 0 < a.children → (a.last < length seats) × (name a.last ≡ name k ++ a.children ∷ [])
+      pub last : let a = x.cursor in 0 < a.children → (a.last < length frame_states) × (name a.last ≡ name k ++ a.children ∷ [])
       pub strands_are : let a = x.cursor in strands frame.deeds ≡ a.strands
       pub counted : let a = x.cursor in a.counted ≡ taken p inputs frame.what (but_last frame.deeds)
       pub due : let a = x.cursor in has_ended frame.deeds ≡ false → (c : CursorView) × (a.cursor ≡ Some c) × IsDue frame.what frame.deeds a.due c a.took
       pub is_where : let a = x.cursor in IsWhere k (name k) frame.deeds a a.status
       pub block : let a = x.cursor in has_ended frame.deeds ≡ false → HasBlock (name k) frame.deeds a
-      pub written : let e = b.journal in AreDeeds p seats name s k frame.deeds (events_of k e.items)
+      pub written : let e = b.journal in AreDeeds p frame_states name s k frame.deeds (events_of k e.items)
 
     -- a worker that holds a frame has the views of that frame
     pub record Holds (w : ℕ) (u : Worker) (k : ℕ) : Type 0 where
-      pub seat : Activation FrameState
-      pub here : slice_get seats k ≡ Some seat
-      pub held : let a = seat.cursor in a.status ≡ Held w
-      pub views : let a = seat.cursor in (i : Instance) (j : numbered.Instance) → IsInstance p seats name i j
+      pub frame_state : Activation FrameState
+      pub here : slice_get frame_states k ≡ Some frame_state
+      pub held : let a = frame_state.cursor in a.status ≡ Held w
+      pub views : let a = frame_state.cursor in (i : Instance) (j : numbered.Instance) → IsInstance p frame_states name i j
           → IsViewOf (kind_of i) (carried (monoid_of i) (λ m. s.piece m i) s.stolen (name k) (deeds_at (s.frames (name k))) a.merged) (value_in u.views (kind_of i) j)
-      pub used : let a = seat.cursor in (q : ℕ) → IsUsed s.stolen (name k) (deeds_at (s.frames (name k))) a.merged q → is_there (name k) q ≡ true
-      pub bare : IsBare (length seats) (value_in u.views)
+      pub used : let a = frame_state.cursor in (q : ℕ) → IsUsed s.stolen (name k) (deeds_at (s.frames (name k))) a.merged q → is_there (name k) q ≡ true
+      pub bare : IsBare (length frame_states) (value_in u.views)
 
   -- The worker table has the scheduler's workers, by names.
   pub record IsWorkerTable (name : ℕ → Name) (b : Scheduler) (d : WorkerTable) : Type 0 where
@@ -215,27 +215,27 @@ module _ (code : CodeView) (p : Source) (inputs : List ℤ) where
   pub record ShowsBy (name : ℕ → Name) (b : Scheduler) (d : WorkerTable) (s : State FrameEnv View) : Type 0 where
     pub tells : Tells name b s
     pub running : s.stopped ≡ None
-    pub sits : (k : ℕ) (x : Activation FrameState) → slice_get (seats name b s) k ≡ Some x → Sits name b s k x
+    pub sits : (k : ℕ) (x : Activation FrameState) → slice_get (frame_states name b s) k ≡ Some x → Sits name b s k x
     -- A frame that hasn't begun has nothing: its cells hold 0, and no piece has a view of its
     -- reducers.
-    pub unstolen : (n : Name) → IsAbsent (seats name b s) name n → s.stolen n ≡ false
-    pub unwritten : (n : Name) (q : ℕ) → IsAbsent (seats name b s) name n → s.memory (Own n q) ≡ pos 0
-    pub bare : (n m : Name) (q : ℕ) (kind : MonoidKind) → IsAbsent (seats name b s) name n → (IsAbsent (seats name b s) name m → ⊥) → s.piece m (Reducer n q kind) ≡ unit_of monoid_of (Reducer n q kind)
+    pub unstolen : (n : Name) → IsAbsent (frame_states name b s) name n → s.stolen n ≡ false
+    pub unwritten : (n : Name) (q : ℕ) → IsAbsent (frame_states name b s) name n → s.memory (Own n q) ≡ pos 0
+    pub bare : (n m : Name) (q : ℕ) (kind : MonoidKind) → IsAbsent (frame_states name b s) name n → (IsAbsent (frame_states name b s) name m → ⊥) → s.piece m (Reducer n q kind) ≡ unit_of monoid_of (Reducer n q kind)
     -- The cells, with those of all frames among them.
-    pub memory : (c : Cell) (n : ℕ) → IsCell p (seats name b s) name s c n → (let l = b.cells in slice_get l.items n ≡ Some (s.memory c))
-    pub within : (k : ℕ) (x : Activation FrameState) → slice_get (seats name b s) k ≡ Some x → (let l = b.cells in x.base + size_of p (s.frames (name k)) ≤ length l.items)
+    pub memory : (c : Cell) (n : ℕ) → IsCell p (frame_states name b s) name s c n → (let l = b.cells in slice_get l.items n ≡ Some (s.memory c))
+    pub within : (k : ℕ) (x : Activation FrameState) → slice_get (frame_states name b s) k ≡ Some x → (let l = b.cells in x.base + size_of p (s.frames (name k)) ≤ length l.items)
     -- The workers.
     pub holds : (w k : ℕ) (u : Worker) → (let l = b.workers in slice_get l.items w ≡ Some u) → u.frame ≡ Some k → Holds name b s w u k
-    pub desk : IsWorkerTable name b d
+    pub worker_table : IsWorkerTable name b d
     -- The totals.
     pub ticks : s.totals TickTotal ≡ b.ticks
     pub events : let e = b.journal in s.totals EventTotal ≡ length e.items
-    pub frames : s.totals FrameTotal ≡ length (seats name b s)
+    pub frames : s.totals FrameTotal ≡ length (frame_states name b s)
     pub cells : let l = b.cells in s.totals CellTotal ≡ length l.items
     pub few_frames : s.totals FrameTotal ≤ MAX_FRAMES
     pub few_cells : s.totals CellTotal ≤ MAX_CELLS
     -- No event belongs to a frame that doesn't exist.
-    pub eventless : (j : ℕ) → length (seats name b s) ≤ j → let e = b.journal in events_of j e.items ≡ []
+    pub eventless : (j : ℕ) → length (frame_states name b s) ≤ j → let e = b.journal in events_of j e.items ≡ []
 
   -- The scheduler shows this state of the free machine and this worker table.
   abbrev pub Shows : Scheduler → WorkerTable → State FrameEnv View → Type 0

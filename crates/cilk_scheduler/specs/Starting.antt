@@ -11,7 +11,7 @@ use Rattle.cilk_frames.specs.declared.activation.Activation.{Activation}
 use Rattle.cilk_runs.specs.Machine.{Frame, State, after_deed, started}
 use Rattle.cilk_runs.specs.Runs.{Name, Invokes}
 use Rattle.cilk_runs.specs.Reducers.{View}
-use Rattle.cilk_runs.specs.FrameEnvs.{FrameEnv, child_world}
+use Rattle.cilk_runs.specs.FrameEnvs.{FrameEnv, child_env}
 use Rattle.cilk_scheduler.specs.declared.scheduler.Scheduler.{Scheduler}
 use Rattle.cilk_scheduler.specs.declared.frame_state.FrameState.{FrameState}
 use Rattle.cilk_scheduler.specs.declared.frame_state.Status.{Status}
@@ -38,9 +38,9 @@ module _ (code : CodeView) (p : Source) (inputs : List ℤ) where
     pub status : Status
     pub here : s.frames (name k) ≡ Some frame
     pub fresh : s.frames (name k ++ suc (started frame.deeds) ∷ []) ≡ None
-    pub made : s'.frames ≡ after_deed s.frames (name k) frame (Invokes how (child_world p frame.what (suc (started frame.deeds)) callee))
+    pub made : s'.frames ≡ after_deed s.frames (name k) frame (Invokes how (child_env p frame.what (suc (started frame.deeds)) callee))
     pub is_child : let f = b.frames in let c = b.cells in IsChild code (changed (λ _. comes.came) f.items k) k w (length c.items) how callee child
-    pub seats_are : let f = b.frames in let g = b'.frames in g.items ≡ changed (λ _. counted (started_at status (length f.items) comes.came)) f.items k ++ child ∷ []
+    pub frame_states_are : let f = b.frames in let g = b'.frames in g.items ≡ changed (λ _. counted (started_at status (length f.items) comes.came)) f.items k ++ child ∷ []
 
   -- The worker holds the new frame then, its parent's event is recorded, and no continuation is
   -- stolen.
@@ -59,7 +59,7 @@ module _ (code : CodeView) (p : Source) (inputs : List ℤ) where
       → let f = b.frames in
       let g = t.frame in
       let n = name k ++ suc (started g.deeds) ∷ [] in
-      Seen code p inputs (named_at name (length f.items) n) b' s' t.child (child_world p g.what (suc (started g.deeds)) callee)
+      Seen code p inputs (named_at name (length f.items) n) b' s' t.child (child_env p g.what (suc (started g.deeds)) callee)
 
   -- The new frame's state is that of the free machine's frame of that name, which has done nothing.
   abbrev pub ChildrenSit : Type 0

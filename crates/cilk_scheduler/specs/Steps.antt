@@ -30,13 +30,13 @@ module _ (code : CodeView) (p : Source) (inputs : List ℤ) where
   -- event.
   pub record HasCome (b : Scheduler) (w k : ℕ) (ask : Ask) : Type 0 where
     pub worker : Worker
-    pub seat : Activation FrameState
+    pub frame_state : Activation FrameState
     pub came : FrameState
     pub at : let l = b.workers in slice_get l.items w ≡ Some worker
     pub has : worker.frame ≡ Some k
-    pub sits : let f = b.frames in slice_get f.items k ≡ Some seat
+    pub sits : let f = b.frames in slice_get f.items k ≡ Some frame_state
     pub was_open : b.outcome ≡ None
-    pub went : let x = seat.cursor in WentOn code inputs x ask came
+    pub went : let x = frame_state.cursor in WentOn code inputs x ask came
     pub accepted : let e = b.journal in let f = b.frames in let c = b.cells in refusal (b.ticks + (came.took - came.counted)) (length e.items) (length f.items) (length c.items) code.layout ask ≡ None
 
   -- The frame continues in this state, its event is recorded and its ticks are counted. The cells

@@ -41,12 +41,12 @@ module _ (code : CodeView) (p : Source) (inputs : List ℤ) where
   -- event.
   pub record IsRefused (b : Scheduler) (w k : ℕ) (ask : Ask) (fault : Fault) : Type 0 where
     pub worker : Worker
-    pub seat : Activation FrameState
+    pub frame_state : Activation FrameState
     pub came : FrameState
     pub at : let l = b.workers in slice_get l.items w ≡ Some worker
     pub has : worker.frame ≡ Some k
-    pub sits : let f = b.frames in slice_get f.items k ≡ Some seat
-    pub went : let x = seat.cursor in WentOn code inputs x ask came
+    pub sits : let f = b.frames in slice_get f.items k ≡ Some frame_state
+    pub went : let x = frame_state.cursor in WentOn code inputs x ask came
     pub refused : let e = b.journal in let f = b.frames in let c = b.cells in refusal (b.ticks + (came.took - came.counted)) (length e.items) (length f.items) (length c.items) code.layout ask ≡ Some fault
 
   -- All that a scheduler shows stays as long as frames keep their indices and parents, no event is
@@ -62,12 +62,12 @@ module _ (code : CodeView) (p : Source) (inputs : List ℤ) where
   StopsAreShown =
       (name : ℕ → Name) (b b' : Scheduler) (d : WorkerTable) (s : State FrameEnv View) (w k : ℕ) (ask : Ask) (fault : Fault) → LaysOut p code.layout → ShowsBy code p inputs name b d s → (h : IsRefused b w k ask fault) → (ask ≡ asks.Sync → BlockIsOver s (name k))
       → (let f = b.frames in let g = b'.frames in g.items ≡ changed (λ _. h.came) f.items k) → (let e = b.journal in let l = b'.journal in l.items ≡ e.items) → b'.outcome ≡ b.outcome
-      → (s' : State FrameEnv View) × StopsAt p inputs s d (Run (suc w)) s' × (let a = h.seat in let x = a.cursor in s'.stopped ≡ Some (record { frame = name k; strand = latest x.strands; fault = fault })) × Tells code p inputs name b' s'
+      → (s' : State FrameEnv View) × StopsAt p inputs s d (Run (suc w)) s' × (let a = h.frame_state in let x = a.cursor in s'.stopped ≡ Some (record { frame = name k; strand = latest x.strands; fault = fault })) × Tells code p inputs name b' s'
 
   -- The block of a frame at its sync is over, if the sync need not wait.
   abbrev pub BlocksAreOver : Type 0
   BlocksAreOver =
-      (name : ℕ → Name) (b : Scheduler) (d : WorkerTable) (s : State FrameEnv View) (w k : ℕ) (came : FrameState) → ShowsBy code p inputs name b d s → HaveGoneOn s → (f : HasFrame b w k) → (let a = f.seat in WentOn code inputs a.cursor asks.Sync came) → must_wait came ≡ false
+      (name : ℕ → Name) (b : Scheduler) (d : WorkerTable) (s : State FrameEnv View) (w k : ℕ) (came : FrameState) → ShowsBy code p inputs name b d s → HaveGoneOn s → (f : HasFrame b w k) → (let a = f.frame_state in WentOn code inputs a.cursor asks.Sync came) → must_wait came ≡ false
       → BlockIsOver s (name k)
 
   -- A choice is skipped if its worker holds no frame, is to steal and isn't idle, no continuation
@@ -79,4 +79,4 @@ module _ (code : CodeView) (p : Source) (inputs : List ℤ) where
     pub unoffered : (name : ℕ → Name) (b : Scheduler) (d : WorkerTable) (s : State FrameEnv View) (w place : ℕ) → ShowsBy code p inputs name b d s → (let l = b.workers in slice_get (offers l.items) place ≡ None) → Chooses p inputs s d (Steal w place) Skipped s d
     pub past : (name : ℕ → Name) (b : Scheduler) (d : WorkerTable) (s : State FrameEnv View) (place : ℕ) → ShowsBy code p inputs name b d s → b.offered ≤ place → (let l = b.workers in slice_get (offers l.items) place ≡ None)
     pub over : (name : ℕ → Name) (b : Scheduler) (d : WorkerTable) (s : State FrameEnv View) (c : Choice) (o : Outcome) → ShowsBy code p inputs name b d s → b.outcome ≡ Some o → Chooses p inputs s d c Skipped s d
-    pub held : (name : ℕ → Name) (b : Scheduler) (d : WorkerTable) (s : State FrameEnv View) (w k : ℕ) → ShowsBy code p inputs name b d s → (let l = b.workers in held_by l.items (suc w) ≡ Some k) → (f : HasFrame b w k) × (c : CursorView) × (let a = f.seat in let x = a.cursor in x.cursor ≡ Some c)
+    pub held : (name : ℕ → Name) (b : Scheduler) (d : WorkerTable) (s : State FrameEnv View) (w k : ℕ) → ShowsBy code p inputs name b d s → (let l = b.workers in held_by l.items (suc w) ≡ Some k) → (f : HasFrame b w k) × (c : CursorView) × (let a = f.frame_state in let x = a.cursor in x.cursor ≡ Some c)

@@ -34,5 +34,5 @@ module _ (code : CodeView) (p : Source) (inputs : List ℤ) where
   abbrev pub SyncsAreShown : Type 0
   SyncsAreShown =
       (name : ℕ → Name) (b b' : Scheduler) (d : WorkerTable) (s : State FrameEnv View) (w k : ℕ) → LaysOut p code.layout → ShowsBy code p inputs name b d s → DidAsAsked p inputs s → HaveGoneOn s → (h : HasCome code p inputs b w k asks.Sync)
-      → (views : Hypermap) → (let a = h.seat in let u = h.worker in PassesWith a.cursor u.views views)
+      → (views : Hypermap) → (let a = h.frame_state in let u = h.worker in PassesWith a.cursor u.views views)
       → (let c = b.cells in Notes code p inputs b b' w k h.came (synced h.came) events.Sync c.items views) → IsDone code p inputs name b' d s w

@@ -28,27 +28,27 @@ pub record IsOffered (b : Scheduler) (w place k : ℕ) : Type 0 where
   pub owner : Worker
   pub victim : ℕ
   pub at : ℕ
-  pub seat : Activation FrameState
+  pub frame_state : Activation FrameState
   pub idles : let l = b.workers in slice_get l.items w ≡ Some thief
   pub free : thief.frame ≡ None
   pub owns : let l = b.workers in slice_get l.items victim ≡ Some owner
   pub stands : let o = owner.offered in slice_get o.items at ≡ Some k
   pub is_place : let l = b.workers in slice_get (offers l.items) place ≡ Some k
-  pub sits : let f = b.frames in slice_get f.items k ≡ Some seat
+  pub sits : let f = b.frames in slice_get f.items k ≡ Some frame_state
   pub was_open : b.outcome ≡ None
 
 -- The worker holds the frame then, without views. The frame's newest child is marked as stolen
 -- from, and that child's piece is awaited at the block.
 pub record TakesOver (b b' : Scheduler) (w place k : ℕ) (h : IsOffered b w place k) : Type 0 where
   pub awaiting : FrameState
-  pub awaits : let a = h.seat in AwaitsLast a.cursor awaiting
+  pub awaits : let a = h.frame_state in AwaitsLast a.cursor awaiting
   pub without : Worker
   pub same_frame : let u = h.owner in without.frame ≡ u.frame
   pub same_views : let u = h.owner in without.views ≡ u.views
   pub withdrawn : let u = h.owner in let o = u.offered in let l = without.offered in l.items ≡ remove o.items h.at
   pub views : Hypermap
   pub empty : EachKind (λ q. (j : Instance) → view_in views q j ≡ None)
-  pub frames : let a = h.seat in let x = a.cursor in let f = b.frames in let g = b'.frames in g.items ≡ changed (moved_to (Held w)) (changed robbed (changed (λ _. awaiting) f.items k) x.last) k
+  pub frames : let a = h.frame_state in let x = a.cursor in let f = b.frames in let g = b'.frames in g.items ≡ changed (moved_to (Held w)) (changed robbed (changed (λ _. awaiting) f.items k) x.last) k
   pub workers : let l = b.workers in let m = b'.workers in m.items ≡ altered (holding k views) (altered (λ _. without) l.items h.victim) w
   pub offered : b'.offered ≡ b.offered - 1
   pub cells : let c = b.cells in let d = b'.cells in d.items ≡ c.items

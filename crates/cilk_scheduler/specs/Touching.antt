@@ -58,16 +58,16 @@ module _ (code : CodeView) (p : Source) (inputs : List ℤ) where
     -- Worker w's frame k makes this event: the state and the scheduler before and after.
     pub record Touches (w k : ℕ) (e : Event) (entry : JournalEntry) : Type 0 where
       pub worker : Worker
-      pub seat : Activation FrameState
+      pub frame_state : Activation FrameState
       pub frame : Frame FrameEnv
       -- The worker holds the frame, which continues. Its block hasn't passed, unless it begins
       -- another.
       pub at : let l = b.workers in slice_get l.items w ≡ Some worker
       pub has : worker.frame ≡ Some k
-      pub sits : let f = b.frames in slice_get f.items k ≡ Some seat
+      pub sits : let f = b.frames in slice_get f.items k ≡ Some frame_state
       pub here : s.frames (name k) ≡ Some frame
       pub same_block : Bool
-      pub unmerged : same_block ≡ true → let x = seat.cursor in x.merged ≡ false
+      pub unmerged : same_block ≡ true → let x = frame_state.cursor in x.merged ≡ false
       pub goes : has_ended frame.deeds ≡ false
       pub is_plain : IsInBlock same_block e
       -- The frame has one more deed. Flags and the pieces of other frames stay, and a sync joins
@@ -82,7 +82,7 @@ module _ (code : CodeView) (p : Source) (inputs : List ℤ) where
       pub took : ℕ
       pub cursor : CursorView
       pub answer : Answer
-      pub seats_are : let f = b'.frames in let g = b.frames in f.items ≡ changed (touched same_block begun took cursor answer) g.items k
+      pub frame_states_are : let f = b'.frames in let g = b.frames in f.items ≡ changed (touched same_block begun took cursor answer) g.items k
       pub told : IsTold code p inputs frame.what (frame.deeds ++ Does e ∷ []) cursor answer took
       pub took_is : took ≡ taken p inputs frame.what frame.deeds
       pub strands_are : strands (frame.deeds ++ Does e ∷ []) ≡ begun

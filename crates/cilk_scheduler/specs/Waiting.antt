@@ -30,16 +30,16 @@ module _ (code : CodeView) (p : Source) (inputs : List ℤ) where
   -- piece, and the block doesn't pass. The frame waits, and the worker is idle.
   pub record StaysBehind (b b' : Scheduler) (w k : ℕ) : Type 0 where
     pub worker : Worker
-    pub seat : Activation FrameState
+    pub frame_state : Activation FrameState
     pub came : FrameState
     pub after : FrameState
     pub views : Hypermap
     pub at : let l = b.workers in slice_get l.items w ≡ Some worker
     pub has : worker.frame ≡ Some k
-    pub sits : let f = b.frames in slice_get f.items k ≡ Some seat
+    pub sits : let f = b.frames in slice_get f.items k ≡ Some frame_state
     pub was_open : b.outcome ≡ None
-    pub went : let x = seat.cursor in WentOn code inputs x asks.Sync came
-    pub unmerged : let x = seat.cursor in x.merged ≡ false
+    pub went : let x = frame_state.cursor in WentOn code inputs x asks.Sync came
+    pub unmerged : let x = frame_state.cursor in x.merged ≡ false
     pub arrives : Arrives (block_in came.join) (came.children + 1) true (product worker.views) false (block_in after.join) views
     pub after_is : after ≡ (let y = waiting came in record y { join = after.join })
     pub frames : let f = b.frames in let g = b'.frames in g.items ≡ changed (λ _. after) f.items k

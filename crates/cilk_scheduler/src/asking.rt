@@ -36,20 +36,20 @@ pub fn go_on(
 }
 
 // `go_on` for the state of one frame.
-fn advance(code: &Code, input: &Input, seat: &mut FrameState, asked: &mut AskSlot)
-    requires { IsReady code.now input.now seat.old }
-    ensures { WentOn code.now input.now seat.old asked.new seat.new }
+fn advance(code: &Code, input: &Input, frame_state: &mut FrameState, asked: &mut AskSlot)
+    requires { IsReady code.now input.now frame_state.old }
+    ensures { WentOn code.now input.now frame_state.old asked.new frame_state.new }
 {
-    match seat.due {
+    match frame_state.due {
         Due::Begin => asked.put(SmallAsk::Begin),
         Due::Sync => asked.put(SmallAsk::Sync),
         Due::Answer(answer) => {
-            let Some(cursor) = &mut seat.cursor else {
+            let Some(cursor) = &mut frame_state.cursor else {
                 unreachable!()
             };
-            let mut left = MAX_TICKS - seat.took;
+            let mut left = MAX_TICKS - frame_state.took;
             step_into(code, input, cursor, answer, &mut left, asked);
-            seat.took = MAX_TICKS - left;
+            frame_state.took = MAX_TICKS - left;
         }
     }
 }
@@ -58,7 +58,7 @@ fn advance(code: &Code, input: &Input, seat: &mut FrameState, asked: &mut AskSlo
 pub fn cells_asked(layout: &Layout, asked: &AskSlot) -> Option<u32>
     ensures { result ≡ cells_asked layout.now asked.now }
 {
-    match asked.brief() {
+    match asked.small_ask() {
         None => Some(layout.function_cells(asked.invocation().1.function)),
         Some(SmallAsk::Turns(_, part)) => Some(layout.part_cells(part)),
         Some(_) => None,
@@ -99,7 +99,7 @@ fn own_fault(asked: &AskSlot) -> Option<Fault>
     ensures some { IfSome result (λ f. asked.now ≡ asks.Fault f) }
     ensures none { result ≡ None → (other : Option Fault) → own_fault asked.now other ≡ other }
 {
-    match asked.brief() {
+    match asked.small_ask() {
         Some(SmallAsk::Fault(fault)) => Some(*fault),
         _ => None,
     }

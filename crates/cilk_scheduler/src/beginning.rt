@@ -45,44 +45,49 @@ pub fn offer(own: &mut Worker, how: Invocation, frame: u32, child: u32) -> Resul
 /// for it or is offered. Returns the event, which isn't recorded yet. If out of memory, frames,
 /// journal, ticks, outcome and stop are unchanged; cells and offers may not be.
 pub fn begin(
-    board: &mut Scheduler,
+    scheduler: &mut Scheduler,
     worker: u32,
     frame: u32,
     how: Invocation,
     child: Activation<FrameState>,
     count: u32,
 ) -> Result<Event, AllocError>
-    requires here { frame < length board.old.frames.items }
-    requires works { worker < length board.old.workers.items }
-    requires few { length board.old.frames.items < 65536 }
-    requires children { (top : Activation FrameState) → slice_get board.old.frames.items frame ≡ Some top → top.cursor.children < 2 ^ 31 }
-    requires offered { board.old.offered < 2 ^ 31 }
-    ensures event { IfOk result (λ e. e ≡ invocation how (suc (length board.old.frames.items))) }
-    ensures begins { OnOk result (ChildBegins board.old board.new worker frame how child count) }
-    ensures frames { OnErr result (board.new.frames.items ≡ board.old.frames.items) }
-    ensures journal { board.new.journal ≡ board.old.journal }
-    ensures ticks { board.new.ticks ≡ board.old.ticks }
-    ensures outcome { board.new.outcome ≡ board.old.outcome }
-    ensures stopped { board.new.stopped ≡ board.old.stopped }
+    requires here { frame < length scheduler.old.frames.items }
+    requires works { worker < length scheduler.old.workers.items }
+    requires few { length scheduler.old.frames.items < 65536 }
+    requires children { (top : Activation FrameState) → slice_get scheduler.old.frames.items frame ≡ Some top → top.cursor.children < 2 ^ 31 }
+    requires offered { scheduler.old.offered < 2 ^ 31 }
+    ensures event { IfOk result (λ e. e ≡ invocation how (suc (length scheduler.old.frames.items))) }
+    ensures begins { OnOk result (ChildBegins scheduler.old scheduler.new worker frame how child count) }
+    ensures frames { OnErr result (scheduler.new.frames.items ≡ scheduler.old.frames.items) }
+    ensures journal { scheduler.new.journal ≡ scheduler.old.journal }
+    ensures ticks { scheduler.new.ticks ≡ scheduler.old.ticks }
+    ensures outcome { scheduler.new.outcome ≡ scheduler.old.outcome }
+    ensures stopped { scheduler.new.stopped ≡ scheduler.old.stopped }
 {
-    let place = board.frames.len() as u32;
-    offer(&mut board.workers[worker as usize], how, frame, place)?;
-    add_cells(&mut board.cells, count)?;
-    board.frames.push(child)?;
-    board.workers[worker as usize].frame = Some(place);
+    let place = scheduler.frames.len() as u32;
+    offer(&mut scheduler.workers[worker as usize], how, frame, place)?;
+    add_cells(&mut scheduler.cells, count)?;
+    scheduler.frames.push(child)?;
+    scheduler.workers[worker as usize].frame = Some(place);
     match how {
         Invocation::Call => {
-            start(&mut board.frames, frame as usize, place, Status::Calling);
+            start(
+                &mut scheduler.frames,
+                frame as usize,
+                place,
+                Status::Calling,
+            );
             Ok(Event::Call { child: place + 1 })
         }
         Invocation::Spawn => {
             start(
-                &mut board.frames,
+                &mut scheduler.frames,
                 frame as usize,
                 place,
                 Status::Offered(worker),
             );
-            board.offered += 1;
+            scheduler.offered += 1;
             Ok(Event::Spawn { child: place + 1 })
         }
     }

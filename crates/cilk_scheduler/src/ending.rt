@@ -55,15 +55,15 @@ pub fn take_back(
 /// are those of the whole block. If out of memory, the views are lost.
 pub fn bring(
     alloc: Global,
-    seat: &mut FrameState,
+    frame_state: &mut FrameState,
     views: &mut Hypermap,
     key: u32,
 ) -> Result<bool, AllocError>
-    requires { (l : _) × (seat.old.join ≡ Some l) × MayArrive (shown l.value) key false }
-    ensures brings { IfOk result (λ passes. Brings seat.old key views.old passes seat.new views.new) }
-    ensures same { seat.new ≡ record seat.old { join = seat.new.join } }
+    requires { (l : _) × (frame_state.old.join ≡ Some l) × MayArrive (shown l.value) key false }
+    ensures brings { IfOk result (λ passes. Brings frame_state.old key views.old passes frame_state.new views.new) }
+    ensures same { frame_state.new ≡ record frame_state.old { join = frame_state.new.join } }
 {
-    match &mut seat.join {
+    match &mut frame_state.join {
         Some(join) => arrive(alloc, join, views, key, false),
         None => unreachable!(),
     }

@@ -23,9 +23,9 @@ pub fn begin_strand(frames: &mut Vec<Activation<FrameState>>, frame: usize)
     requires few { (a : Activation FrameState) → slice_get frames.old.items frame ≡ Some a → a.cursor.strands < 2 ^ 31 }
     ensures { frames.new.items ≡ changed stranded frames.old.items frame }
 {
-    let seat = &mut frames[frame].cursor;
-    seat.strands += 1;
-    seat.due = Due::Answer(Answer::Done);
+    let frame_state = &mut frames[frame].cursor;
+    frame_state.strands += 1;
+    frame_state.due = Due::Answer(Answer::Done);
 }
 
 /// Begins another block of the frame, and a strand with it.
@@ -34,9 +34,9 @@ pub fn begin_block(frames: &mut Vec<Activation<FrameState>>, frame: usize)
     requires few { (a : Activation FrameState) → slice_get frames.old.items frame ≡ Some a → a.cursor.strands < 2 ^ 31 }
     ensures { frames.new.items ≡ changed synced frames.old.items frame }
 {
-    let seat = &mut frames[frame].cursor;
-    seat.join = None;
-    seat.merged = false;
+    let frame_state = &mut frames[frame].cursor;
+    frame_state.join = None;
+    frame_state.merged = false;
     begin_strand(frames, frame);
 }
 
@@ -61,9 +61,9 @@ pub fn wait(frames: &mut Vec<Activation<FrameState>>, frame: usize)
     requires { frame < length frames.old.items }
     ensures { frames.new.items ≡ changed waiting frames.old.items frame }
 {
-    let seat = &mut frames[frame].cursor;
-    seat.status = Status::Waiting;
-    seat.due = Due::Sync;
+    let frame_state = &mut frames[frame].cursor;
+    frame_state.status = Status::Waiting;
+    frame_state.due = Due::Sync;
 }
 
 /// Marks the frame as ended and drops its cursor.
@@ -71,9 +71,9 @@ pub fn finish(frames: &mut Vec<Activation<FrameState>>, frame: usize)
     requires { frame < length frames.old.items }
     ensures { frames.new.items ≡ changed finished frames.old.items frame }
 {
-    let seat = &mut frames[frame].cursor;
-    seat.status = Status::Finished;
-    seat.cursor = None;
+    let frame_state = &mut frames[frame].cursor;
+    frame_state.status = Status::Finished;
+    frame_state.cursor = None;
 }
 
 /// Marks the continuation beside the frame as stolen.
@@ -90,11 +90,11 @@ pub fn start(frames: &mut Vec<Activation<FrameState>>, frame: usize, place: u32,
     requires few { (a : Activation FrameState) → slice_get frames.old.items frame ≡ Some a → a.cursor.children < 2 ^ 31 }
     ensures { frames.new.items ≡ changed (started_at status place) frames.old.items frame }
 {
-    let seat = &mut frames[frame].cursor;
-    seat.children += 1;
-    seat.last = place;
-    seat.due = Due::Answer(Answer::Done);
-    seat.status = status;
+    let frame_state = &mut frames[frame].cursor;
+    frame_state.children += 1;
+    frame_state.last = place;
+    frame_state.due = Due::Answer(Answer::Done);
+    frame_state.status = status;
 }
 
 /// Marks all ticks of the frame as counted.
@@ -102,6 +102,6 @@ pub fn count(frames: &mut Vec<Activation<FrameState>>, frame: usize)
     requires { frame < length frames.old.items }
     ensures { frames.new.items ≡ changed counted frames.old.items frame }
 {
-    let seat = &mut frames[frame].cursor;
-    seat.counted = seat.took;
+    let frame_state = &mut frames[frame].cursor;
+    frame_state.counted = frame_state.took;
 }

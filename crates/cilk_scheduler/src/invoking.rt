@@ -49,8 +49,8 @@ pub fn function_child(
     let number = frames.len() as u32 + 1;
     let cursor = Cursor::function(alloc, code, call)?;
     let ordinal = top.cursor.children + 1;
-    let seat = FrameState::new(starter.frame, ordinal, how, starter.worker, cursor);
-    let child = function(alloc, seat, number, starter.base, frames, top, call)?;
+    let frame_state = FrameState::new(starter.frame, ordinal, how, starter.worker, cursor);
+    let child = function(alloc, frame_state, number, starter.base, frames, top, call)?;
     Ok(child)
 }
 
@@ -74,7 +74,7 @@ pub fn turns_child(
     let number = frames.len() as u32 + 1;
     let cursor = Cursor::turns(alloc, code, part)?;
     let ordinal = top.cursor.children + 1;
-    let seat = FrameState::new(starter.frame, ordinal, how, starter.worker, cursor);
-    let child = turns(alloc, seat, number, starter.base, here, top, part);
+    let frame_state = FrameState::new(starter.frame, ordinal, how, starter.worker, cursor);
+    let child = turns(alloc, frame_state, number, starter.base, here, top, part);
     Ok(child)
 }

@@ -40,6 +40,6 @@ pub fn uncounted(frames: &[Activation<FrameState>], frame: usize) -> u32
     requires more { (a : Activation FrameState) → slice_get frames.now frame ≡ Some a → a.cursor.counted ≤ a.cursor.took }
     ensures { (a : Activation FrameState) → slice_get frames.now frame ≡ Some a → result ≡ a.cursor.took - a.cursor.counted }
 {
-    let seat = &frames[frame].cursor;
-    seat.took - seat.counted
+    let frame_state = &frames[frame].cursor;
+    frame_state.took - frame_state.counted
 }

@@ -25,6 +25,6 @@ pub fn own_pieces_arrive()
 
 /// A scheduler made in these parts is new: the first frame, its cells after the global ones, and
 /// workers, the first of which alone holds the frame.
-pub fn boards_are_new()
+pub fn schedulers_are_new()
     ensures { (code : CodeView) (p : Source) (inputs : List ℤ) → SchedulersAreNew code p inputs }
 {}

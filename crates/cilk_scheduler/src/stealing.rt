@@ -10,13 +10,13 @@ use std::alloc::{AllocError, Global};
 
 /// Lets the frame's block await the piece of its newest child. Makes the join at the block's first
 /// steal. If out of memory, only the join may have changed.
-pub fn await_last(alloc: Global, seat: &mut FrameState) -> Result<(), AllocError>
-    requires { IsOpen (block_in seat.old.join) seat.old.children }
-    ensures awaits { OnOk result (AwaitsLast seat.old seat.new) }
-    ensures same { seat.new ≡ record seat.old { join = seat.new.join } }
+pub fn await_last(alloc: Global, frame_state: &mut FrameState) -> Result<(), AllocError>
+    requires { IsOpen (block_in frame_state.old.join) frame_state.old.children }
+    ensures awaits { OnOk result (AwaitsLast frame_state.old frame_state.new) }
+    ensures same { frame_state.new ≡ record frame_state.old { join = frame_state.new.join } }
 {
-    let key = seat.children;
-    match &mut seat.join {
+    let key = frame_state.children;
+    match &mut frame_state.join {
         Some(join) => {
             join.steal(key)?;
             Ok(())
@@ -24,7 +24,7 @@ pub fn await_last(alloc: Global, seat: &mut FrameState) -> Result<(), AllocError
         None => {
             let mut join = Join::new(alloc);
             join.steal(key)?;
-            seat.join = Some(Box::new(alloc, join)?);
+            frame_state.join = Some(Box::new(alloc, join)?);
             Ok(())
         }
     }

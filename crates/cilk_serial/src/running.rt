@@ -100,7 +100,7 @@ impl Running {
         if is_full(&self.state) {
             return Ok(Step::Stops(fault_when_full(&self.ask)));
         }
-        let Some(ask) = self.ask.brief() else {
+        let Some(ask) = self.ask.small_ask() else {
             let step = self.invoke_function(alloc, program, code)?;
             return Ok(step);
         };

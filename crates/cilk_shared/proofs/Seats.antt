@@ -136,16 +136,16 @@ abbrev pub Beside : ℕ → ℕ → ℕ → ℕ → Type 0
 Beside a b c d = (b ≤ a) ⊎ (d ≤ c) ⊎ ((a < b) × (c < d) × (b ≡ c))
 
 module _ (s : EventOrder) (law : IsOrderly s) (v w : View) (a b c d : ℕ) (mine : Sits s v a b) (theirs : Sits s w c d) where
-  joined_left : v.upto ≤ v.from → joined v w ≡ view v.story w.from w.upto
-  joined_left e = ap (λ k. cond k (cond (ltb w.from w.upto) (view v.story v.from w.upto) v) (view v.story w.from w.upto)) (le-ltb v.from v.upto e)
+  joined_left : v.upto ≤ v.from → joined v w ≡ view v.event_order w.from w.upto
+  joined_left e = ap (λ k. cond k (cond (ltb w.from w.upto) (view v.event_order v.from w.upto) v) (view v.event_order w.from w.upto)) (le-ltb v.from v.upto e)
 
   joined_right : v.from < v.upto → w.upto ≤ w.from → joined v w ≡ v
-  joined_right lt e = ap (λ k. cond k (cond (ltb w.from w.upto) (view v.story v.from w.upto) v) (view v.story w.from w.upto)) (lt-ltb v.from v.upto lt)
-      ∙ ap (λ k. cond k (view v.story v.from w.upto) v) (le-ltb w.from w.upto e)
+  joined_right lt e = ap (λ k. cond k (cond (ltb w.from w.upto) (view v.event_order v.from w.upto) v) (view v.event_order w.from w.upto)) (lt-ltb v.from v.upto lt)
+      ∙ ap (λ k. cond k (view v.event_order v.from w.upto) v) (le-ltb w.from w.upto e)
 
-  joined_both : v.from < v.upto → w.from < w.upto → joined v w ≡ view v.story v.from w.upto
-  joined_both lt lt' = ap (λ k. cond k (cond (ltb w.from w.upto) (view v.story v.from w.upto) v) (view v.story w.from w.upto)) (lt-ltb v.from v.upto lt)
-      ∙ ap (λ k. cond k (view v.story v.from w.upto) v) (lt-ltb w.from w.upto lt')
+  joined_both : v.from < v.upto → w.from < w.upto → joined v w ≡ view v.event_order v.from w.upto
+  joined_both lt lt' = ap (λ k. cond k (cond (ltb w.from w.upto) (view v.event_order v.from w.upto) v) (view v.event_order w.from w.upto)) (lt-ltb v.from v.upto lt)
+      ∙ ap (λ k. cond k (view v.event_order v.from w.upto) v) (lt-ltb w.from w.upto lt')
 
   pub joins : Beside a b c d → (id other : ℕ) → Joins (Kept s) id v other w (joined v w) spent
   joins near id other t kept at apart there' =
@@ -153,7 +153,7 @@ module _ (s : EventOrder) (law : IsOrderly s) (v w : View) (a b c d : ℕ) (mine
       let Goal : View → Type 0 = λ u. Kept s (record { words = t.words; homes = t.homes; views = set (set t.views id u) other spent }) in
       let make : (u : View) → ((x : ℕ) → In v x ⊎ In w x → In u x) → ((x : ℕ) → IsWord (what s x) → In u x → In v x ⊎ In w x) → (u.from < u.upto → IsStart s u.from) → ((x i : ℕ) (y : View) → In u x → i ≢ id → i ≢ other → get_elem? t.views i ≡ some y → In y x → ⊥) → Goal u
       = λ u covers only starts alone. kept_joined s t.views kept.parted id v at other w u apart there covers only starts alone t.words kept.cut kept.told kept.reached t.homes in
-      let empty_v : v.upto ≤ v.from → Goal (joined v w) = λ e. subst Goal (sym (joined_left e)) (make (view v.story w.from w.upto)
+      let empty_v : v.upto ≤ v.from → Goal (joined v w) = λ e. subst Goal (sym (joined_left e)) (make (view v.event_order w.from w.upto)
       (λ x i. ⊎_elim (λ (m : In v x). absurd (omega (arith, m.0, m.1))) (λ (m : In w x). (m.0, m.1)) i)
       (λ x _ i. inr (i.0, i.1))
       (λ lt. kept.parted.begins other w there lt)
@@ -171,7 +171,7 @@ module _ (s : EventOrder) (law : IsOrderly s) (v w : View) (a b c d : ℕ) (mine
       let f = mine.from ab in
       let g = theirs.from cd in
       let meet : b ≡ c = ⊎_elim (λ (e : b ≤ a). absurd (omega arith)) (λ (r : (d ≤ c) ⊎ ((a < b) × (c < d) × (b ≡ c))). ⊎_elim (λ (e : d ≤ c). absurd (omega arith)) (λ (q : (a < b) × (c < d) × (b ≡ c)). q.2) r) near in
-      subst Goal (sym (joined_both lt lt')) (make (view v.story v.from w.upto)
+      subst Goal (sym (joined_both lt lt')) (make (view v.event_order v.from w.upto)
       (λ x i. ⊎_elim (λ (m : In v x). (m.0, omega (arith, m.1, f.2, g.0, g.1))) (λ (m : In w x). (omega (arith, m.0, f.0, g.0, f.1), m.1)) i)
       (λ x word i. dite (dec_lt x v.upto)
       (λ (in_v : x < v.upto). inl (i.0, in_v))
@@ -198,8 +198,8 @@ spans s law v w a b c d mine theirs near = dite (dec_lt a b)
     let g = theirs.from cd in
     let lt' : w.from < w.upto = omega (arith, g.0, g.1) in
     let meet : b ≡ c = ⊎_elim (λ (e : b ≤ a). absurd (omega arith)) (λ (r : (d ≤ c) ⊎ ((a < b) × (c < d) × (b ≡ c))). ⊎_elim (λ (e : d ≤ c). absurd (omega arith)) (λ (q : (a < b) × (c < d) × (b ≡ c)). q.2) r) near in
-    let it : Sits s (view v.story v.from w.upto) a d = record {
-      story = mine.story;
+    let it : Sits s (view v.event_order v.from w.upto) a d = record {
+      event_order = mine.event_order;
       empty = λ e. absurd (omega arith);
       from = λ _. (f.0, omega (arith, g.1), g.2);
       rest = λ q le l _ word. theirs.rest q le l cd word;
@@ -214,7 +214,7 @@ spans s law v w a b c d mine theirs near = dite (dec_lt a b)
     subst (λ (r : ℕ × ℕ). Sits s (joined v w) r.0 r.1) (sym (pair_left ab cd)) (subst (λ u. Sits s u a b) (sym (joined_right s law v w a b c d mine theirs lt (theirs.empty cd))) mine)))
     (λ no.
     let ba : b ≤ a = omega arith in
-    let it : Sits s (view v.story w.from w.upto) c d = record { story = mine.story; empty = theirs.empty; from = theirs.from; rest = theirs.rest; whole = theirs.whole; known = theirs.known } in
+    let it : Sits s (view v.event_order w.from w.upto) c d = record { event_order = mine.event_order; empty = theirs.empty; from = theirs.from; rest = theirs.rest; whole = theirs.whole; known = theirs.known } in
     subst (λ (r : ℕ × ℕ). Sits s (joined v w) r.0 r.1) (sym (pair_right ba)) (subst (λ u. Sits s u c d) (sym (joined_left s law v w a b c d mine theirs (mine.empty ba))) it))
   where
     pair_both : a < b → c < d → spanned a b c d ≡ (a, d)
@@ -227,7 +227,7 @@ spans s law v w a b c d mine theirs near = dite (dec_lt a b)
     pair_right ba = ap (λ k. cond k (cond (ltb c d) (a, d) (a, b)) (c, d)) (le-ltb a b ba)
 
 -- the same of seats as segments have them
-module _ (s : EventOrder) (law : IsOrderly s) (me you : Me (Unit {0}) View) (same : me.0.story ≡ s) (same' : you.0.story ≡ s) (a b c d : ℕ) (mine : Sits me.0.story me.0 a b) (theirs : Sits you.0.story you.0 c d) (near : Beside a b c d) where
+module _ (s : EventOrder) (law : IsOrderly s) (me you : Me (Unit {0}) View) (same : me.0.event_order ≡ s) (same' : you.0.event_order ≡ s) (a b c d : ℕ) (mine : Sits me.0.event_order me.0 a b) (theirs : Sits you.0.event_order you.0 c d) (near : Beside a b c d) where
   ours : Sits s me.0 a b
   ours = subst (λ z. Sits z me.0 a b) same mine
 
@@ -237,16 +237,16 @@ module _ (s : EventOrder) (law : IsOrderly s) (me you : Me (Unit {0}) View) (sam
   pub joins_at : (id other : ℕ) → Joins (Kept s) id me.0 other you.0 (joined me.0 you.0) spent
   joins_at id other = joins s law me.0 you.0 a b c d ours yours near id other
 
-  story_joined : (joined me.0 you.0).story ≡ me.0.story
-  story_joined = dite (dec_lt me.0.from me.0.upto)
+  event_order_joined : (joined me.0 you.0).event_order ≡ me.0.event_order
+  event_order_joined = dite (dec_lt me.0.from me.0.upto)
       (λ (lt : me.0.from < me.0.upto). dite (dec_lt you.0.from you.0.upto)
-      (λ (lt' : you.0.from < you.0.upto). ap (λ (u : View). u.story) (joined_both s law me.0 you.0 a b c d ours yours lt lt'))
-      (λ no. ap (λ (u : View). u.story) (joined_right s law me.0 you.0 a b c d ours yours lt (omega arith))))
-      (λ no. ap (λ (u : View). u.story) (joined_left s law me.0 you.0 a b c d ours yours (omega arith)))
+      (λ (lt' : you.0.from < you.0.upto). ap (λ (u : View). u.event_order) (joined_both s law me.0 you.0 a b c d ours yours lt lt'))
+      (λ no. ap (λ (u : View). u.event_order) (joined_right s law me.0 you.0 a b c d ours yours lt (omega arith))))
+      (λ no. ap (λ (u : View). u.event_order) (joined_left s law me.0 you.0 a b c d ours yours (omega arith)))
 
-  pub spans_at : (r : ℕ × ℕ) → r ≡ spanned a b c d → (m : Me (Unit {0}) View) → m ≡ (joined me.0 you.0, me.1) → me.1 ≡ [] → (m.1 ≡ []) × (m.0.story ≡ me.0.story) × Sits m.0.story m.0 r.0 r.1
+  pub spans_at : (r : ℕ × ℕ) → r ≡ spanned a b c d → (m : Me (Unit {0}) View) → m ≡ (joined me.0 you.0, me.1) → me.1 ≡ [] → (m.1 ≡ []) × (m.0.event_order ≡ me.0.event_order) × Sits m.0.event_order m.0 r.0 r.1
   spans_at r range m is bare =
-      let e : m.0.story ≡ me.0.story = ap (λ k. k.0.story) is ∙ story_joined in (
+      let e : m.0.event_order ≡ me.0.event_order = ap (λ k. k.0.event_order) is ∙ event_order_joined in (
         ap (λ k. k.1) is ∙ bare,
         e,
         subst (λ z. Sits z m.0 r.0 r.1) (sym (e ∙ same)) (subst (λ u. Sits s u r.0 r.1) (sym (ap (λ k. k.0) is)) (subst (λ (q : ℕ × ℕ). Sits s (joined me.0 you.0) q.0 q.1) (sym range) (spans s law me.0 you.0 a b c d ours yours near))),
@@ -303,7 +303,7 @@ up_first s law values q (inr (through {e = e} b there)) = absurd (none_first s l
 
 pub first_sits : (s : EventOrder) → IsOrderly s → HasValues s → Sits s (view s 1 2) 1 2
 first_sits s law values = record {
-  story = refl;
+  event_order = refl;
   empty = λ e. e;
   from = λ _. (refl, omega arith, omega arith);
   rest = λ q le lt _ _. omega arith;
@@ -312,7 +312,7 @@ first_sits s law values = record {
 }
 
 -- what the words say of the whole run
-pub whole_run : (s : EventOrder) (law : IsOrderly s) (me : Me (Unit {0}) View) (same : me.0.story ≡ s) (n : ℕ) → Sits me.0.story me.0 1 n → n ≡ length s.events + 1 → 1 < n → (id : ℕ) (t : State (Unit {0}) View) → Kept s t → get_elem? t.views id ≡ some me.0
+pub whole_run : (s : EventOrder) (law : IsOrderly s) (me : Me (Unit {0}) View) (same : me.0.event_order ≡ s) (n : ℕ) → Sits me.0.event_order me.0 1 n → n ≡ length s.events + 1 → 1 < n → (id : ℕ) (t : State (Unit {0}) View) → Kept s t → get_elem? t.views id ≡ some me.0
     → (c : ℕ) → c < cells s → Shows s (λ q. Unit {0}) c (get_or t.words c 0)
 whole_run s law me same n sits all some_done id t kept at c small =
     shows_along s (Done t.views) (λ q. Unit {0}) c (get_or t.words c 0)

@@ -61,16 +61,16 @@ module _ (s : EventOrder) (law : IsOrderly s) (v : View) (a p : ℕ) (sits : Sit
   up_line line fits = up_on s law a p sits.known (λ e there. let near = law.line p line e there in omega arith) fits
 
   wider : View
-  wider = view v.story v.from (p + 1)
+  wider = view v.event_order v.from (p + 1)
 
-  grows : (x : ℕ) → In v x → In (view v.story v.from (p + 1)) x
+  grows : (x : ℕ) → In v x → In (view v.event_order v.from (p + 1)) x
   grows x inside = let f = sits.from some_done in (inside.0, omega (arith, f.2, inside.1))
 
-  pub sits_on : ((q : ℕ) × (what s p ≡ resume q)) ⊎ ((e : ℕ) → Among e (after s p) → a ≤ e) → IsFollowed s p → Sits s (view v.story v.from (p + 1)) a (p + 1)
+  pub sits_on : ((q : ℕ) × (what s p ≡ resume q)) ⊎ ((e : ℕ) → Among e (after s p) → a ≤ e) → IsFollowed s p → Sits s (view v.event_order v.from (p + 1)) a (p + 1)
   sits_on ahead up =
       let f = sits.from some_done in
       record {
-        story = sits.story;
+        event_order = sits.event_order;
         empty = λ le. absurd (omega arith);
         from = λ lt. (f.0, omega arith, omega arith);
         rest = λ q le lt _ _. omega arith;
@@ -82,36 +82,36 @@ module _ (s : EventOrder) (law : IsOrderly s) (v : View) (a p : ℕ) (sits : Sit
             (λ (other : x ≢ p). sits.known x le (omega arith));
       }
 
-  pub sits_next : IsLine (what s p) → IsFollowed s p → Sits s (view v.story v.from (p + 1)) a (p + 1)
+  pub sits_next : IsLine (what s p) → IsFollowed s p → Sits s (view v.event_order v.from (p + 1)) a (p + 1)
   sits_next line up = sits_on (inr (λ e there. let near = law.line p line e there in omega arith)) up
 
   pub is_next : IsWord (what s p) → IsNext s v.upto p
   is_next word = let f = sits.from some_done in (f.2, word, λ q le lt is. sits.rest q le lt some_done is)
 
   module _ (views : List View) (id : ℕ) (parted : Parted s views) (at : get_elem? views id ≡ some v) (fresh : Done views p → ⊥) where
-    pub wider_into : (q : ℕ) → IsWord (what s q) → Done (set views id (view v.story v.from (p + 1))) q → Done views q ⊎ (q ≡ p)
+    pub wider_into : (q : ℕ) → IsWord (what s q) → Done (set views id (view v.event_order v.from (p + 1))) q → Done views q ⊎ (q ≡ p)
     wider_into q word e = ⊎_elim
         (λ (d : Done views q). inl d)
-        (λ (inside : In (view v.story v.from (p + 1)) q). dite (dec_lt q v.upto)
+        (λ (inside : In (view v.event_order v.from (p + 1)) q). dite (dec_lt q v.upto)
         (λ (old : q < v.upto). inl (id, v, at, (inside.0, old)))
         (λ not. dite (ℕ_discrete q p)
         (λ (same : q ≡ p). inr same)
         (λ (other : q ≢ p). absurd (sits.rest q (omega arith) (omega (arith, inside.1)) some_done word))))
-        (done_into s views parted id v at (view v.story v.from (p + 1)) grows q e)
+        (done_into s views parted id v at (view v.event_order v.from (p + 1)) grows q e)
 
-    pub wider_keep : (q : ℕ) → Done views q → Done (set views id (view v.story v.from (p + 1))) q
-    wider_keep q d = done_keep s views parted id v at (view v.story v.from (p + 1)) grows q d
+    pub wider_keep : (q : ℕ) → Done views q → Done (set views id (view v.event_order v.from (p + 1))) q
+    wider_keep q d = done_keep s views parted id v at (view v.event_order v.from (p + 1)) grows q d
 
-    pub wider_reached : HasReached s (Done views) → IsFollowed s p → HasReached s (Done (set views id (view v.story v.from (p + 1))))
+    pub wider_reached : HasReached s (Done views) → IsFollowed s p → HasReached s (Done (set views id (view v.event_order v.from (p + 1))))
     wider_reached reached up k word d = ⊎_elim (λ (old : Done views k). reached k word old) (λ (same : k ≡ p). subst (λ j. IsFollowed s j) (sym same) up) (wider_into k word d)
 
-    pub wider_here : Done (set views id (view v.story v.from (p + 1))) p
-    wider_here = let f = sits.from some_done in done_here s views parted id v at (view v.story v.from (p + 1)) grows p (omega (arith, f.0), omega arith)
+    pub wider_here : Done (set views id (view v.event_order v.from (p + 1))) p
+    wider_here = let f = sits.from some_done in done_here s views parted id v at (view v.event_order v.from (p + 1)) grows p (omega (arith, f.0), omega arith)
 
-    pub wider_parted : Parted s (set views id (view v.story v.from (p + 1)))
+    pub wider_parted : Parted s (set views id (view v.event_order v.from (p + 1)))
     wider_parted =
         let f = sits.from some_done in
-        parted_set s views parted id v at (view v.story v.from (p + 1)) grows
+        parted_set s views parted id v at (view v.event_order v.from (p + 1)) grows
         (λ _. parted.begins id v at (omega (arith, f.0, f.1)))
         (λ x i u inside other there theirs. dite (dec_lt x v.upto)
         (λ (old : x < v.upto). other (parted.apart i id u v x there at theirs (inside.0, old)))
@@ -127,13 +127,13 @@ module _ (s : EventOrder) (law : IsOrderly s) (v : View) (a p : ℕ) (sits : Sit
         let word : IsWord (what s p) = word_of_read (what s p) c n is in
         let fresh : Done t.views p → ⊥ = λ d. fresh_line s t.views kept.parted id v at a p sits some_done (λ q r. absurd (cc (sym is ∙ r))) d.0 d.1 d.2 d.3 in
         let ready : (q : ℕ) → IsWord (what s q) → Before s q p → Done t.views q = λ q w b. ready_line s t.views kept.parted id v at a p sits some_done law kept.cut line w b in
-        let E : ℕ → Type 0 = Done (set t.views id (view v.story v.from (p + 1))) in
+        let E : ℕ → Type 0 = Done (set t.views id (view v.event_order v.from (p + 1))) in
         let into = wider_into t.views id kept.parted at fresh in
         let keep = wider_keep t.views id kept.parted at fresh in
         let here = wider_here t.views id kept.parted at fresh in
         let told : Told s E t.words = told_read s law (Done t.views) kept.cut p fresh ready E into keep here t.words c n is kept.told in
         let value : get_or t.words c 0 ≡ n = found s law (Done t.views) kept.cut p fresh ready c (get_or t.words c 0) n is (reads_shows s law values p c n up is) (kept.told.each_cell c small) in (
-          view v.story v.from (p + 1),
+          view v.event_order v.from (p + 1),
           keeps,
           tt,
           record {
@@ -142,30 +142,30 @@ module _ (s : EventOrder) (law : IsOrderly s) (v : View) (a p : ℕ) (sits : Sit
             told = subst (λ ws. Told s E ws) (sym (set-get_or t.words c 0)) told;
             reached = wider_reached t.views id kept.parted at fresh kept.reached up;
           },
-          (p, subst (λ z. IsNext z v.upto p) (sym sits.story) (is_next word), refl, subst (λ z. what z p ≡ read c (get_or t.words c 0)) (sym sits.story) (is ∙ ap (λ k. read c k) (sym value))),
+          (p, subst (λ z. IsNext z v.upto p) (sym sits.event_order) (is_next word), refl, subst (λ z. what z p ≡ read c (get_or t.words c 0)) (sym sits.event_order) (is ∙ ap (λ k. read c k) (sym value))),
         )
 
   -- the rule after a step at p, after which the words are ws
   module _ (id : ℕ) (t : State (Unit {0}) View) (kept : Kept s t) (at : get_elem? t.views id ≡ some v) (fresh : Done t.views p → ⊥) (ready : (q : ℕ) → IsWord (what s q) → Before s q p → Done t.views q) (up : IsFollowed s p) where
-    pub kept_at : (i n : ℕ) → Told s (Done (set t.views id (view v.story v.from (p + 1)))) (set t.words i n) → Kept s (stepped t i n id [] (view v.story v.from (p + 1)) keeps)
+    pub kept_at : (i n : ℕ) → Told s (Done (set t.views id (view v.event_order v.from (p + 1)))) (set t.words i n) → Kept s (stepped t i n id [] (view v.event_order v.from (p + 1)) keeps)
     kept_at i n told = record {
       parted = wider_parted t.views id kept.parted at fresh;
-      cut = cut_more s law (Done t.views) kept.cut p fresh ready (Done (set t.views id (view v.story v.from (p + 1)))) (wider_into t.views id kept.parted at fresh) (wider_keep t.views id kept.parted at fresh) (wider_here t.views id kept.parted at fresh);
+      cut = cut_more s law (Done t.views) kept.cut p fresh ready (Done (set t.views id (view v.event_order v.from (p + 1)))) (wider_into t.views id kept.parted at fresh) (wider_keep t.views id kept.parted at fresh) (wider_here t.views id kept.parted at fresh);
       told = told;
       reached = wider_reached t.views id kept.parted at fresh kept.reached up;
     }
 
-    pub kept_written : (c n : ℕ) → c < cells s → what s p ≡ write c n → Kept s (stepped t c n id [] (view v.story v.from (p + 1)) keeps)
-    kept_written c n small is = kept_at c n (told_written s law (Done t.views) kept.cut p fresh ready (Done (set t.views id (view v.story v.from (p + 1)))) (wider_into t.views id kept.parted at fresh) (wider_keep t.views id kept.parted at fresh) (wider_here t.views id kept.parted at fresh) t.words c n small is kept.told)
+    pub kept_written : (c n : ℕ) → c < cells s → what s p ≡ write c n → Kept s (stepped t c n id [] (view v.event_order v.from (p + 1)) keeps)
+    kept_written c n small is = kept_at c n (told_written s law (Done t.views) kept.cut p fresh ready (Done (set t.views id (view v.event_order v.from (p + 1)))) (wider_into t.views id kept.parted at fresh) (wider_keep t.views id kept.parted at fresh) (wider_here t.views id kept.parted at fresh) t.words c n small is kept.told)
 
-    pub kept_opened : what s p ≡ spawn → p ≤ length s.events → Kept s (stepped t (cells s + p) 1 id [] (view v.story v.from (p + 1)) keeps)
-    kept_opened is small = kept_at (cells s + p) 1 (told_opened s law (Done t.views) kept.cut p fresh ready (Done (set t.views id (view v.story v.from (p + 1)))) (wider_into t.views id kept.parted at fresh) (wider_keep t.views id kept.parted at fresh) (wider_here t.views id kept.parted at fresh) t.words is small kept.told)
+    pub kept_opened : what s p ≡ spawn → p ≤ length s.events → Kept s (stepped t (cells s + p) 1 id [] (view v.event_order v.from (p + 1)) keeps)
+    kept_opened is small = kept_at (cells s + p) 1 (told_opened s law (Done t.views) kept.cut p fresh ready (Done (set t.views id (view v.event_order v.from (p + 1)))) (wider_into t.views id kept.parted at fresh) (wider_keep t.views id kept.parted at fresh) (wider_here t.views id kept.parted at fresh) t.words is small kept.told)
 
-    pub kept_taken : (k : ℕ) → what s p ≡ resume k → k ≤ length s.events → Kept s (stepped t (cells s + k) 2 id [] (view v.story v.from (p + 1)) keeps)
-    kept_taken k is small = kept_at (cells s + k) 2 (told_taken s law (Done t.views) kept.cut p fresh ready (Done (set t.views id (view v.story v.from (p + 1)))) (wider_into t.views id kept.parted at fresh) (wider_keep t.views id kept.parted at fresh) (wider_here t.views id kept.parted at fresh) t.words k is small kept.told)
+    pub kept_taken : (k : ℕ) → what s p ≡ resume k → k ≤ length s.events → Kept s (stepped t (cells s + k) 2 id [] (view v.event_order v.from (p + 1)) keeps)
+    kept_taken k is small = kept_at (cells s + k) 2 (told_taken s law (Done t.views) kept.cut p fresh ready (Done (set t.views id (view v.event_order v.from (p + 1)))) (wider_into t.views id kept.parted at fresh) (wider_keep t.views id kept.parted at fresh) (wider_here t.views id kept.parted at fresh) t.words k is small kept.told)
 
-    pub kept_finished : what s p ≡ finish → Kept s (stepped t (cells s) 1 id [] (view v.story v.from (p + 1)) keeps)
-    kept_finished is = kept_at (cells s) 1 (told_finished s law (Done t.views) kept.cut p fresh ready (Done (set t.views id (view v.story v.from (p + 1)))) (wider_into t.views id kept.parted at fresh) (wider_keep t.views id kept.parted at fresh) (wider_here t.views id kept.parted at fresh) t.words is kept.told)
+    pub kept_finished : what s p ≡ finish → Kept s (stepped t (cells s) 1 id [] (view v.event_order v.from (p + 1)) keeps)
+    kept_finished is = kept_at (cells s) 1 (told_finished s law (Done t.views) kept.cut p fresh ready (Done (set t.views id (view v.event_order v.from (p + 1)))) (wider_into t.views id kept.parted at fresh) (wider_keep t.views id kept.parted at fresh) (wider_here t.views id kept.parted at fresh) t.words is kept.told)
 
   module _ (id : ℕ) (t : State (Unit {0}) View) (kept : Kept s t) (at : get_elem? t.views id ≡ some v) (line : IsLine (what s p)) (no_resume : (q : ℕ) → what s p ≡ resume q → ⊥) where
     line_fresh : Done t.views p → ⊥
@@ -174,26 +174,26 @@ module _ (s : EventOrder) (law : IsOrderly s) (v : View) (a p : ℕ) (sits : Sit
     line_ready : (q : ℕ) → IsWord (what s q) → Before s q p → Done t.views q
     line_ready q w b = ready_line s t.views kept.parted id v at a p sits some_done law kept.cut line w b
 
-  told_move : IsWord (what s p) → Moves (v, []) (view v.story v.from (p + 1), [])
-  told_move word = (p, subst (λ z. IsNext z v.upto p) (sym sits.story) (is_next word), refl)
+  told_move : IsWord (what s p) → Moves (v, []) (view v.event_order v.from (p + 1), [])
+  told_move word = (p, subst (λ z. IsNext z v.upto p) (sym sits.event_order) (is_next word), refl)
 
   pub allows_store : (slots id c n : ℕ) → c < cells s → what s p ≡ write c n → IsAsked s p → Allows (Kept s) slots id (v, []) c (λ _. n) (λ _. Moves (v, []))
   allows_store slots id c n small is fits t kept _ at _ =
       let line : IsLine (what s p) = subst IsLine (sym is) tt in
       let no_resume : (q : ℕ) → what s p ≡ resume q → ⊥ = λ q r. absurd (cc (sym is ∙ r)) in
-      (view v.story v.from (p + 1), keeps, tt, kept_written id t kept at (line_fresh id t kept at line no_resume) (line_ready id t kept at line no_resume) (up_line line fits) c n small is, told_move (word_of_write (what s p) c n is))
+      (view v.event_order v.from (p + 1), keeps, tt, kept_written id t kept at (line_fresh id t kept at line no_resume) (line_ready id t kept at line no_resume) (up_line line fits) c n small is, told_move (word_of_write (what s p) c n is))
 
   pub allows_offer : (slots id : ℕ) → p ≤ length s.events → what s p ≡ spawn → IsAsked s p → Allows (Kept s) slots id (v, []) (cells s + p) (λ _. 1) (λ _. Moves (v, []))
   allows_offer slots id small is fits t kept _ at _ =
       let line : IsLine (what s p) = subst IsLine (sym is) tt in
       let no_resume : (q : ℕ) → what s p ≡ resume q → ⊥ = λ q r. absurd (cc (sym is ∙ r)) in
-      (view v.story v.from (p + 1), keeps, tt, kept_opened id t kept at (line_fresh id t kept at line no_resume) (line_ready id t kept at line no_resume) (up_line line fits) is small, told_move (word_of_spawn (what s p) is))
+      (view v.event_order v.from (p + 1), keeps, tt, kept_opened id t kept at (line_fresh id t kept at line no_resume) (line_ready id t kept at line no_resume) (up_line line fits) is small, told_move (word_of_spawn (what s p) is))
 
   pub allows_finish : (slots id : ℕ) → what s p ≡ finish → IsAsked s p → Allows (Kept s) slots id (v, []) (cells s) (λ _. 1) (λ _. Moves (v, []))
   allows_finish slots id is fits t kept _ at _ =
       let line : IsLine (what s p) = subst IsLine (sym is) tt in
       let no_resume : (q : ℕ) → what s p ≡ resume q → ⊥ = λ q r. absurd (cc (sym is ∙ r)) in
-      (view v.story v.from (p + 1), keeps, tt, kept_finished id t kept at (line_fresh id t kept at line no_resume) (line_ready id t kept at line no_resume) (up_line line fits) is, told_move (word_of_finish (what s p) is))
+      (view v.event_order v.from (p + 1), keeps, tt, kept_finished id t kept at (line_fresh id t kept at line no_resume) (line_ready id t kept at line no_resume) (up_line line fits) is, told_move (word_of_finish (what s p) is))
 
 -- nothing changes
 pub unmoved : (s : EventOrder) (t : State (Unit {0}) View) (id i : ℕ) (v : View) → Kept s t → get_elem? t.views id ≡ some v → Kept s (stepped t i (get_or t.words i 0) id [] v keeps)
@@ -213,7 +213,7 @@ over_done s D n q one is (inl a) = absurd (omega (arith, one, a.0))
 over_done s D n q one is (inr a) = a.1 q is
 
 -- a look at the end
-pub ended_at : (s : EventOrder) → IsOrderly s → (slots id i : ℕ) (me : Me (Unit {0}) View) → me.0.story ≡ s → me.1 ≡ [] → i ≡ cells s → Allows (Kept s) slots id me i (λ x. x) (ends (step slots i 0 0 none) me)
+pub ended_at : (s : EventOrder) → IsOrderly s → (slots id i : ℕ) (me : Me (Unit {0}) View) → me.0.event_order ≡ s → me.1 ≡ [] → i ≡ cells s → Allows (Kept s) slots id me i (λ x. x) (ends (step slots i 0 0 none) me)
 ended_at s law slots id i me same bare there =
     let z : ℕ = length s.events in
     let Goal : ℕ → List (ℕ × Unit {0}) → Type 0 = λ j xs. Allows (Kept s) slots id (me.0, xs) j (λ x. x) (ends (step slots j 0 0 none) (me.0, xs)) in
@@ -260,30 +260,30 @@ module _ (s : EventOrder) (law : IsOrderly s) (k p : ℕ) (is : what s p ≡ res
   small_spawn = spawn_within s law k p is
 
   -- a segment continues
-  take_on : (a : ℕ) → Sits s v a p → a < p → Kept s (stepped t (cells s + k) 2 id [] (view v.story v.from (p + 1)) keeps)
+  take_on : (a : ℕ) → Sits s v a p → a < p → Kept s (stepped t (cells s + k) 2 id [] (view v.event_order v.from (p + 1)) keeps)
   take_on a sits some_done = kept_taken s law v a p sits some_done id t kept at take_fresh take_ready up k is small_spawn
 
   -- an empty segment begins
   module _ (none_done : v.upto ≤ v.from) where
-    fresh_grows : (x : ℕ) → In v x → In (view v.story p (p + 1)) x
+    fresh_grows : (x : ℕ) → In v x → In (view v.event_order p (p + 1)) x
     fresh_grows x i = absurd (omega (arith, i.0, i.1))
 
-    fresh_into : (q : ℕ) → IsWord (what s q) → Done (set t.views id (view v.story p (p + 1))) q → Done t.views q ⊎ (q ≡ p)
-    fresh_into q word e = ⊎_elim (λ (d : Done t.views q). inl d) (λ (i : In (view v.story p (p + 1)) q). inr (omega (arith, i.0, i.1)))
-        (done_into s t.views kept.parted id v at (view v.story p (p + 1)) fresh_grows q e)
+    fresh_into : (q : ℕ) → IsWord (what s q) → Done (set t.views id (view v.event_order p (p + 1))) q → Done t.views q ⊎ (q ≡ p)
+    fresh_into q word e = ⊎_elim (λ (d : Done t.views q). inl d) (λ (i : In (view v.event_order p (p + 1)) q). inr (omega (arith, i.0, i.1)))
+        (done_into s t.views kept.parted id v at (view v.event_order p (p + 1)) fresh_grows q e)
 
-    fresh_keep : (q : ℕ) → Done t.views q → Done (set t.views id (view v.story p (p + 1))) q
-    fresh_keep q d = done_keep s t.views kept.parted id v at (view v.story p (p + 1)) fresh_grows q d
+    fresh_keep : (q : ℕ) → Done t.views q → Done (set t.views id (view v.event_order p (p + 1))) q
+    fresh_keep q d = done_keep s t.views kept.parted id v at (view v.event_order p (p + 1)) fresh_grows q d
 
-    fresh_here : Done (set t.views id (view v.story p (p + 1))) p
-    fresh_here = done_here s t.views kept.parted id v at (view v.story p (p + 1)) fresh_grows p (omega arith, omega arith)
+    fresh_here : Done (set t.views id (view v.event_order p (p + 1))) p
+    fresh_here = done_here s t.views kept.parted id v at (view v.event_order p (p + 1)) fresh_grows p (omega arith, omega arith)
 
-    take_new : Kept s (stepped t (cells s + k) 2 id [] (view v.story p (p + 1)) keeps)
+    take_new : Kept s (stepped t (cells s + k) 2 id [] (view v.event_order p (p + 1)) keeps)
     take_new = record {
-      parted = parted_set s t.views kept.parted id v at (view v.story p (p + 1)) fresh_grows (λ _. ((law.inside p (word_of_resume (what s p) k is)).0, inr (k, is)))
+      parted = parted_set s t.views kept.parted id v at (view v.event_order p (p + 1)) fresh_grows (λ _. ((law.inside p (word_of_resume (what s p) k is)).0, inr (k, is)))
           (λ x i u here other there theirs. take_fresh (i, u, there, subst (λ j. In u j) (let same : x ≡ p = omega (arith, here.0, here.1) in same) theirs));
-      cut = cut_more s law (Done t.views) kept.cut p take_fresh take_ready (Done (set t.views id (view v.story p (p + 1)))) fresh_into fresh_keep fresh_here;
-      told = told_taken s law (Done t.views) kept.cut p take_fresh take_ready (Done (set t.views id (view v.story p (p + 1)))) fresh_into fresh_keep fresh_here t.words k is small_spawn kept.told;
+      cut = cut_more s law (Done t.views) kept.cut p take_fresh take_ready (Done (set t.views id (view v.event_order p (p + 1)))) fresh_into fresh_keep fresh_here;
+      told = told_taken s law (Done t.views) kept.cut p take_fresh take_ready (Done (set t.views id (view v.event_order p (p + 1)))) fresh_into fresh_keep fresh_here t.words k is small_spawn kept.told;
       reached = λ j word d. ⊎_elim (λ (old : Done t.views j). kept.reached j word old) (λ (same : j ≡ p). subst (λ i. IsFollowed s i) (sym same) up) (fresh_into j word d);
     }
 
@@ -296,17 +296,17 @@ begun s v a p (inl e) = p
 begun s v a p (inr g) = v.from
 
 take_kept : (s : EventOrder) (law : IsOrderly s) (k p : ℕ) (is : what s p ≡ resume k) (v : View) (t : State (Unit {0}) View) (id : ℕ) (kept : Kept s t) (at : get_elem? t.views id ≡ some v) (one : get_or t.words (cells s + k) 0 ≡ 1) (fits : IsAsked s p) (a : ℕ) (g : Goes s v a p)
-    → Kept s (stepped t (cells s + k) 2 id [] (view v.story (cond (ltb v.from v.upto) v.from p) (p + 1)) keeps)
-take_kept s law k p is v t id kept at one fits a (inl e) = subst (λ b. Kept s (stepped t (cells s + k) 2 id [] (view v.story (cond b v.from p) (p + 1)) keeps)) (sym (le-ltb v.from v.upto e)) (take_new s law k p is v t id kept at one fits e)
+    → Kept s (stepped t (cells s + k) 2 id [] (view v.event_order (cond (ltb v.from v.upto) v.from p) (p + 1)) keeps)
+take_kept s law k p is v t id kept at one fits a (inl e) = subst (λ b. Kept s (stepped t (cells s + k) 2 id [] (view v.event_order (cond b v.from p) (p + 1)) keeps)) (sym (le-ltb v.from v.upto e)) (take_new s law k p is v t id kept at one fits e)
 take_kept s law k p is v t id kept at one fits a (inr g) =
     let f = g.1.from g.0 in
-    subst (λ b. Kept s (stepped t (cells s + k) 2 id [] (view v.story (cond b v.from p) (p + 1)) keeps)) (sym (lt-ltb v.from v.upto (omega (arith, f.0, f.1)))) (take_on s law k p is v t id kept at one fits a g.1 g.0)
+    subst (λ b. Kept s (stepped t (cells s + k) 2 id [] (view v.event_order (cond b v.from p) (p + 1)) keeps)) (sym (lt-ltb v.from v.upto (omega (arith, f.0, f.1)))) (take_on s law k p is v t id kept at one fits a g.1 g.0)
 
-pub allows_take : (s : EventOrder) (law : IsOrderly s) (k p : ℕ) (is : what s p ≡ resume k) (fits : IsAsked s p) (v : View) (same : v.story ≡ s) (a : ℕ) (g : Goes s v a p) (slots id : ℕ)
+pub allows_take : (s : EventOrder) (law : IsOrderly s) (k p : ℕ) (is : what s p ≡ resume k) (fits : IsAsked s p) (v : View) (same : v.event_order ≡ s) (a : ℕ) (g : Goes s v a p) (slots id : ℕ)
     → Allows (Kept s) slots id (v, []) (cells s + k) (λ n. either (eqb n 1) 2 n) (takes (step slots (cells s + k) 1 2 none) (v, []))
 allows_take s law k p is fits v same a g slots id t kept _ at _ =
     let x : ℕ = get_or t.words (cells s + k) 0 in
-    let w : View = view v.story (cond (ltb v.from v.upto) v.from p) (p + 1) in
+    let w : View = view v.event_order (cond (ltb v.from v.upto) v.from p) (p + 1) in
     dite (ℕ_discrete x 1)
     (λ (hit : x ≡ 1). (
       w,
@@ -327,13 +327,13 @@ allows_take s law k p is fits v same a g slots id t kept _ at _ =
 pub record Stands (s : EventOrder) (me : Me (Unit {0}) View) (a p : ℕ) : Type 0 where
   pub law : IsOrderly s
   pub bare : me.1 ≡ []
-  pub same : me.0.story ≡ s
+  pub same : me.0.event_order ≡ s
   pub sits : Sits s me.0 a p
   pub some_done : a < p
   pub asked : IsAsked s p
   pub line : IsLine (what s p)
 
-pub stands : (s : EventOrder) (me : Me (Unit {0}) View) (a p : ℕ) → IsOrderly s → (me.1 ≡ []) × Sits me.0.story me.0 a p → me.0.story ≡ s → (a < p) × IsAsked s p → IsLine (what s p) → Stands s me a p
+pub stands : (s : EventOrder) (me : Me (Unit {0}) View) (a p : ℕ) → IsOrderly s → (me.1 ≡ []) × Sits me.0.event_order me.0 a p → me.0.event_order ≡ s → (a < p) × IsAsked s p → IsLine (what s p) → Stands s me a p
 stands s me a p law inside same goes line = record {
   law = law;
   bare = inside.0;
@@ -387,18 +387,18 @@ module _ (s : EventOrder) (me : Me (Unit {0}) View) (a p : ℕ) (h : Stands s me
   pub moves : (slots c n : ℕ) (m' : Me (Unit {0}) View) → loads (step slots c 0 0 none) me n m' → Moves me m'
   moves slots c n m' told = (told.0, told.1, told.2)
 
-  moved_is : (m' : Me (Unit {0}) View) → Moves me m' → m' ≡ (view me.0.story me.0.from (p + 1), [])
+  moved_is : (m' : Me (Unit {0}) View) → Moves me m' → m' ≡ (view me.0.event_order me.0.from (p + 1), [])
   moved_is m' told =
       let f = h.sits.from h.some_done in
       let is : told.0 ≡ p = next_once s me.0.upto told.0 p (subst (λ z. IsNext z me.0.upto told.0) h.same told.1) f.2 step_word (λ k le lt w. h.sits.rest k le lt h.some_done w) in
-      told.2 ∙ ap (λ k. (view me.0.story me.0.from (k + 1), me.1)) is ∙ ap (λ xs. (view me.0.story me.0.from (p + 1), xs)) h.bare
+      told.2 ∙ ap (λ k. (view me.0.event_order me.0.from (k + 1), me.1)) is ∙ ap (λ xs. (view me.0.event_order me.0.from (p + 1), xs)) h.bare
 
   -- the segment after the step
-  pub moved_at : (m' : Me (Unit {0}) View) → Moves me m' → (m'.1 ≡ []) × Sits m'.0.story m'.0 a (p + 1)
+  pub moved_at : (m' : Me (Unit {0}) View) → Moves me m' → (m'.1 ≡ []) × Sits m'.0.event_order m'.0 a (p + 1)
   moved_at m' told =
       let is = moved_is m' told in (
         ap (λ m. m.1) is,
-        subst (λ (m : Me (Unit {0}) View). Sits m.0.story m.0 a (p + 1)) (sym is) (subst (λ z. Sits z (view me.0.story me.0.from (p + 1)) a (p + 1)) (sym h.same) (sits_next s h.law me.0 a p h.sits h.some_done h.line (up_line s h.law me.0 a p h.sits h.some_done h.line h.asked))),
+        subst (λ (m : Me (Unit {0}) View). Sits m.0.event_order m.0 a (p + 1)) (sym is) (subst (λ z. Sits z (view me.0.event_order me.0.from (p + 1)) a (p + 1)) (sym h.same) (sits_next s h.law me.0 a p h.sits h.some_done h.line (up_line s h.law me.0 a p h.sits h.some_done h.line h.asked))),
       )
 
 -- a fact of what contracts see is one of the fields
@@ -408,7 +408,7 @@ both {y' = y'} {g = g} P e f h = subst (λ k. P k g) (sym e) (subst (λ k. P y' 
 -- a segment of one resumption
 sits_new : (s z : EventOrder) (k p : ℕ) → what s p ≡ resume k → IsFollowed s p → z ≡ s → Sits s (view z p (p + 1)) p (p + 1)
 sits_new s z k p is up same = record {
-  story = same;
+  event_order = same;
   empty = λ le. le;
   from = λ _. (refl, omega arith, omega arith);
   rest = λ q le lt _ _. omega arith;
@@ -420,7 +420,7 @@ sits_new s z k p is up same = record {
 abbrev pub Ready : ℕ → ℕ → ℕ → Type 0
 Ready a b p = (b ≤ a) ⊎ ((a < b) × (p ≡ b))
 
-module _ (s : EventOrder) (law : IsOrderly s) (me : Me (Unit {0}) View) (bare : me.1 ≡ []) (same : me.0.story ≡ s) (a b : ℕ) (sits : Sits me.0.story me.0 a b) (k p : ℕ) (is : what s p ≡ resume k) (fits : IsAsked s p) where
+module _ (s : EventOrder) (law : IsOrderly s) (me : Me (Unit {0}) View) (bare : me.1 ≡ []) (same : me.0.event_order ≡ s) (a b : ℕ) (sits : Sits me.0.event_order me.0 a b) (k p : ℕ) (is : what s p ≡ resume k) (fits : IsAsked s p) where
   goes : Ready a b p → Goes s me.0 a p
   goes (inl e) = inl (sits.empty e)
   goes (inr g) = inr (omega (arith, g.0, g.1), subst (λ j. Sits s me.0 a j) (sym g.1) (subst (λ z. Sits z me.0 a b) same sits))
@@ -430,33 +430,33 @@ module _ (s : EventOrder) (law : IsOrderly s) (me : Me (Unit {0}) View) (bare : 
       let Goal : ℕ → List (ℕ × Unit {0}) → Type 0 = λ j xs. Allows (Kept s) slots id (me.0, xs) j (λ n. either (eqb n 1) 2 n) (takes (step slots j 1 2 none) (me.0, xs)) in
       subst (λ j. Goal j me.1) (sym there) (subst (λ xs. Goal (cells s + k) xs) (sym bare) (allows_take s law k p is fits me.0 same a (goes ready) slots id))
 
-  after_yes : (slots i : ℕ) → i ≡ cells s + k → (m' : Me (Unit {0}) View) → takes (step slots i 1 2 none) me 1 m' → (m' ≡ (view me.0.story (cond (ltb me.0.from me.0.upto) me.0.from p) (p + 1), [])) × IsFollowed s k
+  after_yes : (slots i : ℕ) → i ≡ cells s + k → (m' : Me (Unit {0}) View) → takes (step slots i 1 2 none) me 1 m' → (m' ≡ (view me.0.event_order (cond (ltb me.0.from me.0.upto) me.0.from p) (p + 1), [])) × IsFollowed s k
   after_yes slots i there m' told =
       let t = told.0 refl in
       let cell : cells s + t.0 ≡ i = ap (λ z. cells z + t.0) (sym same) ∙ t.2 in
       let ticket : t.0 ≡ k = omega arith in
       let place : t.1 ≡ p = law.once t.1 p k (ap (λ z. what z t.1) (sym same) ∙ t.3 ∙ ap (λ j. resume j) ticket) is in (
-        t.5 ∙ ap (λ j. (view me.0.story (cond (ltb me.0.from me.0.upto) me.0.from j) (j + 1), me.1)) place ∙ ap (λ xs. (view me.0.story (cond (ltb me.0.from me.0.upto) me.0.from p) (p + 1), xs)) bare,
+        t.5 ∙ ap (λ j. (view me.0.event_order (cond (ltb me.0.from me.0.upto) me.0.from j) (j + 1), me.1)) place ∙ ap (λ xs. (view me.0.event_order (cond (ltb me.0.from me.0.upto) me.0.from p) (p + 1), xs)) bare,
         subst (λ j. IsFollowed s j) ticket (subst (λ z. IsFollowed z t.0) same t.4),
       )
 
   -- the segment after a yes
-  sits_yes : IsFollowed s k → (r : Ready a b p) → Sits s (view me.0.story (cond (ltb me.0.from me.0.upto) me.0.from p) (p + 1)) (cond (ltb a b) a p) (p + 1)
+  sits_yes : IsFollowed s k → (r : Ready a b p) → Sits s (view me.0.event_order (cond (ltb me.0.from me.0.upto) me.0.from p) (p + 1)) (cond (ltb a b) a p) (p + 1)
   sits_yes known (inl e) =
-      subst (λ c. Sits s (view me.0.story (cond c me.0.from p) (p + 1)) (cond (ltb a b) a p) (p + 1)) (sym (le-ltb me.0.from me.0.upto (sits.empty e)))
-      (subst (λ c. Sits s (view me.0.story p (p + 1)) (cond c a p) (p + 1)) (sym (le-ltb a b e)) (sits_new s me.0.story k p is (up_resume s law k p is known fits) same))
+      subst (λ c. Sits s (view me.0.event_order (cond c me.0.from p) (p + 1)) (cond (ltb a b) a p) (p + 1)) (sym (le-ltb me.0.from me.0.upto (sits.empty e)))
+      (subst (λ c. Sits s (view me.0.event_order p (p + 1)) (cond c a p) (p + 1)) (sym (le-ltb a b e)) (sits_new s me.0.event_order k p is (up_resume s law k p is known fits) same))
   sits_yes known (inr g) =
       let f = sits.from g.0 in
       let at : Sits s me.0 a p = subst (λ j. Sits s me.0 a j) (sym g.1) (subst (λ z. Sits z me.0 a b) same sits) in
-      subst (λ c. Sits s (view me.0.story (cond c me.0.from p) (p + 1)) (cond (ltb a b) a p) (p + 1)) (sym (lt-ltb me.0.from me.0.upto (omega (arith, f.0, f.1))))
-      (subst (λ c. Sits s (view me.0.story me.0.from (p + 1)) (cond c a p) (p + 1)) (sym (lt-ltb a b g.0)) (sits_on s law me.0 a p at (omega (arith, g.0, g.1)) (inl (k, is)) (up_resume s law k p is known fits)))
+      subst (λ c. Sits s (view me.0.event_order (cond c me.0.from p) (p + 1)) (cond (ltb a b) a p) (p + 1)) (sym (lt-ltb me.0.from me.0.upto (omega (arith, f.0, f.1))))
+      (subst (λ c. Sits s (view me.0.event_order me.0.from (p + 1)) (cond c a p) (p + 1)) (sym (lt-ltb a b g.0)) (sits_on s law me.0 a p at (omega (arith, g.0, g.1)) (inl (k, is)) (up_resume s law k p is known fits)))
 
-  pub sits_taken : Ready a b p → (slots i : ℕ) → i ≡ cells s + k → (m' : Me (Unit {0}) View) (r : ℕ) → r ≡ 1 → takes (step slots i 1 2 none) me r m' → (m'.1 ≡ []) × (m'.0.story ≡ me.0.story) × Sits m'.0.story m'.0 (cond (ltb a b) a p) (p + 1)
+  pub sits_taken : Ready a b p → (slots i : ℕ) → i ≡ cells s + k → (m' : Me (Unit {0}) View) (r : ℕ) → r ≡ 1 → takes (step slots i 1 2 none) me r m' → (m'.1 ≡ []) × (m'.0.event_order ≡ me.0.event_order) × Sits m'.0.event_order m'.0 (cond (ltb a b) a p) (p + 1)
   sits_taken ready slots i there m' r one told =
       let e = after_yes slots i there m' (subst (λ n. takes (step slots i 1 2 none) me n m') one told) in (
         ap (λ m. m.1) e.0,
-        ap (λ m. m.0.story) e.0,
-        subst (λ (m : Me (Unit {0}) View). Sits m.0.story m.0 (cond (ltb a b) a p) (p + 1)) (sym e.0) (subst (λ z. Sits z (view me.0.story (cond (ltb me.0.from me.0.upto) me.0.from p) (p + 1)) (cond (ltb a b) a p) (p + 1)) (sym same) (sits_yes e.1 ready)),
+        ap (λ m. m.0.event_order) e.0,
+        subst (λ (m : Me (Unit {0}) View). Sits m.0.event_order m.0 (cond (ltb a b) a p) (p + 1)) (sym e.0) (subst (λ z. Sits z (view me.0.event_order (cond (ltb me.0.from me.0.upto) me.0.from p) (p + 1)) (cond (ltb a b) a p) (p + 1)) (sym same) (sits_yes e.1 ready)),
       )
 
 -- an event that is no step on a word
@@ -464,7 +464,7 @@ pub passes : (s : EventOrder) (law : IsOrderly s) (me : Me (Unit {0}) View) (a p
 passes s law me a p sits some_done is inner fits =
     let f = sits.from some_done in
     record {
-      story = sits.story;
+      event_order = sits.event_order;
       empty = λ e. absurd (omega arith);
       from = λ _. (f.0, f.1, omega (arith, f.2));
       rest = λ q le lt _ word. dite (ℕ_discrete q p)

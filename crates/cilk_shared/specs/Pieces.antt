@@ -20,26 +20,26 @@ use Rattle.cilk_shared.specs.Settled.{AreSettled}
 -- a segment, and the reducers of its run
 pub record PieceValue : Type 0 where
   pub of : TableId
-  pub story : EventOrder
+  pub event_order : EventOrder
   pub reducers : Reducers
   pub from : ℕ
   pub upto : ℕ
 
 abbrev pub piece_of : Reducers → SegmentValue → PieceValue
-piece_of r g = record { of = g.of; story = g.story; reducers = r; from = g.from; upto = g.upto }
+piece_of r g = record { of = g.of; event_order = g.event_order; reducers = r; from = g.from; upto = g.upto }
 
 abbrev pub segment_of : PieceValue → SegmentValue
-segment_of p = record { of = p.of; story = p.story; from = p.from; upto = p.upto }
+segment_of p = record { of = p.of; event_order = p.event_order; from = p.from; upto = p.upto }
 
 -- The views are those of the segment's range. The range begins at the start of the run or where a
 -- continuation is resumed. The immediate predecessors of each of its events are in it, except those
 -- of such a resumption.
 pub record Covers (views : Hypermap) (r : Reducers) (g : SegmentValue) : Type 0 where
-  pub settled : AreSettled g.story r
-  pub begins : g.from < g.upto → IsStart g.story g.from
-  pub whole : Whole g.story g.from g.upto
-  pub words : HaveWords (events_over g.story r g.from g.upto)
-  pub shows : ShowsRange (kind_in r) views (events_over g.story r g.from g.upto)
+  pub settled : AreSettled g.event_order r
+  pub begins : g.from < g.upto → IsStart g.event_order g.from
+  pub whole : Whole g.event_order g.from g.upto
+  pub words : HaveWords (events_over g.event_order r g.from g.upto)
+  pub shows : ShowsRange (kind_in r) views (events_over g.event_order r g.from g.upto)
 
 -- it belongs to the yard
 abbrev pub IsPieceOf : YardValue → PieceValue → Type 0
@@ -66,13 +66,13 @@ Adjoining p q = Adjoin (segment_of p) (segment_of q)
 
 -- the continuation of the spawn at k is taken and p has become q, or nothing has changed
 abbrev pub IsPieceTaken : YardValue → PieceValue → ℕ → PieceValue → Taken → Type 0
-IsPieceTaken y p k q Yes = (at : ℕ) × (what y.story at ≡ resume k) × (q ≡ piece_of p.reducers (taken_at (segment_of p) at))
+IsPieceTaken y p k q Yes = (at : ℕ) × (what y.event_order at ≡ resume k) × (q ≡ piece_of p.reducers (taken_at (segment_of p) at))
 IsPieceTaken y p k q No = q ≡ p
 
 -- this is the piece's next event, the frame requests it, and it is no step on a shared word
 abbrev pub PassesOn : PieceValue → Event → Type 0
-PassesOn p e = CanPass (segment_of p) × (event p.story p.upto ≡ Some e)
+PassesOn p e = CanPass (segment_of p) × (event p.event_order p.upto ≡ Some e)
 
 -- the number of a reducer's view over the events of the run before the next one
 abbrev pub number_ahead : PieceValue → Instance → ℤ
-number_ahead p i = (structure_of (kind_in p.reducers i)).number (view_of (structure_of (kind_in p.reducers i)) i (events_over p.story p.reducers 1 p.upto))
+number_ahead p i = (structure_of (kind_in p.reducers i)).number (view_of (structure_of (kind_in p.reducers i)) i (events_over p.event_order p.reducers 1 p.upto))

@@ -10,7 +10,7 @@ use Rattle.cilk_tree.specs.Runs.{IsFollowed}
 use Rattle.cilk_shared.specs.declared.view.View.{View}
 
 abbrev pub view : EventOrder → ℕ → ℕ → View
-view s a b = record { story = s; from = a; upto = b }
+view s a b = record { event_order = s; from = a; upto = b }
 
 abbrev pub In : View → ℕ → Type 0
 In v p = (v.from ≤ p) × (p < v.upto)
@@ -81,20 +81,20 @@ Sat = Me (Unit {0}) View
 
 -- the seat after it has done the next step on a word, at p
 abbrev pub moved : Sat → ℕ → Sat
-moved m p = (view m.0.story m.0.from (p + 1), m.1)
+moved m p = (view m.0.event_order m.0.from (p + 1), m.1)
 
 abbrev pub loads : Step (Unit {0}) → Sat → ℕ → Sat → Type 0
-loads st m n m' = (p : ℕ) × IsNext m.0.story m.0.upto p × (m' ≡ moved m p) × (what m.0.story p ≡ read st.word n)
+loads st m n m' = (p : ℕ) × IsNext m.0.event_order m.0.upto p × (m' ≡ moved m p) × (what m.0.event_order p ≡ read st.word n)
 
 abbrev pub Moves : Sat → Sat → Type 0
-Moves m m' = (p : ℕ) × IsNext m.0.story m.0.upto p × (m' ≡ moved m p)
+Moves m m' = (p : ℕ) × IsNext m.0.event_order m.0.upto p × (m' ≡ moved m p)
 
 abbrev pub stores : Step (Unit {0}) → Sat → ℕ → Sat → Type 0
 stores st m n m' = Moves m m'
 
 -- nothing changes; if the word of the end is 1, the frames request each event of the run
 abbrev pub ends : Step (Unit {0}) → Sat → ℕ → Sat → Type 0
-ends st m n m' = (m' ≡ m) × (n ≡ 1 → IsFollowed m.0.story (length m.0.story.events))
+ends st m n m' = (m' ≡ m) × (n ≡ 1 → IsFollowed m.0.event_order (length m.0.event_order.events))
 
 -- the immediate predecessors of each event of the range are in the range, or the event is the
 -- resumption after a spawn
@@ -103,7 +103,7 @@ Whole s a b = (x : ℕ) → a ≤ x → x < b → ((q : ℕ) × (what s x ≡ re
 
 -- a segment from a up to b, whose seat has the view v
 pub record Sits (s : EventOrder) (v : View) (a b : ℕ) : Type 0 where
-  pub story : v.story ≡ s
+  pub event_order : v.event_order ≡ s
   pub empty : b ≤ a → v.upto ≤ v.from
   pub from : a < b → (v.from ≡ a) × (a < v.upto) × (v.upto ≤ b)
   pub rest : (q : ℕ) → v.upto ≤ q → q < b → a < b → IsWord (what s q) → ⊥
@@ -113,16 +113,16 @@ pub record Sits (s : EventOrder) (v : View) (a b : ℕ) : Type 0 where
 -- the continuation of the spawn at k is taken if its word is 1, and else nothing changes
 abbrev pub takes : Step (Unit {0}) → Sat → ℕ → Sat → Type 0
 takes st m n m' =
-    (n ≡ 1 → (k : ℕ) × (p : ℕ) × (cells m.0.story + k ≡ st.word) × (what m.0.story p ≡ resume k) × IsFollowed m.0.story k × (m' ≡ (view m.0.story (cond (nat_lt m.0.from m.0.upto) m.0.from p) (p + 1), m.1)))
+    (n ≡ 1 → (k : ℕ) × (p : ℕ) × (cells m.0.event_order + k ≡ st.word) × (what m.0.event_order p ≡ resume k) × IsFollowed m.0.event_order k × (m' ≡ (view m.0.event_order (cond (nat_lt m.0.from m.0.upto) m.0.from p) (p + 1), m.1)))
     × (n ≢ 1 → m' ≡ m)
 
 -- an empty seat beside a seat
 abbrev pub beside : View → View
-beside v = view v.story 0 0
+beside v = view v.event_order 0 0
 
 abbrev pub spent : View
 spent = view (record { events = []; preceding = []; opening = []; asked = [] }) 0 0
 
 -- the union of two ranges that adjoin
 abbrev pub joined : View → View → View
-joined v w = cond (nat_lt v.from v.upto) (cond (nat_lt w.from w.upto) (view v.story v.from w.upto) v) (view v.story w.from w.upto)
+joined v w = cond (nat_lt v.from v.upto) (cond (nat_lt w.from w.upto) (view v.event_order v.from w.upto) v) (view v.event_order w.from w.upto)

@@ -12,78 +12,78 @@ use Rattle.cilk_shared.specs.Rows.{spanned}
 
 pub record YardValue : Type 0 where
   pub of : TableId
-  pub story : EventOrder
+  pub event_order : EventOrder
 
 -- the events from `from` up to `upto` are done
 pub record SegmentValue : Type 0 where
   pub of : TableId
-  pub story : EventOrder
+  pub event_order : EventOrder
   pub from : ℕ
   pub upto : ℕ
 
 -- the segment belongs to the yard
 abbrev pub OfYard : YardValue → SegmentValue → Type 0
-OfYard y g = (g.of ≡ y.of) × (g.story ≡ y.story)
+OfYard y g = (g.of ≡ y.of) × (g.event_order ≡ y.event_order)
 
 abbrev pub moved_on : SegmentValue → SegmentValue
-moved_on g = record { of = g.of; story = g.story; from = g.from; upto = g.upto + 1 }
+moved_on g = record { of = g.of; event_order = g.event_order; from = g.from; upto = g.upto + 1 }
 
 -- the segment isn't empty, and the frame requests its next event
 abbrev pub GoesOn : YardValue → SegmentValue → Type 0
-GoesOn y g = (g.from < g.upto) × IsAsked y.story g.upto
+GoesOn y g = (g.from < g.upto) × IsAsked y.event_order g.upto
 
 -- the next event of the segment reads the cell
 abbrev pub NextRead : YardValue → SegmentValue → ℕ → Type 0
-NextRead y g c = GoesOn y g × (c < length y.story.opening) × ((v : ℤ) × (event y.story g.upto ≡ Some (Read c v)))
+NextRead y g c = GoesOn y g × (c < length y.event_order.opening) × ((v : ℤ) × (event y.event_order g.upto ≡ Some (Read c v)))
 
 -- the next event of the segment writes the value to the cell
 abbrev pub NextWrite : YardValue → SegmentValue → ℕ → ℤ → Type 0
-NextWrite y g c v = GoesOn y g × (c < length y.story.opening) × (event y.story g.upto ≡ Some (Write c v))
+NextWrite y g c v = GoesOn y g × (c < length y.event_order.opening) × (event y.event_order g.upto ≡ Some (Write c v))
 
 -- the next event of the segment is a spawn
 abbrev pub NextSpawn : YardValue → SegmentValue → Type 0
-NextSpawn y g = GoesOn y g × (what y.story g.upto ≡ spawn)
+NextSpawn y g = GoesOn y g × (what y.event_order g.upto ≡ spawn)
 
 -- the next event of the segment is the root's `end`
 abbrev pub NextFinish : YardValue → SegmentValue → Type 0
-NextFinish y g = GoesOn y g × (what y.story g.upto ≡ finish)
+NextFinish y g = GoesOn y g × (what y.event_order g.upto ≡ finish)
 
 -- The segment is empty, or the `resume` after the spawn at k is its next event, as it is after the
 -- `end` of the spawned child. If there is no spawn at k, there is no such event.
 abbrev pub CanTake : YardValue → SegmentValue → ℕ → Type 0
-CanTake y g k = (p : ℕ) → what y.story p ≡ resume k → IsAsked y.story p × ((g.upto ≤ g.from) ⊎ ((g.from < g.upto) × (p ≡ g.upto)))
+CanTake y g k = (p : ℕ) → what y.event_order p ≡ resume k → IsAsked y.event_order p × ((g.upto ≤ g.from) ⊎ ((g.from < g.upto) × (p ≡ g.upto)))
 
 -- the segment continued at p
 abbrev pub taken_at : SegmentValue → ℕ → SegmentValue
-taken_at g p = record { of = g.of; story = g.story; from = cond (nat_lt g.from g.upto) g.from p; upto = p + 1 }
+taken_at g p = record { of = g.of; event_order = g.event_order; from = cond (nat_lt g.from g.upto) g.from p; upto = p + 1 }
 
 -- the continuation of the spawn at k is taken and g has become h, or nothing has changed
 abbrev pub IsTaken : YardValue → SegmentValue → ℕ → SegmentValue → Taken → Type 0
-IsTaken y g k h Yes = (p : ℕ) × (what y.story p ≡ resume k) × (h ≡ taken_at g p)
+IsTaken y g k h Yes = (p : ℕ) × (what y.event_order p ≡ resume k) × (h ≡ taken_at g p)
 IsTaken y g k h No = h ≡ g
 
 -- the immediate predecessors of the next event are not before the start of the segment
 abbrev pub HoldsPreceding : SegmentValue → Type 0
-HoldsPreceding g = (e : ℕ) → Among e (after g.story g.upto) → g.from ≤ e
+HoldsPreceding g = (e : ℕ) → Among e (after g.event_order g.upto) → g.from ≤ e
 
 -- there is a next event, it is no step on a word, and its immediate predecessors are in the segment
 abbrev pub MayPass : SegmentValue → Type 0
-MayPass g = (g.from < g.upto) × (g.upto ≤ length g.story.events) × (what g.story g.upto ≡ plain) × HoldsPreceding g
+MayPass g = (g.from < g.upto) × (g.upto ≤ length g.event_order.events) × (what g.event_order g.upto ≡ plain) × HoldsPreceding g
 
 -- and the frame requests it
 abbrev pub CanPass : SegmentValue → Type 0
-CanPass g = MayPass g × IsAsked g.story g.upto
+CanPass g = MayPass g × IsAsked g.event_order g.upto
 
 -- the segment isn't empty, and its next event isn't the `resume` after a spawn
 abbrev pub IsAhead : SegmentValue → Type 0
-IsAhead g = (g.from < g.upto) × ((k : ℕ) → what g.story g.upto ≢ resume k)
+IsAhead g = (g.from < g.upto) × ((k : ℕ) → what g.event_order g.upto ≢ resume k)
 
 abbrev pub empty_beside : SegmentValue → SegmentValue
-empty_beside g = record { of = g.of; story = g.story; from = 0; upto = 0 }
+empty_beside g = record { of = g.of; event_order = g.event_order; from = 0; upto = 0 }
 
 -- one is empty, or the second begins where the first ends
 abbrev pub Adjoin : SegmentValue → SegmentValue → Type 0
 Adjoin g h = (g.upto ≤ g.from) ⊎ (h.upto ≤ h.from) ⊎ ((g.from < g.upto) × (h.from < h.upto) × (g.upto ≡ h.from))
 
 abbrev pub both_of : SegmentValue → SegmentValue → SegmentValue
-both_of g h = record { of = g.of; story = g.story; from = (spanned g.from g.upto h.from h.upto).0; upto = (spanned g.from g.upto h.from h.upto).1 }
+both_of g h = record { of = g.of; event_order = g.event_order; from = (spanned g.from g.upto h.from h.upto).0; upto = (spanned g.from g.upto h.from h.upto).1 }

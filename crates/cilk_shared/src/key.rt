@@ -10,7 +10,7 @@ use std::marker::Model;
 /// The event order of a yard's run. It takes no bytes.
 #[derive(Drop)]
 pub struct EventOrderKey {
-    pub ghost story: { EventOrder },
+    pub ghost event_order: { EventOrder },
 }
 
 impl Model for EventOrderKey {
@@ -21,7 +21,7 @@ impl EventOrderKey {
     /// Returns the event order of the run on this input, where `along` gives one for each input.
     pub(crate) fn of(input: &Input) -> EventOrderKey
         ghost along: { List ℤ → EventOrder }
-        ensures { result.story ≡ along input.now }
+        ensures { result.event_order ≡ along input.now }
     {
         let _ = input;
         EventOrderKey {}

@@ -54,8 +54,8 @@ impl Piece {
     pub fn new(alloc: Global, yard: &Yard, segment: Segment, reducers: &Reducers) -> Piece
         requires yard { OfYard yard.now segment }
         requires first { (segment.from ≡ 1) × (segment.upto ≡ 2) }
-        requires settled { AreSettled segment.story reducers.now }
-        requires quiet { events_at segment.story reducers.now 1 ≡ [] }
+        requires settled { AreSettled segment.event_order reducers.now }
+        requires quiet { events_at segment.event_order reducers.now 1 ≡ [] }
         ensures { result ≡ piece_of reducers.now segment }
     {
         yard.laws();
@@ -68,7 +68,7 @@ impl Piece {
 
     /// Returns the views and the segment.
     pub fn parted(self) -> Parts
-        ensures views { ShowsRange (kind_in self.reducers) result.views (events_over self.story self.reducers self.from self.upto) }
+        ensures views { ShowsRange (kind_in self.reducers) result.views (events_over self.event_order self.reducers self.from self.upto) }
         ensures segment { result.segment ≡ segment_of self }
     {
         Parts {
@@ -131,7 +131,7 @@ impl Piece {
         requires yard { IsPieceOf yard.now self.old }
         requires next { NextRead yard.now (segment_of self.old) cell }
         ensures piece { self.new ≡ grown self.old }
-        ensures value { event yard.now.story self.old.upto ≡ Some (Read cell result) }
+        ensures value { event yard.now.event_order self.old.upto ≡ Some (Read cell result) }
     {
         yard.laws();
         yard.load(&mut self.segment, cell)
@@ -175,7 +175,7 @@ impl Piece {
     pub fn ended(&mut self, yard: &Yard) -> bool
         requires { IsPieceOf yard.now self.old }
         ensures piece { self.new ≡ self.old }
-        ensures whole { IsTrue result → IsFollowed self.old.story (length self.old.story.events) }
+        ensures whole { IsTrue result → IsFollowed self.old.event_order (length self.old.event_order.events) }
     {
         yard.ended(&mut self.segment)
     }
@@ -184,7 +184,7 @@ impl Piece {
     pub fn pass(&mut self, yard: &Yard)
         requires yard { IsPieceOf yard.now self.old }
         requires next { CanPass (segment_of self.old) }
-        requires quiet { events_at self.old.story self.old.reducers self.old.upto ≡ [] }
+        requires quiet { events_at self.old.event_order self.old.reducers self.old.upto ≡ [] }
         ensures { self.new ≡ grown self.old }
     {
         self.segment.pass(yard);
@@ -289,7 +289,7 @@ impl Piece {
         requires yard { IsPieceOf yard.now self.old }
         requires reducers { (reducers.now ≡ self.old.reducers) × HasFew reducers.now }
         requires next { PassesOn self.old End }
-        requires frame { IsInFrame self.old.story.events self.old.upto frame }
+        requires frame { IsInFrame self.old.event_order.events self.old.upto frame }
         ensures { self.new ≡ grown self.old }
     {
         retire_own(&mut self.views, reducers, frame);
@@ -302,7 +302,7 @@ impl Piece {
         requires yard { IsPieceOf yard.now self.old }
         requires reducers { (reducers.now ≡ self.old.reducers) × HasFew reducers.now }
         requires next { NextFinish yard.now (segment_of self.old) }
-        requires root { IsInFrame self.old.story.events self.old.upto root }
+        requires root { IsInFrame self.old.event_order.events self.old.upto root }
         ensures { self.new ≡ grown self.old }
     {
         yard.laws();

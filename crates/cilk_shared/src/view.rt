@@ -4,7 +4,7 @@ use cilk_tree::event_order::EventOrder;
 
 /// The positions from `from` up to `upto`, without `upto` itself.
 pub struct View {
-    pub story: EventOrder,
+    pub event_order: EventOrder,
     pub from: u64,
     pub upto: u64,
 }

@@ -27,9 +27,9 @@ struct Words;
 impl TableRule<(), View, EventOrderKey> for Words {
     ghost use Rattle.cilk_shared.specs.Rule.{view, Kept};
 
-    ghost holds = { λ k t. Kept k.story t };
+    ghost holds = { λ k t. Kept k.event_order t };
 
-    ghost first = { λ k. view k.story 1 2 };
+    ghost first = { λ k. view k.event_order 1 2 };
 }
 
 struct Loads;
@@ -110,9 +110,9 @@ impl Model for Yard {
 
     ghost Value = { YardValue };
 
-    ghost view = { λ y. record { of = y.table.shared.table_id; story = y.table.shared.key.story } };
+    ghost view = { λ y. record { of = y.table.shared.table_id; event_order = y.table.shared.key.event_order } };
 
-    ghost invariant = { λ y. IsOrderly y.table.shared.key.story × (0 < y.table.shared.table_id.words) × (y.table.shared.table_id.slots ≡ 0) × (y.table.shared.table_id.words ≡ length y.table.shared.key.story.opening + (length y.table.shared.key.story.events + 1)) × (y.cells ≡ length y.table.shared.key.story.opening) × (y.cells + length y.table.shared.key.story.events + 1 < 2 ^ 34) × HasValues y.table.shared.key.story × AreResumptions y.table.shared.key.story y.resumptions.items };
+    ghost invariant = { λ y. IsOrderly y.table.shared.key.event_order × (0 < y.table.shared.table_id.words) × (y.table.shared.table_id.slots ≡ 0) × (y.table.shared.table_id.words ≡ length y.table.shared.key.event_order.opening + (length y.table.shared.key.event_order.events + 1)) × (y.cells ≡ length y.table.shared.key.event_order.opening) × (y.cells + length y.table.shared.key.event_order.events + 1 < 2 ^ 34) × HasValues y.table.shared.key.event_order × AreResumptions y.table.shared.key.event_order y.resumptions.items };
 }
 
 /// A range of the run's positions that one worker has done.
@@ -130,9 +130,9 @@ impl Model for Segment {
 
     ghost Value = { SegmentValue };
 
-    ghost view = { λ g. record { of = g.seat.table_id; story = g.seat.me.0.story; from = g.from; upto = g.upto } };
+    ghost view = { λ g. record { of = g.seat.table_id; event_order = g.seat.me.0.event_order; from = g.from; upto = g.upto } };
 
-    ghost invariant = { λ g. (g.seat.me.1 ≡ []) × Sits g.seat.me.0.story g.seat.me.0 g.from g.upto };
+    ghost invariant = { λ g. (g.seat.me.1 ≡ []) × Sits g.seat.me.0.event_order g.seat.me.0 g.from g.upto };
 }
 
 impl Yard {
@@ -144,7 +144,7 @@ impl Yard {
         ghost along: { List ℤ → EventOrder }
         requires plan { IsAlong plan.now (along input.now) }
         requires values { HasValues (along input.now) }
-        ensures story { IfOk result (λ r. r.0.story ≡ along input.now) }
+        ensures event_order { IfOk result (λ r. r.0.event_order ≡ along input.now) }
         ensures segment { IfOk result (λ r. OfYard r.0 r.1 × (r.1.from ≡ 1) × (r.1.upto ≡ 2)) }
     {
         let column = plan.resumptions(alloc)?;
@@ -162,7 +162,7 @@ impl Yard {
         requires plan { IsAlong plan.now (along input.now) }
         requires values { HasValues (along input.now) }
         requires column { AreResumptions plan.now column.items }
-        ensures story { IfOk result (λ r. r.0.story ≡ along input.now) }
+        ensures event_order { IfOk result (λ r. r.0.event_order ≡ along input.now) }
         ensures segment { IfOk result (λ r. OfYard r.0 r.1 × (r.1.from ≡ 1) × (r.1.upto ≡ 2)) }
     {
         plan.laws();
@@ -184,8 +184,8 @@ impl Yard {
 
     /// The laws that the run's event order obeys.
     pub fn laws(&self)
-        ensures order { IsOrderly self.now.story }
-        ensures values { HasValues self.now.story }
+        ensures order { IsOrderly self.now.event_order }
+        ensures values { HasValues self.now.event_order }
     {
         let _cells = self.cells;
     }
@@ -196,7 +196,7 @@ impl Yard {
         requires yard { OfYard self.now segment.old }
         requires next { NextRead self.now segment.old cell }
         ensures segment { segment.new ≡ moved_on segment.old }
-        ensures value { event self.now.story segment.old.upto ≡ Some (Read cell result) }
+        ensures value { event self.now.event_order segment.old.upto ≡ Some (Read cell result) }
     {
         let found = self
             .table
@@ -260,7 +260,7 @@ impl Yard {
     /// Returns the position of the `resume` after the spawn at `ticket`, or `None` if the plan has
     /// no spawn there.
     pub fn resumption(&self, ticket: Pos) -> Option<Pos>
-        ensures { (p : ℕ) → (result ≡ Some p) ↔ (what self.now.story p ≡ resume ticket) }
+        ensures { (p : ℕ) → (result ≡ Some p) ↔ (what self.now.event_order p ≡ resume ticket) }
     {
         let at = entry(self.resumptions.as_slice(), ticket as usize);
         if at == 0 { None } else { Some(at) }
@@ -283,7 +283,7 @@ impl Yard {
     pub fn ended(&self, segment: &mut Segment) -> bool
         requires { OfYard self.now segment.old }
         ensures segment { segment.new ≡ segment.old }
-        ensures whole { IsTrue result → IsFollowed self.now.story (length self.now.story.events) }
+        ensures whole { IsTrue result → IsFollowed self.now.event_order (length self.now.event_order.events) }
     {
         let found = self
             .table
@@ -343,8 +343,8 @@ impl Yard {
     /// the yard and the segment come back.
     pub fn globals(self, alloc: Global, segment: Segment) -> Result<Vec<i64>, (Yard, Segment)>
         requires yard { OfYard self segment }
-        requires all { (segment.from ≡ 1) × (segment.upto ≡ length self.story.events + 1) }
-        ensures ok { IfOk result (λ v. AreFinal self.story v.items) }
+        requires all { (segment.from ≡ 1) × (segment.upto ≡ length self.event_order.events + 1) }
+        ensures ok { IfOk result (λ v. AreFinal self.event_order v.items) }
         ensures err { IfErr result (λ r. (r.0 ≡ self) × (r.1 ≡ segment)) }
     {
         let Ok(values) = Vec::with_capacity(alloc, self.cells) else {
@@ -454,7 +454,7 @@ impl Segment {
     /// [`Segment::pass`] requires. Those of a `sync` are the event before it and the `end`s of the
     /// children spawned in its block.
     pub fn holds_preceding(&self, plan: &Plan) -> bool
-        requires { IsAlong plan.now self.now.story }
+        requires { IsAlong plan.now self.now.event_order }
         ensures { IsTrue result ↔ HoldsPreceding self.now }
     {
         match plan.earliest_before(self.upto) {
@@ -466,7 +466,7 @@ impl Segment {
     /// Returns whether [`Segment::pass`] may be called if the frame requests the next event: there
     /// is one, it is no step on a shared word, and its immediate predecessors are in the segment.
     pub fn may_pass(&self, plan: &Plan) -> bool
-        requires { IsAlong plan.now self.now.story }
+        requires { IsAlong plan.now self.now.event_order }
         ensures { IsTrue result ↔ MayPass self.now }
     {
         if self.from >= self.upto {
@@ -484,7 +484,7 @@ impl Segment {
     /// A law: the frames request the segment's last event and each event before it.
     pub fn has_followed(&self)
         requires { self.now.from < self.now.upto }
-        ensures { IsFollowed self.now.story (self.now.upto - 1) }
+        ensures { IsFollowed self.now.event_order (self.now.upto - 1) }
     {
         let _from = self.from;
     }
@@ -494,9 +494,9 @@ impl Segment {
     pub fn follows(&self, yard: &Yard)
         requires yard { OfYard yard.now self.now }
         requires next { IsAhead self.now }
-        requires sync { event self.now.story self.now.upto ≢ Some Sync }
-        requires asked { IsAsked self.now.story self.now.upto }
-        ensures { IsFollowed self.now.story self.now.upto }
+        requires sync { event self.now.event_order self.now.upto ≢ Some Sync }
+        requires asked { IsAsked self.now.event_order self.now.upto }
+        ensures { IsFollowed self.now.event_order self.now.upto }
     {
         yard.laws();
         let _from = self.from;
@@ -507,10 +507,10 @@ impl Segment {
     pub fn departs(&self, yard: &Yard) -> Pos
         requires yard { OfYard yard.now self.now }
         requires next { IsAhead self.now }
-        requires within { self.now.upto ≤ length self.now.story.events }
-        requires differs { IsAsked self.now.story self.now.upto → ⊥ }
+        requires within { self.now.upto ≤ length self.now.event_order.events }
+        requires differs { IsAsked self.now.event_order self.now.upto → ⊥ }
         ensures place { result ≡ self.now.upto }
-        ensures departs { Departs self.now.story result }
+        ensures departs { Departs self.now.event_order result }
     {
         yard.laws();
         let place = self.upto;

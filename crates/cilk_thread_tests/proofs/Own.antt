@@ -16,7 +16,7 @@ all_of (e ∷ es) = ap (λ (bs : List Bool). true ∷ bs) (all_of es)
 pub own_are_of : (a : AcceptedRun) (plan s : EventOrder) (es : List Event) (asked : List Bool) → IsPlanOf a plan → IsAlong plan s → s ≡ plan
     → es ≡ a.trace → asked ≡ replicate (length es) true → AreOf s plan es asked
 own_are_of a plan s es asked is along same events all =
-    let whole : s ≡ planned a.trace plan.opening = same ∙ is.story in record {
+    let whole : s ≡ planned a.trace plan.opening = same ∙ is.event_order in record {
       along = along;
       events = events ∙ sym (ap (λ (x : EventOrder). x.events) whole);
       asks = all ∙ all_of es ∙ ap all_asked events ∙ sym (ap (λ (x : EventOrder). x.asked) whole);

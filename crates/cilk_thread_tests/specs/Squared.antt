@@ -14,7 +14,7 @@ use Rattle.cilk_program.specs.Syntax.{Source, Element, Binary, Input, ToElement,
 use Rattle.cilk_program.specs.Worked.{row, plain, num, local, returns, array}
 use Rattle.cilk_program.specs.WorkedFrames.{program, loop_in}
 use Rattle.cilk_tree.specs.declared.event_order.EventOrder.{EventOrder}
-use Rattle.cilk_replay.specs.EventOrders.{story_on}
+use Rattle.cilk_replay.specs.EventOrders.{event_order_on}
 use Rattle.cilk_thread_tests.specs.Others.{squares, squares_opening}
 
 abbrev pub squared : Source
@@ -49,4 +49,4 @@ squared_run =
 
 -- the event order of the program on these numbers along that plan
 abbrev pub squared_on : List ℤ → EventOrder
-squared_on numbers = story_on squared numbers squared_run (squares (pos 1) (pos 4) (pos 9) (pos 16)) squares_opening
+squared_on numbers = event_order_on squared numbers squared_run (squares (pos 1) (pos 4) (pos 9) (pos 16)) squares_opening

@@ -24,7 +24,7 @@ fn make_up_to(
     last: Pos,
 ) -> Done
     requires yard { OfYard yard.now segment.old }
-    requires run { AreOf yard.now.story plan.now events.now asked.now }
+    requires run { AreOf yard.now.event_order plan.now events.now asked.now }
     ensures { OfYard yard.now segment.new }
 {
     let mut done = Done::Passed;
@@ -39,7 +39,7 @@ fn make_up_to(
 // Makes the next event.
 fn next(yard: &Yard, plan: &Plan, events: &[Event], asked: &[bool], segment: &mut Segment) -> Done
     requires yard { OfYard yard.now segment.old }
-    requires run { AreOf yard.now.story plan.now events.now asked.now }
+    requires run { AreOf yard.now.event_order plan.now events.now asked.now }
     ensures { OfYard yard.now segment.new }
 {
     let Some(ticket) = plan.resumed_by(segment.upto()) else {
@@ -54,7 +54,7 @@ fn next(yard: &Yard, plan: &Plan, events: &[Event], asked: &[bool], segment: &mu
 // The run departs at this position and doesn't reach its end.
 fn departs_at<R: Abort>(rt: &R, setting: Setting, place: Pos)
     requires segment { OfYard setting.yard setting.segment }
-    requires run { AreOf setting.yard.story setting.plan setting.events setting.asked.items }
+    requires run { AreOf setting.yard.event_order setting.plan setting.events setting.asked.items }
 {
     let Setting {
         plan,

@@ -21,7 +21,7 @@ pub fn both_have_plans()
 
 /// States that the event orders written out are those of the programs, on their own inputs and on
 /// others.
-pub fn stories_are_of_programs()
+pub fn event_orders_are_of_programs()
     ensures { EventOrdersAreOfPrograms }
 {}
 
@@ -145,8 +145,8 @@ pub fn squares_yard(
 ) -> Result<(Yard, Segment), AllocError>
     requires plan { plan.now ≡ squares_plan }
     requires input { (input.now ≡ four) ⊎ (input.now ≡ three) }
-    ensures story { IfOk result (λ r. r.0.story ≡ squares_on input.now) }
-    ensures along { IfOk result (λ r. IsAlong plan.now r.0.story) }
+    ensures event_order { IfOk result (λ r. r.0.event_order ≡ squares_on input.now) }
+    ensures along { IfOk result (λ r. IsAlong plan.now r.0.event_order) }
     ensures segment { IfOk result (λ r. OfYard r.0 r.1) }
 {
     plan.laws();
@@ -157,8 +157,8 @@ pub fn squares_yard(
 pub fn turns_yard(alloc: Global, plan: &Plan, input: &Input) -> Result<(Yard, Segment), AllocError>
     requires plan { plan.now ≡ turns_plan }
     requires input { (input.now ≡ pos 0 ∷ []) ⊎ (input.now ≡ pos 7 ∷ []) }
-    ensures story { IfOk result (λ r. r.0.story ≡ turns_on input.now) }
-    ensures along { IfOk result (λ r. IsAlong plan.now r.0.story) }
+    ensures event_order { IfOk result (λ r. r.0.event_order ≡ turns_on input.now) }
+    ensures along { IfOk result (λ r. IsAlong plan.now r.0.event_order) }
     ensures segment { IfOk result (λ r. OfYard r.0 r.1) }
 {
     plan.laws();

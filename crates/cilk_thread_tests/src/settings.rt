@@ -34,7 +34,7 @@ pub struct Setting {
 /// Returns the setting of an accepted program on its own input, whose run makes every event.
 pub fn on_its_own(alloc: Global, accepted: &Accepted) -> Result<Setting, AllocError>
     ensures segment { IfOk result (λ s. OfYard s.yard s.segment) }
-    ensures run { IfOk result (λ s. AreOf s.yard.story s.plan s.events s.asked.items) }
+    ensures run { IfOk result (λ s. AreOf s.yard.event_order s.plan s.events s.asked.items) }
 {
     let whole = plan(alloc, accepted)?;
     let (yard, segment) = yard(alloc, &whole, accepted.input())?;
@@ -69,7 +69,7 @@ fn all_asked(alloc: Global, count: usize) -> Result<Vec<bool>, AllocError>
 /// Returns the setting of the first program on 5 6 7 8, along its run on 1 2 3 4.
 pub fn squares_on_four(alloc: Global) -> Result<Setting, AllocError>
     ensures segment { IfOk result (λ s. OfYard s.yard s.segment) }
-    ensures run { IfOk result (λ s. AreOf s.yard.story s.plan s.events s.asked.items) }
+    ensures run { IfOk result (λ s. AreOf s.yard.event_order s.plan s.events s.asked.items) }
 {
     let plan = squares_plan(alloc)?;
     let (yard, segment) = squares_yard(alloc, &plan, &four_numbers(alloc)?)?;
@@ -88,7 +88,7 @@ pub fn squares_on_four(alloc: Global) -> Result<Setting, AllocError>
 /// turn makes none of its events after the 45th.
 pub fn squares_on_three(alloc: Global) -> Result<Setting, AllocError>
     ensures segment { IfOk result (λ s. OfYard s.yard s.segment) }
-    ensures run { IfOk result (λ s. AreOf s.yard.story s.plan s.events s.asked.items) }
+    ensures run { IfOk result (λ s. AreOf s.yard.event_order s.plan s.events s.asked.items) }
 {
     let plan = squares_plan(alloc)?;
     let (yard, segment) = squares_yard(alloc, &plan, &three_numbers(alloc)?)?;
@@ -106,7 +106,7 @@ pub fn squares_on_three(alloc: Global) -> Result<Setting, AllocError>
 /// Returns the setting of the second program on 0, along its run on 1.
 pub fn turns_on_none(alloc: Global) -> Result<Setting, AllocError>
     ensures segment { IfOk result (λ s. OfYard s.yard s.segment) }
-    ensures run { IfOk result (λ s. AreOf s.yard.story s.plan s.events s.asked.items) }
+    ensures run { IfOk result (λ s. AreOf s.yard.event_order s.plan s.events s.asked.items) }
 {
     let plan = turns_plan(alloc)?;
     let (yard, segment) = turns_yard(alloc, &plan, &number(alloc, 0)?)?;
@@ -124,7 +124,7 @@ pub fn turns_on_none(alloc: Global) -> Result<Setting, AllocError>
 /// Returns the setting of the second program on 7, along its run on 1.
 pub fn turns_on_seven(alloc: Global) -> Result<Setting, AllocError>
     ensures segment { IfOk result (λ s. OfYard s.yard s.segment) }
-    ensures run { IfOk result (λ s. AreOf s.yard.story s.plan s.events s.asked.items) }
+    ensures run { IfOk result (λ s. AreOf s.yard.event_order s.plan s.events s.asked.items) }
 {
     let plan = turns_plan(alloc)?;
     let (yard, segment) = turns_yard(alloc, &plan, &number(alloc, 7)?)?;

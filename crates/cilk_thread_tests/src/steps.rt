@@ -42,7 +42,7 @@ pub fn step(
     segment: &mut Segment,
 ) -> Done
     requires yard { OfYard yard.now segment.old }
-    requires run { AreOf yard.now.story plan.now events.now asked.now }
+    requires run { AreOf yard.now.event_order plan.now events.now asked.now }
     ensures { OfYard yard.now segment.new }
 {
     let at = segment.upto();
@@ -59,10 +59,10 @@ pub fn step(
 // Makes the next event, which the run has.
 fn made(yard: &Yard, plan: &Plan, events: &[Event], segment: &mut Segment) -> Done
     requires yard { OfYard yard.now segment.old }
-    requires along { IsAlong plan.now yard.now.story }
-    requires events { events.now ≡ yard.now.story.events }
+    requires along { IsAlong plan.now yard.now.event_order }
+    requires events { events.now ≡ yard.now.event_order.events }
     requires some { segment.old.from < segment.old.upto }
-    requires asked { IsAsked yard.now.story segment.old.upto }
+    requires asked { IsAsked yard.now.event_order segment.old.upto }
     ensures { OfYard yard.now segment.new }
 {
     let at = segment.upto();
@@ -90,8 +90,8 @@ fn made(yard: &Yard, plan: &Plan, events: &[Event], segment: &mut Segment) -> Do
 // has to hold the event directly before it.
 fn passed(yard: &Yard, plan: &Plan, segment: &mut Segment) -> Done
     requires yard { OfYard yard.now segment.old }
-    requires along { IsAlong plan.now segment.old.story }
-    requires asked { IsAsked segment.old.story segment.old.upto }
+    requires along { IsAlong plan.now segment.old.event_order }
+    requires asked { IsAsked segment.old.event_order segment.old.upto }
     ensures { OfYard yard.now segment.new }
 {
     if segment.may_pass(plan) {
@@ -107,10 +107,10 @@ fn passed(yard: &Yard, plan: &Plan, segment: &mut Segment) -> Done
 /// there is no such spawn.
 pub fn take(yard: &Yard, asked: &[bool], segment: &mut Segment, ticket: Pos) -> Option<Taken>
     requires yard { OfYard yard.now segment.old }
-    requires asked { asked.now ≡ yard.now.story.asked }
+    requires asked { asked.now ≡ yard.now.event_order.asked }
     ensures yard { OfYard yard.now segment.new }
     ensures tried { IfSome result (λ taken. IsTaken yard.now segment.old ticket segment.new taken) }
-    ensures untried { (p : ℕ) → what yard.now.story p ≡ resume ticket → CanTake yard.now segment.old ticket → IsSome result }
+    ensures untried { (p : ℕ) → what yard.now.event_order p ≡ resume ticket → CanTake yard.now segment.old ticket → IsSome result }
 {
     let at = yard.resumption(ticket)?;
     let goes_on = segment.from() < segment.upto();
@@ -132,7 +132,7 @@ pub fn last_values(
     segment: Segment,
 ) -> Option<Vec<i64>>
     requires yard { OfYard yard segment }
-    requires events { events.now ≡ yard.story.events }
+    requires events { events.now ≡ yard.event_order.events }
 {
     let whole = segment.from() == 1 && segment.last() as usize == events.len();
     if !whole || events.is_empty() {
@@ -143,16 +143,16 @@ pub fn last_values(
 
 // The event at a position.
 fn event_at(yard: &Yard, events: &[Event], at: Pos) -> Option<Event>
-    requires { events.now ≡ yard.now.story.events }
-    ensures { result ≡ event yard.now.story at }
+    requires { events.now ≡ yard.now.event_order.events }
+    ensures { result ≡ event yard.now.event_order at }
 {
     events.get(at.saturating_sub(1) as usize).copied()
 }
 
 // Whether the run makes the event at a position.
 fn is_asked(yard: &Yard, asked: &[bool], at: Pos) -> bool
-    requires { asked.now ≡ yard.now.story.asked }
-    ensures { IsTrue result ↔ IsAsked yard.now.story at }
+    requires { asked.now ≡ yard.now.event_order.asked }
+    ensures { IsTrue result ↔ IsAsked yard.now.event_order at }
 {
     match asked.get(at.saturating_sub(1) as usize) {
         Some(found) => *found,
@@ -162,16 +162,16 @@ fn is_asked(yard: &Yard, asked: &[bool], at: Pos) -> bool
 
 // Whether the event at a position is the `resume` after a spawn.
 fn yard_resumes(yard: &Yard, plan: &Plan, at: Pos) -> bool
-    requires { IsAlong plan.now yard.now.story }
-    ensures { (k : ℕ) → what yard.now.story at ≡ resume k → IsTrue result }
+    requires { IsAlong plan.now yard.now.event_order }
+    ensures { (k : ℕ) → what yard.now.event_order at ≡ resume k → IsTrue result }
 {
     plan.resumed_by(at).is_some()
 }
 
 // Whether the run has this cell.
 fn has_cell(yard: &Yard, plan: &Plan, cell: Cell) -> bool
-    requires { IsAlong plan.now yard.now.story }
-    ensures { IsTrue result → cell < length yard.now.story.opening }
+    requires { IsAlong plan.now yard.now.event_order }
+    ensures { IsTrue result → cell < length yard.now.event_order.opening }
 {
     (cell as usize) < plan.opening().len()
 }

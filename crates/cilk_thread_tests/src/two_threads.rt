@@ -33,7 +33,7 @@ fn make_up_to<R: Abort>(
     last: Pos,
 ) -> Done
     requires yard { OfYard yard.now segment.old }
-    requires run { AreOf yard.now.story plan.now events.now asked.now }
+    requires run { AreOf yard.now.event_order plan.now events.now asked.now }
     ensures { OfYard yard.now segment.new }
 {
     let mut done = Done::Nothing;
@@ -57,7 +57,7 @@ fn makes_the_child<R: Abort + Wait + Clock>(
     taken: &Receiver<bool, Global>,
 ) -> Segment
     requires yard { OfYard yard.now segment }
-    requires run { AreOf yard.now.story plan.now events.now asked.now }
+    requires run { AreOf yard.now.event_order plan.now events.now asked.now }
     ensures { OfYard yard.now result }
 {
     let Done::Offered(ticket) = make_up_to(rt, yard, plan, events, asked, &mut segment, 4) else {
@@ -90,7 +90,7 @@ fn takes_the_rest<R: Abort + Wait + Clock>(
     taken: &Sender<bool, Global>,
 ) -> Segment
     requires yard { OfYard yard.now segment }
-    requires run { AreOf yard.now.story plan.now events.now asked.now }
+    requires run { AreOf yard.now.event_order plan.now events.now asked.now }
     ensures { OfYard yard.now result }
 {
     let Ok(ticket) = tickets.recv_timeout(rt, Duration::from_secs(PATIENCE)) else {
@@ -121,7 +121,7 @@ fn ends_with<R: Abort>(
     mut segment: Segment,
 )
     requires yard { OfYard yard segment }
-    requires run { AreOf yard.story plan.now events.now asked.now }
+    requires run { AreOf yard.event_order plan.now events.now asked.now }
 {
     let synced = make_up_to(rt, &yard, plan, events, asked, &mut segment, 18);
     assert_eq!(rt; synced, Done::Passed);

@@ -17,7 +17,7 @@ use Rattle.cilk_runs.specs.Serial.{value_after}
 use Rattle.cilk_runs.specs.Views.{view_after}
 use Rattle.cilk_runs.specs.FrameEnvMachine.{next, opening_values}
 use Rattle.cilk_runs.specs.Reducers.{View, monoid_of}
-use Rattle.cilk_runs.specs.FrameEnvs.{FrameEnv, first_world, child_world}
+use Rattle.cilk_runs.specs.FrameEnvs.{FrameEnv, first_env, child_env}
 use Rattle.cilk_determinacy.specs.Nested.{named, named_from}
 use Rattle.cilk_determinacy.specs.Numbers.{child_runs}
 use Rattle.cilk_replay.specs.InputCourses.{Course, stop, act, child, run_of, IsCourse}
@@ -71,15 +71,15 @@ from_names : (p : Source) (w w' : FrameEnv) (k : ℕ) (r r' : Transcript) → Al
 from_names p w w' k serial.stop serial.stop h = tt
 from_names p w w' k (serial.act a v r) (serial.act a' v' r') h = from_names p w w' k r r' h
 from_names p w w' k (serial.child how c u r) (serial.child how' c' u' r') h =
-    (h.0, from_names p (child_world p w k c) (child_world p w' k c') 1 u u' h.1, from_names p w w' (suc k) r r' h.2)
+    (h.0, from_names p (child_env p w k c) (child_env p w' k c') 1 u u' h.1, from_names p w w' (suc k) r r' h.2)
 from_names p w w' k r r' h = absurd h
 
 -- a run that is the course of another's plan begins the same frames
 pub same_frames : ProgramsHaveOneCourse → (p : Source) (inputs : List ℤ) (r r' : Transcript) → named p r' ≡ run_of (course_on p inputs (named p r)) → SameFrames p r r'
 same_frames law p inputs r r' is =
-    from_names p (first_world p) (first_world p) 1 r r'
+    from_names p (first_env p) (first_env p) 1 r r'
     (subst (Alike p (named p r)) (sym is)
-    (course_alike p inputs (first_world p) [] (opening_values p inputs) (unit_of monoid_of) (named p r) (course_on p inputs (named p r)) (law p inputs (named p r)).0))
+    (course_alike p inputs (first_env p) [] (opening_values p inputs) (unit_of monoid_of) (named p r) (course_on p inputs (named p r)) (law p inputs (named p r)).0))
 
 same_count : (p : Source) (r r' : Transcript) (n n' : Counts) → SameFrames p r r' → n.frames ≡ n'.frames → (let m = counts_after p r n in m.frames) ≡ (let m = counts_after p r' n' in m.frames)
 same_count p serial.stop serial.stop n n' h e = e

@@ -32,7 +32,7 @@ pub cells_along : (a : AcceptedRun) (plan s : EventOrder) → IsPlanOf a plan �
 cells_along a plan s is along p c h = subst (λ (o : List ℤ). c < length o) (sym along.opening) (by h)
   where
     events_are : plan.events ≡ a.trace
-    events_are = ap (λ (t : EventOrder). t.events) is.story
+    events_are = ap (λ (t : EventOrder). t.events) is.event_order
 
     same : kind_of_event (event s p) ≡ kind_of_event (event_at a.trace p)
     same = same_kind_at s.events plan.events along.kinds p ∙ ap (λ (es : List Event). kind_of_event (event_at es p)) events_are

@@ -44,7 +44,7 @@ use Rattle.cilk_replay.specs.InputCourses.{run_of}
 use Rattle.cilk_replay.specs.Frames.{course_on}
 use Rattle.cilk_replay.specs.Left.{left_by, printed_in}
 use Rattle.cilk_replay.specs.Lists.{with_value, with_values}
-use Rattle.cilk_replay.specs.EventOrders.{story_on, IsPlannedRun}
+use Rattle.cilk_replay.specs.EventOrders.{event_order_on, IsPlannedRun}
 use Rattle.cilk_replay.proofs.Elided.{same_cells_from}
 use Rattle.cilk_replay.proofs.Leaving.{cells_left, prints_left}
 use Rattle.cilk_threads.specs.Finals.{IsMadeOf}
@@ -83,7 +83,7 @@ module _ (p : Source) (inputs others : List ℤ) (run : Transcript) (es : List E
   u = run_of (course_on p others (named p run))
 
   abbrev s : EventOrder
-  s = story_on p others run es opening
+  s = event_order_on p others run es opening
 
   kinds : HaveTheirKinds p run r
   kinds = kinds_told p run r table

@@ -28,7 +28,7 @@ use Rattle.cilk_shared.specs.Reducers.{frame_in}
 use Rattle.cilk_shared.proofs.Quiet.{in_frame}
 use Rattle.cilk_runs.specs.Runs.{Name, Reads, Writes, Syncs, Ends, Passes, Begins, Resumes, Creates, Updates, Sets, Values, Prints, Run, stop, act, child}
 use Rattle.cilk_runs.specs.Traces.{Due, begin_due, resume_due, neither_due, IsFramed, shape_of}
-use Rattle.cilk_runs.specs.FrameEnvs.{FrameEnv, first_world}
+use Rattle.cilk_runs.specs.FrameEnvs.{FrameEnv, first_env}
 use Rattle.cilk_determinacy.specs.Nested.{named}
 use Rattle.cilk_determinacy.specs.Numbers.{frame_number, start_event, numbered_events}
 use Rattle.cilk_determinacy.specs.Theorem.{IsNumbered}
@@ -289,7 +289,7 @@ module _ (p : Source) (whole : Transcript) where
     ends : suc j ≡ begin + length (list w.name u)
     same : (x : ℕ) → x < length (list w.name u) → slice_get (list [] t) (begin + x) ≡ slice_get (list w.name u) x
 
-  held : (t : Run FrameEnv) → IsFramed begin_due t → IsFrameOf p whole (first_world p) t → AllFrames p whole t → (j : ℕ) → slice_get (list [] t) j ≡ Some events.End → IsHeld t j
+  held : (t : Run FrameEnv) → IsFramed begin_due t → IsFrameOf p whole (first_env p) t → AllFrames p whole t → (j : ℕ) → slice_get (list [] t) j ≡ Some events.End → IsHeld t j
   held (act (Passes Begins) t) f first a zero is = absurd (cc is)
   held (act (Passes Begins) t) f first a (suc j) is = by (ends_in [] 2 t f a j is)
     where
@@ -298,7 +298,7 @@ module _ (p : Source) (whole : Transcript) where
           let e = h.1 in
           let l = long_numbered neither_due [] t f in
           record {
-            w = first_world p;
+            w = first_env p;
             u = act (Passes Begins) t;
             begin = 0;
             frame = first;

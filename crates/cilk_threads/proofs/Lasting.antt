@@ -45,7 +45,7 @@ use Rattle.cilk_runs.specs.Runs as runs
 use Rattle.cilk_runs.specs.Traces.{trace, Due, begin_due, resume_due, neither_due, IsFramed}
 use Rattle.cilk_runs.specs.FrameEnvMachine.{retired_from, retired_by}
 use Rattle.cilk_runs.specs.Reducers.{kind_of}
-use Rattle.cilk_runs.specs.FrameEnvs.{FrameEnv, first_world, child_world, own_named, before_own}
+use Rattle.cilk_runs.specs.FrameEnvs.{FrameEnv, first_env, child_env, own_named, before_own}
 use Rattle.cilk_determinacy.specs.Nested.{named, named_from}
 use Rattle.cilk_determinacy.specs.Numbers.{frame_number, instance_number, start_event, numbered_event, numbered_events, all_reducers, EventIsHere, AreHere, AreNumbered}
 use Rattle.cilk_determinacy.specs.ReducerEvents as reducer_events
@@ -185,7 +185,7 @@ retires_own p w j (serial.act asks.Sync v r) = retires_own p w j r
 retires_own p w j (serial.act (asks.Result y) v r) = retires_own p w j r
 retires_own p w j (serial.act (asks.End y) v r) = (refl, retires_own p w j r)
 retires_own p w j (serial.act (asks.Fault f) v r) = retires_own p w j r
-retires_own p w j (serial.child how callee u r) = (retires_own p (child_world p w j callee) 1 u, retires_own p w (suc j) r)
+retires_own p w j (serial.child how callee u r) = (retires_own p (child_env p w j callee) 1 u, retires_own p w (suc j) r)
 
 module _ (p : Source) (run : serial.Transcript) (r : Reducers) (table : AreReducersOf p run r) (kinds : HaveTheirKinds p run r) where
   abbrev deeds : List (runs.Deed FrameEnv) → List OfKind
@@ -404,14 +404,14 @@ whole_last p inputs run es outcome s r h well ran same table shows = record {
     frames : FramesOpen p run
     frames = frames_open p inputs run es outcome well ran
 
-    first : IsOf p run r table kinds (first_world p)
-    first = of_frame p run r table kinds (first_world p) (named p run) frames.first
+    first : IsOf p run r table kinds (first_env p)
+    first = of_frame p run r table kinds (first_env p) (named p run) frames.first
 
     alike : Alike r (list_from r 0 es) (reducer_events.reducer_events p run (trace (named p run)))
     alike =
         let n = serial_numbered p inputs run es outcome well ran in
         subst (λ (l : List numbers.Event). Alike r (list_from r 0 l) (reducer_events.reducer_events p run (trace (named p run)))) (sym list.events)
-        (run_alike p run r table kinds begin_due 0 (first_world p) (named p run) n.framed tt first list.here frames.others (retires_own p (first_world p) 1 run))
+        (run_alike p run r table kinds begin_due 0 (first_env p) (named p run) n.framed tt first list.here frames.others (retires_own p (first_env p) 1 run))
 
     one : (n : ℕ) (k : MonoidKind) → kind_in r (global_reducer n) ≡ k → view_over k (global_reducer n) (reducer_events.reducer_events p run (trace (named p run))) ≡ value_in h k (global_reducer n)
     one n k is =
@@ -423,6 +423,6 @@ whole_last p inputs run es outcome s r h well ran same table shows = record {
     lasts n [] each = refl
     lasts n (k ∷ ks) each =
         let z : n + 0 ≡ n = omega arith in
-        let kind = kind_at p run r table kinds (first_world p) first n k (ap (slice_get (p.reducers ++ (main_own p))) (sym z) ∙ each 0 k refl) in
+        let kind = kind_at p run r table kinds (first_env p) first n k (ap (slice_get (p.reducers ++ (main_own p))) (sym z) ∙ each 0 k refl) in
         ap₂ (λ (v : ViewValue) (l : List Final). final_of v ∷ l) (one n k kind)
         (lasts (suc n) ks (λ m x at. let y : suc n + m ≡ n + suc m = omega arith in ap (slice_get (p.reducers ++ (main_own p))) y ∙ each (suc m) x at))

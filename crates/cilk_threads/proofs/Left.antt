@@ -61,7 +61,7 @@ module _ (courses : ProgramsHaveOneCourse) (along : InputsRunAlong) (elided : Ru
       → RunsAsCourse (source a.program) inputs (run_of (course_on (source a.program) inputs (named (source a.program) told.run))) s
   runs_as is order told departs =
       subst (RunsAsCourse (source a.program) inputs (run_of (course_on (source a.program) inputs (named (source a.program) told.run)))) (sym told.is)
-      (along (source a.program) a.input inputs told.run a.trace plan.opening told.of_run words (subst IsOrderly is.story order) (subst DepartsNowhere told.is departs))
+      (along (source a.program) a.input inputs told.run a.trace plan.opening told.of_run words (subst IsOrderly is.event_order order) (subst DepartsNowhere told.is departs))
 
   -- the outcome that is made of the whole piece is that of each serial run
   pub left_on : (r : Reducers) (value : ℤ) (o : Outcome) → IsPlanOf a plan → IsOrderly plan → IsEventOrderOn a plan.opening inputs s → IsTableOf a r → DepartsNowhere s

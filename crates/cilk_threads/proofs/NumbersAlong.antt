@@ -1,5 +1,5 @@
 -- In each event order along a plan a reducer's value is the number of its view:
--- `stories_have_numbers`. The same along an accepted run's plan: `accepted_have_numbers`.
+-- `event_orders_have_numbers`. The same along an accepted run's plan: `accepted_have_numbers`.
 --
 -- - `starts_there`: each frame that a serial run starts is one that its program has;
 -- - `worded`: what a course puts into views is words.
@@ -28,7 +28,7 @@ use Rattle.cilk_runs.specs.Runs.{Cell, Global, Own, Run}
 use Rattle.cilk_runs.specs.Traces.{trace, begin_due}
 use Rattle.cilk_runs.specs.FrameEnvMachine.{next, opening_values}
 use Rattle.cilk_runs.specs.Reducers.{monoid_of}
-use Rattle.cilk_runs.specs.FrameEnvs.{FrameEnv, first_world, child_world}
+use Rattle.cilk_runs.specs.FrameEnvs.{FrameEnv, first_env, child_env}
 use Rattle.cilk_determinacy.specs.Nested.{named, named_from}
 use Rattle.cilk_determinacy.specs.Numbers.{cell_number, instance_number, numbered_events, AreNumbered}
 use Rattle.cilk_determinacy.specs.Theorem.{IsNumbered}
@@ -41,7 +41,7 @@ use Rattle.cilk_determinacy.proofs.Wordy.{opening_word}
 use Rattle.cilk_replay.specs.InputCourses.{Course, run_of, all_asked, asked_in}
 use Rattle.cilk_replay.specs.Frames.{same_frame, course_on}
 use Rattle.cilk_replay.specs.Lists.{with_values}
-use Rattle.cilk_replay.specs.EventOrders.{story_on, IsPlannedRun}
+use Rattle.cilk_replay.specs.EventOrders.{event_order_on, IsPlannedRun}
 use Rattle.cilk_replay.proofs.CourseFrames.{runs_are_courses}
 use Rattle.cilk_replay.proofs.CourseRuns.{run_all}
 use Rattle.cilk_replay.proofs.CourseWords.{RunWords, words_else, all_else, next_words, whole_words}
@@ -65,14 +65,14 @@ module _ (p : Source) (inputs : List ℤ) (well : IsTrue (is_well_named p)) wher
   starts_there (Ended v left q ok) fit = λ w j. tt
   starts_there (Went {fr = fr} {start = start} {history = history} how callee left v left' m' q ok inner rest) fit =
       let there = invoked_there p inputs well fr start history how callee left fit q in
-      λ w j. ((body_of p fr.callee, there), starts_there inner (there_fit p (body_of p fr.callee) callee there) (child_world p w j callee) 1, starts_there rest fit w (suc j))
+      λ w j. ((body_of p fr.callee, there), starts_there inner (there_fit p (body_of p fr.callee) callee there) (child_env p w j callee) 1, starts_there rest fit w (suc j))
   starts_there (Broke {fr = fr} {start = start} {history = history} how callee left f q ok inner) fit =
       let there = invoked_there p inputs well fr start history how callee left fit q in
-      λ w j. ((body_of p fr.callee, there), starts_there inner (there_fit p (body_of p fr.callee) callee there) (child_world p w j callee) 1, tt)
+      λ w j. ((body_of p fr.callee, there), starts_there inner (there_fit p (body_of p fr.callee) callee there) (child_env p w j callee) 1, tt)
   starts_there (Refused k left f q bad) fit = λ w j. tt
 
 all_there : (p : Source) (inputs : List ℤ) (r : Transcript) (es : List numbers.Event) (c : Conclusion) → IsTrue (is_well_named p) → IsSerialRun p inputs r es c → StartsThere p (named p r)
-all_there p inputs r es c well (end, d, e) = starts_there p inputs well d tt (first_world p) 1
+all_there p inputs r es c well (end, d, e) = starts_there p inputs well d tt (first_env p) 1
 
 -- ---- along a plan
 module _ (p : Source) (inputs others : List ℤ) (run : Transcript) (es : List numbers.Event) (opening : List ℤ) (r : Reducers)
@@ -84,7 +84,7 @@ module _ (p : Source) (inputs others : List ℤ) (run : Transcript) (es : List n
   c = course_on p others t
 
   abbrev s : EventOrder
-  s = story_on p others run es opening
+  s = event_order_on p others run es opening
 
   pub kinds : HaveTheirKinds p run r
   kinds = kinds_told p run r table
@@ -113,11 +113,11 @@ module _ (p : Source) (inputs others : List ℤ) (run : Transcript) (es : List n
   run_words =
       let own = runs_are_courses p inputs t (serial p inputs run es opening is) in
       subst RunWords (run_all t)
-      (whole_words (next p inputs) (same_frame p) (next_words p inputs is.words is.inputs_words) (first_world p) (opening_values p inputs) (unit_of monoid_of) t (all_asked t) few tt opening_is (λ i. refl) own.0 (all_else t))
+      (whole_words (next p inputs) (same_frame p) (next_words p inputs is.words is.inputs_words) (first_env p) (opening_values p inputs) (unit_of monoid_of) t (all_asked t) few tt opening_is (λ i. refl) own.0 (all_else t))
 
   worded : RunWords (run_of c)
   worded =
-      whole_words (next p others) (same_frame p) (next_words p others is.words are) (first_world p) (opening_values p others) (unit_of monoid_of) t c few tt opening_is (λ i. refl)
+      whole_words (next p others) (same_frame p) (next_words p others is.words are) (first_env p) (opening_values p others) (unit_of monoid_of) t c few tt opening_is (λ i. refl)
       (course p inputs run es opening is others are) (words_else t c run_words)
 
   abbrev first_views : Held
@@ -131,7 +131,7 @@ module _ (p : Source) (inputs others : List ℤ) (run : Transcript) (es : List n
       let n = numbers_are in
       let f = frames in
       let l = list in
-      let w = first_world p in
+      let w = first_env p in
       course_numbers p run r table kinds others is.named w w t f.first (record { name = refl; own = refl; before = refl; fit = tt }) [] (opening_values p others) (unit_of monoid_of) first_views 0 t c
       (course p inputs run es opening is others are) (at_hand p run begin_due 0 w t n.framed (retires_own p w 1 run) tt)
       (all_there p inputs run es (Leaves is.outcome) is.named is.runs) f.others l.here worded first_tied
@@ -139,7 +139,7 @@ module _ (p : Source) (inputs others : List ℤ) (run : Transcript) (es : List n
   pub events_are : numbered_events p run [] (run_of c) ≡ with_values es (trace (run_of c))
   events_are =
       let l = list in
-      let w = first_world p in
+      let w = first_env p in
       sym (ap (λ (es : List numbers.Event). with_values es (trace (run_of c))) l.events
       ∙ valued_numbers p run r table kinds others is.named w w refl [] (opening_values p others) (unit_of monoid_of) t c (course p inputs run es opening is others are))
 
@@ -151,8 +151,8 @@ module _ (p : Source) (inputs others : List ℤ) (run : Transcript) (es : List n
       numbers_at r 0 first_views (with_values es (trace (run_of c))) (asked_in c) right (q - 1) i v at asked
       ∙ ap (λ l. S.number (view_of S i l)) (sym (over_from s r (q - 1) (omega (arith, within))))
 
-pub stories_have_numbers : EventOrdersAlongHaveNumbers
-stories_have_numbers p inputs others run es opening r is are table = have_numbers p inputs others run es opening r is are table
+pub event_orders_have_numbers : EventOrdersAlongHaveNumbers
+event_orders_have_numbers p inputs others run es opening r is are table = have_numbers p inputs others run es opening r is are table
 
 one_outcome : (p : Source) (inputs : List ℤ) (r r' : Transcript) (es es' : List numbers.Event) (o o' : Outcome) → IsSerialRun p inputs r es (Leaves o) → IsSerialRun p inputs r' es' (Leaves o')
     → o ≡ o'
@@ -170,5 +170,5 @@ accepted_have_numbers a opening inputs s r whole table are told q i v follows at
     let own = whole.1.ended.ran in
     let same = one_outcome p a.input told.run own.run a.trace a.trace x.outcome a.outcome x.runs own.serial in
     let mine = table.frames told.run (subst (λ (o : Outcome). IsSerialRun p a.input told.run a.trace (Leaves o)) same x.runs) in
-    let have = subst (λ (z : EventOrder). HasAskedNumbers z r) (sym told.is) (stories_have_numbers p a.input inputs told.run a.trace opening r x are mine) in
+    let have = subst (λ (z : EventOrder). HasAskedNumbers z r) (sym told.is) (event_orders_have_numbers p a.input inputs told.run a.trace opening r x are mine) in
     have q i v (follows q (inl refl)) at

@@ -30,7 +30,7 @@ use Rattle.cilk_program.proofs.Closings.{View, Begins as BeginsNow, Opens as Ope
 use Rattle.cilk_runs.specs.Runs.{Name, Reducer, Event, Reads, Writes, Syncs, Ends, Passes, Begins, Resumes, Creates, Updates, Sets, Values, Prints, Run}
 use Rattle.cilk_runs.specs.Runs as runs
 use Rattle.cilk_runs.specs.Traces.{Due as DueNext, begin_due, resume_due, neither_due, IsFramed}
-use Rattle.cilk_runs.specs.FrameEnvs.{Sight, FrameEnv, world_of, first_world, child_world, reducer_seen}
+use Rattle.cilk_runs.specs.FrameEnvs.{Sight, FrameEnv, env_of, first_env, child_env, reducer_seen}
 use Rattle.cilk_determinacy.specs.Nested.{named_event, named_from, named}
 use Rattle.cilk_determinacy.specs.Numbers.{up, frame_runs, all_reducers, IsHere}
 use Rattle.cilk_determinacy.proofs.Determinate.{serial_numbered}
@@ -103,10 +103,10 @@ module _ (p : Source) (w : FrameEnv) (name : Name) where
       )
 
 all_due : (p : Source) (name : Name) (sight : Sight) (callee : Callee) → (callee ≡ callees.Root → name ≡ [])
-    → IsDue (world_of p name sight callee) name 0 (all_reducers p callee) (opening_asks p callee)
+    → IsDue (env_of p name sight callee) name 0 (all_reducers p callee) (opening_asks p callee)
 all_due p name sight callees.Root root =
     let f = main_of p in
-    let w : FrameEnv = world_of p name sight callees.Root in
+    let w : FrameEnv = env_of p name sight callees.Root in
     let l = length p.reducers in
     let own = due_creations p w name (reducers.Own 0) l (λ n k. refl) 0 f.reducers [] [] tt in
     let z : l + 0 ≡ 0 + 0 + l = omega arith in
@@ -118,7 +118,7 @@ all_due p name sight callees.Root root =
     globals n k e = let z : n ≡ 0 + n = omega arith in ap (λ (m : ℕ). Reducer [] m k) z ∙ ap (λ (l : Name). Reducer l (0 + n) k) (sym e)
 all_due p name sight (callees.Function c) root =
     let f = function_at p c.function in
-    let w : FrameEnv = world_of p name sight (callees.Function c) in
+    let w : FrameEnv = env_of p name sight (callees.Function c) in
     let own = due_creations p w name (reducers.Own 0) 0 (λ n k. refl) 0 f.reducers [] [] tt in
     due_writes p w name 0 f.reducers 0 c.words (creations (reducers.Own 0) 0 f.reducers)
     (subst (λ (ks : List MonoidKind). IsDue w name 0 ks (creations (reducers.Own 0) 0 f.reducers)) (append-nil f.reducers)
@@ -126,13 +126,13 @@ all_due p name sight (callees.Function c) root =
 all_due p name sight (callees.Loop l) root = tt
 
 begins_opened : (p : Source) (name : Name) (sight : Sight) (callee : Callee) → (callee ≡ callees.Root → name ≡ []) → (j : ℕ) (u : Transcript) → IsOrderly p (Fresh (opening_asks p callee)) u
-    → IsFramed begin_due (named_from p (world_of p name sight callee) j u) → BeginsOpened p (world_of p name sight callee) (named_from p (world_of p name sight callee) j u)
+    → IsFramed begin_due (named_from p (env_of p name sight callee) j u) → BeginsOpened p (env_of p name sight callee) (named_from p (env_of p name sight callee) j u)
 begins_opened p name sight callee root j stop o f = absurd f
 begins_opened p name sight callee root j (child how c u r) o f = absurd f
 begins_opened p name sight callee root j (act a v r) o f =
-    subst (λ (a : Ask). BeginsOpened p (world_of p name sight callee) (named_from p (world_of p name sight callee) j (act a v r))) (sym o.0.0)
-    (dues_open p (world_of p name sight callee) name 0 (all_reducers p callee) (opening_asks p callee) (all_due p name sight callee root) j r o.0.1
-    (subst (λ (a : Ask). IsFramed begin_due (named_from p (world_of p name sight callee) j (act a v r))) o.0.0 f))
+    subst (λ (a : Ask). BeginsOpened p (env_of p name sight callee) (named_from p (env_of p name sight callee) j (act a v r))) (sym o.0.0)
+    (dues_open p (env_of p name sight callee) name 0 (all_reducers p callee) (opening_asks p callee) (all_due p name sight callee root) j r o.0.1
+    (subst (λ (a : Ask). IsFramed begin_due (named_from p (env_of p name sight callee) j (act a v r))) o.0.0 f))
 
 -- ---- no child runs as the root
 abbrev pub StartsNoRoot : Transcript → Type 0
@@ -237,7 +237,7 @@ module _ (p : Source) (whole : Transcript) where
       act_frames w j k v r o.1 (order_after p r s k (view s k (λ s'. IsOrderly p s' r) o.0)) (framed_after due (named_event p w k v) (named_from p w (suc j) r) f)
       (λ s' due' o' f'. all_frames w path j s' r n due' is (record { blocks = a.blocks; runs = a.runs }) o' z f')
   all_frames w path j s (child how callee u r) n due is a o z f =
-      let c = child_world p w (suc j) callee in
+      let c = child_env p w (suc j) callee in
       let f' = framed_child due how c (named_from p c 1 u) (named_from p w (suc (suc j)) r) f in
       let name = child_name w path j is in (
         record { here = child_at_here w path j how callee u r n is a; runs = child_runs_here path j how callee u r n a; opened = begins_opened p (w.name ++ suc j ∷ []) w.sight callee (λ e. absurd (z.0 e)) 1 u o.0 f'.0 },
@@ -248,7 +248,7 @@ module _ (p : Source) (whole : Transcript) where
 
 -- of a serial run that ends without a fault: its first frame, and each that it starts
 pub record FramesOpen (p : Source) (r : Transcript) : Type 0 where
-  pub first : IsFrameOf p r (first_world p) (named p r)
+  pub first : IsFrameOf p r (first_env p) (named p r)
   pub others : AllFrames p r (named p r)
 
 pub frames_open : (p : Source) (inputs : List ℤ) (r : Transcript) (es : List numbers.Event) (outcome : Outcome) → IsTrue (is_well_named p) → IsSerialRun p inputs r es (Leaves outcome) → FramesOpen p r
@@ -257,5 +257,5 @@ frames_open p inputs r es outcome well run =
     let n = serial_numbered p inputs r es outcome well run in
     record {
       first = record { here = root_here p r; runs = refl; opened = begins_opened p [] [] callees.Root (λ e. refl) 1 r o n.framed };
-      others = all_frames p r (first_world p) [] 0 (Fresh (opening_asks p callees.Root)) r (entered p callees.Root (unbegun p)) begin_due refl (root_ahead p r) o (runs_start_no_root p inputs r es (Leaves outcome) well run) n.framed;
+      others = all_frames p r (first_env p) [] 0 (Fresh (opening_asks p callees.Root)) r (entered p callees.Root (unbegun p)) begin_due refl (root_ahead p r) o (runs_start_no_root p inputs r es (Leaves outcome) well run) n.framed;
     }

@@ -305,9 +305,9 @@ pub table_of : (a : AcceptedRun) → HasDeterminateRun a → IsTrue (is_well_nam
 table_of a is well placed list are laid = record {
   frames = told;
   kinds = λ run serial. kinds_told (source a.program) run (record { frames = list }) (told run serial);
-  settled = λ plan s of_run along. along_settled plan s (record { frames = list }) along (subst (λ (z : EventOrder). AreSettled z (record { frames = list })) (sym of_run.story) (in_run plan.opening));
+  settled = λ plan s of_run along. along_settled plan s (record { frames = list }) along (subst (λ (z : EventOrder). AreSettled z (record { frames = list })) (sym of_run.event_order) (in_run plan.opening));
   quiet = λ plan s of_run along.
-      let here = first_begins plan of_run.story in
+      let here = first_begins plan of_run.event_order in
       no_event (record { frames = list }) (frame_in s.events 1) here.0 (event s 1) (kind_at plan s along ∙ here.1);
 }
   where

@@ -44,7 +44,7 @@ use Rattle.cilk_runs.specs.Views.{view_after, IsViewRight}
 use Rattle.cilk_runs.proofs.Basics.{same_name-eq, same_instance-refl, same_instance-eq}
 use Rattle.cilk_runs.specs.FrameEnvMachine.{named_ask, answers_of, has_ended, asked_after, next, retired_from, retired_by}
 use Rattle.cilk_runs.specs.Reducers.{View, value_of, kind_of, monoid_of}
-use Rattle.cilk_runs.specs.FrameEnvs.{FrameEnv, child_world, before_own}
+use Rattle.cilk_runs.specs.FrameEnvs.{FrameEnv, child_env, before_own}
 use Rattle.cilk_determinacy.specs.Numbers.{all_reducers, frame_number, instance_number, start_event, numbered_event, numbered_events, HasCell, HasInstance, EventIsHere, AreHere, cell_number}
 use Rattle.cilk_determinacy.proofs.Numbers.{one_to_one}
 use Rattle.cilk_replay.specs.InputCourses.{Course, stop, act, child, run_of, asked_in, IsLike, IsMadeFor, IsStartedFor, IsCourse}
@@ -71,7 +71,7 @@ module _ (p : Source) (w : FrameEnv) (k : ℕ) where
 
   starts_with : (a : language.Ask) (how : Invocation) (x : FrameEnv) → named_ask p w k a ≡ Invoke how x → IsInvoked a x
   starts_with (asks.Invoke j c) how x e =
-      let z : child_world p w k c ≡ x = cc e in
+      let z : child_env p w k c ≡ x = cc e in
       record { how = j; callee = c; invokes = refl; started_as = ap (λ (y : FrameEnv). y.callee) (sym z) }
   starts_with a how x e = absurd (cc e)
 

@@ -53,7 +53,7 @@ whole_of y r c p own inputs s x v is program owned input h = record {
     ended = subst (λ (z : SharedValue). IsWhole z x v) is h
 
 -- where the yard's event order departs, the event order that the program makes of the plan does
-pub fault_of : (w : WholePlan) (inputs : List ℤ) (n : ℕ) (s : EventOrder) (f : ThreadFault) → (let t = w.story in IsEventOrderOn w.run t.opening inputs s) → IsTrueFault s n f → IsFaultOn w inputs n f
+pub fault_of : (w : WholePlan) (inputs : List ℤ) (n : ℕ) (s : EventOrder) (f : ThreadFault) → (let t = w.event_order in IsEventOrderOn w.run t.opening inputs s) → IsTrueFault s n f → IsFaultOn w inputs n f
 fault_of w inputs n s faults.Memory told h = h
 fault_of w inputs n s faults.Workers told h = h
 fault_of w inputs n s (faults.Departs p) told h = (h.0, (s, told, h.1))
@@ -62,10 +62,10 @@ fault_of w inputs n s (faults.Departs p) told h = (h.0, (s, told, h.1))
 goes_along : OwnEventOrder → (a : AcceptedRun) (plan s : EventOrder) (inputs : List ℤ) → IsPlanOf a plan → IsEventOrderOn a plan.opening inputs s → inputs ≡ a.input → (p : ℕ) → Departs s p → ⊥
 goes_along law a plan s inputs is told same p h =
     let own : s ≡ plan = own_is_the_plan law a plan is inputs s told same in
-    let events : s.events ≡ a.trace = ap (λ (t : EventOrder). t.events) (own ∙ is.story) in
+    let events : s.events ≡ a.trace = ap (λ (t : EventOrder). t.events) (own ∙ is.event_order) in
     h.differs (subst (λ (t : EventOrder). IsAsked t p) (sym own) (is.asked p (subst (λ (es : List Event). IsPosition es p) events h.place)))
 
-pub stays : OwnEventOrder → (w : WholePlan) (inputs : List ℤ) (n : ℕ) (f : ThreadFault) → IsPlanOf w.run w.story → IsFaultOn w inputs n f → (let a = w.run in inputs ≡ a.input) → NamesNoPosition f
+pub stays : OwnEventOrder → (w : WholePlan) (inputs : List ℤ) (n : ℕ) (f : ThreadFault) → IsPlanOf w.run w.event_order → IsFaultOn w inputs n f → (let a = w.run in inputs ≡ a.input) → NamesNoPosition f
 stays law w inputs n faults.Memory is h same = tt
 stays law w inputs n faults.Workers is h same = tt
-stays law w inputs n (faults.Departs p) is h same = goes_along law w.run w.story h.1.0 inputs is h.1.1 same p h.1.2
+stays law w inputs n (faults.Departs p) is h same = goes_along law w.run w.event_order h.1.0 inputs is h.1.1 same p h.1.2

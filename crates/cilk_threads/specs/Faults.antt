@@ -6,15 +6,15 @@ use Rattle.cilk_threads.specs.declared.run.ThreadFault.{ThreadFault}
 use Rattle.cilk_threads.specs.declared.run.ThreadFault.TheVariants as faults
 
 -- n is an allowed number of workers
-abbrev pub IsCrew : ℕ → Type 0
-IsCrew n = (1 ≤ n) × (n ≤ 64)
+abbrev pub IsPool : ℕ → Type 0
+IsPool n = (1 ≤ n) × (n ≤ 64)
 
 -- a fault is true: the run departs where it says so, and the number of workers is a fault exactly
 -- if it isn't allowed
 abbrev pub IsTrueFault : EventOrder → ℕ → ThreadFault → Type 0
-IsTrueFault s n faults.Memory = IsCrew n
-IsTrueFault s n faults.Workers = IsCrew n → ⊥
-IsTrueFault s n (faults.Departs p) = IsCrew n × Departs s p
+IsTrueFault s n faults.Memory = IsPool n
+IsTrueFault s n faults.Workers = IsPool n → ⊥
+IsTrueFault s n (faults.Departs p) = IsPool n × Departs s p
 
 -- the number of a fault
 abbrev pub number_of : ThreadFault → ℕ

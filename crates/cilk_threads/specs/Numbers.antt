@@ -11,7 +11,7 @@ use Rattle.cilk_tree.specs.Word.{event}
 use Rattle.cilk_shared.specs.declared.reducers.Reducers.{Reducers}
 use Rattle.cilk_shared.specs.Numbers.{HasNumbers, IsNumberAt}
 use Rattle.cilk_determinacy.specs.Words.{InputsAreWords}
-use Rattle.cilk_replay.specs.EventOrders.{story_on, IsPlannedRun}
+use Rattle.cilk_replay.specs.EventOrders.{event_order_on, IsPlannedRun}
 use Rattle.cilk_checker.specs.Determinate.{AcceptedRun, HasDeterminateRun}
 use Rattle.cilk_plan.specs.Plans.{IsEventOrderOn}
 use Rattle.cilk_threads.specs.Accepted.{IsTableOf}
@@ -25,7 +25,7 @@ HasAskedNumbers s r = (p : ℕ) (i : Instance) (v : ℤ) → IsAsked s p → eve
 abbrev pub EventOrdersAlongHaveNumbers : Type 0
 EventOrdersAlongHaveNumbers =
     (p : Source) (inputs others : List ℤ) (run : Transcript) (es : List Event) (opening : List ℤ) (r : Reducers)
-    → IsPlannedRun p inputs run es opening → InputsAreWords others → AreReducersOf p run r → HasAskedNumbers (story_on p others run es opening) r
+    → IsPlannedRun p inputs run es opening → InputsAreWords others → AreReducersOf p run r → HasAskedNumbers (event_order_on p others run es opening) r
 
 -- This holds along the plan of an accepted run.
 abbrev pub AcceptedEventOrdersHaveNumbers : Type 0

@@ -18,7 +18,7 @@ use Rattle.cilk_runs.specs.Runs.{Run}
 use Rattle.cilk_runs.specs.Traces.{trace}
 use Rattle.cilk_runs.specs.FrameEnvMachine.{costs}
 use Rattle.cilk_runs.specs.Steps.{result_in}
-use Rattle.cilk_runs.specs.FrameEnvs.{FrameEnv, first_world}
+use Rattle.cilk_runs.specs.FrameEnvs.{FrameEnv, first_env}
 use Rattle.cilk_determinacy.specs.Nested.{named}
 use Rattle.cilk_replay.specs.InputCourses as courses
 use Rattle.cilk_replay.specs.Frames.{course_on, IsSerialRunOn}
@@ -27,7 +27,7 @@ use Rattle.cilk_replay.specs.EventOrders.{IsPlannedRun}
 use Rattle.cilk_plan.specs.Plans.{WholePlan, IsEventOrderOn}
 use Rattle.cilk_threads.specs.declared.run.ThreadFault.{ThreadFault}
 use Rattle.cilk_threads.specs.declared.run.ThreadFault.TheVariants as faults
-use Rattle.cilk_threads.specs.Faults.{IsCrew}
+use Rattle.cilk_threads.specs.Faults.{IsPool}
 
 -- a serial run of the program on these inputs has this outcome
 abbrev pub LeavesOn : Source → List ℤ → Outcome → Type 0
@@ -42,7 +42,7 @@ pub record IsOutcomeOn (p : Source) (inputs : List ℤ) (o : Outcome) : Type 0 w
   pub run : Run FrameEnv
   pub serial : IsSerialRunOn p inputs run
   pub left : o ≡ left_by p inputs run
-  pub leaves : whole (costs p inputs) (first_world p) run TickTotal ≤ MAX_TICKS → LeavesOn p inputs o
+  pub leaves : whole (costs p inputs) (first_env p) run TickTotal ≤ MAX_TICKS → LeavesOn p inputs o
   pub only : (o' : Outcome) → LeavesOn p inputs o' → o ≡ o'
 
 -- The piece has all of the yard's events, and the program's frames requested each of them. The
@@ -51,21 +51,21 @@ pub record IsOutcomeOn (p : Source) (inputs : List ℤ) (o : Outcome) : Type 0 w
 pub record IsWholeOf (p : Source) (own inputs : List ℤ) (y : YardValue) (r : Reducers) (x : PieceValue) (value : ℤ) : Type 0 where
   pub good : IsGood (run_of y r) x
   pub begins : x.from ≡ 1
-  pub last : let s = y.story in x.upto ≡ length s.events + 1
-  pub followed : let s = y.story in IsFollowed s (length s.events)
+  pub last : let s = y.event_order in x.upto ≡ length s.events + 1
+  pub followed : let s = y.event_order in IsFollowed s (length s.events)
   pub result : (run : Transcript) (es : List Event) (opening : List ℤ) → IsPlannedRun p own run es opening
       → result_in (reverse (trace (courses.run_of (course_on p inputs (named p run))))) ≡ value
 
 -- the event order that the program makes of the plan on these inputs departs at the position
 abbrev pub DepartsOn : WholePlan → List ℤ → ℕ → Type 0
-DepartsOn w inputs p = (s : EventOrder) × (let t = w.story in IsEventOrderOn w.run t.opening inputs s) × Departs s p
+DepartsOn w inputs p = (s : EventOrder) × (let t = w.event_order in IsEventOrderOn w.run t.opening inputs s) × Departs s p
 
 -- The number of workers is a fault exactly if it isn't allowed; and the input departs from the plan
 -- where the fault says so.
 abbrev pub IsFaultOn : WholePlan → List ℤ → ℕ → ThreadFault → Type 0
-IsFaultOn w inputs n faults.Memory = IsCrew n
-IsFaultOn w inputs n faults.Workers = IsCrew n → ⊥
-IsFaultOn w inputs n (faults.Departs p) = IsCrew n × DepartsOn w inputs p
+IsFaultOn w inputs n faults.Memory = IsPool n
+IsFaultOn w inputs n faults.Workers = IsPool n → ⊥
+IsFaultOn w inputs n (faults.Departs p) = IsPool n × DepartsOn w inputs p
 
 -- the fault names no position
 abbrev pub NamesNoPosition : ThreadFault → Type 0

@@ -14,7 +14,7 @@ pub fn race_free_runs_are_settled()
 
 /// The reducers are settled in each event order along the plan of such a run, so on other inputs
 /// too.
-pub fn stories_along_are_settled()
+pub fn event_orders_along_are_settled()
     ensures { EventOrdersAlongAreSettled }
 {}
 
@@ -27,11 +27,11 @@ pub fn whole_views_are_last()
 /// On all inputs of words, in the event order along the plan of a serial run: if a frame requests
 /// the value of a reducer, it is the number of the reducer's view over the events before it in
 /// serial order.
-pub fn stories_along_have_numbers()
+pub fn event_orders_along_have_numbers()
     ensures { EventOrdersAlongHaveNumbers }
 {}
 
 /// The same for each event order along the plan of an accepted run, with the table of its reducers.
-pub fn accepted_stories_have_numbers()
+pub fn accepted_event_orders_have_numbers()
     ensures { AcceptedEventOrdersHaveNumbers }
 {}

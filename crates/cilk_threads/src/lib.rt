@@ -43,5 +43,10 @@ mod seeds;
 pub mod table;
 pub mod threads;
 
-pub use crate::run::ThreadFault;
+pub use cilk_replay::chain::{Chain, Task};
+pub use cilk_shared::piece::Piece;
 pub use cilk_workers::gate::{Gate, Open};
+pub use cilk_workers::join::JoinBox;
+pub use cilk_workers::rack::{Picker, Rack};
+pub use run::ThreadFault;
+pub use threads::run_threads;

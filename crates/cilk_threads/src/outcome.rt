@@ -27,11 +27,11 @@ pub fn outcome(
     value: i64,
 ) -> Result<Outcome, AllocError>
     requires yard { IsPieceOf yard piece }
-    requires all { (piece.from ≡ 1) × (piece.upto ≡ length piece.story.events + 1) }
+    requires all { (piece.from ≡ 1) × (piece.upto ≡ length piece.event_order.events + 1) }
     requires layout { LaysOut (source program.now) layout.now }
-    requires globals { length (source program.now).openings ≤ length piece.story.opening }
-    requires opens { (c : ℕ) → slice_index_or piece.story.opening c (pos 0) ≡ opening_cells (source program.now) [] c }
-    ensures { IfOk result (λ o. IsMadeOf (source program.now) piece.story piece.reducers value o) }
+    requires globals { length (source program.now).openings ≤ length piece.event_order.opening }
+    requires opens { (c : ℕ) → slice_index_or piece.event_order.opening c (pos 0) ≡ opening_cells (source program.now) [] c }
+    ensures { IfOk result (λ o. IsMadeOf (source program.now) piece.event_order piece.reducers value o) }
 {
     let _main = program.main;
     let Parts { mut views, segment } = piece.parted();

@@ -10,7 +10,7 @@ ghost use Rattle.cilk_workers.specs.Names.{IsName};
 ghost use Rattle.cilk_threads.specs.WorkerSeeds.{Begins, IsWorkerSeed, IsRack, IsTake};
 
 use crate::layout::Layout;
-use crate::seeds::{Take, WorkerSeed, doors, ends, kits, racks, shelves};
+use crate::seeds::{Take, WorkerSeed, doors, ends, racks, seeds, shelves};
 use cilk_replay::chain::Chain;
 use cilk_shared::piece::Piece;
 use cilk_workers::activity::{Activity, Blocks, ExitReason, Tools};
@@ -71,7 +71,7 @@ pub fn worker<'a, N: Naming, R: Wait, G: Gate>(
     requires syncs { AreSyncs shared.now layout.now.syncs.now }
     requires rack { IsRack rack }
     requires takes { All IsTake takes.items }
-    requires strands { AreFirsts shared.now.run.story.events layout.now.strands.now }
+    requires strands { AreFirsts shared.now.run.event_order.events layout.now.strands.now }
     requires begins { Begins shared.now piece chain }
     ensures { IsExitReason shared.now result }
 {
@@ -85,7 +85,7 @@ pub fn worker<'a, N: Naming, R: Wait, G: Gate>(
         pickers,
         keys,
     };
-    let station = WorkerContext {
+    let context = WorkerContext {
         rt,
         alloc,
         shared,
@@ -102,12 +102,12 @@ pub fn worker<'a, N: Naming, R: Wait, G: Gate>(
     };
     let hand = match chain {
         Some(chain) => {
-            station.watch.tell(shared, 0, &piece);
+            context.watch.tell(shared, 0, &piece);
             Activity::Holds(Work { piece, chain })
         }
         None => Activity::Idle(piece),
     };
-    station.work(&mut tools, stop, hand)
+    context.work(&mut tools, stop, hand)
 }
 
 // The better of two exit reasons: the first, unless it is `Stopped`.
@@ -155,22 +155,22 @@ fn joined<'a, 'b, R: Threads>(
 }
 
 // Pops the last worker seed.
-fn last_kit<N: Naming>(
+fn last_seed<N: Naming>(
     shared: &Shared<'_>,
     doors: &Vec<Lock<N>>,
-    kits: &mut Vec<WorkerSeed<N>>,
+    seeds: &mut Vec<WorkerSeed<N>>,
 ) -> Option<WorkerSeed<N>>
-    requires { All (IsWorkerSeed shared.now doors.now.items) kits.old.items }
-    ensures rest { All (IsWorkerSeed shared.now doors.now.items) kits.new.items }
+    requires { All (IsWorkerSeed shared.now doors.now.items) seeds.old.items }
+    ensures rest { All (IsWorkerSeed shared.now doors.now.items) seeds.new.items }
     ensures one { IfSome result (IsWorkerSeed shared.now doors.now.items) }
 {
     let _ = shared;
     let _ = doors;
-    kits.pop()
+    seeds.pop()
 }
 
 // Starts one worker per seed and joins them. If a thread can't be started, the others are stopped.
-fn crew<'a, 'b, N: Naming + Send + Sync, R: Threads + Wait + Sync, G: Gate + Sync>(
+fn pool<'a, 'b, N: Naming + Send + Sync, R: Threads + Wait + Sync, G: Gate + Sync>(
     rt: &R,
     alloc: Global,
     shared: &'a Shared<'b>,
@@ -178,25 +178,25 @@ fn crew<'a, 'b, N: Naming + Send + Sync, R: Threads + Wait + Sync, G: Gate + Syn
     layout: &'a Layout<'a>,
     gate: &'a G,
     stop: &'a AtomicBool,
-    kits: Vec<WorkerSeed<N>>,
+    seeds: Vec<WorkerSeed<N>>,
 ) -> Result<ExitReason, AllocError>
     requires name { IsName N.run N.course N.taken shared.now }
-    requires strands { AreFirsts shared.now.run.story.events layout.now.strands.now }
+    requires strands { AreFirsts shared.now.run.event_order.events layout.now.strands.now }
     requires syncs { AreSyncs shared.now layout.now.syncs.now }
-    requires kits { All (IsWorkerSeed shared.now doors.now.items) kits.items }
+    requires seeds { All (IsWorkerSeed shared.now doors.now.items) seeds.items }
     ensures { IfOk result (IsExitReason shared.now) }
 {
     thread::scope(
         thread::scope_env(),
         rt,
         |scope| -> Result<ExitReason, AllocError>
-            requires { IsSync R.row × IsSync G.row × IsSend N.row × IsSync N.row × IsName N.run N.course N.taken shared.now × AreFirsts shared.now.run.story.events layout.now.strands.now × AreSyncs shared.now layout.now.syncs.now × All (IsWorkerSeed shared.now doors.now.items) kits.items }
+            requires { IsSync R.row × IsSync G.row × IsSend N.row × IsSync N.row × IsName N.run N.course N.taken shared.now × AreFirsts shared.now.run.event_order.events layout.now.strands.now × AreSyncs shared.now layout.now.syncs.now × All (IsWorkerSeed shared.now doors.now.items) seeds.items }
             ensures { IfOk result (IsExitReason shared.entry.now) }
         {
-            let mut kits = kits;
-            let mut handles = Vec::with_capacity(alloc, kits.len())?;
-            'each: for _ in 0..kits.len() {
-                let Some(kit) = last_kit::<N>(shared, doors, &mut kits) else {
+            let mut seeds = seeds;
+            let mut handles = Vec::with_capacity(alloc, seeds.len())?;
+            'each: for _ in 0..seeds.len() {
+                let Some(seed) = last_seed::<N>(shared, doors, &mut seeds) else {
                     break;
                 };
                 let WorkerSeed {
@@ -206,7 +206,7 @@ fn crew<'a, 'b, N: Naming + Send + Sync, R: Threads + Wait + Sync, G: Gate + Syn
                     keys,
                     piece,
                     chain,
-                } = kit;
+                } = seed;
                 let started = scope.spawn_with(Ends { shared: &*shared }, move || {
                     worker::<N, R, G>(
                         rt, alloc, shared, doors, layout, gate, stop, number, rack, takes, keys,
@@ -237,14 +237,14 @@ pub fn crewed<N: Naming + Send + Sync, R: Threads + Wait + Sync, G: Gate + Sync>
 ) -> Result<ExitReason, AllocError>
     requires name { IsName N.run N.course N.taken shared.now }
     requires syncs { AreSyncs shared.now layout.now.syncs.now }
-    requires strands { AreFirsts shared.now.run.story.events layout.now.strands.now }
+    requires strands { AreFirsts shared.now.run.event_order.events layout.now.strands.now }
     requires works { Works shared.now work }
     ensures { IfOk result (IsExitReason shared.now) }
 {
     let (doors, mut keys) = doors::<N, R>(rt, alloc, shared, shelves(layout.syncs.len()))?;
     let mut racks = racks::<N>(alloc, count)?;
     let ends = ends::<N>(alloc, &mut racks)?;
-    let kits = kits::<N>(alloc, shared, &doors, &mut keys, racks, ends, work, count)?;
+    let seeds = seeds::<N>(alloc, shared, &doors, &mut keys, racks, ends, work, count)?;
     let stop = AtomicBool::new(false);
-    crew::<N, R, G>(rt, alloc, shared, &doors, layout, gate, &stop, kits)
+    pool::<N, R, G>(rt, alloc, shared, &doors, layout, gate, &stop, seeds)
 }

@@ -7,7 +7,7 @@ ghost use Rattle.cilk_types.specs.declared.event.Event.TheVariants.{Sync};
 ghost use Rattle.cilk_tree.specs.PlanStrands.{AreFirsts};
 ghost use Rattle.cilk_workers.specs.Activities.{IsWhole};
 ghost use Rattle.cilk_workers.specs.Names.{IsName};
-ghost use Rattle.cilk_threads.specs.Faults.{IsCrew, IsTrueFault, number_of};
+ghost use Rattle.cilk_threads.specs.Faults.{IsPool, IsTrueFault, number_of};
 
 use crate::layout::Layout;
 use crate::pool::crewed;
@@ -66,12 +66,12 @@ fn run_as<N: Naming + Send + Sync, R: Threads + Wait + Sync, G: Gate + Sync>(
     workers: u32,
 ) -> Result<(Piece, i64), ThreadFault>
     requires name { IsName N.run N.course N.taken shared.now }
-    requires syncs { All (λ at. event shared.now.run.story at ≡ Some Sync) layout.now.syncs.now }
-    requires strands { AreFirsts shared.now.run.story.events layout.now.strands.now }
+    requires syncs { All (λ at. event shared.now.run.event_order at ≡ Some Sync) layout.now.syncs.now }
+    requires strands { AreFirsts shared.now.run.event_order.events layout.now.strands.now }
     requires works { Works shared.now work }
-    requires crew { IsCrew workers }
+    requires pool { IsPool workers }
     ensures ok { IfOk result (λ r. IsWhole shared.now r.0 r.1) }
-    ensures err { IfErr result (IsTrueFault shared.now.run.story workers) }
+    ensures err { IfErr result (IsTrueFault shared.now.run.event_order workers) }
 {
     match crewed::<N, R, G>(rt, alloc, shared, layout, gate, work, workers) {
         Ok(ExitReason::Whole(piece, value)) => Ok((piece, value)),
@@ -91,11 +91,11 @@ pub fn run<R: Threads + Wait + Sync, G: Gate + Sync>(
     work: Work,
     workers: u32,
 ) -> Result<(Piece, i64), ThreadFault>
-    requires syncs { All (λ at. event shared.now.run.story at ≡ Some Sync) layout.now.syncs.now }
-    requires strands { AreFirsts shared.now.run.story.events layout.now.strands.now }
+    requires syncs { All (λ at. event shared.now.run.event_order at ≡ Some Sync) layout.now.syncs.now }
+    requires strands { AreFirsts shared.now.run.event_order.events layout.now.strands.now }
     requires works { Works shared.now work }
-    ensures ok { IfOk result (λ r. IsWhole shared.now r.0 r.1 × IsCrew workers) }
-    ensures err { IfErr result (IsTrueFault shared.now.run.story workers) }
+    ensures ok { IfOk result (λ r. IsWhole shared.now r.0 r.1 × IsPool workers) }
+    ensures err { IfErr result (IsTrueFault shared.now.run.event_order workers) }
 {
     if workers == 0 || workers > MAX_WORKERS {
         return Err(ThreadFault::Workers);

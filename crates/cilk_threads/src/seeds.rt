@@ -214,21 +214,21 @@ fn last_ends<N: Naming>(ends: &mut Vec<Vec<Take<N>>>) -> Option<Vec<Take<N>>>
 fn equip<N: Naming>(
     shared: &Shared<'_>,
     doors: &Vec<Lock<N>>,
-    kits: &mut Vec<WorkerSeed<N>>,
-    kit: WorkerSeed<N>,
+    seeds: &mut Vec<WorkerSeed<N>>,
+    seed: WorkerSeed<N>,
 ) -> Result<(), AllocError>
-    requires kits { All (IsWorkerSeed shared.now doors.now.items) kits.old.items }
-    requires kit { IsWorkerSeed shared.now doors.now.items kit }
-    ensures { OnOk result (All (IsWorkerSeed shared.now doors.now.items) kits.new.items) }
+    requires seeds { All (IsWorkerSeed shared.now doors.now.items) seeds.old.items }
+    requires seed { IsWorkerSeed shared.now doors.now.items seed }
+    ensures { OnOk result (All (IsWorkerSeed shared.now doors.now.items) seeds.new.items) }
 {
     let _ = shared;
     let _ = doors;
-    kits.push(kit)?;
+    seeds.push(seed)?;
     Ok(())
 }
 
 /// Makes a seed for each worker, as long as there are racks. The first one has the work.
-pub fn kits<N: Naming>(
+pub fn seeds<N: Naming>(
     alloc: Global,
     shared: &Shared<'_>,
     doors: &Vec<Lock<N>>,
@@ -257,7 +257,7 @@ pub fn kits<N: Naming>(
         let (piece, chain, rest) = begins(alloc, shared, spare, first);
         spare = rest;
         first = None;
-        let kit = WorkerSeed {
+        let seed = WorkerSeed {
             worker: worker + 1,
             rack: rack.parted(),
             takes,
@@ -265,7 +265,7 @@ pub fn kits<N: Naming>(
             piece,
             chain,
         };
-        equip::<N>(shared, doors, &mut all, kit)?;
+        equip::<N>(shared, doors, &mut all, seed)?;
     }
     Ok(all)
 }

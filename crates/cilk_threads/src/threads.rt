@@ -8,10 +8,10 @@ ghost use Rattle.cilk_plan.specs.Plans.{IsEventOrderOn};
 ghost use Rattle.cilk_program.specs.Sources.{source};
 ghost use Rattle.cilk_threads.specs.Accepted.{IsTableOf};
 ghost use Rattle.cilk_shared.specs.Values.{OfYard};
-ghost use Rattle.cilk_threads.specs.Faults.{IsCrew};
+ghost use Rattle.cilk_threads.specs.Faults.{IsPool};
 ghost use Rattle.cilk_threads.specs.Outcomes.{IsFaultOn, IsOutcomeOn, IsWholeOf, NamesNoPosition};
 
-use crate::laws::accepted_stories_have_numbers;
+use crate::laws::accepted_event_orders_have_numbers;
 use crate::layout::Layout;
 use crate::outcome::outcome;
 use crate::run::{MAX_WORKERS, ThreadFault, run};
@@ -21,7 +21,9 @@ use cilk_plan::course::course;
 use cilk_plan::program_plan::ProgramPlan;
 use cilk_plan::yards::yard;
 use cilk_replay::course::Course;
-use cilk_replay::laws::{inputs_run_along, own_story, programs_have_one_course, runs_are_elided};
+use cilk_replay::laws::{
+    inputs_run_along, own_event_order, programs_have_one_course, runs_are_elided,
+};
 use cilk_shared::piece::Piece;
 use cilk_shared::reducers::Reducers;
 use cilk_shared::yard::{Segment, Yard};
@@ -51,12 +53,12 @@ pub fn run_threads<R: Threads + Wait + Sync, G: Gate + Sync>(
     workers: u32,
     gate: &G,
 ) -> Result<Outcome, ThreadFault>
-    ensures ok { IfOk result (λ o. IsCrew workers × IsOutcomeOn (source plan.now.run.program) input.now o) }
+    ensures ok { IfOk result (λ o. IsPool workers × IsOutcomeOn (source plan.now.run.program) input.now o) }
     ensures own { IfOk result (λ o. input.now ≡ plan.now.run.input → o ≡ plan.now.run.outcome) }
     ensures err { IfErr result (IsFaultOn plan.now input.now workers) }
     ensures stays { IfErr result (λ f. input.now ≡ plan.now.run.input → NamesNoPosition f) }
 {
-    own_story();
+    own_event_order();
     plan.laws();
     if workers == 0 || workers > MAX_WORKERS {
         return Err(ThreadFault::Workers);
@@ -90,15 +92,15 @@ fn run_on<R: Threads + Wait + Sync, G: Gate + Sync>(
     workers: u32,
     gate: &G,
 ) -> Result<(Piece, i64), ThreadFault>
-    requires crew { IsCrew workers }
+    requires pool { IsPool workers }
     requires table { IsTableOf plan.now.run table.now × HasFew table.now }
-    requires story { IsEventOrderOn plan.now.run plan.now.story.opening input.now yard.now.story }
-    requires along { IsAlong plan.now.story yard.now.story }
+    requires event_order { IsEventOrderOn plan.now.run plan.now.event_order.opening input.now yard.now.event_order }
+    requires along { IsAlong plan.now.event_order yard.now.event_order }
     requires segment { OfYard yard.now segment × (segment.from ≡ 1) × (segment.upto ≡ 2) }
     ensures ok { IfOk result (λ r. IsWholeOf (source plan.now.run.program) plan.now.run.input input.now yard.now table.now r.0 r.1) }
     ensures err { IfErr result (IsFaultOn plan.now input.now workers) }
 {
-    accepted_stories_have_numbers();
+    accepted_event_orders_have_numbers();
     inputs_are_words(input);
     plan.laws();
     let Ok(course) = course_on(alloc, plan, yard, input) else {
@@ -124,7 +126,7 @@ fn course_on(
     yard: &Yard,
     input: &Input,
 ) -> Result<Course, AllocError>
-    requires { IsEventOrderOn plan.now.run plan.now.story.opening input.now yard.now.story }
+    requires { IsEventOrderOn plan.now.run plan.now.event_order.opening input.now yard.now.event_order }
     ensures { IfOk result (λ c. IsCourseOn plan.now.run yard.now input.now c) }
 {
     let same = copied(alloc, input)?;
@@ -156,8 +158,8 @@ fn left(
     value: i64,
 ) -> Result<Outcome, AllocError>
     requires table { IsTableOf plan.now.run piece.reducers }
-    requires story { IsEventOrderOn plan.now.run plan.now.story.opening input.now yard.story }
-    requires along { IsAlong plan.now.story yard.story }
+    requires event_order { IsEventOrderOn plan.now.run plan.now.event_order.opening input.now yard.event_order }
+    requires along { IsAlong plan.now.event_order yard.event_order }
     requires whole { IsWholeOf (source plan.now.run.program) plan.now.run.input input.now yard piece.reducers piece value }
     ensures { IfOk result (λ o. IsOutcomeOn (source plan.now.run.program) input.now o) }
 {

@@ -13,7 +13,7 @@ use Rattle.std.specs.Borrow.{Bor}
 use Rattle.std.specs.Option.{unwrap_or}
 use Rattle.cilk_checker.specs.Answers.{IsCertified}
 use Rattle.cilk_checker.specs.Determinate.{AcceptedRun}
-use Rattle.cilk_threads.specs.Faults.{IsCrew}
+use Rattle.cilk_threads.specs.Faults.{IsPool}
 use Rattle.cilk_checker.specs.Judging.{Meant, meant}
 use Rattle.cilk_plan.specs.Plans.{IsPlanOf, WholePlan}
 use Rattle.cilk_program.specs.Sources.{source}
@@ -36,20 +36,20 @@ use Rattle.cilk_tool.specs.declared.running.Ending.{Ending}
 
 -- numbers that depart from the plan of an accepted run depart from the run
 pub departs : (w : WholePlan) (a : AcceptedRun) (numbers : List ℤ) (workers : ℕ) (f : ThreadFault) (at place : ℕ) → w.run ≡ a
-    → f ≡ faults.Departs at → at ≡ place → IsPlanOf w.run w.story → IsFaultOn w numbers workers f → (numbers ≡ w.run.input → NamesNoPosition f)
+    → f ≡ faults.Departs at → at ≡ place → IsPlanOf w.run w.event_order → IsFaultOn w numbers workers f → (numbers ≡ w.run.input → NamesNoPosition f)
     → RunShows a (meant a.program) numbers workers (Refused departed (place ∷ []))
 departs w a numbers workers f at place of is same plan h stays =
-    let there : IsCrew workers × DepartsOn w numbers at = subst (λ (x : ThreadFault). IsFaultOn w numbers workers x) is h in
+    let there : IsPool workers × DepartsOn w numbers at = subst (λ (x : ThreadFault). IsFaultOn w numbers workers x) is h in
     let other : numbers ≢ w.run.input = λ e. subst (λ (x : ThreadFault). NamesNoPosition x) is (stays e) in
     inr (
       refl,
       subst (λ (b : AcceptedRun). numbers ≢ b.input) of other,
-      (at, ap (λ (p : ℕ). p ∷ []) (sym same), subst (λ (b : AcceptedRun). DepartsFrom b numbers at) of (w.story, plan, there.1)),
+      (at, ap (λ (p : ℕ). p ∷ []) (sym same), subst (λ (b : AcceptedRun). DepartsFrom b numbers at) of (w.event_order, plan, there.1)),
     )
 
 -- the outcome of the workers
 pub ran : {T : Type 0} (w : WholePlan) (a : AcceptedRun) (numbers : List ℤ) (workers : ℕ) (o : Outcome) (x : Result Ending T) → w.run ≡ a
-    → IsCrew workers × IsOutcomeOn (source w.run.program) numbers o → (numbers ≡ w.run.input → o ≡ w.run.outcome)
+    → IsPool workers × IsOutcomeOn (source w.run.program) numbers o → (numbers ≡ w.run.input → o ≡ w.run.outcome)
     → IfOk x (λ e. let m = meant a.program in ending_view e ≡ Ended m.names o)
     → IfOk x (λ e. RunShows a (meant a.program) numbers workers (ending_view e))
 ran w a numbers workers o (Err f) of ok own is = tt

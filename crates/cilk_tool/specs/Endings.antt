@@ -5,7 +5,7 @@ use Rattle.cilk_commands.specs.Files.{Failures, IsHeld}
 use Rattle.cilk_commands.specs.Replies.{Accepted, Refused, Reply, Text, answer_view}
 use Rattle.cilk_commands.specs.Serving.{FileFails}
 use Rattle.cilk_commands.specs.Shown.{CheckShows, InputFails}
-use Rattle.cilk_tool.specs.Shown.{IsAcceptedRun, IsUnfailed, departed, no_crew}
+use Rattle.cilk_tool.specs.Shown.{IsAcceptedRun, IsUnfailed, departed, no_pool}
 use Rattle.cilk_tool.specs.declared.running.Ending.{Ending}
 use Rattle.cilk_tool.specs.declared.running.Ending.TheVariants as endings
 use Rattle.cilk_tool.specs.declared.running.Verdict.{Verdict}
@@ -13,7 +13,7 @@ use Rattle.cilk_tool.specs.declared.running.Verdict.TheVariants as verdicts
 
 abbrev pub ending_view : Ending → Reply
 ending_view (endings.Answer answer) = answer_view answer
-ending_view endings.Workers = Refused no_crew []
+ending_view endings.Workers = Refused no_pool []
 ending_view (endings.Departed at) = Refused departed (at ∷ [])
 
 -- the certificate is accepted, with its run; or the check shows why it is refused

@@ -1,4 +1,4 @@
--- The replies of `serve_parallel`.
+-- The replies of `serve`.
 use Rattle.std.specs.Prelude.{◌≡◌, ◌<◌, ◌&&◌, ℕ, Bool, true, false, not, List, [], ◌∷◌, length, Option, Some, None, codes}
 use Rattle.std.specs.Str.{bytes_eq}
 use Rattle.cilk_report.specs.Words.{is_help, is_measure}

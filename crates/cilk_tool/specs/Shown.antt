@@ -4,7 +4,7 @@ use Rattle.cilk_parser.specs.Inputs.{IsInput}
 use Rattle.cilk_checker.specs.Judging.{Meant, meant}
 use Rattle.cilk_checker.specs.Answers.{IsCertified}
 use Rattle.cilk_checker.specs.Determinate.{AcceptedRun}
-use Rattle.cilk_threads.specs.Faults.{IsCrew}
+use Rattle.cilk_threads.specs.Faults.{IsPool}
 use Rattle.cilk_plan.specs.Plans.{IsPlanOf}
 use Rattle.cilk_tree.specs.declared.event_order.EventOrder.{EventOrder}
 use Rattle.cilk_threads.specs.Outcomes.{DepartsOn, IsOutcomeOn}
@@ -15,8 +15,8 @@ use Rattle.cilk_commands.specs.Shown.{CheckShows, InputFails}
 use Rattle.cilk_tool.specs.Words.{Requested}
 
 -- the refusal for a number of workers that isn't 1 to 64
-abbrev pub no_crew : ℕ
-no_crew = 501
+abbrev pub no_pool : ℕ
+no_pool = 501
 
 -- the refusal for a departure
 abbrev pub departed : ℕ
@@ -35,20 +35,20 @@ GivesNumbers files (Some path) own numbers = (text : Text) × IsHeld (files path
 
 -- these numbers depart from the plan of the accepted run at a position
 abbrev pub DepartsFrom : AcceptedRun → List ℤ → ℕ → Type 0
-DepartsFrom a numbers at = (story : EventOrder) × IsPlanOf a story × DepartsOn (record { run = a; story = story }) numbers at
+DepartsFrom a numbers at = (event_order : EventOrder) × IsPlanOf a event_order × DepartsOn (record { run = a; event_order = event_order }) numbers at
 
 -- no run is made: the number of workers isn't 1 to 64, or the numbers are other than its own and
 -- depart
 abbrev pub IsUnrun : AcceptedRun → List ℤ → ℕ → ℕ → List ℕ → Type 0
 IsUnrun a numbers workers number places =
-    ((number ≡ no_crew) × (places ≡ []) × (IsCrew workers → ⊥))
+    ((number ≡ no_pool) × (places ≡ []) × (IsPool workers → ⊥))
     ⊎ ((number ≡ departed) × (numbers ≢ a.input) × ((at : ℕ) × (places ≡ at ∷ []) × DepartsFrom a numbers at))
 
 -- The answer for an accepted program that workers run on these numbers: the program's outcome on
 -- them, which is the certified run's on its own numbers; or why there is no run.
 abbrev pub RunShows : AcceptedRun → Meant → List ℤ → ℕ → Reply → Type 0
 RunShows a m numbers workers (Ended names o) =
-    (names ≡ m.names) × IsCrew workers × IsOutcomeOn m.source numbers o × (numbers ≡ a.input → o ≡ a.outcome)
+    (names ≡ m.names) × IsPool workers × IsOutcomeOn m.source numbers o × (numbers ≡ a.input → o ≡ a.outcome)
 RunShows a m numbers workers (Refused number places) = IsUnrun a numbers workers number places
 RunShows a m numbers workers NoMemory = Unit {0}
 RunShows a m numbers workers _ = ⊥

@@ -1,7 +1,7 @@
 //! The commands that start threads: `threads`, which runs an accepted program in parallel, and
 //! `check` with `--helpers`, which shares the check of a certificate among threads.
 //!
-//! [`serve_parallel`] serves one call of the tool. It is the only function here that the program
+//! [`serve`] serves one call of the tool. It is the only function here that the program
 //! `cilk` calls. Its handle to the system has to offer threads and waiting. Its contract states the
 //! reply to every command line, up to the wording of help and explanations.
 //!
@@ -21,7 +21,7 @@
 //!
 //! | Call | Purpose |
 //! |---|---|
-//! | [`serve_parallel`] | serves a command line and returns the exit status |
+//! | [`serve`] | serves a command line and returns the exit status |
 //! | [`words::read`] | reads the command line of `threads` |
 //! | [`check_words::read_check`] | reads the command line of `check` with `--helpers` |
 //!
@@ -41,4 +41,4 @@ mod serving;
 mod source;
 pub mod words;
 
-pub use serving::serve_parallel;
+pub use serving::serve;

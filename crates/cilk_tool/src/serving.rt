@@ -27,7 +27,7 @@ use std::sync::Wait;
 use std::thread::Threads;
 
 /// The refusal for a number of workers that isn't 1 to 64.
-pub const NO_CREW: u32 = 501;
+pub const NO_POOL: u32 = 501;
 
 /// The refusal of an input that departs from the plan of the certified run.
 pub const DEPARTED: u32 = 502;
@@ -39,7 +39,7 @@ const HINT: &str = "\nhint: `cilk help threads` describes `threads` and its opti
 /// accepted program by workers on threads, and `check` with `--helpers` checks a certificate by
 /// helpers on threads. Both wait for their threads. Other command lines are served by
 /// [`cilk_report::serve_explained`].
-pub fn serve_parallel<H: Threads + Wait + Sync, F: Keeps, R: Read, O: Write, E: Write>(
+pub fn serve<H: Threads + Wait + Sync, F: Keeps, R: Read, O: Write, E: Write>(
     rt: &H,
     alloc: Global,
     words: &[&str],
@@ -183,7 +183,7 @@ fn show_ending<O: Write, E: Write>(
 {
     match ending {
         Ending::Answer(answer) => show(alloc, answer, out, err),
-        Ending::Workers => show_refusal(alloc, NO_CREW, None, out, err),
+        Ending::Workers => show_refusal(alloc, NO_POOL, None, out, err),
         Ending::Departed(at) => show_refusal(alloc, DEPARTED, Some(*at), out, err),
     }
 }

@@ -14,7 +14,7 @@ use Rattle.cilk_tree.specs.Before.{IsPosition}
 use Rattle.cilk_tree.specs.Orders.{IsOrderly}
 use Rattle.cilk_tree.specs.Runs.{IsAsked}
 use Rattle.cilk_tree.specs.Values.{HasValues}
-use Rattle.cilk_tree.proofs.Orderly.{stories_are_orderly}
+use Rattle.cilk_tree.proofs.Orderly.{event_orders_are_orderly}
 use Rattle.cilk_tree.specs.Kinds.{IsOfWords}
 use Rattle.cilk_tree.specs.Planned.{all_asked, planned, HasPlan}
 use Rattle.cilk_tree.proofs.Passed.{gives_predecessors}
@@ -31,7 +31,7 @@ pub orderly : (es : List Event) (opening : List ℤ) → HasPlan es opening → 
 orderly es opening h =
     let a = h.few_events in
     let b = h.few_cells in
-    stories_are_orderly h.shape (planned es opening) (record { spells = h.spells; preceding = gives_predecessors h.shape es h.spells }) h.synced (omega (arith, a)) (omega (arith, a, b)) h.free
+    event_orders_are_orderly h.shape (planned es opening) (record { spells = h.spells; preceding = gives_predecessors h.shape es h.spells }) h.synced (omega (arith, a)) (omega (arith, a, b)) h.free
 
 words_at : (es : List Event) → All IsOfWords es → (i : ℕ) (e : Event) → slice_get es i ≡ Some e → IsOfWords e
 words_at es h i e is = subst IsOfWords (get_or_from_slice_get es i e e is) (h i e (slice_get_within es i e is))

@@ -1,4 +1,4 @@
--- The event order of a run without a determinacy race is orderly: `stories_are_orderly`.
+-- The event order of a run without a determinacy race is orderly: `event_orders_are_orderly`.
 use Rattle.std.proofs.Common.{◌≡◌, ◌≢◌, ℕ, zero, suc, ◌+◌, ◌-◌, ◌^◌, ◌<◌, ◌≤◌, List, [], ◌∷◌, length, get_or, map, Option, Some, slice_get, slice_index_or, refl, sym, ap, ◌∙◌, subst, arith, ◌⊎◌, inl, inr, ⊎_elim, eq-eqb}
 use Rattle.std.proofs.lemmas.Option.{slice_get_past}
 use mathlib.Core.Logic.{dite}
@@ -30,18 +30,18 @@ marks_at [] (suc i) = refl
 marks_at (e ∷ es) zero = refl
 marks_at (e ∷ es) (suc i) = marks_at es i
 
-module _ (shape : Shape) (s : EventOrder) (is_story : IsEventOrderOf shape s) (synced_shape : IsSynced shape) where
+module _ (shape : Shape) (s : EventOrder) (is_event_order : IsEventOrderOf shape s) (synced_shape : IsSynced shape) where
   same : after s ≡ preceding shape
-  same = ap (λ (l : List (List ℕ)). (λ (p : ℕ). slice_index_or l (p - 1) [])) is_story.preceding
+  same = ap (λ (l : List (List ℕ)). (λ (p : ℕ). slice_index_or l (p - 1) [])) is_event_order.preceding
 
   wide : suc (long (line_of shape)) ≡ length s.events
-  wide = long_whole shape s.events is_story.spells
+  wide = long_whole shape s.events is_event_order.spells
 
   laid : Laid (after s) (whole shape) 1 [] []
   laid = subst (λ (g : ℕ → List ℕ). Laid g (whole shape) 1 [] []) (sym same) (laid_whole shape)
 
   marks_list : (i : ℕ) → mark_at (slice_get s.events i) ≡ get_or (mark.Begin ∷ marks shape) i mark.Plain
-  marks_list i = marks_at s.events i ∙ ap (λ (l : List Mark). get_or l i mark.Plain) is_story.spells
+  marks_list i = marks_at s.events i ∙ ap (λ (l : List Mark). get_or l i mark.Plain) is_event_order.spells
 
   marked : Marked (λ p. mark_at (event_at s.events p)) shape 2
   marked = marked_shape (λ p. mark_at (event_at s.events p)) shape 2 (λ i l. (let z : 2 + i - 1 ≡ suc i = omega arith in ap (λ (j : ℕ). mark_at (slice_get s.events j)) z ∙ marks_list (suc i)))
@@ -178,14 +178,14 @@ module _ (shape : Shape) (s : EventOrder) (is_story : IsEventOrderOf shape s) (s
   ordered free p q less bad =
       let r = ranges p q bad in
       let i = r.0 in
-      before p q ((before_is_reached shape s.events is_story.spells synced_shape p q r.0 r.1).0 (earlier_before shape s.events is_story.spells p q r.0 r.1 (record {
+      before p q ((before_is_reached shape s.events is_event_order.spells synced_shape p q r.0 r.1).0 (earlier_before shape s.events is_event_order.spells p q r.0 r.1 (record {
         less = less;
         apart = λ b. free p q (record {
           first = i.0;
           earlier = less;
           cell = cell_of p q bad;
           clash = clash p q bad;
-          parallel = (beside_positions shape s.events is_story.spells p q r.0 r.1 less).1 b;
+          parallel = (beside_positions shape s.events is_event_order.spells p q r.0 r.1 less).1 b;
         });
       })))
 
@@ -214,5 +214,5 @@ module _ (shape : Shape) (s : EventOrder) (is_story : IsEventOrderOf shape s) (s
     all = all;
   }
 
-pub stories_are_orderly : EventOrdersAreOrderly
-stories_are_orderly shape s is synced_shape few small free = orderly shape s is synced_shape few small free
+pub event_orders_are_orderly : EventOrdersAreOrderly
+event_orders_are_orderly shape s is synced_shape few small free = orderly shape s is synced_shape few small free

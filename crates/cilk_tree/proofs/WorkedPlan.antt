@@ -35,8 +35,8 @@ each_here P es j e h is = let z : 0 + j ≡ j = omega arith in subst (λ (k : �
 abbrev shape : Shape
 shape = act (child invocations.Spawn (act (sync finish)) (act (sync (sync finish))))
 
-abbrev story : EventOrder
-story = planned two_reads (pos 0 ∷ [])
+abbrev event_order : EventOrder
+event_order = planned two_reads (pos 0 ∷ [])
 
 -- ---- the one write is at position 2
 writes_at : (j c : ℕ) (o : Option Event) → slice_get two_reads j ≡ o → Writes o c → j ≡ 1
@@ -75,24 +75,24 @@ free p q r = ⊎_elim
     r.clash
 
 -- ---- values
-has_seven : (n : ℕ) → n ≡ 2 → (k : ℕ) → n ≡ suc k → event story (suc k) ≡ Some (Write 0 (pos 7))
-has_seven n two k is = let z : 2 ≡ suc k = sym two ∙ is in subst (λ (j : ℕ). event story j ≡ Some (Write 0 (pos 7))) z refl
+has_seven : (n : ℕ) → n ≡ 2 → (k : ℕ) → n ≡ suc k → event event_order (suc k) ≡ Some (Write 0 (pos 7))
+has_seven n two k is = let z : 2 ≡ suc k = sym two ∙ is in subst (λ (j : ℕ). event event_order j ≡ Some (Write 0 (pos 7))) z refl
 
-value : (n : ℕ) → last_write two_reads 0 n ≡ 2 → HasValue story 0 n (pos 7)
+value : (n : ℕ) → last_write two_reads 0 n ≡ 2 → HasValue event_order 0 n (pos 7)
 value n two = record {
   opened = λ z. absurd (omega (arith, two, z));
   written = λ q is. has_seven (last_write two_reads 0 n) two q is;
 }
 
-value_at : (n : ℕ) → last_write two_reads 0 n ≡ 2 → (c : ℕ) (v : ℤ) → Read 0 (pos 7) ≡ Read c v → HasValue story c n v
+value_at : (n : ℕ) → last_write two_reads 0 n ≡ 2 → (c : ℕ) (v : ℤ) → Read 0 (pos 7) ≡ Read c v → HasValue event_order c n v
 value_at n two c v h =
     let a : 0 ≡ c = cc h in
     let b : pos 7 ≡ v = cc h in
-    subst (λ (k : ℕ). HasValue story k n v) a (subst (λ (x : ℤ). HasValue story 0 n x) b (value n two))
+    subst (λ (k : ℕ). HasValue event_order k n v) a (subst (λ (x : ℤ). HasValue event_order 0 n x) b (value n two))
 
-reads : (p c : ℕ) (v : ℤ) → event_at two_reads p ≡ Some (Read c v) → HasValue story c (p - 1) v
+reads : (p c : ℕ) (v : ℤ) → event_at two_reads p ≡ Some (Read c v) → HasValue event_order c (p - 1) v
 reads p c v is =
-    each_here (λ i x. (c : ℕ) (v : ℤ) → x ≡ Read c v → HasValue story c i v) two_reads (p - 1) (Read c v)
+    each_here (λ i x. (c : ℕ) (v : ℤ) → x ≡ Read c v → HasValue event_order c i v) two_reads (p - 1) (Read c v)
     (λ c v h. absurd (cc h), (λ c v h. absurd (cc h), (λ c v h. absurd (cc h), (λ c v h. absurd (cc h), (value_at 4 refl, (λ c v h. absurd (cc h), (λ c v h. absurd (cc h), (λ c v h. absurd (cc h), (value_at 8 refl, (λ c v h. absurd (cc h), (λ c v h. absurd (cc h), (λ c v h. absurd (cc h), tt))))))))))))
     is c v refl
 

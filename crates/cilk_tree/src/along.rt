@@ -5,7 +5,7 @@ ghost use Rattle.cilk_tree.specs.Along.{FollowsWhereItDepartsNowhere, EventOrder
 
 /// Every event order along an orderly plan is orderly, whatever its values. So the properties of
 /// the order that workers rely on hold on each input; those of the values are not part of this law.
-pub fn stories_along_are_orderly()
+pub fn event_orders_along_are_orderly()
     ensures { EventOrdersAlongAreOrderly }
 {}
 

@@ -4,6 +4,6 @@ ghost use Rattle.cilk_tree.specs.Orders.{EventOrdersAreOrderly};
 
 /// The event order of a run is orderly if the run has no determinacy race and each frame syncs
 /// after it spawned.
-pub fn race_free_stories_are_orderly()
+pub fn race_free_event_orders_are_orderly()
     ensures { EventOrdersAreOrderly }
 {}

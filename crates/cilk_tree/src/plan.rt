@@ -71,7 +71,7 @@ impl Plan {
     /// linear in the events and cells.
     pub fn of(alloc: Global, trace: &Trace, opening: Vec<i64>) -> Result<Plan, AllocError>
         requires { HasPlan trace.now opening.items }
-        ensures story { IfOk result (λ plan. plan ≡ planned trace.now opening.items) }
+        ensures event_order { IfOk result (λ plan. plan ≡ planned trace.now opening.items) }
         ensures asked { IfOk result (λ plan. (p : ℕ) → IsPosition trace.now p → IsAsked plan p) }
     {
         words(opening.as_slice());

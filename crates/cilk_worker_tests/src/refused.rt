@@ -21,7 +21,7 @@ use std::process::Abort;
 use std::sync::Wait;
 use std::thread::Threads;
 
-const CREW: u32 = 2;
+const POOL: u32 = 2;
 
 // The outcome of a run, or `None` if it was out of memory.
 fn outcome_of(rt: &impl Abort, ended: Result<Outcome, ThreadFault>) -> Option<Outcome> {
@@ -48,8 +48,8 @@ fn runs_twice<R: Abort + Threads + Wait + Sync>(
     input: &Input,
     wanted: &str,
 ) {
-    let first = outcome_of(rt, run_threads(rt, alloc, plan, input, CREW, &Open));
-    let second = outcome_of(rt, run_threads(rt, alloc, plan, input, CREW, &Open));
+    let first = outcome_of(rt, run_threads(rt, alloc, plan, input, POOL, &Open));
+    let second = outcome_of(rt, run_threads(rt, alloc, plan, input, POOL, &Open));
     match (&first, &second) {
         (Some(first), Some(second)) => {
             leaves(rt, alloc, first, wanted);

@@ -15,16 +15,16 @@ use std::test::Fail;
 use std::thread::Threads;
 
 // The numbers of workers that run a case.
-const CREWS: [u32; 4] = [1, 2, 4, 8];
+const POOLS: [u32; 4] = [1, 2, 4, 8];
 
 // Larger numbers of workers, for few cases and few runs.
-const LARGE_CREWS: [u32; 2] = [9, 64];
+const LARGE_POOLS: [u32; 2] = [9, 64];
 
 // The runs of a case by each large number of workers.
 const FEW_TIMES: u32 = 3;
 
 // Numbers of workers that aren't allowed.
-const NO_CREWS: [u32; 2] = [0, 65];
+const NO_POOLS: [u32; 2] = [0, 65];
 
 // The runs of a case by each number of workers.
 const TIMES: u32 = 100;
@@ -33,7 +33,7 @@ const TIMES: u32 = 100;
 #[derive(Clone, Copy)]
 pub struct Series {
     case: Case,
-    crews: &'static [u32],
+    pools: &'static [u32],
     times: u32,
     // Whether a run begins every strand of the plan.
     is_whole: bool,
@@ -43,7 +43,7 @@ pub struct Series {
 fn whole(case: &Case) -> Series {
     Series {
         case: *case,
-        crews: &CREWS,
+        pools: &POOLS,
         times: TIMES,
         is_whole: true,
     }
@@ -53,7 +53,7 @@ fn whole(case: &Case) -> Series {
 fn by_many(case: &Case) -> Series {
     Series {
         case: *case,
-        crews: &LARGE_CREWS,
+        pools: &LARGE_POOLS,
         times: FEW_TIMES,
         is_whole: true,
     }
@@ -63,7 +63,7 @@ fn by_many(case: &Case) -> Series {
 fn departing(case: &Case) -> Series {
     Series {
         case: *case,
-        crews: &CREWS,
+        pools: &POOLS,
         times: TIMES,
         is_whole: false,
     }
@@ -73,7 +73,7 @@ fn departing(case: &Case) -> Series {
 fn unmanned(case: &Case) -> Series {
     Series {
         case: *case,
-        crews: &NO_CREWS,
+        pools: &NO_POOLS,
         times: 1,
         is_whole: false,
     }
@@ -144,7 +144,7 @@ pub fn runs<R: Abort + Threads + Wait + Sync>(rt: &R, alloc: Global, series: &Se
     let accepted = accepted(rt, alloc, case.text, case.numbers);
     let plan = planned(rt, alloc, &accepted);
     let input = input_of(rt, alloc, case.on);
-    for workers in series.crews {
+    for workers in series.pools {
         runs_by(rt, alloc, &plan, &input, *workers, series);
     }
 }

@@ -17,7 +17,7 @@ use cilk_plan::yards::yard;
 use cilk_shared::piece::Piece;
 use cilk_shared::reducers::Reducers;
 use cilk_shared::yard::{Segment, Yard};
-use cilk_threads::laws::accepted_stories_have_numbers;
+use cilk_threads::laws::accepted_event_orders_have_numbers;
 use cilk_threads::table::plan_reducers;
 use cilk_types::event::Pos;
 use cilk_types::input::Input;
@@ -55,11 +55,11 @@ fn tried_on<R: Abort>(
     trial: Trial,
 )
     requires table { IsTableOf plan.now.run table.now × HasFew table.now }
-    requires story { IsEventOrderOn plan.now.run plan.now.story.opening input yard.now.story }
-    requires along { IsAlong plan.now.story yard.now.story }
+    requires event_order { IsEventOrderOn plan.now.run plan.now.event_order.opening input yard.now.event_order }
+    requires along { IsAlong plan.now.event_order yard.now.event_order }
     requires segment { OfYard yard.now segment × (segment.from ≡ 1) × (segment.upto ≡ 2) }
 {
-    accepted_stories_have_numbers();
+    accepted_event_orders_have_numbers();
     inputs_are_words(&input);
     plan.laws();
     let Ok(course) = course(alloc, plan, yard, input) else {

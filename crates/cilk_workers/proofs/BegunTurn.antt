@@ -34,7 +34,7 @@ use Rattle.cilk_replay.proofs.Going.{plan_event}
 use Rattle.cilk_shared.specs.Values.{YardValue}
 use Rattle.cilk_workers.specs.BegunTurn.{IsStart}
 use Rattle.cilk_workers.proofs.OfKind.{with_kind}
-use Rattle.cilk_workers.specs.Shared.{IsNext, SharedValue, story_in}
+use Rattle.cilk_workers.specs.Shared.{IsNext, SharedValue, event_order_in}
 
 -- ---- deeds
 
@@ -161,43 +161,43 @@ mapped (Some e) = refl
 mapped None = refl
 
 module _ (s : Setting) (h : IsOfProgram s) where
-  abbrev story : EventOrder
-  story = s.story
+  abbrev event_order : EventOrder
+  event_order = s.event_order
 
   -- a `begin` of the plan is one of the event order
-  begins_there : (i : ℕ) (f : ℕ) → slice_get h.events i ≡ Some (events.Begin f) → kind_of_event (event story (suc i)) ≡ Some (kinds.Begin f)
+  begins_there : (i : ℕ) (f : ℕ) → slice_get h.events i ≡ Some (events.Begin f) → kind_of_event (event event_order (suc i)) ≡ Some (kinds.Begin f)
   begins_there i f is =
       let back : suc i - 1 ≡ i = omega arith in
-      ap (λ (n : ℕ). kind_of_event (slice_get story.events n)) back ∙ mapped (slice_get story.events i) ∙ sym (slice_get-map kind_of story.events i)
+      ap (λ (n : ℕ). kind_of_event (slice_get event_order.events n)) back ∙ mapped (slice_get event_order.events i) ∙ sym (slice_get-map kind_of event_order.events i)
       ∙ ap (λ (l : List Kind). slice_get l i) h.along.kinds ∙ slice_get-map kind_of h.events i ∙ ap (option_map kind_of) is
 
-  begins_first : (f : ℕ) × (kind_of_event (event story 1) ≡ Some (kinds.Begin f))
+  begins_first : (f : ℕ) × (kind_of_event (event event_order 1) ≡ Some (kinds.Begin f))
   begins_first =
       let n = serial_numbered s.program s.own s.run h.events h.is.outcome h.is.named h.is.runs in
       let e = head_event (cell_number s.program s.run) (instance_number s.program s.run) (trace (named s.program s.run)) h.events (head_of (named s.program s.run) n.framed) n.written in
       (e.0, begins_there 0 e.0 e.1)
 
-  begins_next : (at : ℕ) → 1 ≤ at → IsStart (event story at) → (f : ℕ) × (kind_of_event (event story (at + 1)) ≡ Some (kinds.Begin f))
+  begins_next : (at : ℕ) → 1 ≤ at → IsStart (event event_order at) → (f : ℕ) × (kind_of_event (event event_order (at + 1)) ≡ Some (kinds.Begin f))
   begins_next at some start =
       let i = at - 1 in
       let place : suc (at - 1) ≡ at = omega (arith, some) in
-      let e = started (event story at) start in
-      let plan = plan_event s h i e.0 (ap (event story) place ∙ e.1) in
+      let e = started (event event_order at) start in
+      let plan = plan_event s h i e.0 (ap (event event_order) place ∙ e.1) in
       let n = serial_numbered s.program s.own s.run h.events h.is.outcome h.is.named h.is.runs in
       let b = behind_event (cell_number s.program s.run) (instance_number s.program s.run) (trace (named s.program s.run)) h.events i plan.0 (behind_of (named s.program s.run) begin_due n.framed) n.written plan.1
       (kind_start plan.0 (subst IsStartKind (sym plan.2) (start_kind e.0 e.2))) in
       let later : suc (suc (at - 1)) ≡ at + 1 = omega (arith, some) in
-      (b.0, ap (λ (m : ℕ). kind_of_event (event story m)) (sym later) ∙ begins_there (suc (at - 1)) b.0 b.1)
+      (b.0, ap (λ (m : ℕ). kind_of_event (event event_order m)) (sym later) ∙ begins_there (suc (at - 1)) b.0 b.1)
 
 -- of what workers share
 module _ (y : SharedValue) (course : IsCourse y.course) (same : let u = y.course in u.yard ≡ yard_of y.run) where
-  pub root_begins : (f : ℕ) × (kind_of_event (event (story_in y) 1) ≡ Some (kinds.Begin f))
-  root_begins = subst (λ (z : YardValue). (f : ℕ) × (kind_of_event (event z.story 1) ≡ Some (kinds.Begin f))) same (begins_first (setting_of y.course course.0) course.1)
+  pub root_begins : (f : ℕ) × (kind_of_event (event (event_order_in y) 1) ≡ Some (kinds.Begin f))
+  root_begins = subst (λ (z : YardValue). (f : ℕ) × (kind_of_event (event z.event_order 1) ≡ Some (kinds.Begin f))) same (begins_first (setting_of y.course course.0) course.1)
 
-  pub child_begins : (at : ℕ) → 1 ≤ at → IsStart (event (story_in y) at) → (f : ℕ) × (kind_of_event (event (story_in y) (at + 1)) ≡ Some (kinds.Begin f))
+  pub child_begins : (at : ℕ) → 1 ≤ at → IsStart (event (event_order_in y) at) → (f : ℕ) × (kind_of_event (event (event_order_in y) (at + 1)) ≡ Some (kinds.Begin f))
   child_begins at some start =
-      subst (λ (z : YardValue). (f : ℕ) × (kind_of_event (event z.story (at + 1)) ≡ Some (kinds.Begin f))) same
-      (begins_next (setting_of y.course course.0) course.1 at some (subst (λ (z : YardValue). IsStart (event z.story at)) (sym same) start))
+      subst (λ (z : YardValue). (f : ℕ) × (kind_of_event (event z.event_order (at + 1)) ≡ Some (kinds.Begin f))) same
+      (begins_next (setting_of y.course course.0) course.1 at some (subst (λ (z : YardValue). IsStart (event z.event_order at)) (sym same) start))
 
 -- a spawn and a call start a child
 pub starts : (o : Option Event) (k : Kind) → kind_of_event o ≡ Some k → IsStartKind k → IsStart o
@@ -211,9 +211,9 @@ next_there s at Nothing (inr past) some within other = omega (arith, past, withi
 next_there s at (Next f k) h some within other = other f k refl
 
 -- the root's frame continues after its `begin`
-pub root_answered : (y : SharedValue) → IsCourse y.course → (let u = y.course in u.yard ≡ yard_of y.run) → IsOrderly (story_in y) → HasValues (story_in y) → IsAnswered (story_in y) 1 Done
+pub root_answered : (y : SharedValue) → IsCourse y.course → (let u = y.course in u.yard ≡ yard_of y.run) → IsOrderly (event_order_in y) → HasValues (event_order_in y) → IsAnswered (event_order_in y) 1 Done
 root_answered y course same order values =
-    let s = story_in y in
+    let s = event_order_in y in
     let b = root_begins y course same in
     let e = with_kind (event s 1) (kinds.Begin b.0) b.1 in
     let some = order.root.1 in

@@ -28,7 +28,7 @@ use Rattle.cilk_tree.specs.Runs.{IsAsked}
 use Rattle.cilk_runs.specs.FrameEnvMachine.{asked_after, has_ended, named_ask, next, opening_values, retired_by}
 use Rattle.cilk_runs.specs.Reducers.{View, monoid_of}
 use Rattle.cilk_runs.specs.Steps.{result_in}
-use Rattle.cilk_runs.specs.FrameEnvs.{FrameEnv, first_world}
+use Rattle.cilk_runs.specs.FrameEnvs.{FrameEnv, first_env}
 use Rattle.cilk_determinacy.specs.Nested.{named}
 use Rattle.cilk_replay.specs.InputCourses.{run_of, asked_in, course_of, event_for, frame_for}
 use Rattle.cilk_replay.specs.Frames.{same_frame, course_on}
@@ -40,11 +40,11 @@ use Rattle.cilk_workers.specs.Rows.{yard_of}
 use Rattle.cilk_replay.specs.Asking.{IsNextAsk}
 use Rattle.cilk_replay.specs.Chains.{ChainValue, standing}
 use Rattle.cilk_replay.specs.Courses.{CourseValue, IsOfProgram, Setting, setting_of, point_at}
-use Rattle.cilk_replay.proofs.Along.{story_of}
+use Rattle.cilk_replay.proofs.Along.{event_order_of}
 use Rattle.cilk_replay.proofs.Going as going
 use Rattle.cilk_replay.proofs.Unended.{unended}
 use Rattle.cilk_shared.specs.Values.{YardValue}
-use Rattle.cilk_workers.specs.Shared.{SharedValue, story_in}
+use Rattle.cilk_workers.specs.Shared.{SharedValue, event_order_in}
 use Rattle.cilk_workers.specs.Turns.{IsResult}
 
 -- ---- the deeds of a course
@@ -91,15 +91,15 @@ end_is (Does (Ends x gone')) v gone q =
     ap (λ z. Does (Ends z gone')) a ∙ ap (λ l. Does (Ends v l)) b
 end_is d v gone q = absurd (cc q)
 
-module _ (u : CourseValue) (at : ℕ) (value : ℤ) (ask : IsNextAsk u at (asks.End value)) (asked : IsAsked (story_of u) at) (last : at ≡ length (let y = story_of u in y.events)) where
+module _ (u : CourseValue) (at : ℕ) (value : ℤ) (ask : IsNextAsk u at (asks.End value)) (asked : IsAsked (event_order_of u) at) (last : at ≡ length (let y = event_order_of u in y.events)) where
   abbrev s : Setting
   s = setting_of u ask.run
 
   abbrev h : IsOfProgram s
   h = ask.of_program
 
-  abbrev story : EventOrder
-  story = s.story
+  abbrev event_order : EventOrder
+  event_order = s.event_order
 
   abbrev list : List (Point FrameEnv)
   list = points_on s.program s.inputs s.run
@@ -107,11 +107,11 @@ module _ (u : CourseValue) (at : ℕ) (value : ℤ) (ask : IsNextAsk u at (asks.
   abbrev course_deeds : Transcript → List (Deed FrameEnv)
   course_deeds run = trace (run_of (course_on s.program s.inputs (named s.program run)))
 
-  many : length list ≡ length story.events
-  many = (asked_by_positions s.program s.own s.inputs s.run h.events story.opening h.is).all ∙ ap (λ (z : EventOrder). length z.events) (sym h.told)
+  many : length list ≡ length event_order.events
+  many = (asked_by_positions s.program s.own s.inputs s.run h.events event_order.opening h.is).all ∙ ap (λ (z : EventOrder). length z.events) (sym h.told)
 
   deeds_are : map (λ (x : Point FrameEnv). x.deed) list ≡ course_deeds s.run
-  deeds_are = deeds FrameEnv View monoid_of (next s.program s.inputs) (same_frame s.program) (first_world s.program) [] (opening_values s.program s.inputs) (unit_of monoid_of) 0 0 (named s.program s.run)
+  deeds_are = deeds FrameEnv View monoid_of (next s.program s.inputs) (same_frame s.program) (first_env s.program) [] (opening_values s.program s.inputs) (unit_of monoid_of) 0 0 (named s.program s.run)
 
   there : slice_get list ask.behind ≡ Some ask.point
   unfolding point_at
@@ -125,7 +125,7 @@ module _ (u : CourseValue) (at : ℕ) (value : ℤ) (ask : IsNextAsk u at (asks.
   deed_is =
       let x = ask.point in
       let here = going.here s h ask.behind x ask.is in
-      let yes = here.1.asked.0 (subst (λ (m : ℕ). IsAsked story m) (sym ask.place) asked) in
+      let yes = here.1.asked.0 (subst (λ (m : ℕ). IsAsked event_order m) (sym ask.place) asked) in
       let n = suc (started x.past) in
       let on = unended (has_ended x.past) (named_ask s.program x.frame n (asked_after s.program s.inputs x.frame x.past).ask) (asked_for x.deed) (here.0.asks yes) in
       end_is x.deed value gone (ap (named_ask s.program x.frame n) ask.asks ∙ on.1)
@@ -150,8 +150,8 @@ module _ (u : CourseValue) (at : ℕ) (value : ℤ) (ask : IsNextAsk u at (asks.
 
 -- of a chain at the run's last event
 pub ended_with : (y : SharedValue) (k : ChainValue) (at : ℕ) (value : ℤ) → k ≡ standing y.course at → (let c = y.course in c.yard ≡ yard_of y.run) → IsNextAsk k.of k.at (asks.End value)
-    → IsAsked (story_in y) at → at ≡ length (let s = story_in y in s.events) → IsResult y value
+    → IsAsked (event_order_in y) at → at ≡ length (let s = event_order_in y in s.events) → IsResult y value
 ended_with y k at value stands same ask asked last =
-    let stories = ap (λ (z : YardValue). z.story) same in
+    let event_orders = ap (λ (z : YardValue). z.event_order) same in
     result_is y.course at value (subst (λ (c : ChainValue). IsNextAsk c.of c.at (asks.End value)) stands ask)
-    (subst (λ (z : EventOrder). IsAsked z at) (sym stories) asked) (subst (λ (z : EventOrder). at ≡ length z.events) (sym stories) last)
+    (subst (λ (z : EventOrder). IsAsked z at) (sym event_orders) asked) (subst (λ (z : EventOrder). at ≡ length z.events) (sym event_orders) last)

@@ -10,13 +10,13 @@ use Rattle.cilk_shared.proofs.Ranges.{spanned_both}
 use Rattle.cilk_workers.specs.Rows.{RunValue, run_of, between, IsGood, OfRun}
 
 abbrev range : PieceValue → ℕ → ℕ → PieceValue
-range g a b = record { of = g.of; story = g.story; reducers = g.reducers; from = a; upto = b }
+range g a b = record { of = g.of; event_order = g.event_order; reducers = g.reducers; from = a; upto = b }
 
 both_is : (g h : PieceValue) → g.from < g.upto → h.from < h.upto → joined g h ≡ range g g.from h.upto
 both_is g h some some' = ap (λ (r : ℕ × ℕ). range g r.0 r.1) (spanned_both g.from g.upto h.from h.upto some some')
 
 same_run : (y : RunValue) (g h : PieceValue) (a b : ℕ) → OfRun y g → OfRun y h → range g a b ≡ range h a b
-same_run y g h a b of of' = λ i. record { of = (of.0 ∙ sym of'.0) i; story = (of.1 ∙ sym of'.1) i; reducers = (of.2 ∙ sym of'.2) i; from = a; upto = b }
+same_run y g h a b of of' = λ i. record { of = (of.0 ∙ sym of'.0) i; event_order = (of.1 ∙ sym of'.1) i; reducers = (of.2 ∙ sym of'.2) i; from = a; upto = b }
 
 -- two of one run
 pub one : (y : YardValue) (r : Reducers) (g h : PieceValue) → IsGood (run_of y r) g → IsGood (run_of y r) h → AreOfOne y g h

@@ -18,7 +18,7 @@ use Rattle.cilk_runs.specs.FrameEnvs.{FrameEnv}
 use Rattle.cilk_replay.specs.Points.{IsEventOf}
 use Rattle.cilk_replay.specs.Asking.{IsNextAsk}
 use Rattle.cilk_replay.specs.Courses.{CourseValue, setting_of}
-use Rattle.cilk_replay.proofs.Along.{story_of}
+use Rattle.cilk_replay.proofs.Along.{event_order_of}
 use Rattle.cilk_replay.proofs.Going as going
 use Rattle.cilk_workers.specs.Asks.{Carries, HasNumber, number_in}
 
@@ -64,36 +64,36 @@ module _ (p : Source) (r : Transcript) (w : FrameEnv) where
   ends (asks.Fault f) e h q = absurd h
 
 module _ (u : CourseValue) (at : ℕ) (k : Ask) (next : IsNextAsk u at k) where
-  pub within : (1 ≤ at) × (at ≤ length (let y = story_of u in y.events))
+  pub within : (1 ≤ at) × (at ≤ length (let y = event_order_of u in y.events))
   within =
       let less = going.within (setting_of u next.run) next.of_program next.behind next.point next.is in
       let place = next.place in
       (omega (arith, place), omega (arith, place, less))
 
-  module _ (o : Option ℤ) (asked : IsAsked (story_of u) at) (is : o ≡ number_in k) where
-    pub number_is : (has : HasNumber (event (story_of u) at)) → o ≡ Some has.0
+  module _ (o : Option ℤ) (asked : IsAsked (event_order_of u) at) (is : o ≡ number_in k) where
+    pub number_is : (has : HasNumber (event (event_order_of u) at)) → o ≡ Some has.0
     number_is has =
         let m = next.made asked in
         is ∙ carried (source u.program) next.run (let x = next.point in x.frame) k m.0 has.0 m.2 (subst (λ (z : Option Event). Carries z has.0) m.1 has.1)
 
-    pub number_there : HasNumber (event (story_of u) at) → (n : ℤ) → o ≡ Some n → Carries (event (story_of u) at) n
+    pub number_there : HasNumber (event (event_order_of u) at) → (n : ℤ) → o ≡ Some n → Carries (event (event_order_of u) at) n
     number_there has n q =
         let both : Some has.0 ≡ Some n = sym (number_is has) ∙ q in
         let z : has.0 ≡ n = cc both in
-        subst (λ (v : ℤ). Carries (event (story_of u) at) v) z has.1
+        subst (λ (v : ℤ). Carries (event (event_order_of u) at) v) z has.1
 
-    pub end_is : event (story_of u) at ≡ Some events.End → (v : ℤ) × (k ≡ asks.End v)
+    pub end_is : event (event_order_of u) at ≡ Some events.End → (v : ℤ) × (k ≡ asks.End v)
     end_is end =
         let m = next.made asked in
         let both : Some m.0 ≡ Some events.End = sym m.1 ∙ end in
         ends (source u.program) next.run (let x = next.point in x.frame) k m.0 m.2 (cc both)
 
-    pub end_there : event (story_of u) at ≡ Some events.End → (n : ℤ) → o ≡ Some n → IsNextAsk u at (asks.End n)
+    pub end_there : event (event_order_of u) at ≡ Some events.End → (n : ℤ) → o ≡ Some n → IsNextAsk u at (asks.End n)
     end_there end n q =
         let e = end_is end in
         let both : Some e.0 ≡ Some n = sym (is ∙ ap number_in e.1) ∙ q in
         let z : e.0 ≡ n = cc both in
         subst (λ (j : Ask). IsNextAsk u at j) (e.1 ∙ ap (λ (v : ℤ). asks.End v) z) next
 
-    pub end_some : (end : event (story_of u) at ≡ Some events.End) → o ≡ Some (end_is end).0
+    pub end_some : (end : event (event_order_of u) at ≡ Some events.End) → o ≡ Some (end_is end).0
     end_some end = is ∙ ap number_in (end_is end).1

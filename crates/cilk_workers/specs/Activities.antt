@@ -3,7 +3,7 @@ use Rattle.std.specs.Prelude.{◌≡◌, ◌≤◌, ℤ}
 use Rattle.cilk_workers.specs.Rows.{OfRun}
 use Rattle.cilk_shared.specs.Pieces.{PieceValue}
 use Rattle.cilk_tree.specs.Runs.{Departs}
-use Rattle.cilk_workers.specs.Shared.{SharedValue, story_in}
+use Rattle.cilk_workers.specs.Shared.{SharedValue, event_order_in}
 use Rattle.cilk_workers.specs.Turns.{Works, HasEnded}
 use Rattle.cilk_workers.specs.declared.doors.Met.{Met}
 use Rattle.cilk_workers.specs.declared.doors.Met.TheVariants as mets
@@ -20,7 +20,7 @@ IsWhole y p value = HasEnded y p value × (p.from ≡ 1)
 -- or nothing is said
 abbrev pub IsExitReason : SharedValue → ExitReason → Type 0
 IsExitReason y (finishes.Whole p value) = IsWhole y p value
-IsExitReason y (finishes.Departed p) = Departs (story_in y) p
+IsExitReason y (finishes.Departed p) = Departs (event_order_in y) p
 IsExitReason y finishes.Stopped = Unit {0}
 
 -- a worker holds a piece and a chain at its next event, or an empty piece, or has ended

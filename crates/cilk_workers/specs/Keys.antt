@@ -6,11 +6,11 @@ use Rattle.crossbeam_queue.specs.Passes.{Pass, IsPassOf}
 use Rattle.cilk_types.specs.declared.event.Event.TheVariants.{Sync}
 use Rattle.cilk_tree.specs.Word.{event}
 use Rattle.cilk_workers.specs.declared.shelf.Shelf.{Shelf}
-use Rattle.cilk_workers.specs.Shared.{SharedValue, story_in}
+use Rattle.cilk_workers.specs.Shared.{SharedValue, event_order_in}
 
 -- the event at each position is a `sync`
 abbrev pub AreSyncs : SharedValue → List ℕ → Type 0
-AreSyncs y syncs = All (λ at. event (story_in y) at ≡ Some Sync) syncs
+AreSyncs y syncs = All (λ at. event (event_order_in y) at ≡ Some Sync) syncs
 
 module _ {Q A : Type 0} where
   -- each key is of its lock

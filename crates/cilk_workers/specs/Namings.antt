@@ -7,7 +7,7 @@ use Rattle.cilk_replay.specs.declared.chain.Task.{Task}
 abbrev pub no_run : RunValue
 no_run = record {
   of = record { words = 0; slots = 0; views_name = 0; atom = 0; block = 0; offset = 0; slot_names = [] };
-  story = record { events = []; preceding = []; opening = []; asked = [] };
+  event_order = record { events = []; preceding = []; opening = []; asked = [] };
   reducers = record { frames = [] };
 }
 

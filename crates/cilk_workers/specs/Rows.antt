@@ -9,14 +9,14 @@ use Rattle.cilk_shared.specs.Pieces.{PieceValue}
 -- a yard, and the reducers of its run
 pub record RunValue : Type 0 where
   pub of : TableId
-  pub story : EventOrder
+  pub event_order : EventOrder
   pub reducers : Reducers
 
 abbrev pub run_of : YardValue → Reducers → RunValue
-run_of y r = record { of = y.of; story = y.story; reducers = r }
+run_of y r = record { of = y.of; event_order = y.event_order; reducers = r }
 
 abbrev pub yard_of : RunValue → YardValue
-yard_of y = record { of = y.of; story = y.story }
+yard_of y = record { of = y.of; event_order = y.event_order }
 
 -- the piece of a run of arrived keys, if there is one
 abbrev pub Run : Type 0
@@ -60,11 +60,11 @@ end_of (Some p) b = p.upto
 
 -- one piece of a piece and the runs beside it
 abbrev pub between : Run → PieceValue → Run → PieceValue
-between left x right = record { of = x.of; story = x.story; reducers = x.reducers; from = begin_of left x.from; upto = end_of right x.upto }
+between left x right = record { of = x.of; event_order = x.event_order; reducers = x.reducers; from = begin_of left x.from; upto = end_of right x.upto }
 
 -- the piece belongs to the program's run
 abbrev pub OfRun : RunValue → PieceValue → Type 0
-OfRun y p = (p.of ≡ y.of) × (p.story ≡ y.story) × (p.reducers ≡ y.reducers)
+OfRun y p = (p.of ≡ y.of) × (p.event_order ≡ y.event_order) × (p.reducers ≡ y.reducers)
 
 -- the piece belongs to the run and is not empty
 abbrev pub IsGood : RunValue → PieceValue → Type 0

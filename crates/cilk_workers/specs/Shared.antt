@@ -21,8 +21,8 @@ abbrev pub shared_with : YardValue → Reducers → CourseValue → SharedValue
 shared_with y r c = record { run = run_of y r; course = c }
 
 -- its event order
-abbrev pub story_in : SharedValue → EventOrder
-story_in y = let r = y.run in r.story
+abbrev pub event_order_in : SharedValue → EventOrder
+event_order_in y = let r = y.run in r.event_order
 
 -- each cell that an event reads or writes has an opening value
 abbrev pub HasCells : EventOrder → Type 0

@@ -18,7 +18,7 @@ use Rattle.cilk_runs.specs.Traces.{trace}
 use Rattle.cilk_shared.specs.Values.{MayPass}
 use Rattle.cilk_tree.specs.Runs.{Departs, IsAsked, IsFollowed}
 use Rattle.cilk_tree.specs.Word.{event, resume, what}
-use Rattle.cilk_workers.specs.Shared.{SharedValue, story_in}
+use Rattle.cilk_workers.specs.Shared.{SharedValue, event_order_in}
 use Rattle.cilk_workers.specs.declared.work.Work.{Work}
 use Rattle.cilk_workers.specs.declared.work.Turn.{Turn}
 use Rattle.cilk_workers.specs.declared.work.Turn.TheVariants.{Goes, Offers, Arrives, Ended, Finished, Departed, Stopped}
@@ -41,21 +41,21 @@ IsResult y value =
 -- requested that event and all before it.
 pub record HasEnded (y : SharedValue) (p : PieceValue) (value : ℤ) : Type 0 where
   pub good : IsGood y.run p
-  pub last : let s = story_in y in p.upto ≡ length s.events + 1
-  pub followed : let s = story_in y in IsFollowed s (length s.events)
+  pub last : let s = event_order_in y in p.upto ≡ length s.events + 1
+  pub followed : let s = event_order_in y in IsFollowed s (length s.events)
   pub result : IsResult y value
 
 -- the piece's next event is a `sync`, and its immediate predecessors aren't all in the piece:
 -- children of its block are elsewhere
 abbrev pub IsHeldUp : SharedValue → PieceValue → Type 0
-IsHeldUp y p = (event (story_in y) p.upto ≡ Some events.Sync) × (MayPass (segment_of p) → ⊥)
+IsHeldUp y p = (event (event_order_in y) p.upto ≡ Some events.Sync) × (MayPass (segment_of p) → ⊥)
 
 -- the worker can't continue: the piece has the next event, the `end` of a spawned child; or it is
 -- unchanged, and that event is the `resume` after a spawn
 abbrev pub GoesNoFurther : SharedValue → PieceValue → PieceValue → Type 0
 GoesNoFurther y before p =
-    ((p ≡ grown before) × (event (story_in y) before.upto ≡ Some events.End))
-    ⊎ ((p ≡ before) × ((k : ℕ) × (what (story_in y) before.upto ≡ resume k)))
+    ((p ≡ grown before) × (event (event_order_in y) before.upto ≡ Some events.End))
+    ⊎ ((p ≡ before) × ((k : ℕ) × (what (event_order_in y) before.upto ≡ resume k)))
 
 -- The outcomes of a turn. Either the work is good and has one event more, or the worker has an end.
 -- An offered task is the continuation of the spawn that was made. The piece is unchanged where it
@@ -67,18 +67,18 @@ Turned y before w (Offers t) = Works y w × (let p = w.piece in p ≡ grown befo
 Turned y before w Arrives = Works y w × (let p = w.piece in p ≡ before) × IsHeldUp y before
 Turned y before w Ended = (let p = w.piece in IsGood y.run p × GoesNoFurther y before p)
 Turned y before w (Finished value) = (let p = w.piece in HasEnded y p value × (p ≡ grown before))
-Turned y before w (Departed at) = Departs (story_in y) at
+Turned y before w (Departed at) = Departs (event_order_in y) at
 Turned y before w Stopped = Unit {0}
 
 -- The piece's next event is of this kind, and its frame requests it.
 pub record IsDue (y : SharedValue) (w : Work) (kind : Kind) : Type 0 where
   pub works : Works y w
-  pub asked : let p = w.piece in IsAsked (story_in y) p.upto
-  pub kind_is : let p = w.piece in kind_of_event (event (story_in y) p.upto) ≡ Some kind
+  pub asked : let p = w.piece in IsAsked (event_order_in y) p.upto
+  pub kind_is : let p = w.piece in kind_of_event (event (event_order_in y) p.upto) ≡ Some kind
 
 -- it isn't the run's last
 abbrev pub HasMore : SharedValue → Work → Type 0
-HasMore y w = let p = w.piece in p.upto < length (let s = story_in y in s.events)
+HasMore y w = let p = w.piece in p.upto < length (let s = event_order_in y in s.events)
 
 -- the kind is a `begin`, a `resume` or a `sync`
 abbrev pub IsSilent : Kind → Type 0

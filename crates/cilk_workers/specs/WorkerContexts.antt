@@ -13,4 +13,4 @@ module _ {N R G : Type 0} where
   pub record IsWorkerContext (named : RunValue) (is : CourseValue → Type 0) (taken : Task → Type 0) (s : WorkerContext N R G) : Type 0 where
     pub name : IsName named is taken s.shared.now
     pub syncs : AreSyncs s.shared.now s.blocks.syncs.now
-    pub strands : AreFirsts s.shared.now.run.story.events s.watch.strands.now
+    pub strands : AreFirsts s.shared.now.run.event_order.events s.watch.strands.now

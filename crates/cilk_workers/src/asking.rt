@@ -16,7 +16,7 @@ use cilk_replay::chain::Chain;
 fn number_in(asked: &AskSlot) -> Option<i64>
     ensures { result ≡ number_in asked.now }
 {
-    match asked.brief() {
+    match asked.small_ask() {
         Some(SmallAsk::Write(_, number)) | Some(SmallAsk::Update(_, number)) => Some(*number),
         Some(SmallAsk::Set(_, number)) | Some(SmallAsk::Print(number)) => Some(*number),
         Some(SmallAsk::Result(number)) | Some(SmallAsk::End(number)) => Some(*number),
@@ -26,9 +26,9 @@ fn number_in(asked: &AskSlot) -> Option<i64>
 
 /// Returns the number of the next event, which the frame requests and which has a number.
 pub(crate) fn number_asked(chain: &Chain) -> i64
-    requires asked { IsAsked chain.now.of.yard.story chain.now.at }
-    requires number { HasNumber (event chain.now.of.yard.story chain.now.at) }
-    ensures { Carries (event chain.now.of.yard.story chain.now.at) result }
+    requires asked { IsAsked chain.now.of.yard.event_order chain.now.at }
+    requires number { HasNumber (event chain.now.of.yard.event_order chain.now.at) }
+    ensures { Carries (event chain.now.of.yard.event_order chain.now.at) result }
 {
     let Some(number) = number_in(chain.ask()) else {
         unreachable!();
@@ -38,8 +38,8 @@ pub(crate) fn number_asked(chain: &Chain) -> i64
 
 /// Returns the result in the frame's request to end.
 pub(crate) fn result_asked(chain: &Chain) -> i64
-    requires asked { IsAsked chain.now.of.yard.story chain.now.at }
-    requires end { event chain.now.of.yard.story chain.now.at ≡ Some End }
+    requires asked { IsAsked chain.now.of.yard.event_order chain.now.at }
+    requires end { event chain.now.of.yard.event_order chain.now.at ≡ Some End }
     ensures { IsNextAsk chain.now.of chain.now.at (asks.End result) }
 {
     let Some(number) = number_in(chain.ask()) else {
@@ -50,7 +50,7 @@ pub(crate) fn result_asked(chain: &Chain) -> i64
 
 /// A law: the position of a chain is one of its event order.
 pub(crate) fn stands_within(chain: &Chain)
-    ensures { (1 ≤ chain.now.at) × (chain.now.at ≤ length chain.now.of.yard.story.events) }
+    ensures { (1 ≤ chain.now.at) × (chain.now.at ≤ length chain.now.of.yard.event_order.events) }
 {
     let _asked = chain.ask();
 }

@@ -8,7 +8,7 @@ ghost use Rattle.cilk_workers.specs.Shelves.{HasRoom, IsSameShelf, LiesOn};
 ghost use Rattle.cilk_replay.specs.Chains.{standing};
 ghost use Rattle.cilk_workers.specs.Locks.{IsShelf};
 ghost use Rattle.cilk_tree.specs.Word.{event};
-ghost use Rattle.cilk_workers.specs.Shared.{story_in};
+ghost use Rattle.cilk_workers.specs.Shared.{event_order_in};
 ghost use Rattle.cilk_workers.specs.Activities.{IsMet};
 ghost use Rattle.cilk_workers.specs.Keys.{AreKeys};
 ghost use Rattle.cilk_workers.specs.WorkerContexts.{IsWorkerContext};
@@ -95,9 +95,9 @@ impl<'a, 'b, N: Naming, R: Wait, G: Gate> WorkerContext<'a, 'b, N, R, G> {
 
     // Takes the box of a block off its shelf, which then has room to put it back.
     fn taken_from(&self, shelf: &mut Shelf, sync: Pos) -> Result<JoinBox, AllocError>
-        requires station { IsWorkerContext N.run N.course N.taken self.now }
+        requires context { IsWorkerContext N.run N.course N.taken self.now }
         requires shelf { IsShelf N.run N.course shelf.old }
-        requires sync { event (story_in self.now.shared.now) sync ≡ Some Sync }
+        requires sync { event (event_order_in self.now.shared.now) sync ≡ Some Sync }
         ensures shelf { IsSameShelf shelf.old shelf.new }
         ensures of { IfOk result (λ b. LiesOn shelf.old.of shelf.old.course b) }
         ensures room { OnOk result (HasRoom shelf.new) }
@@ -115,9 +115,9 @@ impl<'a, 'b, N: Naming, R: Wait, G: Gate> WorkerContext<'a, 'b, N, R, G> {
 
     // A piece arrives at a block whose box is on this shelf.
     fn arrive_on(&self, shelf: &mut Shelf, sync: Pos, arrival: Arrival) -> Met
-        requires station { IsWorkerContext N.run N.course N.taken self.now }
+        requires context { IsWorkerContext N.run N.course N.taken self.now }
         requires shelf { IsShelf N.run N.course shelf.old }
-        requires sync { event (story_in self.now.shared.now) sync ≡ Some Sync }
+        requires sync { event (event_order_in self.now.shared.now) sync ≡ Some Sync }
         requires good { IsGood self.now.shared.now.run arrival.piece }
         requires chain { IfSome arrival.chain (λ c. c ≡ standing self.now.shared.now.course arrival.piece.upto) }
         ensures shelf { IsSameShelf shelf.old shelf.new }
@@ -133,9 +133,9 @@ impl<'a, 'b, N: Naming, R: Wait, G: Gate> WorkerContext<'a, 'b, N, R, G> {
 
     // Records a steal at a block whose box is on this shelf. False if memory ran out.
     fn steal_on(&self, shelf: &mut Shelf, sync: Pos, child: Pos, goes_on: Pos) -> bool
-        requires station { IsWorkerContext N.run N.course N.taken self.now }
+        requires context { IsWorkerContext N.run N.course N.taken self.now }
         requires shelf { IsShelf N.run N.course shelf.old }
-        requires sync { event (story_in self.now.shared.now) sync ≡ Some Sync }
+        requires sync { event (event_order_in self.now.shared.now) sync ≡ Some Sync }
         ensures { IsSameShelf shelf.old shelf.new }
     {
         let Ok(mut found) = self.taken_from(shelf, sync) else {
@@ -152,9 +152,9 @@ impl<'a, 'b, N: Naming, R: Wait, G: Gate> WorkerContext<'a, 'b, N, R, G> {
     // A piece arrives at the block that ends with the `sync` at this position, whose shelf has this
     // lock.
     fn arrive_behind(&self, door: &Lock<N>, key: &mut Key, sync: Pos, arrival: Arrival) -> Met
-        requires station { IsWorkerContext N.run N.course N.taken self.now }
+        requires context { IsWorkerContext N.run N.course N.taken self.now }
         requires key { IsPassOf door.now key.old }
-        requires sync { event (story_in self.now.shared.now) sync ≡ Some Sync }
+        requires sync { event (event_order_in self.now.shared.now) sync ≡ Some Sync }
         requires good { IsGood self.now.shared.now.run arrival.piece }
         requires chain { IfSome arrival.chain (λ c. c ≡ standing self.now.shared.now.course arrival.piece.upto) }
         ensures key { IsPassOf door.now key.new }
@@ -176,9 +176,9 @@ impl<'a, 'b, N: Naming, R: Wait, G: Gate> WorkerContext<'a, 'b, N, R, G> {
         child: Pos,
         goes_on: Pos,
     ) -> bool
-        requires station { IsWorkerContext N.run N.course N.taken self.now }
+        requires context { IsWorkerContext N.run N.course N.taken self.now }
         requires key { IsPassOf door.now key.old }
-        requires sync { event (story_in self.now.shared.now) sync ≡ Some Sync }
+        requires sync { event (event_order_in self.now.shared.now) sync ≡ Some Sync }
         ensures { IsPassOf door.now key.new }
     {
         let mut shelf = lock(self.rt, door, key);
@@ -189,7 +189,7 @@ impl<'a, 'b, N: Naming, R: Wait, G: Gate> WorkerContext<'a, 'b, N, R, G> {
 
     /// Takes a piece to the block with this number.
     pub fn arrive(&self, keys: &mut Vec<Key>, block: usize, arrival: Arrival) -> Met
-        requires station { IsWorkerContext N.run N.course N.taken self.now }
+        requires context { IsWorkerContext N.run N.course N.taken self.now }
         requires keys { AreKeys self.now.blocks.doors.now.items keys.old.items }
         requires block { block < length self.now.blocks.syncs.now }
         requires good { IsGood self.now.shared.now.run arrival.piece }
@@ -208,7 +208,7 @@ impl<'a, 'b, N: Naming, R: Wait, G: Gate> WorkerContext<'a, 'b, N, R, G> {
     /// Records at the block with this number that a thief took the continuation of the spawn at
     /// `child`, which continues at `goes_on`. False if memory ran out.
     pub fn steal(&self, keys: &mut Vec<Key>, block: usize, child: Pos, goes_on: Pos) -> bool
-        requires station { IsWorkerContext N.run N.course N.taken self.now }
+        requires context { IsWorkerContext N.run N.course N.taken self.now }
         requires keys { AreKeys self.now.blocks.doors.now.items keys.old.items }
         requires block { block < length self.now.blocks.syncs.now }
         ensures { AreKeys self.now.blocks.doors.now.items keys.new.items }

@@ -48,7 +48,7 @@ impl<'a, G: Gate> Watch<'a, G> {
     /// Calls the gate if the piece's last event is the first of a strand and is new. `before` is
     /// where the piece ended before that event.
     pub fn tell(&self, shared: &Shared<'_>, before: Pos, piece: &Piece)
-        requires strands { AreFirsts shared.now.run.story.events self.now.strands.now }
+        requires strands { AreFirsts shared.now.run.event_order.events self.now.strands.now }
         requires piece { IsGood shared.now.run piece.now }
     {
         let upto = piece.upto();

@@ -49,7 +49,7 @@ impl<'a, 'b, N: Naming, R: Wait, G: Gate> WorkerContext<'a, 'b, N, R, G> {
     // A piece arrives at the block of its next position. The worker continues with what passes, or
     // with an empty piece.
     fn arrived(&self, keys: &mut Vec<Key>, piece: Piece, chain: Option<Chain>) -> Activity
-        requires station { IsWorkerContext N.run N.course N.taken self.now }
+        requires context { IsWorkerContext N.run N.course N.taken self.now }
         requires keys { AreKeys self.now.blocks.doors.now.items keys.old.items }
         requires piece { IsGood self.now.shared.now.run piece }
         requires chain { IfSome chain (λ c. c ≡ standing self.now.shared.now.course piece.upto) }
@@ -76,7 +76,7 @@ impl<'a, 'b, N: Naming, R: Wait, G: Gate> WorkerContext<'a, 'b, N, R, G> {
 
     // Offers a continuation. False if memory ran out.
     fn offered(&self, rack: &mut Rack<N>, task: Task) -> bool
-        requires station { IsWorkerContext N.run N.course N.taken self.now }
+        requires context { IsWorkerContext N.run N.course N.taken self.now }
         requires task { task.of ≡ self.now.shared.now.course }
     {
         rack.offer(task).is_ok()
@@ -99,7 +99,7 @@ impl<'a, 'b, N: Naming, R: Wait, G: Gate> WorkerContext<'a, 'b, N, R, G> {
     /// continuation. If it has none, or a thief took the continuation that it was to resume, its
     /// piece arrives at the block.
     pub fn run_burst(&self, tools: &mut Tools<N>, mut work: Work) -> Activity
-        requires station { IsWorkerContext N.run N.course N.taken self.now }
+        requires context { IsWorkerContext N.run N.course N.taken self.now }
         requires keys { AreKeys self.now.blocks.doors.now.items tools.old.keys.items }
         requires works { Works self.now.shared.now work }
         ensures keys { AreKeys self.now.blocks.doors.now.items tools.new.keys.items }

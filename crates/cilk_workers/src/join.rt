@@ -60,7 +60,7 @@ impl Model for JoinBox {
 
     ghost view = { λ b. record { rows = b.runs; course = b.course.value; sync = b.sync; stolen = b.stolen; arrived = b.arrived; closed = closed_by b.gone b.chain } };
 
-    ghost invariant = { λ b. IsClosed b.runs b.course.value b.sync b.chain × IsGone b.gone b.runs b.chain × (event b.runs.of.story b.sync ≡ Some Sync) };
+    ghost invariant = { λ b. IsClosed b.runs b.course.value b.sync b.chain × IsGone b.gone b.runs b.chain × (event b.runs.of.event_order b.sync ≡ Some Sync) };
 }
 
 // The greater of two keys.
@@ -89,7 +89,7 @@ impl JoinBox {
         course: &Course,
         sync: Pos,
     ) -> JoinBox
-        requires { event yard.now.story sync ≡ Some Sync }
+        requires { event yard.now.event_order sync ≡ Some Sync }
         ensures { result ≡ opening (run_of yard.now reducers.now) course.now sync }
     {
         JoinBox {
@@ -114,7 +114,7 @@ impl JoinBox {
     /// at the block's sync is a `sync`.
     pub fn laws(&self)
         ensures apart { PiecesLieApart self.now.rows }
-        ensures sync { event self.now.rows.of.story self.now.sync ≡ Some Sync }
+        ensures sync { event self.now.rows.of.event_order self.now.sync ≡ Some Sync }
     {
         self.runs.laws();
         let _sync = self.sync;

@@ -8,7 +8,7 @@ ghost use Rattle.cilk_tree.specs.declared.kind.Kind.TheVariants as kinds;
 ghost use Rattle.cilk_tree.specs.Runs.{IsAsked};
 ghost use Rattle.cilk_tree.specs.Word.{event, plain, resume, what};
 ghost use Rattle.cilk_types.specs.declared.event.Event.TheVariants.{Sync};
-ghost use Rattle.cilk_workers.specs.Shared.{story_in};
+ghost use Rattle.cilk_workers.specs.Shared.{event_order_in};
 ghost use Rattle.cilk_workers.specs.Turns.{HasMore, IsDue, IsSilent, Turned, Works};
 
 use crate::asking::result_asked;
@@ -22,8 +22,8 @@ use cilk_types::event::{FrameNo, Pos};
 pub(crate) fn passed(shared: &Shared<'_>, work: &mut Work) -> Turn
     requires due { (kind : Kind) × IsDue shared.now work.old kind × IsSilent kind }
     requires more { HasMore shared.now work.old }
-    requires plain { what (story_in shared.now) work.old.piece.upto ≡ plain }
-    requires ordinary { event (story_in shared.now) work.old.piece.upto ≡ Some Sync → ⊥ }
+    requires plain { what (event_order_in shared.now) work.old.piece.upto ≡ plain }
+    requires ordinary { event (event_order_in shared.now) work.old.piece.upto ≡ Some Sync → ⊥ }
     ensures { Turned shared.now work.old.piece work.new result }
 {
     shared.laws();
@@ -50,7 +50,7 @@ pub(crate) fn synced(shared: &Shared<'_>, work: &mut Work) -> Turn
 pub(crate) fn taken(shared: &Shared<'_>, work: &mut Work, ticket: Pos) -> Turn
     requires due { (kind : Kind) × IsDue shared.now work.old kind × IsSilent kind }
     requires more { HasMore shared.now work.old }
-    requires resumes { what (story_in shared.now) work.old.piece.upto ≡ resume ticket }
+    requires resumes { what (event_order_in shared.now) work.old.piece.upto ≡ resume ticket }
     ensures { Turned shared.now work.old.piece work.new result }
 {
     shared.laws();
@@ -67,7 +67,7 @@ pub(crate) fn taken(shared: &Shared<'_>, work: &mut Work, ticket: Pos) -> Turn
 pub(crate) fn ended(shared: &Shared<'_>, work: &mut Work, frame: FrameNo) -> Turn
     requires due { IsDue shared.now work.old kinds.End }
     requires more { HasMore shared.now work.old }
-    requires frame { IsInFrame (story_in shared.now).events work.old.piece.upto frame }
+    requires frame { IsInFrame (event_order_in shared.now).events work.old.piece.upto frame }
     ensures { Turned shared.now work.old.piece work.new result }
 {
     shared.laws();
@@ -82,9 +82,9 @@ pub(crate) fn ended(shared: &Shared<'_>, work: &mut Work, frame: FrameNo) -> Tur
 /// The root's `end`.
 pub(crate) fn finished(shared: &Shared<'_>, work: &mut Work, root: FrameNo) -> Turn
     requires works { Works shared.now work.old }
-    requires asked { IsAsked (story_in shared.now) work.old.piece.upto }
-    requires last { work.old.piece.upto ≡ length (story_in shared.now).events }
-    requires root { IsInFrame (story_in shared.now).events work.old.piece.upto root }
+    requires asked { IsAsked (event_order_in shared.now) work.old.piece.upto }
+    requires last { work.old.piece.upto ≡ length (event_order_in shared.now).events }
+    requires root { IsInFrame (event_order_in shared.now).events work.old.piece.upto root }
     ensures { Turned shared.now work.old.piece work.new result }
 {
     shared.laws();

@@ -50,7 +50,7 @@ impl<'a, 'b, N: Naming, R: Wait, G: Gate> WorkerContext<'a, 'b, N, R, G> {
     // Records a steal at the block of the position where the thief continues. False if memory ran
     // out.
     fn announce_steal(&self, keys: &mut Vec<Key>, at: Pos) -> bool
-        requires station { IsWorkerContext N.run N.course N.taken self.now }
+        requires context { IsWorkerContext N.run N.course N.taken self.now }
         requires keys { AreKeys self.now.blocks.doors.now.items keys.old.items }
         ensures { AreKeys self.now.blocks.doors.now.items keys.new.items }
     {
@@ -65,7 +65,7 @@ impl<'a, 'b, N: Naming, R: Wait, G: Gate> WorkerContext<'a, 'b, N, R, G> {
     /// Makes one turn of a worker without work: it takes its own newest task, or steals the oldest
     /// of another. If it finds none, it ends once it sees that the run has ended.
     pub fn find_work(&self, tools: &mut Tools<N>, backoff: &Backoff, mut piece: Piece) -> Activity
-        requires station { IsWorkerContext N.run N.course N.taken self.now }
+        requires context { IsWorkerContext N.run N.course N.taken self.now }
         requires keys { AreKeys self.now.blocks.doors.now.items tools.old.keys.items }
         requires piece { OfRun self.now.shared.now.run piece × (piece.upto ≤ piece.from) }
         ensures keys { AreKeys self.now.blocks.doors.now.items tools.new.keys.items }

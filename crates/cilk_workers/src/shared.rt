@@ -10,7 +10,7 @@ ghost use Rattle.cilk_tree.specs.Along.{IsAlong};
 ghost use Rattle.cilk_tree.specs.Orders.{IsOrderly};
 ghost use Rattle.cilk_tree.specs.Values.{HasValues};
 ghost use Rattle.cilk_tree.specs.Word.{resume, what};
-ghost use Rattle.cilk_workers.specs.Shared.{HasCells, IsNext, shared_with, story_in};
+ghost use Rattle.cilk_workers.specs.Shared.{HasCells, IsNext, shared_with, event_order_in};
 
 use cilk_determinacy::words::inputs_are_words;
 use cilk_replay::course::Course;
@@ -46,8 +46,8 @@ impl<'a> Model for Shared<'a> {
 
     ghost view = { λ c. shared_with c.yard.now c.reducers.now c.course.now };
 
-    ghost invariant = { λ c. IsAlong c.plan.now c.yard.now.story × HasFew c.reducers.now × (c.course.now.yard ≡ c.yard.now)
-        × HasCells c.yard.now.story × HasNumbers c.yard.now.story c.reducers.now };
+    ghost invariant = { λ c. IsAlong c.plan.now c.yard.now.event_order × HasFew c.reducers.now × (c.course.now.yard ≡ c.yard.now)
+        × HasCells c.yard.now.event_order × HasNumbers c.yard.now.event_order c.reducers.now };
 }
 
 impl<'a> Shared<'a> {
@@ -59,10 +59,10 @@ impl<'a> Shared<'a> {
         reducers: &'a Reducers,
         course: &'a Course,
     ) -> Shared<'a>
-        requires along { IsAlong plan.now yard.now.story }
+        requires along { IsAlong plan.now yard.now.event_order }
         requires few { HasFew reducers.now }
-        requires cells { HasCells yard.now.story }
-        requires numbers { HasNumbers yard.now.story reducers.now }
+        requires cells { HasCells yard.now.event_order }
+        requires numbers { HasNumbers yard.now.event_order reducers.now }
         requires course { course.now.yard ≡ yard.now }
         ensures { result ≡ shared_with yard.now reducers.now course.now }
     {
@@ -76,13 +76,13 @@ impl<'a> Shared<'a> {
 
     /// The laws of the run.
     pub fn laws(&self)
-        ensures order { IsOrderly (story_in self.now) }
-        ensures values { HasValues (story_in self.now) }
+        ensures order { IsOrderly (event_order_in self.now) }
+        ensures values { HasValues (event_order_in self.now) }
         ensures course { IsCourse self.now.course }
         ensures same { self.now.course.yard ≡ yard_of self.now.run }
         ensures words { InputsAreWords self.now.course.inputs }
-        ensures cells { HasCells (story_in self.now) }
-        ensures numbers { HasNumbers (story_in self.now) self.now.run.reducers }
+        ensures cells { HasCells (event_order_in self.now) }
+        ensures numbers { HasNumbers (event_order_in self.now) self.now.run.reducers }
     {
         self.yard.laws();
         self.course.laws();
@@ -98,7 +98,7 @@ impl<'a> Shared<'a> {
 
     /// Returns the run's plan.
     pub fn plan(&self) -> &Plan
-        ensures { IsAlong result.now (story_in self.now) }
+        ensures { IsAlong result.now (event_order_in self.now) }
     {
         self.plan
     }
@@ -121,7 +121,7 @@ impl<'a> Shared<'a> {
 
     /// Returns the kind and frame of the event at a position, or `Nothing` if there is no event.
     pub fn next(&self, at: Pos) -> Asked
-        ensures { IsNext (story_in self.now) at result }
+        ensures { IsNext (event_order_in self.now) at result }
     {
         frames_are_along();
         if at == 0 {
@@ -132,7 +132,7 @@ impl<'a> Shared<'a> {
 
     /// Returns whether the position is that of the last event, the root's `end`.
     pub fn is_last(&self, at: Pos) -> bool
-        ensures { IsTrue result ↔ (at ≡ length (story_in self.now).events) }
+        ensures { IsTrue result ↔ (at ≡ length (event_order_in self.now).events) }
     {
         at as usize == self.plan.count()
     }
@@ -140,7 +140,7 @@ impl<'a> Shared<'a> {
     /// Returns the spawn whose continuation is resumed at a position, if the event there is the
     /// `resume` after a spawn.
     pub fn resumed_by(&self, at: Pos) -> Option<Pos>
-        ensures { (k : ℕ) → (result ≡ Some k) ↔ (what (story_in self.now) at ≡ resume k) }
+        ensures { (k : ℕ) → (result ≡ Some k) ↔ (what (event_order_in self.now) at ≡ resume k) }
     {
         self.plan.resumed_by(at)
     }

@@ -96,7 +96,7 @@ impl Shelf {
         sync: Pos,
     ) -> Result<JoinBox, AllocError>
         requires of { (self.old.of ≡ run_of yard.now reducers.now) × (self.old.course ≡ course.now) }
-        requires sync { event yard.now.story sync ≡ Some Sync }
+        requires sync { event yard.now.event_order sync ≡ Some Sync }
         ensures found { IfOk result (λ b. LiesOn self.old.of self.old.course b × (b.sync ≡ sync)) }
         ensures taken { IfOk result (λ b. TakesOff self.old sync b self.new × HasRoom self.new) }
         ensures err { OnErr result (self.new.boxes ≡ self.old.boxes) }

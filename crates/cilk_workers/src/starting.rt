@@ -4,7 +4,7 @@ ghost use Rattle.std.specs.Prelude.{◌≡◌, ℕ, ◌+◌, ◌<◌, ◌≤◌,
 ghost use Rattle.cilk_tree.specs.declared.kind.Kind.TheVariants as kinds;
 ghost use Rattle.cilk_tree.specs.Word.{event};
 ghost use Rattle.cilk_workers.specs.BegunTurn.{IsStart};
-ghost use Rattle.cilk_workers.specs.Shared.{story_in};
+ghost use Rattle.cilk_workers.specs.Shared.{event_order_in};
 ghost use Rattle.cilk_workers.specs.Turns.{HasMore, IsDue, Turned};
 ghost use Rattle.cilk_types.specs.declared.event.Event.TheVariants.{Begin};
 
@@ -18,9 +18,9 @@ use std::alloc::Global;
 // The number of the frame that begins right after a spawn or a call.
 fn frame_begun(shared: &Shared<'_>, at: Pos) -> FrameNo
     requires first { 1 ≤ at }
-    requires start { IsStart (event (story_in shared.now) at) }
-    requires more { at < length (story_in shared.now).events }
-    ensures { event (story_in shared.now) (at + 1) ≡ Some (Begin result) }
+    requires start { IsStart (event (event_order_in shared.now) at) }
+    requires more { at < length (event_order_in shared.now).events }
+    ensures { event (event_order_in shared.now) (at + 1) ≡ Some (Begin result) }
 {
     shared.laws();
     let Asked::Next { frame: _, kind } = shared.next(at + 1) else {

@@ -5,7 +5,7 @@ ghost use Rattle.cilk_workers.specs.Rows.{OfRun};
 ghost use Rattle.cilk_tree.specs.Frames.{IsInFrame};
 ghost use Rattle.cilk_tree.specs.declared.kind.Kind.TheVariants as kinds;
 ghost use Rattle.cilk_tree.specs.Runs.{IsAsked};
-ghost use Rattle.cilk_workers.specs.Shared.{story_in};
+ghost use Rattle.cilk_workers.specs.Shared.{event_order_in};
 ghost use Rattle.cilk_workers.specs.Turns.{HasMore, IsDue, Turned, Works};
 
 use crate::asking::stands_within;
@@ -39,8 +39,8 @@ pub fn first(alloc: Global, shared: &Shared<'_>, piece: Piece) -> Result<Work, A
 // frame requested.
 fn departed(shared: &Shared<'_>, work: &Work) -> Turn
     requires works { Works shared.now work.now }
-    requires within { work.now.piece.upto ≤ length (story_in shared.now).events }
-    requires differs { IsAsked (story_in shared.now) work.now.piece.upto → ⊥ }
+    requires within { work.now.piece.upto ≤ length (event_order_in shared.now).events }
+    requires differs { IsAsked (event_order_in shared.now) work.now.piece.upto → ⊥ }
     ensures { Turned shared.now work.now.piece work.now result }
 {
     shared.course().resumes();
@@ -65,7 +65,7 @@ fn resumed(shared: &Shared<'_>, work: &mut Work) -> Turn
 fn made(alloc: Global, shared: &Shared<'_>, work: &mut Work, frame: FrameNo, kind: Kind) -> Turn
     requires due { IsDue shared.now work.old kind }
     requires more { HasMore shared.now work.old }
-    requires frame { IsInFrame (story_in shared.now).events work.old.piece.upto frame }
+    requires frame { IsInFrame (event_order_in shared.now).events work.old.piece.upto frame }
     ensures { Turned shared.now work.old.piece work.new result }
 {
     match kind {

@@ -3,4 +3,4 @@ use Rattle.cilk_schedule.specs.Sound.{Runs}
 use Rattle.cilk_base_tests.proofs.chance.by_chance.Given as goal
 
 abbrev pub invariant-choices : goal.invariant-choices
-invariant-choices g l = l.machine.board.stopped ≡ None → Runs l.machine.code.now l.machine.input.now l.machine.board
+invariant-choices g l = l.machine.scheduler.stopped ≡ None → Runs l.machine.code.now l.machine.input.now l.machine.scheduler

@@ -11,7 +11,7 @@ new-requires-clause-course c =
     let a = c.args.plan.now.run in
     subst (λ (p : Program). IsCourse (course_with c.args.yard.now p c.in_ok-code.code c.input-2.result.now c.args.input)) (sym c.program-2.ensures)
     (subst (λ (own : List ℤ). IsCourse (course_with c.args.yard.now a.program c.in_ok-code.code own c.args.input)) (sym c.input-2.ensures)
-    (is_course c.stories_along_have_values.ensures a c.args.plan.now.story c.laws.ensures.plan c.args.input c.inputs_are_words.ensures c.args.yard.now c.laws-2.ensures.order c.requires c.in_ok-code.code
+    (is_course c.event_orders_along_have_values.ensures a c.args.plan.now.event_order c.laws.ensures.plan c.args.input c.inputs_are_words.ensures c.args.yard.now c.laws-2.ensures.order c.requires c.in_ok-code.code
     (subst (λ (p : Program). Behaves (source p) c.in_ok-code.code) c.program.ensures c.in_ok-code.ensures.asks)))
 
 pub new-requires-clause-homes : goal.new-requires-clause-homes

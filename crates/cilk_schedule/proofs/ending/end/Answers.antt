@@ -10,11 +10,11 @@ use Rattle.cilk_schedule.proofs.ending.end.Goals as goal
 
 pub returns-clause-made : goal.returns-clause-made
 returns-clause-made c =
-    let f = c.args.board.now.frames.items in
-    let q = c.depart.new.board.frames.items in
+    let f = c.args.scheduler.now.frames.items in
+    let q = c.depart.new.scheduler.frames.items in
     let g = c.finish.new.frames.items in
     let still = c.in_ok-depart.ensures.quiet in (
-      λ inputs t. ends_made c.args.code.now inputs c.args.board.now c.args.frame t (asks.End c.args.value) c.requires.ends _ q still c.finish.ensures c.depart.ensures.cells c.depart.ensures.rest.journal c.depart.ensures.fewer,
+      λ inputs t. ends_made c.args.code.now inputs c.args.scheduler.now c.args.frame t (asks.End c.args.value) c.requires.ends _ q still c.finish.ensures c.depart.ensures.cells c.depart.ensures.rest.journal c.depart.ensures.fewer,
       end_ticks f q g c.args.frame still c.finish.ensures,
     )
 
@@ -23,7 +23,7 @@ returns-clause-ends c = (
   c.args.value,
   c.requires.ends,
   λ finds.
-      let b = c.args.board.now in
+      let b = c.args.scheduler.now in
       let f = b.frames.items in
       let l = b.workers.items in
       let u = c.index_mut.result.now in
@@ -41,12 +41,12 @@ returns-clause-ends c = (
         worker = u;
         top = top.0;
         views = views;
-        departed = c.depart.new.board;
+        departed = c.depart.new.scheduler;
         at = get_there l c.args.worker u c.index_mut.ensures.value c.requires.works;
         sits = top.1;
         retires = c.retire_at.ensures top.0 (ap (λ z. slice_get z c.args.frame) c.as_slice.ensures.value ∙ top.1);
-        departs = subst (λ ws. PartsFrom c.args.code.now f b.cells.items ws b.offered b.outcome views c.depart.new.board c.args.worker c.args.frame c.args.value) (viewing_at views l c.args.worker u c.index_mut.ensures.value c.requires.works)
-            (subst (λ z. PartsFrom c.args.code.now f b.cells.items seen b.offered b.outcome views c.depart.new.board c.args.worker c.args.frame z) same departs);
+        departs = subst (λ ws. PartsFrom c.args.code.now f b.cells.items ws b.offered b.outcome views c.depart.new.scheduler c.args.worker c.args.frame c.args.value) (viewing_at views l c.args.worker u c.index_mut.ensures.value c.requires.works)
+            (subst (λ z. PartsFrom c.args.code.now f b.cells.items seen b.offered b.outcome views c.depart.new.scheduler c.args.worker c.args.frame z) same departs);
         frames = c.finish.ensures;
         workers = refl;
         offered = refl;

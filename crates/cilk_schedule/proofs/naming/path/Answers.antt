@@ -10,13 +10,13 @@ each-init c = λ name named low. let none : c.new-path.result.items ≡ [] = sea
 
 pub each-preserved : goal.each-preserved
 each-preserved c = λ name named low.
-    let seat = c.in-Some.seat.now in
+    let frame_state = c.in-Some.frame_state.now in
     let at = c.in-Some.ensures.lookup in
-    let here = there_at c.args.frames.now c.each.place seat at.0 at.1 in
+    let here = there_at c.args.frames.now c.each.place frame_state at.0 at.1 in
     let ne = c.if-place-eq0.false in
     let some : 0 < c.each.place = omega (arith, ne) in
-    subst (λ l. IsOnWay name c.args.frame l seat.cursor.parent (c.each.counter + 1)) (sym c.in_ok-push.ensures.items)
-    (onward c.args.frames.now name named c.args.frame c.each.path.items c.each.place c.each.counter (c.each.invariant name named low) some seat here)
+    subst (λ l. IsOnWay name c.args.frame l frame_state.cursor.parent (c.each.counter + 1)) (sym c.in_ok-push.ensures.items)
+    (onward c.args.frames.now name named c.args.frame c.each.path.items c.each.place c.each.counter (c.each.invariant name named low) some frame_state here)
 
 pub returns : goal.returns
 returns c = λ name named low.

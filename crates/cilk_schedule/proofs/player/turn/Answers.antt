@@ -5,11 +5,11 @@ use Rattle.cilk_schedule.proofs.Keeping.{comes_turned, leads_turned, turn_at, tu
 use Rattle.cilk_schedule.proofs.player.turn.Goals as goal
 use Rattle.cilk_schedule.proofs.player.turn.Goals.{then-holds, else-holds}
 
-picked : (c : goal.After-choose) → c.if-holds.choice ≡ turn_at c.args.machine.now.board c.args.worker
+picked : (c : goal.After-choose) → c.if-holds.choice ≡ turn_at c.args.machine.now.scheduler c.args.worker
 picked c =
     elim c.if-holds.branch [
-      | then-holds w ↦ w.choice-is ∙ turn_runs c.args.machine.now.board c.args.worker (sym c.holds.ensures ∙ w.if-holds.true)
-      | else-holds w ↦ w.choice-is ∙ turn_steals c.args.machine.now.board c.args.worker (sym c.holds.ensures ∙ w.if-holds.false)
+      | then-holds w ↦ w.choice-is ∙ turn_runs c.args.machine.now.scheduler c.args.worker (sym c.holds.ensures ∙ w.if-holds.true)
+      | else-holds w ↦ w.choice-is ∙ turn_steals c.args.machine.now.scheduler c.args.worker (sym c.holds.ensures ∙ w.if-holds.false)
     ]
 
 pub returns-clause-made : goal.returns-clause-made

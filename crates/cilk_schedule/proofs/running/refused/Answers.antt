@@ -4,7 +4,7 @@ use Rattle.cilk_schedule.proofs.running.refused.Goals as goal
 
 pub overflow_add-ticks : goal.overflow_add-ticks
 overflow_add-ticks c =
-    let it = get_some c.args.board.now.frames.items c.args.frame c.requires.here in
+    let it = get_some c.args.scheduler.now.frames.items c.args.frame c.requires.here in
     let few = c.requires.few it.0 it.1 in
     let f0 = few.0 in
     let f1 = few.1 in

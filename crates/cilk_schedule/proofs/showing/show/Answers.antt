@@ -10,7 +10,7 @@ use Rattle.cilk_schedule.proofs.showing.show.Goals as goal
 
 pub each-preserved : goal.each-preserved
 each-preserved c =
-    let b = c.args.board.now in
+    let b = c.args.scheduler.now in
     let frames = b.frames.items in
     let journal = b.journal.items in
     let i = c.each.entry-index in
@@ -24,7 +24,7 @@ each-preserved c =
 
 pub returns-clause-run : goal.returns-clause-run
 returns-clause-run c = λ code p inputs name s same named tells.
-    let b = c.args.board.now in
+    let b = c.args.scheduler.now in
     let journal = b.journal.items in
     let far = c.each-test.false in
     let all : take c.each.entry-index journal ≡ journal = take_all c.each.entry-index journal (omega (arith, far)) in

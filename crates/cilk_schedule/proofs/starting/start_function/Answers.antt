@@ -13,19 +13,19 @@ use Rattle.cilk_schedule.proofs.starting.start_function.Goals as goal
 pub function_child-requires-clause-sees : goal.function_child-requires-clause-sees
 function_child-requires-clause-sees c =
     let q = c.requires.turn in
-    let m = function_may c.args.code.now q.0 c.args.board.now c.args.frame q.1 c.invocation-how.result.0 c.invocation-how.result.1.now c.invocation-how.ensures in
+    let m = function_may c.args.code.now q.0 c.args.scheduler.now c.args.frame q.1 c.invocation-how.result.0 c.invocation-how.result.1.now c.invocation-how.ensures in
     (m.0, subst (λ l. SeesAt l c.args.frame m.0) (sym c.as_slice.ensures.value) m.1, m.2, m.3)
 
 pub returns-clause-made : goal.returns-clause-made
 returns-clause-made c =
     let how = c.invocation-how.result.0 in
     let call = c.invocation-how.result.1.now in
-    let old = c.args.board.now in
-    let new = c.begin.new.board in
+    let old = c.args.scheduler.now in
+    let new = c.begin.new.scheduler in
     let child = c.in_ok-child.child in
-    let fine = c.args.board.now.cells.ok in
+    let fine = c.args.scheduler.now.cells.ok in
     let counts = c.len.ensures in
-    let base : c.len.result ≡ length c.args.board.now.cells.items = omega (arith, fine, counts) in
+    let base : c.len.result ≡ length c.args.scheduler.now.cells.items = omega (arith, fine, counts) in
     let count : c.function_cells-count.result ≡ cells_in c.args.code.now.layout (callees.Function call) = c.function_cells-count.ensures ∙ ap (λ (l : Layout). let f = function_frame l call.function in f.cells) c.layout.ensures in
     let is = subst (λ l. IsChild c.args.code.now l c.args.frame c.args.worker c.len.result how (callees.Function call) child) c.as_slice.ensures.value c.in_ok-child.ensures in
     on_ok c.begin.result c.begin.ensures.begins
@@ -41,12 +41,12 @@ pub returns-clause-starts : goal.returns-clause-starts
 returns-clause-starts c =
     let how = c.invocation-how.result.0 in
     let call = c.invocation-how.result.1.now in
-    let old = c.args.board.now in
-    let new = c.begin.new.board in
+    let old = c.args.scheduler.now in
+    let new = c.begin.new.scheduler in
     let child = c.in_ok-child.child in
-    let fine = c.args.board.now.cells.ok in
+    let fine = c.args.scheduler.now.cells.ok in
     let counts = c.len.ensures in
-    let base : c.len.result ≡ length c.args.board.now.cells.items = omega (arith, fine, counts) in
+    let base : c.len.result ≡ length c.args.scheduler.now.cells.items = omega (arith, fine, counts) in
     let count : c.function_cells-count.result ≡ cells_in c.args.code.now.layout (callees.Function call) = c.function_cells-count.ensures ∙ ap (λ (l : Layout). let f = function_frame l call.function in f.cells) c.layout.ensures in
     let is = subst (λ l. IsChild c.args.code.now l c.args.frame c.args.worker c.len.result how (callees.Function call) child) c.as_slice.ensures.value c.in_ok-child.ensures in
     if_both _ _ _ c.begin.result c.begin.ensures.event c.begin.ensures.begins

@@ -10,21 +10,21 @@ use Rattle.cilk_schedule.proofs.Turns.{begun_made, begun_ticks, can_start, turns
 use Rattle.cilk_schedule.proofs.starting.start_turns.Goals as goal
 
 pub turns_child-requires-clause-up : goal.turns_child-requires-clause-up
-turns_child-requires-clause-up c = let q = c.requires.turn in turns_may c.args.code.now q.0 c.args.board.now c.args.frame q.1 c.args.how c.args.part c.requires.begins
+turns_child-requires-clause-up c = let q = c.requires.turn in turns_may c.args.code.now q.0 c.args.scheduler.now c.args.frame q.1 c.args.how c.args.part c.requires.begins
 
 pub begin-requires-clause-children : goal.begin-requires-clause-children
-begin-requires-clause-children c = let q = c.requires.turn in can_start c.args.code.now q.0 c.args.board.now c.args.frame q.1
+begin-requires-clause-children c = let q = c.requires.turn in can_start c.args.code.now q.0 c.args.scheduler.now c.args.frame q.1
 
 pub returns-clause-made : goal.returns-clause-made
 returns-clause-made c =
     let how = c.args.how in
     let part = c.args.part in
-    let old = c.args.board.now in
-    let new = c.begin.new.board in
+    let old = c.args.scheduler.now in
+    let new = c.begin.new.scheduler in
     let child = c.in_ok-child.child in
-    let fine = c.args.board.now.cells.ok in
+    let fine = c.args.scheduler.now.cells.ok in
     let counts = c.len.ensures in
-    let base : c.len.result ≡ length c.args.board.now.cells.items = omega (arith, fine, counts) in
+    let base : c.len.result ≡ length c.args.scheduler.now.cells.items = omega (arith, fine, counts) in
     let count : c.part_cells-count.result ≡ cells_in c.args.code.now.layout (callees.Loop part) = c.part_cells-count.ensures ∙ ap (λ (l : Layout). cells_in l (callees.Loop part)) c.layout.ensures in
     let is = subst (λ l. IsChild c.args.code.now l c.args.frame c.args.worker c.len.result how (callees.Loop part) child) c.as_slice.ensures.value c.in_ok-child.ensures in
     on_ok c.begin.result c.begin.ensures.begins
@@ -40,12 +40,12 @@ pub returns-clause-starts : goal.returns-clause-starts
 returns-clause-starts c =
     let how = c.args.how in
     let part = c.args.part in
-    let old = c.args.board.now in
-    let new = c.begin.new.board in
+    let old = c.args.scheduler.now in
+    let new = c.begin.new.scheduler in
     let child = c.in_ok-child.child in
-    let fine = c.args.board.now.cells.ok in
+    let fine = c.args.scheduler.now.cells.ok in
     let counts = c.len.ensures in
-    let base : c.len.result ≡ length c.args.board.now.cells.items = omega (arith, fine, counts) in
+    let base : c.len.result ≡ length c.args.scheduler.now.cells.items = omega (arith, fine, counts) in
     let count : c.part_cells-count.result ≡ cells_in c.args.code.now.layout (callees.Loop part) = c.part_cells-count.ensures ∙ ap (λ (l : Layout). cells_in l (callees.Loop part)) c.layout.ensures in
     let is = subst (λ l. IsChild c.args.code.now l c.args.frame c.args.worker c.len.result how (callees.Loop part) child) c.as_slice.ensures.value c.in_ok-child.ensures in
     if_both _ _ _ c.begin.result c.begin.ensures.event c.begin.ensures.begins

@@ -13,34 +13,34 @@ use Rattle.cilk_schedule.proofs.thieves.steal.Goals as goal
 
 pub returns-clause-runs : goal.returns-clause-runs
 returns-clause-runs c = λ code inputs r.
-    runs_quiet code inputs c.args.board.now r _ (quiet_twice c.args.board.now.frames.items c.rob_at.new.frames.items c.hold.new.frames.items c.in_ok-rob_at.ensures.quiet c.hold.ensures.quiet) refl refl refl (omega arith)
+    runs_quiet code inputs c.args.scheduler.now r _ (quiet_twice c.args.scheduler.now.frames.items c.rob_at.new.frames.items c.hold.new.frames.items c.in_ok-rob_at.ensures.quiet c.hold.ensures.quiet) refl refl refl (omega arith)
 
 pub returns-in_default-clause-made : goal.returns-in_default-clause-made
 returns-in_default-clause-made c = λ k can _. c.in_default.ensures.can k can
 
 pub rob_at-requires-clause-here : goal.rob_at-requires-clause-here
-rob_at-requires-clause-here c = let can = c.in-Some.ensures.can in inside c.args.board.now.frames.items c.in-Some.found.frame can.seat can.sits
+rob_at-requires-clause-here c = let can = c.in-Some.ensures.can in inside c.args.scheduler.now.frames.items c.in-Some.found.frame can.frame_state can.sits
 
 pub withdraw_at-requires-clause-here : goal.withdraw_at-requires-clause-here
-withdraw_at-requires-clause-here c = let g = c.in-Some.ensures.stands.0 in inside c.args.board.now.workers.items c.in-Some.found.victim g.0 g.2
+withdraw_at-requires-clause-here c = let g = c.in-Some.ensures.stands.0 in inside c.args.scheduler.now.workers.items c.in-Some.found.victim g.0 g.2
 
 pub withdraw_at-requires-clause-stands : goal.withdraw_at-requires-clause-stands
 withdraw_at-requires-clause-stands c = λ u at.
     let g = c.in-Some.ensures.stands.0 in
-    let same : g.0 ≡ u = same_at c.args.board.now.workers.items c.in-Some.found.victim g.0 u g.2 at in
+    let same : g.0 ≡ u = same_at c.args.scheduler.now.workers.items c.in-Some.found.victim g.0 u g.2 at in
     subst (λ (u : Worker). let o = u.offered in c.in-Some.found.index < length o.items) same (let u = g.0 in let o = u.offered in inside o.items c.in-Some.found.index g.1 g.3)
 
 pub hold-requires-clause-here : goal.hold-requires-clause-here
 hold-requires-clause-here c =
     let can = c.in-Some.ensures.can in
-    let here = inside c.args.board.now.frames.items c.in-Some.found.frame can.seat can.sits in
+    let here = inside c.args.scheduler.now.frames.items c.in-Some.found.frame can.frame_state can.sits in
     let q = c.in_ok-rob_at.ensures.quiet in
     let same = q.2 in
     omega (arith, here, same)
 
 pub returns-clause-thieves : goal.returns-clause-thieves
 returns-clause-thieves c = λ still code inputs.
-    let b = c.args.board.now in
+    let b = c.args.scheduler.now in
     let w : ℕ = c.args.worker - 1 in
     let found = c.in-Some.found in
     let b' = record b { frames = c.hold.new.frames; workers = c.hold.new.workers; offered = b.offered - 1 } in
@@ -54,4 +54,4 @@ returns-clause-thieves c = λ still code inputs.
     c.in_ok-rob_at.ensures.robs c.withdraw_at.ensures.less c.clear.ensures.views c.hold.ensures.held c.hold.ensures.has refl refl refl refl refl))
 
 pub returns-in_err-rob_at-clause-kept : goal.returns-in_err-rob_at-clause-kept
-returns-in_err-rob_at-clause-kept c = if_err_always _ _ (kept_by c.args.board.now _ c.in_err-rob_at.ensures.stands refl refl)
+returns-in_err-rob_at-clause-kept c = if_err_always _ _ (kept_by c.args.scheduler.now _ c.in_err-rob_at.ensures.stands refl refl)

@@ -9,7 +9,7 @@ use Rattle.cilk_scheduler.proofs.asking.go_on.Goals as goal
 pub returns : goal.returns
 returns c = λ a at.
     let is = there_is c.args.frames.now.items c.args.frame c.index_mut.result.now a c.index_mut.ensures.value at in (
-      c.advance.new.seat,
-      subst (λ (b : Activation FrameState). WentOn c.args.code.now c.args.input.now b.cursor c.advance.new.asked c.advance.new.seat) is c.advance.ensures,
-      changed_at (λ (y : FrameState). c.advance.new.seat) c.args.frames.now.items c.args.frame c.index_mut.result.now c.index_mut.ensures.value c.requires.here,
+      c.advance.new.frame_state,
+      subst (λ (b : Activation FrameState). WentOn c.args.code.now c.args.input.now b.cursor c.advance.new.asked c.advance.new.frame_state) is c.advance.ensures,
+      changed_at (λ (y : FrameState). c.advance.new.frame_state) c.args.frames.now.items c.args.frame c.index_mut.result.now c.index_mut.ensures.value c.requires.here,
     )

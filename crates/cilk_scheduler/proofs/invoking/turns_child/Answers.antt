@@ -11,7 +11,7 @@ returns c = record {
   cursor = c.in_ok-cursor.cursor;
   stands = c.in_ok-cursor.ensures.stands;
   owes = c.in_ok-cursor.ensures.owes;
-  seat = λ top at. c.turns-child.ensures.cursor ∙ c.new-seat.ensures ∙ ap (λ (t : Activation FrameState). seated c.args.starter.frame (let x = t.cursor in x.children + 1) c.args.how c.args.starter.worker c.in_ok-cursor.cursor) (there_is c.args.frames.now c.args.starter.frame c.index-frames-here.result top c.index-frames-here.is at);
+  frame_state = λ top at. c.turns-child.ensures.cursor ∙ c.new-frame_state.ensures ∙ ap (λ (t : Activation FrameState). seated c.args.starter.frame (let x = t.cursor in x.children + 1) c.args.how c.args.starter.worker c.in_ok-cursor.cursor) (there_is c.args.frames.now c.args.starter.frame c.index-frames-here.result top c.index-frames-here.is at);
   number = c.turns-child.ensures.number;
   base_is = c.turns-child.ensures.base;
   sees = λ p scope it. c.turns-child.ensures.sees p scope c.args.frames.now (get_there c.args.frames.now c.args.starter.frame c.index-frames-here.result c.index-frames-here.is c.requires.here)

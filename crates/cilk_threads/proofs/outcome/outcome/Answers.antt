@@ -20,10 +20,10 @@ outcome-requires-clause-few c =
 pub returns : goal.returns
 returns c =
     let left = outcome_of c.args.layout.now c.as_slice.result.now c.parted-views.result.views in
-    let this = IsMadeOf (source c.args.program.now) c.args.piece.story c.args.piece.reducers c.args.value in
-    let whole = piece_made (source c.args.program.now) c.args.yard.story c.args.piece.story c.requires.yard.1 c.args.piece.reducers c.args.layout.now
+    let this = IsMadeOf (source c.args.program.now) c.args.piece.event_order c.args.piece.reducers c.args.value in
+    let whole = piece_made (source c.args.program.now) c.args.yard.event_order c.args.piece.event_order c.requires.yard.1 c.args.piece.reducers c.args.layout.now
     c.as_slice.result.now c.parted-views.result.views c.args.value c.requires.layout c.requires.globals c.requires.opens
-    (subst (AreFinal c.args.yard.story) (sym c.as_slice.ensures.value) c.in-Ok.ensures.ok)
+    (subst (AreFinal c.args.yard.event_order) (sym c.as_slice.ensures.value) c.in-Ok.ensures.ok)
     c.args.piece.from c.args.piece.upto c.requires.all.0 c.requires.all.1 c.parted-views.ensures.views in
     for_ok (λ o. o ≡ left (to_z w64 (of_z w64 c.args.value))) this c.outcome.result
     (λ o is. subst this (sym (is ∙ ap left (to_z-of_z w64 c.args.value c.ranges.value))) whole)

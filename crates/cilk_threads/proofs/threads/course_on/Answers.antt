@@ -5,7 +5,7 @@ use Rattle.cilk_plan.specs.Plans.{IsEventOrderOn}
 use Rattle.cilk_threads.proofs.threads.course_on.Goals as goal
 
 pub course-requires : goal.course-requires
-course-requires c = subst (λ (is : List ℤ). IsEventOrderOn c.args.plan.now.run c.args.plan.now.story.opening is c.args.yard.now.story) (sym c.in_ok-same.ensures) c.requires
+course-requires c = subst (λ (is : List ℤ). IsEventOrderOn c.args.plan.now.run c.args.plan.now.event_order.opening is c.args.yard.now.event_order) (sym c.in_ok-same.ensures) c.requires
 
 pub returns : goal.returns
 returns c =

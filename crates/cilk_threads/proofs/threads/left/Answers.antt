@@ -39,7 +39,7 @@ returns c =
     let a = c.args.plan.now.run in
     for_ok _ _ c.outcome.result
     (λ o made.
-    left_on c.programs_have_one_course.ensures c.inputs_run_along.ensures c.runs_are_elided.ensures a c.laws.ensures.determinate c.args.plan.now.story c.args.yard.story c.args.input.now c.inputs_are_words.ensures c.args.piece.reducers c.args.value o c.laws.ensures.plan
-    c.laws.ensures.order c.requires.story c.requires.table (nowhere c.args.yard.story c.laws-2.ensures.order w.followed) w.result
+    left_on c.programs_have_one_course.ensures c.inputs_run_along.ensures c.runs_are_elided.ensures a c.laws.ensures.determinate c.args.plan.now.event_order c.args.yard.event_order c.args.input.now c.inputs_are_words.ensures c.args.piece.reducers c.args.value o c.laws.ensures.plan
+    c.laws.ensures.order c.requires.event_order c.requires.table (nowhere c.args.yard.event_order c.laws-2.ensures.order w.followed) w.result
     (subst (λ (z : Program × EventOrder × ℤ). IsMadeOf (source z.0) z.1 c.args.piece.reducers z.2 o) (λ i. (c.program.ensures i, w.good.0.1 i, to_z-of_z w64 c.args.value c.ranges.value i)) made))
     c.outcome.ensures

@@ -19,25 +19,25 @@ use Rattle.cilk_threads.proofs.Whole.{syncs_along, whole_of, fault_of}
 use Rattle.cilk_threads.proofs.threads.run_on.Goals as goal
 
 pub new-shared-requires-clause-along : goal.new-shared-requires-clause-along
-new-shared-requires-clause-along g c = subst (λ (s : EventOrder). IsAlong s c.args.yard.now.story) (sym c.events.ensures.story) c.requires.along
+new-shared-requires-clause-along g c = subst (λ (s : EventOrder). IsAlong s c.args.yard.now.event_order) (sym c.events.ensures.event_order) c.requires.along
 
 pub new-shared-requires-clause-cells : goal.new-shared-requires-clause-cells
-new-shared-requires-clause-cells g c = cells_along c.args.plan.now.run c.args.plan.now.story c.args.yard.now.story c.laws.ensures.plan c.requires.along
+new-shared-requires-clause-cells g c = cells_along c.args.plan.now.run c.args.plan.now.event_order c.args.yard.now.event_order c.laws.ensures.plan c.requires.along
 
 pub new-shared-requires-clause-numbers : goal.new-shared-requires-clause-numbers
 new-shared-requires-clause-numbers g c =
     let w = c.args.plan.now in
-    c.accepted_stories_have_numbers.ensures w.run c.args.plan.now.story.opening c.args.input.now c.args.yard.now.story c.args.table.now c.laws.ensures.determinate c.requires.table.0 c.inputs_are_words.ensures c.requires.story
+    c.accepted_event_orders_have_numbers.ensures w.run c.args.plan.now.event_order.opening c.args.input.now c.args.yard.now.event_order c.args.table.now c.laws.ensures.determinate c.requires.table.0 c.inputs_are_words.ensures c.requires.event_order
 
 pub new-piece-requires-clause-settled : goal.new-piece-requires-clause-settled
 new-piece-requires-clause-settled g c =
     subst (λ (s : EventOrder). AreSettled s c.args.table.now) (sym c.requires.segment.0.1)
-    (c.requires.table.0.settled c.args.plan.now.story c.args.yard.now.story c.laws.ensures.plan c.requires.along)
+    (c.requires.table.0.settled c.args.plan.now.event_order c.args.yard.now.event_order c.laws.ensures.plan c.requires.along)
 
 pub new-piece-requires-clause-quiet : goal.new-piece-requires-clause-quiet
 new-piece-requires-clause-quiet g c =
     subst (λ (s : EventOrder). events_at s c.args.table.now 1 ≡ []) (sym c.requires.segment.0.1)
-    (c.requires.table.0.quiet c.args.plan.now.story c.args.yard.now.story c.laws.ensures.plan c.requires.along)
+    (c.requires.table.0.quiet c.args.plan.now.event_order c.args.yard.now.event_order c.laws.ensures.plan c.requires.along)
 
 pub first-requires : goal.first-requires
 first-requires g c =
@@ -52,14 +52,14 @@ first-requires g c =
 pub run-requires-clause-syncs : goal.run-requires-clause-syncs
 run-requires-clause-syncs g c =
     λ lives within.
-    subst (λ (y : SharedValue). All (λ at. event y.run.story at ≡ Some Sync) c.syncs.result.now) (sym c.new-shared.ensures)
-    (syncs_along c.args.plan.now.story c.args.yard.now.story c.requires.along c.syncs.result.now c.syncs.ensures)
+    subst (λ (y : SharedValue). All (λ at. event y.run.event_order at ≡ Some Sync) c.syncs.result.now) (sym c.new-shared.ensures)
+    (syncs_along c.args.plan.now.event_order c.args.yard.now.event_order c.requires.along c.syncs.result.now c.syncs.ensures)
 
 pub run-requires-clause-strands : goal.run-requires-clause-strands
 run-requires-clause-strands g c =
     λ lives within.
-    subst (λ (y : SharedValue). AreFirsts y.run.story.events c.strands.result.now) (sym c.new-shared.ensures)
-    (firsts_along c.args.plan.now.story.events c.args.yard.now.story.events (sym c.requires.along.kinds) c.strands.result.now c.strands.ensures)
+    subst (λ (y : SharedValue). AreFirsts y.run.event_order.events c.strands.result.now) (sym c.new-shared.ensures)
+    (firsts_along c.args.plan.now.event_order.events c.args.yard.now.event_order.events (sym c.requires.along.kinds) c.strands.result.now c.strands.ensures)
 
 pub returns-clause-ok : goal.returns-clause-ok
 returns-clause-ok g c =
@@ -74,5 +74,5 @@ returns-clause-err g c =
     MatchResult-weaker c.run.result c.run.ensures.err
     (λ r t. t)
     (λ f h.
-    fault_of c.args.plan.now c.args.input.now c.args.workers c.args.yard.now.story f c.requires.story
-    (subst (λ (y : SharedValue). IsTrueFault y.run.story c.args.workers f) c.new-shared.ensures h))
+    fault_of c.args.plan.now c.args.input.now c.args.workers c.args.yard.now.event_order f c.requires.event_order
+    (subst (λ (y : SharedValue). IsTrueFault y.run.event_order c.args.workers f) c.new-shared.ensures h))

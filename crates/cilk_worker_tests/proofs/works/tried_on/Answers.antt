@@ -14,25 +14,25 @@ use Rattle.cilk_threads.proofs.Whole.{syncs_along}
 use Rattle.cilk_worker_tests.proofs.works.tried_on.Goals as goal
 
 pub new-shared-requires-clause-along : goal.new-shared-requires-clause-along
-new-shared-requires-clause-along g c = subst (λ (s : EventOrder). IsAlong s c.args.yard.now.story) (sym c.events.ensures.story) c.requires.along
+new-shared-requires-clause-along g c = subst (λ (s : EventOrder). IsAlong s c.args.yard.now.event_order) (sym c.events.ensures.event_order) c.requires.along
 
 pub new-shared-requires-clause-cells : goal.new-shared-requires-clause-cells
-new-shared-requires-clause-cells g c = cells_along c.args.plan.now.run c.args.plan.now.story c.args.yard.now.story c.laws.ensures.plan c.requires.along
+new-shared-requires-clause-cells g c = cells_along c.args.plan.now.run c.args.plan.now.event_order c.args.yard.now.event_order c.laws.ensures.plan c.requires.along
 
 pub new-shared-requires-clause-numbers : goal.new-shared-requires-clause-numbers
 new-shared-requires-clause-numbers g c =
     let w = c.args.plan.now in
-    c.accepted_stories_have_numbers.ensures w.run c.args.plan.now.story.opening c.args.input c.args.yard.now.story c.args.table.now c.laws.ensures.determinate c.requires.table.0 c.inputs_are_words.ensures c.requires.story
+    c.accepted_event_orders_have_numbers.ensures w.run c.args.plan.now.event_order.opening c.args.input c.args.yard.now.event_order c.args.table.now c.laws.ensures.determinate c.requires.table.0 c.inputs_are_words.ensures c.requires.event_order
 
 pub new-piece-requires-clause-settled : goal.new-piece-requires-clause-settled
 new-piece-requires-clause-settled g c =
     subst (λ (s : EventOrder). AreSettled s c.args.table.now) (sym c.requires.segment.0.1)
-    (c.requires.table.0.settled c.args.plan.now.story c.args.yard.now.story c.laws.ensures.plan c.requires.along)
+    (c.requires.table.0.settled c.args.plan.now.event_order c.args.yard.now.event_order c.laws.ensures.plan c.requires.along)
 
 pub new-piece-requires-clause-quiet : goal.new-piece-requires-clause-quiet
 new-piece-requires-clause-quiet g c =
     subst (λ (s : EventOrder). events_at s c.args.table.now 1 ≡ []) (sym c.requires.segment.0.1)
-    (c.requires.table.0.quiet c.args.plan.now.story c.args.yard.now.story c.laws.ensures.plan c.requires.along)
+    (c.requires.table.0.quiet c.args.plan.now.event_order c.args.yard.now.event_order c.laws.ensures.plan c.requires.along)
 
 pub first-requires : goal.first-requires
 first-requires g c =
@@ -46,5 +46,5 @@ first-requires g c =
 
 pub joined-requires-clause-syncs : goal.joined-requires-clause-syncs
 joined-requires-clause-syncs g c =
-    subst (λ (y : SharedValue). All (λ at. event y.run.story at ≡ Some Sync) c.syncs.result.now) (sym c.new-shared.ensures)
-    (syncs_along c.args.plan.now.story c.args.yard.now.story c.requires.along c.syncs.result.now c.syncs.ensures)
+    subst (λ (y : SharedValue). All (λ at. event y.run.event_order at ≡ Some Sync) c.syncs.result.now) (sym c.new-shared.ensures)
+    (syncs_along c.args.plan.now.event_order c.args.yard.now.event_order c.requires.along c.syncs.result.now c.syncs.ensures)

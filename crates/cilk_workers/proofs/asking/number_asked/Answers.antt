@@ -14,5 +14,5 @@ pub returns : goal.returns
 returns c =
     let k = c.args.chain.now in
     let fits : SFits w64 c.in-Some.number = search rules in
-    subst (λ v. Carries (event k.of.yard.story k.at) v) (sym (to_z-of_z w64 c.in-Some.number fits))
+    subst (λ v. Carries (event k.of.yard.event_order k.at) v) (sym (to_z-of_z w64 c.in-Some.number fits))
     (number_there k.of k.at c.ask.result.now c.ask.ensures c.number_in.result c.requires.asked c.number_in.ensures c.requires.number c.in-Some.number c.in-Some.is)

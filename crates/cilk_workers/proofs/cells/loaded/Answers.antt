@@ -22,6 +22,6 @@ pub answer-requires-clause-answer : goal.answer-requires-clause-answer
 answer-requires-clause-answer c =
     let p = c.args.work.now.piece in
     let k = c.args.work.now.chain in
-    subst (λ v. IsAnswered k.of.yard.story k.at (Value v)) (sym (to_z-of_z w64 c.load-value.result (record { sfits = c.load-value.type_inv })))
+    subst (λ v. IsAnswered k.of.yard.event_order k.at (Value v)) (sym (to_z-of_z w64 c.load-value.result (record { sfits = c.load-value.type_inv })))
     (answered c.args.shared.now c.args.work.now (kinds.Read c.args.cell) c.requires.due c.requires.more c.laws.ensures.same c.load-value.result (Value c.load-value.result)
-    (subst (λ (z : YardValue). event z.story p.upto ≡ Some (Read c.args.cell c.load-value.result)) c.yard.ensures c.load-value.ensures.value) refl)
+    (subst (λ (z : YardValue). event z.event_order p.upto ≡ Some (Read c.args.cell c.load-value.result)) c.yard.ensures c.load-value.ensures.value) refl)

@@ -1,7 +1,7 @@
 use Rattle.cilk_types.specs.declared.event.Event.TheVariants.{End}
 use Rattle.cilk_tree.specs.declared.kind.Kind.TheVariants as kinds
 use Rattle.cilk_tree.specs.Word.{event}
-use Rattle.cilk_workers.specs.Shared.{story_in}
+use Rattle.cilk_workers.specs.Shared.{event_order_in}
 use Rattle.cilk_workers.proofs.Due.{can_pass, chain_follows, here, passes}
 use Rattle.cilk_workers.proofs.OfKind.{no_sync, what_end}
 use Rattle.cilk_workers.proofs.passing.ended.Goals as goal
@@ -14,7 +14,7 @@ end-requires-clause-next c =
     let works = due.works in
     let is = due.kind_is in
     passes y p End works.good
-    (can_pass y p works.good c.laws.ensures.order due.asked c.requires.more (what_end (story_in y) p.upto is c.requires.more) (no_sync (event (story_in y) p.upto) kinds.End is (λ q. cc q)))
+    (can_pass y p works.good c.laws.ensures.order due.asked c.requires.more (what_end (event_order_in y) p.upto is c.requires.more) (no_sync (event (event_order_in y) p.upto) kinds.End is (λ q. cc q)))
     (here y c.args.work.now kinds.End due c.requires.more c.laws.ensures.same).1
 
 pub end-requires-2-clause-end : goal.end-requires-2-clause-end

@@ -6,7 +6,7 @@ use Rattle.cilk_tree.specs.declared.event_order.EventOrder.{EventOrder}
 use Rattle.cilk_tree.specs.Runs.{IsAsked, IsFollowed}
 use Rattle.cilk_tree.specs.Word.{after, event, finish, resume, what}
 use Rattle.cilk_tree.specs.Orders.{IsOrderly}
-use Rattle.cilk_workers.specs.Shared.{story_in}
+use Rattle.cilk_workers.specs.Shared.{event_order_in}
 use Rattle.cilk_workers.proofs.Due.{ahead, grown_good, in_segment, in_yard, off_segment, on_chain}
 use Rattle.cilk_workers.proofs.Ending.{ended_with}
 use Rattle.cilk_workers.proofs.OfKind.{finish_event}
@@ -29,14 +29,14 @@ follows-requires-clause-next c =
     let y = c.args.shared.now in
     let p = c.args.work.now.piece in
     let works = c.requires.works in
-    ahead y p _ c.segment.ensures works.good (no_resume (story_in y) p.upto c.laws.ensures.order c.requires.last)
+    ahead y p _ c.segment.ensures works.good (no_resume (event_order_in y) p.upto c.laws.ensures.order c.requires.last)
 
 pub follows-requires-clause-sync : goal.follows-requires-clause-sync
 follows-requires-clause-sync c =
     let y = c.args.shared.now in
     let p = c.args.work.now.piece in
     let works = c.requires.works in
-    in_segment (λ s at. event s at ≡ Some events.Sync → ⊥) y p _ c.segment.ensures works.good.0 (no_sync (story_in y) p.upto c.laws.ensures.order c.requires.last)
+    in_segment (λ s at. event s at ≡ Some events.Sync → ⊥) y p _ c.segment.ensures works.good.0 (no_sync (event_order_in y) p.upto c.laws.ensures.order c.requires.last)
 
 pub follows-requires-clause-asked : goal.follows-requires-clause-asked
 follows-requires-clause-asked c =
@@ -50,14 +50,14 @@ pub result_asked-value-requires-clause-end : goal.result_asked-value-requires-cl
 result_asked-value-requires-clause-end c =
     let y = c.args.shared.now in
     let p = c.args.work.now.piece in
-    on_chain (λ s at. event s at ≡ Some events.End) y c.args.work.now c.requires.works c.laws.ensures.same (ends (story_in y) p.upto c.laws.ensures.order c.requires.last)
+    on_chain (λ s at. event s at ≡ Some events.End) y c.args.work.now c.requires.works c.laws.ensures.same (ends (event_order_in y) p.upto c.laws.ensures.order c.requires.last)
 
 pub finish-requires-clause-next : goal.finish-requires-clause-next
 finish-requires-clause-next c =
     let y = c.args.shared.now in
     let p = c.args.work.now.piece in
     let works = c.requires.works in
-    in_yard (λ s. (p.from < p.upto × IsAsked s p.upto) × (what s p.upto ≡ finish)) y _ c.yard-2.ensures ((works.good.1, c.requires.asked), finishes (story_in y) p.upto c.laws.ensures.order c.requires.last)
+    in_yard (λ s. (p.from < p.upto × IsAsked s p.upto) × (what s p.upto ≡ finish)) y _ c.yard-2.ensures ((works.good.1, c.requires.asked), finishes (event_order_in y) p.upto c.laws.ensures.order c.requires.last)
 
 pub returns : goal.returns
 returns c =
@@ -66,7 +66,7 @@ returns c =
     let works = c.requires.works in
     let g = grown_good y p _ works.good c.finish.ensures in
     let last = c.requires.last in
-    let followed = subst (λ (n : ℕ). IsFollowed (story_in y) n) last (off_segment (λ s at. IsFollowed s at) y p _ c.segment.ensures works.good.0 c.follows.ensures) in (
+    let followed = subst (λ (n : ℕ). IsFollowed (event_order_in y) n) last (off_segment (λ s at. IsFollowed s at) y p _ c.segment.ensures works.good.0 c.follows.ensures) in (
       record {
         good = g.0;
         last = g.2 ∙ ap (λ (n : ℕ). n + 1) last;

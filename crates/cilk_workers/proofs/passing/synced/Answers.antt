@@ -6,8 +6,8 @@ use Rattle.cilk_tree.specs.declared.kind.Kind.TheVariants.{Sync}
 use Rattle.cilk_shared.specs.Values.{MayPass}
 use Rattle.cilk_tree.specs.Runs.{IsAsked}
 use Rattle.cilk_tree.specs.Word.{event}
-use Rattle.cilk_workers.specs.Shared.{story_in}
-use Rattle.cilk_workers.proofs.Due.{answered_done, of_story}
+use Rattle.cilk_workers.specs.Shared.{event_order_in}
+use Rattle.cilk_workers.proofs.Due.{answered_done, of_event_order}
 use Rattle.cilk_workers.proofs.OfKind.{quiet, with_kind}
 use Rattle.cilk_workers.proofs.passing.synced.Goals as goal
 
@@ -18,7 +18,7 @@ returns-then-not-may_pass c =
       due.works,
       refl,
       (
-        (with_kind (event (story_in c.args.shared.now) p.upto) Sync due.kind_is).1,
+        (with_kind (event (event_order_in c.args.shared.now) p.upto) Sync due.kind_is).1,
         λ may. iff_false c.may_pass.ensures c.if-not-may_pass.true (subst MayPass (sym c.segment.ensures) may),
       ),
     )
@@ -29,15 +29,15 @@ pass-requires-clause-next c =
     let works = due.works in
     let p = c.args.work.now.piece in
     let may = c.may_pass.ensures.0 c.if-not-may_pass.false in
-    (subst MayPass c.segment.ensures may, of_story (λ s. IsAsked s p.upto) c.args.shared.now.run p works.good.0 due.asked)
+    (subst MayPass c.segment.ensures may, of_event_order (λ s. IsAsked s p.upto) c.args.shared.now.run p works.good.0 due.asked)
 
 pub pass-requires-clause-quiet : goal.pass-requires-clause-quiet
 pass-requires-clause-quiet c =
     let due = c.requires.due in
     let works = due.works in
     let p = c.args.work.now.piece in
-    quiet p.reducers (frame_in p.story.events p.upto) (event p.story p.upto) Sync
-    (of_story (λ s. kind_of_event (event s p.upto) ≡ Some Sync) c.args.shared.now.run p works.good.0 due.kind_is) tt
+    quiet p.reducers (frame_in p.event_order.events p.upto) (event p.event_order p.upto) Sync
+    (of_event_order (λ s. kind_of_event (event s p.upto) ≡ Some Sync) c.args.shared.now.run p works.good.0 due.kind_is) tt
 
 pub answer-requires-clause-answer : goal.answer-requires-clause-answer
 answer-requires-clause-answer c = answered_done c.args.shared.now c.args.work.now Sync c.requires.due c.requires.more c.course.ensures.yard tt

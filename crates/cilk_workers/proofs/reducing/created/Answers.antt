@@ -1,7 +1,7 @@
 use Rattle.cilk_types.specs.declared.event.Event.TheVariants as events
 use Rattle.cilk_tree.specs.declared.kind.Kind.TheVariants as kinds
 use Rattle.cilk_tree.specs.Word.{event}
-use Rattle.cilk_workers.specs.Shared.{story_in}
+use Rattle.cilk_workers.specs.Shared.{event_order_in}
 use Rattle.cilk_workers.proofs.OfKind.{no_sync, what_plain}
 use Rattle.cilk_workers.proofs.Due.{answered_done, can_pass, here, passes}
 use Rattle.cilk_workers.proofs.reducing.created.Goals as goal
@@ -13,7 +13,7 @@ create-requires-clause-next c =
     let due = c.requires.due in
     let works = due.works in
     let is = due.kind_is in
-    passes y p (events.Create c.args.instance) works.good (can_pass y p works.good c.laws.ensures.order due.asked c.requires.more (what_plain (story_in y) p.upto (kinds.Create c.args.instance) is tt) (no_sync (event (story_in y) p.upto) (kinds.Create c.args.instance) is (λ q. cc q)))
+    passes y p (events.Create c.args.instance) works.good (can_pass y p works.good c.laws.ensures.order due.asked c.requires.more (what_plain (event_order_in y) p.upto (kinds.Create c.args.instance) is tt) (no_sync (event (event_order_in y) p.upto) (kinds.Create c.args.instance) is (λ q. cc q)))
     (here y c.args.work.now (kinds.Create c.args.instance) due c.requires.more c.laws.ensures.same).1
 
 pub answer-requires-clause-answer : goal.answer-requires-clause-answer

@@ -6,7 +6,7 @@ use Rattle.cilk_tree.specs.declared.kind.Kind.TheVariants as kinds
 use Rattle.cilk_tree.specs.Runs.{IsAsked}
 use Rattle.cilk_tree.specs.Word.{event}
 use Rattle.cilk_workers.specs.Asks.{Carries, HasNumber}
-use Rattle.cilk_workers.specs.Shared.{story_in}
+use Rattle.cilk_workers.specs.Shared.{event_order_in}
 use Rattle.cilk_workers.proofs.OfKind.{has_number, no_sync, what_plain, with_number}
 use Rattle.cilk_workers.proofs.Due.{answered_done, off_chain, can_pass, on_chain, passes}
 use Rattle.cilk_workers.proofs.reducing.updated.Goals as goal
@@ -19,8 +19,8 @@ update-requires-clause-next c =
     let works = due.works in
     let is = due.kind_is in
     subst (λ v. PassesOn p (events.Update c.args.instance v)) (sym (to_z-of_z w64 c.number_asked-number.result (record { sfits = c.number_asked-number.type_inv })))
-    (passes y p (events.Update c.args.instance c.number_asked-number.result) works.good (can_pass y p works.good c.laws.ensures.order due.asked c.requires.more (what_plain (story_in y) p.upto (kinds.Update c.args.instance) is tt) (no_sync (event (story_in y) p.upto) (kinds.Update c.args.instance) is (λ q. cc q)))
-    (with_number (event (story_in y) p.upto) (kinds.Update c.args.instance) c.number_asked-number.result is (off_chain (λ s at. Carries (event s at) c.number_asked-number.result) y c.args.work.now works c.laws.ensures.same c.number_asked-number.ensures)))
+    (passes y p (events.Update c.args.instance c.number_asked-number.result) works.good (can_pass y p works.good c.laws.ensures.order due.asked c.requires.more (what_plain (event_order_in y) p.upto (kinds.Update c.args.instance) is tt) (no_sync (event (event_order_in y) p.upto) (kinds.Update c.args.instance) is (λ q. cc q)))
+    (with_number (event (event_order_in y) p.upto) (kinds.Update c.args.instance) c.number_asked-number.result is (off_chain (λ s at. Carries (event s at) c.number_asked-number.result) y c.args.work.now works c.laws.ensures.same c.number_asked-number.ensures)))
 
 pub number_asked-number-requires-clause-asked : goal.number_asked-number-requires-clause-asked
 number_asked-number-requires-clause-asked c =
@@ -31,7 +31,7 @@ pub number_asked-number-requires-clause-number : goal.number_asked-number-requir
 number_asked-number-requires-clause-number c =
     let due = c.requires.due in
     let p = c.args.work.now.piece in
-    on_chain (λ s at. HasNumber (event s at)) c.args.shared.now c.args.work.now due.works c.laws.ensures.same (has_number (event (story_in c.args.shared.now) p.upto) (kinds.Update c.args.instance) due.kind_is tt)
+    on_chain (λ s at. HasNumber (event s at)) c.args.shared.now c.args.work.now due.works c.laws.ensures.same (has_number (event (event_order_in c.args.shared.now) p.upto) (kinds.Update c.args.instance) due.kind_is tt)
 
 pub answer-requires-clause-answer : goal.answer-requires-clause-answer
 answer-requires-clause-answer c = answered_done c.args.shared.now c.args.work.now (kinds.Update c.args.instance) c.requires.due c.requires.more c.laws.ensures.same tt

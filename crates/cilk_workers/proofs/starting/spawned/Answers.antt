@@ -6,7 +6,7 @@ use Rattle.cilk_shared.specs.Values.{YardValue}
 use Rattle.cilk_tree.specs.Runs.{IsAsked}
 use Rattle.cilk_tree.specs.Word.{event, resume, spawn, what}
 use Rattle.cilk_workers.specs.BegunTurn.{IsStart}
-use Rattle.cilk_workers.specs.Shared.{story_in}
+use Rattle.cilk_workers.specs.Shared.{event_order_in}
 use Rattle.cilk_workers.proofs.BegunTurn.{starts}
 use Rattle.cilk_workers.proofs.Due.{chain_follows, here, in_yard, on_chain, on_standing}
 use Rattle.cilk_workers.proofs.OfKind.{what_spawn}
@@ -17,16 +17,16 @@ unreachable-requires c =
     let y = c.args.shared.now in
     let p = c.args.work.now.piece in
     let due = c.requires.due.1 in
-    let r = c.laws.ensures.order.returns p.upto (what_spawn (story_in y) p.upto c.requires.due.0 due.kind_is) in
+    let r = c.laws.ensures.order.returns p.upto (what_spawn (event_order_in y) p.upto c.requires.due.0 due.kind_is) in
     c.in_default.not-Some r.0 ((c.resumption.ensures r.0).1 (in_yard (λ s. what s r.0 ≡ resume c.upto-at.result) y _ c.yard.ensures
-    (subst (λ (n : ℕ). what (story_in y) r.0 ≡ resume n) (sym c.upto-at.ensures) r.1)))
+    (subst (λ (n : ℕ). what (event_order_in y) r.0 ≡ resume n) (sym c.upto-at.ensures) r.1)))
 
 pub frame_begun-frame-requires-clause-start : goal.frame_begun-frame-requires-clause-start
 frame_begun-frame-requires-clause-start c =
     let y = c.args.shared.now in
     let p = c.args.work.now.piece in
     let due = c.requires.due.1 in
-    subst (λ (n : ℕ). IsStart (event (story_in y) n)) (sym c.upto-at.ensures) (starts (event (story_in y) p.upto) (kinds.Spawn c.requires.due.0) due.kind_is tt)
+    subst (λ (n : ℕ). IsStart (event (event_order_in y) n)) (sym c.upto-at.ensures) (starts (event (event_order_in y) p.upto) (kinds.Spawn c.requires.due.0) due.kind_is tt)
 
 pub spawn-requires-clause-spawns : goal.spawn-requires-clause-spawns
 spawn-requires-clause-spawns c =
@@ -35,9 +35,9 @@ spawn-requires-clause-spawns c =
     let f = c.requires.due.0 in
     let due = c.requires.due.1 in
     let same = c.laws.ensures.same in
-    let there = subst (λ (z : YardValue). what z.story c.in-Some.next ≡ resume c.upto-at.result) c.yard.ensures ((c.resumption.ensures c.in-Some.next).0 c.in-Some.is) in (
+    let there = subst (λ (z : YardValue). what z.event_order c.in-Some.next ≡ resume c.upto-at.result) c.yard.ensures ((c.resumption.ensures c.in-Some.next).0 c.in-Some.is) in (
       (f, chain_follows y c.args.work.now (kinds.Spawn f) due c.requires.more same (events.Spawn f) (here y c.args.work.now (kinds.Spawn f) due c.requires.more same).1),
-      on_chain (λ s at. what s c.in-Some.next ≡ resume at) y c.args.work.now due.works same (subst (λ (n : ℕ). what (story_in y) c.in-Some.next ≡ resume n) c.upto-at.ensures there),
+      on_chain (λ s at. what s c.in-Some.next ≡ resume at) y c.args.work.now due.works same (subst (λ (n : ℕ). what (event_order_in y) c.in-Some.next ≡ resume n) c.upto-at.ensures there),
     )
 
 pub offer-ticket-requires-clause-next : goal.offer-ticket-requires-clause-next
@@ -47,13 +47,13 @@ offer-ticket-requires-clause-next c =
     let due = c.requires.due.1 in
     let works = due.works in
     in_yard (λ s. (p.from < p.upto × IsAsked s p.upto) × (what s p.upto ≡ spawn)) y _ c.yard-2.ensures
-    ((works.good.1, due.asked), what_spawn (story_in y) p.upto c.requires.due.0 due.kind_is)
+    ((works.good.1, due.asked), what_spawn (event_order_in y) p.upto c.requires.due.0 due.kind_is)
 
 pub new-requires : goal.new-requires
 new-requires c =
     let y = c.args.shared.now in
     let due = c.requires.due.1 in
     let works = due.works in
-    let there = subst (λ (z : YardValue). what z.story c.in-Some.next ≡ resume c.upto-at.result) c.yard.ensures ((c.resumption.ensures c.in-Some.next).0 c.in-Some.is) in
+    let there = subst (λ (z : YardValue). what z.event_order c.in-Some.next ≡ resume c.upto-at.result) c.yard.ensures ((c.resumption.ensures c.in-Some.next).0 c.in-Some.is) in
     on_standing (λ s at. what s at ≡ resume c.offer-ticket.result) y c.in-Ok.rest c.in-Some.next (c.in-Ok.ensures.parent ∙ ap (λ (k : ChainValue). standing k.of c.in-Some.next) works.stands) c.laws.ensures.same
-    (subst (λ (n : ℕ). what (story_in y) c.in-Some.next ≡ resume n) (c.upto-at.ensures ∙ sym c.offer-ticket.ensures.ticket) there)
+    (subst (λ (n : ℕ). what (event_order_in y) c.in-Some.next ≡ resume n) (c.upto-at.ensures ∙ sym c.offer-ticket.ensures.ticket) there)

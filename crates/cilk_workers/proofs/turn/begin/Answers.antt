@@ -12,17 +12,17 @@ use Rattle.cilk_tree.specs.declared.event_order.EventOrder.{EventOrder}
 use Rattle.cilk_tree.specs.Orders.{IsOrderly}
 use Rattle.cilk_tree.specs.Runs.{IsAsked}
 use Rattle.cilk_tree.specs.Word.{after, event, finish, resume, what}
-use Rattle.cilk_workers.specs.Shared.{SharedValue, story_in}
+use Rattle.cilk_workers.specs.Shared.{SharedValue, event_order_in}
 use Rattle.cilk_workers.proofs.Due.{began, can_take, off_standing, on_standing}
 use Rattle.cilk_workers.proofs.OfKind.{resume_event}
 use Rattle.cilk_workers.proofs.turn.begin.Goals as goal
 
 -- the position at which the task continues
-resumes : (y : SharedValue) (t : TaskValue) (at ticket : ℕ) → t.of ≡ y.course → (let u = y.course in u.yard ≡ yard_of y.run) → (let u = t.of in let z = u.yard in what z.story at ≡ resume t.ticket) → ticket ≡ t.ticket
-    → what (story_in y) at ≡ resume ticket
+resumes : (y : SharedValue) (t : TaskValue) (at ticket : ℕ) → t.of ≡ y.course → (let u = y.course in u.yard ≡ yard_of y.run) → (let u = t.of in let z = u.yard in what z.event_order at ≡ resume t.ticket) → ticket ≡ t.ticket
+    → what (event_order_in y) at ≡ resume ticket
 resumes y t at ticket of same is q =
-    subst (λ (z : YardValue). what z.story at ≡ resume ticket) same
-    (subst (λ (u : CourseValue). let z = u.yard in what z.story at ≡ resume ticket) of (subst (λ (n : ℕ). let u = t.of in let z = u.yard in what z.story at ≡ resume n) (sym q) is))
+    subst (λ (z : YardValue). what z.event_order at ≡ resume ticket) same
+    (subst (λ (u : CourseValue). let z = u.yard in what z.event_order at ≡ resume ticket) of (subst (λ (n : ℕ). let u = t.of in let z = u.yard in what z.event_order at ≡ resume n) (sym q) is))
 
 -- the `resume` is answered with nothing; it isn't the last event
 answer : (s : EventOrder) (at ticket : ℕ) → IsOrderly s → what s at ≡ resume ticket → IsAsked s at → 1 ≤ at → at ≤ length s.events → IsAnswered s at Done
@@ -51,7 +51,7 @@ answer-requires-clause-answer c =
     let stands = c.wake-chain.ensures ∙ c.rest.ensures.rest ∙ ap₂ standing c.requires.task (sym c.at-at.ensures.place) in
     let next = c.in-Next.ensures in
     on_standing (λ s p. IsAnswered s p Done) y c.wake-chain.result at stands same
-    (answer (story_in y) at c.ticket-ticket.result c.laws.ensures.order (resumes y c.args.task at c.ticket-ticket.result c.requires.task same c.at-at.ensures.resumption c.ticket-ticket.ensures)
+    (answer (event_order_in y) at c.ticket-ticket.result c.laws.ensures.order (resumes y c.args.task at c.ticket-ticket.result c.requires.task same c.at-at.ensures.resumption c.ticket-ticket.ensures)
     (off_standing (λ s p. IsAsked s p) y c.wake-chain.result at stands same c.in-Asked.ensures) next.2 next.3)
 
 pub returns-in-Yes : goal.returns-in-Yes

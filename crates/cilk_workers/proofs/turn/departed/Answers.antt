@@ -5,7 +5,7 @@ use Rattle.cilk_shared.specs.Values.{SegmentValue, YardValue}
 use Rattle.cilk_tree.specs.declared.event_order.EventOrder.{EventOrder}
 use Rattle.cilk_tree.specs.Runs.{IsFollowed}
 use Rattle.cilk_tree.specs.Word.{resume, what}
-use Rattle.cilk_workers.specs.Shared.{story_in}
+use Rattle.cilk_workers.specs.Shared.{event_order_in}
 use Rattle.cilk_workers.proofs.Due.{off_segment}
 use Rattle.cilk_workers.proofs.turn.departed.Goals as goal
 
@@ -17,10 +17,10 @@ departs-requires-clause-next c =
     let y = c.args.shared.now in
     let works = c.requires.works in
     let p = c.args.work.now.piece in
-    let course : ResumesAreAsked (let u = y.course in let z = u.yard in z.story) =
-    subst (λ (u : CourseValue). let z = u.yard in ResumesAreAsked z.story) c.course.ensures.course c.resumes.ensures in
-    let law : ResumesAreAsked (story_in y) = subst (λ (z : YardValue). ResumesAreAsked z.story) c.course.ensures.yard course in
-    let followed : IsFollowed (story_in y) (p.upto - 1) =
+    let course : ResumesAreAsked (let u = y.course in let z = u.yard in z.event_order) =
+    subst (λ (u : CourseValue). let z = u.yard in ResumesAreAsked z.event_order) c.course.ensures.course c.resumes.ensures in
+    let law : ResumesAreAsked (event_order_in y) = subst (λ (z : YardValue). ResumesAreAsked z.event_order) c.course.ensures.yard course in
+    let followed : IsFollowed (event_order_in y) (p.upto - 1) =
     off_segment (λ (s : EventOrder) (n : ℕ). IsFollowed s (n - 1)) y p _ c.segment-segment.ensures works.good.0 c.has_followed.ensures in (
       subst (λ (g : SegmentValue). g.from < g.upto) (sym c.segment-segment.ensures) works.good.1,
       λ k is. c.requires.differs

@@ -29,22 +29,22 @@ returns-in-Some c = λ code p inputs well tells.
     let t = c.args.self.now in
     let there = tells_there code p inputs t well tells in
     let took = c.in-Some.ensures in
-    let inner = told_as p there.frame t.state c.answer.new.state (ask_in t.asked) (in_full c.args.brief) c.in_ok-told.field-0 (Goes c.in-Goes.told) c.requires.asked c.in-Goes.is (c.in_ok-told.ensures p there.frame there.on_top) in
+    let inner = told_as p there.frame t.state c.answer.new.state (ask_in t.asked) (in_full c.args.small_ask) c.in_ok-told.field-0 (Goes c.in-Goes.told) c.requires.asked c.in-Goes.is (c.in_ok-told.ensures p there.frame there.on_top) in
     tells_inner code p inputs t c.answer.new.state c.in-Goes.told c.take.new.self c.in-Some.taken tells c.requires.room inner.0
-    (λ fr on. let h = told_as p fr t.state c.answer.new.state (ask_in t.asked) (in_full c.args.brief) c.in_ok-told.field-0 (Goes c.in-Goes.told) c.requires.asked c.in-Goes.is (c.in_ok-told.ensures p fr on) in h.1)
+    (λ fr on. let h = told_as p fr t.state c.answer.new.state (ask_in t.asked) (in_full c.args.small_ask) c.in_ok-told.field-0 (Goes c.in-Goes.told) c.requires.asked c.in-Goes.is (c.in_ok-told.ensures p fr on) in h.1)
     (record { note = took.0; notes = took.1; before = took.2; after = took.3; told = took.4; asks = took.5; is = took.6 })
 
 pub returns-in-Turns : goal.returns-in-Turns
 returns-in-Turns c = λ code p inputs well tells.
     let t = c.args.self.now in
     let there = tells_there code p inputs t well tells in
-    let h = told_as p there.frame t.state c.answer.new.state (ask_in t.asked) (in_full c.args.brief) c.in_ok-told.field-0 (Turns c.in-Turns.how c.in-Turns.part) c.requires.asked c.in-Turns.is (c.in_ok-told.ensures p there.frame there.on_top) in
+    let h = told_as p there.frame t.state c.answer.new.state (ask_in t.asked) (in_full c.args.small_ask) c.in_ok-told.field-0 (Turns c.in-Turns.how c.in-Turns.part) c.requires.asked c.in-Turns.is (c.in_ok-told.ensures p there.frame there.on_top) in
     (ap (λ (s : State). let u : Retelling = record { state = s; frames = t.frames; asked = t.asked; left = t.left } in u) h.0, h.1)
 
 pub returns-in-Ends : goal.returns-in-Ends
 returns-in-Ends c = λ code p inputs well tells.
     let t = c.args.self.now in
     let there = tells_there code p inputs t well tells in
-    let h = told_as p there.frame t.state c.answer.new.state (ask_in t.asked) (in_full c.args.brief) c.in_ok-told.field-0 (Ends c.in-Ends.result) c.requires.asked c.in-Ends.is (c.in_ok-told.ensures p there.frame there.on_top) in
+    let h = told_as p there.frame t.state c.answer.new.state (ask_in t.asked) (in_full c.args.small_ask) c.in_ok-told.field-0 (Ends c.in-Ends.result) c.requires.asked c.in-Ends.is (c.in_ok-told.ensures p there.frame there.on_top) in
     let fits : SFits w64 c.in-Ends.result = search rules in
     (ap (λ (s : State). let u : Retelling = record { state = s; frames = t.frames; asked = t.asked; left = t.left } in u) h.0, h.1 ∙ ap End (sym (to_z-of_z w64 c.in-Ends.result fits)))

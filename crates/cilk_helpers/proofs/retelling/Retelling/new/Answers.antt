@@ -4,7 +4,7 @@ use Rattle.cilk_types.specs.declared.limits.TheConstants.{MAX_TICKS}
 use Rattle.cilk_program.specs.declared.program.GlobalReducer.{GlobalReducer}
 use Rattle.cilk_program.specs.SerialRun.{root_frame}
 use Rattle.cilk_frames.specs.declared.activation.Activation.{Activation}
-use Rattle.cilk_frames.specs.declared.small_ask.SmallAsk.TheVariants as brief
+use Rattle.cilk_frames.specs.declared.small_ask.SmallAsk.TheVariants as small_ask
 use Rattle.cilk_helpers.specs.declared.note.Asked.TheVariants.{SmallAsk}
 use Rattle.cilk_serial.specs.Scoped.{Scoped}
 use Rattle.cilk_helpers.specs.declared.rest.Rest.{Rest}
@@ -37,7 +37,7 @@ returns-clause-tells c = λ code inputs behaves replay.
     let first : c.len-reducers.result + 1 ≡ suc (length (map (λ (r : GlobalReducer). r.kind) prog.reducers.items)) = omega (arith, many, c.len-reducers.ensures) in
     let scoped = root_scoped p prog.well_named inputs (with_cursor c.root-frame.result replay.cursor) made.number
     (made.base ∙ c.len-globals.ensures) made.given made.outer made.result (made.first ∙ first) made.creator in
-    tells_first code p inputs (record { state = c.extend.new.self; frames = t; asked = SmallAsk brief.Begin; left = MAX_TICKS }) (reverse c.args.notes.items) prog.well_named behaves replay shows
+    tells_first code p inputs (record { state = c.extend.new.self; frames = t; asked = SmallAsk small_ask.Begin; left = MAX_TICKS }) (reverse c.args.notes.items) prog.well_named behaves replay shows
     (ap (λ v. v.items) more.events ∙ c.in_ok-with_capacity.ensures.items)
     (subst (λ (a : Activation Rest). Scoped p (with_cursor a replay.cursor) (root_frame p inputs) []) (sym top) scoped) c.new-3.ensures.below
     (ap (λ (a : Activation Rest). held_of a.cursor) top ∙ ap held_of made.cursor) refl refl

@@ -44,7 +44,7 @@ of_spec 𝓤 𝓛 𝓜 𝓡 wired =
     let p : Val = vptr a.0.ref_ptr.0 a.0.ref_ptr.1 in
     let q : Val = vptr a.1.0.ref_ptr.0 a.1.0.ref_ptr.1 in
     needs 𝓤 (HasEventOrderOn run a.0.now.opening a.1.0.now) (on_entry 𝓛 ended.signature κs qs a (p ∷ [], (q ∷ [], tt))) (λ has.
-    let told : Told.the_row.Denot = record { story = has.0 } in
+    let told : Told.the_row.Denot = record { event_order = has.0 } in
     let y : (walk_of 𝓛 ended hs c).Ghost = ((κs, qs, bounds, a, (p ∷ [], (q ∷ [], tt))), run) in
     let Post : Val → SProp 𝓤 = (walk_of 𝓛 ended hs c).post y in
     qed 𝓛 ((raw (alive 𝓛 ended.signature κs qs) ⊛ ‵ (owns (types_at ended.signature.params κs) a y.0.4)) ∷ []) ∵

@@ -21,7 +21,7 @@ use Rattle.cilk_replay.proofs.chain.Chain.look.Goals as goal
 pub returns-then-ne : goal.returns-then-ne
 returns-then-ne c =
     let i = c.self.inside in
-    subst (λ (z : ChainValue). IsAsked (along.story_of z.of) z.at → ⊥) c.self.view_is
+    subst (λ (z : ChainValue). IsAsked (along.event_order_of z.of) z.at → ⊥) c.self.view_is
     (along.differs_there i.of.value i.of.value refl i.at i.asked i.top.value i.below.items c.self.invariant c.args.kind
     (along.of_chain (λ s at. kind_of_event (event s at) ≡ Some c.args.kind) i.of.value i.at c.args.self.now c.self.view_is c.requires.kind)
     (λ q. differs_true the_type c.asked_sort.result c.kind_sort.result (sym c.ne.ensures ∙ c.if-ne.true) (c.asked_sort.ensures ∙ q ∙ sym c.kind_sort.ensures)))
@@ -34,7 +34,7 @@ pub returns-in-Read : goal.returns-in-Read
 returns-in-Read c =
     let i = c.self.inside in
     let same = ap (λ (v : ChainValue). v.of) c.self.view_is ∙ sym c.requires.course in
-    subst (λ (z : ChainValue). Says (along.story_of z.of) z.at c.args.kind c.look_at_cell.result) c.self.view_is
+    subst (λ (z : ChainValue). Says (along.event_order_of z.of) z.at c.args.kind c.look_at_cell.result) c.self.view_is
     (along.looks i.of.value i.of.value refl i.at i.asked i.top.value i.below.items c.self.invariant c.args.kind
     (along.of_chain (λ s at. kind_of_event (event s at) ≡ Some c.args.kind) i.of.value i.at c.args.self.now c.self.view_is c.requires.kind)
     c.in-Read.cell (of_cell c.args.kind c.in-Read.cell c.in-Read.is)
@@ -51,7 +51,7 @@ pub returns-in-Spawn : goal.returns-in-Spawn
 returns-in-Spawn c =
     let i = c.self.inside in
     let same = ap (λ (v : ChainValue). v.of) c.self.view_is ∙ sym c.requires.course in
-    subst (λ (z : ChainValue). Says (along.story_of z.of) z.at c.args.kind c.look_at_body.result) c.self.view_is
+    subst (λ (z : ChainValue). Says (along.event_order_of z.of) z.at c.args.kind c.look_at_body.result) c.self.view_is
     (along.looks_at_child i.of.value i.of.value refl i.at i.asked i.top.value i.below.items c.self.invariant c.args.kind
     (along.of_chain (λ s at. kind_of_event (event s at) ≡ Some c.args.kind) i.of.value i.at c.args.self.now c.self.view_is c.requires.kind)
     c.in-Spawn.child (of_child c.args.kind c.in-Spawn.child c.in-Spawn.is)
@@ -68,7 +68,7 @@ of_reducer k i (inr (inr (inr q))) = subst (IsOfReducer i) (sym q) refl
 pub returns-in-Create : goal.returns-in-Create
 returns-in-Create c =
     let i = c.self.inside in
-    subst (λ (z : ChainValue). Says (along.story_of z.of) z.at c.args.kind c.look_at_reducer.result) c.self.view_is
+    subst (λ (z : ChainValue). Says (along.event_order_of z.of) z.at c.args.kind c.look_at_reducer.result) c.self.view_is
     (along.looks_at_reducer i.of.value i.of.value refl i.at i.asked i.top.value i.below.items c.self.invariant c.args.kind
     (along.of_chain (λ s at. kind_of_event (event s at) ≡ Some c.args.kind) i.of.value i.at c.args.self.now c.self.view_is c.requires.kind)
     c.in-Create.instance (of_reducer c.args.kind c.in-Create.instance c.in-Create.is)
@@ -89,7 +89,7 @@ names_nothing k (inr (inr (inr (inr q)))) = nothing k kinds.Print q tt
 pub returns-in-Begin : goal.returns-in-Begin
 returns-in-Begin c =
     let i = c.self.inside in
-    subst (λ (z : ChainValue). IsAsked (along.story_of z.of) z.at) c.self.view_is
+    subst (λ (z : ChainValue). IsAsked (along.event_order_of z.of) z.at) c.self.view_is
     (along.asked_there i.of.value i.of.value refl i.at i.asked i.top.value i.below.items c.self.invariant c.args.kind
     (along.of_chain (λ s at. kind_of_event (event s at) ≡ Some c.args.kind) i.of.value i.at c.args.self.now c.self.view_is c.requires.kind)
     (sym c.asked_sort.ensures ∙ differs_false the_type (search rules) c.asked_sort.result c.kind_sort.result (sym c.ne.ensures ∙ c.if-ne.false) ∙ c.kind_sort.ensures)

@@ -7,10 +7,10 @@ use Rattle.cilk_replay.proofs.level.Level.begun.Goals as goal
 use Rattle.cilk_replay.proofs.level.Level.begun.Goals.{in-None+in_ok-cursor-in-None, in-Some-Turns+in_ok-cursor-in-Some-Turns}
 
 pub returns-clause-stands : goal.returns-clause-stands
-returns-clause-stands c = elim c.match-brief.branch [
-  | in-None+in_ok-cursor-in-None w ↦ begun_by c.args.course.now.code _ c.args.course.now.inputs c.args.asked.now w.invocation.result.0 (callees.Function w.invocation.result.1.now) _ c.match-brief.cursor
+returns-clause-stands c = elim c.match-small_ask.branch [
+  | in-None+in_ok-cursor-in-None w ↦ begun_by c.args.course.now.code _ c.args.course.now.inputs c.args.asked.now w.invocation.result.0 (callees.Function w.invocation.result.1.now) _ c.match-small_ask.cursor
       w.invocation.ensures c.code-code.ensures w.cursor-is w.in_ok-cursor-in-None.ensures.stands
-  | in-Some-Turns+in_ok-cursor-in-Some-Turns w ↦ begun_by c.args.course.now.code _ c.args.course.now.inputs c.args.asked.now _ (callees.Loop w.in-Some-Turns.part) _ c.match-brief.cursor
+  | in-Some-Turns+in_ok-cursor-in-Some-Turns w ↦ begun_by c.args.course.now.code _ c.args.course.now.inputs c.args.asked.now _ (callees.Loop w.in-Some-Turns.part) _ c.match-small_ask.cursor
       (w.in-Some-Turns.ensures ∙ ap in_full w.in-Some-Turns.field-0-is) c.code-code.ensures w.cursor-is w.in_ok-cursor-in-Some-Turns.ensures.stands
 ]
 

@@ -9,4 +9,4 @@ pub returns-clause-run : goal.returns-clause-run
 returns-clause-run c =
     let m = c.args.self.now in
     let many : c.len.result ≡ length m.code.now.layout.openings = search rules in
-    IfOk-weaker c.show.result (ShowsScheduler c.len.result m.board) (ShowsReached m.code.now m.input.now m.board) (λ shown h. shows_reached m.code.now m.input.now m.board c.len.result shown many h) c.show.ensures.run
+    IfOk-weaker c.show.result (ShowsScheduler c.len.result m.scheduler) (ShowsReached m.code.now m.input.now m.scheduler) (λ shown h. shows_reached m.code.now m.input.now m.scheduler c.len.result shown many h) c.show.ensures.run

@@ -35,7 +35,7 @@ of_spec 𝓤 𝓛 𝓜 𝓡 wired =
     proved 𝓛 ended hs c 𝓜 𝓡 (Goes-dropped 𝓛 1 arg yes (λ κs x f. refl), tt) #self code.function (code.unfolded 𝓤 H 𝓜 𝓡 wired)
     (λ κs. (shr_vals, tt)) (λ κs. (shr_Tells (named 0) κs.0 R, tt)) (λ κs qs bounds a along are.
     let p : Val = vptr a.0.ref_ptr.0 a.0.ref_ptr.1 in
-    let key : EventOrderKey.the_row.Denot = record { story = along a.0.now } in
+    let key : EventOrderKey.the_row.Denot = record { event_order = along a.0.now } in
     let y : (walk_of 𝓛 ended hs c).Ghost = ((κs, qs, bounds, a, (p ∷ [], tt)), along) in
     let Post : Val → SProp 𝓤 = (walk_of 𝓛 ended hs c).post y in
     qed 𝓛 ((raw (alive 𝓛 ended.signature κs qs) ⊛ ‵ (owns (types_at ended.signature.params κs) a y.0.4)) ∷ raw ((c κs a).requires along) ∷ []) ∵

@@ -16,7 +16,7 @@ pub invariant_of-self : goal.invariant_of-self
 invariant_of-self c =
     let g = c.self.inside.segment in
     let r = c.self.inside.reducers.value in
-    covers_kept r c.self.inside.views c.create.new.self g (shows_kept (kind_in r) c.self.inside.views c.create.new.self (events_over g.story r g.from g.upto) c.in_err-create.ensures.err c.self.invariant.shows) c.self.invariant
+    covers_kept r c.self.inside.views c.create.new.self g (shows_kept (kind_in r) c.self.inside.views c.create.new.self (events_over g.event_order r g.from g.upto) c.in_err-create.ensures.err c.self.invariant.shows) c.self.invariant
 
 pub invariant_of-self-2 : goal.invariant_of-self-2
 invariant_of-self-2 c =
@@ -25,4 +25,4 @@ invariant_of-self-2 c =
     let next = of_piece (λ (p : PieceValue). PassesOn p (events.Create c.args.instance)) c.self.view_is c.requires.next in
     let kind = of_piece (λ (p : PieceValue). c.args.kind ≡ kind_in p.reducers c.args.instance) c.self.view_is c.requires.kind in
     covers_event c.self.inside.views c.create.new.self r g c.self.invariant next.0 c.args.instance (Created c.args.instance) refl tt
-    (ap (of_event r (frame_in g.story.events g.upto)) next.1) c.args.kind kind _ c.in_ok-create.ensures.ok (after_created (structure_of c.args.kind) c.args.instance (value_in c.self.inside.views c.args.kind c.args.instance)) _ c.pass.ensures
+    (ap (of_event r (frame_in g.event_order.events g.upto)) next.1) c.args.kind kind _ c.in_ok-create.ensures.ok (after_created (structure_of c.args.kind) c.args.instance (value_in c.self.inside.views c.args.kind c.args.instance)) _ c.pass.ensures

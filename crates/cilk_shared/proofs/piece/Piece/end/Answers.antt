@@ -13,6 +13,6 @@ invariant_of-self c =
     let g = c.self.inside.segment in
     let r = c.self.inside.reducers.value in
     let next = of_piece (λ (p : PieceValue). PassesOn p events.End) c.self.view_is c.requires.next in
-    let mine = of_piece (λ (p : PieceValue). IsInFrame p.story.events p.upto c.args.frame) c.self.view_is c.requires.frame in
+    let mine = of_piece (λ (p : PieceValue). IsInFrame p.event_order.events p.upto c.args.frame) c.self.view_is c.requires.frame in
     let same = of_piece (λ (p : PieceValue). c.args.reducers.now ≡ p.reducers) c.self.view_is c.requires.reducers.0 in
     covers_end c.self.inside.views c.retire_own.new.views r g c.self.invariant next.0.0.0 (inr next.0.0.3) next.1 c.args.frame mine c.args.reducers.now same c.retire_own.ensures _ c.pass.ensures

@@ -16,9 +16,9 @@ invariant_of-self c =
     let r = c.self.inside.reducers.value in
     let of = of_piece (IsPieceOf y) c.self.view_is c.requires.yard in
     let next = of_piece (λ (p : PieceValue). NextFinish y (segment_of p)) c.self.view_is c.requires.next in
-    let law : IsOrderly g.story = subst IsOrderly (sym of.1) c.laws.ensures.order in
-    let is : what g.story g.upto ≡ finish = ap (λ (z : EventOrder). what z g.upto) of.1 ∙ next.1 in
-    let mine = of_piece (λ (p : PieceValue). IsInFrame p.story.events p.upto c.args.root) c.self.view_is c.requires.root in
+    let law : IsOrderly g.event_order = subst IsOrderly (sym of.1) c.laws.ensures.order in
+    let is : what g.event_order g.upto ≡ finish = ap (λ (z : EventOrder). what z g.upto) of.1 ∙ next.1 in
+    let mine = of_piece (λ (p : PieceValue). IsInFrame p.event_order.events p.upto c.args.root) c.self.view_is c.requires.root in
     let same = of_piece (λ (p : PieceValue). c.args.reducers.now ≡ p.reducers) c.self.view_is c.requires.reducers.0 in
-    covers_end c.self.inside.views c.retire_own.new.views r g c.self.invariant next.0.0 (behind_line g.story law g.from g.upto next.0.0 (subst IsLine (sym is) tt))
-    (finish_event g.story.events g.upto (event g.story g.upto) (after g.story g.upto) is) c.args.root mine c.args.reducers.now same c.retire_own.ensures _ c.finish.ensures
+    covers_end c.self.inside.views c.retire_own.new.views r g c.self.invariant next.0.0 (behind_line g.event_order law g.from g.upto next.0.0 (subst IsLine (sym is) tt))
+    (finish_event g.event_order.events g.upto (event g.event_order g.upto) (after g.event_order g.upto) is) c.args.root mine c.args.reducers.now same c.retire_own.ensures _ c.finish.ensures

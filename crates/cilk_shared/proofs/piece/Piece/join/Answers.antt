@@ -18,10 +18,10 @@ pub invariant_of-result-in-Err : goal.invariant_of-result-in-Err
 invariant_of-result-in-Err c =
     let g = c.left.inside.segment in
     let r = c.left.inside.reducers.value in
-    covers_kept r c.left.inside.views c.in-Err.views g (shows_same (kind_in r) c.left.inside.views c.in-Err.views (events_over g.story r g.from g.upto) c.in-Err.ensures.err.0 c.left.invariant.shows) c.left.invariant
+    covers_kept r c.left.inside.views c.in-Err.views g (shows_same (kind_in r) c.left.inside.views c.in-Err.views (events_over g.event_order r g.from g.upto) c.in-Err.ensures.err.0 c.left.invariant.shows) c.left.invariant
 
 pub invariant_of-result-in-Err-2 : goal.invariant_of-result-in-Err-2
 invariant_of-result-in-Err-2 c =
     let g = c.right.inside.segment in
     let r = c.right.inside.reducers.value in
-    covers_kept r c.right.inside.views c.in-Err.later_views g (shows_same (kind_in r) c.right.inside.views c.in-Err.later_views (events_over g.story r g.from g.upto) c.in-Err.ensures.err.1 c.right.invariant.shows) c.right.invariant
+    covers_kept r c.right.inside.views c.in-Err.later_views g (shows_same (kind_in r) c.right.inside.views c.in-Err.later_views (events_over g.event_order r g.from g.upto) c.in-Err.ensures.err.1 c.right.invariant.shows) c.right.invariant

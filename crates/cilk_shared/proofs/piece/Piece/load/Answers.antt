@@ -14,4 +14,4 @@ invariant_of-self c =
     let r = c.self.inside.reducers.value in
     let of = of_piece (IsPieceOf y) c.self.view_is c.requires.yard in
     let next = of_piece (λ (p : PieceValue). NextRead y (segment_of p) c.args.cell) c.self.view_is c.requires.next in
-    covers_line y c.laws.ensures.order c.self.inside.views r g of c.self.invariant next.0.0 (subst IsLine (sym (read_what y.story.events g.upto (event y.story g.upto) (after y.story g.upto) c.args.cell next.2.0 next.2.1)) tt) (quiet_read y.story r g.upto c.args.cell next.2.0 next.2.1) _ c.load.ensures.segment
+    covers_line y c.laws.ensures.order c.self.inside.views r g of c.self.invariant next.0.0 (subst IsLine (sym (read_what y.event_order.events g.upto (event y.event_order g.upto) (after y.event_order g.upto) c.args.cell next.2.0 next.2.1)) tt) (quiet_read y.event_order r g.upto c.args.cell next.2.0 next.2.1) _ c.load.ensures.segment

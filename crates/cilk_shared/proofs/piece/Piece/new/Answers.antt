@@ -8,7 +8,7 @@ use Rattle.cilk_shared.proofs.piece.Piece.new.Goals as goal
 
 pub invariant_of-result : goal.invariant_of-result
 invariant_of-result c =
-    let s : EventOrder = c.args.yard.now.story in
+    let s : EventOrder = c.args.yard.now.event_order in
     let same = c.requires.yard.1 in
     let r : Reducers = c.of.result.value in
     let r_is : r ≡ c.args.reducers.now = c.of.ensures in

@@ -13,4 +13,4 @@ invariant_of-self c =
     let r = c.self.inside.reducers.value in
     let of = of_piece (IsPieceOf y) c.self.view_is c.requires.yard in
     let next = of_piece (λ (p : PieceValue). NextSpawn y (segment_of p)) c.self.view_is c.requires.next in
-    covers_line y c.laws.ensures.order c.self.inside.views r g of c.self.invariant next.0.0 (subst IsLine (sym next.1) tt) (quiet_spawn y.story r g.upto next.1) _ c.offer.ensures.segment
+    covers_line y c.laws.ensures.order c.self.inside.views r g of c.self.invariant next.0.0 (subst IsLine (sym next.1) tt) (quiet_spawn y.event_order r g.upto next.1) _ c.offer.ensures.segment

@@ -16,7 +16,7 @@ pub invariant_of-self : goal.invariant_of-self
 invariant_of-self c =
     let g = c.self.inside.segment in
     let r = c.self.inside.reducers.value in
-    covers_kept r c.self.inside.views c.value.new.self g (shows_kept (kind_in r) c.self.inside.views c.value.new.self (events_over g.story r g.from g.upto) c.in_err-number.ensures.err c.self.invariant.shows) c.self.invariant
+    covers_kept r c.self.inside.views c.value.new.self g (shows_kept (kind_in r) c.self.inside.views c.value.new.self (events_over g.event_order r g.from g.upto) c.in_err-number.ensures.err c.self.invariant.shows) c.self.invariant
 
 pub invariant_of-self-2 : goal.invariant_of-self-2
 invariant_of-self-2 c =
@@ -31,7 +31,7 @@ returns-clause-number c =
     let g = c.self.inside.segment in
     let r = c.self.inside.reducers.value in
     let of = of_piece (IsPieceOf c.args.yard.now) c.self.view_is c.requires.yard in
-    let law : IsOrderly g.story = subst IsOrderly (sym of.1) c.laws.ensures.order in
+    let law : IsOrderly g.event_order = subst IsOrderly (sym of.1) c.laws.ensures.order in
     let next = of_piece (λ (p : PieceValue). PassesOn p (events.Value c.args.instance c.requires.next.0)) c.self.view_is c.requires.next.1 in
     let kind = of_piece (λ (p : PieceValue). c.args.kind ≡ kind_in p.reducers c.args.instance) c.self.view_is c.requires.kind in
     to_z-of_z w64 c.in_ok-number.number (search rules)

@@ -8,7 +8,7 @@ use Rattle.cilk_shared.proofs.yard.Yard.finish.Goals as goal
 pub store-requires : goal.store-requires
 store-requires c =
     let i = c.self.invariant in
-    let s : EventOrder = c.self.inside.table.shared.key.story in
+    let s : EventOrder = c.self.inside.table.shared.key.event_order in
     let me = c.segment.inside.seat.me in
     let a = c.segment.inside.from in
     let p = c.segment.inside.upto in
@@ -22,7 +22,7 @@ store-requires c =
 
 pub overflow_add-segment : goal.overflow_add-segment
 overflow_add-segment c =
-    let s : EventOrder = c.self.inside.table.shared.key.story in
+    let s : EventOrder = c.self.inside.table.shared.key.event_order in
     let me = c.segment.inside.seat.me in
     let a = c.segment.inside.from in
     let p = c.segment.inside.upto in
@@ -33,7 +33,7 @@ overflow_add-segment c =
 
 pub invariant_of-segment : goal.invariant_of-segment
 invariant_of-segment c =
-    let s : EventOrder = c.self.inside.table.shared.key.story in
+    let s : EventOrder = c.self.inside.table.shared.key.event_order in
     let me = c.segment.inside.seat.me in
     let a = c.segment.inside.from in
     let p = c.segment.inside.upto in

@@ -9,7 +9,7 @@ use Rattle.cilk_shared.proofs.yard.Yard.load.Goals as goal
 pub load-found-requires : goal.load-found-requires
 load-found-requires c =
     let i = c.self.invariant in
-    let s : EventOrder = c.self.inside.table.shared.key.story in
+    let s : EventOrder = c.self.inside.table.shared.key.event_order in
     let me = c.segment.inside.seat.me in
     let a = c.segment.inside.from in
     let p = c.segment.inside.upto in
@@ -24,7 +24,7 @@ load-found-requires c =
 
 pub overflow_add-segment : goal.overflow_add-segment
 overflow_add-segment c =
-    let s : EventOrder = c.self.inside.table.shared.key.story in
+    let s : EventOrder = c.self.inside.table.shared.key.event_order in
     let me = c.segment.inside.seat.me in
     let a = c.segment.inside.from in
     let p = c.segment.inside.upto in
@@ -36,7 +36,7 @@ overflow_add-segment c =
 
 pub invariant_of-segment : goal.invariant_of-segment
 invariant_of-segment c =
-    let s : EventOrder = c.self.inside.table.shared.key.story in
+    let s : EventOrder = c.self.inside.table.shared.key.event_order in
     let me = c.segment.inside.seat.me in
     let a = c.segment.inside.from in
     let p = c.segment.inside.upto in

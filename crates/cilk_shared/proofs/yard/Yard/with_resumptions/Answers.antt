@@ -50,7 +50,7 @@ invariant_of-yard g c =
     let Goal : EventOrder → Type 0 = λ k. IsOrderly k × (0 < c.in_ok-table.table.shared.table_id.words) × (c.in_ok-table.table.shared.table_id.slots ≡ 0) × (c.in_ok-table.table.shared.table_id.words ≡ length k.opening + (length k.events + 1)) × (length c.opening-cells.result.now ≡ length k.opening) × (length c.opening-cells.result.now + length k.events + 1 < 2 ^ 34) × HasValues k × AreResumptions k c.args.column.items in
     let count : length c.opening-cells.result.now ≡ length s.opening = ap length (c.opening-cells.ensures ∙ sym c.requires.0.opening) in
     let h : Goal s = (law, omega (arith, wide), t.1, wide, count, omega (arith, law.small, count), c.requires.1.0, resumptions plan s c.requires.0 c.args.column.items c.requires.1.1) in
-    let key : c.in_ok-table.table.shared.key.story ≡ s = ap (λ (k : EventOrderKey). k.story) t.5 ∙ c.of-key.ensures in
+    let key : c.in_ok-table.table.shared.key.event_order ≡ s = ap (λ (k : EventOrderKey). k.event_order) t.5 ∙ c.of-key.ensures in
     subst Goal (sym key) h
 
 pub invariant_of-segment : goal.invariant_of-segment
@@ -59,6 +59,6 @@ invariant_of-segment g c =
     let plan : EventOrder = c.args.plan.now in
     let s : EventOrder = g.along c.args.input.now in
     let first : Sits s (view s 1 2) 1 2 = first_sits s (orderly plan s c.laws.ensures.order c.requires.0) c.requires.1.0 in
-    let at : c.of-key.result.story ≡ s = c.of-key.ensures in
-    let mine : Sits c.of-key.result.story (view c.of-key.result.story 1 2) 1 2 = subst (λ (z : EventOrder). Sits z (view z 1 2) 1 2) (sym at) first in
-    (ap (λ m. m.1) t.4, subst (λ (v : View). Sits v.story v 1 2) (sym (ap (λ m. m.0) t.4)) mine)
+    let at : c.of-key.result.event_order ≡ s = c.of-key.ensures in
+    let mine : Sits c.of-key.result.event_order (view c.of-key.result.event_order 1 2) 1 2 = subst (λ (z : EventOrder). Sits z (view z 1 2) 1 2) (sym at) first in
+    (ap (λ m. m.1) t.4, subst (λ (v : View). Sits v.event_order v 1 2) (sym (ap (λ m. m.0) t.4)) mine)

@@ -1,7 +1,7 @@
 use Rattle.std.proofs.Common.{◌≡◌, ◌<◌, ℕ, Some, length, sym, subst, arith}
 use Rattle.cilk_types.specs.declared.event.Event.TheVariants.{Sync}
 use Rattle.cilk_tree.specs.Word.{event}
-use Rattle.cilk_workers.specs.Shared.{story_in}
+use Rattle.cilk_workers.specs.Shared.{event_order_in}
 use Rattle.cilk_workers.proofs.Keys.{widths, at, changed, number_at}
 use Rattle.cilk_workers.proofs.context.WorkerContext.arrive.Goals as goal
 
@@ -17,7 +17,7 @@ arrive_behind-requires-clause-key g c =
 pub arrive_behind-requires-clause-sync : goal.arrive_behind-requires-clause-sync
 arrive_behind-requires-clause-sync g c =
     let y = c.args.self.now.shared.now in
-    subst (λ (n : ℕ). event (story_in y) n ≡ Some Sync) (sym c.position-sync.ensures) (number_at (λ (n : ℕ). event (story_in y) n ≡ Some Sync) c.args.self.now.blocks.syncs.now c.args.block c.requires.station.syncs c.requires.block)
+    subst (λ (n : ℕ). event (event_order_in y) n ≡ Some Sync) (sym c.position-sync.ensures) (number_at (λ (n : ℕ). event (event_order_in y) n ≡ Some Sync) c.args.self.now.blocks.syncs.now c.args.block c.requires.context.syncs c.requires.block)
 
 pub returns-clause-keys : goal.returns-clause-keys
 returns-clause-keys g c =

@@ -10,4 +10,4 @@ at-requires g c =
     let upto : c.segment.result.now.upto ≡ c.args.piece.now.upto = ap (λ (h : SegmentValue). h.upto) lent in
     let some = c.requires.piece.1 in
     let last = c.upto-upto.ensures in
-    begins c.args.shared.now.run.story c.args.self.now.strands.now c.segment.result.now (c.upto-upto.result - 1) c.begun-strand.result c.requires.strands (ap (λ (h : SegmentValue). h.story) lent ∙ c.requires.piece.0.1) c.begun-strand.ensures c.if-strand-gt0.true (omega (arith, upto, some, last)) (omega (arith, from, some, last))
+    begins c.args.shared.now.run.event_order c.args.self.now.strands.now c.segment.result.now (c.upto-upto.result - 1) c.begun-strand.result c.requires.strands (ap (λ (h : SegmentValue). h.event_order) lent ∙ c.requires.piece.0.1) c.begun-strand.ensures c.if-strand-gt0.true (omega (arith, upto, some, last)) (omega (arith, from, some, last))

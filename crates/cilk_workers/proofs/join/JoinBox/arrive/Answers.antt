@@ -16,5 +16,5 @@ invariant_of-self c =
     let gone = gone_on j c.args.key c.args.piece b.gone b.chain c.args.chain c.self.invariant.1 refl comes in (
       subst (λ (z : Rows × Option ChainValue). IsClosed z.0 b.course.value b.sync z.1) (λ i. (sym c.in-Ok.ensures.ok i, sym c.settle.ensures i)) closed,
       subst (λ (z : Rows × Option ChainValue). IsGone b.gone z.0 z.1) (λ i. (sym c.in-Ok.ensures.ok i, sym c.settle.ensures i)) gone,
-      subst (λ (z : Rows). event z.of.story b.sync ≡ Some Sync) (sym c.in-Ok.ensures.ok) c.self.invariant.2,
+      subst (λ (z : Rows). event z.of.event_order b.sync ≡ Some Sync) (sym c.in-Ok.ensures.ok) c.self.invariant.2,
     )

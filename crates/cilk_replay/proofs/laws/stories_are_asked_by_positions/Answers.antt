@@ -1,5 +1,0 @@
-use Rattle.cilk_replay.proofs.Points.{asked_by_positions}
-use Rattle.cilk_replay.proofs.laws.stories_are_asked_by_positions.Goals as goal
-
-pub returns : goal.returns
-returns c = asked_by_positions

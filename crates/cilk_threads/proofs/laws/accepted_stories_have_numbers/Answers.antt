@@ -1,5 +1,0 @@
-use Rattle.cilk_threads.proofs.NumbersAlong.{accepted_have_numbers}
-use Rattle.cilk_threads.proofs.laws.accepted_stories_have_numbers.Goals as goal
-
-pub returns : goal.returns
-returns c = accepted_have_numbers

@@ -1,7 +1,0 @@
-use Rattle.std.proofs.Common.{◌≡◌}
-use Rattle.std.specs.Prelude.{All}
-use Rattle.cilk_threads.specs.WorkerSeeds.{IsWorkerSeed}
-use Rattle.cilk_threads.proofs.pool.fn.crew.scope.Given as goal
-
-abbrev pub invariant-each : goal.invariant-each
-invariant-each g l = All (IsWorkerSeed l.shared.now l.doors.now.items) l.kits.items × All (λ h. h.promise.shared.now ≡ l.shared.now) l.handles.items
