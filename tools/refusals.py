@@ -50,7 +50,7 @@ def row(line, example, place):
 
 def item(line, example, place):
     text = f"- `{line}`, by {example}: {place}"
-    return textwrap.wrap(text, 130, subsequent_indent="  ", break_long_words=False, break_on_hyphens=False)
+    return textwrap.wrap(text, 138, subsequent_indent="  ", break_long_words=False, break_on_hyphens=False)
 
 
 def rewritten(document, known):
