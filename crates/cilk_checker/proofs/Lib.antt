@@ -11,3 +11,4 @@ pub mod OneVerdict
 pub mod Pieces
 pub mod Standing
 pub mod Tallying
+pub mod ConsistentCuts

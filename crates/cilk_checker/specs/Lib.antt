@@ -13,3 +13,4 @@ pub mod Stops
 pub mod Tallies
 pub mod Texts
 pub mod Told
+pub mod ConsistentCuts

@@ -22,6 +22,7 @@
 //! | [`judge::program`] | the program that a text means, or its first fault |
 //! | [`ending::run_to_end`] | how a serial run ends, its events, and its frames with their cells |
 //! | [`laws::texts_have_one_verdict`] | three texts have at most one verdict |
+//! | [`laws::accepted_runs_have_consistent_cuts`] | each state of an accepted run is such a cut |
 //!
 //! ```text
 //! check(alloc, b"int main(){return 0;}", b"", certificate)  // Ok(a), a.outcome().result is 0

@@ -1,2 +1,4 @@
 pub mod Scripts
 pub mod OneScript
+pub mod Spellings
+pub mod ScriptGrammar

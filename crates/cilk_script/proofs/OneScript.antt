@@ -3,14 +3,14 @@
 -- - `not_both`: a line has a form or not;
 -- - `one_order`, `one_failure`, `apart`: from a line on;
 -- - `script_is_one`: the law.
-use Rattle.std.proofs.Common.{◌≡◌, ◌⊎◌, inl, inr, ⊎_elim, ◌+◌, ◌-◌, ◌<◌, ◌≤◌, ℕ, suc, true, false, true≢false, List, [], ◌∷◌, ◌++◌, length, Some, None, refl, sym, ap, ◌∙◌, subst, arith}
+use Rattle.std.proofs.Common.{◌≡◌, ⊎_elim, ◌-◌, ℕ, suc, true≢false, List, [], ◌∷◌, ◌++◌, length, Some, None, refl, sym, ap, ◌∙◌, subst, arith}
 use Rattle.cilk_syntax.specs.Lexing.{behind, front_of}
 use Rattle.cilk_syntax.specs.declared.lexer.Class.TheVariants.{Line}
 use Rattle.cilk_script.specs.Scripts.{LexErrorKind, BadLine, Ends, FailsAtLine, IsBadLine, IsLine, Last, Later, Long, LongLine, Orders, order_in, steps_of, without_return}
 use Rattle.cilk_script.specs.OneScript.{ScriptIsOne}
 use Rattle.cilk_script.specs.declared.script.Step.{Step}
 
-not_both : (line : List ℕ) → IsLine line → IsBadLine line → ⊥
+pub not_both : (line : List ℕ) → IsLine line → IsBadLine line → ⊥
 not_both line h k = ⊎_elim (λ silent. true≢false (sym silent ∙ k.0)) (λ o. let e : None ≡ Some o.0 = sym k.1 ∙ o.1 in let f : ⊥ = cc in f) h
 
 no_line : (l : List ℕ) (b : ℕ) (rest : List ℕ) → l ≡ [] → l ≡ b ∷ rest → ⊥

@@ -1,3 +1,4 @@
 pub mod Choices
 pub mod Scripts
 pub mod OneScript
+pub mod ScriptGrammar

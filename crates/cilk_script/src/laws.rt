@@ -1,8 +1,9 @@
-//! Laws of scripts: their limits, and that a text has one meaning. Each law is the contract of a
-//! function that does nothing.
+//! Laws of scripts: their limits, that a text has one meaning, and that this is the grammar's. Each
+//! law is the contract of a function that does nothing.
 
 ghost use Rattle.std.specs.Prelude.{◌≡◌};
 ghost use Rattle.cilk_script.specs.OneScript.{ScriptIsOne};
+ghost use Rattle.cilk_script.specs.ScriptGrammar.{GrammarsAgree};
 ghost use Rattle.cilk_script.specs.declared.choices.TheConstants.{MAX_CHOICES};
 ghost use Rattle.cilk_script.specs.declared.script.TheConstants.{MAX_NUMBER, MAX_SCRIPT};
 
@@ -17,4 +18,11 @@ pub fn limits_are()
 #[tactic(auto, using(crate::proofs::OneScript::script_is_one))]
 pub fn script_is_one()
     ensures { ScriptIsOne }
+{}
+
+/// A text is a script of the steps that its lines spell by the grammar, and it fails at its first
+/// line that is none of the grammar's or has the first byte too many.
+#[tactic(auto, using(crate::proofs::ScriptGrammar::grammars_agree))]
+pub fn grammars_agree()
+    ensures { GrammarsAgree }
 {}

@@ -18,7 +18,7 @@
 //! |---|---|
 //! | [`script::read`] | Parses a text into [`script::Step`]s, or reports its first bad line. |
 //! | [`choices::Choices`] | Expands steps into single choices, without allocating. |
-//! | [`laws`] | The limits by number, and that a text has one meaning. |
+//! | [`laws`] | The limits by number, and that a text has one meaning, that of the grammar. |
 //!
 //! ```text
 //! // Worker 1 makes four choices, worker 2 steals the first continuation, then all run to the end.
