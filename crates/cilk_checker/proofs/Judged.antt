@@ -39,7 +39,7 @@ pub true_answer : (program input : List ℕ) (known : Option (List ℕ)) (m : Me
     → IsUnaccepted m.source inputs known failed failed' e → IsTrueAnswer program input known failed failed' e
 true_answer program input known m inputs failed failed' t (unaccepted.Refusal r) h =
     true_refusal program input known m inputs t r h
-true_answer program input known m inputs failed failed' t unaccepted.Unread h = h
+true_answer program input known m inputs failed failed' t unaccepted.Unread h = ((m, inputs, t), h)
 
 pub not_of_texts : (p : Source) (inputs : List ℤ) (known : Option (List ℕ)) (failed failed' : ℕ) (e : Unaccepted)
     → IsUnaccepted p inputs known failed failed' e → IsOfTexts e → ⊥

@@ -3,6 +3,7 @@ pub mod Checked
 pub mod Differences
 pub mod FirstFound
 pub mod Firsts
+pub mod Formed
 pub mod Judged
 pub mod JudgedTexts
 pub mod Noting
@@ -10,5 +11,6 @@ pub mod OneMeaning
 pub mod OneVerdict
 pub mod Pieces
 pub mod Standing
+pub mod Taking
 pub mod Tallying
 pub mod ConsistentCuts

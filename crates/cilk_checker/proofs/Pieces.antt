@@ -6,8 +6,8 @@ use Rattle.cilk_cert_text.specs.declared.fault.CertFault.TheVariants.{Malformed,
 use Rattle.cilk_cert_text.specs.declared.line.Line.{Line}
 use Rattle.cilk_cert_text.specs.declared.reader.LineReader.{LineReader}
 use Rattle.cilk_cert_text.specs.Certificates.{Contents}
-use Rattle.cilk_cert_text.specs.Reading.{Reading, reading_of, stops, whole, with_line}
-use Rattle.cilk_cert_text.specs.Readers.{ahead, with_lines}
+use Rattle.cilk_cert_text.specs.Reading.{Reading, reading_of, stops, whole}
+use Rattle.cilk_cert_text.specs.Readers.{ahead, fault_of, with_lines}
 use Rattle.cilk_cert_text.specs.Gathering.{nothing, gathered, with_said}
 use Rattle.cilk_checker.specs.declared.right.Right.{Right}
 use Rattle.cilk_checker.specs.declared.tally.Tally.{Tally}
@@ -23,18 +23,20 @@ gathered_last c (y ∷ xs) x = gathered_last (with_said c y) xs x
 -- a line became whole
 pub heard_line : (r : Right) (text rest rest' : List ℕ) (reader reader' : LineReader) (t t' : Tally) (line : Line)
     → ((more : List ℕ) → ahead reader (rest ++ more) ≡ with_lines (Some line) (ahead reader' (rest' ++ more)))
-    → ((c : Contents) → Tallied r c t → Tallied r (with_said c line) t') → Heard r text rest reader t → Heard r text rest' reader' t'
-heard_line r text rest rest' reader reader' t t' line law next h = record {
+    → ((c : Contents) → Tallied r c t → Tallied r (with_said c line) t') → fault_of reader' ≡ None → Heard r text rest reader t
+    → Heard r text rest' reader' t'
+heard_line r text rest rest' reader reader' t t' line law next silent h = record {
   lines = h.lines ++ line ∷ [];
   ahead_is = λ more.
       h.ahead_is more ∙ ap (behind_lines h.lines) (law more)
       ∙ ap (λ (ls : List Line). record { lines = ls; fault = (ahead reader' (rest' ++ more)).fault }) (sym (append_assoc h.lines (line ∷ []) (ahead reader' (rest' ++ more)).lines));
   tallied = rw (gathered_last nothing h.lines line) (next (gathered nothing h.lines) h.tallied);
+  silent = silent;
 }
 
 -- ---- a source
 
-heard_fault_end : (r : Right) (text : List ℕ) (reader : LineReader) (t : Tally) (f : CertFault) → Heard r text [] reader t → ahead reader [] ≡ stops f → (reading_of (text ++ [])).fault ≡ Some f
+pub heard_fault_end : (r : Right) (text : List ℕ) (reader : LineReader) (t : Tally) (f : CertFault) → Heard r text [] reader t → ahead reader [] ≡ stops f → (reading_of (text ++ [])).fault ≡ Some f
 heard_fault_end r text reader t f h e = ap (λ (x : Reading). x.fault) (h.ahead_is [] ∙ ap (behind_lines h.lines) e)
 
 -- the text has ended whole

@@ -7,6 +7,7 @@ pub mod Judging
 pub mod Numbers
 pub mod OneMeaning
 pub mod OneVerdict
+pub mod Pulls
 pub mod Refusals
 pub mod Runs
 pub mod Stops

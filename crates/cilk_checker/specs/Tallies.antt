@@ -1,14 +1,12 @@
 -- The comparison of the lines so far with the run.
-use Rattle.std.specs.Prelude.{◌≡◌, ◌≢◌, ℕ, ◌<◌, ◌^◌, false, List, ◌++◌, take, length, Some}
+use Rattle.std.specs.Prelude.{◌≡◌, ◌≢◌, ℕ, ◌<◌, ◌^◌, false, List, ◌++◌, take, length, Some, None}
 use Rattle.cilk_cert_text.specs.declared.fault.CertFault.{CertFault}
 use Rattle.cilk_cert_text.specs.declared.fault.CertFault.TheVariants.{Memory}
-use Rattle.cilk_cert_text.specs.declared.line.Frame.{Frame}
-use Rattle.cilk_cert_text.specs.declared.line.Strand.{Strand}
 use Rattle.cilk_cert_text.specs.declared.line.Line.{Line}
 use Rattle.cilk_cert_text.specs.declared.reader.LineReader.{LineReader}
 use Rattle.cilk_cert_text.specs.Certificates.{Contents}
 use Rattle.cilk_cert_text.specs.Reading.{Reading, reading_of}
-use Rattle.cilk_cert_text.specs.Readers.{ahead}
+use Rattle.cilk_cert_text.specs.Readers.{ahead, fault_of}
 use Rattle.cilk_cert_text.specs.Gathering.{nothing, gathered, with_said}
 use Rattle.cilk_cert_maker.specs.Sources.{AllFit, AreLast}
 use Rattle.cilk_cert_maker.specs.Listed.{creations, ListsEvent, HasSource}
@@ -53,6 +51,7 @@ pub record Heard (r : Right) (text rest : List ℕ) (reader : LineReader) (t : T
   pub lines : List Line
   pub ahead_is : (more : List ℕ) → reading_of (text ++ more) ≡ behind_lines lines (ahead reader (rest ++ more))
   pub tallied : Tallied r (gathered nothing lines) t
+  pub silent : fault_of reader ≡ None
 
 -- memory ran out, or every text that begins like this has this fault
 abbrev pub IsFaultOf : List ℕ → CertFault → Type 0

@@ -32,9 +32,11 @@ module _ (program input : List ℕ) where
   IsTrueRefusal known r =
       (m : Meant) × (inputs : List ℤ) × AreTexts program input m inputs × IsRefusedText m.source inputs known r
 
+  -- A true refusal. Or the source's device failed, which is told only of texts without a fault.
   abbrev pub IsTrueAnswer : Option (List ℕ) → ℕ → ℕ → Unaccepted → Type 0
   IsTrueAnswer known failed failed' (unaccepted.Refusal r) = IsTrueRefusal known r
-  IsTrueAnswer known failed failed' unaccepted.Unread = failed < failed'
+  IsTrueAnswer known failed failed' unaccepted.Unread =
+      ((m : Meant) × (inputs : List ℤ) × AreTexts program input m inputs) × (failed < failed')
 
 -- the error is a fault of the program text or of the input text
 abbrev pub IsOfTexts : Unaccepted → Type 0
@@ -42,6 +44,14 @@ IsOfTexts (unaccepted.Refusal (refusals.Program fault place)) = Unit {0}
 IsOfTexts (unaccepted.Refusal (refusals.Name fault place)) = Unit {0}
 IsOfTexts (unaccepted.Refusal (refusals.Input fault place)) = Unit {0}
 IsOfTexts _ = ⊥
+
+-- the refusal is a fault of the program text or of the input text, or memory ran out
+abbrev pub IsJudgement : Refusal → Type 0
+IsJudgement (refusals.Program fault place) = Unit {0}
+IsJudgement (refusals.Name fault place) = Unit {0}
+IsJudgement (refusals.Input fault place) = Unit {0}
+IsJudgement refusals.Memory = Unit {0}
+IsJudgement _ = ⊥
 
 -- The texts have no fault, the serial run ends without one, no two positions of it race, and the
 -- source gives its right certificate.

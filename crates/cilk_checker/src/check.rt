@@ -4,6 +4,7 @@ ghost use Rattle.std.specs.Prelude.{◌≡◌, ◌<◌, IfOk, IfErr, OnOk};
 ghost use Rattle.cilk_program.specs.Sources.{source as source_of};
 ghost use Rattle.cilk_checker.specs.Runs.{EndsWith};
 ghost use Rattle.cilk_checker.specs.Answers.{IsCertified, IsUnaccepted};
+ghost use Rattle.cilk_checker.specs.Pulls.{TakesAll, TakesUntil};
 
 use crate::accepted::Accepted;
 use crate::compare::{ended, stopped};
@@ -36,6 +37,8 @@ pub fn check_run<S: Source>(
         IsCertified (source_of program) input (S.remaining source.old) a.trace a.outcome) }
     ensures unaccepted { let failed = S.failed source.old in let failed' = S.failed source.new in
         IfErr result (λ e. IsUnaccepted (source_of program) input (S.remaining source.old) failed failed' e) }
+    ensures whole { OnOk result (TakesAll (S.remaining source.old) (S.remaining source.new)) }
+    ensures part { IfErr result (λ e. TakesUntil (S.remaining source.old) (S.remaining source.new) e) }
     ensures uncounted { OnOk result (S.failed source.new ≡ S.failed source.old) }
     ensures lender { S.lender source.new ≡ S.lender source.old }
     ensures kept { S.kept source.new ≡ S.kept source.old }
@@ -63,6 +66,8 @@ pub fn check_end<S: Source>(
         IsCertified (source_of program) input (S.remaining source.old) a.trace a.outcome) }
     ensures unaccepted { let failed = S.failed source.old in let failed' = S.failed source.new in
         IfErr result (λ e. IsUnaccepted (source_of program) input (S.remaining source.old) failed failed' e) }
+    ensures whole { OnOk result (TakesAll (S.remaining source.old) (S.remaining source.new)) }
+    ensures part { IfErr result (λ e. TakesUntil (S.remaining source.old) (S.remaining source.new) e) }
     ensures uncounted { OnOk result (S.failed source.new ≡ S.failed source.old) }
     ensures lender { S.lender source.new ≡ S.lender source.old }
     ensures kept { S.kept source.new ≡ S.kept source.old }

@@ -5,6 +5,8 @@ ghost use Rattle.cilk_cert_text.specs.Gathering.{nothing};
 ghost use Rattle.cilk_cert_text.specs.Readers.{room_of};
 ghost use Rattle.cilk_checker.specs.Tallies.{AreFew, Heard, IsFaultOf, Tallied};
 ghost use Rattle.cilk_checker.specs.Stops.{IsHeard, IsStop};
+ghost use Rattle.cilk_checker.specs.Pulls.{IsEarly, TakesAll, TakesUntil};
+ghost use Rattle.cilk_checker.specs.Told.{told};
 
 use crate::right::Right;
 use crate::source::{PullFault, Source};
@@ -30,6 +32,7 @@ fn hear_line(
     ensures progress { IfOk result (λ n. n ≡ 0 → piece.now ≡ []) }
     ensures fault { (text : List ℕ) → Heard right.now text piece.now reader.old tally.old
         → IfErr result (λ fault. IsFaultOf text fault) }
+    ensures early { IfErr result (λ fault. IsEarly fault) }
 {
     if let Some(line) = tally.due(right) {
         if let Some(taken) = reader.pass(piece, line) {
@@ -58,6 +61,7 @@ fn hear(
     ensures room { OnOk result (room_of reader.new + length piece.now ≤ room_of reader.old) }
     ensures fault { (text : List ℕ) → Heard right.now text [] reader.old tally.old
         → IfErr result (λ fault. IsFaultOf (text ++ piece.now) fault) }
+    ensures early { IfErr result (λ fault. IsEarly fault) }
 {
     let mut rest = piece;
     'lines: while !rest.is_empty() {
@@ -97,6 +101,8 @@ fn hear_all<S: Source>(tally: &mut Tally, right: &Right, source: &mut S) -> Resu
     requires counted { S.failed source.old < 18446744073709551615 }
     ensures heard { OnOk result (IsHeard right.now (S.remaining source.old) tally.new) }
     ensures stop { IfErr result (λ e. IsStop (S.remaining source.old) (S.failed source.old) (S.failed source.new) e) }
+    ensures whole { OnOk result (TakesAll (S.remaining source.old) (S.remaining source.new)) }
+    ensures part { IfErr result (λ e. TakesUntil (S.remaining source.old) (S.remaining source.new) (told e)) }
     ensures uncounted { OnOk result (S.failed source.new ≡ S.failed source.old) }
     ensures lender { S.lender source.new ≡ S.lender source.old }
     ensures kept { S.kept source.new ≡ S.kept source.old }
@@ -128,6 +134,8 @@ pub fn heard<S: Source>(alloc: Global, right: &Right, source: &mut S) -> Result<
     requires counted { S.failed source.old < 18446744073709551615 }
     ensures heard { IfOk result (λ t. IsHeard right.now (S.remaining source.old) t) }
     ensures stop { IfErr result (λ e. IsStop (S.remaining source.old) (S.failed source.old) (S.failed source.new) e) }
+    ensures whole { OnOk result (TakesAll (S.remaining source.old) (S.remaining source.new)) }
+    ensures part { IfErr result (λ e. TakesUntil (S.remaining source.old) (S.remaining source.new) (told e)) }
     ensures uncounted { OnOk result (S.failed source.new ≡ S.failed source.old) }
     ensures lender { S.lender source.new ≡ S.lender source.old }
     ensures kept { S.kept source.new ≡ S.kept source.old }

@@ -5,8 +5,9 @@ ghost use Rattle.cilk_program.specs.Sources.{source as source_of};
 ghost use Rattle.cilk_parser.specs.Inputs.{IsInput};
 ghost use Rattle.cilk_checker.specs.Judging.{IsProgramText, Meant, meant as meant_by};
 ghost use Rattle.cilk_checker.specs.Answers.{IsCertified};
+ghost use Rattle.cilk_checker.specs.Pulls.{TakesAll, TakesUntil};
 ghost use Rattle.cilk_checker.specs.OneVerdict.{AnswersOne, AnswersOnly, IsNoVerdict};
-ghost use Rattle.cilk_checker.specs.Texts.{AreTexts, IsOfTexts, IsTrueAnswer, IsTrueRefusal};
+ghost use Rattle.cilk_checker.specs.Texts.{AreTexts, IsJudgement, IsOfTexts, IsTrueAnswer, IsTrueRefusal};
 
 use crate::accepted::Accepted;
 use crate::check::check_run;
@@ -22,10 +23,12 @@ use std::alloc::Global;
 
 /// Checks a certificate from a source against a program text and an input text.
 ///
-/// The two texts are judged before a byte is pulled. The certificate is accepted exactly if the
-/// texts have no fault, the run ends without a fault, the certificate is right, and no two
-/// positions of the run race. Otherwise the error is the first failing check. Out of memory and a
-/// failing device are the only errors that say nothing about the texts.
+/// The two texts are judged before a byte is pulled. Pulling stops once a line is malformed; before
+/// that, at most 134,217,728 bytes are taken. The certificate is accepted exactly if the texts have
+/// no fault, the run ends without a fault, the certificate is right, and no two positions of it
+/// race. Otherwise the error is the first failing check. Out of memory and a failing device are the
+/// only errors that say nothing about the certificate; a failing device is the error only if the
+/// texts have no fault.
 pub fn check_from<S: Source>(
     alloc: Global,
     program: &[u8],
@@ -39,6 +42,8 @@ pub fn check_from<S: Source>(
     ensures unaccepted { let failed = S.failed source.old in let failed' = S.failed source.new in
         IfErr result (λ e. IsTrueAnswer program.now input.now (S.remaining source.old) failed failed' e) }
     ensures unpulled { IfErr result (λ e. IsOfTexts e → source.new ≡ source.old) }
+    ensures whole { OnOk result (TakesAll (S.remaining source.old) (S.remaining source.new)) }
+    ensures part { IfErr result (λ e. (IsOfTexts e → ⊥) → TakesUntil (S.remaining source.old) (S.remaining source.new) e) }
     ensures uncounted { OnOk result (S.failed source.new ≡ S.failed source.old) }
     ensures only { (text : List ℕ) → S.remaining source.old ≡ Some text
         → AnswersOnly program.now input.now text result (λ e. IsNoVerdict e) }
@@ -77,6 +82,7 @@ pub fn meaning(alloc: Global, text: &[u8]) -> Result<Program, Refusal>
     ensures meant { IfOk result (λ p. IsProgramText text.now (meant_by p)) }
     ensures fault { IfErr result (λ r. (input : List ℕ) (known : Option (List ℕ))
         → IsTrueRefusal text.now input known r) }
+    ensures judgement { IfErr result (λ r. IsJudgement r) }
 {
     match program(alloc, text) {
         Ok(meant) => Ok(meant),
@@ -91,6 +97,7 @@ pub fn numbers(alloc: Global, text: &[u8]) -> Result<Input, Refusal>
     ensures numbers { IfOk result (λ ns. IsInput text.now ns) }
     ensures fault { IfErr result (λ r. (program : List ℕ) (m : Meant) (known : Option (List ℕ))
         → IsProgramText program m → IsTrueRefusal program text.now known r) }
+    ensures judgement { IfErr result (λ r. IsJudgement r) }
 {
     match parse_input(alloc, text) {
         Ok(numbers) => Ok(numbers),

@@ -4,6 +4,7 @@ use Rattle.cilk_types.specs.declared.event.Event.{Event}
 use Rattle.cilk_program.specs.Sources.{source}
 use Rattle.cilk_tree.specs.Shape.{Spells}
 use Rattle.cilk_checker.proofs.Checked.{certified, frames_at, ran_at, refused_before, run_creates, run_spelled, stops_at}
+use Rattle.cilk_checker.proofs.Taking.{until_before}
 use Rattle.cilk_checker.proofs.check.check_end.Goals as goal
 
 pub returns-in_err-refusal-in-Stopped-clause-unaccepted : goal.returns-in_err-refusal-in-Stopped-clause-unaccepted
@@ -61,3 +62,25 @@ returns-in_ok-ended-in-Left-clause-accepted g c =
     rw (c.new.ensures, c.into_trace-trace.ensures)
     (certified p c.args.input (g.S.Source.remaining c.args.source.now) c.args.program.well_named c.serial_runs_settle.ensures c.in-Left.outcome es ran
     (λ s spells created. c.in_ok-ended-in-Left.ensures.clean s (c.in_ok-right-in-Left.ensures.columns s (subst (λ (l : List Event). Spells s l) same spells)) created))
+
+pub returns-in_err-refusal-in-Stopped-clause-part : goal.returns-in_err-refusal-in-Stopped-clause-part
+returns-in_err-refusal-in-Stopped-clause-part g c =
+    let q = err_from_is_err_and c.from_residual-in_err-refusal-in-Stopped.result c.from_residual-in_err-refusal-in-Stopped.ensures.1 in
+    rw (q.1, q.2) c.in_err-refusal-in-Stopped.ensures.part
+
+pub returns-in_ok-refusal-in-Stopped-clause-part : goal.returns-in_ok-refusal-in-Stopped-clause-part
+returns-in_ok-refusal-in-Stopped-clause-part g c =
+    let found = c.in_ok-refusal-in-Stopped.ensures.refused in
+    until_before (g.S.Source.remaining c.args.source.now) (g.S.Source.remaining c.stopped.new.source) c.in_ok-right-in-Stopped.right.trace found.certificate c.in_ok-refusal-in-Stopped.refusal
+    found.holds c.in_ok-refusal-in-Stopped.ensures.whole
+
+pub returns-in_err-ended-in-Left-clause-part : goal.returns-in_err-ended-in-Left-clause-part
+returns-in_err-ended-in-Left-clause-part g c =
+    let p = source c.args.program in
+    let es = c.in_ok-right-in-Left.right.trace in
+    let same = c.in_ok-right-in-Left.ensures.trace in
+    let ran = ran_at p c.args.input c.args.end c.in-Left.outcome c.in-Left.frames c.args.trace es c.in-Left.is c.requires.ends same in
+    let e = run_spelled p c.args.input c.args.program.well_named c.in-Left.outcome es ran in
+    let columns = c.in_ok-right-in-Left.ensures.columns e.0 (subst (λ (l : List Event). Spells e.0 l) same e.1.spells) in
+    let q = err_from_is_err_and c.from_residual-in_err-ended-in-Left.result c.from_residual-in_err-ended-in-Left.ensures.1 in
+    rw (q.1, q.2) (c.in_err-ended-in-Left.ensures.part e.0 columns (run_creates p c.args.input c.args.program.well_named c.in-Left.outcome es ran))

@@ -1,5 +1,6 @@
 use Rattle.std.proofs.lemmas.Result.{err_from_is_err_and}
 use Rattle.cilk_checker.proofs.Checked.{refused_at_end, told_true, with_holds}
+use Rattle.cilk_checker.proofs.Taking.{until_found}
 use Rattle.cilk_checker.proofs.compare.ended.Goals as goal
 
 pub returns-clause-clean : goal.returns-clause-clean
@@ -15,3 +16,14 @@ pub returns-in_err-tally-clause-refused : goal.returns-in_err-tally-clause-refus
 returns-in_err-tally-clause-refused g c =
     let q = err_from_is_err_and c.from_residual.result c.from_residual.ensures.1 in
     rw (q.1, q.2) (λ p inputs s columns e created. told_true p inputs (g.S.Source.remaining c.args.source.now) (g.S.Source.failed c.args.source.now) (g.S.Source.failed c.heard.new.source) c.in_err-tally.field-0.0 c.in_err-tally.ensures.stop)
+
+pub returns-in-Some-clause-part : goal.returns-in-Some-clause-part
+returns-in-Some-clause-part g c = λ s columns created.
+    let h = c.in_ok-tally.ensures.heard in
+    until_found (g.S.Source.remaining c.args.source.now) (g.S.Source.remaining c.heard.new.source) s c.args.right.now.trace c.args.outcome.now.result h.certificate c.in-Some.refusal
+    (rw c.in-Some.is at (c.in_ok-refusal.ensures s h.certificate columns created h.holds)) c.in_ok-tally.ensures.whole
+
+pub returns-in_err-tally-clause-part : goal.returns-in_err-tally-clause-part
+returns-in_err-tally-clause-part g c =
+    let q = err_from_is_err_and c.from_residual.result c.from_residual.ensures.1 in
+    rw (q.1, q.2) (λ s columns created. c.in_err-tally.ensures.part)

@@ -9,3 +9,8 @@ pub returns-in_err-tally-clause-unaccepted : goal.returns-in_err-tally-clause-un
 returns-in_err-tally-clause-unaccepted g c =
     let q = err_from_is_err_and c.from_residual.result c.from_residual.ensures.1 in
     rw (q.1, q.2) (λ p inputs. told_true p inputs (g.S.Source.remaining c.args.source.now) (g.S.Source.failed c.args.source.now) (g.S.Source.failed c.heard.new.source) c.in_err-tally.field-0.0 c.in_err-tally.ensures.stop)
+
+pub returns-in_err-tally-clause-part : goal.returns-in_err-tally-clause-part
+returns-in_err-tally-clause-part g c =
+    let q = err_from_is_err_and c.from_residual.result c.from_residual.ensures.1 in
+    rw (q.1, q.2) c.in_err-tally.ensures.part

@@ -3,6 +3,7 @@ use Rattle.cilk_program.specs.Sources.{source}
 use Rattle.cilk_checker.specs.Judging.{meant}
 use Rattle.cilk_checker.proofs.Judged.{certified_kept, not_of_texts, texts_kept, true_answer}
 use Rattle.cilk_checker.proofs.OneVerdict.{one_by, only_by}
+use Rattle.cilk_checker.proofs.Taking.{until_judged}
 use Rattle.cilk_checker.proofs.texts.check_from.Goals as goal
 
 pub returns-in_err-meant-clause-unaccepted : goal.returns-in_err-meant-clause-unaccepted
@@ -84,3 +85,18 @@ returns-clause-unpulled g c =
     (g.S.Source.remaining c.args.source.now) (g.S.Source.failed c.args.source.now)
     (g.S.Source.failed c.check_run.new.source) e h t))
     c.check_run.ensures.unaccepted
+
+pub returns-in_err-meant-clause-part : goal.returns-in_err-meant-clause-part
+returns-in_err-meant-clause-part g c =
+    let q = err_from_is_err_and c.from_residual.result c.from_residual.ensures.1 in
+    let known = g.S.Source.remaining c.args.source.now in
+    rw (q.1, q.2) (until_judged known known c.in_err-meant.field-0.0 c.in_err-meant.ensures.judgement)
+
+pub returns-in_err-numbers-clause-part : goal.returns-in_err-numbers-clause-part
+returns-in_err-numbers-clause-part g c =
+    let q = err_from_is_err_and c.from_residual-in_err-numbers.result c.from_residual-in_err-numbers.ensures.1 in
+    let known = g.S.Source.remaining c.args.source.now in
+    rw (q.1, q.2) (until_judged known known c.in_err-numbers.field-0.0 c.in_err-numbers.ensures.judgement)
+
+pub returns-clause-part : goal.returns-clause-part
+returns-clause-part g c = IfErr-weaker c.check_run.result _ _ (λ e h other. h) c.check_run.ensures.part

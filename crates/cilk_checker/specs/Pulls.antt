@@ -1,0 +1,47 @@
+-- The bytes that a check takes from the source of a certificate.
+use Rattle.std.specs.Prelude.{◌≡◌, ℕ, ◌≤◌, List, ◌++◌, length, Option, Some}
+use Rattle.std.specs.Io.KnownBytes.{Consumes, IsAtEnd}
+use Rattle.cilk_cert_text.specs.declared.fault.CertFault.{CertFault}
+use Rattle.cilk_cert_text.specs.declared.fault.CertFault.TheVariants as cert_faults
+use Rattle.cilk_cert_text.specs.Reading.{reading_of}
+use Rattle.cilk_checker.specs.declared.refusal.Refusal.TheVariants as refusals
+use Rattle.cilk_checker.specs.declared.refusal.Unaccepted.{Unaccepted}
+use Rattle.cilk_checker.specs.declared.refusal.Unaccepted.TheVariants as unaccepted
+
+-- no line of the text is malformed
+abbrev pub HasNoMalformedLine : List ℕ → Type 0
+HasNoMalformedLine text = (line : ℕ) → (reading_of text).fault ≡ Some (cert_faults.Malformed line) → ⊥
+
+-- a fault that is certain before the text has ended
+abbrev pub IsEarly : CertFault → Type 0
+IsEarly (cert_faults.Malformed line) = Unit {0}
+IsEarly (cert_faults.Truncated line) = ⊥
+IsEarly cert_faults.Memory = Unit {0}
+
+-- These bytes end with the piece that has the malformed line: those before that piece have none.
+pub record EndsWithFault (line : ℕ) (bytes : List ℕ) : Type 0 where
+  pub before : List ℕ
+  pub piece : List ℕ
+  pub parts : bytes ≡ before ++ piece
+  pub formed : HasNoMalformedLine before
+  pub within : length before ≤ 134217728
+  pub short : length piece ≤ 32768
+  pub malformed : (reading_of bytes).fault ≡ Some (cert_faults.Malformed line)
+
+-- Of a source: the text that it would give before and after a check, if it is known.
+module _ (known left : Option (List ℕ)) where
+  -- bytes with this property were taken
+  abbrev pub Takes : (List ℕ → Type 0) → Type 0
+  Takes P = (bytes : List ℕ) × Consumes known left bytes × P bytes
+
+  -- all bytes were taken, 134,217,728 at most
+  abbrev pub TakesAll : Type 0
+  TakesAll = IsAtEnd left × Takes (λ bytes. length bytes ≤ 134217728)
+
+  -- The bytes that were taken where a certificate isn't accepted. Nothing is pulled after the piece
+  -- with a malformed line.
+  abbrev pub TakesUntil : Unaccepted → Type 0
+  TakesUntil (unaccepted.Refusal (refusals.Malformed line)) = Takes (EndsWithFault line)
+  TakesUntil (unaccepted.Refusal refusals.Memory) = Unit {0}
+  TakesUntil (unaccepted.Refusal r) = TakesAll
+  TakesUntil unaccepted.Unread = Unit {0}
