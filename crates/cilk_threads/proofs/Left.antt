@@ -1,4 +1,5 @@
--- The outcome of workers on an input: `left_on`; on the plan's own: `own_outcome`.
+-- The outcome of workers on an input: `left_on`; on the plan's own: `own_outcome`. The inputs of a
+-- followed event order depart nowhere: `nowhere`, `nowhere_on`.
 use Rattle.std.proofs.Common.{◌≡◌, ◌≤◌, ◌<◌, ◌⊎◌, inl, inr, ℕ, ℤ, List, length, reverse, sym, ap, ◌∙◌, subst, arith}
 use Rattle.std.proofs.lemmas.Bool.{cases_lt}
 use Rattle.cilk_types.specs.declared.event.Event.{Event}
@@ -12,7 +13,7 @@ use Rattle.cilk_types.specs.declared.limits.TheConstants.{MAX_EVENTS, MAX_TICKS}
 use Rattle.cilk_program.proofs.Uniqueness.{serial_run_is_one}
 use Rattle.cilk_tree.specs.declared.event_order.EventOrder.{EventOrder}
 use Rattle.cilk_tree.specs.Orders.{IsOrderly}
-use Rattle.cilk_tree.specs.Runs.{IsAsked, IsFollowed}
+use Rattle.cilk_tree.specs.Runs.{Departs, IsAsked, IsFollowed}
 use Rattle.cilk_tree.specs.Along.{DepartsNowhere}
 use Rattle.cilk_tree.specs.Before.{IsPosition}
 use Rattle.cilk_shared.specs.declared.reducers.Reducers.{Reducers}
@@ -26,7 +27,7 @@ use Rattle.cilk_replay.specs.InputCourses.{run_of}
 use Rattle.cilk_replay.specs.Ends.{RunsAsCourse, InputsRunAlong}
 use Rattle.cilk_replay.specs.Frames.{course_on, ProgramsHaveOneCourse}
 use Rattle.cilk_replay.specs.Left.{left_by, RunsAreElided}
-use Rattle.cilk_replay.specs.EventOrders.{IsPlannedRun}
+use Rattle.cilk_replay.specs.EventOrders.{event_order_on, IsPlannedRun}
 use Rattle.cilk_replay.proofs.LastEnds.{serial_result}
 use Rattle.cilk_checker.specs.Determinate.{AcceptedRun, HasDeterminateRun}
 use Rattle.cilk_plan.specs.Plans.{IsPlanOf, IsEventOrderOn}
@@ -36,7 +37,7 @@ use Rattle.cilk_threads.specs.Tables.{AreReducersOf}
 use Rattle.cilk_threads.proofs.CourseLeft.{course_left}
 use Rattle.cilk_threads.proofs.Leaving.{left_is}
 use Rattle.cilk_threads.proofs.Opened.{runs_start_no_root}
-use Rattle.cilk_threads.specs.Outcomes.{LeavesOn, IsOutcomeOn}
+use Rattle.cilk_threads.specs.Outcomes.{DepartsNowhereOn, LeavesOn, IsOutcomeOn}
 use Rattle.cilk_threads.proofs.Alike.{same_frames, table_along}
 
 -- if the last event is followed, each event is requested
@@ -49,6 +50,21 @@ all_asked s order followed p (low, high) = by (cases_lt p (length s.events))
 
 pub nowhere : (s : EventOrder) → IsOrderly s → IsFollowed s (length s.events) → DepartsNowhere s
 nowhere s order followed p h = h.differs (all_asked s order followed p h.place)
+
+-- a departure doesn't depend on the opening values of the cells
+reopened : (s : EventOrder) (opening : List ℤ) (p : ℕ) → Departs (record s { opening = opening }) p → Departs s p
+reopened s opening p h = record { place = h.place; reached = record { sync = h.reached.sync; other = h.reached.other }; differs = h.differs }
+
+-- there is one event order on the inputs, but for the opening values
+pub nowhere_on : (a : AcceptedRun) (inputs first : List ℤ) (s : EventOrder) → IsEventOrderOn a first inputs s → DepartsNowhere s → DepartsNowhereOn a inputs
+nowhere_on a inputs first s told none opening t other at h =
+    let p = source a.program in
+    let x = told.of_run in
+    let y = other.of_run in
+    let e = serial_run_is_one p a.input MAX_TICKS MAX_EVENTS other.run told.run a.trace a.trace (Leaves y.outcome) (Leaves x.outcome) y.runs x.runs in
+    let same : t ≡ event_order_on p inputs told.run a.trace opening = other.is ∙ ap (λ (r : Transcript). event_order_on p inputs r a.trace opening) e.0 in
+    none at (subst (λ (z : EventOrder). Departs z at) (sym told.is)
+    (reopened (event_order_on p inputs told.run a.trace first) opening at (subst (λ (z : EventOrder). Departs z at) same h)))
 
 same_outcome : (o o' : Outcome) → Leaves o ≡ Leaves o' → o ≡ o'
 same_outcome o o' h = cc h

@@ -8,6 +8,7 @@ use Rattle.cilk_program.specs.Outcomes.{Leaves}
 use Rattle.cilk_program.specs.SerialRun.{Transcript, IsSerialRun}
 use Rattle.cilk_program.specs.Syntax.{Source}
 use Rattle.cilk_tree.specs.declared.event_order.EventOrder.{EventOrder}
+use Rattle.cilk_tree.specs.Along.{DepartsNowhere}
 use Rattle.cilk_tree.specs.Runs.{Departs, IsFollowed}
 use Rattle.cilk_shared.specs.Values.{YardValue}
 use Rattle.cilk_shared.specs.Pieces.{PieceValue}
@@ -24,6 +25,7 @@ use Rattle.cilk_replay.specs.InputCourses as courses
 use Rattle.cilk_replay.specs.Frames.{course_on, IsSerialRunOn}
 use Rattle.cilk_replay.specs.Left.{left_by}
 use Rattle.cilk_replay.specs.EventOrders.{IsPlannedRun}
+use Rattle.cilk_checker.specs.Determinate.{AcceptedRun}
 use Rattle.cilk_plan.specs.Plans.{WholePlan, IsEventOrderOn}
 use Rattle.cilk_threads.specs.declared.run.ThreadFault.{ThreadFault}
 use Rattle.cilk_threads.specs.declared.run.ThreadFault.TheVariants as faults
@@ -59,6 +61,10 @@ pub record IsWholeOf (p : Source) (own inputs : List ℤ) (y : YardValue) (r : R
 -- the event order that the program makes of the plan on these inputs departs at the position
 abbrev pub DepartsOn : WholePlan → List ℤ → ℕ → Type 0
 DepartsOn w inputs p = (s : EventOrder) × (let t = w.event_order in IsEventOrderOn w.run t.opening inputs s) × Departs s p
+
+-- the event order that the program makes of its accepted run's plan on these inputs departs nowhere
+abbrev pub DepartsNowhereOn : AcceptedRun → List ℤ → Type 0
+DepartsNowhereOn a inputs = (opening : List ℤ) (s : EventOrder) → IsEventOrderOn a opening inputs s → DepartsNowhere s
 
 -- The number of workers is a fault exactly if it isn't allowed; and the input departs from the plan
 -- where the fault says so.

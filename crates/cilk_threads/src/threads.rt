@@ -9,7 +9,7 @@ ghost use Rattle.cilk_program.specs.Sources.{source};
 ghost use Rattle.cilk_threads.specs.Accepted.{IsTableOf};
 ghost use Rattle.cilk_shared.specs.Values.{OfYard};
 ghost use Rattle.cilk_threads.specs.Faults.{IsPool};
-ghost use Rattle.cilk_threads.specs.Outcomes.{IsFaultOn, IsOutcomeOn, IsWholeOf, NamesNoPosition};
+ghost use Rattle.cilk_threads.specs.Outcomes.{DepartsNowhereOn, IsFaultOn, IsOutcomeOn, IsWholeOf, NamesNoPosition};
 
 use crate::laws::accepted_event_orders_have_numbers;
 use crate::layout::Layout;
@@ -41,10 +41,10 @@ use std::thread::Threads;
 /// Runs an accepted program along its plan on an input, the plan's own or another, with 1 to 64
 /// workers, each in a thread of its own.
 ///
-/// Returns the outcome of the program's serial elision on that input. Each serial run on that input
-/// that ends without a fault has this outcome. On the plan's own input it is the accepted run's
-/// outcome, and the run departs nowhere. `gate` is called as each strand begins. Termination is not
-/// proved.
+/// Returns the outcome of the program's serial elision on that input, which departs nowhere from the
+/// plan then. Each serial run on that input that ends without a fault has this outcome. On the
+/// plan's own input it is the accepted run's outcome, and no departure is returned. `gate` is called
+/// as each strand begins. Termination is not proved.
 pub fn run_threads<R: Threads + Wait + Sync, G: Gate + Sync>(
     rt: &R,
     alloc: Global,
@@ -55,6 +55,7 @@ pub fn run_threads<R: Threads + Wait + Sync, G: Gate + Sync>(
 ) -> Result<Outcome, ThreadFault>
     ensures ok { IfOk result (λ o. IsPool workers × IsOutcomeOn (source plan.now.run.program) input.now o) }
     ensures own { IfOk result (λ o. input.now ≡ plan.now.run.input → o ≡ plan.now.run.outcome) }
+    ensures follows { IfOk result (λ _. DepartsNowhereOn plan.now.run input.now) }
     ensures err { IfErr result (IsFaultOn plan.now input.now workers) }
     ensures stays { IfErr result (λ f. input.now ≡ plan.now.run.input → NamesNoPosition f) }
 {
@@ -161,7 +162,8 @@ fn left(
     requires event_order { IsEventOrderOn plan.now.run plan.now.event_order.opening input.now yard.event_order }
     requires along { IsAlong plan.now.event_order yard.event_order }
     requires whole { IsWholeOf (source plan.now.run.program) plan.now.run.input input.now yard piece.reducers piece value }
-    ensures { IfOk result (λ o. IsOutcomeOn (source plan.now.run.program) input.now o) }
+    ensures outcome { IfOk result (λ o. IsOutcomeOn (source plan.now.run.program) input.now o) }
+    ensures follows { IfOk result (λ _. DepartsNowhereOn plan.now.run input.now) }
 {
     programs_have_one_course();
     inputs_run_along();

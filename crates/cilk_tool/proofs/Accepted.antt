@@ -17,7 +17,7 @@ use Rattle.cilk_threads.specs.Faults.{IsPool}
 use Rattle.cilk_checker.specs.Judging.{Meant, meant}
 use Rattle.cilk_plan.specs.Plans.{IsPlanOf, WholePlan}
 use Rattle.cilk_program.specs.Sources.{source}
-use Rattle.cilk_threads.specs.Outcomes.{DepartsOn, IsFaultOn, IsOutcomeOn, NamesNoPosition}
+use Rattle.cilk_threads.specs.Outcomes.{DepartsNowhereOn, DepartsOn, IsFaultOn, IsOutcomeOn, NamesNoPosition}
 use Rattle.cilk_threads.specs.declared.run.ThreadFault.{ThreadFault}
 use Rattle.cilk_threads.specs.declared.run.ThreadFault.TheVariants as faults
 use Rattle.cilk_types.specs.declared.outcome.Outcome.{Outcome}
@@ -49,16 +49,17 @@ departs w a numbers workers f at place of is same plan h stays =
 
 -- the outcome of the workers
 pub ran : {T : Type 0} (w : WholePlan) (a : AcceptedRun) (numbers : List ℤ) (workers : ℕ) (o : Outcome) (x : Result Ending T) → w.run ≡ a
-    → IsPool workers × IsOutcomeOn (source w.run.program) numbers o → (numbers ≡ w.run.input → o ≡ w.run.outcome)
+    → IsPool workers × IsOutcomeOn (source w.run.program) numbers o → (numbers ≡ w.run.input → o ≡ w.run.outcome) → DepartsNowhereOn w.run numbers
     → IfOk x (λ e. let m = meant a.program in ending_view e ≡ Ended m.names o)
     → IfOk x (λ e. RunShows a (meant a.program) numbers workers (ending_view e))
-ran w a numbers workers o (Err f) of ok own is = tt
-ran w a numbers workers o (Ok e) of ok own is =
+ran w a numbers workers o (Err f) of ok own follows is = tt
+ran w a numbers workers o (Ok e) of ok own follows is =
     let shown : RunShows a (meant a.program) numbers workers (let m = meant a.program in Ended m.names o) = (
       refl,
       ok.0,
       subst (λ (b : AcceptedRun). IsOutcomeOn (source b.program) numbers o) of ok.1,
       subst (λ (b : AcceptedRun). numbers ≡ b.input → o ≡ b.outcome) of own,
+      subst (λ (b : AcceptedRun). DepartsNowhereOn b numbers) of follows,
     ) in
     subst (λ (r : Reply). RunShows a (meant a.program) numbers workers r) (sym is) shown
 

@@ -7,7 +7,7 @@ use Rattle.cilk_checker.specs.Determinate.{AcceptedRun}
 use Rattle.cilk_threads.specs.Faults.{IsPool}
 use Rattle.cilk_plan.specs.Plans.{IsPlanOf}
 use Rattle.cilk_tree.specs.declared.event_order.EventOrder.{EventOrder}
-use Rattle.cilk_threads.specs.Outcomes.{DepartsOn, IsOutcomeOn}
+use Rattle.cilk_threads.specs.Outcomes.{DepartsNowhereOn, DepartsOn, IsOutcomeOn}
 use Rattle.cilk_commands.specs.Files.{Failures, IsHeld}
 use Rattle.cilk_commands.specs.Replies.{Accepted, Ended, NoMemory, Refused, Reply, Text}
 use Rattle.cilk_commands.specs.Serving.{InputFileFails}
@@ -45,10 +45,11 @@ IsUnrun a numbers workers number places =
     ⊎ ((number ≡ departed) × (numbers ≢ a.input) × ((at : ℕ) × (places ≡ at ∷ []) × DepartsFrom a numbers at))
 
 -- The answer for an accepted program that workers run on these numbers: the program's outcome on
--- them, which is the certified run's on its own numbers; or why there is no run.
+-- them, which is the certified run's on its own numbers, if they depart nowhere from the plan; or
+-- why there is no run.
 abbrev pub RunShows : AcceptedRun → Meant → List ℤ → ℕ → Reply → Type 0
 RunShows a m numbers workers (Ended names o) =
-    (names ≡ m.names) × IsPool workers × IsOutcomeOn m.source numbers o × (numbers ≡ a.input → o ≡ a.outcome)
+    (names ≡ m.names) × IsPool workers × IsOutcomeOn m.source numbers o × (numbers ≡ a.input → o ≡ a.outcome) × DepartsNowhereOn a numbers
 RunShows a m numbers workers (Refused number places) = IsUnrun a numbers workers number places
 RunShows a m numbers workers NoMemory = Unit {0}
 RunShows a m numbers workers _ = ⊥

@@ -8,7 +8,7 @@ use Rattle.cilk_program.specs.Answered.{opening_cells}
 use Rattle.cilk_tree.specs.declared.event_order.EventOrder.{EventOrder}
 use Rattle.cilk_plan.proofs.Telling.{for_ok}
 use Rattle.cilk_threads.specs.Finals.{IsMadeOf}
-use Rattle.cilk_threads.proofs.Left.{left_on, nowhere}
+use Rattle.cilk_threads.proofs.Left.{left_on, nowhere, nowhere_on}
 use Rattle.cilk_threads.proofs.threads.left.Goals as goal
 
 pub outcome-requires-clause-yard : goal.outcome-requires-clause-yard
@@ -33,8 +33,8 @@ outcome-requires-clause-opens c =
     let opening = ap (λ (s : EventOrder). s.opening) w.good.0.1 ∙ c.requires.along.opening in
     λ k. subst (λ (z : Program × List ℤ). slice_index_or z.1 k (pos 0) ≡ opening_cells (source z.0) [] k) (λ i. (sym c.program.ensures i, sym opening i)) (c.laws.ensures.plan.opens k)
 
-pub returns : goal.returns
-returns c =
+pub returns-clause-outcome : goal.returns-clause-outcome
+returns-clause-outcome c =
     let w = c.requires.whole in
     let a = c.args.plan.now.run in
     for_ok _ _ c.outcome.result
@@ -42,4 +42,12 @@ returns c =
     left_on c.programs_have_one_course.ensures c.inputs_run_along.ensures c.runs_are_elided.ensures a c.laws.ensures.determinate c.args.plan.now.event_order c.args.yard.event_order c.args.input.now c.inputs_are_words.ensures c.args.piece.reducers c.args.value o c.laws.ensures.plan
     c.laws.ensures.order c.requires.event_order c.requires.table (nowhere c.args.yard.event_order c.laws-2.ensures.order w.followed) w.result
     (subst (λ (z : Program × EventOrder × ℤ). IsMadeOf (source z.0) z.1 c.args.piece.reducers z.2 o) (λ i. (c.program.ensures i, w.good.0.1 i, to_z-of_z w64 c.args.value c.ranges.value i)) made))
+    c.outcome.ensures
+
+pub returns-clause-follows : goal.returns-clause-follows
+returns-clause-follows c =
+    for_ok _ _ c.outcome.result
+    (λ o made.
+    nowhere_on c.args.plan.now.run c.args.input.now c.args.plan.now.event_order.opening c.args.yard.event_order c.requires.event_order
+    (nowhere c.args.yard.event_order c.laws-2.ensures.order c.requires.whole.followed))
     c.outcome.ensures

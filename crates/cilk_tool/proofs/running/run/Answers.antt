@@ -5,7 +5,7 @@ use Rattle.cilk_tool.proofs.running.run.Goals as goal
 pub returns-in-Ok-clause-answer : goal.returns-in-Ok-clause-answer
 returns-in-Ok-clause-answer g c =
     ran c.in_ok-plan.plan c.args.accepted.now c.args.numbers.now c.args.workers c.in-Ok.outcome c.ended.result c.in_ok-plan.ensures c.in-Ok.ensures.ok
-    c.in-Ok.ensures.own c.ended.ensures.answer
+    c.in-Ok.ensures.own c.in-Ok.ensures.follows c.ended.ensures.answer
 
 pub returns-in-Ok-clause-failure : goal.returns-in-Ok-clause-failure
 returns-in-Ok-clause-failure g c = starved c.args.accepted.now c.args.numbers.now c.args.workers c.ended.result c.ended.ensures.failure
