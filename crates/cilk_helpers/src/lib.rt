@@ -48,6 +48,7 @@ pub mod replayed;
 pub mod rest;
 pub mod retelling;
 pub mod rounds;
+mod scan;
 pub mod ticks;
 pub mod watch;
 pub mod whole;

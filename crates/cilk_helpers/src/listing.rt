@@ -1,8 +1,8 @@
-//! Collects the hints about frames from a certificate's lines.
+//! Collects the hints about frames from what a certificate's lines say.
 
 ghost use Rattle.std.specs.Prelude.{◌≡◌, ◌<◌, ◌+◌};
 
-use cilk_cert_text::line::{Entry, Line};
+use crate::scan::LineHint;
 use cilk_types::event::FrameNo;
 use cilk_types::limits::MAX_FRAMES;
 use std::alloc::{AllocError, Global};
@@ -82,28 +82,27 @@ impl Listing {
     }
 
     /// Takes a line, and returns whether it fits the lines before it.
-    pub fn meet(&mut self, line: Line) -> Result<bool, AllocError> {
-        let Line::Event(entry) = line else {
-            return Ok(true);
-        };
-        match entry {
-            Entry::Begin { frame } => self.begin(frame),
-            Entry::Read { value, .. } => self.tell(value),
-            Entry::Value { value, .. } => self.tell(value),
-            Entry::End => {
+    pub fn meet(&mut self, line: LineHint) -> Result<bool, AllocError> {
+        match line {
+            LineHint::Begin => self.begin(),
+            LineHint::Word(word) => self.tell(word),
+            LineHint::Event => Ok(self.count(0)),
+            LineHint::Nothing => Ok(true),
+            LineHint::End => {
                 let fits = self.count(0);
                 self.open.pop();
                 Ok(fits)
             }
-            _ => Ok(self.count(0)),
         }
     }
 
     // Begins the next frame, inside the innermost open one.
-    fn begin(&mut self, frame: FrameNo) -> Result<bool, AllocError> {
-        if frame > MAX_FRAMES || place_of(frame) != self.frames.len() {
+    fn begin(&mut self) -> Result<bool, AllocError> {
+        let before = self.frames.len();
+        if before >= MAX_FRAMES as usize {
             return Ok(false);
         }
+        let frame = before as FrameNo + 1;
         if frame > 1 && !self.link(frame) {
             return Ok(false);
         }

@@ -1,5 +1,4 @@
 use Rattle.std.proofs.Common.{◌≡◌}
-use Rattle.cilk_cert_text.specs.Readers.{room_of}
 use Rattle.cilk_helpers.proofs.hints.read_all.Given as goal
 
 -- no pull has failed, and each has kept what pulls keep
@@ -11,4 +10,4 @@ invariant-pieces g l = record {
 }
 
 abbrev pub decreases-pieces : goal.decreases-pieces
-decreases-pieces g l = room_of l.reader
+decreases-pieces g l = l.left
