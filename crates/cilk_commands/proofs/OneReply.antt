@@ -103,9 +103,9 @@ data Refused (w : Surroundings) (program : Origin) (input : Option Text) (r : Re
 refused : (w : Surroundings) (program : Origin) (input : Option Text) (r : Reply) → IsOfTexts r → NoneGiven w program input r
     → Refused w program input r
 refused w program input r v (ProgramUnread h) = absurd (not_unread w.failed w.failed' program r h v)
-refused w program input r v (ProgramRefused text g h) = OfProgram text g h
+refused w program input r v (ProgramRefused text g h n) = OfProgram text g h
 refused w program input r v (InputUnread text m g h k) = absurd (input_not_unread w.failed w.failed' input r k v)
-refused w program input r v (InputRefused text m numbers g h i k) = OfInput text m numbers g h i k
+refused w program input r v (InputRefused text m numbers g h i k n) = OfInput text m numbers g h i k
 
 -- two replies to texts of which one is refused
 one_refused : (w : Surroundings) (program : Origin) (input : Option Text) (r q : Reply) → IsKnown w program

@@ -1,8 +1,9 @@
 -- Reads one after the other.
-use Rattle.std.proofs.Common.{◌≡◌, ℕ, ◌+◌, ◌≤◌, List, ◌++◌, length, take, Option, Some, None, sym, ap, ◌∙◌, arith, append_assoc, append-nil, length-append, rules}
-use Rattle.cilk_commands.specs.Streams.{ReadsOn}
+use Rattle.std.proofs.Common.{◌≡◌, ℕ, ◌+◌, ◌≤◌, List, [], ◌++◌, length, take, Option, Some, None, sym, ap, ◌∙◌, arith, append_assoc, append-nil, length-append, length-take, rules}
+use Rattle.cilk_commands.specs.Streams.{ReadsOn, TakesAtMost}
 use Rattle.std.specs.Prelude.{IfSome}
-use Rattle.std.specs.Io.KnownBytes.{Consumes, IsAtEnd}
+use Rattle.std.specs.Io.KnownBytes.{Consumes, IsAtEnd, Keeps}
+use Rattle.std.proofs.KnownBytes.{Keeps-refl}
 use Rattle.std.proofs.lemmas.List.{take_all}
 use Rattle.std.proofs.Math.Seq.{take-append_seam}
 
@@ -38,3 +39,24 @@ pub read_last : (o m n : Option (List ℕ)) (t t' : List ℕ) (c limit : ℕ) �
 read_last o m n t t' c limit le h k z =
     let same = longer m n t t' c k in
     read_whole o n t' limit (omega (arith, same, z)) (more_read o m n t t' c h k) (k.last z)
+
+-- ---- the bytes that were taken at most
+
+kept_nothing : (o n : Option (List ℕ)) → Keeps o n → Consumes o n []
+kept_nothing None n h = tt
+kept_nothing (Some x) None h = absurd h
+kept_nothing (Some x) (Some y) h = sym h
+
+pub takes_none : (most : ℕ) (o n : Option (List ℕ)) → Keeps o n → TakesAtMost most o n
+takes_none most o n h = ([], kept_nothing o n h, omega arith)
+
+pub takes_same : (most : ℕ) (o : Option (List ℕ)) → TakesAtMost most o o
+takes_same most o = takes_none most o o (Keeps-refl o)
+
+pub takes_read : (most : ℕ) (o n : Option (List ℕ)) (piece : List ℕ) (count : ℕ) → Consumes o n (take count piece) → count ≤ most
+    → TakesAtMost most o n
+takes_read most o n piece count h le = (take count piece, h, omega (arith, le, length-take count piece))
+
+pub takes_on : (most some : ℕ) (o m n : Option (List ℕ)) (t : List ℕ) → Consumes o m t → TakesAtMost some m n → length t + some ≤ most
+    → TakesAtMost most o n
+takes_on most some o m n t h k le = (t ++ k.0, reads_more o m n t k.0 h k.1, omega (arith, le, k.2, length-append t k.0))

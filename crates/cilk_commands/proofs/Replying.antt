@@ -15,7 +15,9 @@ use Rattle.std.proofs.Common.{◌≡◌, ℕ, List, [], Bool, true, false, Optio
 use Rattle.std.specs.Prelude.{◌≢◌, ◌<◌, IsTrue, IsFalse, Result, Ok, Err, IfOk, IfErr, IsErrAnd, ℤ}
 use Rattle.std.specs.Io.KnownBytes.{Appends}
 use Rattle.std.proofs.lemmas.List.{append-nil}
-use Rattle.cilk_checker.specs.Answers.{IsRefusedText, IsUnaccepted}
+use Rattle.cilk_types.specs.declared.event.Event.{Event}
+use Rattle.cilk_types.specs.declared.outcome.Outcome.{Outcome}
+use Rattle.cilk_checker.specs.Answers.{IsCertified, IsRefusedText, IsUnaccepted}
 use Rattle.cilk_checker.specs.Numbers.{fields_of, number_of}
 use Rattle.cilk_checker.specs.declared.refusal.Refusal.{Refusal}
 use Rattle.cilk_checker.specs.declared.refusal.Refusal.TheVariants as refusals
@@ -102,8 +104,8 @@ same_input files files' None text same h = h
 same_input files files' (Some path) text same h = subst (λ (known : Option Text). IsHeld known text) (same path) h
 
 pub program_refused : (w : Surroundings) (p : Origin) (i : Option Text) (r : Reply) (text slice : Text) → GivesProgram w.files w.input p text → slice ≡ text
-    → ProgramFails slice r → NoneGiven w p i r
-program_refused w p i r text slice given e h = ProgramRefused text given (subst (λ (t : Text). ProgramFails t r) e h)
+    → ProgramFails slice r → w.failed' ≡ w.failed → NoneGiven w p i r
+program_refused w p i r text slice given e h none = ProgramRefused text given (subst (λ (t : Text). ProgramFails t r) e h) none
 
 pub input_unread : (w : Surroundings) (p : Origin) (i : Option Text) (r : Reply) (text slice : Text) (q : Meant) (failed : Failures) → GivesProgram w.files w.input p text → slice ≡ text
     → IsProgramText slice q → failed ≡ w.failed → InputFileFails failed w.failed' i r → NoneGiven w p i r
@@ -112,9 +114,9 @@ input_unread w p i r text slice q failed given e h same unread =
 
 pub input_refused : (w : Surroundings) (p : Origin) (i : Option Text) (r : Reply) (text slice : Text) (q : Meant) (files : Text → Option Text) (numbers slice' : Text)
     → GivesProgram w.files w.input p text → slice ≡ text → IsProgramText slice q → ((path : Text) → files path ≡ w.files path) → GivesInput files i numbers → slice' ≡ numbers
-    → InputFails slice' r → NoneGiven w p i r
-input_refused w p i r text slice q files numbers slice' given e h same input e' fault =
-    InputRefused text q numbers given (subst (λ (t : Text). IsProgramText t q) e h) (same_input files w.files i numbers same input) (subst (λ (t : Text). InputFails t r) e' fault)
+    → InputFails slice' r → w.failed' ≡ w.failed → NoneGiven w p i r
+input_refused w p i r text slice q files numbers slice' given e h same input e' fault none =
+    InputRefused text q numbers given (subst (λ (t : Text). IsProgramText t q) e h) (same_input files w.files i numbers same input) (subst (λ (t : Text). InputFails t r) e' fault) none
 
 pub both_given : (w : Surroundings) (p : Origin) (i : Option Text) (text slice : Text) (q : Meant)
     (files : Text → Option Text) (numbers slice' : Text) (inputs : List ℤ)
@@ -205,6 +207,13 @@ refused_whole p inputs known known' at n m u f e d k h =
     let whole : option_map (drop at) known' ≡ known = rw (e, d) (known_whole known) in
     subst (λ (x : Option Text). IsRefusedText p inputs x f) whole
     (subst (λ (x : Unaccepted). IsUnaccepted p inputs (option_map (drop at) known') n m x) k h)
+
+-- an accepted text that comes from a file's first byte on is the file's
+pub accepted_whole : (p : Source) (inputs : List ℤ) (known known' : Option Text) (at : ℕ) (es : List Event) (o : Outcome)
+    → known' ≡ known → at ≡ 0 → IsCertified p inputs (option_map (drop at) known') es o → IsCertified p inputs known es o
+accepted_whole p inputs known known' at es o e d h =
+    let whole : option_map (drop at) known' ≡ known = rw (e, d) (known_whole known) in
+    subst (λ (x : Option Text). IsCertified p inputs x es o) whole h
 
 told_of : (workers : ℕ) (steps : List Step) (q : Meant) (inputs : List ℤ) (f : PlayFault) → (0 < workers → IsFault (Ends q.source inputs workers steps) f) → (0 < workers → FailsAsSettled q.source inputs f)
     → StepsShow workers steps q inputs (play_fault_view f)

@@ -65,15 +65,16 @@ pub record AreGiven (w : Surroundings) (program : Origin) (input : Option Text) 
   pub numbers_are : GivesInput w.files input numbers
   pub input_is : IsInput numbers inputs
 
--- the program text is read and judged, then the input text; the reply is the first failure
+-- The program text is read and judged, then the input text; the reply is the first failure. No
+-- read of a later file has failed, since none was made.
 pub data NoneGiven (w : Surroundings) (program : Origin) (input : Option Text) (r : Reply) : Type 0 where
   ProgramUnread : OriginFails w.failed w.failed' program r → NoneGiven w program input r
-  ProgramRefused : (text : Text) → GivesProgram w.files w.input program text → ProgramFails text r
+  ProgramRefused : (text : Text) → GivesProgram w.files w.input program text → ProgramFails text r → w.failed' ≡ w.failed
       → NoneGiven w program input r
   InputUnread : (text : Text) (p : Meant) → GivesProgram w.files w.input program text → IsProgramText text p
       → InputFileFails w.failed w.failed' input r → NoneGiven w program input r
   InputRefused : (text : Text) (p : Meant) (numbers : Text) → GivesProgram w.files w.input program text → IsProgramText text p
-      → GivesInput w.files input numbers → InputFails numbers r → NoneGiven w program input r
+      → GivesInput w.files input numbers → InputFails numbers r → w.failed' ≡ w.failed → NoneGiven w program input r
 
 -- the reply to a command: both texts are judged, and then `IsShown` holds of the reply
 pub data JudgedReply (IsShown : Meant → List ℤ → Reply → Type 0) (w : Surroundings) (program : Origin) (input : Option Text)
@@ -99,6 +100,16 @@ CheckReply w program certificate input r =
 abbrev pub PlayReply : Surroundings → Text → Text → ℕ → Option Text → Reply → Type 0
 PlayReply w program script workers input r =
     JudgedReply (PlayShows script (w.files script) w.failed w.failed' workers) w (File program) input r
+
+-- the program is read from standard input
+abbrev pub IsStandard : Origin → Type 0
+IsStandard Standard = Unit {0}
+IsStandard (File path) = ⊥
+
+-- only one order reads standard input
+abbrev pub ReadsStandard : Option Requested → Type 0
+ReadsStandard (Some (Run program input)) = IsStandard program
+ReadsStandard _ = ⊥
 
 -- the reply to words that are no order
 abbrev pub WordsFail : Reply → Type 0

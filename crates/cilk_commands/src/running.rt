@@ -6,8 +6,10 @@ ghost use Rattle.cilk_commands.specs.Files.{IsHeld};
 ghost use Rattle.cilk_checker.specs.Numbers.{fields_of, number_of};
 ghost use Rattle.cilk_checker.specs.declared.refusal.Refusal.TheVariants as refusals;
 ghost use Rattle.cilk_commands.specs.Replies.{NoMemory, Refused, answer_view, failure_view, places_of};
-ghost use Rattle.cilk_commands.specs.Serving.{AreGiven, CertifyReply, CheckReply, FileFails, GivesInput, GivesProgram, InputFileFails, IsReceived, NoneGiven, OriginFails, PlayReply, RunReply, StandardFails, world};
+ghost use Rattle.cilk_commands.specs.Serving.{AreGiven, CertifyReply, CheckReply, FileFails, GivesInput, GivesProgram, InputFileFails, IsReceived, IsStandard, NoneGiven, OriginFails, PlayReply, RunReply, StandardFails, world};
 ghost use Rattle.cilk_commands.specs.Shown.{CheckShows, PlayShows};
+ghost use Rattle.cilk_commands.specs.Streams.{TakesAtMost};
+ghost use Rattle.cilk_commands.specs.declared.streams.TheConstants.{MAX_READ};
 ghost use Rattle.cilk_messages.specs.Words.{origin_view};
 
 use crate::counted::CountedReader;
@@ -47,6 +49,7 @@ pub fn read_file<'a, F: Files>(
 fn read_standard<'a, R: Read>(alloc: Global, reader: &mut R) -> Result<Vec<u8>, Failure<'a>>
     ensures given { IfOk result (λ text. IsReceived (R.remaining reader.old) text.items) }
     ensures fault { IfErr result (λ e. StandardFails (failure_view e)) }
+    ensures most { TakesAtMost MAX_READ (R.remaining reader.old) (R.remaining reader.new) }
 {
     match receive(alloc, &mut CountedReader::new(reader)) {
         Ok(text) => Ok(text),
@@ -56,6 +59,7 @@ fn read_standard<'a, R: Read>(alloc: Global, reader: &mut R) -> Result<Vec<u8>, 
 }
 
 // A program text.
+#[tactic(auto, using(crate::proofs::Reading::takes_same))]
 fn read_program<'a, F: Files, R: Read>(
     alloc: Global,
     origin: Origin<'a>,
@@ -67,6 +71,8 @@ fn read_program<'a, F: Files, R: Read>(
     ensures fault { IfErr result (λ e. OriginFails (F.failed files.old) (F.failed files.new) (origin_view origin.entry) (failure_view e)) }
     ensures uncounted { OnOk result (F.failed files.new ≡ F.failed files.old) }
     ensures same { (p : List ℕ) → F.holds files.new p ≡ F.holds files.old p }
+    ensures untouched { (IsStandard (origin_view origin.entry) → ⊥) → reader.new ≡ reader.old }
+    ensures most { TakesAtMost MAX_READ (R.remaining reader.old) (R.remaining reader.new) }
 {
     match origin {
         Origin::Standard => read_standard(alloc, reader),
@@ -109,6 +115,8 @@ pub fn given<'a, F: Files, R: Read>(
         (origin_view program.entry) (option_map (λ p. p.now) input.entry) (failure_view e)) }
     ensures uncounted { OnOk result (F.failed files.new ≡ F.failed files.old) }
     ensures same { (p : List ℕ) → F.holds files.new p ≡ F.holds files.old p }
+    ensures untouched { (IsStandard (origin_view program.entry) → ⊥) → reader.new ≡ reader.old }
+    ensures most { TakesAtMost MAX_READ (R.remaining reader.old) (R.remaining reader.new) }
 {
     let text = read_program(alloc, program, files, reader)?;
     let program = judge::program(alloc, text.as_slice())?;
@@ -130,6 +138,8 @@ pub fn run<'a, F: Files, R: Read>(
         (origin_view program.entry) (option_map (λ p. p.now) input.entry) (answer_view a)) }
     ensures failure { IfErr result (λ e. RunReply (world (F.holds files.old) (R.remaining reader.old) (F.failed files.old) (F.failed files.new))
         (origin_view program.entry) (option_map (λ p. p.now) input.entry) (failure_view e)) }
+    ensures untouched { (IsStandard (origin_view program.entry) → ⊥) → reader.new ≡ reader.old }
+    ensures most { TakesAtMost MAX_READ (R.remaining reader.old) (R.remaining reader.new) }
 {
     let (program, input) = given(alloc, program, input, files, reader)?;
     judge::run(alloc, &program, &input)
@@ -148,6 +158,8 @@ pub fn certify<'a, F: Files, R: Read>(
         program.entry.now (option_map (λ p. p.now) input.entry) (answer_view a)) }
     ensures failure { IfErr result (λ e. CertifyReply (world (F.holds files.old) (R.remaining reader.old) (F.failed files.old) (F.failed files.new))
         program.entry.now (option_map (λ p. p.now) input.entry) (failure_view e)) }
+    ensures untouched { reader.new ≡ reader.old }
+    ensures most { TakesAtMost MAX_READ (R.remaining reader.old) (R.remaining reader.new) }
 {
     let (program, input) = given(alloc, Origin::File(program), input, files, reader)?;
     judge::certificate(alloc, &program, &input)
@@ -201,6 +213,8 @@ pub fn check<'a, F: Files, R: Read>(
         program.entry.now certificate.entry.now (option_map (λ p. p.now) input.entry) (answer_view a)) }
     ensures failure { IfErr result (λ e. CheckReply (world (F.holds files.old) (R.remaining reader.old) (F.failed files.old) (F.failed files.new))
         program.entry.now certificate.entry.now (option_map (λ p. p.now) input.entry) (failure_view e)) }
+    ensures untouched { reader.new ≡ reader.old }
+    ensures most { TakesAtMost MAX_READ (R.remaining reader.old) (R.remaining reader.new) }
 {
     let (program, input) = given(alloc, Origin::File(program), input, files, reader)?;
     checked(alloc, program, input, certificate, files)
@@ -241,6 +255,8 @@ pub fn play<'a, F: Files, R: Read>(
         program.entry.now script.entry.now workers (option_map (λ p. p.now) input.entry) (answer_view a)) }
     ensures failure { IfErr result (λ e. PlayReply (world (F.holds files.old) (R.remaining reader.old) (F.failed files.old) (F.failed files.new))
         program.entry.now script.entry.now workers (option_map (λ p. p.now) input.entry) (failure_view e)) }
+    ensures untouched { reader.new ≡ reader.old }
+    ensures most { TakesAtMost MAX_READ (R.remaining reader.old) (R.remaining reader.new) }
 {
     let (program, input) = given(alloc, Origin::File(program), input, files, reader)?;
     played(alloc, &program, &input, script, workers, files)

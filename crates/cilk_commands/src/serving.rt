@@ -3,8 +3,9 @@
 ghost use Rattle.std.specs.Prelude.{◌≡◌, ◌<◌, Bool, IfOk, IfErr};
 ghost use Rattle.cilk_commands.specs.OneReply.{HasOneReply};
 ghost use Rattle.cilk_commands.specs.Replies.{Reply, answer_view, failure_view, status_of};
-ghost use Rattle.cilk_commands.specs.Serving.{Answers, IsOrNoMemory, Serves, Shows, ShowsError, world};
-ghost use Rattle.cilk_commands.specs.Streams.{AppendsFront};
+ghost use Rattle.cilk_commands.specs.Serving.{Answers, IsOrNoMemory, ReadsStandard, Serves, Shows, ShowsError, world};
+ghost use Rattle.cilk_commands.specs.Streams.{AppendsFront, TakesAtMost};
+ghost use Rattle.cilk_commands.specs.declared.streams.TheConstants.{MAX_READ};
 ghost use Rattle.cilk_messages.specs.Words.{order_in, order_view, texts};
 
 use crate::files::Files;
@@ -27,6 +28,8 @@ pub fn carry_out<'a, F: Files, R: Read>(
         (Some (order_view order.entry)) (answer_view a)) }
     ensures failure { IfErr result (λ e. Answers (world (F.holds files.old) (R.remaining input.old) (F.failed files.old) (F.failed files.new))
         (Some (order_view order.entry)) (failure_view e)) }
+    ensures untouched { (ReadsStandard (Some (order_view order.entry)) → ⊥) → input.new ≡ input.old }
+    ensures most { TakesAtMost MAX_READ (R.remaining input.old) (R.remaining input.new) }
 {
     match order {
         Order::Run {
@@ -52,6 +55,7 @@ pub fn carry_out<'a, F: Files, R: Read>(
 }
 
 // Carries out the order of the words.
+#[tactic(auto, using(crate::proofs::Reading::takes_same))]
 fn answer<'a, F: Files, R: Read>(
     alloc: Global,
     words: &'a [&'a str],
@@ -63,6 +67,8 @@ fn answer<'a, F: Files, R: Read>(
         (order_in (texts words.entry.now)) (answer_view a)) }
     ensures failure { IfErr result (λ e. Answers (world (F.holds files.old) (R.remaining input.old) (F.failed files.old) (F.failed files.new))
         (order_in (texts words.entry.now)) (failure_view e)) }
+    ensures untouched { (ReadsStandard (order_in (texts words.entry.now)) → ⊥) → input.new ≡ input.old }
+    ensures most { TakesAtMost MAX_READ (R.remaining input.old) (R.remaining input.new) }
 {
     match read(alloc, words) {
         Ok(order) => carry_out(alloc, order, files, input),
@@ -135,6 +141,8 @@ pub fn serve_and_tell<F: Files, R: Read, O: Write, E: Write>(
     ensures served { Serves (texts words.now)
         (world (F.holds files.old) (R.remaining input.old) (F.failed files.old) (F.failed files.new)) result.status result.told
         (O.contents out.old) (O.contents out.new) (E.contents err.old) (E.contents err.new) }
+    ensures untouched { (ReadsStandard (order_in (texts words.now)) → ⊥) → input.new ≡ input.old }
+    ensures most { TakesAtMost MAX_READ (R.remaining input.old) (R.remaining input.new) }
 {
     match answer(alloc, words, files, input) {
         Ok(answer) => show(alloc, &answer, out, err),
@@ -161,6 +169,8 @@ pub fn serve<F: Files, R: Read, O: Write, E: Write>(
         (O.contents out.old) (O.contents out.new) (E.contents err.old) (E.contents err.new) }
     ensures one { HasOneReply (world (F.holds files.old) (R.remaining input.old) (F.failed files.old) (F.failed files.new))
         (order_in (texts words.now)) }
+    ensures untouched { (ReadsStandard (order_in (texts words.now)) → ⊥) → input.new ≡ input.old }
+    ensures most { TakesAtMost MAX_READ (R.remaining input.old) (R.remaining input.new) }
 {
     serve_and_tell(alloc, words, files, input, out, err).status
 }

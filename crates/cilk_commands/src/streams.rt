@@ -3,7 +3,7 @@
 ghost use Rattle.std.specs.Prelude.{◌≡◌, ℕ, ◌+◌, ◌^◌, ◌≤◌, ◌<◌, length, take, IsTrue, IsFalse, IfOk, IfSome};
 ghost use Rattle.std.specs.Io.KnownBytes.{Appends, Consumes};
 ghost use Rattle.cilk_cert_text.specs.Certificates.{text_of};
-ghost use Rattle.cilk_commands.specs.Streams.{AppendsPart, ReadsOn};
+ghost use Rattle.cilk_commands.specs.Streams.{AppendsPart, ReadsOn, TakesAtMost};
 
 use crate::counted::CountedReader;
 use crate::files::FileFault;
@@ -22,6 +22,7 @@ const PIECE: usize = 4096;
 const MAX_PIECE: usize = 16_384;
 
 // Reads once, and appends the bytes to the text. The count is 0 only at the end of the input.
+#[tactic(auto, using(crate::proofs::Reading::takes_none, crate::proofs::Reading::takes_read))]
 fn receive_some<R: Read>(
     input: &mut CountedReader<'_, R>,
     text: &mut Vec<u8>,
@@ -33,6 +34,8 @@ fn receive_some<R: Read>(
         text.old.items text.new.items n) }
     ensures within { IfOk result (λ n. n ≤ length piece.old) }
     ensures counted { input.new.reads ≡ input.old.reads + 1 }
+    ensures some { TakesAtMost (length piece.old) (R.remaining input.old.reader.now) (R.remaining input.new.reader.now) }
+    ensures same_reference { input.new.reader.ghost_name ≡ input.old.reader.ghost_name }
 {
     let Ok(count) = input.read(piece) else {
         return Err(FileFault::Device);
@@ -52,6 +55,8 @@ pub fn receive<R: Read>(
     ensures few { input.new.reads ≤ input.old.reads + 262145 }
     ensures whole { IfOk result (λ text. IfSome (R.remaining input.old.reader.now) (λ all. text.items ≡ take MAX_READ all)) }
     ensures taken { IfOk result (λ text. Consumes (R.remaining input.old.reader.now) (R.remaining input.new.reader.now) text.items) }
+    ensures most { TakesAtMost MAX_READ (R.remaining input.old.reader.now) (R.remaining input.new.reader.now) }
+    ensures same_reference { input.new.reader.ghost_name ≡ input.old.reader.ghost_name }
 {
     let mut text = Vec::new(alloc);
     let mut buffer = [0u8; PIECE];

@@ -1,6 +1,7 @@
 use Rattle.std.proofs.Common.{ap₂, rules}
 use Rattle.cilk_checker.specs.Judging.{meant}
-use Rattle.cilk_commands.proofs.Replying.{refused_err, refused_ok, refused_whole}
+use Rattle.cilk_program.specs.Sources.{source}
+use Rattle.cilk_commands.proofs.Replying.{accepted_whole, refused_err, refused_ok, refused_whole}
 use Rattle.cilk_commands.proofs.running.checked.Goals as goal
 
 pub returns-in-Err-Refusal-clause-answer : goal.returns-in-Err-Refusal-clause-answer
@@ -15,3 +16,13 @@ pub returns-in-Err-Refusal-clause-failure : goal.returns-in-Err-Refusal-clause-f
 returns-in-Err-Refusal-clause-failure g c =
     refused_err c.refused.result c.args.path.now (g.F.Files.holds c.args.files.now c.args.path.now) (λ files. g.F.Files.failed files) c.args.files.now _
     (meant c.args.program) c.args.input c.refused.ensures.failure
+
+pub returns-in-Ok-clause-answer : goal.returns-in-Ok-clause-answer
+returns-in-Ok-clause-answer g c =
+    let made = c.new-source.ensures in
+    let a = c.in-Ok._accepted in (
+      a.trace,
+      a.outcome,
+      accepted_whole (source c.args.program) c.args.input _ _ _ a.trace a.outcome
+          (ap₂ (λ files path. g.F.Files.holds files path) made.files made.path) made.at c.in-Ok.ensures.accepted,
+    )

@@ -1,6 +1,6 @@
-use Rattle.std.proofs.Common.{◌≡◌, length, take, subst, arith, length-take}
+use Rattle.std.proofs.Common.{◌≡◌, length, take, subst, ◌∙◌, arith, length-take}
 use Rattle.std.specs.Prelude.{IfSome}
-use Rattle.cilk_commands.proofs.Reading.{more_read, longer, read_last, read_enough}
+use Rattle.cilk_commands.proofs.Reading.{more_read, longer, read_last, read_enough, takes_on}
 use Rattle.cilk_commands.proofs.streams.receive.Goals as goal
 
 pub loop-turn-preserved : goal.loop-turn-preserved
@@ -10,6 +10,7 @@ loop-turn-preserved g c =
       within = omega (arith, c.in_ok-count.ensures.within, same, length-take c.min-room.result c.loop-turn.buffer);
       far = omega (arith, same);
       few = omega (arith, c.in_ok-count.ensures.counted);
+      same = c.receive_some.ensures.same_reference ∙ c.loop-turn.invariant.same;
       read = more_read _ _ _ _ _ _ c.loop-turn.invariant.read c.in_ok-count.ensures.grows;
     }
 
@@ -29,3 +30,17 @@ returns-clause-whole g c =
 
 pub returns-then-count-eq0-clause-taken : goal.returns-then-count-eq0-clause-taken
 returns-then-count-eq0-clause-taken g c = more_read _ _ _ _ _ _ c.loop-turn.invariant.read c.in_ok-count.ensures.grows
+
+pub returns-in_err-count-clause-most : goal.returns-in_err-count-clause-most
+returns-in_err-count-clause-most g c =
+    takes_on _ _ _ _ _ _ c.loop-turn.invariant.read c.receive_some.ensures.some (omega (arith, length-take c.min-room.result c.loop-turn.buffer))
+
+pub returns-then-count-eq0-clause-most : goal.returns-then-count-eq0-clause-most
+returns-then-count-eq0-clause-most g c =
+    takes_on _ _ _ _ _ _ c.loop-turn.invariant.read c.receive_some.ensures.some (omega (arith, length-take c.min-room.result c.loop-turn.buffer))
+
+pub returns-then-room-eq0-clause-most : goal.returns-then-room-eq0-clause-most
+returns-then-room-eq0-clause-most g c = (c.loop-turn.text.items, c.loop-turn.invariant.read, c.loop-turn.invariant.within)
+
+pub returns-clause-most : goal.returns-clause-most
+returns-clause-most g c = (c.loop-turn.text.items, c.loop-turn.invariant.read, c.loop-turn.invariant.within)
