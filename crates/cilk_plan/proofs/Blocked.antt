@@ -4,6 +4,7 @@
 -- - `ahead`, `behind`: a frame that has yet to make a `sync` makes it, so after each spawn its
 --   frame makes one;
 -- - `first_sync`: of a frame's `sync`s after a position, one comes first;
+-- - `one_end`: the `sync` that ends a block is one;
 -- - `blocks_end`: so the block of each spawn of a serial run ends;
 -- - `have_continuations`: in the plan of an accepted run each spawn has one continuation.
 use Rattle.std.proofs.Common.{◌≡◌, ◌≢◌, ◌⊎◌, inl, inr, ⊎_elim, ℕ, zero, suc, ◌+◌, ◌-◌, ◌<◌, ◌≤◌, List, [], ◌∷◌, ◌++◌, map, length, get_or, Option, Some, None, slice_get, refl, sym, ap, ap₂, ◌∙◌, subst, arith, length-append}
@@ -195,7 +196,7 @@ module _ (es : List Event) (frames : List ℕ) (are : AreFrames es frames) (g : 
       (decided q (omega (arith, less)))
 
 -- the `sync` that ends a block is one
-one_end : (es : List Event) (k p q : ℕ) → EndsBlockOf es k p → EndsBlockOf es k q → p ≡ q
+pub one_end : (es : List Event) (k p q : ℕ) → EndsBlockOf es k p → EndsBlockOf es k q → p ≡ q
 one_end es k p q h g =
     let other : IsNextSync es h.0 k q = subst (λ (f : ℕ). IsNextSync es f k q) (one_frame es k g.0 h.0 g.1 h.1) g.2 in
     dite (ℕ_discrete p q)

@@ -1,7 +1,7 @@
 pub mod Blocked
+pub mod Columns
 pub mod Having
 pub mod Making
 pub mod Naming
-pub mod Placed
 pub mod Telling
 pub mod Whole

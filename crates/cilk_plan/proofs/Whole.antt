@@ -1,19 +1,19 @@
 -- The answers of a program's plan: `continuation_at`, `continuation_there`, `strand_at`,
--- `syncs_told`, `strands_told`, `resumptions_told`.
+-- `syncs_told`, `blocks_told`, `strands_told`, `resumptions_told`.
 use Rattle.std.proofs.Common.{◌≡◌, ◌↔◌, ℕ, ◌+◌, ◌-◌, ◌≤◌, List, Option, Some, None, IsSome, slice_get, slice_index_or, refl, sym, ap, ◌∙◌, subst, arith}
-use Rattle.std.specs.Prelude.{All}
 use Rattle.cilk_types.specs.declared.event.Event.{Event}
-use Rattle.cilk_types.specs.declared.event.Event.TheVariants.{Sync}
 use Rattle.cilk_tree.specs.declared.event_order.EventOrder.{EventOrder}
 use Rattle.cilk_tree.specs.Orders.{IsOrderly}
-use Rattle.cilk_tree.specs.Word.{event, spawn, what}
+use Rattle.cilk_tree.specs.Word.{spawn, what}
 use Rattle.cilk_tree.specs.declared.blocks.Continuation.{Continuation}
 use Rattle.cilk_tree.specs.Blocks.{AreContinuations, IsContinuationOf}
 use Rattle.cilk_tree.specs.Resumptions.{AreResumptions}
-use Rattle.cilk_tree.specs.PlanStrands.{AreFirsts, AreStarts, BeginsStrand}
+use Rattle.cilk_tree.specs.PlanStrands.{AreStarts, BeginsStrand}
 use Rattle.cilk_checker.specs.Determinate.{AcceptedRun}
+use Rattle.cilk_plan.specs.Columns.{AreBlockEnds, AreBlocks, AreStrands}
 use Rattle.cilk_plan.specs.Continuations.{SpawnsHaveContinuations}
 use Rattle.cilk_plan.specs.Plans.{IsPlanOf, WholePlan}
+use Rattle.cilk_plan.proofs.Columns.{one_list}
 
 abbrev whole : AcceptedRun → EventOrder → WholePlan
 whole a s = record { run = a; event_order = s }
@@ -44,16 +44,22 @@ strand_at w a s starts n result same plan are low is p =
       λ h. is ∙ (are (n - 1) p).1 (subst (λ (k : ℕ). BeginsStrand a.trace k p) (sym place) (subst (λ (es : List Event). BeginsStrand es n p) (sym events) h.1)),
     )
 
-pub syncs_told : (w : WholePlan) (a : AcceptedRun) (s : EventOrder) (column lent : List ℕ) → whole a s ≡ w → All (λ at. event s at ≡ Some Sync) column → lent ≡ column
-    → All (λ at. event w.event_order at ≡ Some Sync) lent
+pub syncs_told : (w : WholePlan) (a : AcceptedRun) (s : EventOrder) (column lent : List ℕ) → whole a s ≡ w → AreBlockEnds s column → lent ≡ column
+    → AreBlockEnds w.event_order lent
 syncs_told w a s column lent same are is =
-    subst (λ (v : WholePlan). All (λ at. event v.event_order at ≡ Some Sync) lent) same (subst (All (λ at. event s at ≡ Some Sync)) (sym is) are)
+    subst (λ (v : WholePlan). AreBlockEnds v.event_order lent) same (subst (AreBlockEnds s) (sym is) are)
 
-pub strands_told : (w : WholePlan) (a : AcceptedRun) (s : EventOrder) (column lent : List ℕ) → whole a s ≡ w → IsPlanOf a s → AreFirsts a.trace column → lent ≡ column
-    → AreFirsts w.event_order.events lent
+pub blocks_told : (w : WholePlan) (a : AcceptedRun) (s : EventOrder) (syncs column lent : List ℕ) → whole a s ≡ w → AreBlockEnds s syncs → AreBlocks s syncs column
+    → lent ≡ column → (ends : List ℕ) → AreBlockEnds w.event_order ends → AreBlocks w.event_order ends lent
+blocks_told w a s syncs column lent same are blocks is =
+    subst (λ (v : WholePlan). (ends : List ℕ) → AreBlockEnds v.event_order ends → AreBlocks v.event_order ends lent) same
+    (λ ends them. subst (λ (z : List ℕ × List ℕ). AreBlocks s z.0 z.1) (λ i. (one_list s syncs ends are them i, sym is i)) blocks)
+
+pub strands_told : (w : WholePlan) (a : AcceptedRun) (s : EventOrder) (column lent : List ℕ) → whole a s ≡ w → IsPlanOf a s → AreStrands a.trace column → lent ≡ column
+    → AreStrands w.event_order.events lent
 strands_told w a s column lent same plan are is =
     let events : a.trace ≡ s.events = sym (ap (λ (x : EventOrder). x.events) plan.event_order) in
-    subst (λ (v : WholePlan). AreFirsts v.event_order.events lent) same (subst (λ (es : List Event). AreFirsts es lent) events (subst (AreFirsts a.trace) (sym is) are))
+    subst (λ (v : WholePlan). AreStrands v.event_order.events lent) same (subst (λ (es : List Event). AreStrands es lent) events (subst (AreStrands a.trace) (sym is) are))
 
 pub resumptions_told : (w : WholePlan) (a : AcceptedRun) (s : EventOrder) (column lent : List ℕ) → whole a s ≡ w → AreResumptions s column → lent ≡ column
     → AreResumptions w.event_order lent

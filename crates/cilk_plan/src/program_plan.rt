@@ -1,19 +1,19 @@
 //! The plan of an accepted run: all that a worker may know of it.
 
-ghost use Rattle.std.specs.Prelude.{◌≡◌, ◌↔◌, ◌≤◌, ℕ, All, Some, None, slice_get, slice_index_or, IfOk, IsSome};
+ghost use Rattle.std.specs.Prelude.{◌≡◌, ◌↔◌, ◌≤◌, ℕ, List, Some, None, slice_get, slice_index_or, IfOk, IsSome};
 ghost use Rattle.cilk_checker.specs.Determinate.{AreFramesOf, HasDeterminateRun};
 ghost use Rattle.cilk_lower.specs.Behaves.{Behaves};
 ghost use Rattle.cilk_lower.specs.Layout.{LaysOut};
 ghost use Rattle.cilk_lower.specs.Rooms.{RoomsFit};
 ghost use Rattle.cilk_tree.specs.Blocks.{IsContinuationOf};
 ghost use Rattle.cilk_tree.specs.Resumptions.{AreResumptions};
-ghost use Rattle.cilk_tree.specs.PlanStrands.{AreFirsts, BeginsStrand};
+ghost use Rattle.cilk_tree.specs.PlanStrands.{BeginsStrand};
 ghost use Rattle.cilk_tree.specs.declared.blocks.Continuation.{Continuation};
 ghost use Rattle.cilk_program.specs.Sources.{source};
 ghost use Rattle.cilk_tree.specs.Orders.{IsOrderly};
 ghost use Rattle.cilk_tree.specs.Kinds.{IsBehind};
-ghost use Rattle.cilk_tree.specs.Word.{event, spawn, what};
-ghost use Rattle.cilk_types.specs.declared.event.Event.TheVariants.{Sync};
+ghost use Rattle.cilk_tree.specs.Word.{spawn, what};
+ghost use Rattle.cilk_plan.specs.Columns.{AreBlockEnds, AreBlocks, AreStrands};
 ghost use Rattle.cilk_plan.specs.Continuations.{SpawnsHaveContinuations};
 ghost use Rattle.cilk_plan.specs.Frames.{IsFrameOf};
 ghost use Rattle.cilk_plan.specs.Plans.{IsPlanOf};
@@ -78,17 +78,16 @@ impl Drop for ProgramPlan<'_> {
 }
 
 impl<'a> Model for ProgramPlan<'a> {
-    ghost use Rattle.std.specs.Prelude.{◌≡◌, All, Some};
+    ghost use Rattle.std.specs.Prelude.{◌≡◌};
     ghost use Rattle.cilk_checker.specs.Determinate.{AreFramesOf, HasDeterminateRun};
     ghost use Rattle.cilk_lower.specs.Behaves.{Behaves};
     ghost use Rattle.cilk_lower.specs.Layout.{LaysOut};
     ghost use Rattle.cilk_lower.specs.Rooms.{RoomsFit};
     ghost use Rattle.cilk_tree.specs.Blocks.{AreContinuations};
     ghost use Rattle.cilk_tree.specs.Resumptions.{AreResumptions};
-    ghost use Rattle.cilk_tree.specs.PlanStrands.{AreFirsts, AreStarts};
+    ghost use Rattle.cilk_tree.specs.PlanStrands.{AreStarts};
     ghost use Rattle.cilk_program.specs.Sources.{source};
-    ghost use Rattle.cilk_tree.specs.Word.{event};
-    ghost use Rattle.cilk_types.specs.declared.event.Event.TheVariants.{Sync};
+    ghost use Rattle.cilk_plan.specs.Columns.{AreBlockEnds, AreBlocks, AreStrands};
     ghost use Rattle.cilk_plan.specs.Plans.{IsPlanOf, WholePlan, whole_code};
 
     ghost Value = { WholePlan };
@@ -97,7 +96,7 @@ impl<'a> Model for ProgramPlan<'a> {
 
     ghost view = { λ p. record { run = p.accepted.value; event_order = p.events } };
 
-    ghost invariant = { λ p. HasDeterminateRun p.accepted.value × (p.program.now ≡ p.accepted.value.program) × (p.input.now ≡ p.accepted.value.input) × Behaves (source p.accepted.value.program) p.code × RoomsFit (source p.accepted.value.program) p.code × LaysOut (source p.accepted.value.program) p.code.layout × IsPlanOf p.accepted.value p.events × AreFramesOf p.accepted.value p.frames.now × AreContinuations p.events p.continuations.items × AreStarts p.accepted.value.trace p.starts.items × All (λ at. event p.events at ≡ Some Sync) p.syncs.items × AreFirsts p.accepted.value.trace p.strands.items × AreResumptions p.events p.resumptions.items };
+    ghost invariant = { λ p. HasDeterminateRun p.accepted.value × (p.program.now ≡ p.accepted.value.program) × (p.input.now ≡ p.accepted.value.input) × Behaves (source p.accepted.value.program) p.code × RoomsFit (source p.accepted.value.program) p.code × LaysOut (source p.accepted.value.program) p.code.layout × IsPlanOf p.accepted.value p.events × AreFramesOf p.accepted.value p.frames.now × AreContinuations p.events p.continuations.items × AreStarts p.accepted.value.trace p.starts.items × AreBlockEnds p.events p.syncs.items × AreStrands p.accepted.value.trace p.strands.items × AreResumptions p.events p.resumptions.items × AreBlocks p.events p.syncs.items p.blocks.items };
 }
 
 /// Makes the plan of an accepted program's run. Cost and memory: linear in the run's events and the
@@ -249,23 +248,25 @@ impl<'a> ProgramPlan<'a> {
         start_in(&self.starts, number as usize - 1)
     }
 
-    /// Returns the positions of the `sync`s that end blocks with spawns. Their indices are the
-    /// blocks' numbers.
+    /// Returns the positions of the `sync`s that end blocks with spawns, in the order of these
+    /// blocks' first spawns. Their indices are the blocks' numbers.
     pub fn syncs(&self) -> &[Pos]
-        ensures { All (λ at. event self.now.event_order at ≡ Some Sync) result.now }
+        ensures { AreBlockEnds self.now.event_order result.now }
     {
         self.syncs.as_slice()
     }
 
     /// Returns a column with the block of each position that has one: those of the block's `sync`
     /// and of the `resume`s after its spawns. Each other position has `u32::MAX`.
-    pub fn blocks(&self) -> &[u32] {
+    pub fn blocks(&self) -> &[u32]
+        ensures { (syncs : List ℕ) → AreBlockEnds self.now.event_order syncs → AreBlocks self.now.event_order syncs result.now }
+    {
         self.blocks.as_slice()
     }
 
     /// Returns a column with the strand that begins at each position, or 0 if none does.
     pub fn strands(&self) -> &[StrandNo]
-        ensures { AreFirsts self.now.event_order.events result.now }
+        ensures { AreStrands self.now.event_order.events result.now }
     {
         self.strands.as_slice()
     }

@@ -9,6 +9,8 @@ use Rattle.cilk_tree.specs.declared.kind.Kind.{Kind}
 use Rattle.cilk_tree.specs.declared.kind.Kind.TheVariants as kinds
 use Rattle.cilk_tree.specs.Kinds.{kind_of}
 use Rattle.cilk_tree.specs.PlanStrands.{AreFirsts, BeginsStrand}
+use Rattle.cilk_plan.specs.Columns.{AreStrands}
+use Rattle.cilk_plan.proofs.Columns.{firsts_of}
 
 -- how many strands an event of this kind begins
 abbrev begun : Kind → ℕ
@@ -40,5 +42,5 @@ begins_along es fs same n p h = record {
   first = λ q low less e. h.first q low less (same_strand es fs same q ∙ e);
 }
 
-pub firsts_along : (es fs : List Event) → map kind_of es ≡ map kind_of fs → (strands : List ℕ) → AreFirsts es strands → AreFirsts fs strands
-firsts_along es fs same strands h p some = begins_along es fs same (slice_index_or strands p 0) p (h p some)
+pub firsts_along : (es fs : List Event) → map kind_of es ≡ map kind_of fs → (strands : List ℕ) → AreStrands es strands → AreFirsts fs strands
+firsts_along es fs same strands h p some = begins_along es fs same (slice_index_or strands p 0) p (firsts_of es strands h p some)

@@ -22,7 +22,9 @@ use Rattle.cilk_determinacy.specs.Nested.{named}
 use Rattle.cilk_replay.specs.InputCourses as courses
 use Rattle.cilk_replay.specs.Frames.{course_on}
 use Rattle.cilk_replay.specs.EventOrders.{OwnEventOrder, IsPlannedRun}
+use Rattle.cilk_plan.specs.Columns.{AreBlockEnds}
 use Rattle.cilk_plan.specs.Plans.{WholePlan, IsPlanOf, IsEventOrderOn}
+use Rattle.cilk_plan.proofs.Columns.{ends_are_syncs}
 use Rattle.cilk_plan.proofs.Telling.{own_is_the_plan}
 use Rattle.cilk_workers.specs.Shared.{SharedValue, shared_with}
 use Rattle.cilk_workers.specs.Activities.{IsWhole}
@@ -33,8 +35,8 @@ use Rattle.cilk_threads.specs.Outcomes.{IsFaultOn, IsWholeOf, NamesNoPosition}
 use Rattle.cilk_threads.proofs.Placed.{sync_along}
 
 -- a `sync` of the plan is one of each event order along it
-pub syncs_along : (plan s : EventOrder) → IsAlong plan s → (ats : List ℕ) → All (λ at. event plan at ≡ Some Sync) ats → All (λ at. event s at ≡ Some Sync) ats
-syncs_along plan s along ats h k d lt = sync_along s.events plan.events along.kinds _ (h k d lt)
+pub syncs_along : (plan s : EventOrder) → IsAlong plan s → (ats : List ℕ) → AreBlockEnds plan ats → All (λ at. event s at ≡ Some Sync) ats
+syncs_along plan s along ats h k d lt = sync_along s.events plan.events along.kinds _ (ends_are_syncs plan ats h k d lt)
 
 -- the whole run's piece is that of the yard's events
 pub whole_of : (y : YardValue) (r : Reducers) (c : CourseValue) (p : Source) (own inputs : List ℤ) (s : SharedValue) (x : PieceValue) (v : ℤ)

@@ -41,10 +41,10 @@ use std::thread::Threads;
 /// Runs an accepted program along its plan on an input, the plan's own or another, with 1 to 64
 /// workers, each in a thread of its own.
 ///
-/// Returns the outcome of the program's serial elision on that input, which departs nowhere from the
-/// plan then. Each serial run on that input that ends without a fault has this outcome. On the
-/// plan's own input it is the accepted run's outcome, and no departure is returned. `gate` is called
-/// as each strand begins. Termination is not proved.
+/// Returns the outcome of the program's serial elision on that input, if the input departs nowhere
+/// from the plan. Each serial run on that input that ends without a fault has this outcome. On the
+/// plan's own input it is the accepted run's outcome, and no departure is returned. `gate` is
+/// called as each strand begins. Termination is not proved.
 pub fn run_threads<R: Threads + Wait + Sync, G: Gate + Sync>(
     rt: &R,
     alloc: Global,

@@ -1,8 +1,5 @@
-use Rattle.std.proofs.Common.{◌≡◌, Some}
-use Rattle.std.specs.Prelude.{All}
-use Rattle.cilk_types.specs.declared.event.Event.TheVariants.{Sync}
-use Rattle.cilk_tree.specs.Word.{event}
+use Rattle.cilk_plan.specs.Placing.{BlocksBelow}
 use Rattle.cilk_plan.proofs.places.blocks.Given as goal
 
 abbrev pub invariant-each : goal.invariant-each
-invariant-each l = All (λ at. event l.events at ≡ Some Sync) l.syncs.items
+invariant-each l = BlocksBelow l.events l.spawn l.spawn l.syncs.items l.of.items

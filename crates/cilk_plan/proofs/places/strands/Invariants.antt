@@ -1,5 +1,5 @@
-use Rattle.cilk_tree.specs.PlanStrands.{AreFirsts}
+use Rattle.cilk_plan.specs.Placing.{StrandsBelow}
 use Rattle.cilk_plan.proofs.places.strands.Given as goal
 
 abbrev pub invariant-each : goal.invariant-each
-invariant-each l = AreFirsts l.trace l.column.items
+invariant-each l = StrandsBelow l.trace l.place l.column.items

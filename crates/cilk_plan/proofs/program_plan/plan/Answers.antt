@@ -1,17 +1,15 @@
-use Rattle.std.proofs.Common.{◌≡◌, List, Some, sym, ◌∙◌, subst}
-use Rattle.std.specs.Prelude.{All}
+use Rattle.std.proofs.Common.{◌≡◌, List, sym, ◌∙◌, subst}
 use Rattle.cilk_types.specs.declared.event.Event.{Event}
-use Rattle.cilk_types.specs.declared.event.Event.TheVariants.{Sync}
 use Rattle.cilk_lower.specs.Behaves.{Behaves}
 use Rattle.cilk_lower.specs.Layout.{LaysOut}
 use Rattle.cilk_lower.specs.Rooms.{RoomsFit}
 use Rattle.cilk_tree.specs.Blocks.{AreContinuations}
 use Rattle.cilk_tree.specs.Resumptions.{AreResumptions}
-use Rattle.cilk_tree.specs.PlanStrands.{AreFirsts, AreStarts}
+use Rattle.cilk_tree.specs.PlanStrands.{AreStarts}
 use Rattle.cilk_program.specs.declared.program.Program.{Program}
 use Rattle.cilk_program.specs.Sources.{source}
-use Rattle.cilk_tree.specs.Word.{event}
 use Rattle.cilk_checker.specs.Determinate.{AcceptedRun, AreFramesOf, HasDeterminateRun}
+use Rattle.cilk_plan.specs.Columns.{AreBlockEnds, AreBlocks, AreStrands}
 use Rattle.cilk_plan.specs.Plans.{IsPlanOf}
 use Rattle.cilk_plan.proofs.program_plan.plan.Goals as goal
 
@@ -28,7 +26,7 @@ invariant_of-result c =
     let a = c.args.accepted.now in
     let same = c.program-program.ensures.value in
     let code = c.in_ok-code.code in
-    let Goal : AcceptedRun → Type 0 = λ r. HasDeterminateRun r × (c.program-program.result.now ≡ r.program) × (c.input.result.now ≡ r.input) × Behaves (source r.program) code × RoomsFit (source r.program) code × LaysOut (source r.program) code.layout × IsPlanOf r c.in_ok-events.events × AreFramesOf r c.frames.result.now × AreContinuations c.in_ok-events.events c.in_ok-continuations.continuations.items × AreStarts r.trace c.in_ok-starts.starts.items × All (λ at. event c.in_ok-events.events at ≡ Some Sync) c.in_ok-syncs.syncs.items × AreFirsts r.trace c.in_ok-strands.strands.items × AreResumptions c.in_ok-events.events c.in_ok-resumptions.resumptions.items in
+    let Goal : AcceptedRun → Type 0 = λ r. HasDeterminateRun r × (c.program-program.result.now ≡ r.program) × (c.input.result.now ≡ r.input) × Behaves (source r.program) code × RoomsFit (source r.program) code × LaysOut (source r.program) code.layout × IsPlanOf r c.in_ok-events.events × AreFramesOf r c.frames.result.now × AreContinuations c.in_ok-events.events c.in_ok-continuations.continuations.items × AreStarts r.trace c.in_ok-starts.starts.items × AreBlockEnds c.in_ok-events.events c.in_ok-syncs.syncs.items × AreStrands r.trace c.in_ok-strands.strands.items × AreResumptions c.in_ok-events.events c.in_ok-resumptions.resumptions.items × AreBlocks c.in_ok-events.events c.in_ok-syncs.syncs.items c.in_ok-syncs.blocks.items in
     let h : Goal a = (
       c.program-program.ensures.determinate,
       same,
@@ -40,8 +38,9 @@ invariant_of-result c =
       c.frames.ensures,
       c.in_ok-continuations.ensures,
       subst (λ (es : List Event). AreStarts es c.in_ok-starts.starts.items) c.trace.ensures.value c.in_ok-starts.ensures,
-      c.in_ok-syncs.ensures,
-      subst (λ (es : List Event). AreFirsts es c.in_ok-strands.strands.items) c.trace-2.ensures.value c.in_ok-strands.ensures,
+      c.in_ok-syncs.ensures.syncs,
+      subst (λ (es : List Event). AreStrands es c.in_ok-strands.strands.items) c.trace-2.ensures.value c.in_ok-strands.ensures,
       c.in_ok-resumptions.ensures,
+      c.in_ok-syncs.ensures.blocks,
     ) in
     subst Goal (sym c.of.ensures) h
