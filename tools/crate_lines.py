@@ -2,7 +2,7 @@
 """Says where a line of crates.txt lists a crate that no file of that crate names, or lacks one that a file names.
 
 A file names a crate by a path of code (`cilk_types::event`), or by a path of a clause, a definition or a proof (`Rattle.cilk_types.specs`).
-Its last line is `N lines agree, M don't`; the status is 1 if one doesn't. With --write it writes the lines as they should be."""
+Its last line is `N passed, M failed`, by lines; the status is 1 if one doesn't. With --write it writes the lines as they should be."""
 
 import os
 import re
@@ -69,7 +69,7 @@ def main(words):
     if "--write" in words:
         with open(f"{TOP}/crates.txt", "w", encoding="utf-8") as file:
             file.write("\n".join(out) + "\n")
-    print(f"{agree} lines agree, {differ} don't")
+    print(f"{agree} passed, {differ} failed")
     return 1 if differ else 0
 
 
