@@ -113,5 +113,6 @@ fn one_helper_reads_the_certificate_once(rt: HostRuntime) {
     let twice = served(&rt, rt.alloc(), &two, certificate, u64::MAX);
     assert!(rt; once.is(0, "accepted\n", "") && twice.is(0, "accepted\n", ""));
     let parts = once.reads.saturating_sub(1);
-    assert!(rt; parts >= 2 && twice.reads.saturating_sub(1) == parts.saturating_mul(2));
+    // The reading for hints ends with the root, before the pull that finds the end of the text.
+    assert!(rt; parts >= 2 && twice.reads == parts.saturating_mul(2));
 }
