@@ -24,7 +24,7 @@
 //! let mut cursor = Cursor::root(alloc, &code)?;
 //! let mut asked = AskSlot::new();              // the frame begins
 //! step_into(&code, &input, &mut cursor, Answer::Done, &mut left, &mut asked);
-//! match asked.brief() {
+//! match asked.small_ask() {
 //!     Some(SmallAsk::Read(place)) => ..,       // it waits for the value
 //!     Some(SmallAsk::End(result)) => ..,       // it has ended
 //!     ..

@@ -1,7 +1,7 @@
 -- Pieces by key, and the row that they give, cut at keys.
 --
 -- - `between_is`, `cut_beside`: the product of a piece and those beside it;
--- - `below_all`, `above_none`, `below_none`, `above_all`, `below_less`, `above_more`, ..: pieces
+-- - `below_all`, `above_none`, `below_none`, `above_all`, `below_more`, ..: pieces
 --   below a key, and above it;
 -- - `keys_cut`, `placed_cut`: a piece comes to its place in the row as it does among the pieces;
 -- - `parts_are_few`: the runs of any row.

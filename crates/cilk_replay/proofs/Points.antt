@@ -3,7 +3,7 @@
 -- - `Laid`: a list of points has those of a course from a position on; `laid`: so has a course's
 --   own list;
 -- - `walk`: the law of each point;
--- - `points_asked`, `points_deeds`, `written_at`: the event order at each point.
+-- - `written_at`: the event order at each point.
 use Rattle.std.proofs.Common.{◌≡◌, ◌≢◌, ◌≤◌, ◌<◌, ◌⊎◌, inl, inr, ⊎_elim, ℕ, zero, suc, ◌+◌, ◌-◌, ℤ, Bool, true, false, cond, List, [], ◌∷◌, ◌++◌, map, length, Option, Some, None, slice_get, slice_index_or, refl, sym, ap, ap₂, ◌∙◌, subst, arith, append_assoc, append-nil, length-append}
 use Rattle.std.specs.Option.{option_map}
 use Rattle.std.proofs.lemmas.Bool.{and_parts}

@@ -1,7 +1,7 @@
 -- Facts about the cells and reducers that a frame sees.
 --
 -- - `seen`: a place that the frame names; `cell_found`: the cell that is requested;
--- - `reducer_seen_is`, `reducer_found`: the same of reducers;
+-- - `reducer_found`: the same of reducers;
 -- - `root_sees`, `child_sees`: frames as they begin;
 -- - `lies_at`: a frame by its number; `block_in`, `body_in`: its cells and its body.
 use Rattle.std.proofs.Common.{◌≡◌, ◌≢◌, ℕ, zero, suc, ◌+◌, ◌-◌, nat_eq, nat_lt, if◌then◌else◌, Bool, true, false, IsTrue, List, [], ◌∷◌, ◌++◌, drop, length, map, Option, Some, None, slice_get, unwrap_or, option_map, refl, sym, ap, ◌∙◌, subst, arith, ltb-false, ltb-true, eqb-true, eq-eqb}

@@ -2,8 +2,8 @@
 --
 -- - `follows_on`, `ahead`, `all_ahead`: one after the other; with further tasks after them;
 -- - `handed`, `on_ok`, `if_err`: an error that is passed on, and what follows for a result;
--- - `fault_of`, `fails_later`, `fails_ahead`, `all_fail_ahead`: an error of other ends, of the
---   tasks that are left, and of the first tasks;
+-- - `fault_of`, `fails_later`, `all_fail_ahead`: an error of other ends, of the tasks that are
+--   left, and of the first tasks;
 -- - `chosen`, `refused`: a choice is made, or stops the run;
 -- - `turned`, `turn_fails`, `turns_more`: a turn is its choice;
 -- - `round_begins`, `rounds_ended`, `rounds_enough`: rounds;

@@ -1,6 +1,6 @@
 -- Children that were joined, by the events that their parent shows.
 --
--- - `joins_past`, `sync_past`: an event that starts no child;
+-- - `joins_past`: an event that starts no child;
 -- - `none_later`, `sync_shown`: from a child on, and a sync;
 -- - `joins_shown`: whether a child was joined.
 use Rattle.std.proofs.Common.{◌≡◌, ◌<◌, ℕ, suc, nat_eq, eqb-true, Bool, true, false, cond, List, [], ◌∷◌, refl, sym, ap, ◌∙◌, arith}

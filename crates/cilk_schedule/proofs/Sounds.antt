@@ -1,8 +1,8 @@
 -- Changes that keep a scheduler sound.
 --
--- - `lives_more`, `there_more`: with more cells, and with one frame changed;
+-- - `there_more`: with one frame changed;
 -- - `changed_sound`: one frame is changed;
--- - `quiet`, `quiet_changes`: where it is, or what lies at its block;
+-- - `quiet`: where it is, or what lies at its block;
 -- - `settled`: its event is made;
 -- - `pushed`: one frame more.
 use Rattle.std.proofs.Common.{◌≡◌, ◌+◌, ◌<◌, ◌≤◌, ℕ, zero, suc, nat_eq, eqb-true, Bool, true, false, ℤ, List, [], ◌∷◌, ◌++◌, length, slice_get, Option, Some, None, refl, sym, ap, ◌∙◌, subst, arith, ◌⊎◌, inl, inr}

@@ -1,7 +1,7 @@
 -- The end of a frame, put together from the contracts of the functions.
 --
--- - `changed_apart`, `working_back`, `altered_known`: changes at two places;
--- - `closed_by`, `frames_by`: a frame that is finished;
+-- - `changed_apart`, `working_back`: changes at two places;
+-- - `closed_by`: a frame that is finished;
 -- - `runs_left`, `go_back`, `handed_in`: the three ways in which a frame ends.
 use Rattle.std.proofs.Common.{◌≡◌, ℕ, zero, suc, Bool, true, false, cond, ℤ, List, [], ◌∷◌, slice_get, Some, refl, sym, ap, ap₂, ◌∙◌, subst, arith}
 use Rattle.cilk_program.specs.declared.ask.Ask.TheVariants as asks

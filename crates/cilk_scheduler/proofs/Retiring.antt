@@ -1,6 +1,6 @@
 -- The views of a worker whose frame ends lose that frame's own reducers, as its piece does.
 --
--- - `AreOwn`, `own_named_there`: the numbers of a frame's own reducers;
+-- - `AreOwn`, `own_there`: the numbers of a frame's own reducers;
 -- - `lost_value`, `lost_views`: the views that are left;
 -- - `lost_bare`: they hold nothing of frames that haven't begun.
 use Rattle.std.proofs.Common.{◌≡◌, ◌+◌, ℕ, suc, Bool, true, false, true≢false, cond, IsTrue, List, [], ◌∷◌, slice_get, Option, Some, None, refl, sym, ap, ◌∙◌, subst, arith}

@@ -23,7 +23,7 @@
 //!
 //! ```text
 //! go_on(&code, &input, &mut state.frames, frame, &mut state.asked);      // its next event
-//! if let Some(SmallAsk::Read(place)) = state.asked.brief() {
+//! if let Some(SmallAsk::Read(place)) = state.asked.small_ask() {
 //!     let cell = cell_at(state.frames.as_slice(), frame, *place);
 //!     let event = read(&mut state.frames, state.cells.as_slice(), frame, cell);
 //!     // into room that was reserved in the journal

@@ -3,7 +3,7 @@
 -- - `quiet_read`, `quiet_write`, `quiet_spawn`, `quiet_resume`, `quiet_value`: events of no
 --   reducer;
 -- - `finish_event`: the root's `end` is an `end`;
--- - `words_ends`, `words_one`: numbers are words;
+-- - `words_ends`: numbers are words;
 -- - `in_frame`: whose frame an event is in.
 use Rattle.std.proofs.Common.{◌≡◌, ℕ, zero, suc, ◌+◌, ◌-◌, ◌<◌, ◌≤◌, ℤ, List, [], ◌∷◌, Bool, true, false, if◌then◌else◌, Option, Some, None, slice_get, refl, sym, ap, ◌∙◌, subst, arith}
 use Rattle.cilk_types.specs.declared.event.Event.{Event}

@@ -3,8 +3,7 @@
 -- - `shows_none`: without events there are no views; `shows_kept`, `shows_same`: views or values as
 --   before;
 -- - `shows_change`: one event of a reducer; `shows_read`: its value is read; `shows_ends`: a
---   frame's reducers end;
--- - `shows_joined`, `shows_three`: ranges that adjoin.
+--   frame's reducers end.
 use Rattle.std.proofs.Common.{◌≡◌, Bool, true, false, cond, ◌&&◌, List, [], ◌∷◌, ◌++◌, ⊎_elim, Some, None, refl, sym, ap, ◌∙◌}
 use Rattle.cilk_types.specs.declared.event.Instance.{Instance}
 use Rattle.cilk_monoid.specs.declared.kind.MonoidKind.{MonoidKind}

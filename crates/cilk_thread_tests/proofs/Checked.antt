@@ -1,7 +1,6 @@
 -- Facts that are shown by computation.
 --
 -- - `right_reads`: each read has the value last written to its cell, if a test of each event holds;
--- - `right_words`: each value is a word;
 -- - `valued`: an event order that begins has values.
 use Rattle.std.proofs.Common.{◌≡◌, ℕ, zero, suc, ◌+◌, ◌-◌, ◌^◌, ◌<◌, ◌⊎◌, ⊎_elim, ℤ, pos, negsuc, nat_lt, Bool, true, false, ◌&&◌, List, [], ◌∷◌, Option, Some, None, slice_get, slice_index_or, refl, sym, ap, ◌∙◌, subst, arith}
 use Rattle.std.specs.Prelude.{FitsSigned}

@@ -1,7 +1,7 @@
 -- If the reducers of a plan are settled, they are settled in each event order along it:
 -- `along_settled`.
 --
--- - `mentions_is`, `resets_is`: which reducers an event is of, by its kind;
+-- - `mentions_is`: which reducers an event is of, by its kind;
 -- - `frames_same`: events of the same kinds are in the same frames.
 use Rattle.std.proofs.Common.{◌≡◌, ◌⊎◌, ⊎_elim, inl, inr, ℕ, zero, suc, ◌+◌, ◌-◌, ℤ, List, [], ◌∷◌, map, Option, Some, None, slice_get, refl, sym, ap, ◌∙◌, subst}
 use Rattle.std.specs.Option.{option_map}

@@ -1,7 +1,7 @@
 -- From clap's matches to an order.
 --
 -- - `no_program`, `no_certificate`, `both_texts`: the texts in the matches;
--- - `no_texts`, `no_workers`, `all_there`: the order of these texts;
+-- - `no_texts`, `all_there`: the order of these texts;
 -- - `free_shape`, `order_of_matches`, `order_of_refused`, `order_found`, `order_lost`: the order
 --   of words that clap matches or refuses.
 use Rattle.std.proofs.Common.{◌≡◌, ℕ, List, [], ◌∷◌, Option, Some, None, option_map, option_and_then, refl, sym, ap, ap₂, ◌∙◌, subst, codes, true, false, inl, inr, rules}

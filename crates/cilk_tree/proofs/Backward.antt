@@ -1,6 +1,6 @@
 -- The pass from the last event to the first gives the tree's nodes in preorder.
-use Rattle.std.proofs.Common.{◌≡◌, ◌≢◌, ℕ, suc, ◌+◌, ◌-◌, ◌<◌, ◌≤◌, ◌*◌, Bool, true, false, cond, nat_eq, List, [], ◌∷◌, ◌++◌, length, drop, get_or, Option, Some, None, refl, sym, ◌∙◌, ap, subst, arith}
-use Rattle.std.proofs.lemmas.List.{append_assoc, append-nil, length-append, length-drop}
+use Rattle.std.proofs.Common.{◌≡◌, ◌≢◌, ℕ, suc, ◌+◌, ◌-◌, ◌<◌, ◌≤◌, ◌*◌, Bool, true, false, cond, nat_eq, List, [], ◌∷◌, ◌++◌, length, map, drop, get_or, Option, Some, None, refl, sym, ◌∙◌, ap, subst, arith}
+use Rattle.std.proofs.lemmas.List.{append_assoc, append-nil, length-append, length-map, length-drop, get_or-map}
 use Rattle.std.proofs.Math.Seq.{drop-cons, drop-length}
 use Rattle.std.proofs.lemmas.Bool.{eq-eqb, ne_eqb}
 use Rattle.cilk_tree.specs.declared.tree.Node.{Node}
@@ -8,6 +8,8 @@ use Rattle.cilk_tree.specs.declared.tree.Node.TheVariants as nodes
 use Rattle.cilk_tree.specs.declared.building.StrandCounts.{StrandCounts}
 use Rattle.cilk_tree.specs.declared.mark.Mark.{Mark}
 use Rattle.cilk_tree.specs.declared.mark.Mark.TheVariants.{Begin, End, Sync, Resume, Spawn, Call, Plain}
+use Rattle.cilk_types.specs.declared.event.Event.{Event}
+use Rattle.cilk_tree.specs.Marks.{mark_of}
 use Rattle.cilk_types.specs.declared.invocation.Invocation.{Invocation}
 use Rattle.cilk_types.specs.declared.invocation.Invocation.TheVariants as invocations
 use Rattle.cilk_tree.specs.Shape.{Shape, finish, act, sync, child, start_of, marks, SpellsMarks}
@@ -258,3 +260,21 @@ pub at_last : (ms : List Mark) (place : ℕ) (b : Built) (s : Shape) → At ms p
 at_last ms place b s (le, h) z sp =
     let e : place ≡ 0 = omega arith in
     rw h (rw e (subst (λ (ns : List Mark). (after ns).nodes ≡ preorder (tree s)) (sym sp) (builds s)))
+
+-- The same pass over the marks of a list of events.
+pub at_first_event : (events slice : List Event) (b : Built) → slice ≡ events → b ≡ opening → At (map mark_of events) (length slice) b
+at_first_event events slice b e h =
+    rw e (let l = length-map events mark_of in (omega (arith, l), rw (sym l) (rw (drop-length (map mark_of events)) h)))
+
+pub at_next_event : (events slice : List Event) (place : ℕ) (d : Event) (m : Mark) (b b' : Built)
+    → slice ≡ events → At (map mark_of events) place b → 0 < place → m ≡ mark_of (get_or slice (place - 1) d) → b' ≡ step m b
+    → At (map mark_of events) (place - 1) b'
+at_next_event events slice place d m b b' e (le, h) p q s =
+    let l = length-map events mark_of in
+    let lt : place - 1 < length events = omega (arith, l, le) in
+    let f : m ≡ mark_of (get_or events (place - 1) d) = subst (λ (l : List Event). m ≡ mark_of (get_or l (place - 1) d)) e q in
+    let g : get_or (map mark_of events) (place - 1) (mark_of d) ≡ m = get_or-map mark_of events (place - 1) d (mark_of d) lt ∙ sym f in
+    at_next (map mark_of events) place (mark_of d) b b' (le, h) p (s ∙ ap (λ (x : Mark). step x b) (sym g))
+
+pub event_within : (events : List Event) (place : ℕ) (b : Built) → At (map mark_of events) place b → length events ≤ 1000000 → IsWithin 1073741824 b
+event_within events place b at few = at_within (map mark_of events) place b at (let l = length-map events mark_of in omega (arith, l))

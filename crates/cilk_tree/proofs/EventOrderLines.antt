@@ -1,7 +1,7 @@
 -- The immediate predecessors of the events of a run, by their marks.
 --
 -- - `marked_shape`: the marks of a list of events, at their places in the line of its shape;
--- - `placed`, `placed_whole`: each event follows the one before it, or is a `sync`, a `resume`
+-- - `placed`: each event follows the one before it, or is a `sync`, a `resume`
 --   after a spawn, or the first;
 -- - `return_inside`, `returned_once`, `returned`: each spawn has one `resume`;
 -- - `ends_last`: the last event is an `end`.

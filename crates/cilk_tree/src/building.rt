@@ -165,9 +165,12 @@ pub fn tree_of_marks(alloc: Global, marks: &[Mark]) -> Result<SpTree, AllocError
 pub fn tree_of(alloc: Global, trace: &Trace) -> Result<SpTree, AllocError>
     ensures { IfOk result (λ t. (s : Shape) → Spells s trace.now → t ≡ preorder (tree s)) }
 {
-    let mut marks = Vec::new(alloc);
-    'each: for event in trace.as_slice() {
-        marks.push(Mark::of(event))?;
+    let mut building = Building::new(alloc);
+    let events = trace.as_slice();
+    let mut place = events.len();
+    while place > 0 {
+        place -= 1;
+        building.step(Mark::of(&events[place]))?;
     }
-    tree_of_marks(alloc, marks.as_slice())
+    Ok(SpTree::new(building.nodes.into_vec()))
 }
