@@ -14,7 +14,7 @@ use cilk_checker::judge;
 use cilk_parser::fault::TextFault;
 use cilk_parser::input::parse_input;
 use cilk_program::program::{GlobalReducer, Program};
-use cilk_schedule::{PlayFault, play as play_steps};
+use cilk_schedule::{PlayFault, play_steps};
 use cilk_script::script::{ScriptFault, Step, read};
 use cilk_serial::fault::RunFault;
 use cilk_serial::run::run as run_serially;

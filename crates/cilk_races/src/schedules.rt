@@ -2,7 +2,7 @@
 
 use cilk_findings::case::Case;
 use cilk_findings::notes::push_line;
-use cilk_schedule::{PlayFault, play};
+use cilk_schedule::{PlayFault, play_steps};
 use cilk_script::script::{ScriptFault, read};
 use cilk_serial::fault::RunFault;
 use cilk_serial::run::run;
@@ -58,7 +58,7 @@ fn leaves(case: &Case<'_>, script: &str) -> Result<Option<String>, AllocError> {
         Err(ScriptFault::Line(_)) => return Ok(None),
         Err(ScriptFault::Memory) => return Err(AllocError),
     };
-    match play(alloc, &case.program, &case.input, 2, steps.as_slice()) {
+    match play_steps(alloc, &case.program, &case.input, 2, steps.as_slice()) {
         Ok(Some(outcome)) => Ok(Some(left(case, &outcome)?)),
         Ok(None) => Ok(None),
         Err(fault) => stopped(alloc, &fault),

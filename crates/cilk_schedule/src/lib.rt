@@ -16,8 +16,8 @@
 //!
 //! | Item | Use |
 //! |---|---|
-//! | [`play`] | Makes the choices of a script (`cilk_script`) and returns the outcome. |
-//! | [`machine::play`] | Makes a list of choices and returns what the run shows. |
+//! | [`play`] | Makes a list of choices and returns what the run shows. |
+//! | [`play_steps`] | Makes the choices of a script (`cilk_script`) and returns the outcome. |
 //! | [`machine::Machine::choose`] | Makes one choice. |
 //! | [`showing::Shown`] | The events of each frame, joined children and the outcome, by paths. |
 //! | [`laws`], [`play_laws`] | A list of choices, and a script, has at most one end. |
@@ -46,5 +46,7 @@ pub mod showing;
 mod starting;
 mod thieves;
 
+pub use cilk_scheduler::choice::{Act, Choice, Stop, Strand, Told};
 pub use fault::PlayFault;
-pub use player::play;
+pub use machine::{Machine, play};
+pub use player::play as play_steps;

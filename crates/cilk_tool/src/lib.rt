@@ -41,4 +41,6 @@ mod serving;
 mod source;
 pub mod words;
 
+pub use cilk_commands::files::{FileFault, Files};
+pub use cilk_report::{Keeps, KeptFiles};
 pub use serving::serve;

@@ -1,4 +1,4 @@
-//! A certificate that helpers check, while its file fails in one of the two readings.
+//! Reads of files by the commands that start threads, and a certificate whose file fails.
 
 ghost use Rattle.std.specs.Prelude.{◌≡◌};
 
@@ -115,4 +115,17 @@ fn one_helper_reads_the_certificate_once(rt: HostRuntime) {
     let parts = once.reads.saturating_sub(1);
     // The reading for hints ends with the root, before the pull that finds the end of the text.
     assert!(rt; parts >= 2 && twice.reads == parts.saturating_mul(2));
+}
+
+#[test]
+fn no_file_is_read_for_wrong_words(rt: HostRuntime) {
+    let cases: [&[&str]; 3] = [
+        &["threads"],
+        &["threads", "program"],
+        &["threads", "program", "certificate", "--trace", "script"],
+    ];
+    for words in cases {
+        let ended = served(&rt, rt.alloc(), words, b"", u64::MAX);
+        assert!(rt; ended.status == 2 && ended.out.is_empty() && ended.reads == 0);
+    }
 }
