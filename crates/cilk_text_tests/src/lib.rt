@@ -1,14 +1,12 @@
-//! Tests of the parts that read texts and report faults: the parser, the names, the scripts, the
-//! messages, and the tool's reads and writes.
+//! Tests of the parts that read texts and report faults: the names, the scripts, the messages, and
+//! the tool's reads and writes.
 //!
 //! Whole calls of the tool are compared by `cilk_rows`. This crate has the tests that such a call
-//! can't make. Some of them look at values inside: the tree of a text, the resolved program, the
-//! steps of a script. Others let a device fail: a writer that is full, a file that fails at its
+//! can't make. Some of them look at values inside: the resolved program, the steps of a script. Others let a device fail: a writer that is full, a file that fails at its
 //! second part. The rest count reads, since a text has to be judged before the next file is read.
 //!
 //! | Module | Tests |
 //! |---|---|
-//! | [`texts`] | which texts the parser accepts, and their trees |
 //! | [`names`] | the programs that small texts resolve to |
 //! | [`scripts`], [`choices`] | the steps of scripts, and the choices that they encode |
 //! | [`messages`] | the messages and numbers of faults |
@@ -43,5 +41,3 @@ mod reads;
 mod scripts;
 #[cfg(test)]
 mod streams;
-#[cfg(test)]
-mod texts;

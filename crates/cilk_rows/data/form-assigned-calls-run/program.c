@@ -1,0 +1,1 @@
+void f(){ x = f(); x = cilk_spawn f(4); x = y[1] + 2; }

@@ -1,0 +1,1 @@
+int f(){ if (a[1]) return 1; else while (0) print(2); }

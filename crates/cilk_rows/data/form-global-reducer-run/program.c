@@ -1,0 +1,1 @@
+int cilk_reducer(add) r; int g;

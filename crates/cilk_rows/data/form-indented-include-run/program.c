@@ -1,0 +1,2 @@
+ 	# include <x>
+int main(){return 0;}

@@ -1,0 +1,1 @@
+void f(){ int cilk_reducer(max) m; ; {} }

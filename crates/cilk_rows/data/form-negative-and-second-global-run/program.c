@@ -1,0 +1,1 @@
+int g = -5, h; int main(void) { g = input(h + 1) % input_count(); }

@@ -1,0 +1,1 @@
+void f(void) {} int g(int a, int cilk_reducer(min) m) {}

@@ -1,0 +1,1 @@
+void f(){ update(r, 1); set(r, value(r)); return; }

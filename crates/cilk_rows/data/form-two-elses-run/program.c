@@ -1,0 +1,1 @@
+int main(){if (1) if (0) ; else ; else ;}
