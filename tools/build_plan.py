@@ -91,7 +91,7 @@ def processors():
 
 
 class Estimate:
-    """What is left of a run of `rt ci`, by what it said so far. Times are in minutes since it began."""
+    """The work left of a run of `rt ci`, by its lines so far. Times are in minutes since it began."""
 
     def __init__(self, named, minutes, lanes, usual=USUAL, kept=(), lines=None):
         self.named, self.minutes, self.lanes, self.usual = named, minutes, lanes, usual

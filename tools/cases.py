@@ -11,7 +11,7 @@ tools/cases.py accept NAME
     the answer of `new` becomes what the case wants, and the case is listed: call it only once you have found by other
     means that the answer is right
 tools/cases.py list
-    lists the folders that are there anew, as after one was removed by hand
+    lists the folders that are there anew, as after one was removed manually
 
 A case is a folder, listed in the file `cases`, with
   words     one word a line; none where the file isn't there. A word that names a file of the folder means that file

@@ -11,14 +11,14 @@ refused, up to a run that makes fewer, since two of their runs needn't make the 
 must give the outcome. Each run has one call that fails: the Nth allocation, or all from the Nth on; the Nth open, read, seek or
 write; the Nth read or write that moves one byte of several. It must end with the answer of a run in which nothing fails, or say `no memory`, `cannot read FILE` or `cannot write`
 with that one's status, where a beginning of the answer may have gone out. The calls are counted and failed by a small library that
-`cc` makes and that the program is run with (LD_PRELOAD), so it needs a C compiler and glibc. Run by hand.
+`cc` makes and that the program is run with (LD_PRELOAD), so it needs a C compiler and glibc. Run manually.
 
 tools/hostile.py, which runs beside the gate, takes its library from here, and looks more closely at which call failed.
 
 With `--choices` the test `refused::rows_by_two_workers` of `cilk_base_tests` is run instead, with each allocation refused in turn: the
 list by a parallel loop and the local reducers, by rounds of 2 workers. It passes where each run ends with its result, or stops for want of
 memory, three more choices give the same stop, and each frame that is shown then has the first events that it has in the serial run.
-It says so where memory was refused ahead of the choices or behind them; any other end is wrong. `rt test` builds these tests.
+It says so where memory was refused before the choices or after them; any other end is wrong. `rt test` builds these tests.
 
 With `--plan` the tests `refused` of `cilk_worker_tests` are run, with each allocation refused in turn, up to a run that makes fewer: two
 spawned calls, a list by a parallel loop, and three spawned prints, each run twice by 2 workers in one process, on one plan. The first run
@@ -193,7 +193,7 @@ def run(program, words, folder, **settings):
 
 
 def is_fair(seen, whole, words):
-    """Whether this is the whole answer, or a want of memory, or a failing device that is called so."""
+    """Whether this is the whole answer, or out of memory, or a failing device that is called so."""
     status, out, err = seen
     if seen == whole:
         return True
@@ -315,7 +315,7 @@ def choices(tests, folder):
     if not is_well(tests, name, folder):
         return 1
     passed, outside, wrong = refused_in_turn(tests, name, folder, [b"no memory ahead of the run, or to look at it"])
-    print(f"{passed} refused in the choices, after which all was as it has to be, {outside} ahead of them or behind them, {wrong} wrong")
+    print(f"{passed} refused in the choices, after which all was as it has to be, {outside} before them or after them, {wrong} wrong")
     return wrong + (not passed)
 
 

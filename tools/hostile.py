@@ -5,9 +5,9 @@ tools/hostile.py PROGRAM [--seconds N] [--seed S] [--only NAME] [--list] [--prog
 tools/hostile.py --self-test PROGRAM [--seed S] [--only NAME] [--slower N]
 
 Memory is refused, devices fail, limits are met, files are odd or change, and texts, certificates, scripts and programs
-are damaged or made by chance (docs/HOSTILE.md). Each case is told in a line with how much it tried; the last line is
-`N passed, M failed`, of cases. The cases that are known go first; those by chance go on until the time is over, or,
-with no --seconds, until that number of texts was damaged and of programs made. A case that no time was left for is told
+are damaged or made by chance (docs/HOSTILE.md). Each case has a line that says how much it tried; the last line is
+`N passed, M failed`, of cases. The cases that are known go first; those by chance continue until the time is over, or,
+with no --seconds, until that number of texts was damaged and of programs made. A case that no time was left for is named
 as left out, and not counted. Needs a C compiler for the library that refuses.
 
 With --self-test the cases are tried on programs that are wrong in one answer each: they have to be caught. Each case is
@@ -62,7 +62,7 @@ def tried(case, *more):
         case(ROOM[0], found, *more)
     except OutOfTime:
         over = True
-    except Exception:  # (a case that can't go on is one that failed)
+    except Exception:  # (a case that can't continue has failed)
         found.must(False, "the case itself failed", traceback.format_exc()[-600:])
     return found, over, time.monotonic() - before
 
@@ -133,7 +133,7 @@ def all_by_chance(pool, names, counts, seed, end, told):
 
 
 def caught(number, program, folder, seed):
-    """Whether a wrong program was wrong and is caught by its case, and how that is told."""
+    """Whether a wrong program was wrong and is caught by its case, and the line that says so."""
     _, name, alteration = wrong.WRONG[number]
     ROOM[0].program, ROOM[0].wrapped = wrong.wrapper(program, folder, number, alteration), True
     found = wrong.Sharp()

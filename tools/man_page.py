@@ -26,7 +26,7 @@ def roff(text):
 
 
 def items(lines):
-    """What stands at the left of a list, and its description."""
+    """The names at the left of a list, each with its description."""
     found = []
     for line in lines:
         name, *text = re.split(r" {2,}", line.strip(), maxsplit=1)

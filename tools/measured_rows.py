@@ -72,7 +72,7 @@ class Kept(second_opinion.Run):
         outer_event = self.event
 
         def event(its, *words):
-            # behind a child's last event: what follows a call comes behind it, and what a sync ends waits for it
+            # after a child's last event: what follows a call comes after it, and what a sync ends waits for it
             if words[0] == "resume" and its.number == number:
                 if is_spawn:
                     self.pending.setdefault(number, []).append(self.last_of[ended[-1]])

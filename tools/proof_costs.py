@@ -6,7 +6,7 @@ proof_costs.py CRATE .. [--top N]    functions of these crates (all that are bui
 A crate's library (crates/CRATE/out/rlib, which `rt check` leaves there) lists the goals of each function. Most of them are
 found by the prover itself, and cost time nevertheless: a goal some 0.14 seconds, and a value that is dropped on the way out
 0.45 more, since each field of each value that a function owns is dropped at each of its returns. A function with many drops
-gets cheap by an `impl Drop` of its types that is written by hand (one call in place of each field), or where an outer function
+gets cheap by an `impl Drop` of its types that is written manually (one call in place of each field), or where an outer function
 owns and an inner one borrows.
 """
 

@@ -45,7 +45,7 @@ def accepted(cilk, program, more, folder):
 
 
 def played(cilk, program, more, count, chance, folder):
-    """The different answers of so many plays, each with the script that gave it."""
+    """The different answers of this many plays, each with the script that gave it."""
     answers = {}
     for _ in range(count):
         workers = chance.randint(1, 8)

@@ -5,8 +5,8 @@ random_threads.py FIRST END [--cilk COMMAND] [--keep FOLDER] [--times N]
 
 Seeds go from FIRST up to END. `threads` with 1, 2, 3, 8 and 64 workers, N times each, has to show what `run` shows. On other numbers it has to
 show what `run` shows there, where the certificates of both runs have the same events but for their values, and else `refused 502 POS`: by one
-worker at the first event that differs, by several there or behind it. A certificate doesn't tell which function or loop a frame starts, so a
-call or spawn ahead of that may be where the run departs, too; such are counted. A program that differs is kept in the folder, with its
+worker at the first event that differs, by several there or after it. A certificate doesn't tell which function or loop a frame starts, so a
+call or spawn before that may be where the run departs, too; such are counted. A program that differs is kept in the folder, with its
 certificate. A call that doesn't end in 20 seconds differs. Programs that aren't accepted, and long runs, are left out and counted.
 """
 
@@ -32,7 +32,7 @@ def skeleton(certificate):
     lines = certificate.decode("ascii").split("\n")
     count = int(lines[1].split(" ")[1])
     kept = {"read": 2, "write": 2, "update": 3, "set": 3, "value": 3, "print": 1}
-    events = [line.split(" ") for line in lines[-3 - count : -3]]  # behind them stand `result`, `end` and the last line feed
+    events = [line.split(" ") for line in lines[-3 - count : -3]]  # after them come `result`, `end` and the last line feed
     return [words[: kept.get(words[0], 2)] for words in events]
 
 
@@ -83,7 +83,7 @@ class Comparison:
                     self.differs(f"{workers} workers", shown, wanted)
 
     def departs(self, shown, own, workers, first, numbers):
-        """`refused 502 POS` with a position that may be: the first that differs, or behind it by several workers."""
+        """`refused 502 POS` with a position that may be: the first that differs, or after it by several workers."""
         words = shown[0].split()
         fits = shown[1] == 4 and words[:2] == [b"refused", b"502"] and len(words) == 3
         at = int(words[2]) if fits else 0
@@ -91,7 +91,7 @@ class Comparison:
             self.differs(f"{workers} workers on {numbers}", shown, f"refused 502 from {first} on")
 
     def starts_another(self, own, shown, first):
-        """Whether a run is told to depart at a call or spawn ahead of the first event that differs, or where none does."""
+        """Whether a run is said to depart at a call or spawn before the first event that differs, or where none does."""
         words = shown[0].split()
         if shown[1] != 4 or words[:2] != [b"refused", b"502"] or not 1 <= int(words[2]) <= len(own):
             return False

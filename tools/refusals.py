@@ -87,7 +87,7 @@ def provoked(text, number, folder):
 
 
 def forms():
-    """The regular expressions of docs/EDITORS.md, by the word ahead of each."""
+    """The regular expressions of docs/EDITORS.md, by the word before each."""
     with open(f"{TOP}/docs/EDITORS.md", encoding="utf-8") as file:
         return re.findall(r'"regexp": "((?:[^"\\]|\\.)*)"', file.read())
 

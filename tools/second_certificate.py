@@ -19,7 +19,7 @@ import second_opinion
 NUMBER = re.compile(rb"0|[1-9][0-9]{0,9}")
 VALUE = re.compile(rb"0|-?[1-9][0-9]{0,18}")
 MOST = {"events": 1000000, "frames": 65536, "strands": 1000000}
-# what stands behind an event's word: numbers, values, reducers
+# the fields after an event's word: numbers, values, reducers
 FORMS = {
     "begin": "n", "spawn": "n", "call": "n", "resume": "n", "sync": "", "end": "", "read": "nvn", "write": "nv",
     "create": "r", "update": "rv", "set": "rv", "value": "rv", "print": "v",
@@ -259,7 +259,7 @@ class Reader:
         return int(word)
 
     def numbered(self, name, count):
-        """The numbers of a line behind its word."""
+        """The numbers of a line after its word."""
         words = self.words()
         self.need(words[0] == name and len(words) == count + 1)
         return [self.number(word) for word in words[1:]]

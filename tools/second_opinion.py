@@ -68,7 +68,7 @@ class Parser:
         return found
 
     def several(self, part, end):
-        """Parts with commas between them, up to the token behind them."""
+        """Parts with commas between them, up to the token after them."""
         found = [] if self.peek() == end else [part()]
         while found and self.has(","):
             found.append(part())

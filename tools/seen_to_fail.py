@@ -10,7 +10,7 @@ bytes. The runner of tools/cases.py has to find each of them. A text of gaps alo
 wasn't found; so does a file that a case has and nothing reads, and a folder that isn't listed.
 With --rows, ROWS (the built program of crates/cilk_rows, which the gate runs) serves these cases three times, with all
 statuses changed, then all outputs, then all errors, and no case may pass.
-What wasn't found is printed. The last line is `N seen to fail, M not`, of cases; status 1 where any wasn't. Run by hand.
+What wasn't found is printed. The last line is `N seen to fail, M not`, of cases; status 1 where any wasn't. Run manually.
 """
 
 import argparse

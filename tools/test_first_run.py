@@ -1,5 +1,5 @@
 #!/usr/bin/env python3
-"""Tests of what ./cilk does beside running the program; without `rt`. Run by hand: python3 tools/test_first_run.py"""
+"""Tests of what ./cilk does beside running the program; without `rt`. Run manually: python3 tools/test_first_run.py"""
 
 import heapq
 import os

@@ -13,7 +13,7 @@ import sys
 TOP = os.path.dirname(os.path.dirname(os.path.realpath(__file__)))
 DOCUMENT = f"{TOP}/docs/TESTED.md"
 
-# the word behind a count in the last column, what its row has to name, and what is counted
+# the word after a count in the last column, what its row has to name, and what is counted
 COUNTS = [
     ("cases", "cases.py", "crates/cilk_rows/data/*/"),
     ("edits", "must-fail", "crates/*/must-fail/*.edit"),

@@ -6,7 +6,7 @@ tools/tested_examples.py     lists each program of examples/ and examples/galler
 A program's text in a test has no comments, no `#` lines, and one space for each run of blanks; it has to be used by
 `settled.rt` of crates/cilk_base_tests, the tests that play it. A program of the gallery has to be used by
 the cases `gallery-NAME-run`, `-check` and `-measure` of crates/cilk_rows too, word by word, which want the text of its
-`.out` file, and of `check` and `measure` what its row in examples/gallery/README.md has. The texts of examples/opencilk are in another language. Run by hand when an example
+`.out` file, and of `check` and `measure` what its row in examples/gallery/README.md has. The texts of examples/opencilk are in another language. Run manually when an example
 changes or comes.
 """
 
@@ -56,7 +56,7 @@ def wanted_of_gallery(name, text, numbers):
 
 
 def stands_in_gallery(name):
-    """What stands beside a program of the gallery, in the same form."""
+    """The row and the answer of a program of the gallery, in the same form."""
     shown = read(f"{GALLERY}/{name}.out")
     row = re.search(rf"(?m)^\| `{name}\.c` \|(.*)\|$", read(f"{GALLERY}/README.md"))[1]
     _, _, answer, work, span, parallelism, verdict = [cell.strip() for cell in row.split("|")]

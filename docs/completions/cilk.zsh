@@ -1,0 +1,20 @@
+#compdef cilk
+# Completions of `cilk` for zsh, by tools/completions.py: `. docs/completions/cilk.zsh` in ~/.zshrc, after compinit
+_cilk() {
+    local words_of=
+    case $CURRENT:$words[2]:$words[CURRENT-1] in
+        2:*) compadd -- explain run certify check threads play schedule measure help --help --version; return ;;
+        3:help:*) compadd -- explain run certify check threads play schedule measure; return ;;
+        *:--input | *:--on) _files; return ;;
+        *:--workers | *:--helpers | *:explain:*) return ;;
+        *:run:*) words_of="--input --explain --help" ;;
+        *:certify:*) words_of="--input --explain --help" ;;
+        *:check:*) words_of="--input --helpers --explain --help" ;;
+        *:threads:*) words_of="--workers --input --on --explain --help" ;;
+        *:play:*) words_of="--workers --input --explain --help" ;;
+        *:schedule:*) words_of="--input --explain --help" ;;
+        *:measure:*) words_of="--input --csv --svg --dot --explain --help" ;;
+    esac
+    [[ $PREFIX == -* ]] && compadd -- ${=words_of} || _files
+}
+compdef _cilk cilk
