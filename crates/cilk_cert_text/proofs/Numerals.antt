@@ -79,7 +79,7 @@ at_end i value ds le same = sym same ∙ rw (drop_all i ds le) refl
 pub too_large : (n i value most : ℕ) (ds : List ℕ) → n ≤ most → most ≤ 2 ^ 63 → length ds ≤ i → most < value → read_on value (drop i ds) ≡ read_on 0 ds → ds ≡ decimal n → ⊥
 too_large n i value most ds h k le large same e = absurd (omega (arith, at_end i value ds le same, value_is n ds (omega arith) e))
 
--- digits of which the first isn't 0
+-- digits whose first isn't 0
 pub spells : (i value : ℕ) (ds : List ℕ) → value ≤ 2 ^ 63 → length ds ≤ i → (length ds ≡ 0 → ⊥) → (get_or ds 0 0 ≡ 48 → ⊥) → all_ascii_digits (drop i ds) ≡ all_ascii_digits ds → read_on value (drop i ds) ≡ read_on 0 ds → ds ≡ decimal value
 spells i value ds h le long first digits same =
     let is : read_on 0 ds ≡ value = at_end i value ds le same in

@@ -32,7 +32,7 @@ module _ (program input : List ℕ) where
   IsTrueRefusal known r =
       (m : Meant) × (inputs : List ℤ) × AreTexts program input m inputs × IsRefusedText m.source inputs known r
 
-  -- A true refusal. Or the source's device failed, which is told only of texts without a fault.
+  -- A true refusal. Or the source's device failed, which is answered only for texts without a fault.
   abbrev pub IsTrueAnswer : Option (List ℕ) → ℕ → ℕ → Unaccepted → Type 0
   IsTrueAnswer known failed failed' (unaccepted.Refusal r) = IsTrueRefusal known r
   IsTrueAnswer known failed failed' unaccepted.Unread =

@@ -107,7 +107,7 @@ refused w program input r v (ProgramRefused text g h n) = OfProgram text g h
 refused w program input r v (InputUnread text m g h k) = absurd (input_not_unread w.failed w.failed' input r k v)
 refused w program input r v (InputRefused text m numbers g h i k n) = OfInput text m numbers g h i k
 
--- two replies to texts of which one is refused
+-- two replies to texts, one of them refused
 one_refused : (w : Surroundings) (program : Origin) (input : Option Text) (r q : Reply) → IsKnown w program
     → IsKnownInput w input → IsOfTexts r → IsOfTexts q → Refused w program input r → Refused w program input q → r ≡ q
 one_refused w program input r q x y v u (OfProgram t g h) (OfProgram t' g' h') =

@@ -35,16 +35,16 @@ pub fn parted_at(case: &Case<'_>, spawn: usize, at: usize) -> Result<String, All
     let place = place_of(case, place)?;
     let place = place.as_str();
     match parting {
-        Parting::Ahead(_) => format!(in alloc; "ahead of {place}"),
+        Parting::Ahead(_) => format!(in alloc; "before {place}"),
         Parting::Within(_) => format!(in alloc;
-            "ahead of {place}, in braces with what stands there"
+            "before {place}, in braces with the statement there"
         ),
-        Parting::AtEnd(_) => format!(in alloc; "ahead of {place}, at the end of the loop's body"),
+        Parting::AtEnd(_) => format!(in alloc; "before {place}, at the end of the loop's body"),
         Parting::Behind(_) => {
-            format!(in alloc; "behind the statement at {place}, in braces with it")
+            format!(in alloc; "after the statement at {place}, in braces with it")
         }
         Parting::Between(_) => {
-            format!(in alloc; "ahead of {place}, where a declaration of its own has to begin")
+            format!(in alloc; "before {place}, where a declaration of its own has to begin")
         }
     }
 }

@@ -19,7 +19,7 @@ use Rattle.cilk_messages.specs.declared.words.Origin as code
 use Rattle.cilk_messages.specs.declared.words.WordsFault.{WordsFault}
 use Rattle.cilk_messages.specs.declared.words.WordsFault.TheVariants.{Usage, Memory}
 
--- the texts behind references
+-- the texts that references point to
 abbrev pub texts : List (Bor Text) → List Text
 texts words = map (λ w. w.now) words
 

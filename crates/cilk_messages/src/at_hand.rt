@@ -36,7 +36,7 @@ pub fn at_hand(
         115 => without_main(alloc, tokens),
         117 => format!(in alloc; "`{name}` counts the turns of a `cilk_for`, and is written here"),
         118 => format!(in alloc;
-            "`{name}` is declared behind another statement, or in an inner block"
+            "`{name}` is declared after another statement, or in an inner block"
         ),
         119 => format!(in alloc; "the declaration of `{name}` goes past a limit"),
         _ => Ok(String::new(alloc)),

@@ -25,12 +25,12 @@ pub fn text_token(number: u16) -> Option<Reason> {
         },
         103 => Reason {
             number,
-            title: "no text of the language goes on like this",
+            title: "no text of the language continues like this",
             meaning: "The token at the place fits none of the forms that could stand there, or the text ends too early.",
             line: "program 103 at 19",
             example: Example::Program("int main(){return 0}"),
             place: "the first byte of the token that no text of the language has here, or the text's length where it ends too early",
-            cure: "Write what is wanted there, or look at what stands ahead of it. Calls inside expressions, other types and `break` are no part of the language (`docs/FROM-CILK.md` has what stands for them).",
+            cure: "Write what is wanted there, or look at what comes before it. Calls inside expressions, other types and `break` are no part of the language (`docs/FROM-CILK.md` has what stands for them).",
         },
         _ => return None,
     };
@@ -46,7 +46,7 @@ pub fn text_limit(number: u16) -> Option<Reason> {
             meaning: "A statement or a part of an expression stands in 64 others already, or an expression has 256 operators already.",
             line: "program 104 at 76",
             example: Example::Words("`int main(){` and 66 `{`"),
-            place: "the first byte of the part that stands 65 deep, or the 257th operator of one expression",
+            place: "the first byte of the part that is 65 deep, or the 257th operator of one expression",
             cure: "Put a part into a function of its own, or into a variable.",
         },
         105 => Reason {
@@ -145,7 +145,7 @@ pub fn loop_rule(number: u16) -> Option<Reason> {
                 "int main(){cilk_for(int i=0;i<1;i++){if(i)return 1;}return 0;}",
             ),
             place: "a `return` inside a `cilk_for`",
-            cure: "Keep what was found in a reducer, `min` or `max`, and return behind the loop.",
+            cure: "Keep what was found in a reducer, `min` or `max`, and return after the loop.",
         },
         117 => Reason {
             number,

@@ -8,7 +8,7 @@
 //! language lacks.
 //!
 //! ```text
-//! fib.c:9:12: error 103: no text of the language goes on like this
+//! fib.c:9:12: error 103: no text of the language continues like this
 //!     return fib(n - 1) + fib(n - 2);
 //!               ^
 //! hint: a call stands alone or as the whole right side of an assignment: `x = f(a);`

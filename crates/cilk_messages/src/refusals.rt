@@ -8,10 +8,10 @@ pub fn certificate_line(number: u16) -> Option<Reason> {
         301 => Reason {
             number,
             title: "not a line of a certificate",
-            meaning: "The line isn't in the form of certificates, or stands behind the last one (`docs/CERTIFICATES.md`).",
+            meaning: "The line isn't in the form of certificates, or comes after the last one (`docs/CERTIFICATES.md`).",
             line: "refused 301 2",
             example: Example::Edit("`size 15 2 6` made `size 015 2 6`"),
-            place: "this line isn't in the grammar of certificates, or stands behind the last one",
+            place: "this line isn't in the grammar of certificates, or comes after the last one",
             cure: "Let `certify` write the certificate anew.",
         },
         302 => Reason {
@@ -160,7 +160,7 @@ pub fn certified_run(number: u16) -> Option<Reason> {
                 "int cilk_reducer(add) r; void f(){update(r,1);} int main(){cilk_spawn f();print(value(r));cilk_sync;return 0;}",
             ),
             place: "a view-read race: the reducer's creation and a `set` or `value` of it",
-            cure: "Read and set a reducer ahead of the first spawn, or behind the `cilk_sync`.",
+            cure: "Read and set a reducer before the first spawn, or after the `cilk_sync`.",
         },
         _ => return None,
     };

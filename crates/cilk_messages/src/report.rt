@@ -206,7 +206,7 @@ fn in_words(alloc: Global, tokens: &Tokens<'_>, hint: &Hint<'_>) -> Result<Strin
         Hint::Elsewhere(place) => {
             let Location { line, column } = locate(tokens.text, place);
             format!(in alloc;
-                "line {line}, column {column} declares it for what follows in that block alone: declare it ahead of both"
+                "line {line}, column {column} declares it for what follows in that block alone: declare it before both"
             )
         }
         Hint::EndOfLine { mark, line } => {
@@ -214,7 +214,7 @@ fn in_words(alloc: Global, tokens: &Tokens<'_>, hint: &Hint<'_>) -> Result<Strin
         }
         Hint::AheadOf { mark, word } => {
             let word = String::from_utf8_lossy(alloc, word)?;
-            format!(in alloc; "a `{mark}` may be missing ahead of `{word}`")
+            format!(in alloc; "a `{mark}` may be missing before `{word}`")
         }
     }
 }

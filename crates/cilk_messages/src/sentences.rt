@@ -4,7 +4,7 @@ pub const REDUCER: &str =
     "a reducer is declared with its monoid alone, `int cilk_reducer(add) r;`: add, min, max, append or affine";
 
 pub const REDUCER_ARRAY: &str =
-    "there are no arrays of reducers: a reducer for each, or a row of a global array for each block of turns, and the rows added up behind the loop";
+    "there are no arrays of reducers: a reducer for each, or a row of a global array for each block of turns, and the rows added up after the loop";
 
 pub const REDUCER_USE: &str =
     "`value(r)` reads a reducer, and `update(r, e)` takes a number into it";
@@ -30,10 +30,10 @@ pub const FRACTIONS: &str = "`int` is the only type: count in thousandths, say";
 
 pub const STRUCTURES: &str = "there are no structures: an array for each member";
 
-pub const MEMORY: &str = "memory is global arrays: `int a[1000];` ahead of the functions";
+pub const MEMORY: &str = "memory is global arrays: `int a[1000];` before the functions";
 
 pub const ARRAYS: &str =
-    "arrays are global, and their length is a number: `int a[1000];` ahead of the functions";
+    "arrays are global, and their length is a number: `int a[1000];` before the functions";
 
 pub const ARRAY_PARAMETER: &str =
     "a parameter is no array: pass the place of its first element in a global one";

@@ -34,7 +34,7 @@ pub fn unpaired(tokens: &Tokens<'_>, number: usize, wanted: &Wanted<'_>) -> Opti
         return Some("a function's body stands between `{` and `}`");
     }
     match tokens.kind(number) {
-        None => Some("a `}` may be missing at the end, or ahead of it"),
+        None => Some("a `}` may be missing at the end, or before it"),
         Some(Kind::Close) if enclosing(tokens, number).is_none() => {
             Some("there is a `)` too many, here or ahead")
         }

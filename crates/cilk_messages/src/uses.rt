@@ -139,7 +139,7 @@ fn of_loop(site: &Site<'_, '_>) -> Option<&'static str> {
         }
         (Kind::CilkFor, _) => Some(HEAD),
         (Kind::For, b",") => Some(
-            "a `for` head has one variable and one step: the other ones stand ahead of the loop, and at the end of its body",
+            "a `for` head has one variable and one step: the other ones go before the loop, and at the end of its body",
         ),
         _ => None,
     }
@@ -264,7 +264,7 @@ fn of_statement(site: &Site<'_, '_>) -> Option<&'static str> {
     match (tokens.kind(number)?, site.kind_ahead()?) {
         (Kind::Void, _) if begins(tokens, number) => Some(NESTED),
         (Kind::Name, Kind::Name) if is_second => Some(ONE_TYPE),
-        (Kind::Else, _) => Some("an `else` stands behind the one statement of its `if`"),
+        (Kind::Else, _) => Some("an `else` follows the one statement of its `if`"),
         _ => None,
     }
 }
@@ -293,7 +293,7 @@ const ARROW: &str =
 const RESERVED_NAME: &str = "this word is reserved here: take another name";
 
 const SPAWNED: &str =
-    "`cilk_spawn` stands ahead of the call of a function: put what is spawned into one";
+    "`cilk_spawn` comes before the call of a function: put what is spawned into one";
 
 const CONDITION: &str = "parentheses stand round the condition: `if (e)`, `while (e)`";
 

@@ -353,7 +353,7 @@ module _ (s : EventOrder) (law : IsOrderly s) where
 
 -- ---- one list
 
--- two blocks of which each has a spawn before each spawn of the other have no spawn
+-- if each of two blocks has a spawn before each spawn of the other, neither has a spawn
 no_circle : (s : EventOrder) (q q' : ℕ) → ((k' : ℕ) → IsSpawnOf s q' k' → (k : ℕ) × (k < k') × IsSpawnOf s q k) → ((k' : ℕ) → IsSpawnOf s q k' → (k : ℕ) × (k < k') × IsSpawnOf s q' k)
     → (n k : ℕ) → k < n → IsSpawnOf s q' k → ⊥
 no_circle s q q' one two zero k less h = omega (arith, less)

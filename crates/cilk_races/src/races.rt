@@ -235,7 +235,7 @@ fn push_first_child(
 }
 
 const IN_SERIES: &str =
-    "none is told: in each, all that is ahead of this one in the serial run comes before it";
+    "none is shown: in every schedule, all events before this one in the serial run come before it";
 
 // The later access as the error, and the earlier one as a note.
 fn push_accesses(

@@ -16,22 +16,22 @@ Runs and checks programs of a small integer C with cilk_spawn, cilk_sync, cilk_f
 Usage: cilk COMMAND ARGUMENTS.. [OPTIONS]
 
 All commands:
-  run PROGRAM                 run the program serially: the numbers that it prints, its global reducers, its result
-  certify PROGRAM             write the certificate of that run: its events, frames and strands
-  check PROGRAM CERTIFICATE   accept the certificate only where it is right and nothing races: then every parallel
-                              run that ends leaves what the serial one leaves; else say which race there is
+  run PROGRAM                 run the program serially; show the numbers that it prints, its global reducers, its result
+  certify PROGRAM             make that run and write its certificate: a list of its events, frames and strands
+  check PROGRAM CERTIFICATE   check that the certificate is right and that nothing races: if so, `accepted`, and every
+                              parallel run that ends has the serial run's outcome; if not, the first thing that is wrong
   threads PROGRAM CERTIFICATE
-                              check as `check` does, and where the certificate is accepted run the program by work
-                              stealing on real threads: on the certified numbers it leaves what the serial run leaves
-  play PROGRAM SCRIPT         run the program in parallel, step by step, as a script tells its workers
+                              check as `check` does; if that accepts, run the program on threads, by work stealing:
+                              on the certificate's input the outcome is the serial run's
+  play PROGRAM SCRIPT         run the program in parallel, step by step, by the orders of a script to its workers
   schedule PROGRAM CERTIFICATE
-                              where `check` refuses a race: a script for `play` that makes its later access first
-  measure PROGRAM             run the program, and show in place of what it leaves what that takes: events, ticks, frames,
-                              strands, work, span and parallelism; and by function and loop
-  explain [NUMBER]            what a number of a refusal means, a text that provokes it, and the cure; or all numbers
-  help COMMAND                what a command takes and does
-  --help, --version           this text; the version
-  no words at all             run the program on standard input
+                              if `check` finds a race, write a script for `play` that makes its later access first
+  measure PROGRAM             run the program serially and show, instead of its outcome, its events, ticks, frames,
+                              strands, work, span and parallelism, and a table by function and loop
+  explain [NUMBER]            explain a refusal's number: its meaning, a text that provokes it, the cure; or list all
+  help COMMAND                describe a command, its arguments and its options
+  --help, --version           show this text, or the version
+  (no command)                run the program whose text is on standard input
 
 Arguments:
   PROGRAM         a file with a program text, of at most 262,144 bytes
@@ -39,27 +39,27 @@ Arguments:
   SCRIPT          a file with a script, of at most 1,048,576 bytes (docs/SCRIPTS.md)
 
 Options of run, certify, check, threads, play, schedule and measure:
-  --input FILE    the numbers that `input(k)` gives: at most 65,536, with blanks between; without it there are none
-  --explain       behind a refusal, on standard error: its line and column, the reason, and what to write instead
+  --input FILE    the numbers for `input(k)`, at most 65,536, separated by blanks; without this option there are none
+  --explain       after a refusal, say on standard error at which line and column it is, why, and what to write instead
 
-Options of measure, which all write to standard output:
-  --csv           the table with commas
-  --svg           in place of the table a picture: how many events could be made at each step, with workers enough
-  --dot           in place of the table the tree of a small run, for Graphviz's `dot`
+Options of measure:
+  --csv           write the table with commas
+  --svg           write a picture instead: how many events could be made at each step, if there were workers enough
+  --dot           write the tree of the run instead, for Graphviz's `dot`; only of a run with at most 2,000 nodes
 
 Option of check:
-  --helpers N     how many helpers in threads share the work, 1 to 16, with the same answer; 1 where nothing is said
+  --helpers N     share the work among N threads, 1 to 16; the answer is the same
 
 Option of play and threads:
-  --workers N     how many workers there are, 1 to 64; 2 where nothing is said
+  --workers N     the number of workers, 1 to 64; 2 without this option
 
 Option of threads:
-  --on FILE       the numbers that the parallel run is given, where they aren't those of the certified run; `refused 502`
-                  where they lead the program off that run
+  --on FILE       other numbers for the run on threads than those of the certificate; the answer is `refused 502` if
+                  the program departs from the certified run on them
 
 Status:
-  0 done    2 the words, a file or a text is wrong, or a write failed    3 the run stops by a fault
-  4 the certificate, or the numbers of --on, are refused    5 no memory
+  0 done    2 wrong words, file, program, input or script; or a failed write; or this help    3 a fault of the run
+  4 the certificate, or the numbers of --on, are refused    5 out of memory
 
 Limits of a run:
   1,000,000 events, 16,000,000 ticks of work, 65,536 frames, 1,048,576 variables and elements
@@ -70,12 +70,12 @@ OpenCilk), docs/REFUSALS.md, docs/CHECKER.md, docs/SCRIPTS.md, docs/EDITORS.md, 
 
 /// The help on `explain`, and the answer to `explain` without a valid number.
 pub const EXPLAIN: &str = "\
-What a number of a refusal means, a text that provokes it, and the cure
+Explain the number of a refusal: its meaning, a text that provokes it, and the cure
 
 Usage: cilk explain [NUMBER]
 
 Arguments:
-  [NUMBER]  101 to 106, 111 to 119, 121, 122, 201 to 206, 301 to 312 or 502; without it each number and what it is
+  [NUMBER]  101 to 106, 111 to 119, 121, 122, 201 to 206, 301 to 312 or 502; without it, list each with its title
 
 hint: `cilk --help` describes all commands
 ";
@@ -99,12 +99,12 @@ const SCRIPT: &str =
 
 const OPTIONS: &str = "
 Options:
-  --input FILE    the numbers that `input(k)` gives: at most 65,536, with blanks between; without it there are none
+  --input FILE    the numbers for `input(k)`, at most 65,536, separated by blanks; without this option there are none
 ";
 
 const FOOT: &str = "  \
-  --explain       behind a refusal, on standard error: its line and column, the reason, and what to write instead
-  -h, --help      this text, where it is the only word behind the command's
+  --explain       after a refusal, say on standard error at which line and column it is, why, and what to write instead
+  -h, --help      show this text, if it is the only word after the command
 
 hint: `cilk --help` describes all commands, statuses and limits
 ";
@@ -114,7 +114,7 @@ const WORKERS: &str =
 
 const RUN: Page = Page {
     head: "\
-Run a program serially: the numbers that it prints, its global reducers, its result
+Run a program serially; show the numbers that it prints, its global reducers and its result
 
 Usage: cilk run PROGRAM [--input FILE] [--explain]
 ",
@@ -124,7 +124,7 @@ Usage: cilk run PROGRAM [--input FILE] [--explain]
 
 const CERTIFY: Page = Page {
     head: "\
-Write the certificate of a program's serial run, its events, frames and strands, to standard output
+Write the certificate of a program's serial run to standard output: a list of its events, frames and strands
 
 Usage: cilk certify PROGRAM [--input FILE] [--explain]
 ",
@@ -134,33 +134,33 @@ Usage: cilk certify PROGRAM [--input FILE] [--explain]
 
 const CHECK: Page = Page {
     head: "\
-Accept a certificate only where it is right and nothing races; else say which race there is
+Check that a certificate is right and that no two events race; if not, show the first thing that is wrong
 
 Usage: cilk check PROGRAM CERTIFICATE [--input FILE] [--helpers N] [--explain]
 ",
     argument: CERTIFICATE,
     options: "  \
-  --helpers N     how many helpers in threads share the work, 1 to 16, with the same answer; 1 where nothing is said
+  --helpers N     share the work among N threads, 1 to 16; the answer is the same
 ",
 };
 
 const THREADS: Page = Page {
     head: "\
-Check as `check` does, and where the certificate is accepted run the program by work stealing on real threads
+Check as `check` does; if that accepts, run the program on threads, by work stealing
 
 Usage: cilk threads PROGRAM CERTIFICATE [--workers N] [--input FILE] [--on FILE] [--explain]
 ",
     argument: CERTIFICATE,
     options: "  \
-  --workers N     how many workers there are, 1 to 64; 2 where nothing is said
-  --on FILE       the numbers that the parallel run is given, where they aren't those of the certified run; `refused 502`
-                  where they lead the program off that run
+  --workers N     the number of workers, 1 to 64; 2 without this option
+  --on FILE       other numbers for the run on threads than those of the certificate; the answer is `refused 502` if
+                  the program departs from the certified run on them
 ",
 };
 
 const PLAY: Page = Page {
     head: "\
-Run a program in parallel, step by step, as a script tells its workers
+Run a program in parallel, step by step, by the orders of a script to its workers
 
 Usage: cilk play PROGRAM SCRIPT [--workers N] [--input FILE] [--explain]
 ",
@@ -170,7 +170,7 @@ Usage: cilk play PROGRAM SCRIPT [--workers N] [--input FILE] [--explain]
 
 const SCHEDULE: Page = Page {
     head: "\
-Where `check` refuses a race, write a script for `play` that makes its later access first, to standard output
+If `check` finds a race, write to standard output a script for `play` that makes its later access first
 
 Usage: cilk schedule PROGRAM CERTIFICATE [--input FILE] [--explain]
 ",
@@ -180,16 +180,16 @@ Usage: cilk schedule PROGRAM CERTIFICATE [--input FILE] [--explain]
 
 const MEASURE: Page = Page {
     head: "\
-Run a program, and show in place of what it leaves what that takes: events, ticks, frames, strands, work, span and
-parallelism; and by function and loop
+Run a program, and show, instead of its outcome, its events, ticks, frames, strands, work, span and parallelism,
+and a table by function and loop
 
 Usage: cilk measure PROGRAM [--input FILE] [--csv | --svg | --dot] [--explain]
 ",
     argument: "",
     options: "  \
-  --csv           the table with commas
-  --svg           in place of the table a picture: how many events could be made at each step, with workers enough
-  --dot           in place of the table the tree of a small run, for Graphviz's `dot`
+  --csv           write the table with commas
+  --svg           write a picture instead: how many events could be made at each step, if there were workers enough
+  --dot           write the tree of the run instead, for Graphviz's `dot`; only of a run with at most 2,000 nodes
 ",
 };
 

@@ -23,7 +23,7 @@
 //!
 //! ```text
 //! program 103 at 61
-//! fib.c:3:13: error 103: no text of the language goes on like this
+//! fib.c:3:13: error 103: no text of the language continues like this
 //!   return fib(n - 1) + fib(n - 2);
 //!             ^
 //! reason: found `(`, wanted `;` or an operator

@@ -30,7 +30,7 @@ abbrev pub GoesOn : List (List ℕ) → List ℕ → Type 0
 GoesOn [] bytes = (n : ℕ) × (bytes ≡ spaces n)
 GoesOn (word ∷ words) bytes = (n : ℕ) × (rest : List ℕ) × (bytes ≡ spaces (suc n) ++ (word ++ rest)) × GoesOn words rest
 
--- words separated by spaces, of which there may be some at both ends too
+-- words separated by spaces; there may be spaces at both ends too
 abbrev pub SpellsWords : List (List ℕ) → List ℕ → Type 0
 SpellsWords [] line = ⊥
 SpellsWords (word ∷ words) line = (n : ℕ) × (rest : List ℕ) × (line ≡ spaces n ++ (word ++ rest)) × GoesOn words rest

@@ -22,7 +22,7 @@ use std::time::{Clock, Duration};
 // The seconds to wait for a message.
 const PATIENCE: u64 = 10;
 
-// Makes the events up to a position, all of which have to succeed. Returns the last result.
+// Makes the events up to a position; all have to succeed. Returns the last result.
 fn make_up_to<R: Abort>(
     rt: &R,
     yard: &Yard,

@@ -1,4 +1,4 @@
-//! Two runs on one plan, of which the first may be out of memory. The second run has memory and
+//! Two runs on one plan. The first may be out of memory. The second run has memory and
 //! must end with the expected outcome. In ordinary tests both runs have memory;
 //! `tools/each_failure.py --plan` refuses each allocation in turn.
 
@@ -40,7 +40,7 @@ fn leaves(rt: &impl Abort, alloc: Global, outcome: &Outcome, wanted: &str) {
     assert!(rt; left.as_str() == wanted, "{left} is left, not {wanted}");
 }
 
-// Two runs on one plan, at most one of which is out of memory.
+// Two runs on one plan. At most one of them is out of memory.
 fn runs_twice<R: Abort + Threads + Wait + Sync>(
     rt: &R,
     alloc: Global,
