@@ -1,24 +1,19 @@
 -- The replay of nothing, and a share with no frame.
-use Rattle.std.proofs.Common.{◌≡◌, ℤ, pos, List, [], reverse, refl, sym, subst}
+use Rattle.std.proofs.Common.{◌≡◌, ℤ, List, [], reverse, refl, sym, subst}
 use lib.Signed.{<ℤ_irrefl}
 use Rattle.std.proofs.lemmas.List.Elements.{All-nil, All-same}
 use Rattle.cilk_types.specs.declared.limits.TheConstants.{MAX_TICKS}
 use Rattle.cilk_program.specs.declared.ask.Callee.{Callee}
-use Rattle.cilk_program.specs.declared.ask.Callee.TheVariants.{Loop}
 use Rattle.cilk_program.specs.Inside.{CalleeIsFit}
 use Rattle.cilk_program.specs.Syntax.{Source}
 use Rattle.cilk_lower.specs.Code.{CodeView}
 use Rattle.cilk_frames.specs.Cursor.{first_of}
 use Rattle.cilk_helpers.specs.declared.whole.Replay.{Replay}
-use Rattle.cilk_helpers.specs.Asked.{NoteView}
+use Rattle.cilk_helpers.specs.Asked.{NoteView, nothing}
 use Rattle.cilk_helpers.specs.Notes.{AreNotes}
 use Rattle.cilk_helpers.specs.Whole.{IsKept}
 use Rattle.cilk_helpers.specs.declared.rounds.Share.{Share}
 use Rattle.cilk_helpers.specs.Replayed.{AreFitting, IsFitting}
-
--- no frame runs no turns
-abbrev pub nothing : Callee
-nothing = Loop (record { number = 0; up = 0; low = pos 0; high = pos 0 })
 
 unfit : (p : Source) → CalleeIsFit p nothing → ⊥
 unfit p fit = <ℤ_irrefl fit.1

@@ -8,7 +8,7 @@ use Rattle.std.specs.Prelude.{All}
 use Rattle.std.specs.List.{items_where_true}
 use Rattle.std.proofs.lemmas.List.Elements.{All-pop, All-set}
 use Rattle.std.proofs.lemmas.Grind.{get_or_picked}
-use Rattle.std.proofs.Common.{Option, Some}
+use Rattle.std.proofs.Common.{Some}
 
 pub rest_of : {X : Type 0} (P : X → Type 0) (xs ys : List X) (x : X) → xs ≡ ys ++ x ∷ [] → All P xs → All P ys
 rest_of P xs ys x is h = (All-pop P xs ys (Some x) is h).0

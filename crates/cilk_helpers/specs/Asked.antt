@@ -1,5 +1,5 @@
 -- The contents of a note.
-use Rattle.std.specs.Prelude.{ℕ, ℤ, ◌≤◌, Bool, true, false, length, Option, Some, None, option_map}
+use Rattle.std.specs.Prelude.{ℕ, ℤ, pos, ◌≤◌, Bool, true, false, length, Option, Some, None, option_map}
 use Rattle.cilk_program.specs.declared.ask.Ask.{Ask}
 use Rattle.cilk_program.specs.declared.ask.Ask.TheVariants as asks
 use Rattle.cilk_program.specs.declared.ask.Callee.{Callee}
@@ -8,6 +8,8 @@ use Rattle.cilk_program.specs.declared.ask.FunctionCall.{FunctionCall}
 use Rattle.cilk_frames.specs.AskSlot.{in_full}
 use Rattle.cilk_frames.specs.declared.cursor.Answer.{Answer}
 use Rattle.cilk_frames.specs.declared.cursor.Answer.TheVariants.{Done, Value}
+use Rattle.cilk_helpers.specs.declared.called.Called.{Called}
+use Rattle.cilk_helpers.specs.declared.called.Called.TheVariants as called
 use Rattle.cilk_helpers.specs.declared.note.Asked.{Asked}
 use Rattle.cilk_helpers.specs.declared.note.Asked.TheVariants as asked
 use Rattle.cilk_helpers.specs.declared.note.Given.{Given}
@@ -17,6 +19,16 @@ use Rattle.cilk_helpers.specs.declared.note.Parts.TheVariants as parts
 -- the call in a request
 abbrev pub call_in : Given → FunctionCall
 call_in g = record { function = g.function; words = g.words.items; reducers = g.reducers.items; result = g.result }
+
+-- the callee in its contents
+abbrev pub callee_in : Called → Callee
+callee_in called.Root = callees.Root
+callee_in (called.Function given) = callees.Function (call_in given.value)
+callee_in (called.Loop part) = callees.Loop part
+
+-- no turns of a loop, which no frame runs
+abbrev pub nothing : Callee
+nothing = callees.Loop (record { number = 0; up = 0; low = pos 0; high = pos 0 })
 
 -- the request as an ask
 abbrev pub ask_in : Asked → Ask

@@ -1,10 +1,10 @@
-//! Compares the callees of frames.
+//! Compares calls and parts of loops.
 
 ghost use Rattle.std.specs.Prelude.{◌≡◌, IsTrue};
 ghost use Rattle.cilk_helpers.specs.Asked.{call_in};
 
 use crate::note::Given;
-use cilk_program::ask::{Callee, FunctionCall, LoopPart};
+use cilk_program::ask::{FunctionCall, LoopPart};
 use cilk_program::syntax::{Place, Reducer};
 
 /// Returns whether the requested call is this call of a function.
@@ -67,21 +67,12 @@ fn same_place(one: Option<Place>, other: Option<Place>) -> bool
     }
 }
 
-fn same_part(one: &LoopPart, other: &LoopPart) -> bool
+/// Returns whether two parts of loops are equal.
+pub fn same_part(one: &LoopPart, other: &LoopPart) -> bool
     ensures { IsTrue result → one.now ≡ other.now }
 {
     one.number == other.number
         && one.up == other.up
         && one.low == other.low
         && one.high == other.high
-}
-
-/// Returns whether a callee is this part of a loop.
-pub fn is_part(one: &LoopPart, callee: &Callee) -> bool
-    ensures { IsTrue result → callee.now ≡ Callee.Loop one.now }
-{
-    match callee {
-        Callee::Loop(part) => same_part(one, part),
-        _ => false,
-    }
 }

@@ -8,28 +8,19 @@ ghost use Rattle.cilk_lower.specs.Code.{CodeView};
 ghost use Rattle.cilk_helpers.specs.Whole.{IsKept};
 ghost use Rattle.cilk_helpers.specs.Replayed.{AreFitting, AreReplayed, IsFitting, IsReplayed};
 
-use crate::fits::fits;
+use crate::called::SmallCallee;
 use crate::listing::{FrameHint, Hints, place_of};
 use crate::replayed::{Due, Replayed};
 use crate::rounds::{Share, round};
 use crate::watch::Watch;
 use crate::whole::Replay;
 use cilk_lower::code::Code;
-use cilk_program::ask::{Callee, LoopPart};
 use cilk_program::program::Program;
 use cilk_types::event::FrameNo;
 use cilk_types::input::Input;
 use cilk_types::limits::MAX_TICKS;
 use std::alloc::{AllocError, Global};
 use std::thread::Threads;
-
-// A part of a loop that no frame runs. It marks a replay that wasn't made.
-const NOTHING: LoopPart = LoopPart {
-    number: 0,
-    up: 0,
-    low: 0,
-    high: 0,
-};
 
 // The replays before any frame is replayed.
 fn blanks(alloc: Global, count: usize) -> Result<Vec<Replay>, AllocError>
@@ -38,7 +29,7 @@ fn blanks(alloc: Global, count: usize) -> Result<Vec<Replay>, AllocError>
     let mut list = Vec::with_capacity(alloc, count)?;
     'each: for _ in 0..count {
         list.push(Replay {
-            callee: Callee::Loop(NOTHING),
+            callee: SmallCallee::nothing(),
             notes: Vec::new(alloc),
         })?;
     }
@@ -58,12 +49,12 @@ fn add(
     program: &Program,
     hints: &Hints,
     frame: FrameNo,
-    callee: Callee,
+    callee: SmallCallee,
     dues: &mut Vec<Due>,
 ) -> Result<(), AllocError>
     ensures { All (IsFitting (source program.now)) dues.old.items → All (IsFitting (source program.now)) dues.new.items }
 {
-    if fits(program, &callee) {
+    if callee.fits(program) {
         dues.push(Due {
             frame,
             callee,
@@ -75,6 +66,7 @@ fn add(
 
 // Adds the listed children of a frame. Their callees are those of its replay, in the same order.
 fn add_children(
+    alloc: Global,
     program: &Program,
     hints: &Hints,
     frame: FrameNo,
@@ -85,7 +77,7 @@ fn add_children(
 {
     let mut listed = hint_of(hints, frame).child;
     'notes: for note in replay.notes.iter().rev() {
-        if let Some(callee) = note.child() {
+        if let Some(callee) = note.child(alloc)? {
             let Some(child) = listed else { break };
             listed = hint_of(hints, child).sibling;
             add(program, hints, child, callee, dues)?;
@@ -100,7 +92,7 @@ fn first(alloc: Global, program: &Program, hints: &Hints) -> Result<Vec<Due>, Al
 {
     let mut dues = Vec::new(alloc);
     if !hints.frames.is_empty() {
-        add(program, hints, 1, Callee::Root, &mut dues)?;
+        add(program, hints, 1, SmallCallee::root(), &mut dues)?;
     }
     Ok(dues)
 }
@@ -120,7 +112,7 @@ fn following(
         let Some(replay) = replays.get(place_of(*frame)) else {
             break;
         };
-        add_children(program, hints, *frame, replay, &mut dues)?;
+        add_children(alloc, program, hints, *frame, replay, &mut dues)?;
     }
     Ok(dues)
 }

@@ -1,11 +1,12 @@
 //! Hints about the frames of a run, read from a certificate's text. They may be wrong: a replay by
 //! them shows only what a frame does if it reads these values.
 
-ghost use Rattle.std.specs.Prelude.{◌≡◌, ◌<◌, OnOk, Err, IfSome, length};
+ghost use Rattle.std.specs.Prelude.{◌≡◌, ◌<◌, OnOk, Err};
 
 use crate::listing::{Hints, Listing};
 use crate::scan::hint_of;
 use cilk_checker::source::{PullFault, Source};
+use memchr::memchr;
 use std::alloc::{AllocError, Global};
 
 /// Most bytes of a line.
@@ -24,18 +25,6 @@ struct Reading {
     begun: Vec<u8>,
 }
 
-/// Returns the index of the first LF.
-fn end_of_line(piece: &[u8]) -> Option<usize>
-    ensures { IfSome result (λ at. at < length piece.now) }
-{
-    for (at, byte) in piece.iter().enumerate() {
-        if *byte == b'\n' {
-            return Some(at);
-        }
-    }
-    None
-}
-
 impl Reading {
     // Reads the end of a line. False if the line doesn't fit those before it.
     fn end_line(&mut self, front: &[u8]) -> Result<bool, AllocError> {
@@ -51,7 +40,7 @@ impl Reading {
     // Reads a piece of the text. False if a line doesn't fit those before it.
     fn piece(&mut self, piece: &[u8]) -> Result<bool, AllocError> {
         let mut rest = piece;
-        'lines: while let Some(at) = end_of_line(rest) {
+        'lines: while let Some(at) = memchr(b'\n', rest) {
             let (front, back) = rest.split_at(at);
             if !self.end_line(front)? {
                 return Ok(false);

@@ -35,6 +35,7 @@
 //! values that they read (Dalessandro, Spear and Scott 2010).
 #![tactic(auto)]
 
+pub mod called;
 pub mod callee;
 pub mod depths;
 pub mod fits;

@@ -3,12 +3,14 @@
 ghost use Rattle.std.specs.Prelude.{◌≡◌, ◌≤◌, length, IfOk, MatchOption, Some, option_map};
 ghost use Rattle.cilk_frames.specs.Following.{child_of};
 ghost use Rattle.cilk_frames.specs.declared.cursor.Answer.TheVariants.{Value};
+ghost use Rattle.cilk_program.specs.declared.ask.Callee.TheVariants as callees;
 ghost use Rattle.cilk_helpers.specs.Asked.{IsTooMuch, answer_of, answer_with, ask_in, call_in};
 
+use crate::called::SmallCallee;
 use cilk_frames::asked::AskSlot;
 use cilk_frames::cursor::Answer;
 use cilk_frames::small_ask::SmallAsk;
-use cilk_program::ask::{Callee, FunctionCall};
+use cilk_program::ask::FunctionCall;
 use cilk_program::given::{References, Words};
 use cilk_program::syntax::{Place, Reducer};
 use cilk_types::invocation::Invocation;
@@ -23,6 +25,47 @@ pub struct Given {
     pub words: Vec<i64>,
     pub reducers: Vec<Reducer>,
     pub result: Option<Place>,
+}
+
+impl Given {
+    // The same call, in only the memory that it needs.
+    fn of(alloc: Global, call: &FunctionCall) -> Result<Given, AllocError>
+        ensures { IfOk result (λ given. call_in given ≡ call.now) }
+    {
+        Ok(Given {
+            function: call.function,
+            words: Vec::from_slice(alloc, call.words.as_slice())?,
+            reducers: Vec::from_slice(alloc, call.reducers.as_slice())?,
+            result: call.result,
+        })
+    }
+
+    /// Returns a copy of the call.
+    pub fn copy(&self, alloc: Global) -> Result<Given, AllocError>
+        ensures { IfOk result (λ given. call_in given ≡ call_in self.now) }
+    {
+        Ok(Given {
+            function: self.function,
+            words: Vec::from_slice(alloc, self.words.as_slice())?,
+            reducers: Vec::from_slice(alloc, self.reducers.as_slice())?,
+            result: self.result,
+        })
+    }
+
+    /// Returns the call, if its arguments are no more than a function can have.
+    pub fn call(&self) -> Option<FunctionCall>
+        ensures { MatchOption result (IsTooMuch (Some (callees.Function (call_in self.now)))) (λ call. call ≡ call_in self.now) }
+    {
+        if self.words.len() > 16 || self.reducers.len() > 16 {
+            return None;
+        }
+        Some(FunctionCall {
+            function: self.function,
+            words: words(self.words.as_slice()),
+            reducers: references(self.reducers.as_slice()),
+            result: self.result,
+        })
+    }
 }
 
 /// A frame's request.
@@ -99,18 +142,16 @@ impl Note {
         }
     }
 
-    /// Returns the callee of the frame that the request begins, if it begins one. `None` also for a
-    /// call with more arguments than a function can have.
-    pub fn child(&self) -> Option<Callee>
-        ensures { MatchOption result (IsTooMuch (child_of self.now.ask)) (λ callee. child_of self.now.ask ≡ Some callee) }
+    /// Returns the callee of the frame that the request begins, if it begins one.
+    pub fn child(&self, alloc: Global) -> Result<Option<SmallCallee>, AllocError>
+        ensures { IfOk result (λ child. child ≡ child_of self.now.ask) }
     {
         match &self.parts {
-            Parts::SmallAsk(_, _, _, SmallAsk::Turns(_, part)) => Some(Callee::Loop(*part)),
-            Parts::SmallAsk(_, _, _, _) => None,
-            Parts::Function(_, _, _, _, given) => match call(given) {
-                Some(call) => Some(Callee::Function(call)),
-                None => None,
-            },
+            Parts::SmallAsk(_, _, _, SmallAsk::Turns(_, part)) => {
+                Ok(Some(SmallCallee::turns(*part)))
+            }
+            Parts::SmallAsk(_, _, _, _) => Ok(None),
+            Parts::Function(_, _, _, _, given) => Ok(Some(SmallCallee::function(alloc, given)?)),
         }
     }
 }
@@ -124,7 +165,7 @@ impl Asked {
             Some(small_ask) => Ok(Asked::SmallAsk(*small_ask)),
             None => {
                 let (how, call) = slot.invocation();
-                Ok(Asked::Function(how, boxed(alloc, call)?))
+                Ok(Asked::Function(how, Box::new(alloc, Given::of(alloc, call)?)?))
             }
         }
     }
@@ -175,34 +216,6 @@ fn valued(word: Option<i64>) -> Option<Answer>
         Some(word) => Some(Answer::Value(word)),
         None => None,
     }
-}
-
-// The same call, in only the memory that it needs.
-fn boxed(alloc: Global, call: &FunctionCall) -> Result<Box<Given>, AllocError>
-    ensures { IfOk result (λ given. call_in given.value ≡ call.now) }
-{
-    let given = Given {
-        function: call.function,
-        words: Vec::from_slice(alloc, call.words.as_slice())?,
-        reducers: Vec::from_slice(alloc, call.reducers.as_slice())?,
-        result: call.result,
-    };
-    Ok(Box::new(alloc, given)?)
-}
-
-// The same call, if its arguments are no more than a function can have.
-fn call(given: &Given) -> Option<FunctionCall>
-    ensures { MatchOption result (IsTooMuch (Some (Callee.Function (call_in given.now)))) (λ call. call ≡ call_in given.now) }
-{
-    if given.words.len() > 16 || given.reducers.len() > 16 {
-        return None;
-    }
-    Some(FunctionCall {
-        function: given.function,
-        words: words(given.words.as_slice()),
-        reducers: references(given.reducers.as_slice()),
-        result: given.result,
-    })
 }
 
 fn words(list: &[i64]) -> Words

@@ -5,9 +5,11 @@ ghost use Rattle.cilk_program.specs.Inside.{CalleeIsFit};
 ghost use Rattle.cilk_program.specs.Syntax.{Source};
 ghost use Rattle.cilk_program.specs.declared.ask.Ask.TheVariants.{Begin};
 ghost use Rattle.cilk_lower.specs.Behaves.{Behaves};
+ghost use Rattle.cilk_lower.specs.Code.{CodeView};
 ghost use Rattle.cilk_frames.specs.Following.{Stands, owed_for};
 ghost use Rattle.cilk_helpers.specs.Replayed.{IsReplayed};
 
+use crate::called::SmallCallee;
 use crate::listing::FrameHint;
 use crate::note::Note;
 use crate::replay::replay;
@@ -24,7 +26,7 @@ use std::alloc::{AllocError, Global};
 #[derive(Drop)]
 pub struct Due {
     pub frame: FrameNo,
-    pub callee: Callee,
+    pub callee: SmallCallee,
     pub hint: FrameHint,
 }
 
@@ -65,6 +67,20 @@ fn taken(notes: &[Note]) -> u32 {
     }
 }
 
+// The replay of a frame that isn't replayed.
+fn missing(alloc: Global, frame: FrameNo) -> Replayed
+    ensures { (code : CodeView) (p : Source) (inputs : List ℤ) → IsReplayed code p inputs result }
+{
+    Replayed {
+        frame,
+        replay: Replay {
+            callee: SmallCallee::nothing(),
+            notes: Vec::new(alloc),
+        },
+        ticks: 0,
+    }
+}
+
 /// Replays a frame by its hint.
 pub fn replay_due(
     alloc: Global,
@@ -81,7 +97,10 @@ pub fn replay_due(
         callee,
         hint,
     } = due;
-    let cursor = begun(alloc, code, &callee)?;
+    let Some(begins) = callee.callee() else {
+        return Ok(missing(alloc, frame));
+    };
+    let cursor = begun(alloc, code, &begins)?;
     let own = words_of(words, &hint);
     let mut notes = replay(alloc, code, input, cursor, own, hint.events)?;
     let ticks = taken(notes.as_slice());

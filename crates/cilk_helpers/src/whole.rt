@@ -11,7 +11,7 @@ ghost use Rattle.cilk_helpers.specs.Asked.{ask_in};
 ghost use Rattle.cilk_helpers.specs.Whole.{IsKept, Retells};
 ghost use Rattle.cilk_helpers.specs.Telling.{HasRoom, Tells};
 
-use crate::callee::{is_call, is_part};
+use crate::called::SmallCallee;
 use crate::note::{Asked, Note};
 use crate::retelling::{Gone, Parting, Retelling};
 use cilk_checker::ending::End;
@@ -30,7 +30,7 @@ use std::alloc::{AllocError, Global};
 /// The replay of a frame: its callee, and its notes, the next one last.
 #[derive(Drop)]
 pub struct Replay {
-    pub callee: Callee,
+    pub callee: SmallCallee,
     pub notes: Vec<Note>,
 }
 
@@ -73,18 +73,27 @@ fn begin_function(
     ensures { IfOk result (λ s. Retells code.now (source program.now) input.now run.old s run.new) }
 {
     let _ = input;
-    let Replay { callee, notes } = replay;
     let Asked::Function(how, given) = &run.asked else {
         return Ok(Step::Departs);
     };
-    let Callee::Function(call) = &callee else {
+    let Some(call) = given.call() else {
         return Ok(Step::Departs);
     };
-    if !is_call(given, call) {
+    let Replay {
+        callee: called,
+        notes,
+    } = replay;
+    let is_next = called.is_call(&call);
+    drop(called);
+    if !is_next {
         return Ok(Step::Departs);
     }
     let how = *how;
+    let callee = Callee::Function(call);
     let own = of_callee(program, code.layout(), &callee);
+    let Callee::Function(call) = &callee else {
+        return Ok(Step::Departs);
+    };
     let begun = run.begin_function(alloc, program, how, call, notes)?;
     Ok(if begun {
         Step::Begins(own)
@@ -110,11 +119,14 @@ fn begin_turns(
 {
     let _ = input;
     let (how, part) = turns;
-    if !is_part(&part, &replay.callee) {
+    let Replay { callee, notes } = replay;
+    let is_next = callee.is_part(&part);
+    drop(callee);
+    if !is_next {
         return Ok(Step::Departs);
     }
-    let own = of_callee(program, code.layout(), &replay.callee);
-    let begun = run.begin_turns(alloc, program, how, part, replay.notes)?;
+    let own = of_callee(program, code.layout(), &Callee::Loop(part));
+    let begun = run.begin_turns(alloc, program, how, part, notes)?;
     Ok(if begun {
         Step::Begins(own)
     } else {
@@ -206,10 +218,12 @@ fn begin(
         return Ok(None);
     };
     let Replay { callee, notes } = replay;
-    match callee {
-        Callee::Root => Ok(Some(Retelling::new(alloc, program, notes, events)?)),
-        _ => Ok(None),
+    let is_root = callee.is_root();
+    drop(callee);
+    if !is_root {
+        return Ok(None);
     }
+    Ok(Some(Retelling::new(alloc, program, notes, events)?))
 }
 
 /// Retells the serial run of a program from the replays of its frames, the last frame first.

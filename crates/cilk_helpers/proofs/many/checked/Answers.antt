@@ -1,4 +1,4 @@
-use Rattle.std.proofs.Common.{ℕ, List, Some, IfOk, refl, sym, subst}
+use Rattle.std.proofs.Common.{ℕ, List, Some, IfOk, refl, subst}
 use Rattle.std.proofs.lemmas.Result.{IfErr-weaker, err_from_is_err_and}
 use Rattle.cilk_program.specs.Sources.{source}
 use Rattle.cilk_checker.specs.Judging.{meant}

@@ -1,4 +1,4 @@
-use Rattle.std.proofs.Common.{reverse, sym, ap, ◌∙◌, subst}
+use Rattle.std.proofs.Common.{◌≡◌, reverse, sym, ap, ◌∙◌, subst}
 use Rattle.cilk_program.specs.Sources.{source}
 use Rattle.cilk_program.specs.declared.ask.Ask.TheVariants.{Invoke}
 use Rattle.cilk_program.specs.declared.ask.Callee.{Callee}
@@ -15,7 +15,8 @@ pub begin_function-requires-clause-asked : goal.begin_function-requires-clause-a
 begin_function-requires-clause-asked c =
     ap ask_in c.in-Function.is
     ∙ (ap (λ (g : Given). Invoke c.in-Function.how (Function (call_in g))) (sym c.deref.ensures)
-    ∙ ap (λ (call : FunctionCall). Invoke c.in-Function.how (Function call)) (c.is_call.ensures c.if-not-is_call.false))
+    ∙ (ap (λ (call : FunctionCall). Invoke c.in-Function.how (Function call)) (sym c.in-Some.ensures)
+    ∙ ap (Invoke c.in-Function.how) c.in-Function-callee.is))
 
 pub returns-then-begun : goal.returns-then-begun
 returns-then-begun c =
@@ -24,8 +25,9 @@ returns-then-begun c =
     let inputs = c.args.input.now in
     let replay = c.args.replay in
     let callee = Function c.in-Function-callee.call in
-    let kept = subst (λ (d : Callee). IsReplay code p inputs d (reverse replay.notes.items)) c.in-Function-callee.is c.requires.kept in (
+    let same : replay.callee ≡ callee = c.is_call-is_next.ensures c.if-not-is_next.false ∙ c.in-Function-callee.is in
+    let kept = subst (λ (d : Callee). IsReplay code p inputs d (reverse replay.notes.items)) same c.requires.kept in (
       callee,
-      c.of_callee-own.ensures ∙ (ap (λ (l : Layout). own_of p l replay.callee) c.layout.ensures ∙ ap (own_of p code.layout) c.in-Function-callee.is),
+      c.of_callee-own.ensures ∙ (ap (λ (l : Layout). own_of p l (Function c.in-Some.call)) c.layout.ensures ∙ ap (own_of p code.layout) c.in-Function-callee.is),
       c.in_ok-begun.ensures code inputs c.requires.tells kept c.if-begun.true,
     )

@@ -14,9 +14,9 @@ returns-then-begun c =
     let inputs = c.args.input.now in
     let replay = c.args.replay in
     let part = Loop c.args.turns.1 in
-    let of_part : replay.callee ≡ part = c.is_part.ensures c.if-not-is_part.false in
+    let of_part : replay.callee ≡ part = c.is_part-is_next.ensures c.if-not-is_next.false in
     let kept = subst (λ (d : Callee). IsReplay code p inputs d (reverse replay.notes.items)) of_part c.requires.kept in (
       part,
-      c.of_callee-own.ensures ∙ (ap (λ (l : Layout). own_of p l replay.callee) c.layout.ensures ∙ ap (own_of p code.layout) of_part),
+      c.of_callee-own.ensures ∙ ap (λ (l : Layout). own_of p l part) c.layout.ensures,
       c.in_ok-begun.ensures code inputs c.requires.tells kept c.if-begun.true,
     )
