@@ -1,0 +1,14 @@
+pub mod Appended
+pub mod Finding
+pub mod Judgements
+pub mod Keeping
+pub mod Lifetimes
+pub mod Meeting
+pub mod Passing
+pub mod ReducerReads
+pub mod ReducerSteps
+pub mod Results
+pub mod Shapes
+pub mod Strands
+pub mod Surveying
+pub mod Touching

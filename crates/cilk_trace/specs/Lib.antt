@@ -1,0 +1,13 @@
+pub mod Accesses
+pub mod Births
+pub mod Frames
+pub mod Histories
+pub mod Judging
+pub mod Marks
+pub mod Passes
+pub mod Reducers
+pub mod Structures
+pub mod Surveys
+pub mod Touching
+pub mod Viewing
+pub mod Views

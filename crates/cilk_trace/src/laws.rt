@@ -1,0 +1,19 @@
+//! Laws of traces. Each is a function that does nothing: its contract is the law.
+
+ghost use Rattle.cilk_trace.specs.Marks.{TracesHaveShapes};
+ghost use Rattle.cilk_trace.specs.Structures.{KeepsMarks, RefusesNoTrace};
+
+/// The marks of a trace whose frames nest are those of a run of some shape.
+pub fn traces_have_shapes()
+    ensures { TracesHaveShapes }
+{}
+
+/// What is kept of a whole trace has its marks, and its frames nest.
+pub fn structures_keep_marks()
+    ensures { KeepsMarks }
+{}
+
+/// No trace begins with lines of which one is refused.
+pub fn no_trace_is_refused()
+    ensures { RefusesNoTrace }
+{}

@@ -1,0 +1,29 @@
+-- The state of a reader in the middle of a text.
+use Rattle.std.specs.Prelude.{◌≡◌, ℕ, List, ◌++◌, take, Option, Some, None}
+use Rattle.cilk_trace_text.specs.declared.fault.TraceFault.{TraceFault}
+use Rattle.cilk_trace_text.specs.declared.place.Place.{Place}
+use Rattle.cilk_trace_text.specs.declared.reader.TraceReader.{TraceReader}
+use Rattle.cilk_trace_text.specs.Reading.{TextLines, text_lines, Reading, stops, reading}
+
+-- the fault that it has returned
+abbrev pub fault_of : TraceReader → Option TraceFault
+fault_of r = r.fault
+
+-- the number of the current line
+abbrev pub line_number : TraceReader → ℕ
+line_number r = r.number
+
+abbrev pub reading_lines : Place → ℕ → TextLines → Reading
+reading_lines place number c = reading c.each place number c.last
+
+abbrev pub rest_of : Option TraceFault → Place → ℕ → List ℕ → Reading
+rest_of (Some fault) place number bytes = stops fault
+rest_of None place number bytes = reading_lines place number (text_lines bytes)
+
+-- The reading if these bytes follow and then the text ends.
+abbrev pub ahead : TraceReader → List ℕ → Reading
+ahead r more = rest_of r.fault r.place r.number (take r.length r.bytes ++ more)
+
+-- the fault is returned whatever bytes follow
+abbrev pub IsCertain : TraceReader → TraceFault → Type 0
+IsCertain r fault = (more : List ℕ) → ahead r more ≡ stops fault

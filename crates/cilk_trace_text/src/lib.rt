@@ -1,0 +1,35 @@
+//! The text form of traces: reading it.
+//!
+//! A trace lists what a serial run of a Cilk program did (`docs/TRACES.md`). Its text is lines of
+//! words: one space separates two words, and one LF ends each line.
+//!
+//! ```text
+//! trace  = "cilktrace 1" LF { line LF } "end" LF
+//! line   = "enter" SP SITE
+//!        | "spawned" | "called" | "sync"
+//!        | ("read" | "write") SP CELL SP COUNT SP SITE
+//!        | "clear" SP CELL SP COUNT
+//!        | ("create" | "update" | "value" | "retire") SP REDUCER SP SITE
+//! ```
+//!
+//! A number is below 2^32 and has no leading zeros. COUNT is 1 to 4,096, and CELL + COUNT at most
+//! 2^32. A line has at most 64 bytes, and there are fewer than 2^32 - 1 lines.
+//!
+//! [`reader::TraceReader`] reads a text in pieces, cut anywhere, without allocating. Reading stops
+//! at the first fault: a [`fault::TraceFault`] with its line, from 1. Whether frames nest and
+//! reducers are alive isn't the text's: `cilk_trace` says that of lines.
+//!
+//! ```text
+//! let mut reader = TraceReader::new();
+//! let (taken, line) = reader.next(piece)?;     // then continue with piece[taken..]
+//! reader.end()?;                               // after the last piece
+//! ```
+#![tactic(auto)]
+
+pub mod fault;
+mod keyword;
+pub mod laws;
+mod parse;
+pub mod place;
+pub mod reader;
+mod word;
