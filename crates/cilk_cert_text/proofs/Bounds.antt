@@ -47,15 +47,15 @@ lines_bound n (f ∷ fs) bytes =
     (λ l x rest e. one_more x (reading_lines (n + 1) fs rest) (53 * length fs) (shown_line f x (line_sound f l x e).0) (later rest)) in
     omega (arith, each)
 
-frame_count : (k n : ℕ) → length (frame_forms k n) ≡ n
+pub frame_count : (k n : ℕ) → length (frame_forms k n) ≡ n
 frame_count k zero = refl
 frame_count k (suc n) = omega (arith, frame_count (k + 1) n)
 
-strand_count : (k n : ℕ) → length (strand_forms k n) ≡ n
+pub strand_count : (k n : ℕ) → length (strand_forms k n) ≡ n
 strand_count k zero = refl
 strand_count k (suc n) = omega (arith, strand_count (k + 1) n)
 
-event_count : (v : Version) (n : ℕ) → length (event_forms v n) ≡ n
+pub event_count : (v : Version) (n : ℕ) → length (event_forms v n) ≡ n
 event_count v zero = refl
 event_count v (suc n) = omega (arith, event_count v n)
 

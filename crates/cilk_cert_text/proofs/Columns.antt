@@ -2,7 +2,8 @@
 --
 -- `get_front`, `get_back`: an element of the first or the second of two lists. `frame_at`,
 -- `strand_at`: a line of a column. `frames_counted`, `strands_counted`: the lengths of the columns.
--- `column_frame`, `column_strand`, `column_late`: the lines after the first two. `left_some`,
+-- `column_frame`, `column_strand`, `column_late`: the lines after the first two. `line_frame`,
+-- `line_strand`, `line_event`: the line at an index of all lines. `left_some`,
 -- `left_none`: the list after an element, and after all.
 use Rattle.std.proofs.Common.{◌≡◌, ℕ, zero, suc, ◌+◌, ◌-◌, ◌<◌, ◌≤◌, List, [], ◌∷◌, ◌++◌, length, drop, get_or, Option, Some, None, option_map, refl, ap, subst, sym, ◌∙◌, arith}
 use Rattle.std.specs.Prelude.{slice_get}
@@ -10,8 +11,10 @@ use Rattle.std.proofs.lemmas.Option.{get_or_from_slice_get, slice_get_read, slic
 use Rattle.std.proofs.lemmas.List.{drop_all, drop_more}
 use Rattle.cilk_cert_text.specs.declared.line.Frame.{Frame}
 use Rattle.cilk_cert_text.specs.declared.line.Strand.{Strand}
+use Rattle.cilk_cert_text.specs.declared.line.Entry.{Entry}
+use Rattle.cilk_cert_text.specs.declared.line.Line.{Line}
 use Rattle.cilk_cert_text.specs.declared.line.Line.TheVariants as lines
-use Rattle.cilk_cert_text.specs.Certificates.{Contents, column_lines, frame_lines, late_lines, strand_lines}
+use Rattle.cilk_cert_text.specs.Certificates.{Contents, column_lines, event_lines, frame_lines, late_lines, lines_of, strand_lines}
 
 module _ {X : Type 0} where
   -- the result of looking one of these elements up
@@ -87,3 +90,36 @@ column_late c fs ss i e d h k =
     sym (behind_frames c (length fs) i (ap length e) h
     ∙ get_back (strand_lines 1 c.strands) (late_lines c) j (omega (arith, few, k))
     ∙ ap (λ n. slice_get (late_lines c) (j - n)) few)
+
+event_at : (es : List Entry) (i : ℕ) (e : Entry) → slice_get es i ≡ Some e → slice_get (event_lines es) i ≡ Some (lines.Event e)
+event_at [] i e h = absurd (omega (arith, slice_get_within [] i e h))
+event_at (f ∷ es) zero e h = ap (λ (o : Option Entry). option_map (λ x. lines.Event x) o) h
+event_at (f ∷ es) (suc i) e h = event_at es i e h
+
+-- the same among all lines
+at_two : (c : Contents) (i j : ℕ) (x : Line) → j ≡ i + 2 → Some x ≡ slice_get (column_lines c) i → slice_get (lines_of c) j ≡ Some x
+at_two c i j x e h = let next : j ≡ suc (suc i) = omega (arith, e) in rw next (sym h)
+
+pub line_frame : (c : Contents) (fs : List Frame) (i j : ℕ) (f : Frame) → fs ≡ c.frames → j ≡ i + 2 → i < length fs → f ≡ get_or fs i f
+    → slice_get (lines_of c) j ≡ Some (lines.Frame (i + 1) f)
+line_frame c fs i j f e n h k = at_two c i j (lines.Frame (i + 1) f) n (column_frame c fs i f e h k)
+
+pub line_strand : (c : Contents) (fs : List Frame) (ss : List Strand) (i j : ℕ) (s : Strand) → fs ≡ c.frames → ss ≡ c.strands
+    → j ≡ 2 + length fs + i → i < length ss → s ≡ get_or ss i s → slice_get (lines_of c) j ≡ Some (lines.Strand (i + 1) s)
+line_strand c fs ss i j s e d n h k =
+    let k' : ℕ = i + length fs in
+    let here : k' - length fs ≡ i = omega arith in
+    at_two c k' j (lines.Strand (i + 1) s) (omega (arith, n))
+    (ap (λ (m : ℕ). Some (lines.Strand (m + 1) s)) (sym here)
+    ∙ column_strand c fs ss k' s e d (omega arith) (omega (arith, h)) (k ∙ ap (λ (m : ℕ). get_or ss m s) (sym here)))
+
+pub line_event : (c : Contents) (fs : List Frame) (ss : List Strand) (es : List Entry) (i j : ℕ) (x : Entry) → fs ≡ c.frames → ss ≡ c.strands → es ≡ c.events
+    → j ≡ 2 + length fs + length ss + i → i < length es → x ≡ get_or es i x → slice_get (lines_of c) j ≡ Some (lines.Event x)
+line_event c fs ss es i j x e d b n h k =
+    let k' : ℕ = i + length ss + length fs in
+    let here : k' - length fs - length ss ≡ i = omega arith in
+    let found_at : slice_get (event_lines c.events) i ≡ Some (lines.Event x) = event_at c.events i x (found es c.events i x b h k) in
+    at_two c k' j (lines.Event x) (omega (arith, n))
+    (sym (get_front (event_lines c.events) (lines.Result c.result ∷ lines.End ∷ []) i (lines.Event x) found_at)
+    ∙ ap (λ (m : ℕ). slice_get (late_lines c) m) (sym here)
+    ∙ column_late c fs ss k' e d (omega arith) (omega arith))

@@ -4,6 +4,7 @@ pub mod Cuts
 pub mod Dues
 pub mod Entries
 pub mod Numerals
+pub mod Pairs
 pub mod Passed
 pub mod Readings
 pub mod Rooms

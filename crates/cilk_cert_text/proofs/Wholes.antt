@@ -17,7 +17,7 @@ use Rattle.cilk_cert_text.specs.declared.line.Form.{Form}
 use Rattle.cilk_cert_text.specs.declared.line.Form.TheVariants as forms
 use Rattle.cilk_cert_text.specs.Words.{words, joined}
 use Rattle.cilk_cert_text.specs.Lines.{line_words, spelled, line_of, is_size, version_line, size_line}
-use Rattle.cilk_cert_text.specs.Certificates.{Contents, frame_lines, strand_lines, event_lines, size_of, lines_of, text_of_lines, text_of, IsValue, IsEntry, IsFrame, IsStrand, IsCertificate, IsAt}
+use Rattle.cilk_cert_text.specs.Certificates.{Contents, frame_lines, strand_lines, event_lines, size_of, lines_of, text_of_lines, text_of, IsValue, IsEntry, IsFrame, IsStrand, IsCertificate, AllAt}
 use Rattle.cilk_cert_text.specs.Reading.{Reading, stops, with_line, first_line, taken, step, frame_forms, strand_forms, event_forms, forms_of, reading_lines, reading_size, reading, reading_of}
 use Rattle.cilk_cert_text.specs.Gathering.{nothing, gathered}
 use Rattle.cilk_cert_text.proofs.Spellings.{both, version_sound, size_sound, size_within, version_again, size_again, joined_words}
@@ -25,12 +25,6 @@ use Rattle.cilk_cert_text.proofs.Entries.{line_sound}
 use Rattle.cilk_cert_text.proofs.Shown.{Shown, shown_line, shown_version, shown_size, words_shown, short, front_line, line_again}
 
 -- ---- lines of the forms that are due
-
-abbrev pub AllAt : List Form → List Line → Type 0
-AllAt [] [] = Unit {0}
-AllAt [] (x ∷ xs) = ⊥
-AllAt (f ∷ fs) [] = ⊥
-AllAt (f ∷ fs) (x ∷ xs) = IsAt f x × AllAt fs xs
 
 abbrev pub all_lines : List Line → Reading
 all_lines xs = record { lines = xs; fault = None }
@@ -123,7 +117,7 @@ lines_sound n (f ∷ fs) bytes r e clean =
 
 -- ---- the lines of a certificate
 
-at_append : (fs gs : List Form) (xs ys : List Line) → AllAt fs xs → AllAt gs ys → AllAt (fs ++ gs) (xs ++ ys)
+pub at_append : (fs gs : List Form) (xs ys : List Line) → AllAt fs xs → AllAt gs ys → AllAt (fs ++ gs) (xs ++ ys)
 at_append [] gs [] ys h k = k
 at_append [] gs (x ∷ xs) ys h k = absurd h
 at_append (f ∷ fs) gs [] ys h k = absurd h

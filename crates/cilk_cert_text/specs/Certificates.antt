@@ -105,6 +105,13 @@ IsAt forms.Result (lines.Result z) = IsValue z
 IsAt forms.End lines.End = Unit {0}
 IsAt form line = ⊥
 
+-- lines of these forms, one of each
+abbrev pub AllAt : List Form → List Line → Type 0
+AllAt [] [] = Unit {0}
+AllAt [] (x ∷ xs) = ⊥
+AllAt (f ∷ fs) [] = ⊥
+AllAt (f ∷ fs) (x ∷ xs) = IsAt f x × AllAt fs xs
+
 -- contents within the limits, which have a text
 pub record IsCertificate (c : Contents) : Type 0 where
   pub few_events : length c.events ≤ 1000000

@@ -1,4 +1,5 @@
 pub mod Certificates
+pub mod Digits
 pub mod Fault
 pub mod Gathering
 pub mod Lines

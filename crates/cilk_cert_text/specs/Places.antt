@@ -4,6 +4,9 @@ use Rattle.cilk_cert_text.specs.declared.line.Line.{Line}
 use Rattle.cilk_cert_text.specs.declared.line.Line.TheVariants as lines
 use Rattle.cilk_cert_text.specs.declared.line.Form.{Form}
 use Rattle.cilk_cert_text.specs.declared.line.Form.TheVariants as forms
+use Rattle.cilk_cert_text.specs.declared.line.Version.TheVariants.{Two}
+use Rattle.cilk_cert_text.specs.declared.line.Column.{Column}
+use Rattle.cilk_cert_text.specs.declared.line.Column.TheVariants as columns
 use Rattle.cilk_cert_text.specs.declared.place.Tail.{Tail}
 use Rattle.cilk_cert_text.specs.declared.place.Tail.TheVariants as tails
 use Rattle.cilk_cert_text.specs.declared.place.Progress.{Progress}
@@ -50,6 +53,22 @@ line_at (Lines (form ∷ forms)) l = option_map (λ x. (x, Lines forms)) (line_o
 -- a line of this form is due, and these after it
 abbrev pub IsDue : Form → Due → Due → Type 0
 IsDue form later due = (forms : List Form) × (due ≡ Lines (form ∷ forms)) × (later ≡ Lines forms)
+
+-- lines of these forms are due, and these after them
+abbrev pub AreDue : List Form → Due → Due → Type 0
+AreDue forms later due = (rest : List Form) × (due ≡ Lines (forms ++ rest)) × (later ≡ Lines rest)
+
+-- the forms of a column's lines
+abbrev pub column_forms : Column → List Form
+column_forms (columns.Frames first count) = frame_forms first count
+column_forms (columns.Strands first count) = strand_forms first count
+column_forms (columns.Events count) = event_forms Two count
+
+-- how many lines a column has
+abbrev pub count_of : Column → ℕ
+count_of (columns.Frames first count) = count
+count_of (columns.Strands first count) = count
+count_of (columns.Events count) = count
 
 -- a line of this form is due
 abbrev pub IsAwaited : Form → Due → Type 0

@@ -6,7 +6,7 @@ use Rattle.cilk_cert_text.specs.declared.reader.LineReader.{LineReader}
 use Rattle.cilk_cert_text.specs.declared.line.Form.{Form}
 use Rattle.cilk_cert_text.specs.Certificates.{IsAt}
 use Rattle.cilk_cert_text.specs.Places.{due_of, number_at, IsAwaited}
-use Rattle.cilk_cert_text.specs.Reading.{Reading, Due, stops, with_line, reading}
+use Rattle.cilk_cert_text.specs.Reading.{Reading, Due, Lines, stops, with_line, reading}
 
 -- the fault that it has returned
 abbrev pub fault_of : LineReader → Option CertFault
@@ -23,6 +23,10 @@ rest_of None due number bytes = reading due number bytes
 -- The reading if these bytes follow and then the text ends.
 abbrev pub ahead : LineReader → List ℕ → Reading
 ahead r more = rest_of r.fault (due_of r.place) (number_at r.place) (take r.length r.bytes ++ more)
+
+-- a reading that begins with these lines
+abbrev pub with_all : List Line → Reading → Reading
+with_all lines reading = record { lines = lines ++ reading.lines; fault = reading.fault }
 
 abbrev pub with_lines : Option Line → Reading → Reading
 with_lines None reading = reading
@@ -44,3 +48,10 @@ pub record Awaits (r : LineReader) (line : Line) : Type 0 where
   pub form : Form
   pub due : IsAwaited form (due_of r.place)
   pub fits : IsAt form line
+
+-- it is at the beginning of a line, and lines of these forms are due
+pub record AwaitsAll (r : LineReader) (forms : List Form) : Type 0 where
+  pub silent : r.fault ≡ None
+  pub begins : r.length ≡ 0
+  pub later : List Form
+  pub due : due_of r.place ≡ Lines (forms ++ later)

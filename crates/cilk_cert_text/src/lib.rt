@@ -36,6 +36,7 @@
 #![tactic(auto)]
 
 pub mod certificate;
+mod digits;
 pub mod fault;
 mod form;
 pub mod laws;
@@ -44,7 +45,7 @@ mod parse;
 mod place;
 pub mod read;
 pub mod reader;
-mod spelling;
+pub mod spelling;
 mod word;
 pub mod write;
 pub mod writer;

@@ -90,6 +90,17 @@ pub enum Form {
     End,
 }
 
+/// Lines of one kind that follow one another.
+#[derive(Clone, Copy, PartialEq, Eq, Debug)]
+pub enum Column {
+    /// The lines of this many frames, from this number on.
+    Frames { first: FrameNo, count: u32 },
+    /// The lines of this many strands, from this number on.
+    Strands { first: StrandNo, count: u32 },
+    /// The lines of this many events, in version 2.
+    Events { count: u32 },
+}
+
 /// The first word of an event's line.
 #[derive(Clone, Copy, PartialEq, Eq)]
 pub enum Keyword {

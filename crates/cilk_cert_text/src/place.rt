@@ -1,8 +1,8 @@
 // The place of a reader in a text: which line is due.
 
-ghost use Rattle.std.specs.Prelude.{◌≡◌, ◌+◌, ◌≤◌, [], ◌∷◌, IfSome, IfNone, IsTrue, false, option_map};
+ghost use Rattle.std.specs.Prelude.{◌≡◌, ◌+◌, ◌≤◌, [], ◌∷◌, ◌++◌, IfSome, IfNone, IsTrue, false, option_map};
 
-use crate::line::{Form, Line, Size, Version};
+use crate::line::{Column, Form, Line, Size, Version};
 use crate::parse;
 
 /// The lines due after the events.
@@ -41,7 +41,8 @@ pub(crate) enum ReaderPlace {
 impl Progress {
     ghost use Rattle.cilk_cert_text.specs.Places.{forms_left, number_left, tail_lines};
     ghost use Rattle.cilk_cert_text.specs.Lines.{is_size};
-    ghost use Rattle.cilk_cert_text.specs.Reading.{forms_of};
+    ghost use Rattle.cilk_cert_text.specs.Reading.{event_forms, forms_of, frame_forms, strand_forms};
+    ghost use Rattle.cilk_cert_text.specs.declared.line.Version.TheVariants.{Two};
 
     /// Makes the place directly after the size line.
     fn new(version: Version, size: Size) -> Self
@@ -91,6 +92,56 @@ impl Progress {
         }
     }
 
+    /// Returns the progress after the lines of `count` frames, from this number on, if they are
+    /// due.
+    fn after_frames(self, first: u32, count: u32) -> Option<Progress>
+        ensures form { IfSome result (λ p. forms_left self ≡ frame_forms first count ++ forms_left p) }
+        ensures number { IfSome result (λ p. number_left p ≡ number_left self + count) }
+    {
+        if first != self.frames + 1 || count > self.size.frames - self.frames {
+            return None;
+        }
+        let mut after = self;
+        after.frames = self.frames + count;
+        Some(after)
+    }
+
+    /// Returns the progress after the lines of `count` strands, from this number on, if they are
+    /// due.
+    fn after_strands(self, first: u32, count: u32) -> Option<Progress>
+        ensures form { IfSome result (λ p. forms_left self ≡ strand_forms first count ++ forms_left p) }
+        ensures number { IfSome result (λ p. number_left p ≡ number_left self + count) }
+    {
+        if self.frames < self.size.frames || first != self.strands + 1 {
+            return None;
+        }
+        if count > self.size.strands - self.strands {
+            return None;
+        }
+        let mut after = self;
+        after.strands = self.strands + count;
+        Some(after)
+    }
+
+    /// Returns the progress after the lines of `count` events in version 2, if they are due.
+    fn after_events(self, count: u32) -> Option<Progress>
+        ensures form { IfSome result (λ p. forms_left self ≡ event_forms Two count ++ forms_left p) }
+        ensures number { IfSome result (λ p. number_left p ≡ number_left self + count) }
+    {
+        if self.frames < self.size.frames || self.strands < self.size.strands {
+            return None;
+        }
+        let Version::Two = self.version else {
+            return None;
+        };
+        if count > self.size.events - self.events {
+            return None;
+        }
+        let mut after = self;
+        after.events = self.events + count;
+        Some(after)
+    }
+
     fn tail_lines(self) -> u32
         ensures { result ≡ tail_lines self.tail }
     {
@@ -104,7 +155,7 @@ impl Progress {
 
 impl ReaderPlace {
     ghost use Rattle.cilk_cert_text.specs.declared.line.Form.{Form};
-    ghost use Rattle.cilk_cert_text.specs.Places.{due_of, number_at, line_at, IsAwaited, IsDue};
+    ghost use Rattle.cilk_cert_text.specs.Places.{AreDue, IsAwaited, IsDue, column_forms, count_of, due_of, line_at, number_at};
     ghost use Rattle.cilk_cert_text.specs.Reading.{Lines};
 
     /// Returns the number of the next line, from 1.
@@ -146,6 +197,23 @@ impl ReaderPlace {
             }
             _ => None,
         }
+    }
+
+    /// Returns the place after these lines, if they are due.
+    pub(crate) fn after(self, lines: Column) -> Option<ReaderPlace>
+        ensures due { IfSome result (λ p. AreDue (column_forms lines) (due_of p) (due_of self)) }
+        ensures number { IfSome result (λ p. number_at p ≡ number_at self + count_of lines) }
+        ensures few { IfSome result (λ p. number_at p ≤ 2065541) }
+    {
+        let ReaderPlace::Lines(progress) = self else {
+            return None;
+        };
+        let after = match lines {
+            Column::Frames { first, count } => progress.after_frames(first, count)?,
+            Column::Strands { first, count } => progress.after_strands(first, count)?,
+            Column::Events { count } => progress.after_events(count)?,
+        };
+        Some(ReaderPlace::Lines(after))
     }
 
     /// Parses the next line, and returns the place after it.

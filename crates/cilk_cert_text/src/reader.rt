@@ -6,9 +6,9 @@ ghost use Rattle.cilk_cert_text.specs.Places.{due_of};
 
 use crate::fault::CertFault;
 use crate::form::is_at;
-use crate::line::Line;
+use crate::line::{Column, Line};
 use crate::place::ReaderPlace;
-use crate::spelling::Spelling;
+use crate::spelling::{ROOM, put_line};
 
 /// Most bytes of a line, without its LF.
 pub const MAX_LINE: usize = 96;
@@ -65,12 +65,13 @@ impl Default for LineReader {
 }
 
 impl LineReader {
-    ghost use Rattle.std.specs.Prelude.{◌≢◌, ◌∷◌, ℕ, List, MatchResult, IfErr, IfOk, IsSome, OnOk, option_map};
+    ghost use Rattle.std.specs.Prelude.{◌≢◌, ◌∷◌, ℕ, List, MatchResult, IfErr, IfOk, IsSome, IsTrue, OnOk, false, option_map};
     ghost use Rattle.cilk_cert_text.specs.declared.fault.CertFault.{CertFault};
     ghost use Rattle.cilk_cert_text.specs.declared.fault.CertFault.TheVariants.{Malformed, Truncated};
-    ghost use Rattle.cilk_cert_text.specs.Places.{line_at, number_at};
+    ghost use Rattle.cilk_cert_text.specs.Certificates.{AllAt, text_of_lines};
+    ghost use Rattle.cilk_cert_text.specs.Places.{column_forms, line_at, number_at};
     ghost use Rattle.cilk_cert_text.specs.Reading.{reading_of, stops, whole};
-    ghost use Rattle.cilk_cert_text.specs.Readers.{ahead, fault_of, with_lines, line_number, room_of, Awaits, IsCertain};
+    ghost use Rattle.cilk_cert_text.specs.Readers.{ahead, fault_of, with_all, with_lines, line_number, room_of, Awaits, AwaitsAll, IsCertain};
     ghost use Rattle.cilk_cert_text.specs.Lines.{spelled};
 
     /// Makes a reader at the beginning of a text.
@@ -211,14 +212,45 @@ impl LineReader {
         if !is_at(form, line) {
             return None;
         }
-        let mut spelling = Spelling::new();
-        spelling.line(line);
-        let text = spelling.text();
-        if !piece.starts_with(text) {
+        let mut room = [0u8; ROOM];
+        let end = put_line(&mut room, 0, line);
+        if !piece.starts_with(&room[..end]) {
             return None;
         }
         self.place = place;
-        Some(text.len())
+        Some(end)
+    }
+
+    /// Tells whether these lines are due, from the next byte on.
+    pub fn awaits(&self, lines: Column) -> bool
+        ensures { IsTrue result → AwaitsAll self.now (column_forms lines) }
+    {
+        self.fault.is_none() && self.length == 0 && self.place.after(lines).is_some()
+    }
+
+    /// Skips known lines at the front of the piece, and tells whether it did. `text` is the text of
+    /// the lines. If the piece doesn't begin with it, if the lines aren't due, or if the current line
+    /// began in an earlier piece, nothing changes.
+    pub fn pass_all(&mut self, piece: &[u8], text: &[u8], lines: Column) -> bool
+        ensures lines { IsTrue result → (known : List Line) → AllAt (column_forms lines) known → text.now ≡ text_of_lines known
+            → (more : List ℕ) → ahead self.old (piece.now ++ more) ≡ with_all known (ahead self.new (drop (len_of text.now) piece.now ++ more)) }
+        ensures taken { IsTrue result → len_of text.now ≤ len_of piece.now }
+        ensures room { IsTrue result → (known : List Line) → AllAt (column_forms lines) known → text.now ≡ text_of_lines known
+            → room_of self.new + len_of text.now ≤ room_of self.old }
+        ensures silent { IsTrue result → fault_of self.new ≡ None }
+        ensures same { result ≡ false → self.new ≡ self.old }
+    {
+        if self.fault.is_some() || self.length > 0 {
+            return false;
+        }
+        if !piece.starts_with(text) {
+            return false;
+        }
+        let Some(place) = self.place.after(lines) else {
+            return false;
+        };
+        self.place = place;
+        true
     }
 
     /// Ends the text. If it isn't complete, a fault is returned, and again by each later call.

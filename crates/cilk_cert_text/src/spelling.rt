@@ -1,222 +1,228 @@
-// The spelling of a line, built from its end in a fixed array, because digits are computed from the
-// last to the first. Nothing is allocated. The array isn't moved out, since copying it would cost
-// as much as the spelling.
+//! The spelling of lines, written forwards into the caller's room: nothing is copied or cleared.
 
-ghost use Rattle.std.specs.Prelude.{◌≡◌, ℕ, ◌+◌, ◌^◌, ◌<◌, ◌≤◌, List, [], ◌∷◌, ◌++◌, length, drop};
+ghost use Rattle.std.specs.Prelude.{◌≡◌, ◌+◌, ◌<◌, ◌≤◌, [], ◌∷◌, ◌++◌, length, take};
 ghost use Rattle.std.specs.Fmt.{decimal, signed_decimal};
+ghost use Rattle.cilk_cert_text.specs.Lines.{spelled, reducer_words};
+ghost use Rattle.cilk_cert_text.specs.declared.line.Line.TheVariants as lines;
+ghost use Rattle.cilk_cert_text.specs.Writing.{behind_spaces};
 
+use crate::digits::put_digits;
 use crate::line::{Entry, Line, Reducer, Version};
-use itoa::write_digits;
-use std::marker::Model;
 
 /// Room for the longest line, which has 53 bytes with its LF.
-pub(crate) const ROOM: usize = 64;
+pub const ROOM: usize = 64;
 
-/// The bytes so far, at the end of the array.
-#[derive(Drop)]
-pub(crate) struct Spelling {
-    bytes: [u8; ROOM],
-    start: usize,
+/// Writes a word, and returns where it ends.
+#[inline(always)]
+fn word(room: &mut [u8], at: usize, word: &[u8]) -> usize
+    requires { at + length word.now ≤ length room.old }
+    ensures text { take result room.new ≡ take at room.old ++ word.now }
+    ensures end { result ≡ at + length word.now }
+{
+    let end = at + word.len();
+    room[at..end].copy_from_slice(word);
+    end
 }
 
-impl Model for Spelling {
-    ghost Value = { List ℕ };
-
-    ghost view = { λ s. drop s.start s.bytes };
-
-    ghost invariant = { λ s. (s.start ≤ 64) × (length s.bytes ≡ 64) };
+/// Writes a byte, and returns where it ends.
+#[inline(always)]
+fn byte(room: &mut [u8], at: usize, byte: u8) -> usize
+    requires { at < length room.old }
+    ensures text { take result room.new ≡ take at room.old ++ byte ∷ [] }
+    ensures end { result ≡ at + 1 }
+{
+    room[at] = byte;
+    at + 1
 }
 
-impl Spelling {
-    ghost use Rattle.cilk_cert_text.specs.Lines.{spelled, reducer_words};
-    ghost use Rattle.cilk_cert_text.specs.declared.line.Line.TheVariants as lines;
-    ghost use Rattle.cilk_cert_text.specs.Writing.{behind_spaces};
+/// Writes a space and a number, and returns where they end.
+#[inline(always)]
+fn number(room: &mut [u8], at: usize, n: u32) -> usize
+    requires { at + 11 ≤ length room.old }
+    ensures text { take result room.new ≡ take at room.old ++ (32 ∷ decimal n) }
+    ensures short { result ≤ at + 11 }
+{
+    let at = byte(room, at, b' ');
+    put_digits(room, at, u64::from(n))
+}
 
-    /// Makes a spelling that is an LF.
-    pub(crate) fn new() -> Spelling
-        ensures { result ≡ 10 ∷ [] }
-    {
-        Spelling {
-            bytes: [b'\n'; ROOM],
-            start: ROOM - 1,
+/// Writes a space and a value, and returns where they end.
+#[inline(always)]
+fn value(room: &mut [u8], at: usize, value: i64) -> usize
+    requires { at + 21 ≤ length room.old }
+    ensures text { take result room.new ≡ take at room.old ++ (32 ∷ signed_decimal value) }
+    ensures short { result ≤ at + 21 }
+{
+    let at = byte(room, at, b' ');
+    if value < 0 {
+        let at = byte(room, at, b'-');
+        return put_digits(room, at, value.unsigned_abs());
+    }
+    put_digits(room, at, value.unsigned_abs())
+}
+
+/// Writes a space and a reducer's name, and returns where they end.
+#[inline(always)]
+fn reducer(room: &mut [u8], at: usize, name: Reducer) -> usize
+    requires { at + 22 ≤ length room.old }
+    ensures text { take result room.new ≡ take at room.old ++ behind_spaces (reducer_words name) }
+    ensures short { result ≤ at + 22 }
+{
+    match name {
+        Reducer::Number(n) => number(room, at, n),
+        Reducer::Place(instance) => {
+            let at = number(room, at, instance.frame);
+            number(room, at, instance.place)
         }
     }
+}
 
-    /// Returns the bytes.
-    pub(crate) fn text(&self) -> &[u8]
-        ensures value { result.now ≡ self.now }
-        ensures short { length result.now ≤ 64 }
-    {
-        &self.bytes[self.start..]
-    }
+/// Writes a space, a reducer's name, a space and a value, and returns where they end.
+#[inline(always)]
+fn change(room: &mut [u8], at: usize, name: Reducer, v: i64) -> usize
+    requires { at + 43 ≤ length room.old }
+    ensures text { take result room.new ≡ take at room.old ++ behind_spaces (reducer_words name ++ signed_decimal v ∷ []) }
+    ensures short { result ≤ at + 43 }
+{
+    let at = reducer(room, at, name);
+    value(room, at, v)
+}
 
-    /// Prepends a word.
-    fn word(&mut self, word: &[u8])
-        requires { length word.now + length self.old ≤ 64 }
-        ensures { self.new ≡ word.now ++ self.old }
-    {
-        let start = self.start - word.len();
-        self.bytes[start..self.start].copy_from_slice(word);
-        self.start = start;
-    }
-
-    /// Prepends a byte.
-    fn byte(&mut self, byte: u8)
-        requires { length self.old < 64 }
-        ensures { self.new ≡ byte ∷ self.old }
-    {
-        let start = self.start - 1;
-        self.bytes[start] = byte;
-        self.start = start;
-    }
-
-    /// Prepends the digits of a number.
-    fn digits(&mut self, number: u64)
-        requires { length (decimal number) + length self.old ≤ 64 }
-        ensures { self.new ≡ decimal number ++ self.old }
-    {
-        let start = write_digits(number, &mut self.bytes, self.start);
-        self.start = start;
-    }
-
-    /// Prepends a space and a number.
-    fn number(&mut self, number: u32)
-        requires { length self.old ≤ 53 }
-        ensures said { self.new ≡ (32 ∷ decimal number) ++ self.old }
-        ensures short { length self.new ≤ 11 + length self.old }
-    {
-        self.digits(u64::from(number));
-        self.byte(b' ');
-    }
-
-    /// Prepends a space and a value.
-    fn value(&mut self, value: i64)
-        requires { length self.old ≤ 43 }
-        ensures said { self.new ≡ (32 ∷ signed_decimal value) ++ self.old }
-        ensures short { length self.new ≤ 21 + length self.old }
-    {
-        self.digits(value.unsigned_abs());
-        if value < 0 {
-            self.byte(b'-');
+/// Writes an event's line without its LF, and returns where it ends.
+#[inline(always)]
+#[tactic(auto, unfolding(crate::specs::Lines::spelled))]
+fn entry(room: &mut [u8], at: usize, entry: Entry) -> usize
+    requires { at + 63 ≤ length room.old }
+    ensures text { take result room.new ≡ take at room.old ++ spelled (lines.Event entry) }
+    ensures short { result ≤ at + 63 }
+    ensures some { at ≤ result }
+{
+    match entry {
+        Entry::Begin { frame } => {
+            let at = word(room, at, b"begin");
+            number(room, at, frame)
         }
-        self.byte(b' ');
-    }
-
-    /// Prepends a space and a reducer's name.
-    fn reducer(&mut self, name: Reducer)
-        requires { length self.old ≤ 42 }
-        ensures said { self.new ≡ behind_spaces (reducer_words name) ++ self.old }
-        ensures short { length self.new ≤ 22 + length self.old }
-    {
-        match name {
-            Reducer::Number(n) => self.number(n),
-            Reducer::Place(instance) => {
-                self.number(instance.place);
-                self.number(instance.frame);
-            }
+        Entry::Spawn { child } => {
+            let at = word(room, at, b"spawn");
+            number(room, at, child)
         }
-    }
-
-    /// Prepends the line of an event.
-    #[tactic(auto, unfolding(crate::specs::Lines::spelled))]
-    fn entry(&mut self, entry: Entry)
-        requires { length self.old ≤ 1 }
-        ensures { self.new ≡ spelled (lines.Event entry) ++ self.old }
-    {
-        match entry {
-            Entry::Begin { frame } => {
-                self.number(frame);
-                self.word(b"begin");
-            }
-            Entry::Spawn { child } => {
-                self.number(child);
-                self.word(b"spawn");
-            }
-            Entry::Call { child } => {
-                self.number(child);
-                self.word(b"call");
-            }
-            Entry::Resume { parent } => {
-                self.number(parent);
-                self.word(b"resume");
-            }
-            Entry::Sync => self.word(b"sync"),
-            Entry::End => self.word(b"end"),
-            Entry::Read {
-                cell,
-                value,
-                source,
-            } => {
-                self.number(source);
-                self.value(value);
-                self.number(cell);
-                self.word(b"read");
-            }
-            Entry::Write { cell, value } => {
-                self.value(value);
-                self.number(cell);
-                self.word(b"write");
-            }
-            Entry::Create { reducer } => {
-                self.reducer(reducer);
-                self.word(b"create");
-            }
-            Entry::Update { reducer, value } => {
-                self.value(value);
-                self.reducer(reducer);
-                self.word(b"update");
-            }
-            Entry::Set { reducer, value } => {
-                self.value(value);
-                self.reducer(reducer);
-                self.word(b"set");
-            }
-            Entry::Value { reducer, value } => {
-                self.value(value);
-                self.reducer(reducer);
-                self.word(b"value");
-            }
-            Entry::Print { value } => {
-                self.value(value);
-                self.word(b"print");
-            }
+        Entry::Call { child } => {
+            let at = word(room, at, b"call");
+            number(room, at, child)
+        }
+        Entry::Resume { parent } => {
+            let at = word(room, at, b"resume");
+            number(room, at, parent)
+        }
+        Entry::Sync => word(room, at, b"sync"),
+        Entry::End => word(room, at, b"end"),
+        Entry::Read {
+            cell,
+            value: v,
+            source,
+        } => {
+            let at = word(room, at, b"read");
+            let at = number(room, at, cell);
+            let at = value(room, at, v);
+            number(room, at, source)
+        }
+        Entry::Write { cell, value: v } => {
+            let at = word(room, at, b"write");
+            let at = number(room, at, cell);
+            value(room, at, v)
+        }
+        Entry::Create { reducer: r } => {
+            let at = word(room, at, b"create");
+            reducer(room, at, r)
+        }
+        Entry::Update {
+            reducer: r,
+            value: v,
+        } => {
+            let at = word(room, at, b"update");
+            change(room, at, r, v)
+        }
+        Entry::Set {
+            reducer: r,
+            value: v,
+        } => {
+            let at = word(room, at, b"set");
+            change(room, at, r, v)
+        }
+        Entry::Value {
+            reducer: r,
+            value: v,
+        } => {
+            let at = word(room, at, b"value");
+            change(room, at, r, v)
+        }
+        Entry::Print { value: v } => {
+            let at = word(room, at, b"print");
+            value(room, at, v)
         }
     }
+}
 
-    /// Prepends a line, without its LF.
-    #[tactic(auto, unfolding(crate::specs::Lines::spelled))]
-    pub(crate) fn line(&mut self, line: Line)
-        requires { length self.old ≤ 1 }
-        ensures { self.new ≡ spelled line ++ self.old }
-    {
-        match line {
-            Line::Version(Version::One) => self.word(b"cilkcert 1"),
-            Line::Version(Version::Two) => self.word(b"cilkcert 2"),
-            Line::Size(size) => {
-                self.number(size.strands);
-                self.number(size.frames);
-                self.number(size.events);
-                self.word(b"size");
-            }
-            Line::Frame { number, frame } => {
-                self.number(frame.ordinal);
-                self.number(frame.parent);
-                self.number(number);
-                self.word(b"frame");
-            }
-            Line::Strand { number, strand } => {
-                self.number(strand.class);
-                self.number(strand.hebrew);
-                self.number(strand.frame);
-                self.number(number);
-                self.word(b"strand");
-            }
-            Line::Event(event) => self.entry(event),
-            Line::Result(result) => {
-                self.value(result);
-                self.word(b"result");
-            }
-            Line::End => self.word(b"end"),
+/// Writes an event's line and its LF, and returns where they end.
+#[inline(always)]
+pub fn put_event(room: &mut [u8], at: usize, event: Entry) -> usize
+    requires { at + 64 ≤ length room.old }
+    ensures text { take result room.new ≡ take at room.old ++ (spelled (lines.Event event) ++ 10 ∷ []) }
+    ensures within { result ≤ length room.old }
+    ensures some { at < result }
+{
+    let at = entry(room, at, event);
+    byte(room, at, b'\n')
+}
+
+/// Writes a line without its LF, and returns where it ends.
+#[inline(always)]
+#[tactic(auto, unfolding(crate::specs::Lines::spelled))]
+fn line(room: &mut [u8], at: usize, line: Line) -> usize
+    requires { at + 63 ≤ length room.old }
+    ensures text { take result room.new ≡ take at room.old ++ spelled line }
+    ensures short { result ≤ at + 63 }
+    ensures some { at ≤ result }
+{
+    match line {
+        Line::Version(Version::One) => word(room, at, b"cilkcert 1"),
+        Line::Version(Version::Two) => word(room, at, b"cilkcert 2"),
+        Line::Size(size) => {
+            let at = word(room, at, b"size");
+            let at = number(room, at, size.events);
+            let at = number(room, at, size.frames);
+            number(room, at, size.strands)
         }
+        Line::Frame { number: n, frame } => {
+            let at = word(room, at, b"frame");
+            let at = number(room, at, n);
+            let at = number(room, at, frame.parent);
+            number(room, at, frame.ordinal)
+        }
+        Line::Strand { number: n, strand } => {
+            let at = word(room, at, b"strand");
+            let at = number(room, at, n);
+            let at = number(room, at, strand.frame);
+            let at = number(room, at, strand.hebrew);
+            number(room, at, strand.class)
+        }
+        Line::Event(event) => entry(room, at, event),
+        Line::Result(result) => {
+            let at = word(room, at, b"result");
+            value(room, at, result)
+        }
+        Line::End => word(room, at, b"end"),
     }
+}
+
+/// Writes a line and its LF, and returns where they end.
+#[inline(always)]
+pub fn put_line(room: &mut [u8], at: usize, known: Line) -> usize
+    requires { at + 64 ≤ length room.old }
+    ensures text { take result room.new ≡ take at room.old ++ (spelled known ++ 10 ∷ []) }
+    ensures within { result ≤ length room.old }
+    ensures some { at < result }
+{
+    let at = line(room, at, known);
+    byte(room, at, b'\n')
 }

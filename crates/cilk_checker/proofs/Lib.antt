@@ -1,6 +1,7 @@
 pub mod Beginning
 pub mod Checked
 pub mod Differences
+pub mod Expected
 pub mod FirstFound
 pub mod Firsts
 pub mod Formed

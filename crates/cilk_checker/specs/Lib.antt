@@ -1,6 +1,7 @@
 pub mod Answers
 pub mod Columns
 pub mod Determinate
+pub mod Expected
 pub mod Firsts
 pub mod Frames
 pub mod Judging

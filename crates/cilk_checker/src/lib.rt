@@ -33,6 +33,7 @@
 #![tactic(auto)]
 
 pub mod accepted;
+mod blocks;
 pub mod check;
 pub mod compare;
 pub mod ending;

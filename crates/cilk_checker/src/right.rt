@@ -1,8 +1,9 @@
 //! The columns of a run, against which a certificate is compared.
 
-ghost use Rattle.std.specs.Prelude.{◌≡◌, ◌↔◌, IsTrue, Some, length, slice_get};
+ghost use Rattle.std.specs.Prelude.{◌≡◌, ◌↔◌, IfSome, IsTrue, Some, length, slice_get};
+ghost use Rattle.cilk_cert_maker.specs.Right.{IsAt};
 
-use cilk_cert_text::line::Frame;
+use cilk_cert_text::line::{Frame, Strand};
 use cilk_labels::Labels;
 use cilk_peers::class::Classes;
 use cilk_types::event::{Event, FrameNo};
@@ -106,4 +107,52 @@ pub(crate) fn event_behind(events: &[Event], place: u32) -> Option<Event>
     ensures { slice_get events.now place ≡ result }
 {
     events.get(place as usize).copied()
+}
+
+/// Returns the frame after the first `place` ones.
+pub(crate) fn frame_behind(frames: &[Frame], place: u32) -> Option<Frame>
+    ensures { slice_get frames.now place ≡ result }
+{
+    frames.get(place as usize).copied()
+}
+
+// Returns the number after the first `place` ones.
+fn number_behind(numbers: &[u32], place: u32) -> Option<u32>
+    ensures { slice_get numbers.now place ≡ result }
+{
+    numbers.get(place as usize).copied()
+}
+
+fn hebrew_behind(labels: &Labels, place: u32) -> Option<u32>
+    ensures { slice_get labels.now place ≡ result }
+{
+    if place >= labels.count() {
+        return None;
+    }
+    Some(labels.hebrew(place + 1))
+}
+
+fn class_behind(classes: &Classes, place: u32) -> Option<u32>
+    ensures { slice_get classes.now place ≡ result }
+{
+    if place >= classes.count() {
+        return None;
+    }
+    Some(classes.class(place + 1))
+}
+
+/// Returns the strand after the first `place` ones.
+pub(crate) fn strand_behind(right: &Right, place: u32) -> Option<Strand>
+    ensures owner { IfSome result (λ s. IsAt right.now.owners.items place s.frame) }
+    ensures hebrew { IfSome result (λ s. IsAt right.now.labels place s.hebrew) }
+    ensures class { IfSome result (λ s. IsAt right.now.classes place s.class) }
+{
+    let frame = number_behind(right.owners.as_slice(), place)?;
+    let hebrew = hebrew_behind(&right.labels, place)?;
+    let class = class_behind(&right.classes, place)?;
+    Some(Strand {
+        frame,
+        hebrew,
+        class,
+    })
 }

@@ -1,12 +1,12 @@
-use Rattle.std.proofs.Common.{◌≡◌, List, [], ◌++◌, subst, arith, length-drop}
+use Rattle.std.proofs.Common.{◌≡◌, [], ◌++◌, subst, arith, length-drop}
 use Rattle.std.proofs.lemmas.Grind.{common_steps}
 use Rattle.std.proofs.lemmas.List.{take_rest}
 use Rattle.std.proofs.lemmas.Result.{err_from_is_err_and}
 use Rattle.cilk_checker.specs.Tallies.{Heard}
 use Rattle.cilk_checker.proofs.hearing.hear.Goals as goal
 
-pub hear_line-requires-clause-heard : goal.hear_line-requires-clause-heard
-hear_line-requires-clause-heard c = let h = c.requires.heard in (h.0 ++ c.args.piece.now, c.lines.invariant.0 h.0 h.1)
+pub hear_next-requires-clause-heard : goal.hear_next-requires-clause-heard
+hear_next-requires-clause-heard c = let h = c.requires.heard in (h.0 ++ c.args.piece.now, c.lines.invariant.0 h.0 h.1)
 
 pub returns-in_err-taken-clause-fault : goal.returns-in_err-taken-clause-fault
 returns-in_err-taken-clause-fault c = λ text h.
