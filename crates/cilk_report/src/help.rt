@@ -35,7 +35,7 @@ All commands:
 
 Arguments:
   PROGRAM         a file with a program text, of at most 262,144 bytes
-  CERTIFICATE     a file that `certify` wrote, of at most 268,435,456 bytes
+  CERTIFICATE     a certificate, such as `certify` writes, of at most 268,435,456 bytes
   SCRIPT          a file with a script, of at most 1,048,576 bytes (docs/SCRIPTS.md)
 
 Options of run, certify, check, threads, play, schedule and measure:
@@ -48,14 +48,14 @@ Options of measure:
   --dot           write the tree of the run instead, for Graphviz's `dot`; only of a run with at most 2,000 nodes
 
 Option of check:
-  --helpers N     share the work among N threads, 1 to 16; the answer is the same
+  --helpers N     share the work among N threads, 1 to 16; the answer is the same, and so far it takes longer
 
 Option of play and threads:
   --workers N     the number of workers, 1 to 64; 2 without this option
 
 Option of threads:
-  --on FILE       other numbers for the run on threads than those of the certificate; the answer is `refused 502` if
-                  the program departs from the certified run on them
+  --on FILE       run on threads with the numbers of FILE in place of those of --input; the answer is `refused 502`
+                  if the program departs from the certified run on them
 
 Status:
   0 done    2 wrong words, file, program, input or script; or a failed write; or this help    3 a fault of the run
@@ -92,7 +92,7 @@ const PROGRAM: &str =
     "\nArguments:\n  PROGRAM         a file with a program text, of at most 262,144 bytes\n";
 
 const CERTIFICATE: &str =
-    "  CERTIFICATE     a file that `certify` wrote, of at most 268,435,456 bytes\n";
+    "  CERTIFICATE     a certificate, such as `certify` writes, of at most 268,435,456 bytes\n";
 
 const SCRIPT: &str =
     "  SCRIPT          a file with a script, of at most 1,048,576 bytes (docs/SCRIPTS.md)\n";
@@ -110,7 +110,7 @@ hint: `cilk --help` describes all commands, statuses and limits
 ";
 
 const WORKERS: &str =
-    "  --workers N     how many workers there are, 1 to 64; 2 where nothing is said\n";
+    "  --workers N     the number of workers, 1 to 64; 2 without this option\n";
 
 const RUN: Page = Page {
     head: "\
@@ -140,7 +140,7 @@ Usage: cilk check PROGRAM CERTIFICATE [--input FILE] [--helpers N] [--explain]
 ",
     argument: CERTIFICATE,
     options: "  \
-  --helpers N     share the work among N threads, 1 to 16; the answer is the same
+  --helpers N     share the work among N threads, 1 to 16; the answer is the same, and so far it takes longer
 ",
 };
 
@@ -153,8 +153,8 @@ Usage: cilk threads PROGRAM CERTIFICATE [--workers N] [--input FILE] [--on FILE]
     argument: CERTIFICATE,
     options: "  \
   --workers N     the number of workers, 1 to 64; 2 without this option
-  --on FILE       other numbers for the run on threads than those of the certificate; the answer is `refused 502` if
-                  the program departs from the certified run on them
+  --on FILE       run on threads with the numbers of FILE in place of those of --input; the answer is `refused 502`
+                  if the program departs from the certified run on them
 ",
 };
 
