@@ -1,6 +1,6 @@
 pub mod Columns
 pub mod Continuations
-pub mod Courses
+pub mod Replays
 pub mod Frames
 pub mod Placing
 pub mod Plans

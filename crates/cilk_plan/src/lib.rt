@@ -18,20 +18,20 @@
 //! |---|---|
 //! | [`program_plan::plan`] | the plan of an accepted run |
 //! | [`yards::yard`] | the words that workers share on an input, and the first segment |
-//! | [`course::course`] | the code, input and frames with which workers run along the plan |
+//! | [`replay::replay`] | the code, input and frames with which workers run along the plan |
 //!
 //! ```text
 //! let plan = plan(alloc, &accepted)?;
 //! let (yard, segment) = yard(alloc, &plan, &input)?;
-//! let course = course(alloc, &plan, &yard, input)?;
+//! let replay = replay(alloc, &plan, &yard, input)?;
 //! ```
 #![tactic(auto)]
 
-pub mod course;
 pub mod laws;
 mod places;
 pub mod planning;
 pub mod program_plan;
+pub mod replay;
 pub mod yards;
 
 pub use cilk_tree::plan::Plan;

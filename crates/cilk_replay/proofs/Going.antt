@@ -55,12 +55,12 @@ use Rattle.cilk_determinacy.specs.Numbers.{AreNumbered, IsHere, cell_number, fra
 use Rattle.cilk_replay.specs.Frames.{course_on, same_body, same_frame}
 use Rattle.cilk_replay.specs.Points.{Point, points_on, IsPoint, IsTold, IsAskedBy, IsEventOf, IsLikeDeed, IsLater, IsFirst, IsReturn, AreTold, answer_in}
 use Rattle.cilk_replay.proofs.Points.{asked_by_positions}
-use Rattle.cilk_replay.specs.declared.level.Level.{Level}
-use Rattle.cilk_replay.specs.declared.home.Home.{Home}
+use Rattle.cilk_replay.specs.declared.replay_frame.ReplayFrame.{ReplayFrame}
+use Rattle.cilk_replay.specs.declared.frame_layout.FrameLayout.{FrameLayout}
 use Rattle.cilk_replay.specs.declared.sight.Sight.{Sight}
-use Rattle.cilk_replay.specs.Sights.{IsSightOf, Sees, cells_of_block, found_global, homes_of}
+use Rattle.cilk_replay.specs.Sights.{IsSightOf, Sees, cells_of_block, found_global, layouts_of}
 use Rattle.cilk_replay.specs.Asking.{Follows, IsAnswered, HasAsked}
-use Rattle.cilk_replay.specs.Courses.{Setting, IsOfProgram, point_at}
+use Rattle.cilk_replay.specs.Replays.{Setting, IsOfProgram, point_at}
 use Rattle.cilk_replay.specs.Standing.{Asks, Waits, Linked, StandsAt, RestsAt}
 use Rattle.cilk_replay.proofs.OfKind.{some_inner, IsOfKind, made, goes_on, kind_there, ask_for, fitting}
 use Rattle.cilk_replay.proofs.Children.{AreChildren, IsChild, IsStarted, StartsAs, serial_children}
@@ -175,7 +175,7 @@ module _ (s : Setting) (h : IsOfProgram s) where
       let found = plan_event i e there in
       subst (λ k. IsOfKind k x.planned) found.2 (plan_deed i x found.0 is found.1)
 
-  module _ (at : ℕ) (k : Ask) (l : Level) (A : Asks s at k l) where
+  module _ (at : ℕ) (k : Ask) (l : ReplayFrame) (A : Asks s at k l) where
     abbrev x : Point FrameEnv
     x = A.point
 
@@ -225,7 +225,7 @@ module _ (s : Setting) (h : IsOfProgram s) where
         ((_, A.asked.stands fit.has), subst (λ o. Fits o a) (sym (A.asked.owes fit.has)) fit.fits)
 
   -- a frame's next event, where it has this history
-  later_asks : (x y : Point FrameEnv) (a : ℤ) (k : Ask) (l : Level) → IsLater x y → a ≡ answer_of x.deed
+  later_asks : (x y : Point FrameEnv) (a : ℤ) (k : Ask) (l : ReplayFrame) → IsLater x y → a ≡ answer_of x.deed
       → (let w = x.frame in HasAsked s.code s.inputs s.program w.callee (answers_of x.past ++ a ∷ []) k l)
       → (let w = y.frame in HasAsked s.code s.inputs s.program w.callee (answers_of y.past) k l)
   later_asks x y a k l later is asked =
@@ -235,11 +235,11 @@ module _ (s : Setting) (h : IsOfProgram s) where
       (let w = x.frame in subst (λ z. HasAsked s.code s.inputs s.program w.callee z k l) history asked)
 
   -- what a step does to a frame
-  abbrev pub Stepped : Level → Answer → Ask → Level → Type 0
+  abbrev pub Stepped : ReplayFrame → Answer → Ask → ReplayFrame → Type 0
   Stepped l a k l' = (p : Source) (callee : Callee) (history : List ℤ) → Stands s.code s.inputs p callee l.cursor history l.took
       → HasAsked s.code s.inputs p callee (history ++ word_in a ∷ []) k l'
 
-  pub answered_on : (at : ℕ) (k k' : Ask) (l l' : Level) (below : List Level) (a : Answer) → StandsAt s at k l below → IsAnswered event_order at a → l'.sight ≡ l.sight → Stepped l a k' l'
+  pub answered_on : (at : ℕ) (k k' : Ask) (l l' : ReplayFrame) (below : List ReplayFrame) (a : Answer) → StandsAt s at k l below → IsAnswered event_order at a → l'.sight ≡ l.sight → Stepped l a k' l'
       → StandsAt s (at + 1) k' l' below
   answered_on at k k' l l' below a S q sight step =
       let A = S.asks in
@@ -268,7 +268,7 @@ module _ (s : Setting) (h : IsOfProgram s) where
   -- ---- a child begins
 
   -- the first request of a frame
-  first_asked : (callee : Callee) (c : Level) (past : List (Deed FrameEnv)) → past ≡ [] → c.took ≡ 0 → Stands s.code s.inputs s.program callee c.cursor [] 0
+  first_asked : (callee : Callee) (c : ReplayFrame) (past : List (Deed FrameEnv)) → past ≡ [] → c.took ≡ 0 → Stands s.code s.inputs s.program callee c.cursor [] 0
       → (let v = c.cursor in v.owed ≡ owed_for asks.Begin) → HasAsked s.code s.inputs s.program callee (answers_of past) asks.Begin c
   first_asked callee c past none took stands owes =
       subst (λ z. HasAsked s.code s.inputs s.program callee (answers_of z) asks.Begin c) (sym none) (record {
@@ -278,20 +278,20 @@ module _ (s : Setting) (h : IsOfProgram s) where
         small = let z = took in omega (arith, z);
       })
 
-  pub record Begun (at : ℕ) (A : Point FrameEnv) (i : ℕ) (how : Invocation) (c : Level) : Type 0 where
+  pub record Begun (at : ℕ) (A : Point FrameEnv) (i : ℕ) (how : Invocation) (c : ReplayFrame) : Type 0 where
     pub asks : Asks s (at + 1) asks.Begin c
     pub since : let y = asks.point in y.since ≡ suc i
     pub deed : let y = asks.point in A.deed ≡ Invokes how y.frame
 
   -- what is requested exists
-  pub ask_there : (at : ℕ) (k : Ask) (l : Level) (A : Asks s at k l) → (let x = A.point in let w = x.frame in AskIsThere s.program w.callee k)
+  pub ask_there : (at : ℕ) (k : Ask) (l : ReplayFrame) (A : Asks s at k l) → (let x = A.point in let w = x.frame in AskIsThere s.program w.callee k)
   ask_there at k l A =
       let x = A.point in
       let w = x.frame in
       subst (AskIsThere s.program w.callee) (asked_ask at k l A) (asks_there s.program h.is.named w.callee A.fit s.inputs (answers_of x.past) MAX_TICKS)
 
   -- the child that a request begins
-  pub there : (at : ℕ) (k : Ask) (l : Level) (A : Asks s at k l) (how : Invocation) (callee : Callee) → k ≡ asks.Invoke how callee → (callee ≢ callees.Root) × CalleeIsFit s.program callee
+  pub there : (at : ℕ) (k : Ask) (l : ReplayFrame) (A : Asks s at k l) (how : Invocation) (callee : Callee) → k ≡ asks.Invoke how callee → (callee ≢ callees.Root) × CalleeIsFit s.program callee
   there at k l A how callee is =
       let x = A.point in
       let w = x.frame in
@@ -300,15 +300,15 @@ module _ (s : Setting) (h : IsOfProgram s) where
   -- the home of the frame that begins right after a position, if its caller sees this
   pub record Placed (at : ℕ) (caller new : Sight) (callee : Callee) : Type 0 where
     pub number : ℕ
-    pub home : Home
+    pub layout : FrameLayout
     pub begins : event event_order (at + 1) ≡ Some (events.Begin number)
-    pub lies : (path : List ℕ) (b : Block) → frame_at s.program s.run path ≡ Some b → b.number ≡ number → home.block ≡ cells_of_block b
-    pub frame : home.frame ≡ number
-    pub before : home.before ≡ 0
-    pub sight : IsSightOf (let p = s.program in length p.openings) callee home caller new
+    pub lies : (path : List ℕ) (b : Block) → frame_at s.program s.run path ≡ Some b → b.number ≡ number → layout.block ≡ cells_of_block b
+    pub frame : layout.frame ≡ number
+    pub before : layout.before ≡ 0
+    pub sight : IsSightOf (let p = s.program in length p.openings) callee layout caller new
 
   -- a level as it begins
-  abbrev pub IsNew : ℕ → Level → Level → Callee → Type 0
+  abbrev pub IsNew : ℕ → ReplayFrame → ReplayFrame → Callee → Type 0
   IsNew at l c callee =
       Stands s.code s.inputs s.program callee c.cursor [] 0 × (let v = c.cursor in v.owed ≡ owed_for asks.Begin) × (c.took ≡ 0) × Placed at l.sight c.sight callee
 
@@ -331,7 +331,7 @@ module _ (s : Setting) (h : IsOfProgram s) where
       }
 
   -- the child's sight
-  placed_sees : (at i : ℕ) (k : Ask) (l : Level) (A : Asks s at k l) (how : Invocation) (callee : Callee) (y : Point FrameEnv) (sight : Sight) → k ≡ asks.Invoke how callee → suc i ≡ at + 1 → point_at s i ≡ Some y
+  placed_sees : (at i : ℕ) (k : Ask) (l : ReplayFrame) (A : Asks s at k l) (how : Invocation) (callee : Callee) (y : Point FrameEnv) (sight : Sight) → k ≡ asks.Invoke how callee → suc i ≡ at + 1 → point_at s i ≡ Some y
       → (let x = A.point in child_env s.program x.frame (suc (started x.past)) callee ≡ y.frame) → Alike A.point callee → Placed at l.sight sight callee → Sees s.program s.run y.frame sight
   placed_sees at i k l A how callee y sight asked place is frame like P =
       let x = A.point in
@@ -341,7 +341,7 @@ module _ (s : Setting) (h : IsOfProgram s) where
       let its = subst (IsHere s.program s.run) name (frame_here i y is) in
       let number = begin_number i y P.number is (ap (event event_order) place ∙ P.begins) ∙ ap (frame_number s.program s.run) name ∙ frame_is s.program s.run (w.name ++ n ∷ []) its in
       subst (λ (v : FrameEnv). Sees s.program s.run v sight) frame
-      (child_sees s.program s.run w l.sight A.sees n callee P.home sight (record {
+      (child_sees s.program s.run w l.sight A.sees n callee P.layout sight (record {
         well = h.is.named;
         other = (there at k l A how callee asked).0;
         there = subst (AskIsThere s.program w.callee) asked (ask_there at k l A);
@@ -355,7 +355,7 @@ module _ (s : Setting) (h : IsOfProgram s) where
         before = P.before;
       }) P.sight)
 
-  begun_asks : (at : ℕ) (k : Ask) (l c : Level) (A : Asks s at k l) (how : Invocation) (callee : Callee) (e : Event) (w : FrameEnv) → k ≡ asks.Invoke how callee
+  begun_asks : (at : ℕ) (k : Ask) (l c : ReplayFrame) (A : Asks s at k l) (how : Invocation) (callee : Callee) (e : Event) (w : FrameEnv) → k ≡ asks.Invoke how callee
       → Follows event_order at e → (let x = A.point in x.planned ≡ Invokes how w) → IsNew at l c callee → Begun at A.point A.behind how c
   begun_asks at k l c A how callee e w is f planned new =
       let x = A.point in
@@ -390,7 +390,7 @@ module _ (s : Setting) (h : IsOfProgram s) where
   invoked_owes k how callee is = (subst HasAnswer (sym is) tt, ap owed_for is)
 
   -- the caller waits
-  waits_for : (at : ℕ) (k : Ask) (l c : Level) (A : Asks s at k l) (how : Invocation) (callee : Callee) → k ≡ asks.Invoke how callee → (B : Begun at A.point A.behind how c)
+  waits_for : (at : ℕ) (k : Ask) (l c : ReplayFrame) (A : Asks s at k l) (how : Invocation) (callee : Callee) → k ≡ asks.Invoke how callee → (B : Begun at A.point A.behind how c)
       → Waits s (let b = B.asks in let y = b.point in y.since) l
   waits_for at k l c A how callee is B =
       let owes = invoked_owes k how callee is in
@@ -410,7 +410,7 @@ module _ (s : Setting) (h : IsOfProgram s) where
         small = A.asked.small;
       }
 
-  pub called_on : (at : ℕ) (k : Ask) (l c : Level) (below : List Level) (S : StandsAt s at k l below) (f : ℕ) → Follows event_order at (events.Call f)
+  pub called_on : (at : ℕ) (k : Ask) (l c : ReplayFrame) (below : List ReplayFrame) (S : StandsAt s at k l below) (f : ℕ) → Follows event_order at (events.Call f)
       → ((callee : Callee) → k ≡ asks.Invoke Call callee → CalleeIsFit s.program callee → IsNew at l c callee) → StandsAt s (at + 1) asks.Begin c (below ++ l ∷ [])
   unfolding waits_for
   called_on at k l c below S f F new =
@@ -424,21 +424,21 @@ module _ (s : Setting) (h : IsOfProgram s) where
       }
 
   -- the child that the request begins
-  pub call_begins : (at : ℕ) (k : Ask) (l : Level) (below : List Level) → StandsAt s at k l below → (f : ℕ) → Follows event_order at (events.Call f)
+  pub call_begins : (at : ℕ) (k : Ask) (l : ReplayFrame) (below : List ReplayFrame) → StandsAt s at k l below → (f : ℕ) → Follows event_order at (events.Call f)
       → (how : Invocation) × (callee : Callee) × (callee ≢ callees.Root) × (k ≡ asks.Invoke how callee)
   call_begins at k l below S f F =
       let A = S.asks in
       let callee = ask_for s.program s.run (let x = A.point in x.frame) k (events.Call f) (event_is at k l A (events.Call f) F.asked F.is) in
       (Call, callee.0, (there at k l A Call callee.0 callee.1).0, callee.1)
 
-  pub spawn_begins : (at : ℕ) (k : Ask) (l : Level) (below : List Level) → StandsAt s at k l below → (f : ℕ) → Follows event_order at (events.Spawn f)
+  pub spawn_begins : (at : ℕ) (k : Ask) (l : ReplayFrame) (below : List ReplayFrame) → StandsAt s at k l below → (f : ℕ) → Follows event_order at (events.Spawn f)
       → (how : Invocation) × (callee : Callee) × (callee ≢ callees.Root) × (k ≡ asks.Invoke how callee)
   spawn_begins at k l below S f F =
       let A = S.asks in
       let callee = ask_for s.program s.run (let x = A.point in x.frame) k (events.Spawn f) (event_is at k l A (events.Spawn f) F.asked F.is) in
       (Spawn, callee.0, (there at k l A Spawn callee.0 callee.1).0, callee.1)
 
-  pub record Parted (at : ℕ) (next : ℕ) (c l : Level) (below : List Level) : Type 0 where
+  pub record Parted (at : ℕ) (next : ℕ) (c l : ReplayFrame) (below : List ReplayFrame) : Type 0 where
     pub child : StandsAt s (at + 1) asks.Begin c []
     pub parent : RestsAt s next l below
 
@@ -446,7 +446,7 @@ module _ (s : Setting) (h : IsOfProgram s) where
   abbrev pub IsResumed : ℕ → Point FrameEnv → Type 0
   IsResumed next x = (j : ℕ) × (suc j ≡ next) × (y : Point FrameEnv) × (point_at s j ≡ Some y) × IsLater x y
 
-  pub spawned_on : (at : ℕ) (k : Ask) (l c : Level) (below : List Level) (S : StandsAt s at k l below) (f next : ℕ) → Follows event_order at (events.Spawn f)
+  pub spawned_on : (at : ℕ) (k : Ask) (l c : ReplayFrame) (below : List ReplayFrame) (S : StandsAt s at k l below) (f next : ℕ) → Follows event_order at (events.Spawn f)
       → ((callee : Callee) → k ≡ asks.Invoke Spawn callee → CalleeIsFit s.program callee → IsNew at l c callee)
       → ((i : ℕ) (x : Point FrameEnv) → suc i ≡ at → point_at s i ≡ Some x → IsResumed next x) → Parted at next c l below
   spawned_on at k l c below S f next F new resumed =
@@ -485,10 +485,10 @@ module _ (s : Setting) (h : IsOfProgram s) where
   -- ---- a frame ends
 
   -- the callers without the innermost
-  abbrev pub Caller : ℕ → Level → List Level → Type 0
+  abbrev pub Caller : ℕ → ReplayFrame → List ReplayFrame → Type 0
   Caller at top below = RestsAt s (at + 1) top below
 
-  pub ended_on : (at : ℕ) (k : Ask) (l top : Level) (old new : List Level) → StandsAt s at k l old → Follows event_order at events.End → old ≡ new ++ top ∷ [] → RestsAt s (at + 1) top new
+  pub ended_on : (at : ℕ) (k : Ask) (l top : ReplayFrame) (old new : List ReplayFrame) → StandsAt s at k l old → Follows event_order at events.End → old ≡ new ++ top ∷ [] → RestsAt s (at + 1) top new
   ended_on at k l top old new S F popped =
       let A = S.asks in
       let x = A.point in
@@ -526,7 +526,7 @@ module _ (s : Setting) (h : IsOfProgram s) where
 
   -- ---- a frame that rests continues
 
-  pub woken : (at : ℕ) (k' : Ask) (l l' : Level) (below : List Level) → RestsAt s at l below → l'.sight ≡ l.sight → Stepped l Done k' l' → StandsAt s at k' l' below
+  pub woken : (at : ℕ) (k' : Ask) (l l' : ReplayFrame) (below : List ReplayFrame) → RestsAt s at l below → l'.sight ≡ l.sight → Stepped l Done k' l' → StandsAt s at k' l' below
   woken at k' l l' below S sight step =
       let R = S.rests in
       let x = R.point in
@@ -547,22 +547,22 @@ module _ (s : Setting) (h : IsOfProgram s) where
         callers = S.callers;
       }
 
-  pub rest_owed : (at : ℕ) (l : Level) (below : List Level) → RestsAt s at l below → Runs s.code s.inputs l.cursor × Fits (let v = l.cursor in v.owed) Done
+  pub rest_owed : (at : ℕ) (l : ReplayFrame) (below : List ReplayFrame) → RestsAt s at l below → Runs s.code s.inputs l.cursor × Fits (let v = l.cursor in v.owed) Done
   rest_owed at l below S = let R = S.rests in ((_, R.stands), subst (λ o. Fits o Done) (sym R.owes) tt)
 
   -- ---- the root's frame
 
   -- the home and the sight of the root's frame
   pub record RootPlaced (sight : Sight) : Type 0 where
-    pub home : Home
-    pub lies : (path : List ℕ) (b : Block) → frame_at s.program s.run path ≡ Some b → b.number ≡ 1 → home.block ≡ cells_of_block b
-    pub frame : home.frame ≡ 1
-    pub before : home.before ≡ (let p = s.program in length p.reducers)
-    pub homes : homes_of sight ≡ home ∷ []
+    pub layout : FrameLayout
+    pub lies : (path : List ℕ) (b : Block) → frame_at s.program s.run path ≡ Some b → b.number ≡ 1 → layout.block ≡ cells_of_block b
+    pub frame : layout.frame ≡ 1
+    pub before : layout.before ≡ (let p = s.program in length p.reducers)
+    pub layouts : layouts_of sight ≡ layout ∷ []
     pub given : sight.given.items ≡ []
     pub none : sight.result ≡ found_global (let p = s.program in length p.openings) 0
 
-  pub rooted : (c : Level) → Stands s.code s.inputs s.program callees.Root c.cursor [] 0 → (let v = c.cursor in v.owed ≡ owed_for asks.Begin) → c.took ≡ 0 → RootPlaced c.sight
+  pub rooted : (c : ReplayFrame) → Stands s.code s.inputs s.program callees.Root c.cursor [] 0 → (let v = c.cursor in v.owed ≡ owed_for asks.Begin) → c.took ≡ 0 → RootPlaced c.sight
       → StandsAt s 1 asks.Begin c []
   rooted c stands owes took R =
       let some = h.orderly.root.1 in
@@ -578,7 +578,7 @@ module _ (s : Setting) (h : IsOfProgram s) where
           goes_on = ap has_ended is.1;
           fit = subst (CalleeIsFit s.program) same tt;
           sees = subst (λ (v : FrameEnv). Sees s.program s.run v c.sight) (sym is.0)
-              (root_sees s.program s.run h.is.named (root_here s.program s.run) R.home c.sight (R.lies [] (block_of s.program callees.Root (unbegun s.program)) refl refl) (sym R.frame) R.before R.homes R.given R.none);
+              (root_sees s.program s.run h.is.named (root_here s.program s.run) R.layout c.sight (R.lies [] (block_of s.program callees.Root (unbegun s.program)) refl refl) (sym R.frame) R.before R.layouts R.given R.none);
           asked = subst (λ z. HasAsked s.code s.inputs s.program z (answers_of (let z = x.0 in z.past)) asks.Begin c) same (first_asked callees.Root c (let z = x.0 in z.past) is.1 took stands owes);
         };
         callers = inl is.2;

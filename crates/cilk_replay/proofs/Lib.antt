@@ -14,7 +14,7 @@ pub mod Going
 pub mod LastEnds
 pub mod LastWrites
 pub mod Leaving
-pub mod Looking
+pub mod Matching
 pub mod Named
 pub mod NoFault
 pub mod OfKind

@@ -30,7 +30,7 @@ use Rattle.cilk_determinacy.proofs.Determinate.{serial_numbered}
 use Rattle.cilk_replay.specs.Frames.{same_frame}
 use Rattle.cilk_replay.specs.Points.{Point, IsEventOf, IsLater, IsLikeDeed, asked_for}
 use Rattle.cilk_replay.proofs.Resumed.{frames_resume}
-use Rattle.cilk_replay.specs.Courses.{Setting, IsOfProgram, point_at}
+use Rattle.cilk_replay.specs.Replays.{Setting, IsOfProgram, point_at}
 use Rattle.cilk_replay.specs.Resumes.{ResumesAreAsked}
 use Rattle.cilk_replay.proofs.OfKind.{some_inner, ask_for}
 use Rattle.cilk_replay.proofs.Going.{got, here, following, plan_event}

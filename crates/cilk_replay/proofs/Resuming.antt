@@ -28,7 +28,7 @@ use Rattle.cilk_runs.specs.FrameEnvs.{FrameEnv}
 use Rattle.cilk_determinacy.specs.Nested.{named}
 use Rattle.cilk_determinacy.proofs.Determinate.{serial_numbered}
 use Rattle.cilk_replay.specs.Points.{Point, IsLater, IsFirst, IsReturn}
-use Rattle.cilk_replay.specs.Courses.{Setting, IsOfProgram, point_at}
+use Rattle.cilk_replay.specs.Replays.{Setting, IsOfProgram, point_at}
 use Rattle.cilk_replay.proofs.OfKind.{some_inner, GoesOn, IsOfKind}
 use Rattle.cilk_replay.proofs.Going.{got, here, first, following, within, plan_event, plan_deed, IsResumed}
 

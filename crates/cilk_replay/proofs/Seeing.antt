@@ -34,14 +34,14 @@ use Rattle.cilk_determinacy.specs.Numbers.{up, down, instance_number, IsHere, Ha
 use Rattle.cilk_determinacy.proofs.Numbers.{cell_is, down_up, number_is}
 use Rattle.cilk_determinacy.proofs.Sights.{global_here, own_here, root_here}
 use Rattle.cilk_replay.specs.Frames.{same_body}
-use Rattle.cilk_replay.specs.Courses.{AreHomesOf, CourseValue, IsBlockOf, IsBodyOf, IsHomeOf, home_of}
-use Rattle.cilk_replay.specs.declared.course.FrameHome.{FrameHome}
-use Rattle.cilk_replay.specs.declared.home.CellBlock.{CellBlock}
-use Rattle.cilk_replay.specs.declared.home.Home.{Home}
-use Rattle.cilk_replay.specs.declared.home.ReducerNumber.{ReducerNumber}
+use Rattle.cilk_replay.specs.Replays.{AreEntriesOf, ReplayValue, IsBlockOf, IsBodyOf, IsEntryOf, entry_of}
+use Rattle.cilk_replay.specs.declared.replay.FrameEntry.{FrameEntry}
+use Rattle.cilk_replay.specs.declared.frame_layout.CellBlock.{CellBlock}
+use Rattle.cilk_replay.specs.declared.frame_layout.FrameLayout.{FrameLayout}
+use Rattle.cilk_replay.specs.declared.frame_layout.ReducerNumber.{ReducerNumber}
 use Rattle.cilk_replay.specs.declared.sight.Sight.{Sight}
 use Rattle.cilk_replay.specs.Reducing.{as_instance, given_seen, global_reducer, outer_given, own_reducer, own_there, reducer_asked, reducer_in}
-use Rattle.cilk_replay.specs.Sights.{found_global, found_inside, found_there, found_in, number_taking, cell_asked, cells_of_block, homes_of, outer_homes, result_number, IsSightOf, IsNumberOf, IsReducer, AreReducers, HasHome, HaveHomes, HaveGiven, Sees}
+use Rattle.cilk_replay.specs.Sights.{found_global, found_inside, found_there, found_in, number_taking, cell_asked, cells_of_block, layouts_of, outer_layouts, result_number, IsSightOf, IsNumberOf, IsReducer, AreReducers, HasLayout, HaveLayouts, HaveGiven, Sees}
 use Rattle.cilk_replay.proofs.Children.{IsChild, runs_there}
 
 module _ (p : Source) (r : Transcript) where
@@ -55,18 +55,18 @@ module _ (p : Source) (r : Transcript) where
       by true q = (ltb-true n (length p.openings) q, refl)
       by false q = λ less. let low = ltb-false n (length p.openings) q in omega (arith, low, less)
 
-  pub seen : (hs : Seen) (bs : List Home) → HaveHomes p r hs bs → (x : Place) → Is (cell_in Global hs x) (found_in (length p.openings) bs x)
+  pub seen : (hs : Seen) (bs : List FrameLayout) → HaveLayouts p r hs bs → (x : Place) → Is (cell_in Global hs x) (found_in (length p.openings) bs x)
   seen hs bs h (places.Global n) = global_found n
   seen hs bs h (places.Local up n) = by hs bs h up
     where
-      by : (hs : Seen) (bs : List Home) → HaveHomes p r hs bs → (up : ℕ) → Is (cell_in Global hs (places.Local up n)) (found_there (length p.openings) (slice_get bs up) n)
+      by : (hs : Seen) (bs : List FrameLayout) → HaveLayouts p r hs bs → (up : ℕ) → Is (cell_in Global hs (places.Local up n)) (found_there (length p.openings) (slice_get bs up) n)
       by [] [] h up = global_found n
       by [] (b ∷ bs) h up = absurd h
       by (x ∷ hs) [] h up = absurd h
       by (x ∷ hs) (b ∷ bs) h zero = h.0.cells n
       by (x ∷ hs) (b ∷ bs) h (suc up) = by hs bs h.1 up
 
-  dropped : (n : ℕ) (hs : Seen) (bs : List Home) → HaveHomes p r hs bs → HaveHomes p r (drop n hs) (drop n bs)
+  dropped : (n : ℕ) (hs : Seen) (bs : List FrameLayout) → HaveLayouts p r hs bs → HaveLayouts p r (drop n hs) (drop n bs)
   dropped zero hs bs h = h
   dropped (suc n) [] [] h = tt
   dropped (suc n) [] (b ∷ bs) h = absurd h
@@ -104,11 +104,11 @@ module _ (p : Source) (r : Transcript) where
   global_is n k = ap (numbered_as 1) (one_more n)
 
   -- a frame's own
-  own_is : (callee : Callee) (name : Name) (here : IsHere p r name) (home : Home) → here.block.number ≡ home.frame → home.before ≡ before_own p callee → (n : ℕ) → IsReducer p r (own_named p callee name n) (own_reducer home n)
-  own_is callee name here home frame before n k =
+  own_is : (callee : Callee) (name : Name) (here : IsHere p r name) (layout : FrameLayout) → here.block.number ≡ layout.frame → layout.before ≡ before_own p callee → (n : ℕ) → IsReducer p r (own_named p callee name n) (own_reducer layout n)
+  own_is callee name here layout frame before n k =
       number_is p r name (before_own p callee + n) k here
       ∙ (ap (λ m. numbered_as m (suc (before_own p callee + n))) frame
-      ∙ ap (numbered_as home.frame) (let q = before in let e : suc (before_own p callee + n) ≡ home.before + n + 1 = omega (arith, q) in e))
+      ∙ ap (numbered_as layout.frame) (let q = before in let e : suc (before_own p callee + n) ≡ layout.before + n + 1 = omega (arith, q) in e))
 
   given_at : (is : List Reducers) (ns : List ReducerNumber) → AreReducers p r is ns → (n : ℕ) (i : Reducers) (m : ReducerNumber) → IsReducer p r i m → IsReducer p r (unwrap_or (slice_get is n) i) (unwrap_or (slice_get ns n) m)
   given_at [] [] h n i m e = e
@@ -121,7 +121,7 @@ module _ (p : Source) (r : Transcript) where
   abbrev given_there : Seen → ℕ → ℕ → Reducers
   given_there hs up n = at_home (slice_get hs up) (global_named n) (λ h. unwrap_or (slice_get h.given n) (global_named n))
 
-  given_last : (hs : Seen) (bs : List Home) (given : List ReducerNumber) → HaveHomes p r hs bs → HaveGiven p r hs given → (up n : ℕ) → up + 1 ≡ length bs
+  given_last : (hs : Seen) (bs : List FrameLayout) (given : List ReducerNumber) → HaveLayouts p r hs bs → HaveGiven p r hs given → (up n : ℕ) → up + 1 ≡ length bs
       → IsReducer p r (given_there hs up n) (unwrap_or (slice_get given n) (global_reducer n))
   given_last [] [] given h g up n last = absurd (omega (arith, last))
   given_last [] (b ∷ bs) given h g up n last = absurd h
@@ -133,7 +133,7 @@ module _ (p : Source) (r : Transcript) where
   given_last (x ∷ x' ∷ hs) (b ∷ b' ∷ bs) given h g zero n last = absurd (omega (arith, last))
   given_last (x ∷ x' ∷ hs) (b ∷ b' ∷ bs) given h g (suc up) n last = given_last (x' ∷ hs) (b' ∷ bs) given h.1 g.1 up n (omega (arith, last))
 
-  given_other : (hs : Seen) (bs : List Home) (given : List ReducerNumber) → HaveHomes p r hs bs → HaveGiven p r hs given → (up n : ℕ) → (up + 1 ≡ length bs → ⊥)
+  given_other : (hs : Seen) (bs : List FrameLayout) (given : List ReducerNumber) → HaveLayouts p r hs bs → HaveGiven p r hs given → (up n : ℕ) → (up + 1 ≡ length bs → ⊥)
       → IsReducer p r (given_there hs up n) (global_reducer n)
   given_other [] [] given h g up n other = global_is n
   given_other [] (b ∷ bs) given h g up n other = absurd h
@@ -147,11 +147,11 @@ module _ (p : Source) (r : Transcript) where
   given_other (x ∷ x' ∷ hs) (b ∷ b' ∷ bs) given h g (suc up) n other = given_other (x' ∷ hs) (b' ∷ bs) given h.1 g.1 up n (λ last. other (omega (arith, last)))
 
   -- the reducer that a place means
-  pub reducer_is : (hs : Seen) (bs : List Home) (given : List ReducerNumber) → HaveHomes p r hs bs → HaveGiven p r hs given → (x : ReducerPlace) → IsReducer p r (instance_in global_named hs x) (reducer_in bs given x)
+  pub reducer_is : (hs : Seen) (bs : List FrameLayout) (given : List ReducerNumber) → HaveLayouts p r hs bs → HaveGiven p r hs given → (x : ReducerPlace) → IsReducer p r (instance_in global_named hs x) (reducer_in bs given x)
   reducer_is hs bs given h g (reducers.Global n) = global_is n
   reducer_is hs bs given h g (reducers.Own up n) = by hs bs h up
     where
-      by : (hs : Seen) (bs : List Home) → HaveHomes p r hs bs → (up : ℕ) → IsReducer p r (instance_in global_named hs (reducers.Own up n)) (own_there (slice_get bs up) n)
+      by : (hs : Seen) (bs : List FrameLayout) → HaveLayouts p r hs bs → (up : ℕ) → IsReducer p r (instance_in global_named hs (reducers.Own up n)) (own_there (slice_get bs up) n)
       by [] [] h up = global_is n
       by [] (b ∷ bs) h up = absurd h
       by (x ∷ hs) [] h up = absurd h
@@ -163,7 +163,7 @@ module _ (p : Source) (r : Transcript) where
       by true q = given_last hs bs given h g up n (eqb-true (up + 1) (length bs) q)
       by false q = given_other hs bs given h g up n (λ last. false≢true (sym q ∙ eq-eqb (up + 1) (length bs) last))
 
-  all_given : (hs : Seen) (bs : List Home) (given : List ReducerNumber) → HaveHomes p r hs bs → HaveGiven p r hs given → (rs : List Reducer) → AreReducers p r (instances_in global_named hs rs) (map (λ (x : Reducer). reducer_in bs given x.place) rs)
+  all_given : (hs : Seen) (bs : List FrameLayout) (given : List ReducerNumber) → HaveLayouts p r hs bs → HaveGiven p r hs given → (rs : List Reducer) → AreReducers p r (instances_in global_named hs rs) (map (λ (x : Reducer). reducer_in bs given x.place) rs)
   all_given hs bs given h g [] = tt
   all_given hs bs given h g (x ∷ rs) = (reducer_is hs bs given h g x.place, all_given hs bs given h g rs)
 
@@ -178,16 +178,16 @@ module _ (p : Source) (r : Transcript) where
   given_dropped (suc n) (x ∷ x' ∷ hs) given g = given_dropped n (x' ∷ hs) given g.1
 
   -- a frame that is given none, before others
-  none_given_to : (x : SeenHome Cell Reducers) (hs : Seen) (bs : List Home) (given : List ReducerNumber) → x.given ≡ [] → HaveHomes p r hs bs → HaveGiven p r hs given → HaveGiven p r (x ∷ hs) (outer_given bs given)
+  none_given_to : (x : SeenHome Cell Reducers) (hs : Seen) (bs : List FrameLayout) (given : List ReducerNumber) → x.given ≡ [] → HaveLayouts p r hs bs → HaveGiven p r hs given → HaveGiven p r (x ∷ hs) (outer_given bs given)
   none_given_to x [] [] given none h g = subst (λ (is : List Reducers). AreReducers p r is []) (sym none) tt
   none_given_to x [] (b ∷ bs) given none h g = absurd h
   none_given_to x (y ∷ hs) [] given none h g = absurd h
   none_given_to x (y ∷ hs) (b ∷ bs) given none h g = (none, g)
 
-  -- a frame's own home
-  home_is : (callee : Callee) (name : Name) (is : List Reducers) (here : IsHere p r name) (home : Home) → home.block ≡ cells_of_block here.block → here.block.number ≡ home.frame → home.before ≡ before_own p callee
-      → HasHome p r (home_named p callee name is) home
-  home_is callee name is here home block frame before = record { cells = own_found name here home.block block; own = own_is callee name here home frame before }
+  -- a frame's own layout
+  layout_is : (callee : Callee) (name : Name) (is : List Reducers) (here : IsHere p r name) (layout : FrameLayout) → layout.block ≡ cells_of_block here.block → here.block.number ≡ layout.frame → layout.before ≡ before_own p callee
+      → HasLayout p r (home_named p callee name is) layout
+  layout_is callee name is here layout block frame before = record { cells = own_found name here layout.block block; own = own_is callee name here layout frame before }
 
   -- ---- reducers exist
 
@@ -222,25 +222,25 @@ module _ (p : Source) (r : Transcript) where
 
   -- ---- frames as they begin
 
-  pub root_sees : IsTrue (is_well_named p) → (here : IsHere p r []) (home : Home) (s : Sight) → home.block ≡ cells_of_block here.block → here.block.number ≡ home.frame → home.before ≡ length p.reducers
-      → homes_of s ≡ home ∷ [] → s.given.items ≡ [] → s.result ≡ found_global (length p.openings) 0 → Sees p r (first_env p) s
-  root_sees well here home s block frame before homes given none =
+  pub root_sees : IsTrue (is_well_named p) → (here : IsHere p r []) (layout : FrameLayout) (s : Sight) → layout.block ≡ cells_of_block here.block → here.block.number ≡ layout.frame → layout.before ≡ length p.reducers
+      → layouts_of s ≡ layout ∷ [] → s.given.items ≡ [] → s.result ≡ found_global (length p.openings) 0 → Sees p r (first_env p) s
+  root_sees well here layout s block frame before layouts given none =
       let parts = well_named_parts p well in
       let f = main_of p in
       record {
-        homes = subst (λ (bs : List Home). HaveHomes p r (first_env p).sight bs) (sym homes) (home_is callees.Root [] [] here home block frame before, tt);
+        layouts = subst (λ (bs : List FrameLayout). HaveLayouts p r (first_env p).sight bs) (sym layouts) (layout_is callees.Root [] [] here layout block frame before, tt);
         given = subst (λ (ns : List ReducerNumber). AreReducers p r [] ns) (sym given) tt;
         result = subst (Is (Global 0)) (sym none) (global_found 0);
         reducers = first_sees p Global global_named (λ c. Unit {0}) HasOne (home_named p callees.Root [] []) globals_are_there (λ n less. tt)
             (λ n k is. own_here p r callees.Root [] (root_here p r) refl n k is) (λ n k is. none_given f.given n k parts.takes_no_reducers is);
       }
 
-  outer_have : (callee : Callee) (hs : Seen) (bs : List Home) → HaveHomes p r hs bs → HaveHomes p r (outer_named callee hs) (outer_homes callee bs)
+  outer_have : (callee : Callee) (hs : Seen) (bs : List FrameLayout) → HaveLayouts p r hs bs → HaveLayouts p r (outer_named callee hs) (outer_layouts callee bs)
   outer_have callees.Root hs bs h = tt
   outer_have (callees.Function c) hs bs h = tt
   outer_have (callees.Loop l) hs bs h = dropped l.up hs bs h
 
-  result_have : (callee : Callee) (hs : Seen) (bs : List Home) → HaveHomes p r hs bs → Is (unwrap_or (result_named callee hs) (Global 0)) (result_number (length p.openings) callee bs)
+  result_have : (callee : Callee) (hs : Seen) (bs : List FrameLayout) → HaveLayouts p r hs bs → Is (unwrap_or (result_named callee hs) (Global 0)) (result_number (length p.openings) callee bs)
   result_have callees.Root hs bs h = global_found 0
   result_have (callees.Function f) hs bs h = by f.result
     where
@@ -249,14 +249,14 @@ module _ (p : Source) (r : Transcript) where
       by (Some x) = seen hs bs h x
   result_have (callees.Loop l) hs bs h = global_found 0
 
-  given_have : (callee : Callee) (name : Name) (hs : Seen) (bs : List Home) (given : List ReducerNumber) → HaveHomes p r hs bs → HaveGiven p r hs given
+  given_have : (callee : Callee) (name : Name) (hs : Seen) (bs : List FrameLayout) (given : List ReducerNumber) → HaveLayouts p r hs bs → HaveGiven p r hs given
       → HaveGiven p r (home_named p callee name (given_named callee hs) ∷ outer_named callee hs) (given_seen callee bs given)
   given_have callees.Root name hs bs given h g = tt
   given_have (callees.Function c) name hs bs given h g = all_given hs bs given h g c.reducers
   given_have (callees.Loop l) name hs bs given h g = none_given_to (home_named p (callees.Loop l) name []) (drop l.up hs) (drop l.up bs) given refl (dropped l.up hs bs h) (given_dropped l.up hs given g)
 
-  -- facts about a child: its body exists, the plan's child has the same body, and its own home
-  pub record Begins (w : FrameEnv) (k : ℕ) (callee : Callee) (home : Home) : Type 0 where
+  -- facts about a child: its body exists, the plan's child has the same body, and its own layout
+  pub record Begins (w : FrameEnv) (k : ℕ) (callee : Callee) (layout : FrameLayout) : Type 0 where
     pub well : IsTrue (is_well_named p)
     pub other : callee ≢ callees.Root
     pub there : CalleeIsThere p (body_of p w.callee) callee
@@ -265,31 +265,31 @@ module _ (p : Source) (r : Transcript) where
     pub child : IsChild p r w.name k planned
     pub same : same_body (body_of p planned.callee) (body_of p callee) ≡ true
     pub here : IsHere p r (w.name ++ k ∷ [])
-    pub block : home.block ≡ cells_of_block here.block
-    pub frame : here.block.number ≡ home.frame
-    pub before : home.before ≡ 0
+    pub block : layout.block ≡ cells_of_block here.block
+    pub frame : here.block.number ≡ layout.frame
+    pub before : layout.before ≡ 0
 
   none_before : (callee : Callee) → callee ≢ callees.Root → before_own p callee ≡ 0
   none_before callees.Root other = absurd (other refl)
   none_before (callees.Function c) other = refl
   none_before (callees.Loop l) other = refl
 
-  child_see : (w : FrameEnv) (k : ℕ) (callee : Callee) (home : Home) → Begins w k callee home → See w.callee w.sight w.result → (let c = child_env p w k callee in See c.callee c.sight c.result)
-  child_see w k callees.Root home b see = absurd (b.other refl)
-  child_see w k (callees.Function c) home b see =
+  child_see : (w : FrameEnv) (k : ℕ) (callee : Callee) (layout : FrameLayout) → Begins w k callee layout → See w.callee w.sight w.result → (let c = child_env p w k callee in See c.callee c.sight c.result)
+  child_see w k callees.Root layout b see = absurd (b.other refl)
+  child_see w k (callees.Function c) layout b see =
       called_sees p Global global_named (λ c. Unit {0}) HasOne w.callee w.sight w.result c (Own (w.name ++ k ∷ [])) (own_named p (callees.Function c) (w.name ++ k ∷ [])) globals_are_there see b.there b.can
       (λ n less. tt) (child_own w.name k b.planned b.child (callees.Function c) b.other b.same)
-  child_see w k (callees.Loop l) home b see =
+  child_see w k (callees.Loop l) layout b see =
       part_sees p Global global_named (λ c. Unit {0}) HasOne b.well w.callee w.sight w.result l (home_named p (callees.Loop l) (w.name ++ k ∷ []) []) see b.there b.can (λ whole n less. tt)
 
-  pub child_sees : (w : FrameEnv) (caller : Sight) → Sees p r w caller → (k : ℕ) (callee : Callee) (home : Home) (s : Sight) → Begins w k callee home
-      → IsSightOf (length p.openings) callee home caller s → Sees p r (child_env p w k callee) s
-  child_sees w caller sees k callee home s b of = record {
-    homes = subst (λ (bs : List Home). HaveHomes p r (child_env p w k callee).sight bs) (sym of.0)
-        (home_is callee (w.name ++ k ∷ []) (given_named callee w.sight) b.here home b.block b.frame (b.before ∙ sym (none_before callee b.other)), outer_have callee w.sight (homes_of caller) sees.homes);
-    given = subst (HaveGiven p r (child_env p w k callee).sight) (sym of.1) (given_have callee (w.name ++ k ∷ []) w.sight (homes_of caller) caller.given.items sees.homes sees.given);
-    result = subst (Is (unwrap_or (result_named callee w.sight) (Global 0))) (sym of.2) (result_have callee w.sight (homes_of caller) sees.homes);
-    reducers = child_see w k callee home b sees.reducers;
+  pub child_sees : (w : FrameEnv) (caller : Sight) → Sees p r w caller → (k : ℕ) (callee : Callee) (layout : FrameLayout) (s : Sight) → Begins w k callee layout
+      → IsSightOf (length p.openings) callee layout caller s → Sees p r (child_env p w k callee) s
+  child_sees w caller sees k callee layout s b of = record {
+    layouts = subst (λ (bs : List FrameLayout). HaveLayouts p r (child_env p w k callee).sight bs) (sym of.0)
+        (layout_is callee (w.name ++ k ∷ []) (given_named callee w.sight) b.here layout b.block b.frame (b.before ∙ sym (none_before callee b.other)), outer_have callee w.sight (layouts_of caller) sees.layouts);
+    given = subst (HaveGiven p r (child_env p w k callee).sight) (sym of.1) (given_have callee (w.name ++ k ∷ []) w.sight (layouts_of caller) caller.given.items sees.layouts sees.given);
+    result = subst (Is (unwrap_or (result_named callee w.sight) (Global 0))) (sym of.2) (result_have callee w.sight (layouts_of caller) sees.layouts);
+    reducers = child_see w k callee layout b sees.reducers;
   }
 
   -- the cell that a frame requests
@@ -306,8 +306,8 @@ module _ (p : Source) (r : Transcript) where
   AsksForCell k = ⊥
 
   pub cell_found : (w : FrameEnv) (s : Sight) → Sees p r w s → (k : Ask) → AsksForCell k → Is (asked_cell w k) (cell_asked (length p.openings) s k)
-  cell_found w s h (asks.Read x) u = seen w.sight (homes_of s) h.homes x
-  cell_found w s h (asks.Write x v) u = seen w.sight (homes_of s) h.homes x
+  cell_found w s h (asks.Read x) u = seen w.sight (layouts_of s) h.layouts x
+  cell_found w s h (asks.Write x v) u = seen w.sight (layouts_of s) h.layouts x
   cell_found w s h (asks.Result v) u = h.result
   cell_found w s h k u = absurd u
 
@@ -330,32 +330,32 @@ module _ (p : Source) (r : Transcript) where
   -- it is the run's, and has this number
   pub record IsFound (w : FrameEnv) (s : Sight) (k : Ask) : Type 0 where
     pub has : HasInstance p r (asked_instance w k)
-    pub number : instance_number p r (asked_instance w k) ≡ as_instance (reducer_asked (homes_of s) s.given.items k)
+    pub number : instance_number p r (asked_instance w k) ≡ as_instance (reducer_asked (layouts_of s) s.given.items k)
 
   pub reducer_found : (w : FrameEnv) (s : Sight) → Sees p r w s → (k : Ask) → AsksForReducer k → AskIsThere p w.callee k → IsFound w s k
-  reducer_found w s h (asks.Create x) u there = record { has = (h.reducers.own there.0).reducers x.place x.kind there.1; number = reducer_is p r w.sight (homes_of s) s.given.items h.homes h.given x.place x.kind }
-  reducer_found w s h (asks.Update x v) u there = record { has = (h.reducers.own there.0).reducers x.place x.kind there.1; number = reducer_is p r w.sight (homes_of s) s.given.items h.homes h.given x.place x.kind }
-  reducer_found w s h (asks.Set x v) u there = record { has = (h.reducers.own there.0).reducers x.place x.kind there.1; number = reducer_is p r w.sight (homes_of s) s.given.items h.homes h.given x.place x.kind }
-  reducer_found w s h (asks.Value x) u there = record { has = (h.reducers.own there.0).reducers x.place x.kind there.1; number = reducer_is p r w.sight (homes_of s) s.given.items h.homes h.given x.place x.kind }
+  reducer_found w s h (asks.Create x) u there = record { has = (h.reducers.own there.0).reducers x.place x.kind there.1; number = reducer_is p r w.sight (layouts_of s) s.given.items h.layouts h.given x.place x.kind }
+  reducer_found w s h (asks.Update x v) u there = record { has = (h.reducers.own there.0).reducers x.place x.kind there.1; number = reducer_is p r w.sight (layouts_of s) s.given.items h.layouts h.given x.place x.kind }
+  reducer_found w s h (asks.Set x v) u there = record { has = (h.reducers.own there.0).reducers x.place x.kind there.1; number = reducer_is p r w.sight (layouts_of s) s.given.items h.layouts h.given x.place x.kind }
+  reducer_found w s h (asks.Value x) u there = record { has = (h.reducers.own there.0).reducers x.place x.kind there.1; number = reducer_is p r w.sight (layouts_of s) s.given.items h.layouts h.given x.place x.kind }
   reducer_found w s h k u there = absurd u
 
-inner_home : (o : Option FrameHome) (a other : FrameHome) → o ≡ Some a → unwrap_or o other ≡ a
-inner_home None a other q = absurd (let z : None ≡ Some a = q in cc z)
-inner_home (Some b) a other q = cc q
+inner_entry : (o : Option FrameEntry) (a other : FrameEntry) → o ≡ Some a → unwrap_or o other ≡ a
+inner_entry None a other q = absurd (let z : None ≡ Some a = q in cc z)
+inner_entry (Some b) a other q = cc q
 
 -- where a course's list has a frame
-pub lies_at : (u v : CourseValue) (homes there : List FrameHome) (number place : ℕ) (other found : FrameHome) → u ≡ v → there ≡ homes → AreHomesOf u homes → place ≡ number - 1
-    → found ≡ unwrap_or (slice_get there place) other → IsHomeOf v number found
-lies_at u v homes there number place other found same list are at is run path b callee prog frame runs q =
-    let here = subst (λ (z : CourseValue). AreHomesOf z homes) same are run prog path b callee frame runs in
+pub lies_at : (u v : ReplayValue) (entries there : List FrameEntry) (number place : ℕ) (other found : FrameEntry) → u ≡ v → there ≡ entries → AreEntriesOf u entries → place ≡ number - 1
+    → found ≡ unwrap_or (slice_get there place) other → IsEntryOf v number found
+lies_at u v entries there number place other found same list are at is run path b callee prog frame runs q =
+    let here = subst (λ (z : ReplayValue). AreEntriesOf z entries) same are run prog path b callee frame runs in
     let spot : place ≡ b.number - 1 = omega (arith, at, q) in
-    is ∙ inner_home (slice_get there place) (home_of (source v.program) callee b) other (ap (λ l. slice_get l place) list ∙ ap (slice_get homes) spot ∙ here)
+    is ∙ inner_entry (slice_get there place) (entry_of (source v.program) callee b) other (ap (λ l. slice_get l place) list ∙ ap (slice_get entries) spot ∙ here)
 
 -- the frame there
-pub block_in : (u : CourseValue) (number : ℕ) (home : FrameHome) → IsHomeOf u number home → IsBlockOf u number home.block
-block_in u number home h run path b prog frame q =
+pub block_in : (u : ReplayValue) (number : ℕ) (entry : FrameEntry) → IsEntryOf u number entry → IsBlockOf u number entry.block
+block_in u number entry h run path b prog frame q =
     let runs = runs_there (source u.program) run path b frame in
-    ap (λ (z : FrameHome). z.block) (h run path b runs.0 prog frame runs.1 q)
+    ap (λ (z : FrameEntry). z.block) (h run path b runs.0 prog frame runs.1 q)
 
-pub body_in : (u : CourseValue) (number : ℕ) (home : FrameHome) → IsHomeOf u number home → IsBodyOf u number home.body
-body_in u number home h run path b callee prog frame runs q = ap (λ (z : FrameHome). z.body) (h run path b callee prog frame runs q)
+pub body_in : (u : ReplayValue) (number : ℕ) (entry : FrameEntry) → IsEntryOf u number entry → IsBodyOf u number entry.body
+body_in u number entry h run path b callee prog frame runs q = ap (λ (z : FrameEntry). z.body) (h run path b callee prog frame runs q)

@@ -19,12 +19,12 @@ use Rattle.cilk_tree.specs.Word.{event, what, resume}
 use Rattle.cilk_runs.specs.FrameEnvMachine.{asked_after}
 use Rattle.cilk_runs.specs.FrameEnvs.{FrameEnv}
 use Rattle.cilk_replay.specs.Points.{Point, IsEventOf}
-use Rattle.cilk_replay.specs.declared.level.Level.{Level}
-use Rattle.cilk_replay.specs.Courses.{CourseValue, IsOfProgram, setting_of, point_at}
+use Rattle.cilk_replay.specs.declared.replay_frame.ReplayFrame.{ReplayFrame}
+use Rattle.cilk_replay.specs.Replays.{ReplayValue, IsOfProgram, setting_of, point_at}
 
 -- The next request of the current frame at a position: what its program requests after all answers
 -- so far in the event order, with all the ticks of a run for itself.
-pub record IsNextAsk (c : CourseValue) (at : ℕ) (k : Ask) : Type 0 where
+pub record IsNextAsk (c : ReplayValue) (at : ℕ) (k : Ask) : Type 0 where
   pub run : Transcript
   pub of_program : IsOfProgram (setting_of c run)
   pub behind : ℕ
@@ -87,7 +87,7 @@ Spawns s at next = ((f : ℕ) × Follows s at (events.Spawn f)) × (what s next 
 
 -- A frame of this callee, after these answers, has requested this: its cursor, and the ticks it
 -- used.
-pub record HasAsked (code : CodeView) (inputs : List ℤ) (p : Source) (callee : Callee) (history : List ℤ) (k : Ask) (l : Level) : Type 0 where
+pub record HasAsked (code : CodeView) (inputs : List ℤ) (p : Source) (callee : Callee) (history : List ℤ) (k : Ask) (l : ReplayFrame) : Type 0 where
   pub asks : frame_asks p inputs callee history MAX_TICKS ≡ asks_for k (MAX_TICKS - l.took)
   pub stands : HasAnswer k → Stands code inputs p callee l.cursor history l.took
   pub owes : HasAnswer k → let v = l.cursor in v.owed ≡ owed_for k

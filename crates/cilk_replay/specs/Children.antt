@@ -6,8 +6,8 @@ use Rattle.cilk_program.specs.declared.ask.Callee.TheVariants as callees
 use Rattle.cilk_program.specs.declared.program.Body.{Body}
 use Rattle.cilk_program.specs.declared.program.Body.TheVariants as bodies
 use Rattle.cilk_replay.specs.Frames.{same_body}
-use Rattle.cilk_replay.specs.declared.looked.Looked.{Looked}
-use Rattle.cilk_replay.specs.declared.looked.Looked.TheVariants.{Asked, Differs}
+use Rattle.cilk_replay.specs.declared.plan_match.PlanMatch.{PlanMatch}
+use Rattle.cilk_replay.specs.declared.plan_match.PlanMatch.TheVariants as matches
 
 -- the function or loop of the child
 abbrev pub body_asked : Ask → Body
@@ -16,6 +16,6 @@ body_asked (asks.Invoke how (callees.Loop l)) = bodies.Loop l.number
 body_asked k = bodies.Function 0
 
 -- the comparison with the function or loop of the plan's child
-abbrev pub LooksAtBody : Body → Body → Looked → Type 0
-LooksAtBody planned asked Asked = same_body planned asked ≡ true
-LooksAtBody planned asked Differs = same_body planned asked ≡ false
+abbrev pub MatchesBody : Body → Body → PlanMatch → Type 0
+MatchesBody planned asked matches.Follows = same_body planned asked ≡ true
+MatchesBody planned asked matches.Departs = same_body planned asked ≡ false

@@ -1,7 +1,7 @@
 pub mod Asking
 pub mod Chains
 pub mod Children
-pub mod Courses
+pub mod Replays
 pub mod Ends
 pub mod Frames
 pub mod InputCourses

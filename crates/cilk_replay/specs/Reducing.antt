@@ -8,10 +8,10 @@ use Rattle.cilk_program.specs.declared.ask.Callee.TheVariants as callees
 use Rattle.cilk_program.specs.declared.syntax.Reducer.{Reducer}
 use Rattle.cilk_program.specs.declared.syntax.ReducerPlace.{ReducerPlace}
 use Rattle.cilk_program.specs.declared.syntax.ReducerPlace.TheVariants as reducers
-use Rattle.cilk_replay.specs.declared.home.Home.{Home}
-use Rattle.cilk_replay.specs.declared.home.ReducerNumber.{ReducerNumber}
-use Rattle.cilk_replay.specs.declared.looked.Looked.{Looked}
-use Rattle.cilk_replay.specs.declared.looked.Looked.TheVariants.{Asked, Differs}
+use Rattle.cilk_replay.specs.declared.frame_layout.FrameLayout.{FrameLayout}
+use Rattle.cilk_replay.specs.declared.frame_layout.ReducerNumber.{ReducerNumber}
+use Rattle.cilk_replay.specs.declared.plan_match.PlanMatch.{PlanMatch}
+use Rattle.cilk_replay.specs.declared.plan_match.PlanMatch.TheVariants as matches
 
 -- the same as an instance
 abbrev pub as_instance : ReducerNumber → numbered.Instance
@@ -21,41 +21,41 @@ as_instance r = record { frame = r.frame; place = r.place }
 abbrev pub global_reducer : ℕ → ReducerNumber
 global_reducer n = record { frame = 1; place = n + 1 }
 
-abbrev pub own_reducer : Home → ℕ → ReducerNumber
+abbrev pub own_reducer : FrameLayout → ℕ → ReducerNumber
 own_reducer h n = record { frame = h.frame; place = h.before + n + 1 }
 
-abbrev pub own_there : Option Home → ℕ → ReducerNumber
+abbrev pub own_there : Option FrameLayout → ℕ → ReducerNumber
 own_there None n = global_reducer n
 own_there (Some h) n = own_reducer h n
 
 -- The reducer that a place means in a frame. The outermost frame in sight runs a function, to
 -- which reducers may be passed. The others run turns of loops, to which none are passed.
-abbrev pub reducer_in : List Home → List ReducerNumber → ReducerPlace → ReducerNumber
-reducer_in homes given (reducers.Global n) = global_reducer n
-reducer_in homes given (reducers.Own up n) = own_there (slice_get homes up) n
-reducer_in homes given (reducers.Given up n) =
-    if nat_eq (up + 1) (length homes) then unwrap_or (slice_get given n) (global_reducer n) else global_reducer n
+abbrev pub reducer_in : List FrameLayout → List ReducerNumber → ReducerPlace → ReducerNumber
+reducer_in layouts given (reducers.Global n) = global_reducer n
+reducer_in layouts given (reducers.Own up n) = own_there (slice_get layouts up) n
+reducer_in layouts given (reducers.Given up n) =
+    if nat_eq (up + 1) (length layouts) then unwrap_or (slice_get given n) (global_reducer n) else global_reducer n
 
 -- the reducer that a frame requests, if it sees these
-abbrev pub reducer_asked : List Home → List ReducerNumber → Ask → ReducerNumber
-reducer_asked homes given (asks.Create r) = reducer_in homes given r.place
-reducer_asked homes given (asks.Update r v) = reducer_in homes given r.place
-reducer_asked homes given (asks.Set r v) = reducer_in homes given r.place
-reducer_asked homes given (asks.Value r) = reducer_in homes given r.place
-reducer_asked homes given k = global_reducer 0
+abbrev pub reducer_asked : List FrameLayout → List ReducerNumber → Ask → ReducerNumber
+reducer_asked layouts given (asks.Create r) = reducer_in layouts given r.place
+reducer_asked layouts given (asks.Update r v) = reducer_in layouts given r.place
+reducer_asked layouts given (asks.Set r v) = reducer_in layouts given r.place
+reducer_asked layouts given (asks.Value r) = reducer_in layouts given r.place
+reducer_asked layouts given k = global_reducer 0
 
 -- the reducers that were passed to the function around a loop
-abbrev pub outer_given : List Home → List ReducerNumber → List ReducerNumber
+abbrev pub outer_given : List FrameLayout → List ReducerNumber → List ReducerNumber
 outer_given [] given = []
 outer_given (h ∷ hs) given = given
 
 -- the passed reducers that a child sees
-abbrev pub given_seen : Callee → List Home → List ReducerNumber → List ReducerNumber
-given_seen callees.Root homes given = []
-given_seen (callees.Function c) homes given = map (λ (r : Reducer). reducer_in homes given r.place) c.reducers
-given_seen (callees.Loop l) homes given = outer_given (drop l.up homes) given
+abbrev pub given_seen : Callee → List FrameLayout → List ReducerNumber → List ReducerNumber
+given_seen callees.Root layouts given = []
+given_seen (callees.Function c) layouts given = map (λ (r : Reducer). reducer_in layouts given r.place) c.reducers
+given_seen (callees.Loop l) layouts given = outer_given (drop l.up layouts) given
 
 -- the comparison with the plan's reducer
-abbrev pub LooksAtReducer : ReducerNumber → numbered.Instance → Looked → Type 0
-LooksAtReducer found i Asked = as_instance found ≡ i
-LooksAtReducer found i Differs = as_instance found ≡ i → ⊥
+abbrev pub MatchesReducer : ReducerNumber → numbered.Instance → PlanMatch → Type 0
+MatchesReducer found i matches.Follows = as_instance found ≡ i
+MatchesReducer found i matches.Departs = as_instance found ≡ i → ⊥

@@ -8,8 +8,8 @@ use Rattle.cilk_tree.specs.declared.kind.Kind.TheVariants as kinds
 use Rattle.cilk_tree.specs.declared.event_order.EventOrder.{EventOrder}
 use Rattle.cilk_tree.specs.Runs.{IsAsked}
 use Rattle.std.specs.Prelude.{ℕ}
-use Rattle.cilk_replay.specs.declared.looked.Looked.{Looked}
-use Rattle.cilk_replay.specs.declared.looked.Looked.TheVariants.{Asked, Differs}
+use Rattle.cilk_replay.specs.declared.plan_match.PlanMatch.{PlanMatch}
+use Rattle.cilk_replay.specs.declared.plan_match.PlanMatch.TheVariants as matches
 use Rattle.cilk_replay.specs.declared.sort.Sort.{Sort}
 use Rattle.cilk_replay.specs.declared.sort.Sort.TheVariants.{Begin, Spawn, Call, Resume, Sync, End, Read, Write, Create, Update, Set, Value, Print, Nothing}
 
@@ -58,6 +58,6 @@ NamesNothing Print = Unit {0}
 NamesNothing _ = ⊥
 
 -- the comparison with the event of this kind at a position
-abbrev pub Says : EventOrder → ℕ → Kind → Looked → Type 0
-Says s at k Asked = IsAsked s at
-Says s at k Differs = IsAsked s at → ⊥
+abbrev pub Says : EventOrder → ℕ → Kind → PlanMatch → Type 0
+Says s at k matches.Follows = IsAsked s at
+Says s at k matches.Departs = IsAsked s at → ⊥

@@ -1,4 +1,4 @@
--- The frames at a position of a course: the current frame and its callers.
+-- The frames at a position of a replay: the current frame and its callers.
 use Rattle.std.specs.Prelude.{◌≡◌, ◌⊎◌, ◌≤◌, ℕ, suc, pos, false, List, [], ◌∷◌, ◌++◌, reverse, Some}
 use Rattle.cilk_types.specs.declared.invocation.Invocation.{Invocation}
 use Rattle.cilk_types.specs.declared.invocation.Invocation.TheVariants.{Spawn}
@@ -12,13 +12,13 @@ use Rattle.cilk_runs.specs.Runs.{Deed, Invokes}
 use Rattle.cilk_runs.specs.FrameEnvMachine.{answer_of, answers_of, has_ended}
 use Rattle.cilk_runs.specs.FrameEnvs.{FrameEnv}
 use Rattle.cilk_replay.specs.Points.{Point}
-use Rattle.cilk_replay.specs.declared.level.Level.{Level}
+use Rattle.cilk_replay.specs.declared.replay_frame.ReplayFrame.{ReplayFrame}
 use Rattle.cilk_replay.specs.Asking.{HasAsked}
 use Rattle.cilk_replay.specs.Sights.{Sees}
-use Rattle.cilk_replay.specs.Courses.{CourseValue, IsOfProgram, Setting, setting_of, point_at}
+use Rattle.cilk_replay.specs.Replays.{ReplayValue, IsOfProgram, Setting, setting_of, point_at}
 
 -- the current frame at a position has requested this, after the answers so far in the event order
-pub record Asks (c : Setting) (at : ℕ) (k : Ask) (l : Level) : Type 0 where
+pub record Asks (c : Setting) (at : ℕ) (k : Ask) (l : ReplayFrame) : Type 0 where
   pub behind : ℕ
   pub place : suc behind ≡ at
   pub point : Point FrameEnv
@@ -30,7 +30,7 @@ pub record Asks (c : Setting) (at : ℕ) (k : Ask) (l : Level) : Type 0 where
 
 -- The current frame at a position has had all answers but the last, which is 0. It hasn't continued
 -- with that one.
-pub record Rests (c : Setting) (at : ℕ) (l : Level) : Type 0 where
+pub record Rests (c : Setting) (at : ℕ) (l : ReplayFrame) : Type 0 where
   pub behind : ℕ
   pub place : suc behind ≡ at
   pub point : Point FrameEnv
@@ -47,7 +47,7 @@ pub record Rests (c : Setting) (at : ℕ) (l : Level) : Type 0 where
   pub small : l.took ≤ MAX_TICKS
 
 -- a frame that waits for its child, whose first event is after `since` others
-pub record Waits (c : Setting) (since : ℕ) (l : Level) : Type 0 where
+pub record Waits (c : Setting) (since : ℕ) (l : ReplayFrame) : Type 0 where
   pub behind : ℕ
   pub place : suc behind ≡ since
   pub point : Point FrameEnv
@@ -76,28 +76,28 @@ IsOutermost c since = (since ≡ 0) ⊎ IsSpawned c since
 
 -- The callers of the frame whose first event is after `since` others, the innermost first, up to
 -- the nearest frame that was spawned.
-abbrev pub Linked : Setting → ℕ → List Level → Type 0
+abbrev pub Linked : Setting → ℕ → List ReplayFrame → Type 0
 Linked c since [] = IsOutermost c since
 Linked c since (l ∷ ls) = (w : Waits c since l) × (let x = w.point in Linked c x.since ls)
 
 -- a frame and its callers, the outermost first
-pub record StandsAt (c : Setting) (at : ℕ) (k : Ask) (top : Level) (below : List Level) : Type 0 where
+pub record StandsAt (c : Setting) (at : ℕ) (k : Ask) (top : ReplayFrame) (below : List ReplayFrame) : Type 0 where
   pub asks : Asks c at k top
   pub callers : let x = asks.point in Linked c x.since (reverse below)
 
-pub record RestsAt (c : Setting) (at : ℕ) (top : Level) (below : List Level) : Type 0 where
+pub record RestsAt (c : Setting) (at : ℕ) (top : ReplayFrame) (below : List ReplayFrame) : Type 0 where
   pub rests : Rests c at top
   pub callers : let x = rests.point in Linked c x.since (reverse below)
 
--- the same for a course
-abbrev pub Stand : CourseValue → ℕ → Ask → Level → List Level → Type 0
+-- the same for a replay
+abbrev pub Stand : ReplayValue → ℕ → Ask → ReplayFrame → List ReplayFrame → Type 0
 Stand c at k top below = (run : Transcript) × IsOfProgram (setting_of c run) × StandsAt (setting_of c run) at k top below
 
-abbrev pub Rest : CourseValue → ℕ → Level → List Level → Type 0
+abbrev pub Rest : ReplayValue → ℕ → ReplayFrame → List ReplayFrame → Type 0
 Rest c at top below = (run : Transcript) × IsOfProgram (setting_of c run) × RestsAt (setting_of c run) at top below
 
 -- the current frame at a position was spawned, or is the root's
-pub record IsTheOutermost (c : CourseValue) (at : ℕ) : Type 0 where
+pub record IsTheOutermost (c : ReplayValue) (at : ℕ) : Type 0 where
   pub run : Transcript
   pub of_program : IsOfProgram (setting_of c run)
   pub behind : ℕ

@@ -5,12 +5,12 @@ ghost use Rattle.cilk_types.specs.declared.event.Event.TheVariants.{End};
 ghost use Rattle.cilk_tree.specs.Word.{resume, what};
 ghost use Rattle.cilk_replay.specs.Chains.{standing, task_of};
 
-use crate::child::{body_asked, look_at_body};
-use crate::course::Course;
-use crate::level::{Level, go_on};
-use crate::looked::Looked;
-use crate::reducer::{look_at_reducer, reducer_asked};
-use crate::sight::{cell_asked, look_at_cell};
+use crate::child::{body_asked, body_matches};
+use crate::plan_match::PlanMatch;
+use crate::reducer::{reducer_asked, reducer_matches};
+use crate::replay::Replay;
+use crate::replay_frame::{ReplayFrame, go_on};
+use crate::sight::{cell_asked, cell_matches};
 use crate::sort::{asked_sort, kind_sort};
 use cilk_frames::asked::AskSlot;
 use cilk_frames::cursor::Answer;
@@ -24,11 +24,11 @@ use std::snapshot::Snapshot;
 
 /// A frame that has requested an event, and its callers up to the nearest frame that was spawned.
 pub struct Chain {
-    of: Snapshot<Course>,
+    of: Snapshot<Replay>,
     at: Pos,
     asked: AskSlot,
-    top: Box<Level>,
-    below: Vec<Level>,
+    top: Box<ReplayFrame>,
+    below: Vec<ReplayFrame>,
 }
 
 // A function of its own, so that a proof follows one call where a chain is dropped.
@@ -61,10 +61,10 @@ impl Model for Chain {
 /// nearest frame that was spawned.
 #[derive(Drop)]
 pub struct Rest {
-    of: Snapshot<Course>,
+    of: Snapshot<Replay>,
     at: Pos,
-    top: Box<Level>,
-    below: Vec<Level>,
+    top: Box<ReplayFrame>,
+    below: Vec<ReplayFrame>,
 }
 
 impl Model for Rest {
@@ -89,14 +89,14 @@ impl Chain {
     ghost use Rattle.cilk_replay.specs.Standing.{IsTheOutermost};
 
     /// Creates the chain of the root's frame, before it begins.
-    pub fn root(alloc: Global, course: &Course) -> Result<Chain, AllocError>
-        ensures { IfOk result (λ c. c ≡ standing course.now 1) }
+    pub fn root(alloc: Global, replay: &Replay) -> Result<Chain, AllocError>
+        ensures { IfOk result (λ c. c ≡ standing replay.now 1) }
     {
-        course.laws();
-        let level = Level::root(alloc, course, course.root())?;
-        let top = Box::new(alloc, level)?;
+        replay.laws();
+        let replay_frame = ReplayFrame::root(alloc, replay, replay.root())?;
+        let top = Box::new(alloc, replay_frame)?;
         Ok(Chain {
-            of: Snapshot::of(course),
+            of: Snapshot::of(replay),
             at: 1,
             asked: AskSlot::new(),
             top,
@@ -121,58 +121,58 @@ impl Chain {
     }
 
     /// Returns whether the frame requests the plan's event at its position, which is of this kind.
-    pub fn look(&self, course: &Course, kind: Kind) -> Looked
-        requires course { course.now ≡ self.now.of }
+    pub fn matches_plan(&self, replay: &Replay, kind: Kind) -> PlanMatch
+        requires replay { replay.now ≡ self.now.of }
         requires kind { kind_of_event (event self.now.of.yard.event_order self.now.at) ≡ Some kind }
         ensures { Says self.now.of.yard.event_order self.now.at kind result }
     {
-        let level = &*self.top;
+        let replay_frame = &*self.top;
         if asked_sort(&self.asked) != kind_sort(kind) {
-            return Looked::Differs;
+            return PlanMatch::Departs;
         }
         match kind {
-            Kind::Read { cell } | Kind::Write { cell } => look_at_cell(
-                cell_asked(course.globals(), &level.sight, &self.asked),
+            Kind::Read { cell } | Kind::Write { cell } => cell_matches(
+                cell_asked(replay.globals(), &replay_frame.sight, &self.asked),
                 cell,
             ),
             Kind::Begin { .. } | Kind::Resume { .. } | Kind::Sync | Kind::End | Kind::Print => {
-                Looked::Asked
+                PlanMatch::Follows
             }
             Kind::Spawn { child } | Kind::Call { child } => {
-                look_at_body(course.body(child), body_asked(&self.asked))
+                body_matches(replay.body(child), body_asked(&self.asked))
             }
             Kind::Create { instance }
             | Kind::Update { instance }
             | Kind::Set { instance }
-            | Kind::Value { instance } => look_at_reducer(
-                reducer_asked(&level.sight, &self.asked),
+            | Kind::Value { instance } => reducer_matches(
+                reducer_asked(&replay_frame.sight, &self.asked),
                 instance,
             ),
         }
     }
 
     /// Continues the frame with the answer to its event.
-    pub fn answer(&mut self, course: &Course, answer: Answer)
-        requires course { course.now ≡ self.old.of }
+    pub fn answer(&mut self, replay: &Replay, answer: Answer)
+        requires replay { replay.now ≡ self.old.of }
         requires answer { IsAnswered self.old.of.yard.event_order self.old.at answer }
         ensures { self.new ≡ standing self.old.of (self.old.at + 1) }
     {
-        go_on(&mut self.top, course, answer, &mut self.asked);
+        go_on(&mut self.top, replay, answer, &mut self.asked);
         self.at += 1;
     }
 
     /// Begins the called child, while its caller waits. `frame` is the child's number, as in its
     /// `begin`. Out of memory, nothing changes.
-    pub fn call(&mut self, alloc: Global, course: &Course, frame: FrameNo) -> Result<(), AllocError>
-        requires course { course.now ≡ self.old.of }
+    pub fn call(&mut self, alloc: Global, replay: &Replay, frame: FrameNo) -> Result<(), AllocError>
+        requires replay { replay.now ≡ self.old.of }
         requires calls { Calls self.old.of.yard.event_order self.old.at }
         requires begins { BeginsNext self.old.of.yard.event_order self.old.at frame }
         ensures ok { OnOk result (self.new ≡ standing self.old.of (self.old.at + 1)) }
         ensures err { OnErr result (self.new ≡ self.old) }
     {
         self.below.reserve(1)?;
-        let home = course.child(frame);
-        let child = Level::begun(alloc, course, &self.asked, home, &self.top.sight)?;
+        let layout = replay.child(frame);
+        let child = ReplayFrame::begun(alloc, replay, &self.asked, layout, &self.top.sight)?;
         let caller = mem::replace(&mut *self.top, child);
         self.below.push_reserved(caller);
         self.asked.put(SmallAsk::Begin);
@@ -185,22 +185,22 @@ impl Chain {
     pub fn spawn(
         &mut self,
         alloc: Global,
-        course: &Course,
+        replay: &Replay,
         frame: FrameNo,
         next: Pos,
     ) -> Result<Rest, AllocError>
-        requires course { course.now ≡ self.old.of }
+        requires replay { replay.now ≡ self.old.of }
         requires spawns { Spawns self.old.of.yard.event_order self.old.at next }
         requires begins { BeginsNext self.old.of.yard.event_order self.old.at frame }
         ensures child { OnOk result (self.new ≡ standing self.old.of (self.old.at + 1)) }
         ensures parent { IfOk result (λ rest. rest ≡ standing self.old.of next) }
         ensures err { OnErr result (self.new ≡ self.old) }
     {
-        let home = course.child(frame);
-        let level = Level::begun(alloc, course, &self.asked, home, &self.top.sight)?;
-        let child = Box::new(alloc, level)?;
+        let layout = replay.child(frame);
+        let replay_frame = ReplayFrame::begun(alloc, replay, &self.asked, layout, &self.top.sight)?;
+        let child = Box::new(alloc, replay_frame)?;
         let rest = Rest {
-            of: Snapshot::of(course),
+            of: Snapshot::of(replay),
             at: next,
             top: mem::replace(&mut self.top, child),
             below: mem::replace(&mut self.below, Vec::new(alloc)),
@@ -212,8 +212,8 @@ impl Chain {
 
     /// Ends the frame and continues its caller. Returns false if it has no caller here, since it
     /// was spawned or is the root's; then nothing changes.
-    pub fn end(&mut self, course: &Course) -> bool
-        requires course { course.now ≡ self.old.of }
+    pub fn end(&mut self, replay: &Replay) -> bool
+        requires replay { replay.now ≡ self.old.of }
         requires end { Follows self.old.of.yard.event_order self.old.at End }
         ensures caller { IsTrue result → self.new ≡ standing self.old.of (self.old.at + 1) }
         ensures outermost { result ≡ false → (self.new ≡ self.old) × IsTheOutermost self.old.of self.old.at }
@@ -222,7 +222,7 @@ impl Chain {
             return false;
         };
         *self.top = caller;
-        go_on(&mut self.top, course, Answer::Done, &mut self.asked);
+        go_on(&mut self.top, replay, Answer::Done, &mut self.asked);
         self.at += 1;
         true
     }
@@ -238,8 +238,8 @@ impl Rest {
     }
 
     /// Continues the frame after its child.
-    pub fn wake(self, course: &Course) -> Chain
-        requires { course.now ≡ self.of }
+    pub fn wake(self, replay: &Replay) -> Chain
+        requires { replay.now ≡ self.of }
         ensures { result ≡ self }
     {
         let Rest {
@@ -249,7 +249,7 @@ impl Rest {
             below,
         } = self;
         let mut asked = AskSlot::new();
-        go_on(&mut top, course, Answer::Done, &mut asked);
+        go_on(&mut top, replay, Answer::Done, &mut asked);
         Chain {
             of,
             at,

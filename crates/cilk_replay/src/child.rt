@@ -2,9 +2,9 @@
 
 ghost use Rattle.std.specs.Prelude.{◌≡◌};
 ghost use Rattle.cilk_replay.specs.Frames.{same_body};
-ghost use Rattle.cilk_replay.specs.Children.{LooksAtBody, body_asked};
+ghost use Rattle.cilk_replay.specs.Children.{MatchesBody, body_asked};
 
-use crate::looked::Looked;
+use crate::plan_match::PlanMatch;
 use cilk_frames::asked::AskSlot;
 use cilk_frames::small_ask::SmallAsk;
 use cilk_program::program::Body;
@@ -21,13 +21,13 @@ pub(crate) fn body_asked(asked: &AskSlot) -> Body
 }
 
 /// Returns whether a requested child runs the same function or loop as the plan's.
-pub(crate) fn look_at_body(planned: Body, asked: Body) -> Looked
-    ensures { LooksAtBody planned asked result }
+pub(crate) fn body_matches(planned: Body, asked: Body) -> PlanMatch
+    ensures { MatchesBody planned asked result }
 {
     if same_body(planned, asked) {
-        Looked::Asked
+        PlanMatch::Follows
     } else {
-        Looked::Differs
+        PlanMatch::Departs
     }
 }
 

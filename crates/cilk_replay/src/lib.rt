@@ -19,28 +19,28 @@
 //!
 //! | Item | Use |
 //! |---|---|
-//! | [`chain::Chain::look`] | Whether the next request is the plan's event. |
+//! | [`chain::Chain::matches_plan`] | Whether the next request is the plan's event. |
 //! | [`chain::Chain::answer`] | Continues the frame; `call`, `spawn` and `end` change the frame. |
 //! | [`chain::Rest::wake`] | Continues a frame after its child. |
-//! | [`course::Course`] | The program's code and the input, along a plan. |
+//! | [`replay::Replay`] | The program's code and the input, along a plan. |
 //! | [`laws`] | A course in which each event is requested is a serial run. |
 //!
 //! ```text
-//! let mut chain = Chain::root(alloc, &course)?;
-//! match chain.look(&course, kind) {        // the kind of the plan's event at chain.at()
-//!     Looked::Asked => chain.answer(&course, answer),
-//!     Looked::Differs => ..,               // the run departs from the plan
+//! let mut chain = Chain::root(alloc, &replay)?;
+//! match chain.matches_plan(&replay, kind) { // the kind of the plan's event at chain.at()
+//!     PlanMatch::Follows => chain.answer(&replay, answer),
+//!     PlanMatch::Departs => ..,            // the run departs from the plan
 //! }
 //! ```
 #![tactic(auto)]
 
 pub mod chain;
 pub mod child;
-pub mod course;
-pub mod home;
+pub mod frame_layout;
 pub mod laws;
-pub mod level;
-pub mod looked;
+pub mod plan_match;
 pub mod reducer;
+pub mod replay;
+pub mod replay_frame;
 pub mod sight;
 pub mod sort;

@@ -2,11 +2,11 @@
 
 ghost use Rattle.std.specs.Prelude.{◌≡◌, IfOk, map, slice_get, unwrap_or};
 ghost use Rattle.cilk_program.specs.declared.syntax.Reducer.{Reducer};
-ghost use Rattle.cilk_replay.specs.Reducing.{LooksAtReducer, global_reducer, outer_given, own_reducer, reducer_asked, reducer_in};
-ghost use Rattle.cilk_replay.specs.Sights.{homes_of};
+ghost use Rattle.cilk_replay.specs.Reducing.{MatchesReducer, global_reducer, outer_given, own_reducer, reducer_asked, reducer_in};
+ghost use Rattle.cilk_replay.specs.Sights.{layouts_of};
 
-use crate::home::{Home, ReducerNumber};
-use crate::looked::Looked;
+use crate::frame_layout::{FrameLayout, ReducerNumber};
+use crate::plan_match::PlanMatch;
 use crate::sight::Sight;
 use cilk_frames::asked::AskSlot;
 use cilk_frames::small_ask::SmallAsk;
@@ -16,12 +16,12 @@ use std::alloc::{AllocError, Global};
 
 // The reducer that a place means.
 fn number(sight: &Sight, place: ReducerPlace) -> ReducerNumber
-    ensures { result ≡ reducer_in (homes_of sight.now) sight.now.given.items place }
+    ensures { result ≡ reducer_in (layouts_of sight.now) sight.now.given.items place }
 {
     match place {
         ReducerPlace::Global(number) => global(number),
-        ReducerPlace::Own(up, number) => match sight.home(up) {
-            Some(home) => own(home, number),
+        ReducerPlace::Own(up, number) => match sight.layout(up) {
+            Some(layout) => own(layout, number),
             None => global(number),
         },
         ReducerPlace::Given(up, number) => {
@@ -45,12 +45,12 @@ fn global(number: u32) -> ReducerNumber
 }
 
 // A reducer that a frame creates for itself.
-fn own(home: Home, number: u32) -> ReducerNumber
-    ensures { result ≡ own_reducer home number }
+fn own(layout: FrameLayout, number: u32) -> ReducerNumber
+    ensures { result ≡ own_reducer layout number }
 {
     ReducerNumber {
-        frame: home.frame,
-        place: u64::from(home.before) + u64::from(number) + 1,
+        frame: layout.frame,
+        place: u64::from(layout.before) + u64::from(number) + 1,
     }
 }
 
@@ -70,7 +70,7 @@ pub(crate) fn given_to(
     sight: &Sight,
     reducers: &[Reducer],
 ) -> Result<Vec<ReducerNumber>, AllocError>
-    ensures { IfOk result (λ v. v.items ≡ map (λ (r : Reducer). reducer_in (homes_of sight.now) sight.now.given.items r.place) reducers.now) }
+    ensures { IfOk result (λ v. v.items ≡ map (λ (r : Reducer). reducer_in (layouts_of sight.now) sight.now.given.items r.place) reducers.now) }
 {
     let mut numbers = Vec::new(alloc);
     'each: for reducer in reducers {
@@ -82,7 +82,7 @@ pub(crate) fn given_to(
 /// Returns the reducers that were passed to a function, for a loop in its body.
 pub(crate) fn given_outer(
     alloc: Global,
-    outer: &[Home],
+    outer: &[FrameLayout],
     given: &[ReducerNumber],
 ) -> Result<Vec<ReducerNumber>, AllocError>
     ensures { IfOk result (λ v. v.items ≡ outer_given outer.now given.now) }
@@ -96,7 +96,7 @@ pub(crate) fn given_outer(
 
 /// Returns the reducer that a frame with this sight requests.
 pub(crate) fn reducer_asked(sight: &Sight, asked: &AskSlot) -> ReducerNumber
-    ensures { result ≡ reducer_asked (homes_of sight.now) sight.now.given.items asked.now }
+    ensures { result ≡ reducer_asked (layouts_of sight.now) sight.now.given.items asked.now }
 {
     match asked.small_ask() {
         Some(SmallAsk::Create(reducer))
@@ -108,12 +108,12 @@ pub(crate) fn reducer_asked(sight: &Sight, asked: &AskSlot) -> ReducerNumber
 }
 
 /// Returns whether a requested reducer is the plan's.
-pub(crate) fn look_at_reducer(found: ReducerNumber, instance: Instance) -> Looked
-    ensures { LooksAtReducer found instance result }
+pub(crate) fn reducer_matches(found: ReducerNumber, instance: Instance) -> PlanMatch
+    ensures { MatchesReducer found instance result }
 {
     if found.frame == instance.frame && found.place == u64::from(instance.place) {
-        Looked::Asked
+        PlanMatch::Follows
     } else {
-        Looked::Differs
+        PlanMatch::Departs
     }
 }

@@ -5,10 +5,10 @@ ghost use Rattle.cilk_types.specs.declared.invocation.Invocation.{Invocation};
 ghost use Rattle.cilk_program.specs.declared.ask.Ask.TheVariants.{Invoke};
 ghost use Rattle.cilk_program.specs.declared.ask.Callee.{Callee};
 ghost use Rattle.cilk_program.specs.declared.ask.Callee.TheVariants.{Root};
-ghost use Rattle.cilk_replay.specs.Sights.{IsSightOf, LooksAt, cell_asked, found_global, found_in, found_inside, homes_of, number_taking};
+ghost use Rattle.cilk_replay.specs.Sights.{IsSightOf, MatchesCell, cell_asked, found_global, found_in, found_inside, layouts_of, number_taking};
 
-use crate::home::{CellBlock, Home, ReducerNumber};
-use crate::looked::Looked;
+use crate::frame_layout::{CellBlock, FrameLayout, ReducerNumber};
+use crate::plan_match::PlanMatch;
 use crate::reducer::{given_outer, given_to};
 use cilk_frames::asked::AskSlot;
 use cilk_frames::small_ask::SmallAsk;
@@ -16,44 +16,44 @@ use cilk_program::syntax::Place;
 use cilk_types::event::Cell;
 use std::alloc::{AllocError, Global};
 
-/// The sight of a frame: its own home; by its static links, the homes of the frames around it; the
+/// The sight of a frame: its own layout; by its static links, the layouts of the frames around it; the
 /// reducers that were passed to its function or to the function around it; and the number of the
 /// cell that receives its result. A cell that the plan's run doesn't have has no number.
 #[derive(Drop)]
 pub struct Sight {
-    pub own: Home,
-    pub outer: Vec<Home>,
+    pub own: FrameLayout,
+    pub outer: Vec<FrameLayout>,
     pub given: Vec<ReducerNumber>,
     pub result: Option<u64>,
 }
 
 impl Sight {
     /// Returns the sight of the root's frame.
-    pub fn root(alloc: Global, globals: usize, home: Home) -> Sight
-        ensures homes { homes_of result ≡ home ∷ [] }
+    pub fn root(alloc: Global, globals: usize, layout: FrameLayout) -> Sight
+        ensures layouts { layouts_of result ≡ layout ∷ [] }
         ensures given { result.given.items ≡ [] }
         ensures result { result.result ≡ found_global globals 0 }
     {
         Sight {
-            own: home,
+            own: layout,
             outer: Vec::new(alloc),
             given: Vec::new(alloc),
             result: global(globals, 0),
         }
     }
 
-    /// Returns the sight of the child that a frame requests. `home` is the child's, and `caller` is
+    /// Returns the sight of the child that a frame requests. `layout` is the child's, and `caller` is
     /// the requesting frame's sight.
     pub fn begun(
         alloc: Global,
         globals: usize,
-        home: Home,
+        layout: FrameLayout,
         caller: &Sight,
         asked: &AskSlot,
     ) -> Result<Sight, AllocError>
         requires { (how : Invocation) × (callee : Callee) × (callee ≢ Root) × (asked.now ≡ Invoke how callee) }
         ensures { IfOk result (λ s. (how : Invocation) (callee : Callee) → asked.now ≡ Invoke how callee
-            → IsSightOf globals callee home caller.now s) }
+            → IsSightOf globals callee layout caller.now s) }
     {
         match asked.small_ask() {
             None => {
@@ -61,7 +61,7 @@ impl Sight {
                 let result = caller.taking(globals, call.result);
                 let given = given_to(alloc, caller, call.reducers.as_slice())?;
                 Ok(Sight {
-                    own: home,
+                    own: layout,
                     outer: Vec::new(alloc),
                     given,
                     result,
@@ -72,7 +72,7 @@ impl Sight {
                 let outer = caller.outer(alloc, part.up)?;
                 let given = given_outer(alloc, &outer, &caller.given)?;
                 Ok(Sight {
-                    own: home,
+                    own: layout,
                     outer,
                     given,
                     result,
@@ -82,9 +82,9 @@ impl Sight {
         }
     }
 
-    // The homes `up` static links out and further out.
-    fn outer(&self, alloc: Global, up: u32) -> Result<Vec<Home>, AllocError>
-        ensures { IfOk result (λ v. v.items ≡ drop up (homes_of self.now)) }
+    // The layouts `up` static links out and further out.
+    fn outer(&self, alloc: Global, up: u32) -> Result<Vec<FrameLayout>, AllocError>
+        ensures { IfOk result (λ v. v.items ≡ drop up (layouts_of self.now)) }
     {
         let mut outer = Vec::new(alloc);
         if up == 0 {
@@ -96,9 +96,9 @@ impl Sight {
         Ok(outer)
     }
 
-    /// Returns the home `up` static links out.
-    pub(crate) fn home(&self, up: u32) -> Option<Home>
-        ensures { result ≡ slice_get (homes_of self.now) up }
+    /// Returns the layout `up` static links out.
+    pub(crate) fn layout(&self, up: u32) -> Option<FrameLayout>
+        ensures { result ≡ slice_get (layouts_of self.now) up }
     {
         if up == 0 {
             return Some(self.own);
@@ -108,12 +108,12 @@ impl Sight {
 
     // The number of the cell that a place means.
     fn number(&self, globals: usize, place: Place) -> Option<u64>
-        ensures { result ≡ found_in globals (homes_of self.now) place }
+        ensures { result ≡ found_in globals (layouts_of self.now) place }
     {
         match place {
             Place::Global(number) => global(globals, number),
-            Place::Local(up, number) => match self.home(up) {
-                Some(home) => inside(home.block, number),
+            Place::Local(up, number) => match self.layout(up) {
+                Some(layout) => inside(layout.block, number),
                 None => global(globals, number),
             },
         }
@@ -121,7 +121,7 @@ impl Sight {
 
     // The number of the cell that receives a result.
     fn taking(&self, globals: usize, place: Option<Place>) -> Option<u64>
-        ensures { result ≡ number_taking globals (homes_of self.now) place }
+        ensures { result ≡ number_taking globals (layouts_of self.now) place }
     {
         match place {
             Some(place) => self.number(globals, place),
@@ -130,11 +130,11 @@ impl Sight {
     }
 }
 
-// The homes from `first` on.
-fn behind(homes: &[Home], first: u32) -> &[Home]
-    ensures { result.now ≡ drop first homes.now }
+// The layouts from `first` on.
+fn behind(layouts: &[FrameLayout], first: u32) -> &[FrameLayout]
+    ensures { result.now ≡ drop first layouts.now }
 {
-    homes.get(first as usize..).unwrap_or(&[])
+    layouts.get(first as usize..).unwrap_or(&[])
 }
 
 fn global(globals: usize, number: u32) -> Option<u64>
@@ -171,11 +171,11 @@ pub(crate) fn cell_asked(globals: usize, sight: &Sight, asked: &AskSlot) -> Opti
 }
 
 /// Returns whether a requested cell is the plan's.
-pub(crate) fn look_at_cell(found: Option<u64>, cell: Cell) -> Looked
-    ensures { LooksAt found cell result }
+pub(crate) fn cell_matches(found: Option<u64>, cell: Cell) -> PlanMatch
+    ensures { MatchesCell found cell result }
 {
     match found {
-        Some(number) if number == u64::from(cell) => Looked::Asked,
-        _ => Looked::Differs,
+        Some(number) if number == u64::from(cell) => PlanMatch::Follows,
+        _ => PlanMatch::Departs,
     }
 }

@@ -4,14 +4,14 @@ use Rattle.std.proofs.Crossing.{crosses}
 use Rattle.cilk_hypermap.proofs.hypermap.Hypermap.TheSendSync as hypermap
 use Rattle.cilk_shared.proofs.yard.Segment.TheSendSync as segment
 use Rattle.cilk_frames.proofs.asked.AskSlot.TheSendSync as asked
-use Rattle.cilk_replay.proofs.level.Level.TheSendSync as level
-use Rattle.cilk_replay.proofs.course.FrameHome.TheSendSync as home
+use Rattle.cilk_replay.proofs.replay_frame.ReplayFrame.TheSendSync as replay_frame
+use Rattle.cilk_replay.proofs.replay.FrameEntry.TheSendSync as entry
 use Rattle.cilk_lower.proofs.code.Code.TheSendSync as code
 use Rattle.cilk_tree.proofs.kind.Kind.TheSendSync as kind
 use Rattle.cilk_types.proofs.input.Input.TheSendSync as input
 use Rattle.cilk_shared.specs.contracts.piece.Piece as Piece
 use Rattle.cilk_tree.specs.contracts.plan.Plan as Plan
-use Rattle.cilk_replay.specs.contracts.course.Course as Course
+use Rattle.cilk_replay.specs.contracts.replay.Replay as Replay
 use Rattle.cilk_replay.specs.contracts.chain.Chain as Chain
 use Rattle.cilk_replay.specs.contracts.chain.Rest as Rest
 use Rattle.cilk_replay.specs.contracts.chain.Task as Task
@@ -23,10 +23,10 @@ pub piece_send : IsSend Piece.the_row
 piece_send = search (hypermap.the_field_send, segment.the_send, sendable, crosses) depth 20
 
 pub chain_send : IsSend Chain.the_row
-chain_send = search (asked.the_send, level.the_send, level.the_field_send, sendable, crosses) depth 20
+chain_send = search (asked.the_send, replay_frame.the_send, replay_frame.the_field_send, sendable, crosses) depth 20
 
 rest_send : IsSend Rest.the_row
-rest_send = search (level.the_send, level.the_field_send, sendable, crosses) depth 20
+rest_send = search (replay_frame.the_send, replay_frame.the_field_send, sendable, crosses) depth 20
 
 pub task_send : IsSend Task.the_row
 task_send = search (rest_send, sendable, crosses) depth 20
@@ -43,5 +43,5 @@ shelf_send = search (box_send, sendable, crosses) depth 20
 pub plan_sync : IsSync Plan.the_row
 plan_sync = search (kind.the_field_sync, sendable, crosses) depth 20
 
-pub course_sync : IsSync Course.the_row
-course_sync = search (code.the_sync, input.the_sync, home.the_field_sync, sendable, crosses) depth 20
+pub replay_sync : IsSync Replay.the_row
+replay_sync = search (code.the_sync, input.the_sync, entry.the_field_sync, sendable, crosses) depth 20

@@ -14,7 +14,7 @@ use Rattle.cilk_tree.specs.Along.{IsAlong}
 use Rattle.cilk_shared.specs.Values.{YardValue}
 use Rattle.cilk_shared.specs.Pieces.{PieceValue}
 use Rattle.cilk_shared.specs.declared.reducers.Reducers.{Reducers}
-use Rattle.cilk_replay.specs.Courses.{CourseValue}
+use Rattle.cilk_replay.specs.Replays.{ReplayValue}
 use Rattle.cilk_checker.specs.Determinate.{AcceptedRun}
 use Rattle.cilk_runs.specs.Traces.{trace}
 use Rattle.cilk_runs.specs.Steps.{result_in}
@@ -39,7 +39,7 @@ pub syncs_along : (plan s : EventOrder) → IsAlong plan s → (ats : List ℕ) 
 syncs_along plan s along ats h k d lt = sync_along s.events plan.events along.kinds _ (ends_are_syncs plan ats h k d lt)
 
 -- the whole run's piece is that of the yard's events
-pub whole_of : (y : YardValue) (r : Reducers) (c : CourseValue) (p : Source) (own inputs : List ℤ) (s : SharedValue) (x : PieceValue) (v : ℤ)
+pub whole_of : (y : YardValue) (r : Reducers) (c : ReplayValue) (p : Source) (own inputs : List ℤ) (s : SharedValue) (x : PieceValue) (v : ℤ)
     → s ≡ shared_with y r c → source c.program ≡ p → c.own ≡ own → c.inputs ≡ inputs → IsWhole s x v → IsWholeOf p own inputs y r x v
 whole_of y r c p own inputs s x v is program owned input h = record {
   good = ended.0.good;

@@ -34,4 +34,4 @@ module _ {N Q A : Type 0} where
   -- a worker begins with its own rack, the stealers of the other racks, a key of each lock, and its
   -- piece
   abbrev pub IsWorkerSeed : SharedValue → List (Slotted (Option Shelf) (Doing Shelf (Unit {0})) Q A) → WorkerSeed N → Type 0
-  IsWorkerSeed y doors k = IsRack k.rack × All IsTake k.takes.items × AreKeys doors k.keys.items × Begins y k.piece k.chain
+  IsWorkerSeed y locks k = IsRack k.rack × All IsTake k.takes.items × AreKeys locks k.keys.items × Begins y k.piece k.chain

@@ -10,7 +10,7 @@ ghost use Rattle.cilk_workers.specs.Names.{IsName};
 ghost use Rattle.cilk_threads.specs.WorkerSeeds.{Begins, IsWorkerSeed, IsRack, IsTake};
 
 use crate::layout::Layout;
-use crate::seeds::{Take, WorkerSeed, doors, ends, racks, seeds, shelves};
+use crate::seeds::{Take, WorkerSeed, ends, locks, racks, seeds, shelves};
 use cilk_replay::chain::Chain;
 use cilk_shared::piece::Piece;
 use cilk_workers::activity::{Activity, Blocks, ExitReason, Tools};
@@ -55,7 +55,7 @@ pub fn worker<'a, N: Naming, R: Wait, G: Gate>(
     rt: &R,
     alloc: Global,
     shared: &Shared<'_>,
-    doors: &'a Vec<Lock<N>>,
+    locks: &'a Vec<Lock<N>>,
     layout: &'a Layout<'a>,
     gate: &'a G,
     stop: &AtomicBool,
@@ -66,8 +66,8 @@ pub fn worker<'a, N: Naming, R: Wait, G: Gate>(
     piece: Piece,
     chain: Option<Chain>,
 ) -> ExitReason
-    requires name { IsName N.run N.course N.taken shared.now }
-    requires keys { AreKeys doors.now.items keys.items }
+    requires name { IsName N.run N.replay N.taken shared.now }
+    requires keys { AreKeys locks.now.items keys.items }
     requires syncs { AreSyncs shared.now layout.now.syncs.now }
     requires rack { IsRack rack }
     requires takes { All IsTake takes.items }
@@ -90,7 +90,7 @@ pub fn worker<'a, N: Naming, R: Wait, G: Gate>(
         alloc,
         shared,
         blocks: Blocks {
-            doors,
+            locks,
             syncs: layout.syncs,
             of: layout.of,
         },
@@ -157,15 +157,15 @@ fn joined<'a, 'b, R: Threads>(
 // Pops the last worker seed.
 fn last_seed<N: Naming>(
     shared: &Shared<'_>,
-    doors: &Vec<Lock<N>>,
+    locks: &Vec<Lock<N>>,
     seeds: &mut Vec<WorkerSeed<N>>,
 ) -> Option<WorkerSeed<N>>
-    requires { All (IsWorkerSeed shared.now doors.now.items) seeds.old.items }
-    ensures rest { All (IsWorkerSeed shared.now doors.now.items) seeds.new.items }
-    ensures one { IfSome result (IsWorkerSeed shared.now doors.now.items) }
+    requires { All (IsWorkerSeed shared.now locks.now.items) seeds.old.items }
+    ensures rest { All (IsWorkerSeed shared.now locks.now.items) seeds.new.items }
+    ensures one { IfSome result (IsWorkerSeed shared.now locks.now.items) }
 {
     let _ = shared;
-    let _ = doors;
+    let _ = locks;
     seeds.pop()
 }
 
@@ -174,29 +174,29 @@ fn pool<'a, 'b, N: Naming + Send + Sync, R: Threads + Wait + Sync, G: Gate + Syn
     rt: &R,
     alloc: Global,
     shared: &'a Shared<'b>,
-    doors: &'a Vec<Lock<N>>,
+    locks: &'a Vec<Lock<N>>,
     layout: &'a Layout<'a>,
     gate: &'a G,
     stop: &'a AtomicBool,
     seeds: Vec<WorkerSeed<N>>,
 ) -> Result<ExitReason, AllocError>
-    requires name { IsName N.run N.course N.taken shared.now }
+    requires name { IsName N.run N.replay N.taken shared.now }
     requires strands { AreFirsts shared.now.run.event_order.events layout.now.strands.now }
     requires syncs { AreSyncs shared.now layout.now.syncs.now }
-    requires seeds { All (IsWorkerSeed shared.now doors.now.items) seeds.items }
+    requires seeds { All (IsWorkerSeed shared.now locks.now.items) seeds.items }
     ensures { IfOk result (IsExitReason shared.now) }
 {
     thread::scope(
         thread::scope_env(),
         rt,
         |scope| -> Result<ExitReason, AllocError>
-            requires { IsSync R.row × IsSync G.row × IsSend N.row × IsSync N.row × IsName N.run N.course N.taken shared.now × AreFirsts shared.now.run.event_order.events layout.now.strands.now × AreSyncs shared.now layout.now.syncs.now × All (IsWorkerSeed shared.now doors.now.items) seeds.items }
+            requires { IsSync R.row × IsSync G.row × IsSend N.row × IsSync N.row × IsName N.run N.replay N.taken shared.now × AreFirsts shared.now.run.event_order.events layout.now.strands.now × AreSyncs shared.now layout.now.syncs.now × All (IsWorkerSeed shared.now locks.now.items) seeds.items }
             ensures { IfOk result (IsExitReason shared.entry.now) }
         {
             let mut seeds = seeds;
             let mut handles = Vec::with_capacity(alloc, seeds.len())?;
             'each: for _ in 0..seeds.len() {
-                let Some(seed) = last_seed::<N>(shared, doors, &mut seeds) else {
+                let Some(seed) = last_seed::<N>(shared, locks, &mut seeds) else {
                     break;
                 };
                 let WorkerSeed {
@@ -209,7 +209,7 @@ fn pool<'a, 'b, N: Naming + Send + Sync, R: Threads + Wait + Sync, G: Gate + Syn
                 } = seed;
                 let started = scope.spawn_with(Ends { shared: &*shared }, move || {
                     worker::<N, R, G>(
-                        rt, alloc, shared, doors, layout, gate, stop, number, rack, takes, keys,
+                        rt, alloc, shared, locks, layout, gate, stop, number, rack, takes, keys,
                         piece, chain,
                     )
                 });
@@ -226,7 +226,7 @@ fn pool<'a, 'b, N: Naming + Send + Sync, R: Threads + Wait + Sync, G: Gate + Syn
 }
 
 /// Runs `count` workers, and returns their best exit reason. The first of them begins with `work`.
-pub fn crewed<N: Naming + Send + Sync, R: Threads + Wait + Sync, G: Gate + Sync>(
+pub fn run_workers<N: Naming + Send + Sync, R: Threads + Wait + Sync, G: Gate + Sync>(
     rt: &R,
     alloc: Global,
     shared: &Shared<'_>,
@@ -235,16 +235,16 @@ pub fn crewed<N: Naming + Send + Sync, R: Threads + Wait + Sync, G: Gate + Sync>
     work: Work,
     count: u32,
 ) -> Result<ExitReason, AllocError>
-    requires name { IsName N.run N.course N.taken shared.now }
+    requires name { IsName N.run N.replay N.taken shared.now }
     requires syncs { AreSyncs shared.now layout.now.syncs.now }
     requires strands { AreFirsts shared.now.run.event_order.events layout.now.strands.now }
     requires works { Works shared.now work }
     ensures { IfOk result (IsExitReason shared.now) }
 {
-    let (doors, mut keys) = doors::<N, R>(rt, alloc, shared, shelves(layout.syncs.len()))?;
+    let (locks, mut keys) = locks::<N, R>(rt, alloc, shared, shelves(layout.syncs.len()))?;
     let mut racks = racks::<N>(alloc, count)?;
     let ends = ends::<N>(alloc, &mut racks)?;
-    let seeds = seeds::<N>(alloc, shared, &doors, &mut keys, racks, ends, work, count)?;
+    let seeds = seeds::<N>(alloc, shared, &locks, &mut keys, racks, ends, work, count)?;
     let stop = AtomicBool::new(false);
-    pool::<N, R, G>(rt, alloc, shared, &doors, layout, gate, &stop, seeds)
+    pool::<N, R, G>(rt, alloc, shared, &locks, layout, gate, &stop, seeds)
 }

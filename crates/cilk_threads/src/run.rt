@@ -10,7 +10,7 @@ ghost use Rattle.cilk_workers.specs.Names.{IsName};
 ghost use Rattle.cilk_threads.specs.Faults.{IsPool, IsTrueFault, number_of};
 
 use crate::layout::Layout;
-use crate::pool::crewed;
+use crate::pool::run_workers;
 use cilk_shared::piece::Piece;
 use cilk_types::event::Pos;
 use cilk_workers::activity::ExitReason;
@@ -65,7 +65,7 @@ fn run_as<N: Naming + Send + Sync, R: Threads + Wait + Sync, G: Gate + Sync>(
     work: Work,
     workers: u32,
 ) -> Result<(Piece, i64), ThreadFault>
-    requires name { IsName N.run N.course N.taken shared.now }
+    requires name { IsName N.run N.replay N.taken shared.now }
     requires syncs { All (λ at. event shared.now.run.event_order at ≡ Some Sync) layout.now.syncs.now }
     requires strands { AreFirsts shared.now.run.event_order.events layout.now.strands.now }
     requires works { Works shared.now work }
@@ -73,7 +73,7 @@ fn run_as<N: Naming + Send + Sync, R: Threads + Wait + Sync, G: Gate + Sync>(
     ensures ok { IfOk result (λ r. IsWhole shared.now r.0 r.1) }
     ensures err { IfErr result (IsTrueFault shared.now.run.event_order workers) }
 {
-    match crewed::<N, R, G>(rt, alloc, shared, layout, gate, work, workers) {
+    match run_workers::<N, R, G>(rt, alloc, shared, layout, gate, work, workers) {
         Ok(ExitReason::Whole(piece, value)) => Ok((piece, value)),
         Ok(ExitReason::Departed(at)) => Err(ThreadFault::Departs(at)),
         Ok(ExitReason::Stopped) | Err(_) => Err(ThreadFault::Memory),

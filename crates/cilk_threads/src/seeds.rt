@@ -43,53 +43,53 @@ pub fn shelves(blocks: usize) -> usize
 }
 
 /// Makes `count` locks, each with an empty shelf, and a first key of each.
-#[tactic(auto, using(cilk_workers::proofs::Keys::doors_more))]
-pub fn doors<N: Naming, R: Wait>(
+#[tactic(auto, using(cilk_workers::proofs::Keys::locks_more))]
+pub fn locks<N: Naming, R: Wait>(
     rt: &R,
     alloc: Global,
     shared: &Shared<'_>,
     count: usize,
 ) -> Result<(Vec<Lock<N>>, Vec<Key>), AllocError>
-    requires { IsName N.run N.course N.taken shared.now }
+    requires { IsName N.run N.replay N.taken shared.now }
     ensures { IfOk result (λ r. AreKeys r.0.items r.1.items) }
 {
     let mut all = Vec::new(alloc);
     let mut keys = Vec::new(alloc);
     'each: for _ in 0..count {
-        let first = Shelf::new(alloc, shared.yard(), shared.reducers(), shared.course());
-        let (door, key) = new_locked::<N, R>(rt, alloc, first)?;
-        all.push(door)?;
+        let first = Shelf::new(alloc, shared.yard(), shared.reducers(), shared.replay());
+        let (shelf_lock, key) = new_locked::<N, R>(rt, alloc, first)?;
+        all.push(shelf_lock)?;
         keys.push(key)?;
     }
     Ok((all, keys))
 }
 
 // The key of a lock for one more worker.
-fn one_more<N: Naming>(doors: &Vec<Lock<N>>, keys: &mut Vec<Key>, at: usize) -> Key
-    requires keys { AreKeys doors.now.items keys.old.items }
-    requires at { at < length doors.now.items }
-    ensures keys { AreKeys doors.now.items keys.new.items }
-    ensures one { IsKeyAt doors.now.items at result }
+fn one_more<N: Naming>(locks: &Vec<Lock<N>>, keys: &mut Vec<Key>, at: usize) -> Key
+    requires keys { AreKeys locks.now.items keys.old.items }
+    requires at { at < length locks.now.items }
+    ensures keys { AreKeys locks.now.items keys.new.items }
+    ensures one { IsKeyAt locks.now.items at result }
 {
-    let door = &doors[at];
+    let shelf_lock = &locks[at];
     let key = &mut keys[at];
-    another(door, key)
+    another(shelf_lock, key)
 }
 
 /// Makes the keys for one more worker, one for each lock.
 #[tactic(auto, using(cilk_workers::proofs::Keys::keys_more, cilk_workers::proofs::Keys::keys_all))]
 pub fn more<N: Naming>(
     alloc: Global,
-    doors: &Vec<Lock<N>>,
+    locks: &Vec<Lock<N>>,
     keys: &mut Vec<Key>,
 ) -> Result<Vec<Key>, AllocError>
-    requires { AreKeys doors.now.items keys.old.items }
-    ensures old { AreKeys doors.now.items keys.new.items }
-    ensures new { IfOk result (λ v. AreKeys doors.now.items v.items) }
+    requires { AreKeys locks.now.items keys.old.items }
+    ensures old { AreKeys locks.now.items keys.new.items }
+    ensures new { IfOk result (λ v. AreKeys locks.now.items v.items) }
 {
     let mut all = Vec::new(alloc);
-    'each: for at in 0..doors.len() {
-        all.push(one_more::<N>(doors, keys, at))?;
+    'each: for at in 0..locks.len() {
+        all.push(one_more::<N>(locks, keys, at))?;
     }
     Ok(all)
 }
@@ -213,16 +213,16 @@ fn last_ends<N: Naming>(ends: &mut Vec<Vec<Take<N>>>) -> Option<Vec<Take<N>>>
 // Appends a worker seed.
 fn equip<N: Naming>(
     shared: &Shared<'_>,
-    doors: &Vec<Lock<N>>,
+    locks: &Vec<Lock<N>>,
     seeds: &mut Vec<WorkerSeed<N>>,
     seed: WorkerSeed<N>,
 ) -> Result<(), AllocError>
-    requires seeds { All (IsWorkerSeed shared.now doors.now.items) seeds.old.items }
-    requires seed { IsWorkerSeed shared.now doors.now.items seed }
-    ensures { OnOk result (All (IsWorkerSeed shared.now doors.now.items) seeds.new.items) }
+    requires seeds { All (IsWorkerSeed shared.now locks.now.items) seeds.old.items }
+    requires seed { IsWorkerSeed shared.now locks.now.items seed }
+    ensures { OnOk result (All (IsWorkerSeed shared.now locks.now.items) seeds.new.items) }
 {
     let _ = shared;
-    let _ = doors;
+    let _ = locks;
     seeds.push(seed)?;
     Ok(())
 }
@@ -231,17 +231,17 @@ fn equip<N: Naming>(
 pub fn seeds<N: Naming>(
     alloc: Global,
     shared: &Shared<'_>,
-    doors: &Vec<Lock<N>>,
+    locks: &Vec<Lock<N>>,
     keys: &mut Vec<Key>,
     mut racks: Vec<Rack<N>>,
     mut ends: Vec<Vec<Take<N>>>,
     work: Work,
     count: u32,
 ) -> Result<Vec<WorkerSeed<N>>, AllocError>
-    requires keys { AreKeys doors.now.items keys.old.items }
+    requires keys { AreKeys locks.now.items keys.old.items }
     requires ends { All (λ ts. All IsTake ts.items) ends.items }
     requires work { Works shared.now work }
-    ensures { IfOk result (λ v. All (IsWorkerSeed shared.now doors.now.items) v.items) }
+    ensures { IfOk result (λ v. All (IsWorkerSeed shared.now locks.now.items) v.items) }
 {
     let (work, mut spare) = parted(alloc, shared, work);
     let mut first = Some(work);
@@ -253,7 +253,7 @@ pub fn seeds<N: Naming>(
         let Some(rack) = racks.pop() else {
             break;
         };
-        let keys = more::<N>(alloc, doors, keys)?;
+        let keys = more::<N>(alloc, locks, keys)?;
         let (piece, chain, rest) = begins(alloc, shared, spare, first);
         spare = rest;
         first = None;
@@ -265,7 +265,7 @@ pub fn seeds<N: Naming>(
             piece,
             chain,
         };
-        equip::<N>(shared, doors, &mut all, seed)?;
+        equip::<N>(shared, locks, &mut all, seed)?;
     }
     Ok(all)
 }

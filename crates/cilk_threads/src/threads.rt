@@ -1,7 +1,7 @@
 //! A run of an accepted program by several workers, on an input.
 
 ghost use Rattle.std.specs.Prelude.{◌≡◌, IfOk, IfErr};
-ghost use Rattle.cilk_plan.specs.Courses.{IsCourseOn};
+ghost use Rattle.cilk_plan.specs.Replays.{IsReplayOn};
 ghost use Rattle.cilk_shared.specs.Reducers.{HasFew};
 ghost use Rattle.cilk_tree.specs.Along.{IsAlong};
 ghost use Rattle.cilk_plan.specs.Plans.{IsEventOrderOn};
@@ -17,13 +17,13 @@ use crate::outcome::outcome;
 use crate::run::{MAX_WORKERS, ThreadFault, run};
 use crate::table::plan_reducers;
 use cilk_determinacy::words::inputs_are_words;
-use cilk_plan::course::course;
 use cilk_plan::program_plan::ProgramPlan;
+use cilk_plan::replay::replay;
 use cilk_plan::yards::yard;
-use cilk_replay::course::Course;
 use cilk_replay::laws::{
     inputs_run_along, own_event_order, programs_have_one_course, runs_are_elided,
 };
+use cilk_replay::replay::Replay;
 use cilk_shared::piece::Piece;
 use cilk_shared::reducers::Reducers;
 use cilk_shared::yard::{Segment, Yard};
@@ -104,10 +104,10 @@ fn run_on<R: Threads + Wait + Sync, G: Gate + Sync>(
     accepted_event_orders_have_numbers();
     inputs_are_words(input);
     plan.laws();
-    let Ok(course) = course_on(alloc, plan, yard, input) else {
+    let Ok(replay) = replay_on(alloc, plan, yard, input) else {
         return Err(ThreadFault::Memory);
     };
-    let shared = Shared::new(yard, plan.events(), table, &course);
+    let shared = Shared::new(yard, plan.events(), table, &replay);
     let piece = Piece::new(alloc, yard, segment, table);
     let Ok(work) = first(alloc, &shared, piece) else {
         return Err(ThreadFault::Memory);
@@ -120,18 +120,18 @@ fn run_on<R: Threads + Wait + Sync, G: Gate + Sync>(
     run(rt, alloc, &shared, &layout, gate, work, workers)
 }
 
-// The course of the plan's run on the input.
-fn course_on(
+// The replay of the plan's run on the input.
+fn replay_on(
     alloc: Global,
     plan: &ProgramPlan<'_>,
     yard: &Yard,
     input: &Input,
-) -> Result<Course, AllocError>
+) -> Result<Replay, AllocError>
     requires { IsEventOrderOn plan.now.run plan.now.event_order.opening input.now yard.now.event_order }
-    ensures { IfOk result (λ c. IsCourseOn plan.now.run yard.now input.now c) }
+    ensures { IfOk result (λ c. IsReplayOn plan.now.run yard.now input.now c) }
 {
     let same = copied(alloc, input)?;
-    course(alloc, plan, yard, same)
+    replay(alloc, plan, yard, same)
 }
 
 // A copy of the input. No input has more than `MAX_INPUTS` numbers.

@@ -13,8 +13,8 @@ use cilk_replay::chain::{Chain, Task};
 use cilk_shared::piece::{Parts, Piece};
 use cilk_types::event::{Instance, Pos};
 use cilk_types::outcome::Final;
-use cilk_workers::doors::{Arrival, block_at, position};
 use cilk_workers::join::{Boxed, JoinBox};
+use cilk_workers::locks::{Arrival, block_at, position};
 use cilk_workers::shared::Shared;
 use cilk_workers::turn::{act, begin};
 use cilk_workers::work::{Turn, Work};
@@ -42,8 +42,8 @@ struct Stretch {
 fn made<R: Abort>(rt: &R, alloc: Global, shared: &Shared<'_>, mut work: Work) -> Stretch
     requires { Works shared.now work }
     ensures piece { IsGood shared.now.run result.piece }
-    ensures chain { IfSome result.chain (λ c. c ≡ standing shared.now.course result.piece.upto) }
-    ensures task { IfSome result.task (λ t. t.of ≡ shared.now.course) }
+    ensures chain { IfSome result.chain (λ c. c ≡ standing shared.now.replay result.piece.upto) }
+    ensures task { IfSome result.task (λ t. t.of ≡ shared.now.replay) }
 {
     let mut task = None;
     'each: for _ in 0..TURNS {
@@ -73,11 +73,11 @@ fn made<R: Abort>(rt: &R, alloc: Global, shared: &Shared<'_>, mut work: Work) ->
 }
 
 // A thief steals the continuation of a child's spawn.
-fn steal<R: Abort>(rt: &R, found: &mut JoinBox, key: Pos, goes_on: Pos)
-    ensures { (found.new.rows.of ≡ found.old.rows.of) × (found.new.course ≡ found.old.course) }
+fn record_steal<R: Abort>(rt: &R, found: &mut JoinBox, key: Pos, goes_on: Pos)
+    ensures { (found.new.rows.of ≡ found.old.rows.of) × (found.new.replay ≡ found.old.replay) }
 {
     assert!(rt; found.open(key, goes_on));
-    assert!(rt; found.steal(key, goes_on).is_ok());
+    assert!(rt; found.record_steal(key, goes_on).is_ok());
 }
 
 // The arrival of a child's piece, and the work of the thief that steals the continuation.
@@ -89,8 +89,8 @@ fn child<R: Abort>(
     begun: Stretch,
 ) -> (Arrival, Work)
     requires piece { IsGood shared.now.run begun.piece }
-    requires task { IfSome begun.task (λ t. t.of ≡ shared.now.course) }
-    ensures same { (found.new.rows.of ≡ found.old.rows.of) × (found.new.course ≡ found.old.course) }
+    requires task { IfSome begun.task (λ t. t.of ≡ shared.now.replay) }
+    ensures same { (found.new.rows.of ≡ found.old.rows.of) × (found.new.replay ≡ found.old.replay) }
     ensures piece { IsGood shared.now.run result.0.piece }
     ensures chain { result.0.chain ≡ None }
     ensures works { Works shared.now result.1 }
@@ -104,7 +104,7 @@ fn child<R: Abort>(
         panic!(rt; "no task");
     };
     let by = task.ticket();
-    steal(rt, found, by, task.at());
+    record_steal(rt, found, by, task.at());
     let (piece, spare) = piece.apart(alloc, shared.yard(), shared.reducers());
     let Ok(work) = begin(shared, spare, task) else {
         panic!(rt; "not taken");
@@ -127,17 +127,17 @@ fn prints(piece: Piece, numbers: &[i64]) -> bool {
 
 // A piece arrives at the box. Returns the number of pieces that the box keeps. Returns `None` if
 // the block passes; then all output up to the `sync` is in the run's order.
-fn come<R: Abort>(
+fn arrive<R: Abort>(
     rt: &R,
     alloc: Global,
     shared: &Shared<'_>,
     found: &mut JoinBox,
     arrival: Arrival,
 ) -> Option<usize>
-    requires run { (found.old.rows.of ≡ shared.now.run) × (found.old.course ≡ shared.now.course) }
+    requires run { (found.old.rows.of ≡ shared.now.run) × (found.old.replay ≡ shared.now.replay) }
     requires piece { IsGood shared.now.run arrival.piece }
-    requires chain { IfSome arrival.chain (λ c. c ≡ standing shared.now.course arrival.piece.upto) }
-    ensures same { (found.new.rows.of ≡ found.old.rows.of) × (found.new.course ≡ found.old.course) }
+    requires chain { IfSome arrival.chain (λ c. c ≡ standing shared.now.replay arrival.piece.upto) }
+    ensures same { (found.new.rows.of ≡ found.old.rows.of) × (found.new.replay ≡ found.old.replay) }
 {
     let Arrival { by, piece, chain } = arrival;
     assert!(rt; found.fits(by, &piece, chain.is_some()));
@@ -156,14 +156,14 @@ fn come<R: Abort>(
 fn box_of(alloc: Global, shared: &Shared<'_>, blocks: &Blocks<'_>, block: usize) -> JoinBox
     requires syncs { AreSyncs shared.now blocks.now.syncs.now }
     requires block { block < length blocks.now.syncs.now }
-    ensures { (result.rows.of ≡ shared.now.run) × (result.course ≡ shared.now.course) }
+    ensures { (result.rows.of ≡ shared.now.run) × (result.replay ≡ shared.now.replay) }
 {
     let sync = position(blocks.syncs, block);
     JoinBox::new(
         alloc,
         shared.yard(),
         shared.reducers(),
-        shared.course(),
+        shared.replay(),
         sync,
     )
 }
@@ -177,7 +177,7 @@ fn box_at<R: Abort>(
     at: Pos,
 ) -> JoinBox
     requires { AreSyncs shared.now blocks.now.syncs.now }
-    ensures { (result.rows.of ≡ shared.now.run) × (result.course ≡ shared.now.course) }
+    ensures { (result.rows.of ≡ shared.now.run) × (result.replay ≡ shared.now.replay) }
 {
     let Some(block) = block_at(blocks.of, at, blocks.syncs.len()) else {
         panic!(rt; "no block");
@@ -206,11 +206,11 @@ pub fn joined<R: Abort>(rt: &R, alloc: Global, shared: &Shared<'_>, blocks: &Blo
         task: _,
     } = made(rt, alloc, shared, work);
     let by = piece.upto();
-    assert!(rt; come(rt, alloc, shared, &mut found, fourth) == Some(1));
-    assert!(rt; come(rt, alloc, shared, &mut found, second) == Some(2));
-    assert!(rt; come(rt, alloc, shared, &mut found, third) == Some(1));
-    assert!(rt; come(rt, alloc, shared, &mut found, first) == Some(1));
-    assert!(rt; come(rt, alloc, shared, &mut found, Arrival { by, piece, chain }).is_none());
+    assert!(rt; arrive(rt, alloc, shared, &mut found, fourth) == Some(1));
+    assert!(rt; arrive(rt, alloc, shared, &mut found, second) == Some(2));
+    assert!(rt; arrive(rt, alloc, shared, &mut found, third) == Some(1));
+    assert!(rt; arrive(rt, alloc, shared, &mut found, first) == Some(1));
+    assert!(rt; arrive(rt, alloc, shared, &mut found, Arrival { by, piece, chain }).is_none());
     assert!(rt; !found.fresh(Pos::MAX) && !found.open(Pos::MAX, Pos::MAX));
 }
 

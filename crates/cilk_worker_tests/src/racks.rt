@@ -26,8 +26,8 @@ const NESTED: &str = "void c() { } \
 const TURNS: u32 = 20;
 
 fn put<N: Naming, R: Abort>(rt: &R, shared: &Shared<'_>, rack: &mut Rack<N>, task: Task)
-    requires name { IsName N.run N.course N.taken shared.now }
-    requires task { task.of ≡ shared.now.course }
+    requires name { IsName N.run N.replay N.taken shared.now }
+    requires task { task.of ≡ shared.now.replay }
 {
     let _ = shared;
     assert!(rt; rack.offer(task).is_ok());
@@ -41,7 +41,7 @@ fn offers<N: Naming, R: Abort>(
     rack: &mut Rack<N>,
     mut work: Work,
 )
-    requires name { IsName N.run N.course N.taken shared.now }
+    requires name { IsName N.run N.replay N.taken shared.now }
     requires works { Works shared.now work }
 {
     'each: for _ in 0..TURNS {
@@ -62,7 +62,7 @@ fn ticket(rt: &impl Abort, task: Option<Task>) -> Pos {
 
 /// Checks that three offered tasks are taken in the right order.
 pub fn taken<N: Naming, R: Abort>(rt: &R, alloc: Global, shared: &Shared<'_>, work: Work)
-    requires name { IsName N.run N.course N.taken shared.now }
+    requires name { IsName N.run N.replay N.taken shared.now }
     requires works { Works shared.now work }
 {
     let Ok(mut rack) = Rack::<N>::new(alloc, 1) else {

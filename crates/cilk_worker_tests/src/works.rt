@@ -11,8 +11,8 @@ use crate::boxes::joined;
 use crate::racks::taken;
 use crate::texts::{accepted, input_of, planned};
 use cilk_determinacy::words::inputs_are_words;
-use cilk_plan::course::course;
 use cilk_plan::program_plan::ProgramPlan;
+use cilk_plan::replay::replay;
 use cilk_plan::yards::yard;
 use cilk_shared::piece::Piece;
 use cilk_shared::reducers::Reducers;
@@ -62,10 +62,10 @@ fn tried_on<R: Abort>(
     accepted_event_orders_have_numbers();
     inputs_are_words(&input);
     plan.laws();
-    let Ok(course) = course(alloc, plan, yard, input) else {
-        panic!(rt; "no memory for the course");
+    let Ok(replay) = replay(alloc, plan, yard, input) else {
+        panic!(rt; "no memory for the replay");
     };
-    let shared = Shared::new(yard, plan.events(), table, &course);
+    let shared = Shared::new(yard, plan.events(), table, &replay);
     let piece = Piece::new(alloc, yard, segment, table);
     let Ok(work) = first(alloc, &shared, piece) else {
         panic!(rt; "no memory for a frame");

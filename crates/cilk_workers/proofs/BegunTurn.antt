@@ -29,7 +29,7 @@ use Rattle.cilk_determinacy.specs.Numbers.{cell_number, instance_number}
 use Rattle.cilk_determinacy.proofs.Determinate.{serial_numbered}
 use Rattle.cilk_workers.specs.Rows.{yard_of}
 use Rattle.cilk_replay.specs.Asking.{IsAnswered}
-use Rattle.cilk_replay.specs.Courses.{IsCourse, IsOfProgram, Setting, setting_of}
+use Rattle.cilk_replay.specs.Replays.{IsReplay, IsOfProgram, Setting, setting_of}
 use Rattle.cilk_replay.proofs.Going.{plan_event}
 use Rattle.cilk_shared.specs.Values.{YardValue}
 use Rattle.cilk_workers.specs.BegunTurn.{IsStart}
@@ -190,14 +190,14 @@ module _ (s : Setting) (h : IsOfProgram s) where
       (b.0, ap (λ (m : ℕ). kind_of_event (event event_order m)) (sym later) ∙ begins_there (suc (at - 1)) b.0 b.1)
 
 -- of what workers share
-module _ (y : SharedValue) (course : IsCourse y.course) (same : let u = y.course in u.yard ≡ yard_of y.run) where
+module _ (y : SharedValue) (replay : IsReplay y.replay) (same : let u = y.replay in u.yard ≡ yard_of y.run) where
   pub root_begins : (f : ℕ) × (kind_of_event (event (event_order_in y) 1) ≡ Some (kinds.Begin f))
-  root_begins = subst (λ (z : YardValue). (f : ℕ) × (kind_of_event (event z.event_order 1) ≡ Some (kinds.Begin f))) same (begins_first (setting_of y.course course.0) course.1)
+  root_begins = subst (λ (z : YardValue). (f : ℕ) × (kind_of_event (event z.event_order 1) ≡ Some (kinds.Begin f))) same (begins_first (setting_of y.replay replay.0) replay.1)
 
   pub child_begins : (at : ℕ) → 1 ≤ at → IsStart (event (event_order_in y) at) → (f : ℕ) × (kind_of_event (event (event_order_in y) (at + 1)) ≡ Some (kinds.Begin f))
   child_begins at some start =
       subst (λ (z : YardValue). (f : ℕ) × (kind_of_event (event z.event_order (at + 1)) ≡ Some (kinds.Begin f))) same
-      (begins_next (setting_of y.course course.0) course.1 at some (subst (λ (z : YardValue). IsStart (event z.event_order at)) (sym same) start))
+      (begins_next (setting_of y.replay replay.0) replay.1 at some (subst (λ (z : YardValue). IsStart (event z.event_order at)) (sym same) start))
 
 -- a spawn and a call start a child
 pub starts : (o : Option Event) (k : Kind) → kind_of_event o ≡ Some k → IsStartKind k → IsStart o
@@ -211,10 +211,10 @@ next_there s at Nothing (inr past) some within other = omega (arith, past, withi
 next_there s at (Next f k) h some within other = other f k refl
 
 -- the root's frame continues after its `begin`
-pub root_answered : (y : SharedValue) → IsCourse y.course → (let u = y.course in u.yard ≡ yard_of y.run) → IsOrderly (event_order_in y) → HasValues (event_order_in y) → IsAnswered (event_order_in y) 1 Done
-root_answered y course same order values =
+pub root_answered : (y : SharedValue) → IsReplay y.replay → (let u = y.replay in u.yard ≡ yard_of y.run) → IsOrderly (event_order_in y) → HasValues (event_order_in y) → IsAnswered (event_order_in y) 1 Done
+root_answered y replay same order values =
     let s = event_order_in y in
-    let b = root_begins y course same in
+    let b = root_begins y replay same in
     let e = with_kind (event s 1) (kinds.Begin b.0) b.1 in
     let some = order.root.1 in
     let more : 1 < length s.events = dite (dec_lt 1 (length s.events)) (λ (l : 1 < length s.events). l)

@@ -8,7 +8,7 @@
 use Rattle.std.proofs.Common.{◌≡◌, ℕ, nat_eq, Bool, if◌then◌else◌, true, false, true≢false, List, [], ◌∷◌, Option, Some, None, inl, inr, refl, sym, ap, ◌∙◌, subst}
 use Rattle.cilk_shared.specs.Pieces.{PieceValue}
 use Rattle.cilk_replay.specs.Chains.{ChainValue}
-use Rattle.cilk_replay.specs.Courses.{CourseValue}
+use Rattle.cilk_replay.specs.Replays.{ReplayValue}
 use Rattle.cilk_workers.specs.Rows.{Row, Run, Wait, Rows, row, rows, between, placed, placed_in, is_empty, IsGoodRun}
 use Rattle.cilk_workers.specs.declared.join.Boxed.TheVariants.{Passes}
 use Rattle.cilk_workers.specs.Answers.{Answers}
@@ -44,7 +44,7 @@ closed_some true c = refl
 closed_some false c = refl
 
 -- after an arrival
-pub closed_on : (j : BoxValue) (k : ℕ) (x : PieceValue) (gone : Bool) (old new : Option ChainValue) → IsClosed j.rows j.course j.sync old → j.closed ≡ closed_by gone old → MayArrive j k x new → IsClosed (placed_in j.rows k x) j.course j.sync (later old new)
+pub closed_on : (j : BoxValue) (k : ℕ) (x : PieceValue) (gone : Bool) (old new : Option ChainValue) → IsClosed j.rows j.replay j.sync old → j.closed ≡ closed_by gone old → MayArrive j k x new → IsClosed (placed_in j.rows k x) j.replay j.sync (later old new)
 closed_on j k x gone None None h is comes = tt
 closed_on j k x gone (Some c) None h is (inl stands) = (h.0, h.1, closes_on (let r = j.rows in let w = r.row in w.run) (let r = j.rows in let w = r.row in w.waits) k x j.sync stands h.2)
 closed_on j k x gone (Some c) None h is (inr fresh) = absurd (true≢false (sym (closed_some gone c) ∙ sym is ∙ fresh.0))
@@ -65,8 +65,8 @@ upto_is : (run : Run) (p : PieceValue) (s : ℕ) → run ≡ Some p → IsUpTo r
 upto_is run p s is h = subst (λ (o : Run). IsUpTo o s) is h
 
 -- the fields of a box
-abbrev pub box_of : Rows → CourseValue → ℕ → ℕ → ℕ → Bool → Option ChainValue → BoxValue
-box_of j u s stolen arrived gone chain = record { rows = j; course = u; sync = s; stolen = stolen; arrived = arrived; closed = closed_by gone chain }
+abbrev pub box_of : Rows → ReplayValue → ℕ → ℕ → ℕ → Bool → Option ChainValue → BoxValue
+box_of j u s stolen arrived gone chain = record { rows = j; replay = u; sync = s; stolen = stolen; arrived = arrived; closed = closed_by gone chain }
 
 -- where a key is awaited, or no chain is there, the block doesn't pass
 pub awaits : (closed : Bool) (run : Run) (ws : List Wait) → is_empty ws ≡ false → (if closed then (if is_empty ws then is_there run else false) else false) ≡ false
@@ -78,7 +78,7 @@ no_chain false j chain is h = ap (λ (o : Option ChainValue). if is_some o then 
 no_chain true j chain is h = ap (λ (r : Row). if is_empty r.waits then is_there r.run else false) h.0
 
 -- the one run comes out, with the chain
-pub passing : (j j' : Rows) (u : CourseValue) (s stolen arrived : ℕ) (gone : Bool) (chain chain' : Option ChainValue) (c : ChainValue) (p : PieceValue) → IsClosed j u s chain → (let r = j.row in is_empty r.waits ≡ true) → chain ≡ Some c
+pub passing : (j j' : Rows) (u : ReplayValue) (s stolen arrived : ℕ) (gone : Bool) (chain chain' : Option ChainValue) (c : ChainValue) (p : PieceValue) → IsClosed j u s chain → (let r = j.row in is_empty r.waits ≡ true) → chain ≡ Some c
     → Some p ≡ (let r = j.row in r.run) → j' ≡ rows j.of (row None (let r = j.row in r.waits)) → IsGoodRun j.of (Some p) → Answers (box_of j u s stolen arrived gone chain) (Passes p c) (box_of j' u s stolen arrived true chain')
 passing j j' u s stolen arrived gone chain chain' c p closed empty is out new good =
     let none : (let r = j.row in r.waits ≡ []) = empty_waits (let r = j.row in r.waits) empty in
@@ -91,7 +91,7 @@ passing j j' u s stolen arrived gone chain chain' c p closed empty is out new go
       (sym out, good, here.0),
       upto_is (let r = j.row in r.run) p s (sym out) upto,
       here.1,
-      (λ i. record { rows = (new ∙ ap (λ (ws : List Wait). rows j.of (row None ws)) none) i; course = u; sync = s; stolen = stolen; arrived = arrived; closed = sym has i }),
+      (λ i. record { rows = (new ∙ ap (λ (ws : List Wait). rows j.of (row None ws)) none) i; replay = u; sync = s; stolen = stolen; arrived = arrived; closed = sym has i }),
     )
 
 -- the row of a block that has passed

@@ -89,33 +89,33 @@ passes y p e good can is = (can, of_event_order (λ (s : EventOrder). event s p.
 -- ---- the chain
 
 -- a fact of the run's event order at the piece's end, for the chain
-pub on_chain : (P : EventOrder → ℕ → Type 0) (y : SharedValue) (w : Work) → Works y w → (let u = y.course in u.yard ≡ yard_of y.run) → (let p = w.piece in P (event_order_in y) p.upto)
+pub on_chain : (P : EventOrder → ℕ → Type 0) (y : SharedValue) (w : Work) → Works y w → (let u = y.replay in u.yard ≡ yard_of y.run) → (let p = w.piece in P (event_order_in y) p.upto)
     → (let k = w.chain in let u = k.of in let z = u.yard in P z.event_order k.at)
 on_chain P y w works same h =
     subst (λ (k : ChainValue). let u = k.of in let z = u.yard in P z.event_order k.at) (sym works.stands)
     (let p = w.piece in subst (λ (z : YardValue). P z.event_order p.upto) (sym same) h)
 
 -- and back
-pub off_chain : (P : EventOrder → ℕ → Type 0) (y : SharedValue) (w : Work) → Works y w → (let u = y.course in u.yard ≡ yard_of y.run) → (let k = w.chain in let u = k.of in let z = u.yard in P z.event_order k.at)
+pub off_chain : (P : EventOrder → ℕ → Type 0) (y : SharedValue) (w : Work) → Works y w → (let u = y.replay in u.yard ≡ yard_of y.run) → (let k = w.chain in let u = k.of in let z = u.yard in P z.event_order k.at)
     → (let p = w.piece in P (event_order_in y) p.upto)
 off_chain P y w works same h =
     let p = w.piece in
     subst (λ (z : YardValue). P z.event_order p.upto) same (subst (λ (k : ChainValue). let u = k.of in let z = u.yard in P z.event_order k.at) works.stands h)
 
 -- the same for a chain at that position
-pub on_standing : (P : EventOrder → ℕ → Type 0) (y : SharedValue) (k : ChainValue) (at : ℕ) → k ≡ standing y.course at → (let u = y.course in u.yard ≡ yard_of y.run) → P (event_order_in y) at
+pub on_standing : (P : EventOrder → ℕ → Type 0) (y : SharedValue) (k : ChainValue) (at : ℕ) → k ≡ standing y.replay at → (let u = y.replay in u.yard ≡ yard_of y.run) → P (event_order_in y) at
     → (let u = k.of in let z = u.yard in P z.event_order k.at)
 on_standing P y k at stands same h =
     subst (λ (c : ChainValue). let u = c.of in let z = u.yard in P z.event_order c.at) (sym stands)
     (subst (λ (z : YardValue). P z.event_order at) (sym same) h)
 
 -- and back
-pub off_standing : (P : EventOrder → ℕ → Type 0) (y : SharedValue) (k : ChainValue) (at : ℕ) → k ≡ standing y.course at → (let u = y.course in u.yard ≡ yard_of y.run)
+pub off_standing : (P : EventOrder → ℕ → Type 0) (y : SharedValue) (k : ChainValue) (at : ℕ) → k ≡ standing y.replay at → (let u = y.replay in u.yard ≡ yard_of y.run)
     → (let u = k.of in let z = u.yard in P z.event_order k.at) → P (event_order_in y) at
 off_standing P y k at stands same h =
     subst (λ (z : YardValue). P z.event_order at) same (subst (λ (c : ChainValue). let u = c.of in let z = u.yard in P z.event_order c.at) stands h)
 
-module _ (y : SharedValue) (w : Work) (k : Kind) (due : IsDue y w k) (more : HasMore y w) (same : let u = y.course in u.yard ≡ yard_of y.run) where
+module _ (y : SharedValue) (w : Work) (k : Kind) (due : IsDue y w k) (more : HasMore y w) (same : let u = y.replay in u.yard ≡ yard_of y.run) where
   -- the next event
   pub here : (v : ℤ) × (let p = w.piece in event (event_order_in y) p.upto ≡ Some (event_with k v))
   here = with_kind (event (event_order_in y) (let p = w.piece in p.upto)) k due.kind_is
@@ -160,7 +160,7 @@ can_take y z p ticket at same order asked is where_to =
     (λ q there. let one = order.once at q ticket is there in subst (λ (n : ℕ). IsAsked (event_order_in y) n × ((p.upto ≤ p.from) ⊎ ((p.from < p.upto) × (n ≡ p.upto)))) one (asked, where_to))
 
 -- the chain after the piece's next event
-pub moved : (y : SharedValue) (w : Work) (k : ChainValue) → Works y w → (let c = w.chain in k ≡ standing c.of (c.at + 1)) → (let p = w.piece in k ≡ standing y.course (p.upto + 1))
+pub moved : (y : SharedValue) (w : Work) (k : ChainValue) → Works y w → (let c = w.chain in k ≡ standing c.of (c.at + 1)) → (let p = w.piece in k ≡ standing y.replay (p.upto + 1))
 moved y w k works is = is ∙ ap (λ (c : ChainValue). standing c.of (c.at + 1)) works.stands
 
 abbrev pub IsTakenAt : YardValue → PieceValue → ℕ → PieceValue → Type 0
@@ -179,15 +179,15 @@ took y z w ticket q k same order works is (at, there, taken) stands =
     let one = there_alone y z ticket p.upto same order is at there in
     let is = taken ∙ taken_on p at good.1 one in
     let g = grown_good y p q good is in
-    (record { good = g.0; stands = moved y w k works stands ∙ ap (λ (n : ℕ). standing y.course n) (sym g.2) }, is)
+    (record { good = g.0; stands = moved y w k works stands ∙ ap (λ (n : ℕ). standing y.replay n) (sym g.2) }, is)
 
 -- an empty piece has taken a continuation
 pub began : (y : SharedValue) (z : YardValue) (p : PieceValue) (ticket at : ℕ) (q : PieceValue) (k : ChainValue) → z ≡ yard_of y.run → IsOrderly (event_order_in y) → OfRun y.run p → p.upto ≤ p.from
-    → what (event_order_in y) at ≡ resume ticket → IsTakenAt z p ticket q → k ≡ standing y.course (at + 1) → Works y (record { piece = q; chain = k })
+    → what (event_order_in y) at ≡ resume ticket → IsTakenAt z p ticket q → k ≡ standing y.replay (at + 1) → Works y (record { piece = q; chain = k })
 began y z p ticket at q k same order o none is (at', there, taken) stands =
     let one = there_alone y z ticket at same order is at' there in
     let begin = begun_on p at' none in
     subst (λ (x : PieceValue). Works y (record { piece = x; chain = k })) (sym taken) (record {
       good = (o, subst (λ (n : ℕ). n < at' + 1) (sym begin) (omega arith));
-      stands = stands ∙ ap (λ (n : ℕ). standing y.course (n + 1)) (sym one);
+      stands = stands ∙ ap (λ (n : ℕ). standing y.replay (n + 1)) (sym one);
     })

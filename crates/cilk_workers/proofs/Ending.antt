@@ -39,7 +39,7 @@ use Rattle.cilk_replay.proofs.Points.{asked_by_positions}
 use Rattle.cilk_workers.specs.Rows.{yard_of}
 use Rattle.cilk_replay.specs.Asking.{IsNextAsk}
 use Rattle.cilk_replay.specs.Chains.{ChainValue, standing}
-use Rattle.cilk_replay.specs.Courses.{CourseValue, IsOfProgram, Setting, setting_of, point_at}
+use Rattle.cilk_replay.specs.Replays.{ReplayValue, IsOfProgram, Setting, setting_of, point_at}
 use Rattle.cilk_replay.proofs.Along.{event_order_of}
 use Rattle.cilk_replay.proofs.Going as going
 use Rattle.cilk_replay.proofs.Unended.{unended}
@@ -91,7 +91,7 @@ end_is (Does (Ends x gone')) v gone q =
     ap (λ z. Does (Ends z gone')) a ∙ ap (λ l. Does (Ends v l)) b
 end_is d v gone q = absurd (cc q)
 
-module _ (u : CourseValue) (at : ℕ) (value : ℤ) (ask : IsNextAsk u at (asks.End value)) (asked : IsAsked (event_order_of u) at) (last : at ≡ length (let y = event_order_of u in y.events)) where
+module _ (u : ReplayValue) (at : ℕ) (value : ℤ) (ask : IsNextAsk u at (asks.End value)) (asked : IsAsked (event_order_of u) at) (last : at ≡ length (let y = event_order_of u in y.events)) where
   abbrev s : Setting
   s = setting_of u ask.run
 
@@ -149,9 +149,9 @@ module _ (u : CourseValue) (at : ℕ) (value : ℤ) (ask : IsNextAsk u at (asks.
       subst (λ (r : Transcript). result_in (reverse (course_deeds r)) ≡ value) one.0 (result_of (course_deeds s.run) value deed_last)
 
 -- of a chain at the run's last event
-pub ended_with : (y : SharedValue) (k : ChainValue) (at : ℕ) (value : ℤ) → k ≡ standing y.course at → (let c = y.course in c.yard ≡ yard_of y.run) → IsNextAsk k.of k.at (asks.End value)
+pub ended_with : (y : SharedValue) (k : ChainValue) (at : ℕ) (value : ℤ) → k ≡ standing y.replay at → (let c = y.replay in c.yard ≡ yard_of y.run) → IsNextAsk k.of k.at (asks.End value)
     → IsAsked (event_order_in y) at → at ≡ length (let s = event_order_in y in s.events) → IsResult y value
 ended_with y k at value stands same ask asked last =
     let event_orders = ap (λ (z : YardValue). z.event_order) same in
-    result_is y.course at value (subst (λ (c : ChainValue). IsNextAsk c.of c.at (asks.End value)) stands ask)
+    result_is y.replay at value (subst (λ (c : ChainValue). IsNextAsk c.of c.at (asks.End value)) stands ask)
     (subst (λ (z : EventOrder). IsAsked z at) (sym event_orders) asked) (subst (λ (z : EventOrder). at ≡ length z.events) (sym event_orders) last)

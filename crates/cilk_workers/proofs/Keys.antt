@@ -54,8 +54,8 @@ module _ {Q A : Type 0} where
   snoc (e ∷ ds) [] d p h is = absurd h
   snoc (e ∷ ds) (q ∷ ps) d p h is = (h.0, snoc ds ps d p h.1 is)
 
-  pub doors_more : (ds ds' : List (Slotted (Option Shelf) (Doing Shelf (Unit {0})) Q A)) (ps ps' : List Key) (d : Slotted (Option Shelf) (Doing Shelf (Unit {0})) Q A) (p : Key) → AreKeys ds ps → IsPassOf d p → ds' ≡ ds ++ d ∷ [] → ps' ≡ ps ++ p ∷ [] → AreKeys ds' ps'
-  doors_more ds ds' ps ps' d p h is e f = rw (e, f) (snoc ds ps d p h is)
+  pub locks_more : (ds ds' : List (Slotted (Option Shelf) (Doing Shelf (Unit {0})) Q A)) (ps ps' : List Key) (d : Slotted (Option Shelf) (Doing Shelf (Unit {0})) Q A) (p : Key) → AreKeys ds ps → IsPassOf d p → ds' ≡ ds ++ d ∷ [] → ps' ≡ ps ++ p ∷ [] → AreKeys ds' ps'
+  locks_more ds ds' ps ps' d p h is e f = rw (e, f) (snoc ds ps d p h is)
 
   -- one key more, of the locks that are there
   grows : (ds : List (Slotted (Option Shelf) (Doing Shelf (Unit {0})) Q A)) (ps : List Key) (k : ℕ) (p : Key) → k < length ds → AreKeys (take k ds) ps → IsKeyAt ds k p → AreKeys (take (suc k) ds) (ps ++ p ∷ [])

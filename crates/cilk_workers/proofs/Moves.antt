@@ -8,7 +8,7 @@ use mathlib.Core.Option.{some, some-ne-none, some-injective}
 use lib.ListN.{get_elem?}
 use Rattle.atomic_table.proofs.Lists.{at_set, at_snoc}
 use Rattle.crossbeam_deque.specs.Tasks.{Pushes, Takes, Pops, Finds, Forks}
-use Rattle.cilk_replay.specs.Courses.{CourseValue}
+use Rattle.cilk_replay.specs.Replays.{ReplayValue}
 use Rattle.cilk_replay.specs.declared.chain.Task.{Task}
 use Rattle.cilk_workers.specs.declared.rack.Offers.{Offers}
 use Rattle.cilk_workers.specs.Racks.{MayPick, Of, offers, Fits, IsOnly, Racked}
@@ -49,7 +49,7 @@ only_one : (v : Offers) → IsOnly (v ∷ [])
 only_one v zero u e = refl
 only_one v (suc port) u e = absurd (some-ne-none u (sym e))
 
-pub begins : (y : CourseValue → Type 0) (taken : Task → Type 0) → Racked y taken [] (offers true true [] ∷ [])
+pub begins : (y : ReplayValue → Type 0) (taken : Task → Type 0) → Racked y taken [] (offers true true [] ∷ [])
 begins y taken = ((λ k d lt. absurd (omega arith)), one)
   where
     one : (port : ℕ) (v : Offers) → get_elem? (offers true true [] ∷ []) port ≡ some v → Fitting taken [] (offers true true [] ∷ []) port v
@@ -60,7 +60,7 @@ begins y taken = ((λ k d lt. absurd (omega arith)), one)
     one (suc port) v e _ = absurd (some-ne-none v (sym e))
 
 -- the owner is at 0
-pub pushes : (y : CourseValue → Type 0) (taken : Task → Type 0) (v : Offers) (t : Task) → v.owner ≡ true → Of y t → (port : ℕ) → port ≡ 0 → Pushes (Racked y taken) port v (t ∷ []) (λ w. w ≡ offers v.owner v.alone (v.waiting ++ t ∷ []))
+pub pushes : (y : ReplayValue → Type 0) (taken : Task → Type 0) (v : Offers) (t : Task) → v.owner ≡ true → Of y t → (port : ℕ) → port ≡ 0 → Pushes (Racked y taken) port v (t ∷ []) (λ w. w ≡ offers v.owner v.alone (v.waiting ++ t ∷ []))
 pushes y taken v t owner is port here items views h at =
     let w : Offers = offers v.owner v.alone (v.waiting ++ t ∷ []) in
     let mine : Fits taken items views v = (h.1 port v at owner).1 in (
@@ -82,7 +82,7 @@ pushes y taken v t owner is port here items views h at =
       refl,
     )
 
-pub pops : (y : CourseValue → Type 0) (taken : Task → Type 0) (v : Offers) → v.owner ≡ true → (port : ℕ) → port ≡ 0 → Pops (Racked y taken) port v (λ xs w. (w.owner ≡ v.owner) × (w.alone ≡ v.alone) × (v.waiting ≡ w.waiting ++ xs) × All (Of y) xs)
+pub pops : (y : ReplayValue → Type 0) (taken : Task → Type 0) (v : Offers) → v.owner ≡ true → (port : ℕ) → port ≡ 0 → Pops (Racked y taken) port v (λ xs w. (w.owner ≡ v.owner) × (w.alone ≡ v.alone) × (v.waiting ≡ w.waiting ++ xs) × All (Of y) xs)
 pops y taken v owner port here x items views h at =
     let mine : Fits taken (items ++ x ∷ []) views v = (h.1 port v at owner).1 in
     let w : Offers = offers v.owner v.alone (mine.0 ++ items) in (
@@ -98,7 +98,7 @@ pops y taken v owner port here x items views h at =
 
 -- if the deque is empty, each task that its owner waits for is taken; if it has no pickers, the
 -- owner waits for none
-pub finds : (y : CourseValue → Type 0) (taken : Task → Type 0) (v : Offers) → v.owner ≡ true → (port : ℕ) → Finds (Racked y taken) port v (All taken v.waiting × (v.alone ≡ true → v.waiting ≡ []))
+pub finds : (y : ReplayValue → Type 0) (taken : Task → Type 0) (v : Offers) → v.owner ≡ true → (port : ℕ) → Finds (Racked y taken) port v (All taken v.waiting × (v.alone ≡ true → v.waiting ≡ []))
 finds y taken v owner port views h at =
     let mine : Fits taken [] views v = (h.1 port v at owner).1 in (
       subst (λ (l : List Task). All taken l) (sym mine.1) (All-append taken mine.0 [] mine.2 (λ k d lt. absurd (omega arith))),
@@ -106,7 +106,7 @@ finds y taken v owner port views h at =
     )
 
 -- a task that others steal is taken; if the owner has no pickers, there is nobody else to steal
-pub takes : (y : CourseValue → Type 0) (taken : Task → Type 0) → MayPick taken → (v : Offers) → v.owner ≡ false → (port : ℕ) → Takes (Racked y taken) port v 1 (λ xs w. (w ≡ v) × All (Of y) xs)
+pub takes : (y : ReplayValue → Type 0) (taken : Task → Type 0) → MayPick taken → (v : Offers) → v.owner ≡ false → (port : ℕ) → Takes (Racked y taken) port v 1 (λ xs w. (w ≡ v) × All (Of y) xs)
 takes y taken may v guest port xs items views _ _ h at = (
   v,
   (
@@ -128,7 +128,7 @@ takes y taken may v guest port xs items views _ _ h at = (
   (refl, all_front (Of y) xs items h.0),
 )
 
-pub parts : (y : CourseValue → Type 0) (taken : Task → Type 0) (v : Offers) → v.owner ≡ true → (port : ℕ) → port ≡ 0 → Forks (Racked y taken) port v (offers v.owner false v.waiting) (offers false false [])
+pub parts : (y : ReplayValue → Type 0) (taken : Task → Type 0) (v : Offers) → v.owner ≡ true → (port : ℕ) → port ≡ 0 → Forks (Racked y taken) port v (offers v.owner false v.waiting) (offers false false [])
 parts y taken v owner port here items views h at = (
   h.0,
   λ j u e o. ⊎_elim

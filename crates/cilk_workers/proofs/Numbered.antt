@@ -17,7 +17,7 @@ use Rattle.cilk_tree.specs.Word.{event}
 use Rattle.cilk_runs.specs.FrameEnvs.{FrameEnv}
 use Rattle.cilk_replay.specs.Points.{IsEventOf}
 use Rattle.cilk_replay.specs.Asking.{IsNextAsk}
-use Rattle.cilk_replay.specs.Courses.{CourseValue, setting_of}
+use Rattle.cilk_replay.specs.Replays.{ReplayValue, setting_of}
 use Rattle.cilk_replay.proofs.Along.{event_order_of}
 use Rattle.cilk_replay.proofs.Going as going
 use Rattle.cilk_workers.specs.Asks.{Carries, HasNumber, number_in}
@@ -63,7 +63,7 @@ module _ (p : Source) (r : Transcript) (w : FrameEnv) where
   ends (asks.End n) e h q = (n, refl)
   ends (asks.Fault f) e h q = absurd h
 
-module _ (u : CourseValue) (at : ℕ) (k : Ask) (next : IsNextAsk u at k) where
+module _ (u : ReplayValue) (at : ℕ) (k : Ask) (next : IsNextAsk u at k) where
   pub within : (1 ≤ at) × (at ≤ length (let y = event_order_of u in y.events))
   within =
       let less = going.within (setting_of u next.run) next.of_program next.behind next.point next.is in

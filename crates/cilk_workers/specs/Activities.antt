@@ -5,8 +5,8 @@ use Rattle.cilk_shared.specs.Pieces.{PieceValue}
 use Rattle.cilk_tree.specs.Runs.{Departs}
 use Rattle.cilk_workers.specs.Shared.{SharedValue, event_order_in}
 use Rattle.cilk_workers.specs.Turns.{Works, HasEnded}
-use Rattle.cilk_workers.specs.declared.doors.Met.{Met}
-use Rattle.cilk_workers.specs.declared.doors.Met.TheVariants as mets
+use Rattle.cilk_workers.specs.declared.locks.Met.{Met}
+use Rattle.cilk_workers.specs.declared.locks.Met.TheVariants as mets
 use Rattle.cilk_workers.specs.declared.activity.ExitReason.{ExitReason}
 use Rattle.cilk_workers.specs.declared.activity.ExitReason.TheVariants as finishes
 use Rattle.cilk_workers.specs.declared.activity.Activity.{Activity}

@@ -10,7 +10,7 @@ use Rattle.cilk_workers.specs.declared.join.Boxed.TheVariants.{Waits, Passes}
 -- the block passes with the whole piece and its chain, or waits
 abbrev pub Answers : BoxValue → Boxed → BoxValue → Type 0
 Answers j Waits j' = (passes j ≡ false) × (j' ≡ j)
-Answers j (Passes p c) j' = (passes j ≡ true) × (let r = j.rows in let w = r.row in (w.run ≡ Some p) × IsGood r.of p × (c.of ≡ j.course)) × (p.upto ≡ j.sync) × (c.at ≡ j.sync) × (j' ≡ passed j)
+Answers j (Passes p c) j' = (passes j ≡ true) × (let r = j.rows in let w = r.row in (w.run ≡ Some p) × IsGood r.of p × (c.of ≡ j.replay)) × (p.upto ≡ j.sync) × (c.at ≡ j.sync) × (j' ≡ passed j)
 
 -- after a block has passed, nothing is stolen and nothing arrives
 abbrev pub PassesOnce : Type 0

@@ -2,15 +2,15 @@
 use Rattle.std.specs.Prelude.{◌≡◌, ◌<◌, ◌≤◌, ◌⊎◌, ℕ, nat_eq, nat_lt, Bool, true, false, if◌then◌else◌, List, [], ◌∷◌, Option, Some, None}
 use Rattle.cilk_shared.specs.Pieces.{PieceValue}
 use Rattle.cilk_replay.specs.Chains.{ChainValue}
-use Rattle.cilk_replay.specs.Courses.{CourseValue}
+use Rattle.cilk_replay.specs.Replays.{ReplayValue}
 use Rattle.cilk_workers.specs.Rows.{Run, RunValue, Wait, Rows, row, rows, placed_in, awaiting, end_in, is_empty, parts_in}
 
--- the rows; the course of the run; the block's sync; the greatest stolen key and the greatest
+-- the rows; the replay of the run; the block's sync; the greatest stolen key and the greatest
 -- arrived key, 0 where there is none; and whether the sync's own piece has arrived, as it has if
 -- the block has passed
 pub record BoxValue : Type 0 where
   pub rows : Rows
-  pub course : CourseValue
+  pub replay : ReplayValue
   pub sync : ℕ
   pub stolen : ℕ
   pub arrived : ℕ
@@ -25,8 +25,8 @@ abbrev pub later : Option ChainValue → Option ChainValue → Option ChainValue
 later c None = c
 later c (Some d) = Some d
 
-abbrev pub opening : RunValue → CourseValue → ℕ → BoxValue
-opening y c s = record { rows = rows y (row None []); course = c; sync = s; stolen = 0; arrived = 0; closed = false }
+abbrev pub opening : RunValue → ReplayValue → ℕ → BoxValue
+opening y c s = record { rows = rows y (row None []); replay = c; sync = s; stolen = 0; arrived = 0; closed = false }
 
 -- the key is among the awaited ones
 abbrev pub Stands : List Wait → ℕ → Type 0
@@ -53,7 +53,7 @@ Closes run [] s = IsUpTo run s
 Closes run (w ∷ ws) s = Closes w.run ws s
 
 -- the sync's chain, if it is there, is at the sync, where the last run ends
-abbrev pub IsClosed : Rows → CourseValue → ℕ → Option ChainValue → Type 0
+abbrev pub IsClosed : Rows → ReplayValue → ℕ → Option ChainValue → Type 0
 IsClosed j u s None = Unit {0}
 IsClosed j u s (Some c) = (c.of ≡ u) × (c.at ≡ s) × (let r = j.row in Closes r.run r.waits s)
 
@@ -84,7 +84,7 @@ IsOpen j k a = (j.closed ≡ false) × (j.stolen < k) × (j.arrived ≤ k) × (e
 -- chain and a fresh key, and ends at the sync
 abbrev pub MayArrive : BoxValue → ℕ → PieceValue → Option ChainValue → Type 0
 MayArrive j k x None = (let r = j.rows in let w = r.row in Stands w.waits k) ⊎ IsFresh j k
-MayArrive j k x (Some c) = IsFresh j k × (let r = j.rows in let w = r.row in (c.of ≡ j.course) × (c.at ≡ j.sync) × (x.upto ≡ j.sync) × IsAbsent w.waits k)
+MayArrive j k x (Some c) = IsFresh j k × (let r = j.rows in let w = r.row in (c.of ≡ j.replay) × (c.at ≡ j.sync) × (x.upto ≡ j.sync) × IsAbsent w.waits k)
 
 -- the state after k is stolen: k is awaited, unless it has arrived
 abbrev pub stolen_at : BoxValue → ℕ → ℕ → BoxValue

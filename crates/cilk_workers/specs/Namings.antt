@@ -1,7 +1,7 @@
 -- The name of no run.
 use Rattle.std.specs.Prelude.{[]}
 use Rattle.cilk_workers.specs.Rows.{RunValue}
-use Rattle.cilk_replay.specs.Courses.{CourseValue}
+use Rattle.cilk_replay.specs.Replays.{ReplayValue}
 use Rattle.cilk_replay.specs.declared.chain.Task.{Task}
 
 abbrev pub no_run : RunValue
@@ -11,8 +11,8 @@ no_run = record {
   reducers = record { frames = [] };
 }
 
-abbrev pub no_course : CourseValue → Type 0
-no_course c = ⊥
+abbrev pub no_replay : ReplayValue → Type 0
+no_replay c = ⊥
 
 abbrev pub no_taken : Task → Type 0
 no_taken t = ⊥

@@ -3,12 +3,12 @@
 use Rattle.std.specs.Prelude.{◌≡◌, ℕ, Bool, true, List, [], ◌++◌, All}
 use mathlib.Core.Option.{some}
 use lib.ListN.{get_elem?}
-use Rattle.cilk_replay.specs.Courses.{CourseValue}
+use Rattle.cilk_replay.specs.Replays.{ReplayValue}
 use Rattle.cilk_replay.specs.declared.chain.Task.{Task}
 use Rattle.cilk_workers.specs.declared.rack.Offers.{Offers}
 
-abbrev pub Of : (CourseValue → Type 0) → Task → Type 0
-Of course t = course t.of
+abbrev pub Of : (ReplayValue → Type 0) → Task → Type 0
+Of replay t = replay t.of
 
 -- the right to take tasks: the fact of taken tasks may be said of any task
 abbrev pub MayPick : (Task → Type 0) → Type 0
@@ -27,6 +27,6 @@ abbrev pub Fits : (Task → Type 0) → List Task → List Offers → Offers →
 Fits taken items views v =
     (front : List Task) × (v.waiting ≡ front ++ items) × All taken front × (v.alone ≡ true → (front ≡ []) × IsOnly views)
 
-abbrev pub Racked : (CourseValue → Type 0) → (Task → Type 0) → List Task → List Offers → Type 0
+abbrev pub Racked : (ReplayValue → Type 0) → (Task → Type 0) → List Task → List Offers → Type 0
 Racked y taken items views =
     All (Of y) items × ((port : ℕ) (v : Offers) → get_elem? views port ≡ some v → v.owner ≡ true → (port ≡ 0) × Fits taken items views v)

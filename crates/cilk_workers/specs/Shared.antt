@@ -1,7 +1,7 @@
 -- The view in contracts of the part of a run that its workers share.
 use Rattle.std.specs.Prelude.{◌≡◌, ◌≤◌, ◌<◌, ◌⊎◌, ℕ, length, Some}
 use Rattle.cilk_workers.specs.Rows.{RunValue, run_of}
-use Rattle.cilk_replay.specs.Courses.{CourseValue}
+use Rattle.cilk_replay.specs.Replays.{ReplayValue}
 use Rattle.cilk_shared.specs.declared.reducers.Reducers.{Reducers}
 use Rattle.cilk_tree.specs.Frames.{IsInFrame}
 use Rattle.cilk_tree.specs.Kinds.{kind_of_event}
@@ -12,13 +12,13 @@ use Rattle.cilk_shared.specs.Values.{YardValue}
 use Rattle.cilk_tree.specs.declared.event_order.EventOrder.{EventOrder}
 use Rattle.cilk_tree.specs.Word.{event}
 
--- a run of the program, and its course
+-- a run of the program, and its replay
 pub record SharedValue : Type 0 where
   pub run : RunValue
-  pub course : CourseValue
+  pub replay : ReplayValue
 
-abbrev pub shared_with : YardValue → Reducers → CourseValue → SharedValue
-shared_with y r c = record { run = run_of y r; course = c }
+abbrev pub shared_with : YardValue → Reducers → ReplayValue → SharedValue
+shared_with y r c = record { run = run_of y r; replay = c }
 
 -- its event order
 abbrev pub event_order_in : SharedValue → EventOrder

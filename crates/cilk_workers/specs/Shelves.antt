@@ -1,18 +1,18 @@
 -- Shelves of join boxes.
 use Rattle.std.specs.Prelude.{◌≡◌, ◌≢◌, ◌+◌, ◌<◌, ◌⊎◌, ◌∷◌, ◌++◌, [], ℕ, List, All, Some, drop, length, slice_get, take}
-use Rattle.cilk_replay.specs.Courses.{CourseValue}
+use Rattle.cilk_replay.specs.Replays.{ReplayValue}
 use Rattle.cilk_workers.specs.Rows.{RunValue}
 use Rattle.cilk_workers.specs.Boxes.{BoxValue, IsUnused, opening}
 
--- a run, its course, the boxes on the shelf, and the number of boxes that there is room for
+-- a run, its replay, the boxes on the shelf, and the number of boxes that there is room for
 pub record ShelfValue : Type 0 where
   pub of : RunValue
-  pub course : CourseValue
+  pub replay : ReplayValue
   pub boxes : List BoxValue
   pub room : ℕ
 
-abbrev pub shelf : RunValue → CourseValue → List BoxValue → ℕ → ShelfValue
-shelf y c boxes room = record { of = y; course = c; boxes = boxes; room = room }
+abbrev pub shelf : RunValue → ReplayValue → List BoxValue → ℕ → ShelfValue
+shelf y c boxes room = record { of = y; replay = c; boxes = boxes; room = room }
 
 -- there is room for one more box
 abbrev pub HasRoom : ShelfValue → Type 0
@@ -20,11 +20,11 @@ HasRoom s = length s.boxes < s.room
 
 -- it belongs to the same run
 abbrev pub IsSameShelf : ShelfValue → ShelfValue → Type 0
-IsSameShelf s new = (new.of ≡ s.of) × (new.course ≡ s.course)
+IsSameShelf s new = (new.of ≡ s.of) × (new.replay ≡ s.replay)
 
 -- the box belongs to the shelf's run
-abbrev pub LiesOn : RunValue → CourseValue → BoxValue → Type 0
-LiesOn y c b = (let r = b.rows in r.of ≡ y) × (b.course ≡ c)
+abbrev pub LiesOn : RunValue → ReplayValue → BoxValue → Type 0
+LiesOn y c b = (let r = b.rows in r.of ≡ y) × (b.replay ≡ c)
 
 -- the box at a place is removed
 abbrev pub ComesOut : List BoxValue → ℕ → BoxValue → List BoxValue → Type 0
@@ -39,7 +39,7 @@ HasNone boxes sync = All (λ (b : BoxValue). b.sync ≢ sync) boxes
 abbrev pub TakesOff : ShelfValue → ℕ → BoxValue → ShelfValue → Type 0
 TakesOff s sync b new =
     ((k : ℕ) × (slice_get s.boxes k ≡ Some b) × (b.sync ≡ sync) × (new.boxes ≡ take k s.boxes ++ drop (k + 1) s.boxes))
-    ⊎ (HasNone s.boxes sync × (b ≡ opening s.of s.course sync) × (new.boxes ≡ s.boxes))
+    ⊎ (HasNone s.boxes sync × (b ≡ opening s.of s.replay sync) × (new.boxes ≡ s.boxes))
 
 -- A box is appended; one in which nothing waits is dropped.
 pub record PutsBack (s : ShelfValue) (b : BoxValue) (new : ShelfValue) : Type 0 where

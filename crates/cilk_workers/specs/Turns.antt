@@ -27,13 +27,13 @@ use Rattle.cilk_runs.specs.Steps.{result_in}
 -- good work: a piece of the run that is not empty, and a chain at its next event
 pub record Works (y : SharedValue) (w : Work) : Type 0 where
   pub good : IsGood y.run w.piece
-  pub stands : let p = w.piece in w.chain ≡ standing y.course p.upto
+  pub stands : let p = w.piece in w.chain ≡ standing y.replay p.upto
 
 -- The result of the run: the course of the plan's run on this input ends with it, whatever number
 -- of ticks it costs. It is the result of the course's last end, the root's.
 abbrev pub IsResult : SharedValue → ℤ → Type 0
 IsResult y value =
-    let u = y.course in (run : Transcript) (es : List Event) (opening : List ℤ)
+    let u = y.replay in (run : Transcript) (es : List Event) (opening : List ℤ)
     → IsPlannedRun (source u.program) u.own run es opening
     → result_in (reverse (trace (run_of (course_on (source u.program) u.inputs (named (source u.program) run))))) ≡ value
 
@@ -63,7 +63,7 @@ GoesNoFurther y before p =
 -- true one. Nothing is said if memory runs out.
 abbrev pub Turned : SharedValue → PieceValue → Work → Turn → Type 0
 Turned y before w Goes = Works y w × (let p = w.piece in p ≡ grown before)
-Turned y before w (Offers t) = Works y w × (let p = w.piece in p ≡ grown before) × (t.of ≡ y.course) × (t.ticket ≡ before.upto)
+Turned y before w (Offers t) = Works y w × (let p = w.piece in p ≡ grown before) × (t.of ≡ y.replay) × (t.ticket ≡ before.upto)
 Turned y before w Arrives = Works y w × (let p = w.piece in p ≡ before) × IsHeldUp y before
 Turned y before w Ended = (let p = w.piece in IsGood y.run p × GoesNoFurther y before p)
 Turned y before w (Finished value) = (let p = w.piece in HasEnded y p value × (p ≡ grown before))

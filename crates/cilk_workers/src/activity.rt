@@ -34,7 +34,7 @@ pub enum Activity {
 /// block, or a number past the last block.
 #[derive(Drop)]
 pub struct Blocks<'a, N: Naming> {
-    pub doors: &'a Vec<Lock<N>>,
+    pub locks: &'a Vec<Lock<N>>,
     pub syncs: &'a [Pos],
     pub of: &'a [u32],
 }

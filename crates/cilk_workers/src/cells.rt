@@ -17,7 +17,7 @@ pub(crate) fn loaded(shared: &Shared<'_>, work: &mut Work, cell: Cell) -> Turn
 {
     shared.laws();
     let value = work.piece.load(shared.yard(), cell);
-    work.chain.answer(shared.course(), Answer::Value(value));
+    work.chain.answer(shared.replay(), Answer::Value(value));
     Turn::Goes
 }
 
@@ -30,6 +30,6 @@ pub(crate) fn stored(shared: &Shared<'_>, work: &mut Work, cell: Cell) -> Turn
     shared.laws();
     let number = number_asked(&work.chain);
     work.piece.store(shared.yard(), cell, number);
-    work.chain.answer(shared.course(), Answer::Done);
+    work.chain.answer(shared.replay(), Answer::Done);
     Turn::Goes
 }

@@ -12,7 +12,7 @@ ghost use Rattle.cilk_workers.specs.Answers.{Answers};
 
 use crate::runs::Runs;
 use cilk_replay::chain::Chain;
-use cilk_replay::course::Course;
+use cilk_replay::replay::Replay;
 use cilk_shared::piece::Piece;
 use cilk_shared::reducers::Reducers;
 use cilk_shared::yard::Yard;
@@ -37,7 +37,7 @@ pub enum Boxed {
 /// sync.
 #[derive(Drop)]
 pub struct JoinBox {
-    course: Snapshot<Course>,
+    replay: Snapshot<Replay>,
     sync: Pos,
     runs: Runs,
     stolen: Pos,
@@ -51,16 +51,16 @@ impl Model for JoinBox {
     ghost use Rattle.cilk_types.specs.declared.event.Event.TheVariants.{Sync};
     ghost use Rattle.cilk_tree.specs.Word.{event};
     ghost use Rattle.std.specs.Coded.{codes};
-    ghost use Rattle.cilk_replay.specs.Courses.{course_code};
+    ghost use Rattle.cilk_replay.specs.Replays.{replay_code};
     ghost use Rattle.cilk_workers.specs.Boxes.{BoxValue, IsClosed, IsGone, closed_by};
 
     ghost Value = { BoxValue };
 
-    ghost coded = { Prim.hlevel (codes, course_code) };
+    ghost coded = { Prim.hlevel (codes, replay_code) };
 
-    ghost view = { λ b. record { rows = b.runs; course = b.course.value; sync = b.sync; stolen = b.stolen; arrived = b.arrived; closed = closed_by b.gone b.chain } };
+    ghost view = { λ b. record { rows = b.runs; replay = b.replay.value; sync = b.sync; stolen = b.stolen; arrived = b.arrived; closed = closed_by b.gone b.chain } };
 
-    ghost invariant = { λ b. IsClosed b.runs b.course.value b.sync b.chain × IsGone b.gone b.runs b.chain × (event b.runs.of.event_order b.sync ≡ Some Sync) };
+    ghost invariant = { λ b. IsClosed b.runs b.replay.value b.sync b.chain × IsGone b.gone b.runs b.chain × (event b.runs.of.event_order b.sync ≡ Some Sync) };
 }
 
 // The greater of two keys.
@@ -86,14 +86,14 @@ impl JoinBox {
         alloc: Global,
         yard: &Yard,
         reducers: &Reducers,
-        course: &Course,
+        replay: &Replay,
         sync: Pos,
     ) -> JoinBox
         requires { event yard.now.event_order sync ≡ Some Sync }
-        ensures { result ≡ opening (run_of yard.now reducers.now) course.now sync }
+        ensures { result ≡ opening (run_of yard.now reducers.now) replay.now sync }
     {
         JoinBox {
-            course: Snapshot::of(course),
+            replay: Snapshot::of(replay),
             sync,
             runs: Runs::new(alloc, yard, reducers),
             stolen: 0,
@@ -159,7 +159,7 @@ impl JoinBox {
 
     /// Records that a thief took the continuation of the child `key`, which continues at `goes_on`.
     /// If memory runs out, nothing changes.
-    pub fn steal(&mut self, key: Pos, goes_on: Pos) -> Result<(), AllocError>
+    pub fn record_steal(&mut self, key: Pos, goes_on: Pos) -> Result<(), AllocError>
         requires { IsOpen self.old key goes_on }
         ensures ok { OnOk result (self.new ≡ stolen_at self.old key goes_on) }
         ensures err { OnErr result (self.new ≡ self.old) }

@@ -23,7 +23,7 @@
 //! | [`context::WorkerContext::work`] | runs a worker to its end |
 //! | [`turn::act`], [`turn::begin`] | makes one event; starts a thief with a task |
 //! | [`rack::Rack::offer`], [`rack::Rack::newest`], [`rack::Picker::oldest`] | push, pop, steal |
-//! | [`join::JoinBox::steal`], [`join::JoinBox::arrive`] | a steal from a block; a piece arrives |
+//! | [`join::JoinBox::record_steal`], [`join::JoinBox::arrive`] | a steal from a block; a piece arrives |
 //!
 //! ```text
 //! let context = WorkerContext { rt, alloc, shared: &shared, blocks, watch };
@@ -38,19 +38,19 @@
 pub mod activity;
 mod asking;
 pub mod awaited;
+pub mod burst;
 mod cells;
 pub mod context;
-pub mod doors;
+pub mod find_work;
 pub mod gate;
-pub mod hold;
 pub mod join;
 pub mod laws;
 pub mod lock;
+pub mod locks;
 pub mod main_loop;
 pub mod merging;
 pub mod naming;
 mod passing;
-pub mod pick;
 pub mod rack;
 mod reducing;
 pub mod runs;

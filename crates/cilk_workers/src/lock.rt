@@ -24,7 +24,7 @@ pub struct OfShelf<N: Naming> {
 impl<N: Naming> Protocol<Shelf, ()> for OfShelf<N> {
     ghost use Rattle.cilk_workers.specs.Locks.{Shelved};
 
-    ghost holds = { λ items views. Shelved N.run N.course items };
+    ghost holds = { λ items views. Shelved N.run N.replay items };
 
     ghost first = { tt };
 }
@@ -37,7 +37,7 @@ pub struct Locks<N: Naming> {
 impl<N: Naming> Outcome<Shelf, ()> for Locks<N> {
     ghost use Rattle.cilk_workers.specs.Locks.{IsShelf};
 
-    ghost then = { λ v x w. IsShelf N.run N.course x };
+    ghost then = { λ v x w. IsShelf N.run N.replay x };
 }
 
 impl<N: Naming> Lesson<Shelf, ()> for Locks<N> {
@@ -67,7 +67,7 @@ pub fn new_locked<N: Naming, R: Wait>(
     alloc: Global,
     first: Shelf,
 ) -> Result<(Lock<N>, Key), AllocError>
-    requires { IsShelf N.run N.course first }
+    requires { IsShelf N.run N.replay first }
     ensures { IfOk result (λ r. IsPassOf r.0 r.1) }
 {
     let (lock, mut key) = Lock::<N>::ruled(alloc, 1)?;
@@ -92,7 +92,7 @@ pub fn never<R: Wait>(rt: &R)
 pub fn lock<N: Naming, R: Wait>(rt: &R, lock: &Lock<N>, key: &mut Key) -> Shelf
     requires { IsPassOf lock.now key.old }
     ensures key { IsPassOf lock.now key.new }
-    ensures found { IsShelf N.run N.course result }
+    ensures found { IsShelf N.run N.replay result }
 {
     let backoff = Backoff::new();
     for _ in rt.forever() {
@@ -107,7 +107,7 @@ pub fn lock<N: Naming, R: Wait>(rt: &R, lock: &Lock<N>, key: &mut Key) -> Shelf
 /// Unlocks the shelf: pushes it back. If a shelf is there already, it waits forever.
 pub fn unlock<N: Naming, R: Wait>(rt: &R, lock: &Lock<N>, key: &mut Key, back: Shelf)
     requires key { IsPassOf lock.now key.old }
-    requires back { IsShelf N.run N.course back }
+    requires back { IsShelf N.run N.replay back }
     ensures { IsPassOf lock.now key.new }
 {
     if lock.push_as::<Free, R>(rt, key, back).is_err() {

@@ -28,7 +28,7 @@ pub(crate) fn passed(shared: &Shared<'_>, work: &mut Work) -> Turn
 {
     shared.laws();
     work.piece.pass(shared.yard());
-    work.chain.answer(shared.course(), Answer::Done);
+    work.chain.answer(shared.replay(), Answer::Done);
     Turn::Goes
 }
 
@@ -42,7 +42,7 @@ pub(crate) fn synced(shared: &Shared<'_>, work: &mut Work) -> Turn
         return Turn::Arrives;
     }
     work.piece.pass(shared.yard());
-    work.chain.answer(shared.course(), Answer::Done);
+    work.chain.answer(shared.replay(), Answer::Done);
     Turn::Goes
 }
 
@@ -56,7 +56,7 @@ pub(crate) fn taken(shared: &Shared<'_>, work: &mut Work, ticket: Pos) -> Turn
     shared.laws();
     match work.piece.take(shared.yard(), ticket) {
         Taken::Yes => {
-            work.chain.answer(shared.course(), Answer::Done);
+            work.chain.answer(shared.replay(), Answer::Done);
             Turn::Goes
         }
         Taken::No => Turn::Ended,
@@ -72,7 +72,7 @@ pub(crate) fn ended(shared: &Shared<'_>, work: &mut Work, frame: FrameNo) -> Tur
 {
     shared.laws();
     work.piece.end(shared.yard(), shared.reducers(), frame);
-    if work.chain.end(shared.course()) {
+    if work.chain.end(shared.replay()) {
         Turn::Goes
     } else {
         Turn::Ended

@@ -30,7 +30,7 @@ impl<N: Naming> Protocol<Task, Offers> for OfRun<N> {
     ghost use Rattle.std.specs.Prelude.{true, false, []};
     ghost use Rattle.cilk_workers.specs.Racks.{offers, Racked};
 
-    ghost holds = { λ items views. Racked N.course N.taken items views };
+    ghost holds = { λ items views. Racked N.replay N.taken items views };
 
     ghost first = { offers true true [] };
 
@@ -53,7 +53,7 @@ impl<N: Naming> Outcome<Task, Offers> for GivenBack<N> {
     ghost use Rattle.std.specs.Prelude.{◌≡◌, true, [], ◌++◌, All};
     ghost use Rattle.cilk_workers.specs.Racks.{Of};
 
-    ghost then = { λ v xs w. (w.owner ≡ v.owner) × (w.alone ≡ v.alone) × (v.waiting ≡ w.waiting ++ xs) × All (Of N.course) xs };
+    ghost then = { λ v xs w. (w.owner ≡ v.owner) × (w.alone ≡ v.alone) × (v.waiting ≡ w.waiting ++ xs) × All (Of N.replay) xs };
 
     ghost empty = { λ v. All N.taken v.waiting × (v.alone ≡ true → v.waiting ≡ []) };
 }
@@ -67,7 +67,7 @@ impl<N: Naming> Outcome<Task, Offers> for Taken<N> {
     ghost use Rattle.std.specs.Prelude.{◌≡◌, All};
     ghost use Rattle.cilk_workers.specs.Racks.{Of};
 
-    ghost then = { λ v xs w. (w ≡ v) × All (Of N.course) xs };
+    ghost then = { λ v xs w. (w ≡ v) × All (Of N.replay) xs };
 }
 
 /// The split of the owner's pass that makes one for a picker.
@@ -114,7 +114,7 @@ impl<N: Naming> Rack<N> {
     /// Pushes a task. The rack grows if there is no room; the task comes back if memory runs out
     /// for that.
     pub fn offer(&mut self, task: Task) -> Result<(), Task>
-        requires { Of N.course task }
+        requires { Of N.replay task }
         ensures rule { IsOffered self.old task result self.new }
         ensures same { IsSameRack self.old self.new × (IsAlone self.old → IsAlone self.new) }
     {
@@ -125,7 +125,7 @@ impl<N: Naming> Rack<N> {
     /// found empty: pickers have taken each task that waits. If no picker has been made, then none
     /// waits.
     pub fn newest(&mut self) -> Option<Task>
-        ensures rule { MatchOption result ((waiting self.new ≡ waiting self.old) × All N.taken (waiting self.old) × (IsAlone self.old → waiting self.old ≡ [])) (λ t. (waiting self.old ≡ waiting self.new ++ t ∷ []) × Of N.course t) }
+        ensures rule { MatchOption result ((waiting self.new ≡ waiting self.old) × All N.taken (waiting self.old) × (IsAlone self.old → waiting self.old ≡ [])) (λ t. (waiting self.old ≡ waiting self.new ++ t ∷ []) × Of N.replay t) }
         ensures same { IsSameRack self.old self.new × (IsAlone self.old → IsAlone self.new) × (offered self.new ≤ offered self.old) }
     {
         self.worker.pop_as::<GivenBack<N>>()
@@ -184,7 +184,7 @@ impl<N: Naming> Picker<N> {
     /// retried.
     pub fn oldest(&mut self) -> Option<Task>
         requires { MayPick N.taken }
-        ensures rule { IfSome result (λ t. Of N.course t) }
+        ensures rule { IfSome result (λ t. Of N.replay t) }
         ensures same { stealer_deque self.new.stealer ≡ stealer_deque self.old.stealer }
     {
         match self.stealer.steal_as::<Taken<N>>(&mut self.pass) {

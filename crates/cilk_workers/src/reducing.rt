@@ -54,7 +54,7 @@ pub(crate) fn created(
     let Ok(()) = work.piece.create(alloc, shared.yard(), instance, kind) else {
         return Turn::Stopped;
     };
-    work.chain.answer(shared.course(), Answer::Done);
+    work.chain.answer(shared.replay(), Answer::Done);
     Turn::Goes
 }
 
@@ -78,7 +78,7 @@ pub(crate) fn updated(
     else {
         return Turn::Stopped;
     };
-    work.chain.answer(shared.course(), Answer::Done);
+    work.chain.answer(shared.replay(), Answer::Done);
     Turn::Goes
 }
 
@@ -94,7 +94,7 @@ pub(crate) fn set(alloc: Global, shared: &Shared<'_>, work: &mut Work, instance:
     let Ok(()) = work.piece.set(alloc, shared.yard(), instance, kind, number) else {
         return Turn::Stopped;
     };
-    work.chain.answer(shared.course(), Answer::Done);
+    work.chain.answer(shared.replay(), Answer::Done);
     Turn::Goes
 }
 
@@ -115,7 +115,7 @@ pub(crate) fn valued(
     let Ok(number) = work.piece.value(alloc, shared.yard(), instance, kind) else {
         return Turn::Stopped;
     };
-    work.chain.answer(shared.course(), Answer::Value(number));
+    work.chain.answer(shared.replay(), Answer::Value(number));
     Turn::Goes
 }
 
@@ -130,6 +130,6 @@ pub(crate) fn printed(alloc: Global, shared: &Shared<'_>, work: &mut Work) -> Tu
     let Ok(()) = work.piece.print(alloc, shared.yard(), number) else {
         return Turn::Stopped;
     };
-    work.chain.answer(shared.course(), Answer::Done);
+    work.chain.answer(shared.replay(), Answer::Done);
     Turn::Goes
 }

@@ -2,7 +2,7 @@
 
 ghost use Rattle.std.specs.Prelude.{◌≡◌, ◌↔◌, ℕ, Some, length, IsTrue};
 ghost use Rattle.cilk_workers.specs.Rows.{yard_of};
-ghost use Rattle.cilk_replay.specs.Courses.{IsCourse};
+ghost use Rattle.cilk_replay.specs.Replays.{IsReplay};
 ghost use Rattle.cilk_determinacy.specs.Words.{InputsAreWords};
 ghost use Rattle.cilk_shared.specs.Numbers.{HasNumbers};
 ghost use Rattle.cilk_shared.specs.Reducers.{HasFew};
@@ -13,7 +13,7 @@ ghost use Rattle.cilk_tree.specs.Word.{resume, what};
 ghost use Rattle.cilk_workers.specs.Shared.{HasCells, IsNext, shared_with, event_order_in};
 
 use cilk_determinacy::words::inputs_are_words;
-use cilk_replay::course::Course;
+use cilk_replay::replay::Replay;
 use cilk_shared::piece_laws::frames_are_along;
 use cilk_shared::reducers::Reducers;
 use cilk_shared::yard::Yard;
@@ -22,19 +22,19 @@ use cilk_tree::plan::Plan;
 use cilk_types::event::Pos;
 use std::marker::Model;
 
-/// A run's shared words, the plan that it follows, the reducers of its frames, and its course.
+/// A run's shared words, the plan that it follows, the reducers of its frames, and its replay.
 #[derive(Drop)]
 pub struct Shared<'a> {
     yard: &'a Yard,
     plan: &'a Plan,
     reducers: &'a Reducers,
-    course: &'a Course,
+    replay: &'a Replay,
 }
 
 impl<'a> Model for Shared<'a> {
     ghost use Rattle.std.specs.Prelude.{◌≡◌};
     ghost use Rattle.std.specs.Coded.{codes};
-    ghost use Rattle.cilk_replay.specs.Courses.{course_code};
+    ghost use Rattle.cilk_replay.specs.Replays.{replay_code};
     ghost use Rattle.cilk_shared.specs.Numbers.{HasNumbers};
     ghost use Rattle.cilk_shared.specs.Reducers.{HasFew};
     ghost use Rattle.cilk_tree.specs.Along.{IsAlong};
@@ -42,11 +42,11 @@ impl<'a> Model for Shared<'a> {
 
     ghost Value = { SharedValue };
 
-    ghost coded = { Prim.hlevel (codes, course_code) };
+    ghost coded = { Prim.hlevel (codes, replay_code) };
 
-    ghost view = { λ c. shared_with c.yard.now c.reducers.now c.course.now };
+    ghost view = { λ c. shared_with c.yard.now c.reducers.now c.replay.now };
 
-    ghost invariant = { λ c. IsAlong c.plan.now c.yard.now.event_order × HasFew c.reducers.now × (c.course.now.yard ≡ c.yard.now)
+    ghost invariant = { λ c. IsAlong c.plan.now c.yard.now.event_order × HasFew c.reducers.now × (c.replay.now.yard ≡ c.yard.now)
         × HasCells c.yard.now.event_order × HasNumbers c.yard.now.event_order c.reducers.now };
 }
 
@@ -57,20 +57,20 @@ impl<'a> Shared<'a> {
         yard: &'a Yard,
         plan: &'a Plan,
         reducers: &'a Reducers,
-        course: &'a Course,
+        replay: &'a Replay,
     ) -> Shared<'a>
         requires along { IsAlong plan.now yard.now.event_order }
         requires few { HasFew reducers.now }
         requires cells { HasCells yard.now.event_order }
         requires numbers { HasNumbers yard.now.event_order reducers.now }
-        requires course { course.now.yard ≡ yard.now }
-        ensures { result ≡ shared_with yard.now reducers.now course.now }
+        requires replay { replay.now.yard ≡ yard.now }
+        ensures { result ≡ shared_with yard.now reducers.now replay.now }
     {
         Shared {
             yard,
             plan,
             reducers,
-            course,
+            replay,
         }
     }
 
@@ -78,15 +78,15 @@ impl<'a> Shared<'a> {
     pub fn laws(&self)
         ensures order { IsOrderly (event_order_in self.now) }
         ensures values { HasValues (event_order_in self.now) }
-        ensures course { IsCourse self.now.course }
-        ensures same { self.now.course.yard ≡ yard_of self.now.run }
-        ensures words { InputsAreWords self.now.course.inputs }
+        ensures replay { IsReplay self.now.replay }
+        ensures same { self.now.replay.yard ≡ yard_of self.now.run }
+        ensures words { InputsAreWords self.now.replay.inputs }
         ensures cells { HasCells (event_order_in self.now) }
         ensures numbers { HasNumbers (event_order_in self.now) self.now.run.reducers }
     {
         self.yard.laws();
-        self.course.laws();
-        inputs_are_words(self.course.input());
+        self.replay.laws();
+        inputs_are_words(self.replay.input());
     }
 
     /// Returns the run's shared words.
@@ -111,12 +111,12 @@ impl<'a> Shared<'a> {
         self.reducers
     }
 
-    /// Returns the run's course.
-    pub fn course(&self) -> &Course
-        ensures course { result.now ≡ self.now.course }
-        ensures yard { self.now.course.yard ≡ yard_of self.now.run }
+    /// Returns the run's replay.
+    pub fn replay(&self) -> &Replay
+        ensures replay { result.now ≡ self.now.replay }
+        ensures yard { self.now.replay.yard ≡ yard_of self.now.run }
     {
-        self.course
+        self.replay
     }
 
     /// Returns the kind and frame of the event at a position, or `Nothing` if there is no event.

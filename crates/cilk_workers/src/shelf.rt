@@ -8,7 +8,7 @@ ghost use Rattle.cilk_workers.specs.Rows.{run_of};
 ghost use Rattle.cilk_workers.specs.Shelves.{ComesOut, HasNone, HasRoom, IsSameShelf, LiesOn, PutsBack, TakesOff};
 
 use crate::join::JoinBox;
-use cilk_replay::course::Course;
+use cilk_replay::replay::Replay;
 use cilk_shared::reducers::Reducers;
 use cilk_shared::yard::Yard;
 use cilk_types::event::Pos;
@@ -24,7 +24,7 @@ use std::snapshot::Snapshot;
 pub struct Shelf {
     of: Snapshot<Yard>,
     reducers: Snapshot<Reducers>,
-    course: Snapshot<Course>,
+    replay: Snapshot<Replay>,
     boxes: Vec<JoinBox>,
 }
 
@@ -32,36 +32,36 @@ impl Model for Shelf {
     ghost use Rattle.std.specs.Prelude.{All};
     ghost use Rattle.std.specs.Vec.{vec_capacity};
     ghost use Rattle.std.specs.Coded.{codes};
-    ghost use Rattle.cilk_replay.specs.Courses.{course_code};
+    ghost use Rattle.cilk_replay.specs.Replays.{replay_code};
     ghost use Rattle.cilk_workers.specs.Rows.{run_of};
     ghost use Rattle.cilk_workers.specs.Shelves.{LiesOn, ShelfValue, shelf};
 
     ghost Value = { ShelfValue };
 
-    ghost coded = { Prim.hlevel (codes, course_code) };
+    ghost coded = { Prim.hlevel (codes, replay_code) };
 
-    ghost view = { λ s. shelf (run_of s.of.value s.reducers.value) s.course.value s.boxes.items (vec_capacity s.boxes) };
+    ghost view = { λ s. shelf (run_of s.of.value s.reducers.value) s.replay.value s.boxes.items (vec_capacity s.boxes) };
 
-    ghost invariant = { λ s. All (LiesOn (run_of s.of.value s.reducers.value) s.course.value) s.boxes.items };
+    ghost invariant = { λ s. All (LiesOn (run_of s.of.value s.reducers.value) s.replay.value) s.boxes.items };
 }
 
 // Moves out the box of a block, if it is on the shelf.
 fn taken(
     yard: &Yard,
     reducers: &Reducers,
-    course: &Course,
+    replay: &Replay,
     boxes: &mut Vec<JoinBox>,
     sync: Pos,
 ) -> Option<JoinBox>
-    requires { All (LiesOn (run_of yard.now reducers.now) course.now) boxes.old.items }
-    ensures rest { All (LiesOn (run_of yard.now reducers.now) course.now) boxes.new.items }
-    ensures found { IfSome result (λ b. LiesOn (run_of yard.now reducers.now) course.now b × (b.sync ≡ sync)) }
+    requires { All (LiesOn (run_of yard.now reducers.now) replay.now) boxes.old.items }
+    ensures rest { All (LiesOn (run_of yard.now reducers.now) replay.now) boxes.new.items }
+    ensures found { IfSome result (λ b. LiesOn (run_of yard.now reducers.now) replay.now b × (b.sync ≡ sync)) }
     ensures taken { MatchOption result (HasNone boxes.old.items sync × (boxes.new.items ≡ boxes.old.items)) (λ b. (k : ℕ) × ComesOut boxes.old.items k b boxes.new.items) }
     ensures room { (length boxes.new.items ≤ length boxes.old.items) × (vec_capacity boxes.new ≡ vec_capacity boxes.old) }
 {
     let _ = yard;
     let _ = reducers;
-    let _ = course;
+    let _ = replay;
     'each: for at in 0..boxes.len() {
         let found = &boxes[at];
         if found.sync() == sync {
@@ -73,13 +73,13 @@ fn taken(
 
 impl Shelf {
     /// Returns a shelf without boxes.
-    pub fn new(alloc: Global, yard: &Yard, reducers: &Reducers, course: &Course) -> Shelf
-        ensures { (result.of ≡ run_of yard.now reducers.now) × (result.course ≡ course.now) × (result.boxes ≡ []) }
+    pub fn new(alloc: Global, yard: &Yard, reducers: &Reducers, replay: &Replay) -> Shelf
+        ensures { (result.of ≡ run_of yard.now reducers.now) × (result.replay ≡ replay.now) × (result.boxes ≡ []) }
     {
         Shelf {
             of: Snapshot::of(yard),
             reducers: Snapshot::of(reducers),
-            course: Snapshot::of(course),
+            replay: Snapshot::of(replay),
             boxes: Vec::new(alloc),
         }
     }
@@ -92,26 +92,26 @@ impl Shelf {
         alloc: Global,
         yard: &Yard,
         reducers: &Reducers,
-        course: &Course,
+        replay: &Replay,
         sync: Pos,
     ) -> Result<JoinBox, AllocError>
-        requires of { (self.old.of ≡ run_of yard.now reducers.now) × (self.old.course ≡ course.now) }
+        requires of { (self.old.of ≡ run_of yard.now reducers.now) × (self.old.replay ≡ replay.now) }
         requires sync { event yard.now.event_order sync ≡ Some Sync }
-        ensures found { IfOk result (λ b. LiesOn self.old.of self.old.course b × (b.sync ≡ sync)) }
+        ensures found { IfOk result (λ b. LiesOn self.old.of self.old.replay b × (b.sync ≡ sync)) }
         ensures taken { IfOk result (λ b. TakesOff self.old sync b self.new × HasRoom self.new) }
         ensures err { OnErr result (self.new.boxes ≡ self.old.boxes) }
         ensures same { IsSameShelf self.old self.new }
     {
         self.boxes.reserve(1)?;
-        if let Some(found) = taken(yard, reducers, course, &mut self.boxes, sync) {
+        if let Some(found) = taken(yard, reducers, replay, &mut self.boxes, sync) {
             return Ok(found);
         }
-        Ok(JoinBox::new(alloc, yard, reducers, course, sync))
+        Ok(JoinBox::new(alloc, yard, reducers, replay, sync))
     }
 
     /// Puts a box back, for which there is room. A box in which nothing waits is dropped.
     pub fn put(&mut self, back: JoinBox)
-        requires of { LiesOn self.old.of self.old.course back }
+        requires of { LiesOn self.old.of self.old.replay back }
         requires room { HasRoom self.old }
         ensures put { PutsBack self.old back self.new }
         ensures same { IsSameShelf self.old self.new }

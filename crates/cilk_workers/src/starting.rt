@@ -44,7 +44,7 @@ pub(crate) fn spawned(alloc: Global, shared: &Shared<'_>, work: &mut Work) -> Tu
         unreachable!();
     };
     let frame = frame_begun(shared, at);
-    let Ok(rest) = work.chain.spawn(alloc, shared.course(), frame, next) else {
+    let Ok(rest) = work.chain.spawn(alloc, shared.replay(), frame, next) else {
         return Turn::Stopped;
     };
     let ticket = work.piece.offer(shared.yard());
@@ -60,7 +60,7 @@ pub(crate) fn called(alloc: Global, shared: &Shared<'_>, work: &mut Work) -> Tur
     let at = work.piece.upto();
     shared.laws();
     let frame = frame_begun(shared, at);
-    let Ok(()) = work.chain.call(alloc, shared.course(), frame) else {
+    let Ok(()) = work.chain.call(alloc, shared.replay(), frame) else {
         return Turn::Stopped;
     };
     work.piece.pass(shared.yard());

@@ -17,7 +17,7 @@ use crate::starting::{called, spawned};
 use crate::work::{Turn, Work};
 use cilk_frames::cursor::Answer;
 use cilk_replay::chain::{Chain, Task};
-use cilk_replay::looked::Looked;
+use cilk_replay::plan_match::PlanMatch;
 use cilk_shared::piece::Piece;
 use cilk_shared::taken::Taken;
 use cilk_tree::kind::{Asked, Kind};
@@ -30,8 +30,8 @@ pub fn first(alloc: Global, shared: &Shared<'_>, piece: Piece) -> Result<Work, A
     ensures { IfOk result (Works shared.now) }
 {
     shared.laws();
-    let mut chain = Chain::root(alloc, shared.course())?;
-    chain.answer(shared.course(), Answer::Done);
+    let mut chain = Chain::root(alloc, shared.replay())?;
+    chain.answer(shared.replay(), Answer::Done);
     Ok(Work { piece, chain })
 }
 
@@ -43,7 +43,7 @@ fn departed(shared: &Shared<'_>, work: &Work) -> Turn
     requires differs { IsAsked (event_order_in shared.now) work.now.piece.upto → ⊥ }
     ensures { Turned shared.now work.now.piece work.now result }
 {
-    shared.course().resumes();
+    shared.replay().resumes();
     let segment = work.piece.segment();
     segment.has_followed();
     Turn::Departed(segment.departs(shared.yard()))
@@ -96,10 +96,10 @@ pub fn act(alloc: Global, shared: &Shared<'_>, work: &mut Work) -> Turn
     let Asked::Next { frame, kind } = shared.next(at) else {
         unreachable!();
     };
-    match work.chain.look(shared.course(), kind) {
-        Looked::Asked if shared.is_last(at) => finished(shared, work, frame),
-        Looked::Asked => made(alloc, shared, work, frame, kind),
-        Looked::Differs => departed(shared, work),
+    match work.chain.matches_plan(shared.replay(), kind) {
+        PlanMatch::Follows if shared.is_last(at) => finished(shared, work, frame),
+        PlanMatch::Follows => made(alloc, shared, work, frame, kind),
+        PlanMatch::Departs => departed(shared, work),
     }
 }
 
@@ -107,7 +107,7 @@ pub fn act(alloc: Global, shared: &Shared<'_>, work: &mut Work) -> Turn
 /// took the continuation.
 pub fn begin(shared: &Shared<'_>, mut piece: Piece, task: Task) -> Result<Work, Piece>
     requires piece { OfRun shared.now.run piece × (piece.upto ≤ piece.from) }
-    requires task { task.of ≡ shared.now.course }
+    requires task { task.of ≡ shared.now.replay }
     ensures { MatchResult result (Works shared.now) (λ p. p ≡ piece) }
 {
     let ticket = task.ticket();
@@ -115,14 +115,14 @@ pub fn begin(shared: &Shared<'_>, mut piece: Piece, task: Task) -> Result<Work, 
     let Asked::Next { frame: _, kind } = shared.next(at) else {
         return Err(piece);
     };
-    let mut chain = task.rest().wake(shared.course());
-    let Looked::Asked = chain.look(shared.course(), kind) else {
+    let mut chain = task.rest().wake(shared.replay());
+    let PlanMatch::Follows = chain.matches_plan(shared.replay(), kind) else {
         return Err(piece);
     };
     shared.laws();
     match piece.take(shared.yard(), ticket) {
         Taken::Yes => {
-            chain.answer(shared.course(), Answer::Done);
+            chain.answer(shared.replay(), Answer::Done);
             Ok(Work { piece, chain })
         }
         Taken::No => Err(piece),

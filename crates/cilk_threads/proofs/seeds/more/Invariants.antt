@@ -3,4 +3,4 @@ use Rattle.cilk_workers.specs.Keys.{AreKeys}
 use Rattle.cilk_threads.proofs.seeds.more.Given as goal
 
 abbrev pub invariant-each : goal.invariant-each
-invariant-each g l = AreKeys (take l.at l.doors.items) l.all.items × AreKeys l.doors.items l.keys.items
+invariant-each g l = AreKeys (take l.at l.locks.items) l.all.items × AreKeys l.locks.items l.keys.items

@@ -6,10 +6,10 @@ pub index_mut-key-requires : goal.index_mut-key-requires
 index_mut-key-requires g c = let w = widths _ _ c.requires.keys in omega (arith, w, c.requires.at)
 
 pub another-requires : goal.another-requires
-another-requires g c = at _ _ c.requires.keys c.args.at c.requires.at _ _ c.index-door.ensures c.index_mut-key.ensures.value
+another-requires g c = at _ _ c.requires.keys c.args.at c.requires.at _ _ c.index-shelf_lock.ensures c.index_mut-key.ensures.value
 
 pub returns-clause-keys : goal.returns-clause-keys
-returns-clause-keys g c = changed _ _ c.requires.keys c.args.at c.requires.at _ c.another.new.key c.index-door.ensures c.another.ensures.old
+returns-clause-keys g c = changed _ _ c.requires.keys c.args.at c.requires.at _ c.another.new.key c.index-shelf_lock.ensures c.another.ensures.old
 
 pub returns-clause-one : goal.returns-clause-one
-returns-clause-one g c = key_at _ c.args.at c.requires.at _ c.another.result c.index-door.ensures c.another.ensures.new
+returns-clause-one g c = key_at _ c.args.at c.requires.at _ c.another.result c.index-shelf_lock.ensures c.another.ensures.new

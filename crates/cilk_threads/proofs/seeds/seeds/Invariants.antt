@@ -8,8 +8,8 @@ use Rattle.cilk_threads.proofs.seeds.seeds.Given as goal
 
 abbrev pub invariant-each : goal.invariant-each
 invariant-each g l =
-    All (IsWorkerSeed l.shared l.doors.items) l.all.items
-    × AreKeys l.doors.items l.keys.items
+    All (IsWorkerSeed l.shared l.locks.items) l.all.items
+    × AreKeys l.locks.items l.keys.items
     × All (λ ts. All IsTake ts.items) l.ends.items
     × OfRun l.shared.run l.spare
     × (l.spare.upto ≤ l.spare.from)

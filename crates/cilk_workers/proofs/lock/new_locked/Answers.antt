@@ -2,4 +2,4 @@ use Rattle.cilk_workers.proofs.RackKeys.{frees}
 use Rattle.cilk_workers.proofs.lock.new_locked.Goals as goal
 
 pub push_as-requires-clause-rule : goal.push_as-requires-clause-rule
-push_as-requires-clause-rule g c = (frees g.N.Naming.run g.N.Naming.course _ _ _ _ c.requires, λ _ _ _ _. tt)
+push_as-requires-clause-rule g c = (frees g.N.Naming.run g.N.Naming.replay _ _ _ _ c.requires, λ _ _ _ _. tt)

@@ -40,4 +40,4 @@ pass-requires-clause-quiet c =
     (of_event_order (λ s. kind_of_event (event s p.upto) ≡ Some Sync) c.args.shared.now.run p works.good.0 due.kind_is) tt
 
 pub answer-requires-clause-answer : goal.answer-requires-clause-answer
-answer-requires-clause-answer c = answered_done c.args.shared.now c.args.work.now Sync c.requires.due c.requires.more c.course.ensures.yard tt
+answer-requires-clause-answer c = answered_done c.args.shared.now c.args.work.now Sync c.requires.due c.requires.more c.replay.ensures.yard tt

@@ -7,6 +7,6 @@ use Rattle.cilk_workers.proofs.shelf.taken.Given as goal
 
 abbrev pub invariant-each : goal.invariant-each
 invariant-each l =
-    All (LiesOn (run_of l.yard l.reducers) l.course) l.boxes.items
+    All (LiesOn (run_of l.yard l.reducers) l.replay) l.boxes.items
     × (l.boxes ≡ l.fn.boxes)
     × ((k : ℕ) (d : BoxValue) → k < l.at → (let b = get_or l.boxes.items k d in b.sync ≢ l.sync))

@@ -11,7 +11,7 @@ unreachable-requires c =
 
 pub unreachable-requires-in_default-kind : goal.unreachable-requires-in_default-kind
 unreachable-requires-in_default-kind c =
-    let b = child_begins c.args.shared.now c.laws.ensures.course c.laws.ensures.same c.args.at c.requires.first c.requires.start in
+    let b = child_begins c.args.shared.now c.laws.ensures.replay c.laws.ensures.same c.args.at c.requires.first c.requires.start in
     let n = c.in-Next.ensures in
     let z : Some c.in-Next.kind ≡ Some (kinds.Begin b.0) = sym n.0 ∙ b.1 in
     c.in_default-kind.not-Begin b.0 (cc z)

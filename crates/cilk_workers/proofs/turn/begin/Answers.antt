@@ -5,7 +5,7 @@ use Rattle.cilk_types.specs.declared.event.Event.TheVariants as events
 use Rattle.cilk_workers.specs.Rows.{yard_of}
 use Rattle.cilk_replay.specs.Asking.{IsAnswered}
 use Rattle.cilk_replay.specs.Chains.{ChainValue, TaskValue, standing}
-use Rattle.cilk_replay.specs.Courses.{CourseValue}
+use Rattle.cilk_replay.specs.Replays.{ReplayValue}
 use Rattle.cilk_frames.specs.declared.cursor.Answer.TheVariants.{Done}
 use Rattle.cilk_shared.specs.Values.{YardValue}
 use Rattle.cilk_tree.specs.declared.event_order.EventOrder.{EventOrder}
@@ -18,11 +18,11 @@ use Rattle.cilk_workers.proofs.OfKind.{resume_event}
 use Rattle.cilk_workers.proofs.turn.begin.Goals as goal
 
 -- the position at which the task continues
-resumes : (y : SharedValue) (t : TaskValue) (at ticket : ℕ) → t.of ≡ y.course → (let u = y.course in u.yard ≡ yard_of y.run) → (let u = t.of in let z = u.yard in what z.event_order at ≡ resume t.ticket) → ticket ≡ t.ticket
+resumes : (y : SharedValue) (t : TaskValue) (at ticket : ℕ) → t.of ≡ y.replay → (let u = y.replay in u.yard ≡ yard_of y.run) → (let u = t.of in let z = u.yard in what z.event_order at ≡ resume t.ticket) → ticket ≡ t.ticket
     → what (event_order_in y) at ≡ resume ticket
 resumes y t at ticket of same is q =
     subst (λ (z : YardValue). what z.event_order at ≡ resume ticket) same
-    (subst (λ (u : CourseValue). let z = u.yard in what z.event_order at ≡ resume ticket) of (subst (λ (n : ℕ). let u = t.of in let z = u.yard in what z.event_order at ≡ resume n) (sym q) is))
+    (subst (λ (u : ReplayValue). let z = u.yard in what z.event_order at ≡ resume ticket) of (subst (λ (n : ℕ). let u = t.of in let z = u.yard in what z.event_order at ≡ resume n) (sym q) is))
 
 -- the `resume` is answered with nothing; it isn't the last event
 answer : (s : EventOrder) (at ticket : ℕ) → IsOrderly s → what s at ≡ resume ticket → IsAsked s at → 1 ≤ at → at ≤ length s.events → IsAnswered s at Done

@@ -1,5 +1,5 @@
 use Rattle.std.proofs.Common.{◌≡◌, ◌-◌, ◌<◌, ℕ, sym, subst}
-use Rattle.cilk_replay.specs.Courses.{CourseValue}
+use Rattle.cilk_replay.specs.Replays.{ReplayValue}
 use Rattle.cilk_replay.specs.Resumes.{ResumesAreAsked}
 use Rattle.cilk_shared.specs.Values.{SegmentValue, YardValue}
 use Rattle.cilk_tree.specs.declared.event_order.EventOrder.{EventOrder}
@@ -17,9 +17,9 @@ departs-requires-clause-next c =
     let y = c.args.shared.now in
     let works = c.requires.works in
     let p = c.args.work.now.piece in
-    let course : ResumesAreAsked (let u = y.course in let z = u.yard in z.event_order) =
-    subst (λ (u : CourseValue). let z = u.yard in ResumesAreAsked z.event_order) c.course.ensures.course c.resumes.ensures in
-    let law : ResumesAreAsked (event_order_in y) = subst (λ (z : YardValue). ResumesAreAsked z.event_order) c.course.ensures.yard course in
+    let replay : ResumesAreAsked (let u = y.replay in let z = u.yard in z.event_order) =
+    subst (λ (u : ReplayValue). let z = u.yard in ResumesAreAsked z.event_order) c.replay.ensures.replay c.resumes.ensures in
+    let law : ResumesAreAsked (event_order_in y) = subst (λ (z : YardValue). ResumesAreAsked z.event_order) c.replay.ensures.yard replay in
     let followed : IsFollowed (event_order_in y) (p.upto - 1) =
     off_segment (λ (s : EventOrder) (n : ℕ). IsFollowed s (n - 1)) y p _ c.segment-segment.ensures works.good.0 c.has_followed.ensures in (
       subst (λ (g : SegmentValue). g.from < g.upto) (sym c.segment-segment.ensures) works.good.1,

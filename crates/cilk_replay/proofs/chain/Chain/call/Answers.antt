@@ -3,42 +3,42 @@ use Rattle.cilk_program.specs.declared.ask.Ask.{Ask}
 use Rattle.cilk_types.specs.declared.invocation.Invocation.{Invocation}
 use Rattle.cilk_program.specs.declared.ask.Ask.TheVariants.{Begin, Invoke}
 use Rattle.cilk_program.specs.declared.ask.Callee.{Callee}
-use Rattle.cilk_replay.specs.declared.level.Level.{Level}
+use Rattle.cilk_replay.specs.declared.replay_frame.ReplayFrame.{ReplayFrame}
 use Rattle.cilk_replay.specs.Asking.{BeginsNext, Calls}
 use Rattle.cilk_replay.specs.Chains.{ChainValue}
-use Rattle.cilk_replay.specs.Courses.{IsSightIn}
+use Rattle.cilk_replay.specs.Replays.{IsSightIn}
 use Rattle.cilk_replay.specs.Standing.{Stand}
 use Rattle.cilk_replay.proofs.Along as along
 use Rattle.cilk_replay.proofs.chain.Chain.call.Goals as goal
 
 pub invariant_of-self : goal.invariant_of-self
-invariant_of-self c = subst (λ (xs : List Level). Stand c.self.inside.of.value c.self.inside.at c.self.inside.asked c.self.inside.top.value xs) (sym c.reserve.ensures.items) c.self.invariant
+invariant_of-self c = subst (λ (xs : List ReplayFrame). Stand c.self.inside.of.value c.self.inside.at c.self.inside.asked c.self.inside.top.value xs) (sym c.reserve.ensures.items) c.self.invariant
 
 pub begun-requires : goal.begun-requires
 begun-requires c =
-    let same = ap (λ (v : ChainValue). v.of) c.self.view_is ∙ sym c.requires.course in
-    along.call_begins c.self.inside.of.value c.args.course.now same c.self.inside.at c.self.inside.asked c.self.inside.top.value c.self.inside.below.items c.self.invariant (along.of_chain Calls c.self.inside.of.value c.self.inside.at _ c.self.view_is c.requires.calls)
+    let same = ap (λ (v : ChainValue). v.of) c.self.view_is ∙ sym c.requires.replay in
+    along.call_begins c.self.inside.of.value c.args.replay.now same c.self.inside.at c.self.inside.asked c.self.inside.top.value c.self.inside.below.items c.self.invariant (along.of_chain Calls c.self.inside.of.value c.self.inside.at _ c.self.view_is c.requires.calls)
 
 pub invariant_of-self-in_err-child : goal.invariant_of-self-in_err-child
-invariant_of-self-in_err-child c = subst (λ (xs : List Level). Stand c.self.inside.of.value c.self.inside.at c.self.inside.asked c.self.inside.top.value xs) (sym c.reserve.ensures.items) c.self.invariant
+invariant_of-self-in_err-child c = subst (λ (xs : List ReplayFrame). Stand c.self.inside.of.value c.self.inside.at c.self.inside.asked c.self.inside.top.value xs) (sym c.reserve.ensures.items) c.self.invariant
 
 pub invariant_of-self-2 : goal.invariant_of-self-2
 invariant_of-self-2 c =
-    let same = ap (λ (v : ChainValue). v.of) c.self.view_is ∙ sym c.requires.course in
-    let items = c.push_reserved.ensures.items ∙ ap (λ (xs : List Level). xs ++ c.replace-caller.result ∷ []) c.reserve.ensures.items ∙ ap (λ (l : Level). c.self.inside.below.items ++ l ∷ []) (c.replace-caller.ensures.value ∙ c.deref_mut.ensures.value) in
-    subst (λ (l : Level). Stand c.self.inside.of.value (c.self.inside.at + 1) c.put.new.self l c.push_reserved.new.self.items) (sym c.replace-caller.ensures.after)
+    let same = ap (λ (v : ChainValue). v.of) c.self.view_is ∙ sym c.requires.replay in
+    let items = c.push_reserved.ensures.items ∙ ap (λ (xs : List ReplayFrame). xs ++ c.replace-caller.result ∷ []) c.reserve.ensures.items ∙ ap (λ (l : ReplayFrame). c.self.inside.below.items ++ l ∷ []) (c.replace-caller.ensures.value ∙ c.deref_mut.ensures.value) in
+    subst (λ (l : ReplayFrame). Stand c.self.inside.of.value (c.self.inside.at + 1) c.put.new.self l c.push_reserved.new.self.items) (sym c.replace-caller.ensures.after)
     (subst (λ (k : Ask). Stand c.self.inside.of.value (c.self.inside.at + 1) k c.in_ok-child.child c.push_reserved.new.self.items) (sym c.put.ensures)
-    (subst (λ (xs : List Level). Stand c.self.inside.of.value (c.self.inside.at + 1) Begin c.in_ok-child.child xs) (sym items)
-    (along.called c.self.inside.of.value c.args.course.now same c.self.inside.at c.self.inside.asked c.self.inside.top.value c.self.inside.below.items c.self.invariant c.in_ok-child.child (along.of_chain Calls c.self.inside.of.value c.self.inside.at _ c.self.view_is c.requires.calls)
+    (subst (λ (xs : List ReplayFrame). Stand c.self.inside.of.value (c.self.inside.at + 1) Begin c.in_ok-child.child xs) (sym items)
+    (along.called c.self.inside.of.value c.args.replay.now same c.self.inside.at c.self.inside.asked c.self.inside.top.value c.self.inside.below.items c.self.invariant c.in_ok-child.child (along.of_chain Calls c.self.inside.of.value c.self.inside.at _ c.self.view_is c.requires.calls)
     (record {
       number = c.args.frame;
-      home = c.child-home.result;
+      layout = c.child-layout.result;
       begins = along.of_chain (λ s at. BeginsNext s at c.args.frame) c.self.inside.of.value c.self.inside.at _ c.self.view_is c.requires.begins;
-      lies = c.child-home.ensures.block;
-      frame = c.child-home.ensures.frame;
-      before = c.child-home.ensures.before;
+      lies = c.child-layout.ensures.block;
+      frame = c.child-layout.ensures.frame;
+      before = c.child-layout.ensures.before;
       begun = c.in_ok-child.ensures.stands;
       owes = c.in_ok-child.ensures.owes;
       took = c.in_ok-child.ensures.took;
-      sight = subst (λ (l : Level). (how : Invocation) (callee : Callee) → c.self.inside.asked ≡ Invoke how callee → IsSightIn c.args.course.now callee c.child-home.result l.sight c.in_ok-child.child.sight) c.deref.ensures c.in_ok-child.ensures.sight;
+      sight = subst (λ (l : ReplayFrame). (how : Invocation) (callee : Callee) → c.self.inside.asked ≡ Invoke how callee → IsSightIn c.args.replay.now callee c.child-layout.result l.sight c.in_ok-child.child.sight) c.deref.ensures c.in_ok-child.ensures.sight;
     }))))

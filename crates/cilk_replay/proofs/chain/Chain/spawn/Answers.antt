@@ -3,55 +3,55 @@ use Rattle.cilk_program.specs.declared.ask.Ask.{Ask}
 use Rattle.cilk_types.specs.declared.invocation.Invocation.{Invocation}
 use Rattle.cilk_program.specs.declared.ask.Ask.TheVariants.{Begin, Invoke}
 use Rattle.cilk_program.specs.declared.ask.Callee.{Callee}
-use Rattle.cilk_replay.specs.declared.level.Level.{Level}
+use Rattle.cilk_replay.specs.declared.replay_frame.ReplayFrame.{ReplayFrame}
 use Rattle.cilk_replay.specs.Asking.{BeginsNext, Spawns}
 use Rattle.cilk_replay.specs.Chains.{ChainValue}
-use Rattle.cilk_replay.specs.Courses.{CourseValue, IsSightIn}
+use Rattle.cilk_replay.specs.Replays.{ReplayValue, IsSightIn}
 use Rattle.cilk_replay.specs.Standing.{Rest, Stand}
 use Rattle.cilk_replay.proofs.Along as along
 use Rattle.cilk_replay.proofs.chain.Chain.spawn.Goals as goal
 
 pub begun-requires : goal.begun-requires
 begun-requires c =
-    let same = ap (λ (v : ChainValue). v.of) c.self.view_is ∙ sym c.requires.course in
-    along.spawn_begins c.self.inside.of.value c.args.course.now same c.self.inside.at c.self.inside.asked c.self.inside.top.value c.self.inside.below.items c.self.invariant c.args.next (along.of_chain (λ s at. Spawns s at c.args.next) c.self.inside.of.value c.self.inside.at _ c.self.view_is c.requires.spawns)
+    let same = ap (λ (v : ChainValue). v.of) c.self.view_is ∙ sym c.requires.replay in
+    along.spawn_begins c.self.inside.of.value c.args.replay.now same c.self.inside.at c.self.inside.asked c.self.inside.top.value c.self.inside.below.items c.self.invariant c.args.next (along.of_chain (λ s at. Spawns s at c.args.next) c.self.inside.of.value c.self.inside.at _ c.self.view_is c.requires.spawns)
 
 pub invariant_of-self : goal.invariant_of-self
 invariant_of-self c =
-    let same = ap (λ (v : ChainValue). v.of) c.self.view_is ∙ sym c.requires.course in
-    subst (λ (l : Level). Stand c.self.inside.of.value (c.self.inside.at + 1) c.put.new.self l c.replace-2.new.dest.items) (sym (ap (λ (b : Box Level Global). b.value) c.replace.ensures.after ∙ c.in_ok-child.ensures.ok))
-    (subst (λ (k : Ask). Stand c.self.inside.of.value (c.self.inside.at + 1) k c.in_ok-level.level c.replace-2.new.dest.items) (sym c.put.ensures)
-    (subst (λ (xs : List Level). Stand c.self.inside.of.value (c.self.inside.at + 1) Begin c.in_ok-level.level xs) (sym (ap (λ v. v.items) c.replace-2.ensures.after ∙ c.new-2.ensures.items))
-    (along.spawned_child c.self.inside.of.value c.args.course.now same c.self.inside.at c.self.inside.asked c.self.inside.top.value c.self.inside.below.items c.self.invariant c.in_ok-level.level c.args.next (along.of_chain (λ s at. Spawns s at c.args.next) c.self.inside.of.value c.self.inside.at _ c.self.view_is c.requires.spawns)
+    let same = ap (λ (v : ChainValue). v.of) c.self.view_is ∙ sym c.requires.replay in
+    subst (λ (l : ReplayFrame). Stand c.self.inside.of.value (c.self.inside.at + 1) c.put.new.self l c.replace-2.new.dest.items) (sym (ap (λ (b : Box ReplayFrame Global). b.value) c.replace.ensures.after ∙ c.in_ok-child.ensures.ok))
+    (subst (λ (k : Ask). Stand c.self.inside.of.value (c.self.inside.at + 1) k c.in_ok-replay_frame.replay_frame c.replace-2.new.dest.items) (sym c.put.ensures)
+    (subst (λ (xs : List ReplayFrame). Stand c.self.inside.of.value (c.self.inside.at + 1) Begin c.in_ok-replay_frame.replay_frame xs) (sym (ap (λ v. v.items) c.replace-2.ensures.after ∙ c.new-2.ensures.items))
+    (along.spawned_child c.self.inside.of.value c.args.replay.now same c.self.inside.at c.self.inside.asked c.self.inside.top.value c.self.inside.below.items c.self.invariant c.in_ok-replay_frame.replay_frame c.args.next (along.of_chain (λ s at. Spawns s at c.args.next) c.self.inside.of.value c.self.inside.at _ c.self.view_is c.requires.spawns)
     (record {
       number = c.args.frame;
-      home = c.child-home.result;
+      layout = c.child-layout.result;
       begins = along.of_chain (λ s at. BeginsNext s at c.args.frame) c.self.inside.of.value c.self.inside.at _ c.self.view_is c.requires.begins;
-      lies = c.child-home.ensures.block;
-      frame = c.child-home.ensures.frame;
-      before = c.child-home.ensures.before;
-      begun = c.in_ok-level.ensures.stands;
-      owes = c.in_ok-level.ensures.owes;
-      took = c.in_ok-level.ensures.took;
-      sight = subst (λ (l : Level). (how : Invocation) (callee : Callee) → c.self.inside.asked ≡ Invoke how callee → IsSightIn c.args.course.now callee c.child-home.result l.sight c.in_ok-level.level.sight) c.deref.ensures c.in_ok-level.ensures.sight;
+      lies = c.child-layout.ensures.block;
+      frame = c.child-layout.ensures.frame;
+      before = c.child-layout.ensures.before;
+      begun = c.in_ok-replay_frame.ensures.stands;
+      owes = c.in_ok-replay_frame.ensures.owes;
+      took = c.in_ok-replay_frame.ensures.took;
+      sight = subst (λ (l : ReplayFrame). (how : Invocation) (callee : Callee) → c.self.inside.asked ≡ Invoke how callee → IsSightIn c.args.replay.now callee c.child-layout.result l.sight c.in_ok-replay_frame.replay_frame.sight) c.deref.ensures c.in_ok-replay_frame.ensures.sight;
     }))))
 
 pub invariant_of-rest : goal.invariant_of-rest
 invariant_of-rest c =
-    let same = ap (λ (v : ChainValue). v.of) c.self.view_is ∙ sym c.requires.course in
-    subst (λ (l : Level). Rest c.of.result.value c.args.next l c.replace-2.result.items) (sym (ap (λ (b : Box Level Global). b.value) c.replace.ensures.value))
-    (subst (λ (xs : List Level). Rest c.of.result.value c.args.next c.self.inside.top.value xs) (sym (ap (λ v. v.items) c.replace-2.ensures.value))
-    (subst (λ (u : CourseValue). Rest u c.args.next c.self.inside.top.value c.self.inside.below.items) (same ∙ sym c.of.ensures)
-    (along.spawned_parent c.self.inside.of.value c.args.course.now same c.self.inside.at c.self.inside.asked c.self.inside.top.value c.self.inside.below.items c.self.invariant c.in_ok-level.level c.args.next (along.of_chain (λ s at. Spawns s at c.args.next) c.self.inside.of.value c.self.inside.at _ c.self.view_is c.requires.spawns)
+    let same = ap (λ (v : ChainValue). v.of) c.self.view_is ∙ sym c.requires.replay in
+    subst (λ (l : ReplayFrame). Rest c.of.result.value c.args.next l c.replace-2.result.items) (sym (ap (λ (b : Box ReplayFrame Global). b.value) c.replace.ensures.value))
+    (subst (λ (xs : List ReplayFrame). Rest c.of.result.value c.args.next c.self.inside.top.value xs) (sym (ap (λ v. v.items) c.replace-2.ensures.value))
+    (subst (λ (u : ReplayValue). Rest u c.args.next c.self.inside.top.value c.self.inside.below.items) (same ∙ sym c.of.ensures)
+    (along.spawned_parent c.self.inside.of.value c.args.replay.now same c.self.inside.at c.self.inside.asked c.self.inside.top.value c.self.inside.below.items c.self.invariant c.in_ok-replay_frame.replay_frame c.args.next (along.of_chain (λ s at. Spawns s at c.args.next) c.self.inside.of.value c.self.inside.at _ c.self.view_is c.requires.spawns)
     (record {
       number = c.args.frame;
-      home = c.child-home.result;
+      layout = c.child-layout.result;
       begins = along.of_chain (λ s at. BeginsNext s at c.args.frame) c.self.inside.of.value c.self.inside.at _ c.self.view_is c.requires.begins;
-      lies = c.child-home.ensures.block;
-      frame = c.child-home.ensures.frame;
-      before = c.child-home.ensures.before;
-      begun = c.in_ok-level.ensures.stands;
-      owes = c.in_ok-level.ensures.owes;
-      took = c.in_ok-level.ensures.took;
-      sight = subst (λ (l : Level). (how : Invocation) (callee : Callee) → c.self.inside.asked ≡ Invoke how callee → IsSightIn c.args.course.now callee c.child-home.result l.sight c.in_ok-level.level.sight) c.deref.ensures c.in_ok-level.ensures.sight;
+      lies = c.child-layout.ensures.block;
+      frame = c.child-layout.ensures.frame;
+      before = c.child-layout.ensures.before;
+      begun = c.in_ok-replay_frame.ensures.stands;
+      owes = c.in_ok-replay_frame.ensures.owes;
+      took = c.in_ok-replay_frame.ensures.took;
+      sight = subst (λ (l : ReplayFrame). (how : Invocation) (callee : Callee) → c.self.inside.asked ≡ Invoke how callee → IsSightIn c.args.replay.now callee c.child-layout.result l.sight c.in_ok-replay_frame.replay_frame.sight) c.deref.ensures c.in_ok-replay_frame.ensures.sight;
     }))))

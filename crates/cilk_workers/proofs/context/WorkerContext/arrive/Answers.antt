@@ -8,19 +8,19 @@ use Rattle.cilk_workers.proofs.context.WorkerContext.arrive.Goals as goal
 pub index_mut-key-requires : goal.index_mut-key-requires
 index_mut-key-requires g c = let w = widths _ _ c.requires.keys in let n = c.len.ensures in omega (arith, w, n, c.shelf_of-at.ensures)
 
-pub arrive_behind-requires-clause-key : goal.arrive_behind-requires-clause-key
-arrive_behind-requires-clause-key g c =
+pub arrive_locked-requires-clause-key : goal.arrive_locked-requires-clause-key
+arrive_locked-requires-clause-key g c =
     let n = c.len.ensures in
-    let there : c.shelf_of-at.result < length c.args.self.now.blocks.doors.now.items = omega (arith, n, c.shelf_of-at.ensures) in
-    at _ _ c.requires.keys c.shelf_of-at.result there _ _ c.index-door.ensures c.index_mut-key.ensures.value
+    let there : c.shelf_of-at.result < length c.args.self.now.blocks.locks.now.items = omega (arith, n, c.shelf_of-at.ensures) in
+    at _ _ c.requires.keys c.shelf_of-at.result there _ _ c.index-shelf_lock.ensures c.index_mut-key.ensures.value
 
-pub arrive_behind-requires-clause-sync : goal.arrive_behind-requires-clause-sync
-arrive_behind-requires-clause-sync g c =
+pub arrive_locked-requires-clause-sync : goal.arrive_locked-requires-clause-sync
+arrive_locked-requires-clause-sync g c =
     let y = c.args.self.now.shared.now in
     subst (λ (n : ℕ). event (event_order_in y) n ≡ Some Sync) (sym c.position-sync.ensures) (number_at (λ (n : ℕ). event (event_order_in y) n ≡ Some Sync) c.args.self.now.blocks.syncs.now c.args.block c.requires.context.syncs c.requires.block)
 
 pub returns-clause-keys : goal.returns-clause-keys
 returns-clause-keys g c =
     let n = c.len.ensures in
-    let there : c.shelf_of-at.result < length c.args.self.now.blocks.doors.now.items = omega (arith, n, c.shelf_of-at.ensures) in
-    changed _ _ c.requires.keys c.shelf_of-at.result there _ c.arrive_behind.new.key c.index-door.ensures c.arrive_behind.ensures.key
+    let there : c.shelf_of-at.result < length c.args.self.now.blocks.locks.now.items = omega (arith, n, c.shelf_of-at.ensures) in
+    changed _ _ c.requires.keys c.shelf_of-at.result there _ c.arrive_locked.new.key c.index-shelf_lock.ensures c.arrive_locked.ensures.key

@@ -10,7 +10,7 @@ use Rattle.crossbeam_queue.proofs.array_queue.Slotted.TheSendSync as slotted
 use Rattle.cilk_shared.proofs.yard.Yard.TheSendSync as yard
 use Rattle.cilk_shared.proofs.reducers.Reducers.TheSendSync as reducers
 use Rattle.cilk_threads.specs.declared.pool.Ends.{Ends}
-use Rattle.cilk_threads.proofs.Crossing.{piece_send, chain_send, task_send, shelf_send, plan_sync, course_sync}
+use Rattle.cilk_threads.proofs.Crossing.{piece_send, chain_send, task_send, shelf_send, plan_sync, replay_sync}
 use Rattle.cilk_threads.proofs.Popped.{more}
 use Rattle.cilk_threads.proofs.pool.fn.pool.scope.Goals as goal
 
@@ -25,7 +25,7 @@ spawn_with-started-requires-send-F g c κs within =
     let m = c.requires.3 in
     let s = c.requires.4 in
     let t = c.requires.5 in
-    search (piece_send, chain_send, task_send, shelf_send, worker.the_send, stealer.the_send, row_seat.the_send, slotted.the_sync, seat.the_send, flag.the_sync, yard.the_sync, reducers.the_sync, plan_sync, course_sync, sendable, crosses) depth 40 fits 2000
+    search (piece_send, chain_send, task_send, shelf_send, worker.the_send, stealer.the_send, row_seat.the_send, slotted.the_sync, seat.the_send, flag.the_sync, yard.the_sync, reducers.the_sync, plan_sync, replay_sync, sendable, crosses) depth 40 fits 2000
 
 pub each-preserved : goal.each-preserved
 each-preserved g c =

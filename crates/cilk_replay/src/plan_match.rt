@@ -1,0 +1,10 @@
+//! The result of comparing a request with the plan's next event.
+
+/// Whether the current frame requests the plan's next event.
+#[derive(Clone, Copy, PartialEq, Eq)]
+pub enum PlanMatch {
+    /// It does.
+    Follows,
+    /// It requests something else: the run departs from the plan.
+    Departs,
+}

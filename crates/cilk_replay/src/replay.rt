@@ -1,0 +1,196 @@
+//! The replay of a plan's run on an input.
+
+ghost use Rattle.std.specs.Prelude.{◌≡◌, length, slice_get, unwrap_or};
+ghost use Rattle.cilk_program.specs.Sources.{source};
+ghost use Rattle.cilk_replay.specs.Replays.{AreEntriesOf, IsBlockOf, IsBodyOf, IsReplay, IsEntryOf, replay_with};
+ghost use Rattle.cilk_replay.specs.Resumes.{ResumesAreAsked};
+
+use crate::frame_layout::{CellBlock, FrameLayout};
+use cilk_lower::code::Code;
+use cilk_program::program::{Body, Program};
+use cilk_shared::yard::Yard;
+use cilk_types::event::FrameNo;
+use cilk_types::input::Input;
+use std::marker::Model;
+use std::snapshot::Snapshot;
+
+/// The function or loop that a frame of a plan's run runs, and its block of cells.
+#[derive(Clone, Copy)]
+pub struct FrameEntry {
+    pub body: Body,
+    pub block: CellBlock,
+}
+
+/// The code of a program and an input for it, along the plan of one of the program's runs; and for
+/// each frame of that run its body and its cells.
+pub struct Replay {
+    yard: Snapshot<Yard>,
+    program: Snapshot<Program>,
+    own: Snapshot<Input>,
+    code: Code,
+    input: Input,
+    globals: usize,
+    reducers: u32,
+    entries: Vec<FrameEntry>,
+}
+
+// A function of its own, so that a proof follows one call where a replay is dropped.
+impl Drop for Replay {
+    fn drop(self) {
+        let Replay {
+            yard: _yard,
+            program: _program,
+            own: _own,
+            code: _code,
+            input: _input,
+            globals: _,
+            reducers: _,
+            entries: _entries,
+        } = self;
+    }
+}
+
+impl Model for Replay {
+    ghost use Rattle.std.specs.Prelude.{◌≡◌, length};
+    ghost use Rattle.cilk_program.specs.Sources.{source};
+    ghost use Rattle.cilk_replay.specs.Replays.{AreEntriesOf, ReplayValue, IsReplay, replay_code, replay_with};
+
+    ghost Value = { ReplayValue };
+
+    ghost coded = { replay_code };
+
+    ghost view = { λ c. replay_with c.yard.value c.program.value c.code c.own.value c.input };
+
+    ghost invariant = { λ c. IsReplay (replay_with c.yard.value c.program.value c.code c.own.value c.input)
+        × (c.globals ≡ (let p = source c.program.value in length p.openings))
+        × (c.reducers ≡ (let p = source c.program.value in length p.reducers))
+        × AreEntriesOf (replay_with c.yard.value c.program.value c.code c.own.value c.input) c.entries.items };
+}
+
+impl Replay {
+    /// Creates the replay of a program on `input`, along the plan of its serial run on `own`. The
+    /// event order of `yard` is that plan as the program makes it on `input`. `entries` has each
+    /// frame of that run, by number.
+    pub fn new(
+        yard: &Yard,
+        program: &Program,
+        own: &Input,
+        code: Code,
+        input: Input,
+        entries: Vec<FrameEntry>,
+    ) -> Replay
+        requires replay { IsReplay (replay_with yard.now program.now code own.now input) }
+        requires entries { AreEntriesOf (replay_with yard.now program.now code own.now input) entries.items }
+        ensures { result ≡ replay_with yard.now program.now code own.now input }
+    {
+        Replay {
+            yard: Snapshot::of(yard),
+            program: Snapshot::of(program),
+            own: Snapshot::of(own),
+            code,
+            input,
+            globals: program.globals.len(),
+            reducers: program.reducers.len() as u32,
+            entries,
+        }
+    }
+
+    /// Returns the number of global cells.
+    pub fn globals(&self) -> usize
+        ensures { let p = source self.now.program in result ≡ length p.openings }
+    {
+        self.globals
+    }
+
+    /// Returns the layout of the root's frame. Its number is 1, and it creates the global reducers
+    /// before its own.
+    pub fn root(&self) -> FrameLayout
+        ensures block { IsBlockOf self.now 1 result.block }
+        ensures frame { result.frame ≡ 1 }
+        ensures before { let p = source self.now.program in result.before ≡ length p.reducers }
+    {
+        FrameLayout {
+            block: self.block(1),
+            frame: 1,
+            before: self.reducers,
+        }
+    }
+
+    /// Returns the layout of the child with this number, if the plan's run has that frame.
+    pub fn child(&self, frame: FrameNo) -> FrameLayout
+        ensures block { IsBlockOf self.now frame result.block }
+        ensures frame { result.frame ≡ frame }
+        ensures before { result.before ≡ 0 }
+    {
+        FrameLayout {
+            block: self.block(frame),
+            frame,
+            before: 0,
+        }
+    }
+
+    /// Returns the cells of the frame with this number, if the plan's run has that frame.
+    pub fn block(&self, frame: FrameNo) -> CellBlock
+        ensures { IsBlockOf self.now frame result }
+    {
+        self.entry(frame).block
+    }
+
+    /// Returns the function or loop of the frame with this number, if the plan's run has that
+    /// frame.
+    pub fn body(&self, frame: FrameNo) -> Body
+        ensures { IsBodyOf self.now frame result }
+    {
+        self.entry(frame).body
+    }
+
+    /// Returns the body and the cells of the frame with this number. A number past the last frame's
+    /// gives function 0 without cells.
+    pub fn entry(&self, frame: FrameNo) -> FrameEntry
+        ensures { IsEntryOf self.now frame result }
+    {
+        let none = FrameEntry {
+            body: Body::Function(0),
+            block: CellBlock { first: 0, cells: 0 },
+        };
+        entry_at(&self.entries, frame.saturating_sub(1), none)
+    }
+
+    /// Returns the program's code.
+    pub fn code(&self) -> &Code
+        ensures { result.now ≡ self.now.code }
+    {
+        &self.code
+    }
+
+    /// Returns the current input.
+    pub fn input(&self) -> &Input
+        ensures { result.now ≡ self.now.inputs }
+    {
+        &self.input
+    }
+
+    /// States the invariant of a replay.
+    pub fn laws(&self)
+        ensures { IsReplay self.now }
+    {
+        let _input = self.input.count();
+    }
+
+    /// States that a frame that requests a spawn requests the `resume` after it: the run doesn't
+    /// depart there.
+    pub fn resumes(&self)
+        ensures { let y = self.now.yard in ResumesAreAsked y.event_order }
+    {
+        self.laws();
+    }
+}
+
+fn entry_at(entries: &[FrameEntry], place: u32, other: FrameEntry) -> FrameEntry
+    ensures { result ≡ unwrap_or (slice_get entries.now place) other }
+{
+    match entries.get(place as usize) {
+        Some(entry) => *entry,
+        None => other,
+    }
+}

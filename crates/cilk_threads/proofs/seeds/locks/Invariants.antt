@@ -1,0 +1,5 @@
+use Rattle.cilk_workers.specs.Keys.{AreKeys}
+use Rattle.cilk_threads.proofs.seeds.locks.Given as goal
+
+abbrev pub invariant-each : goal.invariant-each
+invariant-each g l = AreKeys l.all.items l.keys.items

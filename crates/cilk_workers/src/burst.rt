@@ -1,0 +1,142 @@
+//! The turns of a worker that holds a piece.
+
+ghost use Rattle.std.specs.Prelude.{◌≡◌, IfSome};
+ghost use Rattle.cilk_workers.specs.Rows.{IsGood};
+ghost use Rattle.cilk_replay.specs.Chains.{standing};
+ghost use Rattle.cilk_workers.specs.Racks.{Of};
+ghost use Rattle.cilk_workers.specs.Turns.{HasEnded, Works};
+ghost use Rattle.cilk_workers.specs.Activities.{IsActivity};
+ghost use Rattle.cilk_workers.specs.Keys.{AreKeys};
+ghost use Rattle.cilk_workers.specs.WorkerContexts.{IsWorkerContext};
+
+use crate::activity::{Activity, ExitReason, Tools};
+use crate::context::WorkerContext;
+use crate::gate::Gate;
+use crate::lock::{Key, never};
+use crate::locks::{Arrival, Met, block_at};
+use crate::naming::Naming;
+use crate::rack::Rack;
+use crate::turn::act;
+use crate::work::{Turn, Work};
+use cilk_replay::chain::{Chain, Task};
+use cilk_shared::piece::Piece;
+use std::sync::Wait;
+
+/// The greatest number of turns before a worker checks whether another has stopped the run.
+const TURNS: u32 = 256;
+
+// The worker's own newest task, unless a thief took the continuation that this worker was to
+// resume.
+fn behind<N: Naming>(rack: &mut Rack<N>, taken: bool) -> Option<Task>
+    ensures { IfSome result (λ t. Of N.replay t) }
+{
+    if taken { None } else { rack.newest() }
+}
+
+impl<'a, 'b, N: Naming, R: Wait, G: Gate> WorkerContext<'a, 'b, N, R, G> {
+    // The worker continues with its own newest task, the continuation of its child.
+    fn own(&self, work: &mut Work, task: Task)
+        requires piece { IsGood self.now.shared.now.run work.old.piece }
+        requires task { task.of ≡ self.now.shared.now.replay }
+        ensures { Works self.now.shared.now work.new }
+    {
+        if task.at() != work.piece.upto() {
+            never(self.rt);
+        }
+        work.chain = task.rest().wake(self.shared.replay());
+    }
+
+    // A piece arrives at the block of its next position. The worker continues with what passes, or
+    // with an empty piece.
+    fn arrived(&self, keys: &mut Vec<Key>, piece: Piece, chain: Option<Chain>) -> Activity
+        requires context { IsWorkerContext N.run N.replay N.taken self.now }
+        requires keys { AreKeys self.now.blocks.locks.now.items keys.old.items }
+        requires piece { IsGood self.now.shared.now.run piece }
+        requires chain { IfSome chain (λ c. c ≡ standing self.now.shared.now.replay piece.upto) }
+        ensures keys { AreKeys self.now.blocks.locks.now.items keys.new.items }
+        ensures hand { IsActivity self.now.shared.now result }
+    {
+        let shared = self.shared;
+        let at = piece.upto();
+        let by = match shared.resumed_by(at) {
+            Some(child) => child,
+            None => at,
+        };
+        let Some(block) = block_at(self.blocks.of, at, self.blocks.syncs.len()) else {
+            never(self.rt);
+            unreachable!()
+        };
+        let (piece, empty) = piece.apart(self.alloc, shared.yard(), shared.reducers());
+        match self.arrive(keys, block, Arrival { by, piece, chain }) {
+            Met::Passes(work) => Activity::Holds(work),
+            Met::Waits => Activity::Idle(empty),
+            Met::Stopped => Activity::Done(ExitReason::Stopped),
+        }
+    }
+
+    // Offers a continuation. False if memory ran out.
+    fn offered(&self, rack: &mut Rack<N>, task: Task) -> bool
+        requires context { IsWorkerContext N.run N.replay N.taken self.now }
+        requires task { task.of ≡ self.now.shared.now.replay }
+    {
+        rack.offer(task).is_ok()
+    }
+
+    // The run has ended, and the piece has all of its events.
+    fn whole(&self, piece: Piece, value: i64) -> Activity
+        requires { HasEnded self.now.shared.now piece value }
+        ensures { IsActivity self.now.shared.now result }
+    {
+        if piece.from() != 1 {
+            never(self.rt);
+        }
+        Activity::Done(ExitReason::Whole(piece, value))
+    }
+
+    /// Makes up to `TURNS` turns of a worker that holds a piece and a chain.
+    ///
+    /// When a child has ended, the worker continues with its own newest task, the child's
+    /// continuation. If it has none, or a thief took the continuation that it was to resume, its
+    /// piece arrives at the block.
+    pub fn run_burst(&self, tools: &mut Tools<N>, mut work: Work) -> Activity
+        requires context { IsWorkerContext N.run N.replay N.taken self.now }
+        requires keys { AreKeys self.now.blocks.locks.now.items tools.old.keys.items }
+        requires works { Works self.now.shared.now work }
+        ensures keys { AreKeys self.now.blocks.locks.now.items tools.new.keys.items }
+        ensures hand { IsActivity self.now.shared.now result }
+    {
+        'each: for _ in 0..TURNS {
+            let before = work.piece.upto();
+            match act(self.alloc, self.shared, &mut work) {
+                Turn::Goes => self.watch.tell(self.shared, before, &work.piece),
+                Turn::Offers(task) => {
+                    self.watch.tell(self.shared, before, &work.piece);
+                    if !self.offered(&mut tools.rack, task) {
+                        return Activity::Done(ExitReason::Stopped);
+                    }
+                }
+                Turn::Ended => {
+                    self.watch.tell(self.shared, before, &work.piece);
+                    let taken = work.piece.upto() == before;
+                    let Some(task) = behind(&mut tools.rack, taken) else {
+                        let Work { piece, chain: _ } = work;
+                        return self.arrived(&mut tools.keys, piece, None);
+                    };
+                    self.own(&mut work, task);
+                }
+                Turn::Arrives => {
+                    let Work { piece, chain } = work;
+                    return self.arrived(&mut tools.keys, piece, Some(chain));
+                }
+                Turn::Finished(value) => {
+                    self.watch.tell(self.shared, before, &work.piece);
+                    let Work { piece, chain: _ } = work;
+                    return self.whole(piece, value);
+                }
+                Turn::Departed(at) => return Activity::Done(ExitReason::Departed(at)),
+                Turn::Stopped => return Activity::Done(ExitReason::Stopped),
+            }
+        }
+        Activity::Holds(work)
+    }
+}

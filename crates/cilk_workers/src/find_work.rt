@@ -1,0 +1,94 @@
+//! A turn of a worker without work.
+
+ghost use Rattle.std.specs.Prelude.{◌≤◌, IfSome};
+ghost use Rattle.cilk_workers.specs.Rows.{OfRun};
+ghost use Rattle.cilk_workers.specs.Racks.{MayPick, Of};
+ghost use Rattle.cilk_workers.specs.Activities.{IsActivity};
+ghost use Rattle.cilk_workers.specs.Keys.{AreKeys};
+ghost use Rattle.cilk_workers.specs.WorkerContexts.{IsWorkerContext};
+
+use crate::activity::{Activity, ExitReason, Tools};
+use crate::context::WorkerContext;
+use crate::gate::Gate;
+use crate::lock::{Key, never};
+use crate::locks::block_at;
+use crate::naming::Naming;
+use crate::rack::{Picker, Rack};
+use crate::turn::begin;
+use cilk_replay::chain::Task;
+use cilk_shared::piece::Piece;
+use cilk_types::event::Pos;
+use crossbeam_utils::Backoff;
+use std::sync::Wait;
+
+// The oldest task of another worker, if one was found.
+fn another<N: Naming>(pickers: &mut Vec<Picker<N>>) -> Option<Task>
+    requires { MayPick N.taken }
+    ensures { IfSome result (λ t. Of N.replay t) }
+{
+    'each: for at in 0..pickers.len() {
+        let picker = &mut pickers[at];
+        if let Some(task) = picker.oldest() {
+            return Some(task);
+        }
+    }
+    None
+}
+
+// The worker's own newest task, or else the oldest of another.
+fn found<N: Naming>(rack: &mut Rack<N>, pickers: &mut Vec<Picker<N>>) -> Option<Task>
+    requires { MayPick N.taken }
+    ensures { IfSome result (λ t. Of N.replay t) }
+{
+    match rack.newest() {
+        Some(task) => Some(task),
+        None => another(pickers),
+    }
+}
+
+impl<'a, 'b, N: Naming, R: Wait, G: Gate> WorkerContext<'a, 'b, N, R, G> {
+    // Records a steal at the block of the position where the thief continues. False if memory ran
+    // out.
+    fn announce_steal(&self, keys: &mut Vec<Key>, at: Pos) -> bool
+        requires context { IsWorkerContext N.run N.replay N.taken self.now }
+        requires keys { AreKeys self.now.blocks.locks.now.items keys.old.items }
+        ensures { AreKeys self.now.blocks.locks.now.items keys.new.items }
+    {
+        let block = block_at(self.blocks.of, at, self.blocks.syncs.len());
+        let (Some(block), Some(child)) = (block, self.shared.resumed_by(at)) else {
+            never(self.rt);
+            unreachable!()
+        };
+        self.record_steal(keys, block, child, at)
+    }
+
+    /// Makes one turn of a worker without work: it takes its own newest task, or steals the oldest
+    /// of another. If it finds none, it ends once it sees that the run has ended.
+    pub fn find_work(&self, tools: &mut Tools<N>, backoff: &Backoff, mut piece: Piece) -> Activity
+        requires context { IsWorkerContext N.run N.replay N.taken self.now }
+        requires keys { AreKeys self.now.blocks.locks.now.items tools.old.keys.items }
+        requires piece { OfRun self.now.shared.now.run piece × (piece.upto ≤ piece.from) }
+        ensures keys { AreKeys self.now.blocks.locks.now.items tools.new.keys.items }
+        ensures hand { IsActivity self.now.shared.now result }
+    {
+        let Some(task) = found(&mut tools.rack, &mut tools.pickers) else {
+            if piece.ended(self.shared.yard()) {
+                return Activity::Done(ExitReason::Stopped);
+            }
+            backoff.snooze();
+            return Activity::Idle(piece);
+        };
+        match begin(self.shared, piece, task) {
+            Ok(work) => {
+                backoff.reset();
+                self.watch.tell(self.shared, 0, &work.piece);
+                if self.announce_steal(&mut tools.keys, work.piece.from()) {
+                    Activity::Holds(work)
+                } else {
+                    Activity::Done(ExitReason::Stopped)
+                }
+            }
+            Err(piece) => Activity::Idle(piece),
+        }
+    }
+}

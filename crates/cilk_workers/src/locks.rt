@@ -1,0 +1,223 @@
+//! Steals and arrivals at the join boxes, each under the lock of its shelf.
+
+ghost use Rattle.std.specs.Prelude.{◌≡◌, ◌<◌, ◌≤◌, ℕ, Some, length, slice_get, slice_index, IfOk, IfSome, MatchOption, OnOk};
+ghost use Rattle.cilk_types.specs.declared.event.Event.TheVariants.{Sync};
+ghost use Rattle.crossbeam_queue.specs.Passes.{IsPassOf};
+ghost use Rattle.cilk_workers.specs.Rows.{IsGood};
+ghost use Rattle.cilk_workers.specs.Shelves.{HasRoom, IsSameShelf, LiesOn};
+ghost use Rattle.cilk_replay.specs.Chains.{standing};
+ghost use Rattle.cilk_workers.specs.Locks.{IsShelf};
+ghost use Rattle.cilk_tree.specs.Word.{event};
+ghost use Rattle.cilk_workers.specs.Shared.{event_order_in};
+ghost use Rattle.cilk_workers.specs.Activities.{IsMet};
+ghost use Rattle.cilk_workers.specs.Keys.{AreKeys};
+ghost use Rattle.cilk_workers.specs.WorkerContexts.{IsWorkerContext};
+
+use crate::context::WorkerContext;
+use crate::gate::Gate;
+use crate::join::{Boxed, JoinBox};
+use crate::lock::{Key, Lock, lock, never, unlock};
+use crate::naming::Naming;
+use crate::shelf::Shelf;
+use crate::work::Work;
+use cilk_replay::chain::Chain;
+use cilk_shared::piece::Piece;
+use cilk_types::event::Pos;
+use std::alloc::AllocError;
+use std::sync::Wait;
+
+/// A piece that comes to a block: a child's with the position of its spawn, or the `sync`'s own
+/// with that of the `sync` and its chain.
+#[derive(Drop)]
+pub struct Arrival {
+    pub by: Pos,
+    pub piece: Piece,
+    pub chain: Option<Chain>,
+}
+
+/// The outcome of an arrival.
+#[derive(Drop)]
+pub enum Met {
+    /// The block passes, and the worker continues with its `sync`.
+    Passes(Work),
+    /// The piece waits in the box.
+    Waits,
+    /// The worker ran out of memory.
+    Stopped,
+}
+
+/// Returns the block of a position, if it is one of the first `count`.
+pub fn block_at(of: &[u32], at: Pos, count: usize) -> Option<usize>
+    ensures { MatchOption result ((b : ℕ) → slice_get of.now at ≡ Some b → count ≤ b) (λ b. (slice_get of.now at ≡ Some b) × (b < count)) }
+{
+    let block = *of.get(at as usize)? as usize;
+    if block < count { Some(block) } else { None }
+}
+
+/// Returns the position of a block's `sync`.
+pub fn position(syncs: &[Pos], block: usize) -> Pos
+    requires { block < length syncs.now }
+    ensures { result ≡ slice_index syncs.now block }
+{
+    syncs[block]
+}
+
+// The shelf of a block, of `shelves` shelves.
+fn shelf_of<R: Wait>(rt: &R, block: usize, shelves: usize) -> usize
+    ensures { result < shelves }
+{
+    if shelves == 0 {
+        never(rt);
+        unreachable!()
+    }
+    block % shelves
+}
+
+impl<'a, 'b, N: Naming, R: Wait, G: Gate> WorkerContext<'a, 'b, N, R, G> {
+    // A piece arrives at this box.
+    fn arrive_at(&self, found: &mut JoinBox, arrival: Arrival) -> Met
+        requires run { (found.old.rows.of ≡ self.now.shared.now.run) × (found.old.replay ≡ self.now.shared.now.replay) }
+        requires good { IsGood self.now.shared.now.run arrival.piece }
+        requires chain { IfSome arrival.chain (λ c. c ≡ standing self.now.shared.now.replay arrival.piece.upto) }
+        ensures met { IsMet self.now.shared.now result }
+        ensures same { (found.new.rows.of ≡ found.old.rows.of) × (found.new.replay ≡ found.old.replay) × (found.new.sync ≡ found.old.sync) }
+    {
+        let Arrival { by, piece, chain } = arrival;
+        if !found.fits(by, &piece, chain.is_some()) {
+            never(self.rt);
+        }
+        match found.arrive(self.alloc, self.shared.yard(), by, piece, chain) {
+            Ok(Boxed::Waits) => Met::Waits,
+            Ok(Boxed::Passes(piece, chain)) => Met::Passes(Work { piece, chain }),
+            Err(_) => Met::Stopped,
+        }
+    }
+
+    // Takes the box of a block off its shelf, which then has room to put it back.
+    fn taken_from(&self, shelf: &mut Shelf, sync: Pos) -> Result<JoinBox, AllocError>
+        requires context { IsWorkerContext N.run N.replay N.taken self.now }
+        requires shelf { IsShelf N.run N.replay shelf.old }
+        requires sync { event (event_order_in self.now.shared.now) sync ≡ Some Sync }
+        ensures shelf { IsSameShelf shelf.old shelf.new }
+        ensures of { IfOk result (λ b. LiesOn shelf.old.of shelf.old.replay b) }
+        ensures room { OnOk result (HasRoom shelf.new) }
+        ensures run { IfOk result (λ b. (b.rows.of ≡ self.now.shared.now.run) × (b.replay ≡ self.now.shared.now.replay)) }
+    {
+        let shared = self.shared;
+        shelf.take(
+            self.alloc,
+            shared.yard(),
+            shared.reducers(),
+            shared.replay(),
+            sync,
+        )
+    }
+
+    // A piece arrives at a block whose box is on this shelf.
+    fn arrive_on(&self, shelf: &mut Shelf, sync: Pos, arrival: Arrival) -> Met
+        requires context { IsWorkerContext N.run N.replay N.taken self.now }
+        requires shelf { IsShelf N.run N.replay shelf.old }
+        requires sync { event (event_order_in self.now.shared.now) sync ≡ Some Sync }
+        requires good { IsGood self.now.shared.now.run arrival.piece }
+        requires chain { IfSome arrival.chain (λ c. c ≡ standing self.now.shared.now.replay arrival.piece.upto) }
+        ensures shelf { IsSameShelf shelf.old shelf.new }
+        ensures met { IsMet self.now.shared.now result }
+    {
+        let Ok(mut found) = self.taken_from(shelf, sync) else {
+            return Met::Stopped;
+        };
+        let met = self.arrive_at(&mut found, arrival);
+        shelf.put(found);
+        met
+    }
+
+    // Records a steal at a block whose box is on this shelf. False if memory ran out.
+    fn record_steal_on(&self, shelf: &mut Shelf, sync: Pos, child: Pos, goes_on: Pos) -> bool
+        requires context { IsWorkerContext N.run N.replay N.taken self.now }
+        requires shelf { IsShelf N.run N.replay shelf.old }
+        requires sync { event (event_order_in self.now.shared.now) sync ≡ Some Sync }
+        ensures { IsSameShelf shelf.old shelf.new }
+    {
+        let Ok(mut found) = self.taken_from(shelf, sync) else {
+            return false;
+        };
+        if !found.open(child, goes_on) {
+            never(self.rt);
+        }
+        let told = found.record_steal(child, goes_on).is_ok();
+        shelf.put(found);
+        told
+    }
+
+    // A piece arrives at the block that ends with the `sync` at this position, whose shelf has this
+    // lock.
+    fn arrive_locked(&self, shelf_lock: &Lock<N>, key: &mut Key, sync: Pos, arrival: Arrival) -> Met
+        requires context { IsWorkerContext N.run N.replay N.taken self.now }
+        requires key { IsPassOf shelf_lock.now key.old }
+        requires sync { event (event_order_in self.now.shared.now) sync ≡ Some Sync }
+        requires good { IsGood self.now.shared.now.run arrival.piece }
+        requires chain { IfSome arrival.chain (λ c. c ≡ standing self.now.shared.now.replay arrival.piece.upto) }
+        ensures key { IsPassOf shelf_lock.now key.new }
+        ensures met { IsMet self.now.shared.now result }
+    {
+        let mut shelf = lock(self.rt, shelf_lock, key);
+        let met = self.arrive_on(&mut shelf, sync, arrival);
+        unlock(self.rt, shelf_lock, key, shelf);
+        met
+    }
+
+    // Records a steal at the block that ends with the `sync` at this position, whose shelf has this
+    // lock.
+    fn record_steal_locked(
+        &self,
+        shelf_lock: &Lock<N>,
+        key: &mut Key,
+        sync: Pos,
+        child: Pos,
+        goes_on: Pos,
+    ) -> bool
+        requires context { IsWorkerContext N.run N.replay N.taken self.now }
+        requires key { IsPassOf shelf_lock.now key.old }
+        requires sync { event (event_order_in self.now.shared.now) sync ≡ Some Sync }
+        ensures { IsPassOf shelf_lock.now key.new }
+    {
+        let mut shelf = lock(self.rt, shelf_lock, key);
+        let told = self.record_steal_on(&mut shelf, sync, child, goes_on);
+        unlock(self.rt, shelf_lock, key, shelf);
+        told
+    }
+
+    /// Takes a piece to the block with this number.
+    pub fn arrive(&self, keys: &mut Vec<Key>, block: usize, arrival: Arrival) -> Met
+        requires context { IsWorkerContext N.run N.replay N.taken self.now }
+        requires keys { AreKeys self.now.blocks.locks.now.items keys.old.items }
+        requires block { block < length self.now.blocks.syncs.now }
+        requires good { IsGood self.now.shared.now.run arrival.piece }
+        requires chain { IfSome arrival.chain (λ c. c ≡ standing self.now.shared.now.replay arrival.piece.upto) }
+        ensures keys { AreKeys self.now.blocks.locks.now.items keys.new.items }
+        ensures met { IsMet self.now.shared.now result }
+    {
+        let locks = self.blocks.locks;
+        let sync = position(self.blocks.syncs, block);
+        let at = shelf_of(self.rt, block, locks.len());
+        let shelf_lock = &locks[at];
+        let key = &mut keys[at];
+        self.arrive_locked(shelf_lock, key, sync, arrival)
+    }
+
+    /// Records at the block with this number that a thief took the continuation of the spawn at
+    /// `child`, which continues at `goes_on`. False if memory ran out.
+    pub fn record_steal(&self, keys: &mut Vec<Key>, block: usize, child: Pos, goes_on: Pos) -> bool
+        requires context { IsWorkerContext N.run N.replay N.taken self.now }
+        requires keys { AreKeys self.now.blocks.locks.now.items keys.old.items }
+        requires block { block < length self.now.blocks.syncs.now }
+        ensures { AreKeys self.now.blocks.locks.now.items keys.new.items }
+    {
+        let locks = self.blocks.locks;
+        let sync = position(self.blocks.syncs, block);
+        let at = shelf_of(self.rt, block, locks.len());
+        let shelf_lock = &locks[at];
+        let key = &mut keys[at];
+        self.record_steal_locked(shelf_lock, key, sync, child, goes_on)
+    }
+}
