@@ -60,7 +60,7 @@ def has_rt():
     if shutil.which("rt"):
         return True
     tell("the command `rt` isn't on the path. It is Rattle's compiler and prover, which builds this program")
-    tell(f"read 'The two commands' in {TOP}/README.md")
+    tell(f"read 'To try it' in {TOP}/README.md")
     return False
 
 

@@ -1,5 +1,5 @@
 #!/usr/bin/env python3
-"""docs/TESTED.md has the counts of cases, wrong bodies and examples that are there.
+"""The documents have the counts of cases, wrong bodies and examples that are there.
 
 tested_counts.py            prints each count that differs; its status is 0 where none does
 tested_counts.py --write    writes them
@@ -11,38 +11,56 @@ import re
 import sys
 
 TOP = os.path.dirname(os.path.dirname(os.path.realpath(__file__)))
-DOCUMENT = f"{TOP}/docs/TESTED.md"
 
-# the word after a count in the last column, what its row has to name, and what is counted
+CASES = "crates/cilk_rows/data/*/"
+IN_GATE = "crates/*/must-fail/*.edit"
+BESIDE_GATE = "crates/*/edits/*.edit"
+PROGRAMS = "examples/*.c examples/gallery/*.c"
+
+# a document, the words round a count there (`N`), and the files that are counted
 COUNTS = [
-    ("cases", "cases.py", "crates/cilk_rows/data/*/"),
-    ("edits", "must-fail", "crates/*/must-fail/*.edit"),
-    ("edits", "tools/edits", "crates/*/edits/*.edit"),
-    ("programs", "cilk_base_tests", "examples/*.c examples/gallery/*.c"),
+    ("README.md", "# N stored calls", CASES),
+    ("CHANGELOG.md", "are cases (N)", CASES),
+    ("CHANGELOG.md", "that are promised (N)", IN_GATE),
+    ("CHANGELOG.md", "`tools/edits` the N others", BESIDE_GATE),
+    ("docs/GATE.md", "serves the N cases", CASES),
+    ("docs/GATE.md", "tries the N that aren't in `must-fail/`", BESIDE_GATE),
+    ("docs/TESTED.md", "`tools/cases.py` | N cases |", CASES),
+    ("docs/TESTED.md", "`crates/*/must-fail` | N edits |", IN_GATE),
+    ("docs/TESTED.md", "`tools/edits` | N edits |", BESIDE_GATE),
+    ("docs/TESTED.md", "`cilk_base_tests` | N programs |", PROGRAMS),
 ]
 
 
-def counted(line):
-    """The line of a table, with its count as it is."""
-    for word, name, patterns in COUNTS:
-        if name in line and re.search(rf"\| [\d,]+ {word} \|$", line):
-            count = sum(len(glob.glob(f"{TOP}/{it}")) for it in patterns.split())
-            return re.sub(rf"\| [\d,]+ {word} \|$", f"| {count:,} {word} |", line)
-    return line
+def corrected(text, document, says):
+    """The document's text with the counts as they are; `says` is called where one differs."""
+    for name, words, patterns in COUNTS:
+        if name != document:
+            continue
+        count = f"{sum(len(glob.glob(f'{TOP}/{it}')) for it in patterns.split()):,}"
+        before, after = [re.escape(it).replace(r"\ ", r"\s+") for it in words.split("N")]
+        found = re.findall(rf"{before}([\d,]+){after}", text)
+        if len(found) != 1:
+            says(f"{document} has no `{words}`" if not found else f"{document} has `{words}` more than once")
+        elif found[0] != count:
+            says(f"{document} has {found[0]} in `{words}`, and it is {count}")
+            text = re.sub(rf"({before})[\d,]+({after})", rf"\g<1>{count}\g<2>", text)
+    return text
 
 
 def main():
-    with open(DOCUMENT, encoding="utf-8") as file:
-        lines = file.read().split("\n")
-    found = [counted(it) for it in lines]
-    if sys.argv[1:] == ["--write"]:
-        with open(DOCUMENT, "w", encoding="utf-8") as file:
-            file.write("\n".join(found))
-        return 0
-    for here, there in zip(lines, found):
-        if here != there:
-            print(f"docs/TESTED.md has\n  {here}\nand it is\n  {there}")
-    return 0 if lines == found else 1
+    differ = []
+    for document in dict.fromkeys(name for name, _, _ in COUNTS):
+        with open(f"{TOP}/{document}", encoding="utf-8") as file:
+            text = file.read()
+        if sys.argv[1:] == ["--write"]:
+            text = corrected(text, document, lambda _: None)
+            with open(f"{TOP}/{document}", "w", encoding="utf-8") as file:
+                file.write(text)
+        corrected(text, document, differ.append)
+    for it in differ:
+        print(it)
+    return 1 if differ else 0
 
 
 if __name__ == "__main__":

@@ -2,7 +2,8 @@
 //     g++ -O1 -g -fsanitize=thread race.cpp -o race
 //     ./race threads    the child in a thread of its own
 //     ./race pool N     child and continuation as two tasks in a locked list, which N workers take from its end
-// g++ 12.2 on Linux, 20 runs each: 20 reports by `threads`, none by `pool 1`, none by `pool 2`.
+// g++ 12.2 on Linux: by `threads` a report in 20 of 20 runs, by `pool 1` in 0 of 200. By `pool 2` in 0 or 2 of 20, in 19 or 20 of 200:
+// often one worker makes both accesses, and then nothing is seen.
 #include <atomic>
 #include <cstdlib>
 #include <cstring>
