@@ -311,7 +311,7 @@ def rounds(named, cost, slower, lanes, started):
 def main(words):
     os.chdir(TOP)
     if not shutil.which("rt"):
-        print("the command `rt` isn't here (README.md, 'The two commands')\n0 passed, 1 failed")
+        print("the command `rt` isn't here (README.md, 'To try it')\n0 passed, 1 failed")
         return 1
     started = time.monotonic()
     named = crates()
