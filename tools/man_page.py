@@ -8,6 +8,7 @@ man_page.py --write    writes it
 import os
 import re
 import sys
+import textwrap
 
 TOP = os.path.dirname(os.path.dirname(os.path.realpath(__file__)))
 SOURCE = f"{TOP}/crates/cilk_report/src/help.rt"
@@ -23,6 +24,11 @@ def unescaped(text):
 
 def roff(text):
     return re.sub(r"^([.'])", r"\\&\1", text.replace("\\", "\\e").replace("-", "\\-"), flags=re.M)
+
+
+def filled(text):
+    """The lines of a paragraph, which the page's reader fills anew."""
+    return [roff(it) for it in textwrap.wrap(text, 130, break_long_words=False, break_on_hyphens=False)]
 
 
 def items(lines):
@@ -42,7 +48,7 @@ def section(title, lines):
     if title in FORMATTED:
         return [*out, ".nf", *(roff(it.strip()) for it in lines), ".fi"]
     for name, text in items(lines):
-        out += [".TP", f".B {roff(name)}", roff(text)]
+        out += [".TP", f".B {roff(name)}", *filled(text)]
     return out
 
 
@@ -63,7 +69,7 @@ def made(source):
         if title.endswith(":"):
             out += section(title[:-1], lines)
         elif not title.startswith("Usage"):
-            out += [".SH SEE ALSO", roff(" ".join([title, *lines]))]
+            out += [".SH SEE ALSO", *filled(" ".join([title, *lines]))]
     return "\n".join(out) + "\n"
 
 
