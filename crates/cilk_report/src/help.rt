@@ -109,8 +109,7 @@ const FOOT: &str = "  \
 hint: `cilk --help` describes all commands, statuses and limits
 ";
 
-const WORKERS: &str =
-    "  --workers N     the number of workers, 1 to 64; 2 without this option\n";
+const WORKERS: &str = "  --workers N     the number of workers, 1 to 64; 2 without this option\n";
 
 const RUN: Page = Page {
     head: "\
