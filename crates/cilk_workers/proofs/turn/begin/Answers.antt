@@ -40,7 +40,7 @@ take-requires-clause-next c =
     let at = c.at-at.result in
     let same = c.laws.ensures.same in
     let stands = c.wake-chain.ensures ∙ c.rest.ensures.rest ∙ ap₂ standing c.requires.task (sym c.at-at.ensures.place) in
-    can_take y _ c.args.piece c.ticket-ticket.result at c.yard.ensures c.laws.ensures.order (off_standing (λ s p. IsAsked s p) y c.wake-chain.result at stands same c.in-Asked.ensures)
+    can_take y _ c.args.piece c.ticket-ticket.result at c.yard.ensures c.laws.ensures.order (off_standing (λ s p. IsAsked s p) y c.wake-chain.result at stands same c.in-Follows.ensures)
     (resumes y c.args.task at c.ticket-ticket.result c.requires.task same c.at-at.ensures.resumption c.ticket-ticket.ensures) (inl c.requires.piece.1)
 
 pub answer-requires-clause-answer : goal.answer-requires-clause-answer
@@ -52,7 +52,7 @@ answer-requires-clause-answer c =
     let next = c.in-Next.ensures in
     on_standing (λ s p. IsAnswered s p Done) y c.wake-chain.result at stands same
     (answer (event_order_in y) at c.ticket-ticket.result c.laws.ensures.order (resumes y c.args.task at c.ticket-ticket.result c.requires.task same c.at-at.ensures.resumption c.ticket-ticket.ensures)
-    (off_standing (λ s p. IsAsked s p) y c.wake-chain.result at stands same c.in-Asked.ensures) next.2 next.3)
+    (off_standing (λ s p. IsAsked s p) y c.wake-chain.result at stands same c.in-Follows.ensures) next.2 next.3)
 
 pub returns-in-Yes : goal.returns-in-Yes
 returns-in-Yes c =
