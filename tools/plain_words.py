@@ -35,7 +35,7 @@ def text_of(path):
         for number, line in enumerate(file, 1):
             found = comment.search(line.rstrip("\n")) if comment else None
             if comment is None or found:
-                yield number, re.sub(r"`[^`]*`", "` `", found[1] if found else line)
+                yield number, re.sub(r"`[^`]*`", "` `", found[1] if found else line).strip()
 
 
 def default_files():

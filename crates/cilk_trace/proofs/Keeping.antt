@@ -1,4 +1,4 @@
--- What is kept of a whole trace has its marks.
+-- The structure of a whole trace has its marks.
 use Rattle.std.proofs.Common.{◌≡◌, ℕ, suc, ◌<◌, ◌≤◌, List, [], ◌∷◌, ◌++◌, length, refl, sym, ◌∙◌, ap, arith, true, false, Some, None}
 use Rattle.std.specs.Prelude.{set, ⊤}
 use Rattle.std.proofs.lemmas.List.{append_assoc, length-append, set-append_left, length-set}

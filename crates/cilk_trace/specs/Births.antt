@@ -1,4 +1,4 @@
--- What is kept of the reducers of a trace: where each that is alive was created.
+-- The reducers of a trace: where each that is alive was created.
 use Rattle.std.specs.Prelude.{ℕ, Bool, nat_eq, ◌==◌, Option, Some, None, is_some, unwrap_or, if◌then◌else◌}
 use Rattle.std.specs.HashMap.{get}
 use Rattle.cilk_trace.specs.declared.line.Line.{Line}

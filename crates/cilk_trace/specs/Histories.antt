@@ -1,4 +1,4 @@
--- What is kept of each cell of a trace.
+-- The histories of the cells of a trace.
 use Rattle.std.specs.Prelude.{◌≡◌, ℕ, nat_lt, nat_eq, ◌&&◌, ◌||◌, List, length, slice_index_or, ◌<◌, ◌≤◌, ◌⊎◌, if◌then◌else◌}
 use Rattle.cilk_trace.specs.declared.line.Cells.{Cells}
 use Rattle.cilk_trace.specs.Accesses.{Covers}

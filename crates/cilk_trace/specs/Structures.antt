@@ -1,4 +1,4 @@
--- What is kept of a trace's lines so far, to have its marks at the end.
+-- The structure of a trace's lines so far, from which its marks are known at the end.
 use Rattle.std.specs.Prelude.{◌≡◌, ℕ, List, [], ◌∷◌, ◌++◌, length, set, Bool, true, false, Option, Some, None, if◌then◌else◌}
 use Rattle.cilk_tree.specs.declared.mark.Mark.{Mark}
 use Rattle.cilk_tree.specs.declared.mark.Mark.TheVariants.{Begin, End, Sync, Resume, Spawn, Call}

@@ -1,4 +1,4 @@
--- What is kept of a trace's lines by the first reading.
+-- The survey that the first reading makes of a trace's lines.
 use Rattle.std.specs.Prelude.{◌≡◌, ℕ, ◌<◌, ◌^◌, List, length, Some, slice_get}
 use Rattle.cilk_tree.specs.Shape.{Shape, SpellsMarks}
 use Rattle.cilk_tree.specs.Tree.{tree}

@@ -1,4 +1,4 @@
-//! What is kept of each cell of a trace: the write and the access of greatest Hebrew number.
+//! The history of each cell of a trace: the write and the access of greatest Hebrew number.
 
 ghost use Rattle.std.specs.Prelude.{◌≡◌, ◌≤◌, ◌+◌, ◌<◌, ◌^◌, ℕ, IfOk, length, replicate, slice_index_or, if◌then◌else◌};
 ghost use Rattle.cilk_trace.specs.Accesses.{covers};

@@ -18,7 +18,7 @@ pub struct Race {
     pub later: Pos,
 }
 
-/// What is said of a trace. Positions count lines from 1, without the header.
+/// The verdict on a trace. Positions count lines from 1, without the header.
 #[derive(Clone, Copy, PartialEq, Eq, Debug)]
 pub enum Verdict {
     /// No two lines race.

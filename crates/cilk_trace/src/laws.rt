@@ -8,7 +8,7 @@ pub fn traces_have_shapes()
     ensures { TracesHaveShapes }
 {}
 
-/// What is kept of a whole trace has its marks, and its frames nest.
+/// The structure of a whole trace has its marks, and its frames nest.
 pub fn structures_keep_marks()
     ensures { KeepsMarks }
 {}

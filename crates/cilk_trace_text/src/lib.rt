@@ -15,9 +15,14 @@
 //! A number is below 2^32 and has no leading zeros. COUNT is 1 to 4,096, and CELL + COUNT at most
 //! 2^32. A line has at most 64 bytes, and there are fewer than 2^32 - 1 lines.
 //!
-//! [`reader::TraceReader`] reads a text in pieces, cut anywhere, without allocating. Reading stops
-//! at the first fault: a [`fault::TraceFault`] with its line, from 1. Whether frames nest and
-//! reducers are alive isn't the text's: `cilk_trace` says that of lines.
+//! Whether frames nest and reducers are alive is no matter of the text: `cilk_trace` says that of
+//! lines.
+//!
+//! | Item | Use |
+//! |---|---|
+//! | [`reader::TraceReader`] | reads a text in pieces, cut anywhere, without allocating |
+//! | [`fault::TraceFault`] | the first fault, with its line from 1, at which reading stops |
+//! | [`laws::reads_traces`] | a text is read without a fault exactly if the grammar has it |
 //!
 //! ```text
 //! let mut reader = TraceReader::new();

@@ -3,7 +3,7 @@
 ghost use Rattle.std.specs.Prelude.{◌≡◌, false, IsTrue};
 ghost use Rattle.cilk_trace_text.specs.declared.place.Place.TheVariants.{Over};
 
-/// What is due next.
+/// The part of the text that is due next.
 #[derive(Clone, Copy, PartialEq, Eq, Debug)]
 pub enum Place {
     /// The first line, `cilktrace 1`.
