@@ -2,8 +2,9 @@
 -- creates.
 --
 -- - `resets_none`: of ranges that adjoin, the right one resets nothing that the left one mentions;
--- - `view_ahead`: the view that an event of a range reads is that of all events before it.
-use Rattle.std.proofs.Common.{◌≡◌, ⊎_elim, ℕ, ◌+◌, ◌-◌, ◌<◌, ◌≤◌, inr, sym, ap, ◌∙◌, arith}
+-- - `view_ahead`: the view that an event of a range reads is that of all events before it;
+-- - `begins_first`: a range up to the root's `end` begins at the run's first event.
+use Rattle.std.proofs.Common.{◌≡◌, ⊎_elim, ℕ, ◌+◌, ◌-◌, ◌<◌, ◌≤◌, inr, sym, ap, ◌∙◌, subst, arith}
 use mathlib.Core.Logic.{dite}
 use native.Mathlib.Decide.{dec_le}
 use Rattle.cilk_types.specs.declared.event.Instance.{Instance}
@@ -17,7 +18,7 @@ use Rattle.cilk_shared.proofs.Sets.{word_of_resume}
 use Rattle.cilk_tree.specs.Reach.{Among, direct, through}
 use Rattle.cilk_tree.specs.declared.event_order.EventOrder.{EventOrder}
 use Rattle.cilk_tree.specs.Orders.{IsOrderly}
-use Rattle.cilk_tree.specs.Word.{after, what, Before, plain, resume, WordEvent}
+use Rattle.cilk_tree.specs.Word.{after, what, Before, IsLine, IsWord, finish, plain, resume, WordEvent}
 use Rattle.cilk_shared.specs.declared.reducers.Reducers.{Reducers}
 use Rattle.cilk_shared.specs.Reducers.{events_at, events_over}
 use Rattle.cilk_shared.specs.Settled.{AreSettled, Settles}
@@ -53,6 +54,20 @@ module _ (s : EventOrder) (law : IsOrderly s) (r : Reducers) (settled : AreSettl
       (λ (inner : (e' : ℕ) → Among e' (after s q) → b ≤ e'). out (inner e there))
       (whole q le lt))
 
+  -- so such a range doesn't reach the root's `end`, which comes after all events
+  not_last : (d : ℕ) → Whole s b d → b < d → what s d ≡ finish → ⊥
+  not_last d whole some is =
+      let line : IsLine (what s d) = subst IsLine (sym is) tt in
+      let n = law.resumed b k begins in
+      let lower = law.earlier b k n.1 in
+      let first = (law.inside k (subst IsWord (sym n.0) tt)).0 in
+      let end = law.finished d is in
+      by (subst (Before s (b - 1)) (sym end) (law.all (b - 1) (omega (arith, lower, first)) (omega (arith, some, end, low)))) line
+    where
+      by : Before s (b - 1) d → IsLine (what s d) → ⊥
+      by (direct there) line = let near = law.line d line (b - 1) there in let l = low in omega (arith, near, some, l)
+      by (through {e = e} h there) line = let near = law.line d line e there in ahead d whole (omega (arith, near, some)) (omega (arith, near)) h
+
   pub alone : (d : ℕ) → Whole s b d → (i : Instance) (p q : ℕ) → Mentions i (events_at s r p) → Settles s r q i → p < b → b ≤ q → q < d → ⊥
   alone d whole i p q m st lt le lt' = let l = low in ahead d whole le lt' (settled.settled p (b - 1) q i m st (omega (arith, lt)) (omega (arith, le, l)))
 
@@ -68,6 +83,12 @@ module _ (s : EventOrder) (law : IsOrderly s) (r : Reducers) (settled : AreSettl
       let p = mention_in s r i 1 (b - 1) m in
       let p1 = p.2 in let l = low in
       alone (d + 1) whole i p.0 d p.3 st (omega (arith, p1, l)) le (omega arith)
+
+pub begins_first : (s : EventOrder) (law : IsOrderly s) (r : Reducers) (settled : AreSettled s r) (a d : ℕ) → IsStart s a → Whole s a d → a < d → what s d ≡ finish → a ≡ 1
+begins_first s law r settled a d start whole some is = ⊎_elim
+    (λ (z : a ≡ 1). z)
+    (λ (h : (k : ℕ) × (what s a ≡ resume k)). absurd (not_last s law r settled a h.0 h.1 d whole some is))
+    start.1
 
 pub view_ahead : (s : EventOrder) (law : IsOrderly s) (r : Reducers) (settled : AreSettled s r) (a d : ℕ) → IsStart s a → a ≤ d → Whole s a (d + 1) → (i : Instance) → Settles s r d i → (S : MonoidStructure ViewValue)
     → view_of S i (events_over s r a d) ≡ view_of S i (events_over s r 1 d)

@@ -296,14 +296,15 @@ impl Piece {
         self.segment.pass(yard);
     }
 
-    /// Ends the run: the next event is the root's `end`. The reducers that outlive the root keep
-    /// their views.
+    /// Ends the run: the next event is the root's `end`. So the piece begins with the run's first
+    /// event. The reducers that outlive the root keep their views.
     pub fn finish(&mut self, yard: &Yard, reducers: &Reducers, root: FrameNo)
         requires yard { IsPieceOf yard.now self.old }
         requires reducers { (reducers.now ≡ self.old.reducers) × HasFew reducers.now }
         requires next { NextFinish yard.now (segment_of self.old) }
         requires root { IsInFrame self.old.event_order.events self.old.upto root }
-        ensures { self.new ≡ grown self.old }
+        ensures piece { self.new ≡ grown self.old }
+        ensures begins { self.old.from ≡ 1 }
     {
         yard.laws();
         retire_own(&mut self.views, reducers, root);

@@ -22,20 +22,31 @@ use std::time::{Clock, Duration};
 // The seconds to wait for a message.
 const PATIENCE: u64 = 10;
 
+// A plan, the events of its run, and which of them the frames request.
+#[derive(Clone, Copy)]
+struct Followed<'a> {
+    plan: &'a Plan,
+    events: &'a [Event],
+    asked: &'a [bool],
+}
+
 // Makes the events up to a position; all have to succeed. Returns the last result.
 fn make_up_to<R: Abort>(
     rt: &R,
     yard: &Yard,
-    plan: &Plan,
-    events: &[Event],
-    asked: &[bool],
+    followed: Followed<'_>,
     segment: &mut Segment,
     last: Pos,
 ) -> Done
     requires yard { OfYard yard.now segment.old }
-    requires run { AreOf yard.now.event_order plan.now events.now asked.now }
+    requires run { AreOf yard.now.event_order followed.plan.now followed.events.now followed.asked.now }
     ensures { OfYard yard.now segment.new }
 {
+    let Followed {
+        plan,
+        events,
+        asked,
+    } = followed;
     let mut done = Done::Nothing;
     'events: for _at in segment.upto()..last.saturating_add(1) {
         done = step(yard, plan, events, asked, segment);
@@ -49,18 +60,16 @@ fn make_up_to<R: Abort>(
 fn makes_the_child<R: Abort + Wait + Clock>(
     rt: &R,
     yard: &Yard,
-    plan: &Plan,
-    events: &[Event],
-    asked: &[bool],
+    followed: Followed<'_>,
     mut segment: Segment,
     tickets: &Sender<Pos, Global>,
     taken: &Receiver<bool, Global>,
 ) -> Segment
     requires yard { OfYard yard.now segment }
-    requires run { AreOf yard.now.event_order plan.now events.now asked.now }
+    requires run { AreOf yard.now.event_order followed.plan.now followed.events.now followed.asked.now }
     ensures { OfYard yard.now result }
 {
-    let Done::Offered(ticket) = make_up_to(rt, yard, plan, events, asked, &mut segment, 4) else {
+    let Done::Offered(ticket) = make_up_to(rt, yard, followed, &mut segment, 4) else {
         panic!(rt; "no offer");
     };
     assert!(rt; tickets.send(rt, ticket).is_ok());
@@ -69,10 +78,13 @@ fn makes_the_child<R: Abort + Wait + Clock>(
             .recv_timeout(rt, Duration::from_secs(PATIENCE))
             .is_ok()
     );
-    let read = make_up_to(rt, yard, plan, events, asked, &mut segment, 6);
+    let read = make_up_to(rt, yard, followed, &mut segment, 6);
     assert_eq!(rt; read, Done::Loaded(7));
-    make_up_to(rt, yard, plan, events, asked, &mut segment, 9);
-    assert_eq!(rt; take(yard, asked, &mut segment, ticket), Some(Taken::No));
+    make_up_to(rt, yard, followed, &mut segment, 9);
+    assert_eq!(rt;
+        take(yard, followed.asked, &mut segment, ticket),
+        Some(Taken::No)
+    );
     segment
 }
 
@@ -82,31 +94,35 @@ fn makes_the_child<R: Abort + Wait + Clock>(
 fn takes_the_rest<R: Abort + Wait + Clock>(
     rt: &R,
     yard: &Yard,
-    plan: &Plan,
-    events: &[Event],
-    asked: &[bool],
+    followed: Followed<'_>,
     mut segment: Segment,
     tickets: &Receiver<Pos, Global>,
     taken: &Sender<bool, Global>,
 ) -> Segment
     requires yard { OfYard yard.now segment }
-    requires run { AreOf yard.now.event_order plan.now events.now asked.now }
+    requires run { AreOf yard.now.event_order followed.plan.now followed.events.now followed.asked.now }
     ensures { OfYard yard.now result }
 {
     let Ok(ticket) = tickets.recv_timeout(rt, Duration::from_secs(PATIENCE)) else {
         panic!(rt; "no ticket");
     };
-    assert_eq!(rt; take(yard, asked, &mut segment, ticket), Some(Taken::Yes));
+    assert_eq!(rt;
+        take(yard, followed.asked, &mut segment, ticket),
+        Some(Taken::Yes)
+    );
     assert!(rt; taken.send(rt, true).is_ok());
-    let Done::Offered(own) = make_up_to(rt, yard, plan, events, asked, &mut segment, 11) else {
+    let Done::Offered(own) = make_up_to(rt, yard, followed, &mut segment, 11) else {
         panic!(rt; "no offer");
     };
-    let read = make_up_to(rt, yard, plan, events, asked, &mut segment, 13);
+    let read = make_up_to(rt, yard, followed, &mut segment, 13);
     assert_eq!(rt; read, Done::Loaded(7));
-    make_up_to(rt, yard, plan, events, asked, &mut segment, 16);
-    assert_eq!(rt; take(yard, asked, &mut segment, own), Some(Taken::Yes));
+    make_up_to(rt, yard, followed, &mut segment, 16);
+    assert_eq!(rt;
+        take(yard, followed.asked, &mut segment, own),
+        Some(Taken::Yes)
+    );
     assert_eq!(rt; segment.upto(), 18);
-    assert!(rt; !segment.may_pass(plan));
+    assert!(rt; !segment.may_pass(followed.plan));
     segment
 }
 
@@ -115,24 +131,22 @@ fn ends_with<R: Abort>(
     rt: &R,
     alloc: Global,
     yard: Yard,
-    plan: &Plan,
-    events: &[Event],
-    asked: &[bool],
+    followed: Followed<'_>,
     mut segment: Segment,
 )
     requires yard { OfYard yard segment }
-    requires run { AreOf yard.event_order plan.now events.now asked.now }
+    requires run { AreOf yard.event_order followed.plan.now followed.events.now followed.asked.now }
 {
-    let synced = make_up_to(rt, &yard, plan, events, asked, &mut segment, 18);
+    let synced = make_up_to(rt, &yard, followed, &mut segment, 18);
     assert_eq!(rt; synced, Done::Passed);
-    let first = make_up_to(rt, &yard, plan, events, asked, &mut segment, 19);
-    let second = make_up_to(rt, &yard, plan, events, asked, &mut segment, 20);
+    let first = make_up_to(rt, &yard, followed, &mut segment, 19);
+    let second = make_up_to(rt, &yard, followed, &mut segment, 20);
     assert!(rt; first == Done::Loaded(7) && second == Done::Loaded(7));
     assert!(rt; !yard.ended(&mut segment));
-    let ended = make_up_to(rt, &yard, plan, events, asked, &mut segment, 22);
+    let ended = make_up_to(rt, &yard, followed, &mut segment, 22);
     assert_eq!(rt; ended, Done::Finished);
     assert!(rt; yard.ended(&mut segment));
-    let Some(values) = last_values(alloc, yard, events, segment) else {
+    let Some(values) = last_values(alloc, yard, followed.events, segment) else {
         panic!(rt; "no values");
     };
     assert_eq!(rt; values.as_slice(), [7, 7, 7].as_slice());
@@ -158,9 +172,11 @@ fn a_thief_takes_the_rest(rt: HostRuntime) -> Result<(), Fail> {
         || makes_the_child(
             &rt,
             &yard,
-            &plan,
-            events,
-            asked,
+            Followed {
+                plan: &plan,
+                events,
+                asked,
+            },
             first,
             &give_ticket,
             &hear_taken,
@@ -168,9 +184,11 @@ fn a_thief_takes_the_rest(rt: HostRuntime) -> Result<(), Fail> {
         || takes_the_rest(
             &rt,
             &yard,
-            &plan,
-            events,
-            asked,
+            Followed {
+                plan: &plan,
+                events,
+                asked,
+            },
             second,
             &get_ticket,
             &tell_taken,
@@ -178,7 +196,12 @@ fn a_thief_takes_the_rest(rt: HostRuntime) -> Result<(), Fail> {
     );
     assert!(rt; yard.adjoins(&first, &second));
     let whole = yard.together(first, second);
-    ends_with(&rt, alloc, yard, &plan, events, asked, whole);
+    let followed = Followed {
+        plan: &plan,
+        events,
+        asked,
+    };
+    ends_with(&rt, alloc, yard, followed, whole);
     Ok(())
 }
 
@@ -192,12 +215,21 @@ fn nobody_takes_the_rest(rt: HostRuntime) -> Result<(), Fail> {
         events,
         asked,
     } = on_its_own(alloc, &accepted(&rt, alloc, GETS, ""))?;
-    let events = events.as_slice();
-    let asked = asked.as_slice();
-    make_up_to(&rt, &yard, &plan, events, asked, &mut segment, 9);
-    assert_eq!(rt; take(&yard, asked, &mut segment, 4), Some(Taken::Yes));
-    make_up_to(&rt, &yard, &plan, events, asked, &mut segment, 16);
-    assert_eq!(rt; take(&yard, asked, &mut segment, 11), Some(Taken::Yes));
-    ends_with(&rt, alloc, yard, &plan, events, asked, segment);
+    let followed = Followed {
+        plan: &plan,
+        events: events.as_slice(),
+        asked: asked.as_slice(),
+    };
+    make_up_to(&rt, &yard, followed, &mut segment, 9);
+    assert_eq!(rt;
+        take(&yard, asked.as_slice(), &mut segment, 4),
+        Some(Taken::Yes)
+    );
+    make_up_to(&rt, &yard, followed, &mut segment, 16);
+    assert_eq!(rt;
+        take(&yard, asked.as_slice(), &mut segment, 11),
+        Some(Taken::Yes)
+    );
+    ends_with(&rt, alloc, yard, followed, segment);
     Ok(())
 }

@@ -27,7 +27,7 @@ use Rattle.cilk_plan.specs.Plans.{WholePlan, IsPlanOf, IsEventOrderOn}
 use Rattle.cilk_plan.proofs.Columns.{ends_are_syncs}
 use Rattle.cilk_plan.proofs.Telling.{own_is_the_plan}
 use Rattle.cilk_workers.specs.Shared.{SharedValue, shared_with}
-use Rattle.cilk_workers.specs.Activities.{IsWhole}
+use Rattle.cilk_workers.specs.Turns.{HasEnded}
 use Rattle.cilk_threads.specs.declared.run.ThreadFault.{ThreadFault}
 use Rattle.cilk_threads.specs.declared.run.ThreadFault.TheVariants as faults
 use Rattle.cilk_threads.specs.Faults.{IsTrueFault}
@@ -40,19 +40,19 @@ syncs_along plan s along ats h k d lt = sync_along s.events plan.events along.ki
 
 -- the whole run's piece is that of the yard's events
 pub whole_of : (y : YardValue) (r : Reducers) (c : ReplayValue) (p : Source) (own inputs : List ℤ) (s : SharedValue) (x : PieceValue) (v : ℤ)
-    → s ≡ shared_with y r c → source c.program ≡ p → c.own ≡ own → c.inputs ≡ inputs → IsWhole s x v → IsWholeOf p own inputs y r x v
+    → s ≡ shared_with y r c → source c.program ≡ p → c.own ≡ own → c.inputs ≡ inputs → HasEnded s x v → IsWholeOf p own inputs y r x v
 whole_of y r c p own inputs s x v is program owned input h = record {
-  good = ended.0.good;
-  begins = ended.1;
-  last = ended.0.last;
-  followed = ended.0.followed;
+  good = ended.good;
+  begins = ended.begins;
+  last = ended.last;
+  followed = ended.followed;
   result = λ run es opening planned.
       subst (λ (z : Source × List ℤ). result_in (reverse (trace (courses.run_of (course_on z.0 z.1 (named z.0 run))))) ≡ v) (λ i. (program i, input i))
-      (ended.0.result run es opening (subst (λ (z : Source × List ℤ). IsPlannedRun z.0 z.1 run es opening) (λ i. (sym program i, sym owned i)) planned));
+      (ended.result run es opening (subst (λ (z : Source × List ℤ). IsPlannedRun z.0 z.1 run es opening) (λ i. (sym program i, sym owned i)) planned));
 }
   where
-    ended : IsWhole (shared_with y r c) x v
-    ended = subst (λ (z : SharedValue). IsWhole z x v) is h
+    ended : HasEnded (shared_with y r c) x v
+    ended = subst (λ (z : SharedValue). HasEnded z x v) is h
 
 -- where the yard's event order departs, the event order that the program makes of the plan does
 pub fault_of : (w : WholePlan) (inputs : List ℤ) (n : ℕ) (s : EventOrder) (f : ThreadFault) → (let t = w.event_order in IsEventOrderOn w.run t.opening inputs s) → IsTrueFault s n f → IsFaultOn w inputs n f

@@ -1,5 +1,5 @@
 -- The seed that is sent to a worker.
-use Rattle.std.specs.Prelude.{◌≡◌, ◌≤◌, List, Option, Some, None, All, true, false}
+use Rattle.std.specs.Prelude.{◌≡◌, ◌≤◌, List, Option, Some, None, All, Bool, true, false}
 use Rattle.crossbeam_deque.specs.Handles.{Pass, view, IsPassOf, worker_flavor, worker_port, worker_view, stealer_deque}
 use Rattle.crossbeam_deque.specs.declared.handles.Worker.{Worker}
 use Rattle.crossbeam_deque.specs.declared.handles.Stealer.{Stealer}
@@ -33,5 +33,5 @@ Begins y p (Some c) = Works y (record { piece = p; chain = c })
 module _ {N Q A : Type 0} where
   -- a worker begins with its own rack, the stealers of the other racks, a key of each lock, and its
   -- piece
-  abbrev pub IsWorkerSeed : SharedValue → List (Slotted (Option Shelf) (Doing Shelf (Unit {0})) Q A) → WorkerSeed N → Type 0
+  abbrev pub IsWorkerSeed : SharedValue → List (Slotted (Option Shelf) (Doing Shelf Bool) Q A) → WorkerSeed N → Type 0
   IsWorkerSeed y locks k = IsRack k.rack × All IsTake k.takes.items × AreKeys locks k.keys.items × Begins y k.piece k.chain

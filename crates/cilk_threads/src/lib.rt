@@ -35,7 +35,6 @@
 #![tactic(auto)]
 
 pub mod laws;
-pub mod layout;
 pub mod outcome;
 mod pool;
 pub mod run;

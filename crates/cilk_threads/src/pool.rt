@@ -1,24 +1,19 @@
 //! A pool of workers, each in a thread of its own.
 
-ghost use Rattle.std.specs.Prelude.{◌≡◌, All, Some, IfOk, IfSome};
+ghost use Rattle.std.specs.Prelude.{◌≡◌, ◌≤◌, All, Some, length, IfOk, IfSome};
 ghost use Rattle.std.specs.Thread.{IsSend, IsSync};
 ghost use Rattle.cilk_workers.specs.Turns.{Works};
-ghost use Rattle.cilk_tree.specs.PlanStrands.{AreFirsts};
 ghost use Rattle.cilk_workers.specs.Activities.{IsExitReason};
-ghost use Rattle.cilk_workers.specs.Keys.{AreKeys, AreSyncs};
 ghost use Rattle.cilk_workers.specs.Names.{IsName};
-ghost use Rattle.cilk_threads.specs.WorkerSeeds.{Begins, IsWorkerSeed, IsRack, IsTake};
+ghost use Rattle.cilk_threads.specs.WorkerSeeds.{IsWorkerSeed, IsTake};
 
-use crate::layout::Layout;
 use crate::seeds::{Take, WorkerSeed, ends, locks, racks, seeds, shelves};
-use cilk_replay::chain::Chain;
-use cilk_shared::piece::Piece;
-use cilk_workers::activity::{Activity, Blocks, ExitReason, Tools};
+use cilk_workers::activity::{Activity, ExitReason, Tools};
 use cilk_workers::context::WorkerContext;
-use cilk_workers::gate::{Gate, Watch};
-use cilk_workers::lock::{Key, Lock};
+use cilk_workers::gate::{Gate, tell};
+use cilk_workers::lock::Lock;
 use cilk_workers::naming::Naming;
-use cilk_workers::rack::{Picker, Rack, Tasks};
+use cilk_workers::rack::{Picker, Rack};
 use cilk_workers::shared::Shared;
 use cilk_workers::work::Work;
 use std::alloc::{AllocError, Global};
@@ -50,31 +45,29 @@ fn pickers<N: Naming>(alloc: Global, takes: Vec<Take<N>>) -> Result<Vec<Picker<N
     Ok(all)
 }
 
-/// Runs a worker to its end, from the parts that were sent to its thread.
-pub fn worker<'a, N: Naming, R: Wait, G: Gate>(
+/// Runs a worker to its end, from the seed that was sent to its thread.
+pub fn worker<N: Naming, R: Wait, G: Gate>(
     rt: &R,
     alloc: Global,
     shared: &Shared<'_>,
-    locks: &'a Vec<Lock<N>>,
-    layout: &'a Layout<'a>,
-    gate: &'a G,
+    locks: &Vec<Lock<N>>,
+    gate: &G,
     stop: &AtomicBool,
-    number: u32,
-    rack: Tasks<N>,
-    takes: Vec<Take<N>>,
-    keys: Vec<Key>,
-    piece: Piece,
-    chain: Option<Chain>,
+    seed: WorkerSeed<N>,
 ) -> ExitReason
     requires name { IsName N.run N.replay N.taken shared.now }
-    requires keys { AreKeys locks.now.items keys.items }
-    requires syncs { AreSyncs shared.now layout.now.syncs.now }
-    requires rack { IsRack rack }
-    requires takes { All IsTake takes.items }
-    requires strands { AreFirsts shared.now.run.event_order.events layout.now.strands.now }
-    requires begins { Begins shared.now piece chain }
+    requires shelves { 1 ≤ length locks.now.items }
+    requires seed { IsWorkerSeed shared.now locks.now.items seed }
     ensures { IsExitReason shared.now result }
 {
+    let WorkerSeed {
+        worker,
+        rack,
+        takes,
+        keys,
+        piece,
+        chain,
+    } = seed;
     let rack = Rack::<N>::of(rack);
     let Ok(pickers) = pickers::<N>(alloc, takes) else {
         stop.store(true, Ordering::SeqCst);
@@ -89,20 +82,13 @@ pub fn worker<'a, N: Naming, R: Wait, G: Gate>(
         rt,
         alloc,
         shared,
-        blocks: Blocks {
-            locks,
-            syncs: layout.syncs,
-            of: layout.of,
-        },
-        watch: Watch {
-            gate,
-            worker: number,
-            strands: layout.strands,
-        },
+        locks,
+        gate,
+        worker,
     };
     let hand = match chain {
         Some(chain) => {
-            context.watch.tell(shared, 0, &piece);
+            tell(gate, worker, shared, 0, &piece);
             Activity::Holds(Work { piece, chain })
         }
         None => Activity::Idle(piece),
@@ -175,14 +161,12 @@ fn pool<'a, 'b, N: Naming + Send + Sync, R: Threads + Wait + Sync, G: Gate + Syn
     alloc: Global,
     shared: &'a Shared<'b>,
     locks: &'a Vec<Lock<N>>,
-    layout: &'a Layout<'a>,
     gate: &'a G,
     stop: &'a AtomicBool,
     seeds: Vec<WorkerSeed<N>>,
 ) -> Result<ExitReason, AllocError>
     requires name { IsName N.run N.replay N.taken shared.now }
-    requires strands { AreFirsts shared.now.run.event_order.events layout.now.strands.now }
-    requires syncs { AreSyncs shared.now layout.now.syncs.now }
+    requires shelves { 1 ≤ length locks.now.items }
     requires seeds { All (IsWorkerSeed shared.now locks.now.items) seeds.items }
     ensures { IfOk result (IsExitReason shared.now) }
 {
@@ -190,7 +174,7 @@ fn pool<'a, 'b, N: Naming + Send + Sync, R: Threads + Wait + Sync, G: Gate + Syn
         thread::scope_env(),
         rt,
         |scope| -> Result<ExitReason, AllocError>
-            requires { IsSync R.row × IsSync G.row × IsSend N.row × IsSync N.row × IsName N.run N.replay N.taken shared.now × AreFirsts shared.now.run.event_order.events layout.now.strands.now × AreSyncs shared.now layout.now.syncs.now × All (IsWorkerSeed shared.now locks.now.items) seeds.items }
+            requires { IsSync R.row × IsSync G.row × IsSend N.row × IsSync N.row × IsName N.run N.replay N.taken shared.now × (1 ≤ length locks.now.items) × All (IsWorkerSeed shared.now locks.now.items) seeds.items }
             ensures { IfOk result (IsExitReason shared.entry.now) }
         {
             let mut seeds = seeds;
@@ -208,10 +192,15 @@ fn pool<'a, 'b, N: Naming + Send + Sync, R: Threads + Wait + Sync, G: Gate + Syn
                     chain,
                 } = seed;
                 let started = scope.spawn_with(Ends { shared: &*shared }, move || {
-                    worker::<N, R, G>(
-                        rt, alloc, shared, locks, layout, gate, stop, number, rack, takes, keys,
-                        piece, chain,
-                    )
+                    let seed = WorkerSeed {
+                        worker: number,
+                        rack,
+                        takes,
+                        keys,
+                        piece,
+                        chain,
+                    };
+                    worker::<N, R, G>(rt, alloc, shared, locks, gate, stop, seed)
                 });
                 let Ok(handle) = started else {
                     stop.store(true, Ordering::SeqCst);
@@ -230,21 +219,18 @@ pub fn run_workers<N: Naming + Send + Sync, R: Threads + Wait + Sync, G: Gate + 
     rt: &R,
     alloc: Global,
     shared: &Shared<'_>,
-    layout: &Layout<'_>,
     gate: &G,
     work: Work,
     count: u32,
 ) -> Result<ExitReason, AllocError>
     requires name { IsName N.run N.replay N.taken shared.now }
-    requires syncs { AreSyncs shared.now layout.now.syncs.now }
-    requires strands { AreFirsts shared.now.run.event_order.events layout.now.strands.now }
     requires works { Works shared.now work }
     ensures { IfOk result (IsExitReason shared.now) }
 {
-    let (locks, mut keys) = locks::<N, R>(rt, alloc, shared, shelves(layout.syncs.len()))?;
+    let (locks, mut keys) = locks::<N, R>(rt, alloc, shared, shelves(shared.blocks()))?;
     let mut racks = racks::<N>(alloc, count)?;
     let ends = ends::<N>(alloc, &mut racks)?;
-    let seeds = seeds::<N>(alloc, shared, &locks, &mut keys, racks, ends, work, count)?;
+    let seeds = seeds::<N>(alloc, shared, &locks, &mut keys, racks, ends, work)?;
     let stop = AtomicBool::new(false);
-    pool::<N, R, G>(rt, alloc, shared, &locks, layout, gate, &stop, seeds)
+    pool::<N, R, G>(rt, alloc, shared, &locks, gate, &stop, seeds)
 }

@@ -1,15 +1,10 @@
 //! The workers of a run, from their start to their end.
 
-ghost use Rattle.std.specs.Prelude.{◌≡◌, All, Some, IfOk, IfErr};
-ghost use Rattle.cilk_tree.specs.Word.{event};
-ghost use Rattle.cilk_workers.specs.Turns.{Works};
-ghost use Rattle.cilk_types.specs.declared.event.Event.TheVariants.{Sync};
-ghost use Rattle.cilk_tree.specs.PlanStrands.{AreFirsts};
-ghost use Rattle.cilk_workers.specs.Activities.{IsWhole};
+ghost use Rattle.std.specs.Prelude.{◌≡◌, IfOk, IfErr};
+ghost use Rattle.cilk_workers.specs.Turns.{HasEnded, Works};
 ghost use Rattle.cilk_workers.specs.Names.{IsName};
 ghost use Rattle.cilk_threads.specs.Faults.{IsPool, IsTrueFault, number_of};
 
-use crate::layout::Layout;
 use crate::pool::run_workers;
 use cilk_shared::piece::Piece;
 use cilk_types::event::Pos;
@@ -60,20 +55,17 @@ fn run_as<N: Naming + Send + Sync, R: Threads + Wait + Sync, G: Gate + Sync>(
     rt: &R,
     alloc: Global,
     shared: &Shared<'_>,
-    layout: &Layout<'_>,
     gate: &G,
     work: Work,
     workers: u32,
 ) -> Result<(Piece, i64), ThreadFault>
     requires name { IsName N.run N.replay N.taken shared.now }
-    requires syncs { All (λ at. event shared.now.run.event_order at ≡ Some Sync) layout.now.syncs.now }
-    requires strands { AreFirsts shared.now.run.event_order.events layout.now.strands.now }
     requires works { Works shared.now work }
     requires pool { IsPool workers }
-    ensures ok { IfOk result (λ r. IsWhole shared.now r.0 r.1) }
+    ensures ok { IfOk result (λ r. HasEnded shared.now r.0 r.1) }
     ensures err { IfErr result (IsTrueFault shared.now.run.event_order workers) }
 {
-    match run_workers::<N, R, G>(rt, alloc, shared, layout, gate, work, workers) {
+    match run_workers::<N, R, G>(rt, alloc, shared, gate, work, workers) {
         Ok(ExitReason::Whole(piece, value)) => Ok((piece, value)),
         Ok(ExitReason::Departed(at)) => Err(ThreadFault::Departs(at)),
         Ok(ExitReason::Stopped) | Err(_) => Err(ThreadFault::Memory),
@@ -86,19 +78,16 @@ pub fn run<R: Threads + Wait + Sync, G: Gate + Sync>(
     rt: &R,
     alloc: Global,
     shared: &Shared<'_>,
-    layout: &Layout<'_>,
     gate: &G,
     work: Work,
     workers: u32,
 ) -> Result<(Piece, i64), ThreadFault>
-    requires syncs { All (λ at. event shared.now.run.event_order at ≡ Some Sync) layout.now.syncs.now }
-    requires strands { AreFirsts shared.now.run.event_order.events layout.now.strands.now }
     requires works { Works shared.now work }
-    ensures ok { IfOk result (λ r. IsWhole shared.now r.0 r.1 × IsPool workers) }
+    ensures ok { IfOk result (λ r. HasEnded shared.now r.0 r.1 × IsPool workers) }
     ensures err { IfErr result (IsTrueFault shared.now.run.event_order workers) }
 {
     if workers == 0 || workers > MAX_WORKERS {
         return Err(ThreadFault::Workers);
     }
-    run_as::<Brand, R, G>(rt, alloc, shared, layout, gate, work, workers)
+    run_as::<Brand, R, G>(rt, alloc, shared, gate, work, workers)
 }

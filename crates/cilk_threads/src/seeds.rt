@@ -3,6 +3,7 @@
 ghost use Rattle.std.specs.Prelude.{◌≡◌, ◌*◌, ◌<◌, ◌≤◌, All, Some, length, IfOk, OnOk, IfSome};
 ghost use Rattle.cilk_workers.specs.Rows.{OfRun};
 ghost use Rattle.cilk_workers.specs.Turns.{Works};
+ghost use Rattle.cilk_workers.specs.Held.{IsNewRack};
 ghost use Rattle.cilk_workers.specs.Keys.{AreKeys, IsKeyAt};
 ghost use Rattle.cilk_workers.specs.Names.{IsName};
 ghost use Rattle.cilk_threads.specs.WorkerSeeds.{Begins, IsWorkerSeed, IsTake};
@@ -36,10 +37,11 @@ pub struct WorkerSeed<N: Naming> {
 /// Returns the number of shelves for the join boxes of `blocks` blocks: enough that no shelf has
 /// more than 64 boxes, and that workers seldom meet at one.
 pub fn shelves(blocks: usize) -> usize
-    ensures { blocks ≤ 64 * result }
+    ensures room { blocks ≤ 64 * result }
+    ensures some { 1 ≤ result }
 {
     let few = if blocks < 64 { blocks } else { 64 };
-    few + blocks / 64
+    few + blocks / 64 + 1
 }
 
 /// Makes `count` locks, each with an empty shelf, and a first key of each.
@@ -51,12 +53,14 @@ pub fn locks<N: Naming, R: Wait>(
     count: usize,
 ) -> Result<(Vec<Lock<N>>, Vec<Key>), AllocError>
     requires { IsName N.run N.replay N.taken shared.now }
-    ensures { IfOk result (λ r. AreKeys r.0.items r.1.items) }
+    ensures keys { IfOk result (λ r. AreKeys r.0.items r.1.items) }
+    ensures count { IfOk result (λ r. length r.0.items ≡ count) }
 {
     let mut all = Vec::new(alloc);
     let mut keys = Vec::new(alloc);
-    'each: for _ in 0..count {
-        let first = Shelf::new(alloc, shared.yard(), shared.reducers(), shared.replay());
+    'each: for made in 0..count {
+        let _ = made;
+        let first = Shelf::new(alloc, shared);
         let (shelf_lock, key) = new_locked::<N, R>(rt, alloc, first)?;
         all.push(shelf_lock)?;
         keys.push(key)?;
@@ -137,9 +141,13 @@ pub fn takes<N: Naming>(
 const ROOM: usize = 64;
 
 /// Makes a rack for each worker.
-pub fn racks<N: Naming>(alloc: Global, count: u32) -> Result<Vec<Rack<N>>, AllocError> {
+pub fn racks<N: Naming>(alloc: Global, count: u32) -> Result<Vec<Rack<N>>, AllocError>
+    ensures count { IfOk result (λ v. length v.items ≡ count) }
+    ensures racks { IfOk result (λ v. All (IsNewRack 64) v.items) }
+{
     let mut all = Vec::new(alloc);
-    for _ in 0..count {
+    'each: for made in 0..count {
+        let _ = made;
         all.push(Rack::<N>::new(alloc, ROOM)?)?;
     }
     Ok(all)
@@ -227,7 +235,7 @@ fn equip<N: Naming>(
     Ok(())
 }
 
-/// Makes a seed for each worker, as long as there are racks. The first one has the work.
+/// Makes a seed for each rack. The first one has the work.
 pub fn seeds<N: Naming>(
     alloc: Global,
     shared: &Shared<'_>,
@@ -236,7 +244,6 @@ pub fn seeds<N: Naming>(
     mut racks: Vec<Rack<N>>,
     mut ends: Vec<Vec<Take<N>>>,
     work: Work,
-    count: u32,
 ) -> Result<Vec<WorkerSeed<N>>, AllocError>
     requires keys { AreKeys locks.now.items keys.old.items }
     requires ends { All (λ ts. All IsTake ts.items) ends.items }
@@ -246,7 +253,8 @@ pub fn seeds<N: Naming>(
     let (work, mut spare) = parted(alloc, shared, work);
     let mut first = Some(work);
     let mut all = Vec::new(alloc);
-    'each: for worker in 0..count {
+    let mut worker: u32 = 0;
+    'each: for _ in 0..racks.len() {
         let Some(takes) = last_ends::<N>(&mut ends) else {
             break;
         };
@@ -257,8 +265,9 @@ pub fn seeds<N: Naming>(
         let (piece, chain, rest) = begins(alloc, shared, spare, first);
         spare = rest;
         first = None;
+        worker = worker.saturating_add(1);
         let seed = WorkerSeed {
-            worker: worker + 1,
+            worker,
             rack: rack.parted(),
             takes,
             keys,

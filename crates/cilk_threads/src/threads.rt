@@ -12,7 +12,6 @@ ghost use Rattle.cilk_threads.specs.Faults.{IsPool};
 ghost use Rattle.cilk_threads.specs.Outcomes.{DepartsNowhereOn, IsFaultOn, IsOutcomeOn, IsWholeOf, NamesNoPosition};
 
 use crate::laws::accepted_event_orders_have_numbers;
-use crate::layout::Layout;
 use crate::outcome::outcome;
 use crate::run::{MAX_WORKERS, ThreadFault, run};
 use crate::table::plan_reducers;
@@ -31,6 +30,7 @@ use cilk_types::input::Input;
 use cilk_types::limits::MAX_INPUTS;
 use cilk_types::outcome::Outcome;
 use cilk_types::word_list::WordList;
+use cilk_workers::columns::Columns;
 use cilk_workers::gate::Gate;
 use cilk_workers::shared::Shared;
 use cilk_workers::turn::first;
@@ -70,9 +70,12 @@ pub fn run_threads<R: Threads + Wait + Sync, G: Gate + Sync>(
     let Ok((yard, segment)) = yard(alloc, plan, input) else {
         return Err(ThreadFault::Memory);
     };
-    match run_on(
-        rt, alloc, plan, input, &table, &yard, segment, workers, gate,
-    ) {
+    let start = Start {
+        yard: &yard,
+        table: &table,
+        segment,
+    };
+    match run_on(rt, alloc, plan, input, start, workers, gate) {
         Ok((piece, value)) => match left(alloc, plan, input, yard, piece, value) {
             Ok(outcome) => Ok(outcome),
             Err(_) => Err(ThreadFault::Memory),
@@ -81,43 +84,54 @@ pub fn run_threads<R: Threads + Wait + Sync, G: Gate + Sync>(
     }
 }
 
+// What a run begins with: its words, the reducers of its frames, and the segment of its first event.
+struct Start<'a> {
+    yard: &'a Yard,
+    table: &'a Reducers,
+    segment: Segment,
+}
+
 // Runs the workers, and returns the piece of the whole run with its result.
 fn run_on<R: Threads + Wait + Sync, G: Gate + Sync>(
     rt: &R,
     alloc: Global,
     plan: &ProgramPlan<'_>,
     input: &Input,
-    table: &Reducers,
-    yard: &Yard,
-    segment: Segment,
+    start: Start<'_>,
     workers: u32,
     gate: &G,
 ) -> Result<(Piece, i64), ThreadFault>
     requires pool { IsPool workers }
-    requires table { IsTableOf plan.now.run table.now × HasFew table.now }
-    requires event_order { IsEventOrderOn plan.now.run plan.now.event_order.opening input.now yard.now.event_order }
-    requires along { IsAlong plan.now.event_order yard.now.event_order }
-    requires segment { OfYard yard.now segment × (segment.from ≡ 1) × (segment.upto ≡ 2) }
-    ensures ok { IfOk result (λ r. IsWholeOf (source plan.now.run.program) plan.now.run.input input.now yard.now table.now r.0 r.1) }
+    requires table { IsTableOf plan.now.run start.table.now × HasFew start.table.now }
+    requires event_order { IsEventOrderOn plan.now.run plan.now.event_order.opening input.now start.yard.now.event_order }
+    requires along { IsAlong plan.now.event_order start.yard.now.event_order }
+    requires segment { OfYard start.yard.now start.segment × (start.segment.from ≡ 1) × (start.segment.upto ≡ 2) }
+    ensures ok { IfOk result (λ r. IsWholeOf (source plan.now.run.program) plan.now.run.input input.now start.entry.yard.now start.entry.table.now r.0 r.1) }
     ensures err { IfErr result (IsFaultOn plan.now input.now workers) }
 {
+    let Start {
+        yard,
+        table,
+        segment,
+    } = start;
     accepted_event_orders_have_numbers();
     inputs_are_words(input);
     plan.laws();
     let Ok(replay) = replay_on(alloc, plan, yard, input) else {
         return Err(ThreadFault::Memory);
     };
-    let shared = Shared::new(yard, plan.events(), table, &replay);
+    let blocks = plan.blocks();
+    let columns = Columns {
+        syncs: plan.syncs(),
+        blocks,
+        strands: plan.strands(),
+    };
+    let shared = Shared::new(yard, plan.events(), table, &replay, columns);
     let piece = Piece::new(alloc, yard, segment, table);
     let Ok(work) = first(alloc, &shared, piece) else {
         return Err(ThreadFault::Memory);
     };
-    let layout = Layout {
-        syncs: plan.syncs(),
-        of: plan.blocks(),
-        strands: plan.strands(),
-    };
-    run(rt, alloc, &shared, &layout, gate, work, workers)
+    run(rt, alloc, &shared, gate, work, workers)
 }
 
 // The replay of the plan's run on the input.

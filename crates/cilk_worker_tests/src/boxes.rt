@@ -1,20 +1,19 @@
 //! A join box: the pieces of a block's children arrive in another order than the run's, and the
 //! piece at the `sync` arrives last.
 
-ghost use Rattle.std.specs.Prelude.{◌≡◌, ◌<◌, IfSome, None, length};
+ghost use Rattle.std.specs.Prelude.{◌≡◌, IfSome, None};
 ghost use Rattle.cilk_workers.specs.Rows.{IsGood};
 ghost use Rattle.cilk_replay.specs.Chains.{standing};
 ghost use Rattle.cilk_workers.specs.Turns.{Works};
-ghost use Rattle.cilk_workers.specs.Keys.{AreSyncs};
 
-use crate::works::{Blocks, Trial, tried};
+use crate::works::{Trial, tried};
 use cilk_monoid::kind::MonoidKind;
 use cilk_replay::chain::{Chain, Task};
 use cilk_shared::piece::{Parts, Piece};
 use cilk_types::event::{Instance, Pos};
 use cilk_types::outcome::Final;
 use cilk_workers::join::{Boxed, JoinBox};
-use cilk_workers::locks::{Arrival, block_at, position};
+use cilk_workers::locks::Arrival;
 use cilk_workers::shared::Shared;
 use cilk_workers::turn::{act, begin};
 use cilk_workers::work::{Turn, Work};
@@ -152,47 +151,23 @@ fn arrive<R: Abort>(
     }
 }
 
-// The box of a block.
-fn box_of(alloc: Global, shared: &Shared<'_>, blocks: &Blocks<'_>, block: usize) -> JoinBox
-    requires syncs { AreSyncs shared.now blocks.now.syncs.now }
-    requires block { block < length blocks.now.syncs.now }
-    ensures { (result.rows.of ≡ shared.now.run) × (result.replay ≡ shared.now.replay) }
-{
-    let sync = position(blocks.syncs, block);
-    JoinBox::new(
-        alloc,
-        shared.yard(),
-        shared.reducers(),
-        shared.replay(),
-        sync,
-    )
-}
-
 // The box of a position's block.
-fn box_at<R: Abort>(
-    rt: &R,
-    alloc: Global,
-    shared: &Shared<'_>,
-    blocks: &Blocks<'_>,
-    at: Pos,
-) -> JoinBox
-    requires { AreSyncs shared.now blocks.now.syncs.now }
+fn box_at<R: Abort>(rt: &R, alloc: Global, shared: &Shared<'_>, at: Pos) -> JoinBox
     ensures { (result.rows.of ≡ shared.now.run) × (result.replay ≡ shared.now.replay) }
 {
-    let Some(block) = block_at(blocks.of, at, blocks.syncs.len()) else {
+    let Some(block) = shared.block_at(at) else {
         panic!(rt; "no block");
     };
-    box_of(alloc, shared, blocks, block)
+    JoinBox::new(alloc, shared, block.sync)
 }
 
 /// Checks that the block passes with its own piece, after the fourth, second, third and first
 /// child's.
-pub fn joined<R: Abort>(rt: &R, alloc: Global, shared: &Shared<'_>, blocks: &Blocks<'_>, work: Work)
-    requires syncs { AreSyncs shared.now blocks.now.syncs.now }
-    requires works { Works shared.now work }
+pub fn joined<R: Abort>(rt: &R, alloc: Global, shared: &Shared<'_>, work: Work)
+    requires { Works shared.now work }
 {
     let begun = made(rt, alloc, shared, work);
-    let mut found = box_at(rt, alloc, shared, blocks, begun.piece.upto());
+    let mut found = box_at(rt, alloc, shared, begun.piece.upto());
     let (first, work) = child(rt, alloc, shared, &mut found, begun);
     let begun = made(rt, alloc, shared, work);
     let (second, work) = child(rt, alloc, shared, &mut found, begun);

@@ -19,8 +19,8 @@ use cilk_shared::reducers::Reducers;
 use cilk_shared::yard::{Segment, Yard};
 use cilk_threads::laws::accepted_event_orders_have_numbers;
 use cilk_threads::table::plan_reducers;
-use cilk_types::event::Pos;
 use cilk_types::input::Input;
+use cilk_workers::columns::Columns;
 use cilk_workers::shared::Shared;
 use cilk_workers::turn::first;
 use std::alloc::Global;
@@ -36,11 +36,11 @@ pub enum Trial {
     JoinBox,
 }
 
-/// The blocks of a plan: the positions of their syncs, and the block number of each position.
-#[derive(Clone, Copy)]
-pub struct Blocks<'a> {
-    pub syncs: &'a [Pos],
-    pub of: &'a [u32],
+// What a run begins with: its words, the reducers of its frames, and the segment of its first event.
+struct Start<'a> {
+    yard: &'a Yard,
+    table: &'a Reducers,
+    segment: Segment,
 }
 
 // Runs the trial on a plan's run.
@@ -49,36 +49,39 @@ fn tried_on<R: Abort>(
     alloc: Global,
     plan: &ProgramPlan<'_>,
     input: Input,
-    table: &Reducers,
-    yard: &Yard,
-    segment: Segment,
+    start: Start<'_>,
     trial: Trial,
 )
-    requires table { IsTableOf plan.now.run table.now × HasFew table.now }
-    requires event_order { IsEventOrderOn plan.now.run plan.now.event_order.opening input yard.now.event_order }
-    requires along { IsAlong plan.now.event_order yard.now.event_order }
-    requires segment { OfYard yard.now segment × (segment.from ≡ 1) × (segment.upto ≡ 2) }
+    requires table { IsTableOf plan.now.run start.table.now × HasFew start.table.now }
+    requires event_order { IsEventOrderOn plan.now.run plan.now.event_order.opening input start.yard.now.event_order }
+    requires along { IsAlong plan.now.event_order start.yard.now.event_order }
+    requires segment { OfYard start.yard.now start.segment × (start.segment.from ≡ 1) × (start.segment.upto ≡ 2) }
 {
+    let Start {
+        yard,
+        table,
+        segment,
+    } = start;
     accepted_event_orders_have_numbers();
     inputs_are_words(&input);
     plan.laws();
     let Ok(replay) = replay(alloc, plan, yard, input) else {
         panic!(rt; "no memory for the replay");
     };
-    let shared = Shared::new(yard, plan.events(), table, &replay);
+    let blocks = plan.blocks();
+    let columns = Columns {
+        syncs: plan.syncs(),
+        blocks,
+        strands: plan.strands(),
+    };
+    let shared = Shared::new(yard, plan.events(), table, &replay, columns);
     let piece = Piece::new(alloc, yard, segment, table);
     let Ok(work) = first(alloc, &shared, piece) else {
         panic!(rt; "no memory for a frame");
     };
     match trial {
         Trial::Rack => taken::<Brand, R>(rt, alloc, &shared, work),
-        Trial::JoinBox => {
-            let blocks = Blocks {
-                syncs: plan.syncs(),
-                of: plan.blocks(),
-            };
-            joined(rt, alloc, &shared, &blocks, work);
-        }
+        Trial::JoinBox => joined(rt, alloc, &shared, work),
     }
 }
 
@@ -93,5 +96,10 @@ pub fn tried<R: Abort>(rt: &R, alloc: Global, text: &str, trial: Trial) {
     let Ok((yard, segment)) = yard(alloc, &plan, &input) else {
         panic!(rt; "no memory for the yard");
     };
-    tried_on(rt, alloc, &plan, input, &table, &yard, segment, trial);
+    let start = Start {
+        yard: &yard,
+        table: &table,
+        segment,
+    };
+    tried_on(rt, alloc, &plan, input, start, trial);
 }

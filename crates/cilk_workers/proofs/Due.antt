@@ -181,6 +181,12 @@ took y z w ticket q k same order works is (at, there, taken) stands =
     let g = grown_good y p q good is in
     (record { good = g.0; stands = moved y w k works stands ∙ ap (λ (n : ℕ). standing y.replay n) (sym g.2) }, is)
 
+-- an empty piece that has taken a continuation begins there
+pub began_there : (y : SharedValue) (z : YardValue) (p : PieceValue) (ticket : ℕ) (q : PieceValue) → z ≡ yard_of y.run → p.upto ≤ p.from → IsTakenAt z p ticket q → what (event_order_in y) q.from ≡ resume ticket
+began_there y z p ticket q same none (at, there, taken) =
+    subst (λ (x : PieceValue). what (event_order_in y) x.from ≡ resume ticket) (sym taken)
+    (subst (λ (n : ℕ). what (event_order_in y) n ≡ resume ticket) (sym (begun_on p at none)) (subst (λ (v : YardValue). what v.event_order at ≡ resume ticket) same there))
+
 -- an empty piece has taken a continuation
 pub began : (y : SharedValue) (z : YardValue) (p : PieceValue) (ticket at : ℕ) (q : PieceValue) (k : ChainValue) → z ≡ yard_of y.run → IsOrderly (event_order_in y) → OfRun y.run p → p.upto ≤ p.from
     → what (event_order_in y) at ≡ resume ticket → IsTakenAt z p ticket q → k ≡ standing y.replay (at + 1) → Works y (record { piece = q; chain = k })

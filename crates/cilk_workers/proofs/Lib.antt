@@ -7,6 +7,7 @@ pub mod Keys
 pub mod Merges
 pub mod Moves
 pub mod Numbered
+pub mod Numbers
 pub mod OfKind
 pub mod Planned
 pub mod RackKeys

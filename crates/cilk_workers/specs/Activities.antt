@@ -1,7 +1,6 @@
 -- The state of a worker between two turns, and the reasons why it ends.
-use Rattle.std.specs.Prelude.{◌≡◌, ◌≤◌, ℤ}
+use Rattle.std.specs.Prelude.{◌≤◌}
 use Rattle.cilk_workers.specs.Rows.{OfRun}
-use Rattle.cilk_shared.specs.Pieces.{PieceValue}
 use Rattle.cilk_tree.specs.Runs.{Departs}
 use Rattle.cilk_workers.specs.Shared.{SharedValue, event_order_in}
 use Rattle.cilk_workers.specs.Turns.{Works, HasEnded}
@@ -12,14 +11,10 @@ use Rattle.cilk_workers.specs.declared.activity.ExitReason.TheVariants as finish
 use Rattle.cilk_workers.specs.declared.activity.Activity.{Activity}
 use Rattle.cilk_workers.specs.declared.activity.Activity.TheVariants as hands
 
--- the piece of the whole run, from its first event past its last, with the run's result
-abbrev pub IsWhole : SharedValue → PieceValue → ℤ → Type 0
-IsWhole y p value = HasEnded y p value × (p.from ≡ 1)
-
 -- a true exit reason: the worker has the whole run's piece, or the run departs from its plan there,
 -- or nothing is said
 abbrev pub IsExitReason : SharedValue → ExitReason → Type 0
-IsExitReason y (finishes.Whole p value) = IsWhole y p value
+IsExitReason y (finishes.Whole p value) = HasEnded y p value
 IsExitReason y (finishes.Departed p) = Departs (event_order_in y) p
 IsExitReason y finishes.Stopped = Unit {0}
 

@@ -1,5 +1,5 @@
 -- The view of a rack in contracts.
-use Rattle.std.specs.Prelude.{◌≡◌, ℕ, ◌+◌, ◌≤◌, true, List, [], ◌∷◌, ◌++◌, Result, MatchResult}
+use Rattle.std.specs.Prelude.{◌≡◌, ℕ, ◌+◌, ◌≤◌, Bool, true, false, List, [], ◌∷◌, ◌++◌, Result, MatchResult}
 use Rattle.crossbeam_deque.specs.Handles.{worker_deque, worker_view, worker_capacity, worker_index, stealer_deque}
 use Rattle.cilk_replay.specs.declared.chain.Task.{Task}
 use Rattle.cilk_workers.specs.declared.rack.Rack.{Rack}
@@ -29,6 +29,15 @@ module _ {N : Type 0} where
   -- the deque is the same, with no less room
   abbrev pub IsSameRack : Rack N → Rack N → Type 0
   IsSameRack r r' = (worker_deque r'.worker ≡ worker_deque r.worker) × (room r ≤ room r')
+
+  -- a rack as it is made, with room for some tasks
+  abbrev pub IsNewRack : ℕ → Rack N → Type 0
+  IsNewRack first r = (waiting r ≡ []) × IsAlone r × (offered r ≡ 0) × (first ≤ room r)
+
+  -- the flag says whether the task was pushed; if not, nothing is pushed and there is no room
+  abbrev pub IsOfferedIf : Rack N → Task → Bool → Rack N → Type 0
+  IsOfferedIf r t true r' = (waiting r' ≡ waiting r ++ t ∷ []) × (offered r' ≡ offered r + 1)
+  IsOfferedIf r t false r' = (waiting r' ≡ waiting r) × (room r ≤ offered r)
 
   -- the task is pushed, or comes back if there is no room
   abbrev pub IsOffered : Rack N → Task → Result (Unit {0}) Task → Rack N → Type 0

@@ -1,5 +1,5 @@
--- The rule of a shelf's queue: the shelf in it belongs to one run.
-use Rattle.std.specs.Prelude.{◌≡◌, List, All}
+-- The rule of a shelf's queue, which makes it a lock: the shelf is in it, or one worker holds it.
+use Rattle.std.specs.Prelude.{◌≡◌, ◌+◌, ℕ, Bool, true, false, List, [], ◌∷◌, All, length}
 use Rattle.cilk_workers.specs.Rows.{RunValue}
 use Rattle.cilk_workers.specs.Shelves.{ShelfValue}
 use Rattle.cilk_replay.specs.Replays.{ReplayValue}
@@ -9,5 +9,15 @@ use Rattle.cilk_workers.specs.declared.shelf.Shelf.{Shelf}
 abbrev pub IsShelf : RunValue → (ReplayValue → Type 0) → ShelfValue → Type 0
 IsShelf y replay s = (s.of ≡ y) × replay s.replay
 
-abbrev pub Shelved : RunValue → (ReplayValue → Type 0) → List Shelf → Type 0
-Shelved y replay items = All (IsShelf y replay) items
+-- how many of the keys hold the shelf
+abbrev pub one_if : Bool → ℕ
+one_if true = 1
+one_if false = 0
+
+abbrev pub holders : List Bool → ℕ
+holders [] = 0
+holders (v ∷ vs) = one_if v + holders vs
+
+-- the shelves in the queue belong to the run, and there is one shelf: in the queue, or with one key
+abbrev pub Shelved : RunValue → (ReplayValue → Type 0) → List Shelf → List Bool → Type 0
+Shelved y replay items keys = All (IsShelf y replay) items × (length items + holders keys ≡ 1)

@@ -29,6 +29,10 @@ pub record Works (y : SharedValue) (w : Work) : Type 0 where
   pub good : IsGood y.run w.piece
   pub stands : let p = w.piece in w.chain ≡ standing y.replay p.upto
 
+-- a thief's good work: its piece begins at the `resume` after the spawn at the ticket
+abbrev pub IsThief : SharedValue → ℕ → Work → Type 0
+IsThief y ticket w = Works y w × (let p = w.piece in what (event_order_in y) p.from ≡ resume ticket)
+
 -- The result of the run: the course of the plan's run on this input ends with it, whatever number
 -- of ticks it costs. It is the result of the course's last end, the root's.
 abbrev pub IsResult : SharedValue → ℤ → Type 0
@@ -37,10 +41,11 @@ IsResult y value =
     → IsPlannedRun (source u.program) u.own run es opening
     → result_in (reverse (trace (run_of (course_on (source u.program) u.inputs (named (source u.program) run))))) ≡ value
 
--- The root has ended with this result: the piece reaches the run's last event, and the frames
--- requested that event and all before it.
+-- The root has ended with this result: the piece is that of the whole run, and the frames requested
+-- each of its events.
 pub record HasEnded (y : SharedValue) (p : PieceValue) (value : ℤ) : Type 0 where
   pub good : IsGood y.run p
+  pub begins : p.from ≡ 1
   pub last : let s = event_order_in y in p.upto ≡ length s.events + 1
   pub followed : let s = event_order_in y in IsFollowed s (length s.events)
   pub result : IsResult y value

@@ -1,6 +1,6 @@
 //! The state of a worker between two turns, and the ways in which it ends.
 
-use crate::lock::{Key, Lock};
+use crate::lock::Key;
 use crate::naming::Naming;
 use crate::rack::{Picker, Rack};
 use crate::work::Work;
@@ -27,16 +27,6 @@ pub enum Activity {
     Idle(Piece),
     /// The worker has ended.
     Done(ExitReason),
-}
-
-/// The join boxes that the workers share: the locks of their shelves, where block `b` is on shelf
-/// `b` modulo the number of shelves; the position of each block's `sync`; and for each position its
-/// block, or a number past the last block.
-#[derive(Drop)]
-pub struct Blocks<'a, N: Naming> {
-    pub locks: &'a Vec<Lock<N>>,
-    pub syncs: &'a [Pos],
-    pub of: &'a [u32],
 }
 
 /// The tools of one worker: its rack, the stealers of the others' racks, and its key of each

@@ -4,16 +4,17 @@ ghost use Rattle.std.specs.Prelude.{◌≡◌, IfSome};
 ghost use Rattle.cilk_workers.specs.Rows.{IsGood};
 ghost use Rattle.cilk_replay.specs.Chains.{standing};
 ghost use Rattle.cilk_workers.specs.Racks.{Of};
-ghost use Rattle.cilk_workers.specs.Turns.{HasEnded, Works};
+ghost use Rattle.cilk_workers.specs.Turns.{Works};
 ghost use Rattle.cilk_workers.specs.Activities.{IsActivity};
+ghost use Rattle.cilk_workers.specs.Held.{IsOfferedIf, IsSameRack};
 ghost use Rattle.cilk_workers.specs.Keys.{AreKeys};
 ghost use Rattle.cilk_workers.specs.WorkerContexts.{IsWorkerContext};
 
 use crate::activity::{Activity, ExitReason, Tools};
 use crate::context::WorkerContext;
-use crate::gate::Gate;
+use crate::gate::{Gate, tell};
 use crate::lock::{Key, never};
-use crate::locks::{Arrival, Met, block_at};
+use crate::locks::{Arrival, Met};
 use crate::naming::Naming;
 use crate::rack::Rack;
 use crate::turn::act;
@@ -50,10 +51,10 @@ impl<'a, 'b, N: Naming, R: Wait, G: Gate> WorkerContext<'a, 'b, N, R, G> {
     // with an empty piece.
     fn arrived(&self, keys: &mut Vec<Key>, piece: Piece, chain: Option<Chain>) -> Activity
         requires context { IsWorkerContext N.run N.replay N.taken self.now }
-        requires keys { AreKeys self.now.blocks.locks.now.items keys.old.items }
+        requires keys { AreKeys self.now.locks.now.items keys.old.items }
         requires piece { IsGood self.now.shared.now.run piece }
         requires chain { IfSome chain (λ c. c ≡ standing self.now.shared.now.replay piece.upto) }
-        ensures keys { AreKeys self.now.blocks.locks.now.items keys.new.items }
+        ensures keys { AreKeys self.now.locks.now.items keys.new.items }
         ensures hand { IsActivity self.now.shared.now result }
     {
         let shared = self.shared;
@@ -62,7 +63,7 @@ impl<'a, 'b, N: Naming, R: Wait, G: Gate> WorkerContext<'a, 'b, N, R, G> {
             Some(child) => child,
             None => at,
         };
-        let Some(block) = block_at(self.blocks.of, at, self.blocks.syncs.len()) else {
+        let Some(block) = shared.block_at(at) else {
             never(self.rt);
             unreachable!()
         };
@@ -78,19 +79,10 @@ impl<'a, 'b, N: Naming, R: Wait, G: Gate> WorkerContext<'a, 'b, N, R, G> {
     fn offered(&self, rack: &mut Rack<N>, task: Task) -> bool
         requires context { IsWorkerContext N.run N.replay N.taken self.now }
         requires task { task.of ≡ self.now.shared.now.replay }
+        ensures rule { IsOfferedIf rack.old task result rack.new }
+        ensures same { IsSameRack rack.old rack.new }
     {
         rack.offer(task).is_ok()
-    }
-
-    // The run has ended, and the piece has all of its events.
-    fn whole(&self, piece: Piece, value: i64) -> Activity
-        requires { HasEnded self.now.shared.now piece value }
-        ensures { IsActivity self.now.shared.now result }
-    {
-        if piece.from() != 1 {
-            never(self.rt);
-        }
-        Activity::Done(ExitReason::Whole(piece, value))
     }
 
     /// Makes up to `TURNS` turns of a worker that holds a piece and a chain.
@@ -100,23 +92,23 @@ impl<'a, 'b, N: Naming, R: Wait, G: Gate> WorkerContext<'a, 'b, N, R, G> {
     /// piece arrives at the block.
     pub fn run_burst(&self, tools: &mut Tools<N>, mut work: Work) -> Activity
         requires context { IsWorkerContext N.run N.replay N.taken self.now }
-        requires keys { AreKeys self.now.blocks.locks.now.items tools.old.keys.items }
+        requires keys { AreKeys self.now.locks.now.items tools.old.keys.items }
         requires works { Works self.now.shared.now work }
-        ensures keys { AreKeys self.now.blocks.locks.now.items tools.new.keys.items }
+        ensures keys { AreKeys self.now.locks.now.items tools.new.keys.items }
         ensures hand { IsActivity self.now.shared.now result }
     {
         'each: for _ in 0..TURNS {
             let before = work.piece.upto();
             match act(self.alloc, self.shared, &mut work) {
-                Turn::Goes => self.watch.tell(self.shared, before, &work.piece),
+                Turn::Goes => tell(self.gate, self.worker, self.shared, before, &work.piece),
                 Turn::Offers(task) => {
-                    self.watch.tell(self.shared, before, &work.piece);
+                    tell(self.gate, self.worker, self.shared, before, &work.piece);
                     if !self.offered(&mut tools.rack, task) {
                         return Activity::Done(ExitReason::Stopped);
                     }
                 }
                 Turn::Ended => {
-                    self.watch.tell(self.shared, before, &work.piece);
+                    tell(self.gate, self.worker, self.shared, before, &work.piece);
                     let taken = work.piece.upto() == before;
                     let Some(task) = behind(&mut tools.rack, taken) else {
                         let Work { piece, chain: _ } = work;
@@ -129,9 +121,9 @@ impl<'a, 'b, N: Naming, R: Wait, G: Gate> WorkerContext<'a, 'b, N, R, G> {
                     return self.arrived(&mut tools.keys, piece, Some(chain));
                 }
                 Turn::Finished(value) => {
-                    self.watch.tell(self.shared, before, &work.piece);
+                    tell(self.gate, self.worker, self.shared, before, &work.piece);
                     let Work { piece, chain: _ } = work;
-                    return self.whole(piece, value);
+                    return Activity::Done(ExitReason::Whole(piece, value));
                 }
                 Turn::Departed(at) => return Activity::Done(ExitReason::Departed(at)),
                 Turn::Stopped => return Activity::Done(ExitReason::Stopped),

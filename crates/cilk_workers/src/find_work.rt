@@ -1,17 +1,18 @@
 //! A turn of a worker without work.
 
-ghost use Rattle.std.specs.Prelude.{◌≤◌, IfSome};
+ghost use Rattle.std.specs.Prelude.{◌≡◌, ◌≤◌, IfSome};
+ghost use Rattle.cilk_tree.specs.Word.{resume, what};
 ghost use Rattle.cilk_workers.specs.Rows.{OfRun};
 ghost use Rattle.cilk_workers.specs.Racks.{MayPick, Of};
 ghost use Rattle.cilk_workers.specs.Activities.{IsActivity};
 ghost use Rattle.cilk_workers.specs.Keys.{AreKeys};
+ghost use Rattle.cilk_workers.specs.Shared.{event_order_in};
 ghost use Rattle.cilk_workers.specs.WorkerContexts.{IsWorkerContext};
 
 use crate::activity::{Activity, ExitReason, Tools};
 use crate::context::WorkerContext;
-use crate::gate::Gate;
-use crate::lock::{Key, never};
-use crate::locks::block_at;
+use crate::gate::{Gate, tell};
+use crate::lock::Key;
 use crate::naming::Naming;
 use crate::rack::{Picker, Rack};
 use crate::turn::begin;
@@ -47,16 +48,15 @@ fn found<N: Naming>(rack: &mut Rack<N>, pickers: &mut Vec<Picker<N>>) -> Option<
 }
 
 impl<'a, 'b, N: Naming, R: Wait, G: Gate> WorkerContext<'a, 'b, N, R, G> {
-    // Records a steal at the block of the position where the thief continues. False if memory ran
-    // out.
-    fn announce_steal(&self, keys: &mut Vec<Key>, at: Pos) -> bool
+    // Records at its block the steal of the continuation of the spawn at `child`, which resumes at
+    // `at`. False if memory ran out.
+    fn announce_steal(&self, keys: &mut Vec<Key>, child: Pos, at: Pos) -> bool
         requires context { IsWorkerContext N.run N.replay N.taken self.now }
-        requires keys { AreKeys self.now.blocks.locks.now.items keys.old.items }
-        ensures { AreKeys self.now.blocks.locks.now.items keys.new.items }
+        requires keys { AreKeys self.now.locks.now.items keys.old.items }
+        requires resumes { what (event_order_in self.now.shared.now) at ≡ resume child }
+        ensures { AreKeys self.now.locks.now.items keys.new.items }
     {
-        let block = block_at(self.blocks.of, at, self.blocks.syncs.len());
-        let (Some(block), Some(child)) = (block, self.shared.resumed_by(at)) else {
-            never(self.rt);
+        let Some(block) = self.shared.block_at(at) else {
             unreachable!()
         };
         self.record_steal(keys, block, child, at)
@@ -66,9 +66,9 @@ impl<'a, 'b, N: Naming, R: Wait, G: Gate> WorkerContext<'a, 'b, N, R, G> {
     /// of another. If it finds none, it ends once it sees that the run has ended.
     pub fn find_work(&self, tools: &mut Tools<N>, backoff: &Backoff, mut piece: Piece) -> Activity
         requires context { IsWorkerContext N.run N.replay N.taken self.now }
-        requires keys { AreKeys self.now.blocks.locks.now.items tools.old.keys.items }
+        requires keys { AreKeys self.now.locks.now.items tools.old.keys.items }
         requires piece { OfRun self.now.shared.now.run piece × (piece.upto ≤ piece.from) }
-        ensures keys { AreKeys self.now.blocks.locks.now.items tools.new.keys.items }
+        ensures keys { AreKeys self.now.locks.now.items tools.new.keys.items }
         ensures hand { IsActivity self.now.shared.now result }
     {
         let Some(task) = found(&mut tools.rack, &mut tools.pickers) else {
@@ -78,11 +78,12 @@ impl<'a, 'b, N: Naming, R: Wait, G: Gate> WorkerContext<'a, 'b, N, R, G> {
             backoff.snooze();
             return Activity::Idle(piece);
         };
+        let child = task.ticket();
         match begin(self.shared, piece, task) {
             Ok(work) => {
                 backoff.reset();
-                self.watch.tell(self.shared, 0, &work.piece);
-                if self.announce_steal(&mut tools.keys, work.piece.from()) {
+                tell(self.gate, self.worker, self.shared, 0, &work.piece);
+                if self.announce_steal(&mut tools.keys, child, work.piece.from()) {
                     Activity::Holds(work)
                 } else {
                     Activity::Done(ExitReason::Stopped)

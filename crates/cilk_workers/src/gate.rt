@@ -1,8 +1,6 @@
 //! Gates: hooks that are called as strands begin.
 
-ghost use Rattle.std.specs.Prelude.{◌≡◌, slice_index_or};
 ghost use Rattle.cilk_workers.specs.Rows.{IsGood};
-ghost use Rattle.cilk_tree.specs.PlanStrands.{AreFirsts};
 ghost use Rattle.cilk_workers.specs.Gates.{EndsWithFirst};
 
 use crate::shared::Shared;
@@ -26,35 +24,14 @@ impl Gate for Open {
     fn at(&self, _worker: u32, _strand: StrandNo, _segment: &Segment) {}
 }
 
-/// A worker's gate, its number, and for each position the strand that begins there, or 0.
-#[derive(Drop)]
-pub struct Watch<'a, G: Gate> {
-    pub gate: &'a G,
-    pub worker: u32,
-    pub strands: &'a [StrandNo],
-}
-
-// The strand that begins at a position, or 0.
-fn begun(strands: &[StrandNo], at: Pos) -> StrandNo
-    ensures { result ≡ slice_index_or strands.now at 0 }
+/// Calls a worker's gate if the piece's last event is the first of a strand and is new. `before` is
+/// where the piece ended before that event.
+pub fn tell<G: Gate>(gate: &G, worker: u32, shared: &Shared<'_>, before: Pos, piece: &Piece)
+    requires { IsGood shared.now.run piece.now }
 {
-    match strands.get(at as usize) {
-        Some(strand) => *strand,
-        None => 0,
-    }
-}
-
-impl<'a, G: Gate> Watch<'a, G> {
-    /// Calls the gate if the piece's last event is the first of a strand and is new. `before` is
-    /// where the piece ended before that event.
-    pub fn tell(&self, shared: &Shared<'_>, before: Pos, piece: &Piece)
-        requires strands { AreFirsts shared.now.run.event_order.events self.now.strands.now }
-        requires piece { IsGood shared.now.run piece.now }
-    {
-        let upto = piece.upto();
-        let strand = begun(self.strands, upto - 1);
-        if strand > 0 && upto != before {
-            self.gate.at(self.worker, strand, piece.segment());
-        }
+    let upto = piece.upto();
+    let strand = shared.strand_at(upto - 1);
+    if strand > 0 && upto != before {
+        gate.at(worker, strand, piece.segment());
     }
 }

@@ -6,15 +6,16 @@
 ghost use Rattle.std.specs.Prelude.{nat_lt, if◌then◌else◌, Some, None, ◌≡◌, ◌<◌, ◌↔◌, IfOk, IfErr, OnOk, OnErr, IsTrue, true, false};
 ghost use Rattle.cilk_types.specs.declared.event.Event.TheVariants.{Sync};
 ghost use Rattle.cilk_tree.specs.Word.{event};
-ghost use Rattle.cilk_workers.specs.Rows.{FitsIn, IsGood, PiecesLieApart, parts_in, run_of, yard_of};
+ghost use Rattle.cilk_workers.specs.Rows.{FitsIn, IsGood, PiecesLieApart, parts_in, yard_of};
 ghost use Rattle.cilk_workers.specs.Boxes.{is_some, later, opening, Comes, IsFresh, IsOpen, IsUnused, MayArrive, stolen_at, arrived_at};
 ghost use Rattle.cilk_workers.specs.Answers.{Answers};
+ghost use Rattle.cilk_workers.specs.Shared.{event_order_in};
 
 use crate::runs::Runs;
+use crate::shared::Shared;
 use cilk_replay::chain::Chain;
 use cilk_replay::replay::Replay;
 use cilk_shared::piece::Piece;
-use cilk_shared::reducers::Reducers;
 use cilk_shared::yard::Yard;
 use cilk_types::event::Pos;
 use std::alloc::{AllocError, Global};
@@ -82,20 +83,14 @@ fn settle(chain: &mut Option<Chain>, other: Option<Chain>)
 
 impl JoinBox {
     /// Returns a box at which nothing was stolen and nothing has arrived.
-    pub fn new(
-        alloc: Global,
-        yard: &Yard,
-        reducers: &Reducers,
-        replay: &Replay,
-        sync: Pos,
-    ) -> JoinBox
-        requires { event yard.now.event_order sync ≡ Some Sync }
-        ensures { result ≡ opening (run_of yard.now reducers.now) replay.now sync }
+    pub fn new(alloc: Global, shared: &Shared<'_>, sync: Pos) -> JoinBox
+        requires { event (event_order_in shared.now) sync ≡ Some Sync }
+        ensures { result ≡ opening shared.now.run shared.now.replay sync }
     {
         JoinBox {
-            replay: Snapshot::of(replay),
+            replay: Snapshot::of(shared.replay()),
             sync,
-            runs: Runs::new(alloc, yard, reducers),
+            runs: Runs::new(alloc, shared),
             stolen: 0,
             arrived: 0,
             gone: false,

@@ -26,7 +26,7 @@
 //! | [`join::JoinBox::record_steal`], [`join::JoinBox::arrive`] | a steal from a block; a piece arrives |
 //!
 //! ```text
-//! let context = WorkerContext { rt, alloc, shared: &shared, blocks, watch };
+//! let context = WorkerContext { rt, alloc, shared: &shared, locks, gate, worker };
 //! match context.work(&mut tools, &stop, Activity::Idle(piece)) {
 //!     ExitReason::Whole(piece, value) => ..,   // this worker ended the run, with this result
 //!     ExitReason::Departed(at) => ..,          // the run departs from its plan there
@@ -40,6 +40,7 @@ mod asking;
 pub mod awaited;
 pub mod burst;
 mod cells;
+pub mod columns;
 pub mod context;
 pub mod find_work;
 pub mod gate;

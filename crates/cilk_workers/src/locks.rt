@@ -1,8 +1,7 @@
 //! Steals and arrivals at the join boxes, each under the lock of its shelf.
 
-ghost use Rattle.std.specs.Prelude.{◌≡◌, ◌<◌, ◌≤◌, ℕ, Some, length, slice_get, slice_index, IfOk, IfSome, MatchOption, OnOk};
+ghost use Rattle.std.specs.Prelude.{◌≡◌, ◌<◌, ◌≤◌, Some, IfOk, IfSome, OnOk};
 ghost use Rattle.cilk_types.specs.declared.event.Event.TheVariants.{Sync};
-ghost use Rattle.crossbeam_queue.specs.Passes.{IsPassOf};
 ghost use Rattle.cilk_workers.specs.Rows.{IsGood};
 ghost use Rattle.cilk_workers.specs.Shelves.{HasRoom, IsSameShelf, LiesOn};
 ghost use Rattle.cilk_replay.specs.Chains.{standing};
@@ -10,9 +9,10 @@ ghost use Rattle.cilk_workers.specs.Locks.{IsShelf};
 ghost use Rattle.cilk_tree.specs.Word.{event};
 ghost use Rattle.cilk_workers.specs.Shared.{event_order_in};
 ghost use Rattle.cilk_workers.specs.Activities.{IsMet};
-ghost use Rattle.cilk_workers.specs.Keys.{AreKeys};
+ghost use Rattle.cilk_workers.specs.Keys.{AreKeys, IsFree};
 ghost use Rattle.cilk_workers.specs.WorkerContexts.{IsWorkerContext};
 
+use crate::columns::Block;
 use crate::context::WorkerContext;
 use crate::gate::Gate;
 use crate::join::{Boxed, JoinBox};
@@ -46,30 +46,11 @@ pub enum Met {
     Stopped,
 }
 
-/// Returns the block of a position, if it is one of the first `count`.
-pub fn block_at(of: &[u32], at: Pos, count: usize) -> Option<usize>
-    ensures { MatchOption result ((b : ℕ) → slice_get of.now at ≡ Some b → count ≤ b) (λ b. (slice_get of.now at ≡ Some b) × (b < count)) }
-{
-    let block = *of.get(at as usize)? as usize;
-    if block < count { Some(block) } else { None }
-}
-
-/// Returns the position of a block's `sync`.
-pub fn position(syncs: &[Pos], block: usize) -> Pos
-    requires { block < length syncs.now }
-    ensures { result ≡ slice_index syncs.now block }
-{
-    syncs[block]
-}
-
 // The shelf of a block, of `shelves` shelves.
-fn shelf_of<R: Wait>(rt: &R, block: usize, shelves: usize) -> usize
+fn shelf_of(block: usize, shelves: usize) -> usize
+    requires { 1 ≤ shelves }
     ensures { result < shelves }
 {
-    if shelves == 0 {
-        never(rt);
-        unreachable!()
-    }
     block % shelves
 }
 
@@ -103,14 +84,7 @@ impl<'a, 'b, N: Naming, R: Wait, G: Gate> WorkerContext<'a, 'b, N, R, G> {
         ensures room { OnOk result (HasRoom shelf.new) }
         ensures run { IfOk result (λ b. (b.rows.of ≡ self.now.shared.now.run) × (b.replay ≡ self.now.shared.now.replay)) }
     {
-        let shared = self.shared;
-        shelf.take(
-            self.alloc,
-            shared.yard(),
-            shared.reducers(),
-            shared.replay(),
-            sync,
-        )
+        shelf.take(self.alloc, self.shared, sync)
     }
 
     // A piece arrives at a block whose box is on this shelf.
@@ -153,11 +127,11 @@ impl<'a, 'b, N: Naming, R: Wait, G: Gate> WorkerContext<'a, 'b, N, R, G> {
     // lock.
     fn arrive_locked(&self, shelf_lock: &Lock<N>, key: &mut Key, sync: Pos, arrival: Arrival) -> Met
         requires context { IsWorkerContext N.run N.replay N.taken self.now }
-        requires key { IsPassOf shelf_lock.now key.old }
+        requires key { IsFree shelf_lock.now key.old }
         requires sync { event (event_order_in self.now.shared.now) sync ≡ Some Sync }
         requires good { IsGood self.now.shared.now.run arrival.piece }
         requires chain { IfSome arrival.chain (λ c. c ≡ standing self.now.shared.now.replay arrival.piece.upto) }
-        ensures key { IsPassOf shelf_lock.now key.new }
+        ensures key { IsFree shelf_lock.now key.new }
         ensures met { IsMet self.now.shared.now result }
     {
         let mut shelf = lock(self.rt, shelf_lock, key);
@@ -177,9 +151,9 @@ impl<'a, 'b, N: Naming, R: Wait, G: Gate> WorkerContext<'a, 'b, N, R, G> {
         goes_on: Pos,
     ) -> bool
         requires context { IsWorkerContext N.run N.replay N.taken self.now }
-        requires key { IsPassOf shelf_lock.now key.old }
+        requires key { IsFree shelf_lock.now key.old }
         requires sync { event (event_order_in self.now.shared.now) sync ≡ Some Sync }
-        ensures { IsPassOf shelf_lock.now key.new }
+        ensures { IsFree shelf_lock.now key.new }
     {
         let mut shelf = lock(self.rt, shelf_lock, key);
         let told = self.record_steal_on(&mut shelf, sync, child, goes_on);
@@ -187,37 +161,35 @@ impl<'a, 'b, N: Naming, R: Wait, G: Gate> WorkerContext<'a, 'b, N, R, G> {
         told
     }
 
-    /// Takes a piece to the block with this number.
-    pub fn arrive(&self, keys: &mut Vec<Key>, block: usize, arrival: Arrival) -> Met
+    /// Takes a piece to a block.
+    pub fn arrive(&self, keys: &mut Vec<Key>, block: Block, arrival: Arrival) -> Met
         requires context { IsWorkerContext N.run N.replay N.taken self.now }
-        requires keys { AreKeys self.now.blocks.locks.now.items keys.old.items }
-        requires block { block < length self.now.blocks.syncs.now }
+        requires keys { AreKeys self.now.locks.now.items keys.old.items }
+        requires sync { event (event_order_in self.now.shared.now) block.sync ≡ Some Sync }
         requires good { IsGood self.now.shared.now.run arrival.piece }
         requires chain { IfSome arrival.chain (λ c. c ≡ standing self.now.shared.now.replay arrival.piece.upto) }
-        ensures keys { AreKeys self.now.blocks.locks.now.items keys.new.items }
+        ensures keys { AreKeys self.now.locks.now.items keys.new.items }
         ensures met { IsMet self.now.shared.now result }
     {
-        let locks = self.blocks.locks;
-        let sync = position(self.blocks.syncs, block);
-        let at = shelf_of(self.rt, block, locks.len());
+        let locks = self.locks;
+        let at = shelf_of(block.number, locks.len());
         let shelf_lock = &locks[at];
         let key = &mut keys[at];
-        self.arrive_locked(shelf_lock, key, sync, arrival)
+        self.arrive_locked(shelf_lock, key, block.sync, arrival)
     }
 
-    /// Records at the block with this number that a thief took the continuation of the spawn at
+    /// Records at a block that a thief took the continuation of the spawn at
     /// `child`, which continues at `goes_on`. False if memory ran out.
-    pub fn record_steal(&self, keys: &mut Vec<Key>, block: usize, child: Pos, goes_on: Pos) -> bool
+    pub fn record_steal(&self, keys: &mut Vec<Key>, block: Block, child: Pos, goes_on: Pos) -> bool
         requires context { IsWorkerContext N.run N.replay N.taken self.now }
-        requires keys { AreKeys self.now.blocks.locks.now.items keys.old.items }
-        requires block { block < length self.now.blocks.syncs.now }
-        ensures { AreKeys self.now.blocks.locks.now.items keys.new.items }
+        requires keys { AreKeys self.now.locks.now.items keys.old.items }
+        requires sync { event (event_order_in self.now.shared.now) block.sync ≡ Some Sync }
+        ensures { AreKeys self.now.locks.now.items keys.new.items }
     {
-        let locks = self.blocks.locks;
-        let sync = position(self.blocks.syncs, block);
-        let at = shelf_of(self.rt, block, locks.len());
+        let locks = self.locks;
+        let at = shelf_of(block.number, locks.len());
         let shelf_lock = &locks[at];
         let key = &mut keys[at];
-        self.record_steal_locked(shelf_lock, key, sync, child, goes_on)
+        self.record_steal_locked(shelf_lock, key, block.sync, child, goes_on)
     }
 }

@@ -17,7 +17,7 @@ impl<'a, 'b, N: Naming, R: Wait, G: Gate> WorkerContext<'a, 'b, N, R, G> {
     /// sees the flag set ends.
     pub fn work(&self, tools: &mut Tools<N>, stop: &AtomicBool, mut hand: Activity) -> ExitReason
         requires context { IsWorkerContext N.run N.replay N.taken self.now }
-        requires keys { AreKeys self.now.blocks.locks.now.items tools.old.keys.items }
+        requires keys { AreKeys self.now.locks.now.items tools.old.keys.items }
         requires hand { IsActivity self.now.shared.now hand }
         ensures { IsExitReason self.now.shared.now result }
     {

@@ -101,11 +101,11 @@ pub struct Picker<N: Naming> {
 }
 
 impl<N: Naming> Rack<N> {
-    ghost use Rattle.cilk_workers.specs.Held.{IsAlone, IsOffered, IsPickerOf, IsSameRack, waiting, room, offered};
+    ghost use Rattle.cilk_workers.specs.Held.{IsAlone, IsNewRack, IsOffered, IsPickerOf, IsSameRack, waiting, offered};
 
     /// Makes a rack without tasks, with room for `first` tasks at first.
     pub fn new(alloc: Global, first: usize) -> Result<Rack<N>, AllocError>
-        ensures { IfOk result (λ r. (waiting r ≡ []) × IsAlone r × (offered r ≡ 0) × (first ≤ room r)) }
+        ensures { IfOk result (IsNewRack first) }
     {
         let worker = Worker::lifo_as(alloc, first)?;
         Ok(Rack { worker })
@@ -152,7 +152,8 @@ pub type Takes<N> = Stealer<Task, Global, Offers, OfRun<N>>;
 impl<N: Naming> Rack<N> {
     /// Returns the deque alone, to send it to a thread.
     pub fn parted(self) -> Tasks<N>
-        ensures { (worker_flavor result ≡ 1) × (worker_port result ≡ 0) × ((worker_view result).owner ≡ true) }
+        ensures deque { result ≡ self.worker }
+        ensures owner { (worker_flavor result ≡ 1) × (worker_port result ≡ 0) × ((worker_view result).owner ≡ true) }
     {
         self.worker
     }
@@ -160,6 +161,7 @@ impl<N: Naming> Rack<N> {
     /// Makes a rack of such a deque.
     pub fn of(worker: Tasks<N>) -> Rack<N>
         requires { (worker_flavor worker ≡ 1) × (worker_port worker ≡ 0) × ((worker_view worker).owner ≡ true) }
+        ensures { result.worker ≡ worker }
     {
         Rack { worker }
     }
@@ -168,7 +170,8 @@ impl<N: Naming> Rack<N> {
 impl<N: Naming> Picker<N> {
     /// Returns the stealer and its pass, to send them to a thread.
     pub fn parted(self) -> (Takes<N>, Pass<Task, Offers>)
-        ensures { IsPassOf (stealer_deque result.0) result.1 × ((view result.1).owner ≡ false) }
+        ensures parts { (result.0 ≡ self.stealer) × (result.1 ≡ self.pass) }
+        ensures guest { IsPassOf (stealer_deque result.0) result.1 × ((view result.1).owner ≡ false) }
     {
         (self.stealer, self.pass)
     }
@@ -176,6 +179,7 @@ impl<N: Naming> Picker<N> {
     /// Makes a picker of such a stealer and pass.
     pub fn of(stealer: Takes<N>, pass: Pass<Task, Offers>) -> Picker<N>
         requires { IsPassOf (stealer_deque stealer) pass × ((view pass).owner ≡ false) }
+        ensures { (result.stealer ≡ stealer) × (result.pass ≡ pass) }
     {
         Picker { stealer, pass }
     }

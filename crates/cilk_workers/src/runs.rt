@@ -1,12 +1,13 @@
 //! The runs of arrived keys of a sync block, and the awaited keys between them.
 ghost use Rattle.std.specs.Prelude.{◌≡◌, ◌↔◌, ◌<◌, ◌≤◌, ◌+◌, IfErr, OnOk, OnErr, IsTrue, Some, None, []};
-ghost use Rattle.cilk_workers.specs.Rows.{parts_in, awaiting, end_in, placed_in, FitsIn, IsGood, IsGoodRun, PiecesLieApart, is_empty, row, rows, run_of, yard_of};
+ghost use Rattle.cilk_workers.specs.Rows.{parts_in, awaiting, end_in, placed_in, FitsIn, IsGood, IsGoodRun, PiecesLieApart, is_empty, row, rows, yard_of};
 ghost use Rattle.cilk_workers.specs.Boxes.{IsAwaitedIf};
 
 use crate::awaited::{
     Awaited, end_of_all, end_of_run, fits_from, forget, place_in, replace, runs, set,
 };
 use crate::merging::{Parts, merge};
+use crate::shared::Shared;
 use cilk_shared::piece::Piece;
 use cilk_shared::reducers::Reducers;
 use cilk_shared::yard::Yard;
@@ -38,12 +39,12 @@ impl Model for Runs {
 
 impl Runs {
     /// Returns a row without runs or awaited keys.
-    pub fn new(alloc: Global, yard: &Yard, reducers: &Reducers) -> Runs
-        ensures { result ≡ rows (run_of yard.now reducers.now) (row None []) }
+    pub fn new(alloc: Global, shared: &Shared<'_>) -> Runs
+        ensures { result ≡ rows shared.now.run (row None []) }
     {
         Runs {
-            of: Snapshot::of(yard),
-            reducers: Snapshot::of(reducers),
+            of: Snapshot::of(shared.yard()),
+            reducers: Snapshot::of(shared.reducers()),
             first: None,
             awaited: Vec::new(alloc),
         }

@@ -1,6 +1,7 @@
 //! The part of a run that its workers share.
 
-ghost use Rattle.std.specs.Prelude.{◌≡◌, ◌↔◌, ℕ, Some, length, IsTrue};
+ghost use Rattle.std.specs.Prelude.{◌≡◌, ◌↔◌, ◌<◌, ℕ, Some, length, IfSome, IsSome, IsTrue};
+ghost use Rattle.cilk_types.specs.declared.event.Event.TheVariants.{Sync};
 ghost use Rattle.cilk_workers.specs.Rows.{yard_of};
 ghost use Rattle.cilk_replay.specs.Replays.{IsReplay};
 ghost use Rattle.cilk_determinacy.specs.Words.{InputsAreWords};
@@ -9,9 +10,11 @@ ghost use Rattle.cilk_shared.specs.Reducers.{HasFew};
 ghost use Rattle.cilk_tree.specs.Along.{IsAlong};
 ghost use Rattle.cilk_tree.specs.Orders.{IsOrderly};
 ghost use Rattle.cilk_tree.specs.Values.{HasValues};
-ghost use Rattle.cilk_tree.specs.Word.{resume, what};
-ghost use Rattle.cilk_workers.specs.Shared.{HasCells, IsNext, shared_with, event_order_in};
+ghost use Rattle.cilk_tree.specs.PlanStrands.{BeginsStrand};
+ghost use Rattle.cilk_tree.specs.Word.{event, resume, what};
+ghost use Rattle.cilk_workers.specs.Shared.{AreColumns, HasCells, IsNext, shared_with, event_order_in};
 
+use crate::columns::{Block, Columns, block_in, strand_in, sync_in};
 use cilk_determinacy::words::inputs_are_words;
 use cilk_replay::replay::Replay;
 use cilk_shared::piece_laws::frames_are_along;
@@ -19,16 +22,18 @@ use cilk_shared::reducers::Reducers;
 use cilk_shared::yard::Yard;
 use cilk_tree::kind::Asked;
 use cilk_tree::plan::Plan;
-use cilk_types::event::Pos;
+use cilk_types::event::{Pos, StrandNo};
 use std::marker::Model;
 
-/// A run's shared words, the plan that it follows, the reducers of its frames, and its replay.
+/// A run: its shared words, the plan that it follows, the reducers of its frames, its replay, and the
+/// plan's columns.
 #[derive(Drop)]
 pub struct Shared<'a> {
     yard: &'a Yard,
     plan: &'a Plan,
     reducers: &'a Reducers,
     replay: &'a Replay,
+    columns: Columns<'a>,
 }
 
 impl<'a> Model for Shared<'a> {
@@ -38,7 +43,7 @@ impl<'a> Model for Shared<'a> {
     ghost use Rattle.cilk_shared.specs.Numbers.{HasNumbers};
     ghost use Rattle.cilk_shared.specs.Reducers.{HasFew};
     ghost use Rattle.cilk_tree.specs.Along.{IsAlong};
-    ghost use Rattle.cilk_workers.specs.Shared.{HasCells, SharedValue, shared_with};
+    ghost use Rattle.cilk_workers.specs.Shared.{AreColumns, HasCells, SharedValue, shared_with};
 
     ghost Value = { SharedValue };
 
@@ -47,7 +52,8 @@ impl<'a> Model for Shared<'a> {
     ghost view = { λ c. shared_with c.yard.now c.reducers.now c.replay.now };
 
     ghost invariant = { λ c. IsAlong c.plan.now c.yard.now.event_order × HasFew c.reducers.now × (c.replay.now.yard ≡ c.yard.now)
-        × HasCells c.yard.now.event_order × HasNumbers c.yard.now.event_order c.reducers.now };
+        × HasCells c.yard.now.event_order × HasNumbers c.yard.now.event_order c.reducers.now
+        × AreColumns c.yard.now.event_order c.columns.syncs.now c.columns.blocks.now c.columns.strands.now };
 }
 
 impl<'a> Shared<'a> {
@@ -58,12 +64,14 @@ impl<'a> Shared<'a> {
         plan: &'a Plan,
         reducers: &'a Reducers,
         replay: &'a Replay,
+        columns: Columns<'a>,
     ) -> Shared<'a>
         requires along { IsAlong plan.now yard.now.event_order }
         requires few { HasFew reducers.now }
         requires cells { HasCells yard.now.event_order }
         requires numbers { HasNumbers yard.now.event_order reducers.now }
         requires replay { replay.now.yard ≡ yard.now }
+        requires columns { AreColumns yard.now.event_order columns.syncs.now columns.blocks.now columns.strands.now }
         ensures { result ≡ shared_with yard.now reducers.now replay.now }
     {
         Shared {
@@ -71,6 +79,7 @@ impl<'a> Shared<'a> {
             plan,
             reducers,
             replay,
+            columns,
         }
     }
 
@@ -143,5 +152,28 @@ impl<'a> Shared<'a> {
         ensures { (k : ℕ) → (result ≡ Some k) ↔ (what (event_order_in self.now) at ≡ resume k) }
     {
         self.plan.resumed_by(at)
+    }
+
+    /// Returns the number of blocks.
+    pub fn blocks(&self) -> usize {
+        self.columns.syncs.len()
+    }
+
+    /// Returns the block of a position, if it has one, as the `resume` after a spawn has.
+    pub fn block_at(&self, at: Pos) -> Option<Block>
+        ensures block { IfSome result (λ b. event (event_order_in self.now) b.sync ≡ Some Sync) }
+        ensures resumed { (k : ℕ) → what (event_order_in self.now) at ≡ resume k → IsSome result }
+    {
+        let syncs = self.columns.syncs;
+        let number = block_in(self.columns.blocks, at, syncs.len())?;
+        let sync = sync_in(syncs, number);
+        Some(Block { number, sync })
+    }
+
+    /// Returns the strand that begins at a position, or 0.
+    pub fn strand_at(&self, at: Pos) -> StrandNo
+        ensures { 0 < result → (let s = event_order_in self.now in BeginsStrand s.events result at) }
+    {
+        strand_in(self.columns.strands, at)
     }
 }

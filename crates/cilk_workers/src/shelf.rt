@@ -4,10 +4,11 @@ ghost use Rattle.std.specs.Prelude.{◌≡◌, ◌≤◌, ℕ, [], All, length, 
 ghost use Rattle.std.specs.Vec.{vec_capacity};
 ghost use Rattle.cilk_types.specs.declared.event.Event.TheVariants.{Sync};
 ghost use Rattle.cilk_tree.specs.Word.{event};
-ghost use Rattle.cilk_workers.specs.Rows.{run_of};
+ghost use Rattle.cilk_workers.specs.Shared.{event_order_in};
 ghost use Rattle.cilk_workers.specs.Shelves.{ComesOut, HasNone, HasRoom, IsSameShelf, LiesOn, PutsBack, TakesOff};
 
 use crate::join::JoinBox;
+use crate::shared::Shared;
 use cilk_replay::replay::Replay;
 use cilk_shared::reducers::Reducers;
 use cilk_shared::yard::Yard;
@@ -46,22 +47,14 @@ impl Model for Shelf {
 }
 
 // Moves out the box of a block, if it is on the shelf.
-fn taken(
-    yard: &Yard,
-    reducers: &Reducers,
-    replay: &Replay,
-    boxes: &mut Vec<JoinBox>,
-    sync: Pos,
-) -> Option<JoinBox>
-    requires { All (LiesOn (run_of yard.now reducers.now) replay.now) boxes.old.items }
-    ensures rest { All (LiesOn (run_of yard.now reducers.now) replay.now) boxes.new.items }
-    ensures found { IfSome result (λ b. LiesOn (run_of yard.now reducers.now) replay.now b × (b.sync ≡ sync)) }
+fn taken(shared: &Shared<'_>, boxes: &mut Vec<JoinBox>, sync: Pos) -> Option<JoinBox>
+    requires { All (LiesOn (shared.now.run) shared.now.replay) boxes.old.items }
+    ensures rest { All (LiesOn (shared.now.run) shared.now.replay) boxes.new.items }
+    ensures found { IfSome result (λ b. LiesOn (shared.now.run) shared.now.replay b × (b.sync ≡ sync)) }
     ensures taken { MatchOption result (HasNone boxes.old.items sync × (boxes.new.items ≡ boxes.old.items)) (λ b. (k : ℕ) × ComesOut boxes.old.items k b boxes.new.items) }
     ensures room { (length boxes.new.items ≤ length boxes.old.items) × (vec_capacity boxes.new ≡ vec_capacity boxes.old) }
 {
-    let _ = yard;
-    let _ = reducers;
-    let _ = replay;
+    let _ = shared;
     'each: for at in 0..boxes.len() {
         let found = &boxes[at];
         if found.sync() == sync {
@@ -73,13 +66,13 @@ fn taken(
 
 impl Shelf {
     /// Returns a shelf without boxes.
-    pub fn new(alloc: Global, yard: &Yard, reducers: &Reducers, replay: &Replay) -> Shelf
-        ensures { (result.of ≡ run_of yard.now reducers.now) × (result.replay ≡ replay.now) × (result.boxes ≡ []) }
+    pub fn new(alloc: Global, shared: &Shared<'_>) -> Shelf
+        ensures { (result.of ≡ shared.now.run) × (result.replay ≡ shared.now.replay) × (result.boxes ≡ []) }
     {
         Shelf {
-            of: Snapshot::of(yard),
-            reducers: Snapshot::of(reducers),
-            replay: Snapshot::of(replay),
+            of: Snapshot::of(shared.yard()),
+            reducers: Snapshot::of(shared.reducers()),
+            replay: Snapshot::of(shared.replay()),
             boxes: Vec::new(alloc),
         }
     }
@@ -90,23 +83,21 @@ impl Shelf {
     pub fn take(
         &mut self,
         alloc: Global,
-        yard: &Yard,
-        reducers: &Reducers,
-        replay: &Replay,
+        shared: &Shared<'_>,
         sync: Pos,
     ) -> Result<JoinBox, AllocError>
-        requires of { (self.old.of ≡ run_of yard.now reducers.now) × (self.old.replay ≡ replay.now) }
-        requires sync { event yard.now.event_order sync ≡ Some Sync }
+        requires of { (self.old.of ≡ shared.now.run) × (self.old.replay ≡ shared.now.replay) }
+        requires sync { event (event_order_in shared.now) sync ≡ Some Sync }
         ensures found { IfOk result (λ b. LiesOn self.old.of self.old.replay b × (b.sync ≡ sync)) }
         ensures taken { IfOk result (λ b. TakesOff self.old sync b self.new × HasRoom self.new) }
         ensures err { OnErr result (self.new.boxes ≡ self.old.boxes) }
         ensures same { IsSameShelf self.old self.new }
     {
         self.boxes.reserve(1)?;
-        if let Some(found) = taken(yard, reducers, replay, &mut self.boxes, sync) {
+        if let Some(found) = taken(shared, &mut self.boxes, sync) {
             return Ok(found);
         }
-        Ok(JoinBox::new(alloc, yard, reducers, replay, sync))
+        Ok(JoinBox::new(alloc, shared, sync))
     }
 
     /// Puts a box back, for which there is room. A box in which nothing waits is dropped.

@@ -6,7 +6,7 @@ ghost use Rattle.cilk_tree.specs.Frames.{IsInFrame};
 ghost use Rattle.cilk_tree.specs.declared.kind.Kind.TheVariants as kinds;
 ghost use Rattle.cilk_tree.specs.Runs.{IsAsked};
 ghost use Rattle.cilk_workers.specs.Shared.{event_order_in};
-ghost use Rattle.cilk_workers.specs.Turns.{HasMore, IsDue, Turned, Works};
+ghost use Rattle.cilk_workers.specs.Turns.{HasMore, IsDue, IsThief, Turned, Works};
 
 use crate::asking::stands_within;
 use crate::cells::{loaded, stored};
@@ -103,12 +103,12 @@ pub fn act(alloc: Global, shared: &Shared<'_>, work: &mut Work) -> Turn
     }
 }
 
-/// Starts a thief, which has an empty piece, with a task. The piece comes back if another worker
-/// took the continuation.
+/// Starts a thief, which has an empty piece, with a task. Its piece then begins at the `resume` of
+/// the task's spawn. The piece comes back if another worker took the continuation.
 pub fn begin(shared: &Shared<'_>, mut piece: Piece, task: Task) -> Result<Work, Piece>
     requires piece { OfRun shared.now.run piece × (piece.upto ≤ piece.from) }
     requires task { task.of ≡ shared.now.replay }
-    ensures { MatchResult result (Works shared.now) (λ p. p ≡ piece) }
+    ensures { MatchResult result (IsThief shared.now task.ticket) (λ p. p ≡ piece) }
 {
     let ticket = task.ticket();
     let at = task.at();

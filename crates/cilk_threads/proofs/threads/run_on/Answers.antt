@@ -14,30 +14,31 @@ use Rattle.cilk_workers.specs.Shared.{SharedValue}
 use Rattle.cilk_tree.specs.PlanStrands.{AreFirsts}
 use Rattle.cilk_threads.specs.Faults.{IsTrueFault}
 use Rattle.cilk_threads.proofs.Cells.{cells_along}
+use Rattle.cilk_threads.proofs.Columns.{blocks_along}
 use Rattle.cilk_threads.proofs.Strands.{firsts_along}
 use Rattle.cilk_threads.proofs.Whole.{syncs_along, whole_of, fault_of}
 use Rattle.cilk_threads.proofs.threads.run_on.Goals as goal
 
 pub new-shared-requires-clause-along : goal.new-shared-requires-clause-along
-new-shared-requires-clause-along g c = subst (λ (s : EventOrder). IsAlong s c.args.yard.now.event_order) (sym c.events.ensures.event_order) c.requires.along
+new-shared-requires-clause-along g c = subst (λ (s : EventOrder). IsAlong s c.args.start.yard.now.event_order) (sym c.events.ensures.event_order) c.requires.along
 
 pub new-shared-requires-clause-cells : goal.new-shared-requires-clause-cells
-new-shared-requires-clause-cells g c = cells_along c.args.plan.now.run c.args.plan.now.event_order c.args.yard.now.event_order c.laws.ensures.plan c.requires.along
+new-shared-requires-clause-cells g c = cells_along c.args.plan.now.run c.args.plan.now.event_order c.args.start.yard.now.event_order c.laws.ensures.plan c.requires.along
 
 pub new-shared-requires-clause-numbers : goal.new-shared-requires-clause-numbers
 new-shared-requires-clause-numbers g c =
     let w = c.args.plan.now in
-    c.accepted_event_orders_have_numbers.ensures w.run c.args.plan.now.event_order.opening c.args.input.now c.args.yard.now.event_order c.args.table.now c.laws.ensures.determinate c.requires.table.0 c.inputs_are_words.ensures c.requires.event_order
+    c.accepted_event_orders_have_numbers.ensures w.run c.args.plan.now.event_order.opening c.args.input.now c.args.start.yard.now.event_order c.args.start.table.now c.laws.ensures.determinate c.requires.table.0 c.inputs_are_words.ensures c.requires.event_order
 
 pub new-piece-requires-clause-settled : goal.new-piece-requires-clause-settled
 new-piece-requires-clause-settled g c =
-    subst (λ (s : EventOrder). AreSettled s c.args.table.now) (sym c.requires.segment.0.1)
-    (c.requires.table.0.settled c.args.plan.now.event_order c.args.yard.now.event_order c.laws.ensures.plan c.requires.along)
+    subst (λ (s : EventOrder). AreSettled s c.args.start.table.now) (sym c.requires.segment.0.1)
+    (c.requires.table.0.settled c.args.plan.now.event_order c.args.start.yard.now.event_order c.laws.ensures.plan c.requires.along)
 
 pub new-piece-requires-clause-quiet : goal.new-piece-requires-clause-quiet
 new-piece-requires-clause-quiet g c =
-    subst (λ (s : EventOrder). events_at s c.args.table.now 1 ≡ []) (sym c.requires.segment.0.1)
-    (c.requires.table.0.quiet c.args.plan.now.event_order c.args.yard.now.event_order c.laws.ensures.plan c.requires.along)
+    subst (λ (s : EventOrder). events_at s c.args.start.table.now 1 ≡ []) (sym c.requires.segment.0.1)
+    (c.requires.table.0.quiet c.args.plan.now.event_order c.args.start.yard.now.event_order c.laws.ensures.plan c.requires.along)
 
 pub first-requires : goal.first-requires
 first-requires g c =
@@ -45,27 +46,25 @@ first-requires g c =
     let x = c.new-piece.result in
     record {
       piece = subst (λ (y : SharedValue). OfRun y.run x × (x.from ≡ 1) × (x.upto ≡ 2)) (sym c.new-shared.ensures)
-          (subst (λ (z : PieceValue). OfRun (run_of c.args.yard.now c.args.table.now) z × (z.from ≡ 1) × (z.upto ≡ 2)) (sym c.new-piece.ensures)
+          (subst (λ (z : PieceValue). OfRun (run_of c.args.start.yard.now c.args.start.table.now) z × (z.from ≡ 1) × (z.upto ≡ 2)) (sym c.new-piece.ensures)
           ((on.0.0, on.0.1, refl), on.1, on.2));
     }
 
-pub run-requires-clause-syncs : goal.run-requires-clause-syncs
-run-requires-clause-syncs g c =
-    λ lives within.
-    subst (λ (y : SharedValue). All (λ at. event y.run.event_order at ≡ Some Sync) c.syncs.result.now) (sym c.new-shared.ensures)
-    (syncs_along c.args.plan.now.event_order c.args.yard.now.event_order c.requires.along c.syncs.result.now c.syncs.ensures)
-
-pub run-requires-clause-strands : goal.run-requires-clause-strands
-run-requires-clause-strands g c =
-    λ lives within.
-    subst (λ (y : SharedValue). AreFirsts y.run.event_order.events c.strands.result.now) (sym c.new-shared.ensures)
-    (firsts_along c.args.plan.now.event_order.events c.args.yard.now.event_order.events (sym c.requires.along.kinds) c.strands.result.now c.strands.ensures)
+pub new-shared-requires-clause-columns : goal.new-shared-requires-clause-columns
+new-shared-requires-clause-columns g c =
+    let plan = c.args.plan.now.event_order in
+    let s = c.args.start.yard.now.event_order in
+    let along = c.requires.along in (
+      syncs_along plan s along c.syncs.result.now c.syncs.ensures,
+      firsts_along plan.events s.events (sym along.kinds) c.strands.result.now c.strands.ensures,
+      blocks_along plan s along c.laws.ensures.order c.laws.ensures.continuations c.syncs.result.now c.blocks-blocks.result.now c.syncs.ensures (c.blocks-blocks.ensures c.syncs.result.now c.syncs.ensures),
+    )
 
 pub returns-clause-ok : goal.returns-clause-ok
 returns-clause-ok g c =
     IfOk-weaker c.run.result _ _
     (λ r h.
-    whole_of c.args.yard.now c.args.table.now c.in-Ok.replay (source c.args.plan.now.run.program) (let a = c.args.plan.now.run in a.input) c.args.input.now c.new-shared.result r.0 r.1 c.new-shared.ensures
+    whole_of c.args.start.yard.now c.args.start.table.now c.in-Ok.replay (source c.args.plan.now.run.program) (let a = c.args.plan.now.run in a.input) c.args.input.now c.new-shared.result r.0 r.1 c.new-shared.ensures
     (ap source c.in-Ok.ensures.program) c.in-Ok.ensures.own c.in-Ok.ensures.inputs h.0)
     c.run.ensures.ok
 
@@ -74,5 +73,5 @@ returns-clause-err g c =
     MatchResult-weaker c.run.result c.run.ensures.err
     (λ r t. t)
     (λ f h.
-    fault_of c.args.plan.now c.args.input.now c.args.workers c.args.yard.now.event_order f c.requires.event_order
+    fault_of c.args.plan.now c.args.input.now c.args.workers c.args.start.yard.now.event_order f c.requires.event_order
     (subst (λ (y : SharedValue). IsTrueFault y.run.event_order c.args.workers f) c.new-shared.ensures h))

@@ -1,5 +1,8 @@
-use Rattle.cilk_workers.proofs.RackKeys.{frees}
+use Rattle.cilk_workers.proofs.RackKeys.{begins, empty, no_room, unlocks}
 use Rattle.cilk_workers.proofs.lock.new_locked.Goals as goal
 
+pub ruled-requires-clause-rule : goal.ruled-requires-clause-rule
+ruled-requires-clause-rule g c = begins g.N.Naming.run g.N.Naming.replay
+
 pub push_as-requires-clause-rule : goal.push_as-requires-clause-rule
-push_as-requires-clause-rule g c = (frees g.N.Naming.run g.N.Naming.replay _ _ _ _ c.requires, λ _ _ _ _. tt)
+push_as-requires-clause-rule g c = (unlocks g.N.Naming.run g.N.Naming.replay _ _ _ _ c.in_ok-lock.ensures.3 c.requires, empty g.N.Naming.run g.N.Naming.replay _ _)

@@ -2,6 +2,7 @@ use Rattle.std.proofs.Common.{◌≡◌, ◌<◌, ◌∙◌, ◌+◌, ℕ, Some,
 use Rattle.std.proofs.lemmas.Int.{to_z-of_z}
 use Rattle.cilk_workers.specs.Turns.{IsResult}
 use Rattle.cilk_types.specs.declared.event.Event.TheVariants as events
+use Rattle.cilk_shared.specs.Pieces.{PieceValue}
 use Rattle.cilk_tree.specs.declared.event_order.EventOrder.{EventOrder}
 use Rattle.cilk_tree.specs.Runs.{IsAsked, IsFollowed}
 use Rattle.cilk_tree.specs.Word.{after, event, finish, resume, what}
@@ -64,15 +65,16 @@ returns c =
     let y = c.args.shared.now in
     let p = c.args.work.now.piece in
     let works = c.requires.works in
-    let g = grown_good y p _ works.good c.finish.ensures in
+    let g = grown_good y p _ works.good c.finish.ensures.piece in
     let last = c.requires.last in
     let followed = subst (λ (n : ℕ). IsFollowed (event_order_in y) n) last (off_segment (λ s at. IsFollowed s at) y p _ c.segment.ensures works.good.0 c.follows.ensures) in (
       record {
         good = g.0;
+        begins = ap (λ (z : PieceValue). z.from) c.finish.ensures.piece ∙ c.finish.ensures.begins;
         last = g.2 ∙ ap (λ (n : ℕ). n + 1) last;
         followed = followed;
         result = subst (λ v. IsResult y v) (sym (to_z-of_z w64 c.result_asked-value.result (record { sfits = c.result_asked-value.type_inv })))
             (ended_with y c.args.work.now.chain p.upto c.result_asked-value.result works.stands c.laws.ensures.same c.result_asked-value.ensures c.requires.asked last);
       },
-      c.finish.ensures,
+      c.finish.ensures.piece,
     )

@@ -13,7 +13,7 @@ use Rattle.cilk_tree.specs.Orders.{IsOrderly}
 use Rattle.cilk_tree.specs.Runs.{IsAsked}
 use Rattle.cilk_tree.specs.Word.{after, event, finish, resume, what}
 use Rattle.cilk_workers.specs.Shared.{SharedValue, event_order_in}
-use Rattle.cilk_workers.proofs.Due.{began, can_take, off_standing, on_standing}
+use Rattle.cilk_workers.proofs.Due.{began, began_there, can_take, off_standing, on_standing}
 use Rattle.cilk_workers.proofs.OfKind.{resume_event}
 use Rattle.cilk_workers.proofs.turn.begin.Goals as goal
 
@@ -59,7 +59,10 @@ returns-in-Yes c =
     let y = c.args.shared.now in
     let at = c.at-at.result in
     let same = c.laws.ensures.same in
-    let stands = c.wake-chain.ensures ∙ c.rest.ensures.rest ∙ ap₂ standing c.requires.task (sym c.at-at.ensures.place) in
-    began y c.yard.result.now c.args.piece c.ticket-ticket.result at c.take.new.self c.answer.new.self c.yard.ensures c.laws.ensures.order c.requires.piece.0 c.requires.piece.1
-    (resumes y c.args.task at c.ticket-ticket.result c.requires.task same c.at-at.ensures.resumption c.ticket-ticket.ensures) c.in-Yes.ensures
-    (c.answer.ensures ∙ ap (λ (k : ChainValue). standing k.of (k.at + 1)) stands)
+    let stands = c.wake-chain.ensures ∙ c.rest.ensures.rest ∙ ap₂ standing c.requires.task (sym c.at-at.ensures.place) in (
+      began y c.yard.result.now c.args.piece c.ticket-ticket.result at c.take.new.self c.answer.new.self c.yard.ensures c.laws.ensures.order c.requires.piece.0 c.requires.piece.1
+          (resumes y c.args.task at c.ticket-ticket.result c.requires.task same c.at-at.ensures.resumption c.ticket-ticket.ensures) c.in-Yes.ensures
+          (c.answer.ensures ∙ ap (λ (k : ChainValue). standing k.of (k.at + 1)) stands),
+      subst (λ (n : ℕ). what (event_order_in y) c.take.new.self.from ≡ resume n) c.ticket-ticket.ensures
+          (began_there y c.yard.result.now c.args.piece c.ticket-ticket.result c.take.new.self c.yard.ensures c.requires.piece.1 c.in-Yes.ensures),
+    )
