@@ -1,5 +1,6 @@
 -- The state of a reader in the middle of a text.
-use Rattle.std.specs.Prelude.{◌≡◌, ℕ, List, ◌++◌, take, Option, Some, None}
+use Rattle.std.specs.Prelude.{◌≡◌, ℕ, ◌+◌, ◌-◌, ◌*◌, ◌^◌, List, ◌++◌, take, Option, Some, None}
+use Rattle.cilk_trace.specs.declared.line.Line.{Line}
 use Rattle.cilk_trace_text.specs.declared.fault.TraceFault.{TraceFault}
 use Rattle.cilk_trace_text.specs.declared.place.Place.{Place}
 use Rattle.cilk_trace_text.specs.declared.reader.TraceReader.{TraceReader}
@@ -12,6 +13,19 @@ fault_of r = r.fault
 -- the number of the current line
 abbrev pub line_number : TraceReader → ℕ
 line_number r = r.number
+
+-- the number of lines that it has returned: those before the current one, without the header
+abbrev pub returned : TraceReader → ℕ
+returned r = r.number - 2
+
+-- it reads no more bytes than this
+abbrev pub room_of : TraceReader → ℕ
+room_of r = 65 * (2 ^ 32 - r.number) + (64 - r.length)
+
+-- how many lines a call returned
+abbrev pub count_of : Option Line → ℕ
+count_of None = 0
+count_of (Some line) = 1
 
 abbrev pub reading_lines : Place → ℕ → TextLines → Reading
 reading_lines place number c = reading c.each place number c.last

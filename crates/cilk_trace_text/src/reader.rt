@@ -1,7 +1,7 @@
 //! Reading a trace's text piece by piece.
 
 ghost use Rattle.std.specs.Prelude.{◌≡◌, ◌+◌, ◌<◌, ◌≤◌, ◌^◌, [], ◌∷◌, ◌++◌, length as len_of, take, drop, Some, None, IfSome, IfNone};
-ghost use Rattle.cilk_trace_text.specs.declared.place.Place.TheVariants.{Over};
+ghost use Rattle.cilk_trace_text.specs.declared.place.Place.TheVariants.{Header, Over};
 ghost use Rattle.cilk_trace_text.specs.Reading.{HasNoLf, numbered};
 
 use crate::fault::TraceFault;
@@ -27,6 +27,8 @@ pub struct TraceReader {
     ghost whole: { len_of bytes ≡ 64 },
     ghost no_lf: { HasNoLf (take length bytes) },
     ghost at_end: { place ≡ Over → length ≡ 0 },
+    ghost header: { place ≡ Header → number ≡ 1 },
+    ghost later: { (place ≡ Header → ⊥) → 2 ≤ number },
 }
 
 /// Returns the index of the first LF.
@@ -71,13 +73,14 @@ impl TraceReader {
     ghost use Rattle.cilk_trace_text.specs.declared.fault.TraceFault.{TraceFault};
     ghost use Rattle.cilk_trace_text.specs.declared.fault.TraceFault.TheVariants.{Malformed, Truncated};
     ghost use Rattle.cilk_trace_text.specs.Reading.{reading_of, stops, whole, with_lines};
-    ghost use Rattle.cilk_trace_text.specs.Readers.{ahead, fault_of, line_number, IsCertain};
+    ghost use Rattle.cilk_trace_text.specs.Readers.{ahead, count_of, fault_of, line_number, returned, room_of, IsCertain};
 
     /// Makes a reader at the beginning of a text.
     pub fn new() -> Self
         ensures text { (text : List ℕ) → ahead result text ≡ reading_of text }
         ensures fault { fault_of result ≡ None }
         ensures number { line_number result ≡ 1 }
+        ensures returned { returned result ≡ 0 }
     {
         TraceReader {
             place: Place::Header,
@@ -136,6 +139,9 @@ impl TraceReader {
         ensures line { IfOk result (λ r. (more : List ℕ) → ahead self.old (piece.now ++ more) ≡ with_lines r.1 (ahead self.new (drop r.0 piece.now ++ more))) }
         ensures taken { IfOk result (λ r. r.0 ≡ at + 1) }
         ensures number { IfOk result (λ r. line_number self.new ≡ line_number self.old + 1) }
+        ensures numbered { IfOk result (λ r. IfSome r.1 (λ _. line_number self.old ≡ returned self.old + 2)) }
+        ensures returned { IfOk result (λ r. returned self.new ≡ returned self.old + count_of r.1) }
+        ensures room { IfOk result (λ r. room_of self.new + r.0 ≤ room_of self.old) }
         ensures silent { OnOk result (fault_of self.new ≡ None) }
     {
         if at > MAX_LINE - self.length {
@@ -164,6 +170,7 @@ impl TraceReader {
         ensures none { IfOk result (λ r. r.1 ≡ None) }
         ensures taken { IfOk result (λ r. r.0 ≡ len_of piece.now) }
         ensures number { IfOk result (λ r. line_number self.new ≡ line_number self.old) }
+        ensures room { IfOk result (λ r. room_of self.new + r.0 ≤ room_of self.old) }
         ensures silent { OnOk result (fault_of self.new ≡ None) }
     {
         if piece.len() > MAX_LINE - self.length {
@@ -175,8 +182,9 @@ impl TraceReader {
     }
 
     /// Reads bytes from the front of the piece, up to the end of a line at most. It returns the
-    /// number of bytes read, and the line if one is complete; the header gives none. A fault is
-    /// returned as soon as a byte or the length of a line shows it, and again by each later call.
+    /// number of bytes read, and the line if one is complete; the header gives none. The line's
+    /// number is that of the current line before the call. A fault is returned as soon as a byte or
+    /// the length of a line shows it, and again by each later call.
     pub fn next(&mut self, piece: &[u8]) -> Result<(usize, Option<Line>), TraceFault>
         ensures fault { IfErr result (λ fault. (more : List ℕ) → ahead self.old (piece.now ++ more) ≡ stops fault) }
         ensures stays { IfErr result (λ fault. fault_of self.new ≡ Some fault) }
@@ -184,6 +192,9 @@ impl TraceReader {
         ensures malformed { IfErr result (λ fault. fault_of self.old ≡ None → fault ≡ Malformed (line_number self.old)) }
         ensures line { IfOk result (λ r. (more : List ℕ) → ahead self.old (piece.now ++ more) ≡ with_lines r.1 (ahead self.new (drop r.0 piece.now ++ more))) }
         ensures taken { IfOk result (λ r. r.0 ≤ len_of piece.now) }
+        ensures numbered { IfOk result (λ r. IfSome r.1 (λ _. line_number self.old ≡ returned self.old + 2)) }
+        ensures returned { IfOk result (λ r. returned self.new ≡ returned self.old + count_of r.1) }
+        ensures room { IfOk result (λ r. room_of self.new + r.0 ≤ room_of self.old) }
         ensures progress { IfOk result (λ r. r.0 ≡ 0 → piece.now ≡ []) }
         ensures silent { OnOk result (fault_of self.new ≡ None) }
     {
