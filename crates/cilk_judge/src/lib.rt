@@ -1,9 +1,14 @@
 //! Judging a trace's text: whether two accesses of the program that wrote it race, in any schedule.
 //!
 //! `docs/TRACES.md` has the text and its meaning. A text is read twice from a
-//! [`Source`](cilk_checker::source::Source), each time in pieces: [`judging::survey_text`] leaves
-//! what the second reading needs, and [`judging::judge_text`] gives the verdict.
-//! [`judging::judge`] does both. No text is kept: memory is linear in strands and cells.
+//! [`Source`](cilk_checker::source::Source), each time in pieces. No text is kept: memory is linear
+//! in strands and cells. (Races: Feng and Leiserson 1997; views: Lee and Schardl 2015.)
+//!
+//! | Call | Result |
+//! |---|---|
+//! | [`judging::survey_text`] | from the first reading: what the second one needs |
+//! | [`judging::judge_text`] | from the second reading: the verdict |
+//! | [`judging::judge`] | both, from two sources of the text |
 //!
 //! A second reading that doesn't fit the first is told as [`fault::Unjudged::Changed`]. It is never
 //! judged.
