@@ -28,7 +28,7 @@ def roff(text):
 
 def filled(text):
     """The lines of a paragraph, which the page's reader fills anew."""
-    return [roff(it) for it in textwrap.wrap(text, 130, break_long_words=False, break_on_hyphens=False)]
+    return [roff(it) for it in textwrap.wrap(text, 136, break_long_words=False, break_on_hyphens=False)]
 
 
 def items(lines):
