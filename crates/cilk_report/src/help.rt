@@ -48,7 +48,7 @@ Options of measure:
   --dot           write the tree of the run instead, for Graphviz's `dot`; only of a run with at most 2,000 nodes
 
 Option of check:
-  --helpers N     share the work among N threads, 1 to 16; the answer is the same, and so far it takes longer
+  --helpers N     share the work among N threads, 1 to 16: the same answer, sooner where frames compute long
 
 Option of play and threads:
   --workers N     the number of workers, 1 to 64; 2 without this option
@@ -139,7 +139,7 @@ Usage: cilk check PROGRAM CERTIFICATE [--input FILE] [--helpers N] [--explain]
 ",
     argument: CERTIFICATE,
     options: "  \
-  --helpers N     share the work among N threads, 1 to 16; the answer is the same, and so far it takes longer
+  --helpers N     share the work among N threads, 1 to 16: the same answer, sooner where frames compute long
 ",
 };
 
