@@ -101,7 +101,7 @@ clashes es (events.Read d v) k r = record { cell = d; clash = inl (r, refl) }
 clashes es (events.Write d v) k r = record { cell = d; clash = inr (r, refl) }
 clashes es _ k r = absurd r
 
--- The state of the pass after i events, none of which ends a race.
+-- The state of the pass after i events, where none of them ends a race.
 pub record Passed (t : Tree) (es : List Event) (i : ℕ) (ws as' : List (Option Access)) : Type 0 where
   pub writes : Keeps (WritesAt es) (number t es) i ws
   pub accesses : Keeps (AccessesAt es) (number t es) i as'

@@ -4,7 +4,7 @@
 -- the rest;
 -- - `passed`: the same for a reader that holds no part of a line;
 -- - `passed_short`: a line with its LF has from 1 to 53 bytes;
--- - `passed_all`: the same as `passed` for lines of which one is due after the other;
+-- - `passed_all`: the same as `passed` for lines that are due one after the other;
 -- - `all_long`, `column_long`: how many they are, and `all_short`: how many bytes they have at most.
 use Rattle.std.proofs.Common.{◌≡◌, ℕ, ◌+◌, ◌*◌, ◌≤◌, List, [], ◌∷◌, ◌++◌, length, take, Option, None, refl, ap, ◌∙◌, append_assoc, arith, length-append}
 use Rattle.cilk_cert_text.specs.declared.fault.CertFault.{CertFault}

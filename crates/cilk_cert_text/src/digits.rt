@@ -77,7 +77,7 @@ fn put_long(room: &mut [u8], at: usize, n: u64) -> usize
     at + 4
 }
 
-/// Writes a number, most of which have fewer than nine digits, and returns where it ends.
+/// Writes a number and returns where it ends. Most numbers have fewer than nine digits.
 #[inline(always)]
 pub(crate) fn put_digits(room: &mut [u8], at: usize, n: u64) -> usize
     requires { at + length (decimal n) ≤ length room.old }

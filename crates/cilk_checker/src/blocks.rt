@@ -138,7 +138,7 @@ pub(crate) fn spell_events(
     Ok(done)
 }
 
-/// Goes back to the state after the first events, all of which are right.
+/// Goes back to the state after the first events, which are all right.
 pub(crate) fn events_again(
     alloc: Global,
     tally: &mut Tally,

@@ -6,22 +6,22 @@
 //! runs are those of the free machine of `cilk_runs`: any frame that isn't waiting may make its
 //! next event at any moment, and any continuation of a spawn may be stolen.
 //!
-//! - **The theorem** ([`laws::race_free_programs_are_determinate`]). The program is well named, its
-//!   serial run ends without a fault, and no two positions of it have a determinacy race (Feng and
-//!   Leiserson 1997) or a view-read race (Lee and Schardl 2015). Then each state that steps of the
-//!   machine lead to is a consistent cut of the serial run, and nothing has stopped it. Once the
-//!   first frame has ended, the result, globals, output and reducers are those of the serial
-//!   elision.
-//! - **Settling** ([`settle::settle`]) runs a program serially and looks for races. If there is
-//!   none, the outcome is that of every parallel run that ends.
-//! - **A single step** ([`laws::step_keeps_cuts`]) leads from a consistent cut to a consistent cut,
-//!   which is what a scheduler needs.
-//! - **Events** ([`events`], [`positions`]): the list of a serial run's events, its tree, and its
-//!   names.
+//! **The theorem**: the program is well named, its serial run ends without a fault, and no two
+//! positions of it have a determinacy race (Feng and Leiserson 1997) or a view-read race (Lee and
+//! Schardl 2015). Then each state that steps of the machine lead to is a consistent cut of the
+//! serial run, and nothing has stopped it. Once the first frame has ended, the result, globals,
+//! output and reducers are those of the serial elision.
+//!
+//! | Call or law | Result |
+//! |---|---|
+//! | [`settle::settle`] | the outcome of every parallel run that ends, if no two positions of the serial run race |
+//! | [`laws::race_free_programs_are_determinate`] | the theorem |
+//! | [`laws::step_keeps_cuts`] | a single step leads from a consistent cut to another |
+//! | [`events`], [`positions`] | the list of a serial run's events, its tree, and its names |
+//! | [`words`] | programs and inputs of the code have words only |
 //!
 //! The theorem needs reducers to be set to words. Arithmetic brings its results back into words, so
-//! a view that is no word would change when it is multiplied by an empty one. Programs and inputs
-//! of the code have words only ([`words`]).
+//! a view that is no word would change when it is multiplied by an empty one.
 //!
 //! ```text
 //! match settle(alloc, &program, &input)? {

@@ -1,6 +1,5 @@
 //! The places of the instructions of expressions, assignments and calls.
 
-use crate::map::CallSpot;
 use crate::walker::Walker;
 use cilk_syntax::token::Kind;
 use cilk_syntax::tree::{Assignment, BinaryOperator, Call, Expr, Lvalue};
@@ -108,7 +107,7 @@ impl Walker<'_> {
     }
 
     /// Walks over a call or spawn, which begins with `cilk_spawn` or the function's name.
-    pub fn call(&mut self, how: Invocation, tree: &Call, takes: bool) -> Result<(), AllocError> {
+    pub fn call(&mut self, how: Invocation, tree: &Call) -> Result<(), AllocError> {
         let at = self.take();
         if how == Invocation::Spawn {
             self.take();
@@ -126,13 +125,7 @@ impl Walker<'_> {
             }
         }
         self.take();
-        let function = u32::try_from(function).unwrap_or(0);
-        let call = CallSpot {
-            how,
-            function,
-            takes,
-        };
-        self.put_call(at, call)
+        self.put_times(at, 2)
     }
 }
 

@@ -64,10 +64,7 @@ fn push_head(
         Some(reason) => reason.title,
         None => "",
     };
-    let at = match run.replay.spot(&case.map, step) {
-        Some(spot) => spot.at,
-        None => 0,
-    };
+    let at = run.replay.spot(&case.map, step).unwrap_or(0);
     let what = format!(in alloc; "error {number}: {title}")?;
     push_place(case, report, at, what.as_str())
 }

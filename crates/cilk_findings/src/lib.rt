@@ -4,11 +4,11 @@
 //! The runtime and the checker know a run by numbers: an event by its position, a cell or frame by
 //! its number. This crate leads back to the text. [`case::Case::of`] reads the program and its
 //! input, and [`items::map_of`] notes for each instruction the byte of the token that it is made
-//! from. [`runs::Run::of`] then makes the serial run once more, and [`replay::follow`] walks over
-//! the instructions with the run's events as the answers. It notes for each event its frame and
-//! instruction, and for each frame its parent. Nothing is recorded while a program runs, so a run
-//! that nobody asks about pays nothing. Results are meaningful only if tree, tokens, code and
-//! events come from the same text. The crate `cilk_races` explains races on top of this one.
+//! from. [`replay::follow`] then makes the serial run once more, event by event, and notes for each
+//! event its frame and instruction, and for each frame its parent ([`runs::Run::of`] has both).
+//! Nothing is recorded while a program runs for others, so a run that nobody asks about pays
+//! nothing. Results are meaningful only if tree, tokens, code and events come from the same text.
+//! The crate `cilk_races` explains races on top of this one.
 //!
 //! | Call | Result |
 //! |---|---|
@@ -41,10 +41,8 @@ pub mod items;
 pub mod map;
 pub mod naming;
 pub mod notes;
-mod operators;
 pub mod partings;
 pub mod paths;
-mod player;
 pub mod profile;
 mod repeats;
 pub mod replay;

@@ -2,32 +2,17 @@
 
 use cilk_program::program::Body;
 use cilk_syntax::tree::Name;
-use cilk_types::invocation::Invocation;
 use std::alloc::Global;
 
-/// A call or spawn in the text: the function's number, and whether a variable takes its result.
-#[derive(Clone, Copy)]
-pub struct CallSpot {
-    pub how: Invocation,
-    pub function: u32,
-    pub takes: bool,
-}
-
-/// The place of an instruction: the byte of its token, and the call that it makes, if any.
-#[derive(Clone, Copy)]
-pub struct Spot {
-    pub at: usize,
-    pub call: Option<CallSpot>,
-}
-
 /// A function, or the body of a `cilk_for`, whose name is the word `cilk_for`. Holds the names of
-/// its frame's cells and of its own reducers, and the places of its instructions, each in order.
+/// its frame's cells and of its own reducers, and for each instruction the byte of its token, in
+/// order.
 #[derive(Drop)]
 pub struct BodyMap {
     pub name: Name,
     pub cells: Vec<Name>,
     pub reducers: Vec<Name>,
-    pub spots: Vec<Spot>,
+    pub spots: Vec<usize>,
 }
 
 impl BodyMap {

@@ -116,10 +116,7 @@ pub fn invoked_at(case: &Case<'_>, run: &Run, note: &FrameNote) -> usize {
         frame: note.parent,
         instruction: note.instruction,
     };
-    match run.replay.spot(&case.map, step) {
-        Some(spot) => spot.at,
-        None => 0,
-    }
+    run.replay.spot(&case.map, step).unwrap_or(0)
 }
 
 fn push_turns(case: &Case<'_>, report: &mut String, note: &FrameNote) -> Result<(), AllocError> {

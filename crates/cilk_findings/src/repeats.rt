@@ -53,9 +53,9 @@ fn loop_at(case: &Case<'_>, run: &Run, step: StepNote) -> Option<usize> {
     if halves(note) {
         return own;
     }
-    let spot = run.replay.spot(&case.map, step)?;
+    let at = run.replay.spot(&case.map, step)?;
     for (number, map) in case.map.loops.iter().enumerate() {
-        if map.name.at == spot.at {
+        if map.name.at == at {
             return Some(number);
         }
     }

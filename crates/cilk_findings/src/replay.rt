@@ -1,12 +1,19 @@
-//! A second walk over a run along its events, which notes the place of each step.
+//! A run with its frames, and the place of each event.
 
-use crate::map::{BodyMap, Spot, TextMap};
-use crate::player::Player;
-use cilk_lower::code::Code;
+ghost use Rattle.cilk_lower.specs.Behaves.{Behaves};
+ghost use Rattle.cilk_program.specs.Sources.{source};
+
+use crate::map::{BodyMap, TextMap};
+use cilk_frames::operands::LastOperands;
+use cilk_lower::code::{Code, Instr};
+use cilk_program::ask::Callee;
 use cilk_program::program::{Body, Program};
+use cilk_serial::serial_run::{Next, SerialRun};
 use cilk_types::event::Event;
+use cilk_types::fault::Fault;
 use cilk_types::input::Input;
 use cilk_types::invocation::Invocation;
+use cilk_types::trace::Trace;
 use std::alloc::{AllocError, Global};
 
 /// A frame of the run. Frames, events and instructions count from 0 here.
@@ -53,50 +60,206 @@ pub struct Replay {
     pub stop: Option<StopNote>,
 }
 
-/// Walks over the run with these events. Returns `None` where they don't follow from the code.
+/// Makes the serial run of a program, and notes its frames and the instruction of each event.
 pub fn follow(
     alloc: Global,
-    map: &TextMap,
     program: &Program,
     code: &Code,
     input: &Input,
-    events: &[Event],
-) -> Result<Option<Replay>, AllocError> {
-    let mut player = Player::new(alloc, map, program, code, input, events);
-    player.open()?;
-    for _turn in 0..MAX_MOVES {
-        match player.advance()? {
-            Moved::On => {}
-            Moved::Over => return Ok(Some(player.into_replay(None))),
-            Moved::Stops => {
-                let stop = player.stop();
-                return Ok(Some(player.into_replay(Some(stop))));
+) -> Result<(Trace, Option<Fault>, Replay), AllocError>
+    requires { Behaves (source program.now) code.now }
+{
+    let mut serial = SerialRun::new(alloc, program, code, input)?;
+    let mut notes = Notes::new(alloc, program, code)?;
+    let (fault, stop) = loop {
+        let callee = serial.callee();
+        let place = serial.place();
+        match serial.next()? {
+            Next::Made(event) => notes.meet(event, place, &callee)?,
+            Next::Ended => break (None, None),
+            Next::Stops(fault) => {
+                let stop = notes.stop(place, serial.last_operands());
+                break (Some(fault), Some(stop));
             }
-            Moved::Lost => return Ok(None),
         }
-    }
-    Ok(None)
+    };
+    let replay = notes.into_replay(serial.ticks(), stop);
+    Ok((serial.into_trace(), fault, replay))
 }
 
-// More instructions than a run within its limits can make.
-const MAX_MOVES: u64 = 1_000_000_000;
+/// The notes so far, the frames that have begun and not ended, the innermost last, and the cells of
+/// all frames so far.
+#[derive(Drop)]
+struct Notes<'a> {
+    program: &'a Program,
+    code: &'a Code,
+    frames: Vec<FrameNote>,
+    steps: Vec<StepNote>,
+    open: Vec<usize>,
+    cells: usize,
+}
 
-/// The result of an instruction.
-#[derive(Clone, Copy, PartialEq, Eq)]
-pub enum Moved {
-    /// The run continues.
-    On,
-    /// The first frame has ended.
-    Over,
-    /// The run can't continue, or no event is left.
-    Stops,
-    /// The next event isn't one of this instruction.
-    Lost,
+impl<'a> Notes<'a> {
+    // The first frame is noted, before its first event.
+    fn new(alloc: Global, program: &'a Program, code: &'a Code) -> Result<Notes<'a>, AllocError> {
+        let mut notes = Notes {
+            program,
+            code,
+            frames: Vec::new(alloc),
+            steps: Vec::new(alloc),
+            open: Vec::new(alloc),
+            cells: program.globals.len(),
+        };
+        let first = StepNote {
+            frame: 0,
+            instruction: 0,
+        };
+        notes.begin(
+            Body::Function(program.main),
+            (0, 0),
+            Invocation::Call,
+            first,
+        )?;
+        Ok(notes)
+    }
+
+    // The step of an instruction of the current frame, by its place in the code.
+    fn step(&self, place: usize) -> StepNote {
+        let frame = self.open.last().copied().unwrap_or(0);
+        let first = match self.frames.get(frame) {
+            Some(
+                FrameNote {
+                    body: Body::Function(number),
+                    ..
+                },
+            ) => self.code.function_entry(*number).place,
+            Some(
+                FrameNote {
+                    body: Body::Loop(number),
+                    ..
+                },
+            ) => self.code.loop_entry(*number).place,
+            None => 0,
+        };
+        StepNote {
+            frame,
+            instruction: place.saturating_sub(first),
+        }
+    }
+
+    // Notes an event, with the place of its instruction and the callee of the frame that it begins.
+    fn meet(
+        &mut self,
+        event: Event,
+        place: usize,
+        callee: &Option<Callee>,
+    ) -> Result<(), AllocError> {
+        let step = self.step(place);
+        let at = self.steps.len();
+        self.steps.push(step)?;
+        match event {
+            Event::Call { .. } => self.invoke(callee, Invocation::Call, step),
+            Event::Spawn { .. } => self.invoke(callee, Invocation::Spawn, step),
+            Event::End => {
+                if let Some(note) = self.frames.get_mut(step.frame) {
+                    note.ended = Some(at);
+                }
+                self.open.pop();
+                Ok(())
+            }
+            _ => Ok(()),
+        }
+    }
+
+    // Notes the frame of a callee.
+    fn invoke(
+        &mut self,
+        callee: &Option<Callee>,
+        how: Invocation,
+        step: StepNote,
+    ) -> Result<(), AllocError> {
+        match callee {
+            Some(Callee::Function(call)) => {
+                self.begin(Body::Function(call.function), (0, 0), how, step)
+            }
+            Some(Callee::Loop(part)) => {
+                self.begin(Body::Loop(part.number), (part.low, part.high), how, step)
+            }
+            _ => Ok(()),
+        }
+    }
+
+    // Notes a frame that was invoked at this step.
+    fn begin(
+        &mut self,
+        body: Body,
+        turns: (i64, i64),
+        how: Invocation,
+        step: StepNote,
+    ) -> Result<(), AllocError> {
+        let number = self.frames.len();
+        self.frames.push(FrameNote {
+            body,
+            low: turns.0,
+            high: turns.1,
+            how,
+            parent: step.frame,
+            instruction: step.instruction,
+            begun: self.steps.len().saturating_sub(1),
+            ended: None,
+            cell: self.cells,
+        })?;
+        self.cells = self.cells.saturating_add(self.cells_of(body, turns));
+        self.open.push(number)?;
+        Ok(())
+    }
+
+    // How many cells a frame has. One of several turns of a loop has none.
+    fn cells_of(&self, body: Body, turns: (i64, i64)) -> usize {
+        let cells = match body {
+            Body::Function(number) => match self.program.functions.get(number as usize) {
+                Some(function) => function.cells,
+                None => 0,
+            },
+            Body::Loop(number) => match self.program.loops.get(number as usize) {
+                Some(one) if turns.0.saturating_add(1) >= turns.1 => one.cells,
+                _ => 0,
+            },
+        };
+        cells as usize
+    }
+
+    // The step at which the run stops, and the operands that cause it.
+    fn stop(&self, place: usize, last: LastOperands) -> StopNote {
+        let (left, right) = match self.code.instrs().get(place) {
+            Some(Instr::LoadElement(array) | Instr::StoreElement(array)) => {
+                (i64::from(array.first), last.popped)
+            }
+            Some(Instr::FetchElement(array)) => (i64::from(array.first), last.top),
+            Some(Instr::Input) => (0, last.popped),
+            _ => (last.popped, last.popped_before),
+        };
+        StopNote {
+            step: self.step(place),
+            left,
+            right,
+        }
+    }
+
+    fn into_replay(self, ticks: u32, stop: Option<StopNote>) -> Replay {
+        let Notes { frames, steps, .. } = self;
+        Replay {
+            frames,
+            steps,
+            ticks,
+            stop,
+        }
+    }
 }
 
 impl Replay {
-    /// Returns the place in the text of a step's instruction.
-    pub fn spot(&self, map: &TextMap, step: StepNote) -> Option<Spot> {
+    /// Returns the byte of the text from which a step's instruction comes.
+    pub fn spot(&self, map: &TextMap, step: StepNote) -> Option<usize> {
         let frame = self.frames.get(step.frame)?;
         let body: &BodyMap = map.body(frame.body)?;
         body.spots.get(step.instruction).copied()
@@ -105,8 +268,7 @@ impl Replay {
     /// Returns the byte of the text from which an event comes.
     pub fn place(&self, map: &TextMap, event: usize) -> Option<usize> {
         let step = self.steps.get(event)?;
-        let spot = self.spot(map, *step)?;
-        Some(spot.at)
+        self.spot(map, *step)
     }
 
     /// Returns the frame that has a cell, and the cell's number within that frame.

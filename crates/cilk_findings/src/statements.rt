@@ -92,13 +92,13 @@ impl Walker<'_> {
             Stmt::Invoke(how, call) => {
                 let at = self.here();
                 self.put(at)?;
-                self.call(*how, call, false)?;
+                self.call(*how, call)?;
             }
             Stmt::AssignCall(_, how, call) => {
                 let at = self.take();
                 self.put(at)?;
                 self.take();
-                self.call(*how, call, true)?;
+                self.call(*how, call)?;
             }
             _ => {
                 let at = self.take();
@@ -134,7 +134,7 @@ impl Walker<'_> {
             }
             LocalInitializer::Invoke(how, call) => {
                 self.take();
-                self.call(*how, call, true)
+                self.call(*how, call)
             }
         }
     }

@@ -1,6 +1,6 @@
 //! A walk over the tokens of a text, along its tree.
 
-use crate::map::{BodyMap, CallSpot, Spot};
+use crate::map::BodyMap;
 use cilk_syntax::token::{Kind, Token};
 use cilk_syntax::tree::Name;
 use std::alloc::{AllocError, Global};
@@ -85,7 +85,7 @@ impl Walker<'_> {
 
     /// Adds an instruction that comes from the token at byte `at`.
     pub fn put(&mut self, at: usize) -> Result<(), AllocError> {
-        self.body.spots.push(Spot { at, call: None })?;
+        self.body.spots.push(at)?;
         Ok(())
     }
 
@@ -95,15 +95,6 @@ impl Walker<'_> {
             self.put(at)?;
         }
         Ok(())
-    }
-
-    /// Adds a call, and the instruction with which the frame continues after it.
-    pub fn put_call(&mut self, at: usize, call: CallSpot) -> Result<(), AllocError> {
-        self.body.spots.push(Spot {
-            at,
-            call: Some(call),
-        })?;
-        self.put(at)
     }
 
     /// Returns the number of the function with a name.

@@ -10,7 +10,7 @@ ghost use Rattle.cilk_frames.specs.Cursor.{begins_at};
 ghost use Rattle.cilk_frames.specs.Following.{Fits, Stands, child_of, owed_for};
 ghost use Rattle.cilk_frames.specs.Moving.{HasRoom, told};
 
-use crate::operands::Operands;
+use crate::operands::{LastOperands, Operands};
 use cilk_lower::code::{Code, EntryPoint, Owed};
 use cilk_program::ask::{Ask, Callee, FunctionCall, LoopPart};
 use cilk_program::given::Words;
@@ -114,11 +114,17 @@ impl Cursor {
         })
     }
 
-    // The place of the next instruction.
-    pub(crate) fn place(&self) -> usize
+    /// Returns the place of the next instruction.
+    pub fn place(&self) -> usize
         ensures { result ≡ self.now.place }
     {
         self.place
+    }
+
+    /// Returns the operand on top and the two that were popped last. For messages: nothing is proved
+    /// of them.
+    pub fn last_operands(&self) -> LastOperands {
+        self.operands.last()
     }
 
     // The frame's result so far.

@@ -42,7 +42,7 @@ pub mod call_stack;
 pub mod cursor;
 pub mod halves;
 mod moves;
-mod operands;
+pub mod operands;
 mod operators;
 pub mod outcome;
 pub mod places;

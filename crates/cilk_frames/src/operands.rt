@@ -16,6 +16,14 @@ pub struct Operands {
     start: usize,
 }
 
+/// The operand on top of a frame's stack, the one that was popped last, and the one popped before it.
+#[derive(Clone, Copy, Debug)]
+pub struct LastOperands {
+    pub top: i64,
+    pub popped: i64,
+    pub popped_before: i64,
+}
+
 impl Model for Operands {
     ghost use Rattle.cilk_frames.specs.Operands.{OperandsView};
     ghost use Rattle.std.specs.Prelude.{◌≤◌, ◌-◌, drop, take, length};
@@ -73,6 +81,24 @@ impl Operands {
         let word = self.items[self.start];
         self.start += 1;
         word
+    }
+
+    /// Returns the operand on top and the two that were popped last. For messages: nothing is proved
+    /// of them, and one that isn't there is 0.
+    pub fn last(&self) -> LastOperands {
+        LastOperands {
+            top: self.at(Some(self.start)),
+            popped: self.at(self.start.checked_sub(1)),
+            popped_before: self.at(self.start.checked_sub(2)),
+        }
+    }
+
+    // The word at a place, or 0.
+    fn at(&self, place: Option<usize>) -> i64 {
+        match place {
+            Some(place) => self.items.get(place).copied().unwrap_or(0),
+            None => 0,
+        }
     }
 
     /// Pops `count` words into `words`, in the order of their pushes.

@@ -1,4 +1,4 @@
--- What is said of a text that is to be a trace: its verdict, or its first line that is wrong. docs/TRACES.md has the grammar and its meaning.
+-- The judgement of a text that is to be a trace: its verdict, or its first line that is wrong. docs/TRACES.md has the grammar and its meaning.
 use Rattle.std.specs.Prelude.{◌≡◌, ◌⊎◌, ℕ, ◌+◌, List, [], ◌∷◌, ◌++◌, length, Option, Some, IfSome}
 use Rattle.cilk_trace.specs.declared.line.Line.{Line}
 use Rattle.cilk_trace.specs.declared.judge.Verdict.{Verdict}
@@ -13,7 +13,7 @@ use Rattle.cilk_trace_text.specs.Texts.{IsTraceText}
 abbrev pub BeginsTrace : List Line → Type 0
 BeginsTrace ls = (more : List Line) × IsTrace (ls ++ more)
 
--- Some trace begins with the lines before this one, and none goes on with it. The header is line 1.
+-- Some trace begins with the lines before this one, and none continues with it. The header is line 1.
 pub record IsMisplacedAt (text : List ℕ) (line : ℕ) : Type 0 where
   pub before : List Line
   pub wrong : Line
@@ -39,7 +39,7 @@ pub record HasVerdict (text : List ℕ) (v : Verdict) : Type 0 where
   pub spells : IsTraceText text lines
   pub judged : IsJudged lines v
 
--- the text is that of a trace of which this is known
+-- the text is that of a trace with these facts
 pub record HasSurvey (text : List ℕ) (k : Known) : Type 0 where
   pub lines : List Line
   pub spells : IsTraceText text lines
@@ -51,6 +51,6 @@ pub record IsTraceOf (text : List ℕ) : Type 0 where
   pub spells : IsTraceText text lines
   pub trace : IsTrace lines
 
--- a source gives a text of which this holds: the known one, if it is known
+-- a source gives a text with this property: the known one, if it is known
 abbrev pub GivesText : Option (List ℕ) → (List ℕ → Type 0) → Type 0
 GivesText known P = (text : List ℕ) × IfSome known (λ all. text ≡ all) × P text

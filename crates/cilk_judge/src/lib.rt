@@ -10,8 +10,7 @@
 //! | [`judging::judge_text`] | from the second reading: the verdict |
 //! | [`judging::judge`] | both, from two sources of the text |
 //!
-//! A second reading that doesn't fit the first is told as [`fault::Unjudged::Changed`]. It is never
-//! judged.
+//! A second reading that doesn't fit the first is never judged: [`fault::Unjudged::Changed`].
 //!
 //! ```text
 //! let known = survey_text(alloc, &mut first)?;          // Malformed, Truncated, ..

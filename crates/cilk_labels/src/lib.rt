@@ -10,12 +10,15 @@
 //! orders are kept while the program runs; here the tree is known, and the numbers are plain
 //! integers.)
 //!
-//! - [`label`] numbers all strands in one pass over the nodes of the tree.
-//! - [`Labels::parallel`] tells whether two strands are parallel, in constant time and without
-//!   allocating.
-//! - [`Labels::hebrew`] is the Hebrew number of a strand. Among the earlier strands, those parallel
-//!   to a strand are the ones with a greater Hebrew number, so a race detector can keep the
-//!   greatest alone.
+//! Among the earlier strands, those parallel to a strand are the ones with a greater Hebrew number,
+//! so a race detector can keep the greatest alone.
+//!
+//! | Call | Result |
+//! |---|---|
+//! | [`label`] | the [`Labels`] of all strands of a tree, in one pass over its nodes |
+//! | [`Labels::parallel`] | whether two strands are parallel, in constant time |
+//! | [`Labels::hebrew`] | the Hebrew number of a strand |
+//! | [`Labels::count`] | the number of strands |
 //!
 //! ```text
 //! let tree = tree_of(alloc, &trace)?;

@@ -36,7 +36,7 @@ module _ {V : Type 0} (M : MonoidStructure V) (IsMember : V → Type 0) (laws : 
       let hr = all_right (values_in l) (values_in r) h in
       (λ i. M.combine (product_by-product l hl i) (product_by-product r hr i)) ∙ sym (product-append (values_in l) (values_in r) hl hr)
 
-  -- the values of a list of views, each of which is a member
+  -- the values of a list of views; each view is a member
   pub members_of : {X : Type 0} (value : X → V) → ((x : X) → IsMember (value x)) → (xs : List X) → AllByRecursion IsMember (map value xs)
   members_of value all [] = tt
   members_of value all (x ∷ xs) = (all x, members_of value all xs)

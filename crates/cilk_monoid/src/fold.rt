@@ -10,7 +10,7 @@ use std::alloc::Global;
 /// Multiplies the pieces from left to right, and returns the unit if there are none.
 ///
 /// Costs what each piece but the first costs as the right side of a product. If memory runs out, it
-/// returns pieces with the same product, some of which may be multiplied already.
+/// returns pieces with the same product; some may be multiplied already.
 pub fn fold_pieces<M: Monoid>(
     alloc: Global,
     mut pieces: Vec<M::View>,

@@ -168,7 +168,7 @@ first_alike : (t : Tree) (l : Option Tree) (o f p q : ℕ) → Alike t o f p q �
 first_alike t None o f p q h = h
 first_alike t (Some l) o f p q h = series_alike_left t l o f p q h
 
--- a block, and blocks, of which the first strand is leaf o and begins at position f
+-- a block, and blocks, whose first strand is leaf o and begins at position f
 block_alike : (x : Rest) (o o' f f' p q : ℕ) → o' ≡ suc o → f' ≡ f + suc x.events → AlikeIf x.after o' f' p q → Alike (block x) o f p q
 block_alike x o o' f f' p q i j h = later_alike (strand (suc x.events)) x.after o o' f f' p q (omega (arith, i)) j h
 

@@ -3,7 +3,7 @@ use Rattle.std.specs.Prelude.{ℕ, ◌+◌, ◌-◌, ◌^◌, min, List, [], ◌
 use Rattle.cilk_tree.specs.declared.tree.Node.{Node}
 use Rattle.cilk_tree.specs.declared.tree.Node.TheVariants.{Strand, Series, Parallel}
 
--- the classes of the leaves among these nodes, the first of which is leaf o, given the classes
+-- the classes of the leaves among these nodes, whose first leaf is leaf o, given the classes
 -- around the subtrees that the nodes make up
 abbrev pub classes_from : List Node → ℕ → List ℕ → List ℕ
 classes_from [] o cs = []

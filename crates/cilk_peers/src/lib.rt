@@ -10,10 +10,11 @@
 //! strand of the lowest child of a P node that holds it, and 0 if no P node does. Two strands have
 //! the same peers exactly where their classes are equal.
 //!
-//! - [`walk::classes`] finds all classes in one pass over the nodes of the tree.
-//! - [`class::Classes::same_peers`] compares two strands, in constant time and without allocating.
-//! - [`laws::frames_keep_peers`]: a frame's first and last strands have the same peers, if each
-//!   frame of the run syncs after it spawned.
+//! | Call | Result |
+//! |---|---|
+//! | [`walk::classes`] | the [`class::Classes`] of all strands, in one pass over the nodes of the tree |
+//! | [`class::Classes::same_peers`] | whether two strands have the same peers, in constant time |
+//! | [`laws::frames_keep_peers`] | the first and last strand of a frame that syncs have the same peers |
 //!
 //! ```text
 //! let tree = tree_of(alloc, &trace)?;

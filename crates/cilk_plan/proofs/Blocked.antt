@@ -21,7 +21,7 @@ use Rattle.cilk_program.proofs.Closings.{runs_end}
 use Rattle.cilk_tree.specs.declared.mark.Mark.TheVariants as mark
 use Rattle.cilk_tree.specs.Races.{event_at}
 use Rattle.cilk_tree.specs.declared.event_order.EventOrder.{EventOrder}
-use Rattle.cilk_tree.specs.Word.{event, after}
+use Rattle.cilk_tree.specs.Word.{event, predecessors_of}
 use Rattle.cilk_tree.proofs.Events.{mark_at, spawn_mark}
 use Rattle.cilk_tree.specs.Blocks.{SyncsAt, IsNextSync, EndsBlockOf}
 use Rattle.cilk_tree.specs.Frames.{IsInFrame, AreFrames}
@@ -243,7 +243,7 @@ pub have_continuations : PlansHaveContinuations
 have_continuations a s run is law k spawned =
     let ran = run.1.ended.ran in
     let same : s.events ≡ a.trace = ap (λ (x : EventOrder). x.events) is.event_order in
-    let at = spawned_event (event s k) (spawn_mark s.events k (event s k) (after s k) spawned) in
+    let at = spawned_event (event s k) (spawn_mark s.events k (event s k) (predecessors_of s k) spawned) in
     let block = blocks_end (source a.program) a.input ran.run a.trace a.outcome a.program.well_named ran.serial k at.0 (subst (λ (es : List Event). event_at es k ≡ Some (events.Spawn at.0)) same at.1) in
     let ends : EndsBlockOf s.events k block.0 = subst (λ (es : List Event). EndsBlockOf es k block.0) (sym same) block.1 in
     let back = law.returns k spawned in

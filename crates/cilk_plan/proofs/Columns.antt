@@ -21,7 +21,7 @@ use Rattle.cilk_tree.specs.declared.event_order.EventOrder.{EventOrder}
 use Rattle.cilk_tree.specs.declared.mark.Mark.{Mark}
 use Rattle.cilk_tree.specs.declared.mark.Mark.TheVariants.{Begin, Resume, Sync}
 use Rattle.cilk_tree.specs.Orders.{IsOrderly}
-use Rattle.cilk_tree.specs.Word.{event, after, plain, resume, word_event, what, IsWord}
+use Rattle.cilk_tree.specs.Word.{event, predecessors_of, plain, resume, word_event, word_step, IsWord}
 use Rattle.cilk_tree.specs.declared.blocks.Continuation.{Continuation}
 use Rattle.cilk_tree.specs.Blocks.{EndsBlockOf, IsContinuationOf, AreContinuations}
 use Rattle.cilk_tree.specs.PlanStrands.{AreFirsts, AreStarts, BeginsStrand}
@@ -48,9 +48,9 @@ pushed_cases (z ∷ l) x (suc k) y is = elim (pushed_cases l x k y is) [ inl old
 
 -- ---- the positions of a block
 
-no_resume : (s : EventOrder) (p k : ℕ) → event s p ≡ Some events.Sync → what s p ≡ resume k → ⊥
+no_resume : (s : EventOrder) (p k : ℕ) → event s p ≡ Some events.Sync → word_step s p ≡ resume k → ⊥
 no_resume s p k is told =
-    let z : plain ≡ resume k = sym (ap (λ (o : Option Event). word_event s.events p o (after s p)) is) ∙ told in cc z
+    let z : plain ≡ resume k = sym (ap (λ (o : Option Event). word_event s.events p o (predecessors_of s p)) is) ∙ told in cc z
 
 ends_sync : (s : EventOrder) (k q : ℕ) → EndsBlockOf s.events k q → event s q ≡ Some events.Sync
 ends_sync s k q h = let next = h.2 in let at = next.syncs in at.0
@@ -62,7 +62,7 @@ sync_place s k q h =
     omega (arith, within, later)
 
 module _ (s : EventOrder) (law : IsOrderly s) where
-  pub resume_place : (k p : ℕ) → what s p ≡ resume k → p < length s.events + 1
+  pub resume_place : (k p : ℕ) → word_step s p ≡ resume k → p < length s.events + 1
   resume_place k p is = let l = (law.inside p (subst IsWord (sym is) tt)).1 in omega (arith, l)
 
   pub spawn_of : (k : ℕ) (c : Continuation) → IsContinuationOf s k c → IsSpawnOf s c.sync k
@@ -267,7 +267,7 @@ module _ (s : EventOrder) (law : IsOrderly s) where
     exact = λ p b' q e. dite (ℕ_discrete p c.resume)
         (λ (on : p ≡ c.resume).
         let now : get_or column' p no_block ≡ b = ap (λ (x : ℕ). get_or column' x no_block) on ∙ here in
-        let told : what s p ≡ resume n = ap (λ (x : ℕ). what s x) on ∙ is.resumes in (
+        let told : word_step s p ≡ resume n = ap (λ (x : ℕ). word_step s x) on ∙ is.resumes in (
           λ v. (let same_block : b ≡ b' = sym now ∙ v in
               let listed : Some c.sync ≡ Some q = sym there ∙ (ap (slice_get syncs) same_block ∙ e) in
               let same : c.sync ≡ q = cc listed in
@@ -292,7 +292,7 @@ module _ (s : EventOrder) (law : IsOrderly s) where
           λ of. now ∙ (so_far.exact p b' q e).1 (elim of [
             | inl same ↦ inl same
             | inr h ↦ dite (ℕ_discrete h.0 n)
-                (λ (same : h.0 ≡ n). absurd (off (law.once p c.resume n (subst (λ (x : ℕ). what s p ≡ resume x) same h.2) is.resumes)))
+                (λ (same : h.0 ≡ n). absurd (off (law.once p c.resume n (subst (λ (x : ℕ). word_step s p ≡ resume x) same h.2) is.resumes)))
                 (λ (other : h.0 ≢ n). inr (h.0, let l = h.1 in omega (arith, l, other), h.2, h.3))
           ]),
         ));

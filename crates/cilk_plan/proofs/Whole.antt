@@ -4,7 +4,7 @@ use Rattle.std.proofs.Common.{◌≡◌, ◌↔◌, ℕ, ◌+◌, ◌-◌, ◌�
 use Rattle.cilk_types.specs.declared.event.Event.{Event}
 use Rattle.cilk_tree.specs.declared.event_order.EventOrder.{EventOrder}
 use Rattle.cilk_tree.specs.Orders.{IsOrderly}
-use Rattle.cilk_tree.specs.Word.{spawn, what}
+use Rattle.cilk_tree.specs.Word.{spawn, word_step}
 use Rattle.cilk_tree.specs.declared.blocks.Continuation.{Continuation}
 use Rattle.cilk_tree.specs.Blocks.{AreContinuations, IsContinuationOf}
 use Rattle.cilk_tree.specs.Resumptions.{AreResumptions}
@@ -28,9 +28,9 @@ some_told None P told h = absurd (cc h)
 some_told (Some c) P told h = told c refl
 
 pub continuation_there : (s : EventOrder) (k : ℕ) (result : Option Continuation) → IsOrderly s → SpawnsHaveContinuations s → ((c : Continuation) → (result ≡ Some c) ↔ IsContinuationOf s k c)
-    → IsSome result ↔ (what s k ≡ spawn)
+    → IsSome result ↔ (word_step s k ≡ spawn)
 continuation_there s k result law each exact = (
-  some_told result (what s k ≡ spawn) (λ c is. (law.resumed c.resume k ((exact c).0 is).resumes).0),
+  some_told result (word_step s k ≡ spawn) (λ c is. (law.resumed c.resume k ((exact c).0 is).resumes).0),
   λ h. let one = each k h in subst IsSome (sym ((exact one.continuation).1 one.is)) refl,
 )
 

@@ -4,11 +4,11 @@ use Rattle.cilk_types.specs.declared.event.Event.{Event}
 use Rattle.cilk_tree.specs.declared.event_order.EventOrder.{EventOrder}
 use Rattle.cilk_tree.specs.Blocks.{EndsBlockOf}
 use Rattle.cilk_tree.specs.PlanStrands.{BeginsStrand}
-use Rattle.cilk_tree.specs.Word.{resume, spawn, what}
+use Rattle.cilk_tree.specs.Word.{resume, spawn, word_step}
 
 -- the spawn at k is in the block that ends with the `sync` at q
 pub record IsSpawnOf (s : EventOrder) (q k : ℕ) : Type 0 where
-  pub spawns : what s k ≡ spawn
+  pub spawns : word_step s k ≡ spawn
   pub ends : EndsBlockOf s.events k q
 
 -- The `sync`s that end blocks with spawns, in the order of the blocks' first spawns. The number of
@@ -26,7 +26,7 @@ no_block = 4294967295
 
 -- the position is the `sync` at q, which ends a block, or the `resume` after a spawn of that block
 abbrev pub IsOfBlock : EventOrder → ℕ → ℕ → Type 0
-IsOfBlock s q p = (p ≡ q) ⊎ ((k : ℕ) × (what s p ≡ resume k) × EndsBlockOf s.events k q)
+IsOfBlock s q p = (p ≡ q) ⊎ ((k : ℕ) × (word_step s p ≡ resume k) × EndsBlockOf s.events k q)
 
 -- At each position the number of its block, and `no_block` where it has none. The blocks end with
 -- these `sync`s.

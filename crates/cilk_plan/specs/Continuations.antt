@@ -10,7 +10,7 @@ use Rattle.cilk_program.specs.WellNamed.{is_well_named}
 use Rattle.cilk_tree.specs.Races.{event_at}
 use Rattle.cilk_tree.specs.declared.event_order.EventOrder.{EventOrder}
 use Rattle.cilk_tree.specs.Orders.{IsOrderly}
-use Rattle.cilk_tree.specs.Word.{spawn, what}
+use Rattle.cilk_tree.specs.Word.{spawn, word_step}
 use Rattle.cilk_tree.specs.declared.blocks.Continuation.{Continuation}
 use Rattle.cilk_tree.specs.Blocks.{EndsBlockOf, IsContinuationOf}
 use Rattle.cilk_checker.specs.Determinate.{AcceptedRun, HasDeterminateRun}
@@ -30,7 +30,7 @@ pub record HasContinuation (s : EventOrder) (k : ℕ) : Type 0 where
 
 -- each spawn of an event order has one continuation
 abbrev pub SpawnsHaveContinuations : EventOrder → Type 0
-SpawnsHaveContinuations s = (k : ℕ) → what s k ≡ spawn → HasContinuation s k
+SpawnsHaveContinuations s = (k : ℕ) → word_step s k ≡ spawn → HasContinuation s k
 
 -- In the plan of an accepted run, each spawn has one continuation.
 abbrev pub PlansHaveContinuations : Type 0

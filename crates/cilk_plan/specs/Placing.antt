@@ -4,12 +4,12 @@ use Rattle.cilk_types.specs.declared.event.Event.{Event}
 use Rattle.cilk_tree.specs.declared.event_order.EventOrder.{EventOrder}
 use Rattle.cilk_tree.specs.Blocks.{EndsBlockOf}
 use Rattle.cilk_tree.specs.PlanStrands.{BeginsStrand}
-use Rattle.cilk_tree.specs.Word.{resume, what}
+use Rattle.cilk_tree.specs.Word.{resume, word_step}
 use Rattle.cilk_plan.specs.Columns.{IsSpawnOf, no_block}
 
 -- the position is the `sync` at q, or the `resume` after a spawn below n of the block that it ends
 abbrev pub IsOfBlockBelow : EventOrder → ℕ → ℕ → ℕ → Type 0
-IsOfBlockBelow s n q p = (p ≡ q) ⊎ ((k : ℕ) × (k < n) × (what s p ≡ resume k) × EndsBlockOf s.events k q)
+IsOfBlockBelow s n q p = (p ≡ q) ⊎ ((k : ℕ) × (k < n) × (word_step s p ≡ resume k) × EndsBlockOf s.events k q)
 
 -- the blocks of the spawns below m are listed, and the `resume`s after the spawns below n are in
 -- the column

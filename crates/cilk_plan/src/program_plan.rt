@@ -12,7 +12,7 @@ ghost use Rattle.cilk_tree.specs.declared.blocks.Continuation.{Continuation};
 ghost use Rattle.cilk_program.specs.Sources.{source};
 ghost use Rattle.cilk_tree.specs.Orders.{IsOrderly};
 ghost use Rattle.cilk_tree.specs.Kinds.{IsBehind};
-ghost use Rattle.cilk_tree.specs.Word.{spawn, what};
+ghost use Rattle.cilk_tree.specs.Word.{spawn, word_step};
 ghost use Rattle.cilk_plan.specs.Columns.{AreBlockEnds, AreBlocks, AreStrands};
 ghost use Rattle.cilk_plan.specs.Continuations.{SpawnsHaveContinuations};
 ghost use Rattle.cilk_plan.specs.Frames.{IsFrameOf};
@@ -231,7 +231,7 @@ impl<'a> ProgramPlan<'a> {
     /// Returns the continuation of the spawn at a position, or `None` if there is no spawn.
     pub fn continuation(&self, at: Pos) -> Option<Continuation>
         ensures exact { (c : Continuation) → (result ≡ Some c) ↔ IsContinuationOf self.now.event_order at c }
-        ensures there { IsSome result ↔ (what self.now.event_order at ≡ spawn) }
+        ensures there { IsSome result ↔ (word_step self.now.event_order at ≡ spawn) }
     {
         self.laws();
         continuation_in(&self.continuations, at as usize)

@@ -21,7 +21,7 @@ pub fn asks_are_there()
 ///
 /// The first frame has this property, and a frame that has it passes it to each child. The global
 /// cells and reducers and the frame's own must exist. The law holds for any numbering of cells and
-/// reducers, and for any test of which of them exist. The lemmas in `proofs/Visible.antt` hold for
+/// reducers, and for any test whether one exists. The lemmas in `proofs/Visible.antt` hold for
 /// any kind of name in place of numbers, so that each kind of run can choose its own.
 pub fn frames_see_what_is_there()
     ensures { (p : Source) → IsTrue (is_well_named p) → (global_cell global_instance : ℕ → ℕ) (has_cell : ℕ → Bool) (has_reducer : ℕ → MonoidKind → Bool) → FramesSee p global_cell global_instance has_cell has_reducer }

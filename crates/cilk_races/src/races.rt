@@ -557,10 +557,7 @@ fn leaving(case: &Case<'_>, run: &Run, pair: &Pair) -> usize {
                 frame: parent,
                 instruction,
             };
-            return match run.replay.spot(&case.map, step) {
-                Some(spot) => spot.at,
-                None => 0,
-            };
+            return run.replay.spot(&case.map, step).unwrap_or(0);
         }
         at = parent;
     }

@@ -20,7 +20,7 @@ use Rattle.cilk_frames.specs.declared.cursor.Answer.TheVariants.{Done}
 use Rattle.cilk_frames.specs.Following.{Fits, Runs, Stands, owed_for, word_in}
 use Rattle.cilk_tree.specs.declared.event_order.EventOrder.{EventOrder}
 use Rattle.cilk_tree.specs.Runs.{IsAsked}
-use Rattle.cilk_tree.specs.Word.{event, resume, what}
+use Rattle.cilk_tree.specs.Word.{event, resume, word_step}
 use Rattle.cilk_tree.specs.declared.kind.Kind.{Kind}
 use Rattle.cilk_tree.specs.Kinds.{kind_of_event}
 use Rattle.cilk_replay.specs.declared.replay_frame.ReplayFrame.{ReplayFrame}
@@ -130,7 +130,7 @@ module _ (u v : ReplayValue) (same : u ≡ v) (at : ℕ) (k : Ask) (l : ReplayFr
   parted : (c : ReplayFrame) (next : ℕ) → Spawns (event_order_of u) at next → IsChild c → going.Parted (setting_of u S.0) S.1 at next c l below
   parted c next q new =
       going.spawned_on (setting_of u S.0) S.1 at k l c below S.2 q.0.0 next q.0.1 (λ callee is fit. new_replay_frame c new _ callee is fit)
-      (λ i x place is. resumed (setting_of u S.0) S.1 i next x (subst (λ n. what (event_order_of u) next ≡ resume n) (sym place) q.1) is)
+      (λ i x place is. resumed (setting_of u S.0) S.1 i next x (subst (λ n. word_step (event_order_of u) next ≡ resume n) (sym place) q.1) is)
 
   pub spawned_child : (c : ReplayFrame) (next : ℕ) → Spawns (event_order_of u) at next → IsChild c → Stand u (at + 1) asks.Begin c []
   spawned_child c next q new = (S.0, S.1, (parted c next q new).child)

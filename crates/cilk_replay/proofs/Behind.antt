@@ -19,7 +19,7 @@ use Rattle.cilk_tree.proofs.Reaches.{among_here, first}
 use Rattle.cilk_tree.proofs.Tied.{long_whole}
 use Rattle.cilk_tree.specs.declared.event_order.EventOrder.{EventOrder}
 use Rattle.cilk_tree.specs.Orders.{IsEventOrderOf}
-use Rattle.cilk_tree.specs.Word.{event, after, what, resume, Before}
+use Rattle.cilk_tree.specs.Word.{event, predecessors_of, word_step, resume, Before}
 use Rattle.cilk_tree.proofs.Events.{mark_at, resume_mark, spawn_of}
 use Rattle.cilk_tree.proofs.EventOrderLines.{IsReturn, Marked, end_of, ends_last, marked_shape, start_not_resume}
 
@@ -74,19 +74,19 @@ module _ (shape : Shape) (s : EventOrder) (is_event_order : IsEventOrderOf shape
   abbrev mark : ℕ → Mark
   mark p = mark_at (event_at s.events p)
 
-  same : after s ≡ preceding shape
+  same : predecessors_of s ≡ preceding shape
   same = ap (λ (l : List (List ℕ)). (λ (p : ℕ). slice_index_or l (p - 1) [])) is_event_order.preceding
 
-  laid : Laid (after s) (whole shape) 1 [] []
+  laid : Laid (predecessors_of s) (whole shape) 1 [] []
   laid = subst (λ (g : ℕ → List ℕ). Laid g (whole shape) 1 [] []) (sym same) (laid_whole shape)
 
   marked : Marked mark shape 2
   marked = marked_shape mark shape 2 (λ i l. (let z : 2 + i - 1 ≡ suc i = omega arith in
       ap (λ (j : ℕ). mark_at (slice_get s.events j)) z ∙ marks_at s.events (suc i) ∙ ap (λ (l : List Mark). get_or l (suc i) Plain) is_event_order.spells))
 
-  pub behind_spawn : (k z : ℕ) → 1 ≤ z → suc z ≤ length s.events → what s (suc z) ≡ resume k → Before s k z
+  pub behind_spawn : (k z : ℕ) → 1 ≤ z → suc z ≤ length s.events → word_step s (suc z) ≡ resume k → Before s k z
   behind_spawn k z some within is =
-      let r = resume_mark s.events (suc z) (event s (suc z)) (after s (suc z)) k is in
+      let r = resume_mark s.events (suc z) (event s (suc z)) (predecessors_of s (suc z)) k is in
       let wide : suc (long (line_of shape)) ≡ length s.events = long_whole shape s.events is_event_order.spells in
-      spawn_ahead (after s) mark shape 2 (1 ∷ []) [] laid.1 marked k z (omega (arith, some)) (omega (arith, within, wide))
-      (record { spawned = (spawn_of s.events k (event s k) (after s k) r.spawned).0; resumes = r.mark; alone = r.alone })
+      spawn_ahead (predecessors_of s) mark shape 2 (1 ∷ []) [] laid.1 marked k z (omega (arith, some)) (omega (arith, within, wide))
+      (record { spawned = (spawn_of s.events k (event s k) (predecessors_of s k) r.spawned).0; resumes = r.mark; alone = r.alone })

@@ -20,7 +20,7 @@ use Rattle.cilk_runs.specs.Traces.{IsWritten, shape_of}
 use Rattle.cilk_tree.specs.declared.event_order.EventOrder.{EventOrder}
 use Rattle.cilk_tree.specs.Orders.{IsEventOrderOf}
 use Rattle.cilk_tree.specs.Runs.{IsAsked, IsFollowed}
-use Rattle.cilk_tree.specs.Word.{event, after, plain, resume, what, IsWord}
+use Rattle.cilk_tree.specs.Word.{event, predecessors_of, plain, resume, word_step, IsWord}
 use Rattle.cilk_tree.proofs.Events.{mark_at, resume_mark, spawn_of}
 use Rattle.cilk_runs.specs.FrameEnvMachine.{asked_after, next}
 use Rattle.cilk_runs.specs.FrameEnvs.{FrameEnv, child_env}
@@ -109,16 +109,16 @@ module _ (s : Setting) (h : IsOfProgram s) where
       let planned : y.planned ≡ Does (Passes Resumes) = resume_deed (cell_number s.program s.run) (instance_number s.program s.run) y.planned g written in
       at_resume.1.asked.1 (at_resume.0.only (Does (Passes Resumes)) (subst (λ (d : Deed FrameEnv). IsLikeDeed (same_frame s.program) d (Does (Passes Resumes))) (sym planned) tt) then_asks)
 
-  position : (p : ℕ) → IsWord (what event_order p) → (suc (p - 1) ≡ p) × (p - 1 < length event_order.events)
+  position : (p : ℕ) → IsWord (word_step event_order p) → (suc (p - 1) ≡ p) × (p - 1 < length event_order.events)
   position p is = let i = h.orderly.inside p is in let low = i.0 in let high = i.1 in (omega (arith, low), omega (arith, low, high))
 
-  resumes : (k p : ℕ) → what event_order p ≡ resume k → IsAsked event_order k → IsAsked event_order p
+  resumes : (k p : ℕ) → word_step event_order p ≡ resume k → IsAsked event_order k → IsAsked event_order p
   resumes k p is asked =
-      let r = resume_mark event_order.events p (event event_order p) (after event_order p) k is in
+      let r = resume_mark event_order.events p (event event_order p) (predecessors_of event_order p) k is in
       let at_p = position p (subst IsWord (sym is) tt) in
       let at_k = position k (subst IsWord (sym (h.orderly.resumed p k is).0) tt) in
       let x = following s h (k - 1) at_k.1 in
-      let y = resumed s h (k - 1) p x.0 (subst (λ (n : ℕ). what event_order p ≡ resume n) (sym at_k.0) is) x.1 in
+      let y = resumed s h (k - 1) p x.0 (subst (λ (n : ℕ). word_step event_order p ≡ resume n) (sym at_k.0) is) x.1 in
       let e = got event_order.events (k - 1) at_k.1 in
       let f = got event_order.events (p - 1) at_p.1 in
       let spawns = spawn_event e.0 (ap mark_at (sym e.1) ∙ (spawn_of event_order.events k (event event_order k) [] r.spawned).0) in
@@ -127,7 +127,7 @@ module _ (s : Setting) (h : IsOfProgram s) where
       let resume_at : event event_order (suc y.0) ≡ Some (events.Resume back.0) = ap (event event_order) y.1 ∙ f.1 ∙ ap Some back.1 in
       subst (IsAsked event_order) y.1 (goes_on (k - 1) x.0 x.1 (subst (IsAsked event_order) (sym at_k.0) asked) spawns.0 spawn_at y.0 y.2 y.3 y.4 back.0 resume_at)
 
-  follows_spawn : (k p : ℕ) → what event_order p ≡ resume k → IsFollowed event_order (p - 1) → IsAsked event_order k
+  follows_spawn : (k p : ℕ) → word_step event_order p ≡ resume k → IsFollowed event_order (p - 1) → IsAsked event_order k
   follows_spawn k zero is followed = absurd (let i = h.orderly.inside zero (subst IsWord (sym is) tt) in let low = i.0 in omega (arith, low))
   follows_spawn k (suc zero) is followed = absurd (let no : plain ≡ resume k = sym h.orderly.root.0 ∙ is in cc no)
   follows_spawn k (suc (suc z)) is followed =

@@ -22,7 +22,7 @@ use Rattle.cilk_tree.specs.Passes.{Waiting, pass, predecessors_in}
 use Rattle.cilk_runs.specs.Runs.{Instance, Deed, Does, Invokes, Ends}
 use Rattle.cilk_runs.specs.Traces.{shape_of}
 use Rattle.cilk_tree.specs.declared.event_order.EventOrder.{EventOrder}
-use Rattle.cilk_tree.specs.Word.{event, after, what, resume, IsWord}
+use Rattle.cilk_tree.specs.Word.{event, predecessors_of, word_step, resume, IsWord}
 use Rattle.cilk_tree.proofs.Events.{mark_at, resume_mark, spawn_of}
 use Rattle.cilk_runs.specs.FrameEnvs.{FrameEnv}
 use Rattle.cilk_determinacy.specs.Nested.{named}
@@ -272,9 +272,9 @@ module _ (s : Setting) (h : IsOfProgram s) where
       let p = plan_event s h i e there in
       slice_get-map mark_of h.events i ∙ ap (option_map mark_of) p.1 ∙ ap Some (mark_is p.0 ∙ ap mark_in p.2 ∙ sym (mark_is e) ∙ is)
 
-  pub resumed : (i next : ℕ) (x : Point FrameEnv) → what event_order next ≡ resume (suc i) → point_at s i ≡ Some x → IsResumed s h next x
+  pub resumed : (i next : ℕ) (x : Point FrameEnv) → word_step event_order next ≡ resume (suc i) → point_at s i ≡ Some x → IsResumed s h next x
   resumed i next x is there =
-      let r = resume_mark event_order.events next (event event_order next) (after event_order next) (suc i) is in
+      let r = resume_mark event_order.events next (event event_order next) (predecessors_of event_order next) (suc i) is in
       let inside = h.orderly.inside next (subst IsWord (sym is) tt) in
       let low = inside.0 in
       let high = inside.1 in

@@ -15,7 +15,7 @@ use Rattle.cilk_frames.specs.declared.cursor.Answer.TheVariants.{Done, Value}
 use Rattle.cilk_frames.specs.Following.{HasAnswer, Stands, owed_for}
 use Rattle.cilk_tree.specs.declared.event_order.EventOrder.{EventOrder}
 use Rattle.cilk_tree.specs.Runs.{IsAsked}
-use Rattle.cilk_tree.specs.Word.{event, what, resume}
+use Rattle.cilk_tree.specs.Word.{event, word_step, resume}
 use Rattle.cilk_runs.specs.FrameEnvMachine.{asked_after}
 use Rattle.cilk_runs.specs.FrameEnvs.{FrameEnv}
 use Rattle.cilk_replay.specs.Points.{Point, IsEventOf}
@@ -83,7 +83,7 @@ BeginsNext s at frame = event s (at + 1) ≡ Some (events.Begin frame)
 
 -- the current frame spawns a child, and continues at `next`
 abbrev pub Spawns : EventOrder → ℕ → ℕ → Type 0
-Spawns s at next = ((f : ℕ) × Follows s at (events.Spawn f)) × (what s next ≡ resume at)
+Spawns s at next = ((f : ℕ) × Follows s at (events.Spawn f)) × (word_step s next ≡ resume at)
 
 -- A frame of this callee, after these answers, has requested this: its cursor, and the ticks it
 -- used.

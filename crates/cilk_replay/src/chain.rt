@@ -2,7 +2,7 @@
 
 ghost use Rattle.std.specs.Prelude.{◌≡◌, ◌+◌, ◌<◌, false, IfOk, IsTrue, OnErr, OnOk};
 ghost use Rattle.cilk_types.specs.declared.event.Event.TheVariants.{End};
-ghost use Rattle.cilk_tree.specs.Word.{resume, what};
+ghost use Rattle.cilk_tree.specs.Word.{resume, word_step};
 ghost use Rattle.cilk_replay.specs.Chains.{standing, task_of};
 
 use crate::child::{body_asked, body_matches};
@@ -269,7 +269,7 @@ pub struct Task {
 
 impl Model for Task {
     ghost use Rattle.std.specs.Prelude.{◌≡◌};
-    ghost use Rattle.cilk_tree.specs.Word.{resume, what};
+    ghost use Rattle.cilk_tree.specs.Word.{resume, word_step};
     ghost use Rattle.cilk_replay.specs.Chains.{TaskValue, task_code, task_of};
 
     ghost Value = { TaskValue };
@@ -278,14 +278,14 @@ impl Model for Task {
 
     ghost view = { λ t. task_of t.ticket t.rest };
 
-    ghost invariant = { λ t. what t.rest.of.yard.event_order t.rest.at ≡ resume t.ticket };
+    ghost invariant = { λ t. word_step t.rest.of.yard.event_order t.rest.at ≡ resume t.ticket };
 }
 
 impl Task {
     /// Creates the continuation after the spawn at `ticket`. Its frame continues at the `resume` of
     /// that spawn.
     pub fn new(ticket: Pos, rest: Rest) -> Task
-        requires { what rest.of.yard.event_order rest.at ≡ resume ticket }
+        requires { word_step rest.of.yard.event_order rest.at ≡ resume ticket }
         ensures { result ≡ task_of ticket rest }
     {
         Task { ticket, rest }
@@ -301,7 +301,7 @@ impl Task {
     /// Returns the position of the continuation.
     pub fn at(&self) -> Pos
         ensures place { result ≡ self.now.at }
-        ensures resumption { what self.now.of.yard.event_order result ≡ resume self.now.ticket }
+        ensures resumption { word_step self.now.of.yard.event_order result ≡ resume self.now.ticket }
     {
         self.rest.at()
     }
@@ -309,7 +309,7 @@ impl Task {
     /// Returns the frames that continue there.
     pub fn rest(self) -> Rest
         ensures rest { result ≡ standing self.of self.at }
-        ensures resumption { what self.of.yard.event_order self.at ≡ resume self.ticket }
+        ensures resumption { word_step self.of.yard.event_order self.at ≡ resume self.ticket }
     {
         let Task { ticket: _, rest } = self;
         rest

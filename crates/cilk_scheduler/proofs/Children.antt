@@ -1,7 +1,7 @@
 -- The parent after one more child: deeds, block, views and lists.
 --
 -- - `stolen_child`, `end_child`, `strands_child`: one deed more, that starts a child;
--- - `lays_units`, `carried_unit`: a reducer of which no piece has a view;
+-- - `lays_units`, `carried_unit`: a reducer without a view in any piece;
 -- - `first_part`, `second_part`, `replicate_at`: places in lists;
 -- - `newest_is`, `sum_more`: a worker that offers one continuation more;
 -- - `still_offered`, `was_offered`, `offered_length`, `offers_by`, `not_waiting`: offers by a call
@@ -62,7 +62,7 @@ strands_child [] how w = refl
 strands_child (Does e ∷ ds) how w = rw (strands_child ds how w) refl
 strands_child (Invokes b u ∷ ds) how w = strands_child ds how w
 
--- ---- a reducer of which no piece has a view
+-- ---- a reducer without a view in any piece
 
 module _ (kind : MonoidKind) (i : numbered.Instance) where
   abbrev none : ViewValue

@@ -122,7 +122,7 @@ IsSound (Fresh due) = AreOpenings due
 IsSound (Due first due) = IsOpening first × AreOpenings due
 IsSound s = Unit {0}
 
--- the frame continues at a stage of which this holds
+-- the frame continues at a stage that has this property
 abbrev Turned : language.Ask → (Stage → Type 0) → Type 0
 Turned k go = (s : Stage) × go s × IsSound s × (resuming s ≡ starts k) × (fresh s ≡ false) × (ends k ≡ false)
 

@@ -145,7 +145,7 @@ may_be_open (Going w) = true
 may_be_open (Resuming w) = true
 may_be_open s = false
 
--- the frame continues at a stage of which this holds, with whether it may have started children
+-- the frame continues at a stage that has this property, with whether it may have started children
 -- since its last sync
 abbrev Turned : Stage → language.Ask → (Stage → Type 0) → Type 0
 Turned from k go = (s : Stage) × go s × IsSound s × (ends k ≡ false) × ((t : Bool) → (t ≡ true → may_be_open from ≡ true) → opens_ask t k ≡ true → may_be_open s ≡ true)

@@ -96,7 +96,7 @@ at_more (w ∷ ws) x a zero h = inl h
 at_more (w ∷ ws) x a (suc q) h = at_more ws x a q h
 
 module _ (code : CodeView) (p : Source) (inputs : List ℤ) (name : ℕ → Name) (b : Scheduler) (s : State FrameEnv View) where
-  -- nothing lies at a block of which nothing was stolen
+  -- nothing lies at a block without stolen children
   pub opening_keeps : (n : Name) (ds : List (Deed FrameEnv)) → stolen_at_block code p inputs name b s n ds ≡ [] → Keeps code p inputs name b s n ds opening
   opening_keeps n ds none = record {
     lays = λ i q is.

@@ -110,7 +110,7 @@ module _ (code : CodeView) (p : Source) (inputs : List ℤ) where
       → (let a = h.frame_state in let u = h.worker in PassesWith a.cursor u.views views) × (let c = b.cells in Notes code p inputs b b' w k h.came (synced h.came) events.Sync c.items views)
 
   -- A scheduler is new if it was made of the first frame's cursor and activation, the global cells
-  -- and that frame's cells, which hold 0, and workers, of which the first alone holds the frame.
+  -- and that frame's cells, which hold 0, and workers. Only the first worker holds the frame.
   abbrev pub SchedulersAreNew : Type 0
   SchedulersAreNew =
       (b : Scheduler) (c : CursorView) (root : Activation FrameState) (count : ℕ) → LaysOut p code.layout → Stands code inputs p callees.Root c [] 0 → c.owed ≡ Nothing

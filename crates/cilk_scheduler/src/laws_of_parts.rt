@@ -24,7 +24,7 @@ pub fn own_pieces_arrive()
 {}
 
 /// A scheduler made in these parts is new: the first frame, its cells after the global ones, and
-/// workers, the first of which alone holds the frame.
+/// workers. Only the first worker holds the frame.
 pub fn schedulers_are_new()
     ensures { (code : CodeView) (p : Source) (inputs : List ℤ) → SchedulersAreNew code p inputs }
 {}

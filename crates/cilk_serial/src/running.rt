@@ -149,6 +149,15 @@ impl Running {
         }
     }
 
+    /// Returns the place of the instruction that the next event comes from, or that can't be done.
+    pub fn place(&self) -> usize {
+        let place = self.frames.top.cursor.place();
+        match self.ask.small_ask() {
+            Some(SmallAsk::Begin | SmallAsk::End(_) | SmallAsk::Fault(_)) => place,
+            _ => place.saturating_sub(1),
+        }
+    }
+
     /// Returns the state.
     pub fn into_state(self) -> State
         ensures { result ≡ self.state }

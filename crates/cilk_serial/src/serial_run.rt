@@ -10,12 +10,14 @@ ghost use Rattle.cilk_serial.specs.declared.serial_run.Stage.TheVariants.{Going,
 use crate::callee::callee_asked;
 use crate::outcome::outcome;
 use crate::running::{Halt, Running, Step};
+use cilk_frames::operands::LastOperands;
 use cilk_lower::code::Code;
 use cilk_program::ask::Callee;
 use cilk_program::program::Program;
 use cilk_types::event::Event;
 use cilk_types::fault::Fault;
 use cilk_types::input::Input;
+use cilk_types::limits::MAX_TICKS;
 use cilk_types::outcome::Outcome;
 use cilk_types::trace::Trace;
 use std::alloc::{AllocError, Global};
@@ -194,6 +196,22 @@ impl<'a> SerialRun<'a> {
             Stage::Ended(_) => None,
             Stage::Failed => None,
         }
+    }
+
+    /// Returns the place in the code of the instruction that the next event comes from, or of the one
+    /// that can't be done. For messages: nothing is proved of it.
+    pub fn place(&self) -> usize {
+        self.running.place()
+    }
+
+    /// Returns the last operands of the running frame. For messages: nothing is proved of them.
+    pub fn last_operands(&self) -> LastOperands {
+        self.running.frames.top.cursor.last_operands()
+    }
+
+    /// Returns the ticks that the run has taken.
+    pub fn ticks(&self) -> u32 {
+        MAX_TICKS.saturating_sub(self.running.left)
     }
 
     /// Returns the outcome and the trace of a run that has ended.

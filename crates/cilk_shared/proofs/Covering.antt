@@ -33,7 +33,7 @@ use Rattle.cilk_shared.proofs.Sets.{word_of_resume}
 use Rattle.cilk_tree.specs.Reach.{Among}
 use Rattle.cilk_tree.specs.declared.event_order.EventOrder.{EventOrder}
 use Rattle.cilk_tree.specs.Orders.{IsOrderly}
-use Rattle.cilk_tree.specs.Word.{after, event, what, resume, IsLine}
+use Rattle.cilk_tree.specs.Word.{predecessors_of, event, word_step, resume, IsLine}
 use Rattle.cilk_shared.specs.declared.reducers.FrameReducers.{FrameReducers}
 use Rattle.cilk_shared.specs.declared.reducers.Reducers.{Reducers}
 use Rattle.cilk_shared.specs.Pieces.{PieceValue, Covers, piece_of, number_ahead}
@@ -46,9 +46,9 @@ use Rattle.cilk_shared.proofs.Shown.{shows_none, shows_change, shows_read, shows
 
 -- what comes right before the event at p is from a on, or p is a resumption
 abbrev pub IsBehind : EventOrder → ℕ → ℕ → Type 0
-IsBehind s a p = ((q : ℕ) × (what s p ≡ resume q)) ⊎ ((e : ℕ) → Among e (after s p) → a ≤ e)
+IsBehind s a p = ((q : ℕ) × (word_step s p ≡ resume q)) ⊎ ((e : ℕ) → Among e (predecessors_of s p) → a ≤ e)
 
-pub behind_line : (s : EventOrder) → IsOrderly s → (a p : ℕ) → a < p → IsLine (what s p) → IsBehind s a p
+pub behind_line : (s : EventOrder) → IsOrderly s → (a p : ℕ) → a < p → IsLine (word_step s p) → IsBehind s a p
 behind_line s law a p lt line = inr (λ e there. let near = law.line p line e there in omega (arith, lt, near))
 
 whole_on : (s : EventOrder) (a p : ℕ) → Whole s a p → IsBehind s a p → Whole s a (p + 1)
@@ -65,7 +65,7 @@ covers_first s law r settled h empty quiet g same at =
     record {
       settled = subst (λ (z : EventOrder). AreSettled z r) (sym same) settled;
       begins = λ _. subst (IsStart g.event_order) (sym at.0) (omega arith, inl refl);
-      whole = λ x le lt. inr (λ e there. absurd (law.none_ahead e (let one : x ≡ 1 = omega (arith, le, lt, at.0, at.1) in subst (λ (y : ℕ). Among e (after s y)) one (subst (λ (z : EventOrder). Among e (after z x)) same there))));
+      whole = λ x le lt. inr (λ e there. absurd (law.none_ahead e (let one : x ≡ 1 = omega (arith, le, lt, at.0, at.1) in subst (λ (y : ℕ). Among e (predecessors_of s y)) one (subst (λ (z : EventOrder). Among e (predecessors_of z x)) same there))));
       words = subst HaveWords (sym here) tt;
       shows = subst (ShowsRange (kind_in r) h) (sym here) (shows_none (kind_in r) h empty);
     }
@@ -109,7 +109,7 @@ pub covers_taken : (y : YardValue) → IsOrderly y.event_order → (h : Hypermap
 covers_taken y law h r g k of can c No g' e = subst (λ (j : SegmentValue). Covers h r j) (sym e) c
 covers_taken y law h r g k of can c Yes g' e =
     let p = e.0 in
-    let is : what g.event_order p ≡ resume k = ap (λ (z : EventOrder). what z p) of.1 ∙ e.1 in
+    let is : word_step g.event_order p ≡ resume k = ap (λ (z : EventOrder). word_step z p) of.1 ∙ e.1 in
     let quiet = quiet_resume g.event_order r p k is in
     ⊎_elim
     (λ (none : g.upto ≤ g.from).
@@ -118,13 +118,13 @@ covers_taken y law h r g k of can c Yes g' e =
     let there : g' ≡ record { of = g.of; event_order = g.event_order; from = p; upto = p + 1 } = e.2 ∙ ap (λ b. record { of = g.of; event_order = g.event_order; from = cond b g.from p; upto = p + 1 }) (le-ltb g.from g.upto none) in
     subst (λ (j : SegmentValue). Covers h r j) (sym there) (record {
       settled = c.settled;
-      begins = λ _. ((law.inside p (word_of_resume (what y.event_order p) k e.1)).0, inr (k, is));
-      whole = λ x le lt. inl (k, (let at : x ≡ p = omega (arith, le, lt) in ap (what g.event_order) at ∙ is));
+      begins = λ _. ((law.inside p (word_of_resume (word_step y.event_order p) k e.1)).0, inr (k, is));
+      whole = λ x le lt. inl (k, (let at : x ≡ p = omega (arith, le, lt) in ap (word_step g.event_order) at ∙ is));
       words = subst HaveWords (sym one) tt;
       shows = subst (ShowsRange (kind_in r) h) (was ∙ sym one) c.shows;
     }))
     (λ (next : (g.from < g.upto) × (p ≡ g.upto)).
-    let at : what g.event_order g.upto ≡ resume k = ap (what g.event_order) (sym next.1) ∙ is in
+    let at : word_step g.event_order g.upto ≡ resume k = ap (word_step g.event_order) (sym next.1) ∙ is in
     let there : g' ≡ moved_on g = e.2 ∙ ap (λ b. record { of = g.of; event_order = g.event_order; from = cond b g.from p; upto = p + 1 }) (lt-ltb g.from g.upto next.0) ∙ ap (λ n. record { of = g.of; event_order = g.event_order; from = g.from; upto = n + 1 }) next.1 in
     covers_quiet h h r g c next.0 (inl (k, at)) (ap (events_at g.event_order r) (sym next.1) ∙ quiet) c.shows g' there)
     (can p e.1).1
@@ -187,10 +187,10 @@ spans_of h r g c = record { settled = c.settled; begins = c.begins; whole = c.wh
 pub covers_of : (h : Hypermap) (r : Reducers) (g : SegmentValue) → Spans r g → ShowsRange (kind_in r) h (events_over g.event_order r g.from g.upto) → Covers h r g
 covers_of h r g c shows = record { settled = c.settled; begins = c.begins; whole = c.whole; words = c.words; shows = shows }
 
-right_start : (s : EventOrder) (a b c : ℕ) → IsStart s a → a < b → b ≡ c → IsStart s c → (k : ℕ) × (what s c ≡ resume k)
+right_start : (s : EventOrder) (a b c : ℕ) → IsStart s a → a < b → b ≡ c → IsStart s c → (k : ℕ) × (word_step s c ≡ resume k)
 right_start s a b c low lt meet start = ⊎_elim
     (λ (z : c ≡ 1). let l = low.0 in absurd (omega (arith, z, meet, lt, l)))
-    (λ (h : (k : ℕ) × (what s c ≡ resume k)). h)
+    (λ (h : (k : ℕ) × (word_step s c ≡ resume k)). h)
     start.1
 
 -- a segment with another value, of the same event order
@@ -224,8 +224,8 @@ range_both s a b c d near one two = dite (dec_lt a b)
       λ x le lt. dite (dec_lt x b)
           (λ (left : x < b). one.1 x le left)
           (λ right. ⊎_elim
-          (λ (q : (k : ℕ) × (what s x ≡ resume k)). inl q)
-          (λ (inner : (e : ℕ) → Among e (after s x) → c ≤ e). inr (λ e there. let low = inner e there in omega (arith, low, meet, ab)))
+          (λ (q : (k : ℕ) × (word_step s x ≡ resume k)). inl q)
+          (λ (inner : (e : ℕ) → Among e (predecessors_of s x) → c ≤ e). inr (λ e there. let low = inner e there in omega (arith, low, meet, ab)))
           (two.1 x (omega (arith, right, meet)) lt)),
     ) in
     subst (λ (p : ℕ × ℕ). IsRange s p.0 p.1) (sym (spanned_both a b c d ab cd)) all)
@@ -299,8 +299,8 @@ pub two_pieces : {p q p' q' : PieceValue} (P : PieceValue → PieceValue → Typ
 two_pieces P e f h = subst (λ (x : PieceValue × PieceValue). P x.0 x.1) (λ i. (sym e i, sym f i)) h
 
 -- one event more, by a step on a shared word right after the last one
-pub covers_line : (y : YardValue) → IsOrderly y.event_order → (h : Hypermap) (r : Reducers) (g : SegmentValue) → OfYard y g → Covers h r g → g.from < g.upto → IsLine (what y.event_order g.upto) → events_at y.event_order r g.upto ≡ []
+pub covers_line : (y : YardValue) → IsOrderly y.event_order → (h : Hypermap) (r : Reducers) (g : SegmentValue) → OfYard y g → Covers h r g → g.from < g.upto → IsLine (word_step y.event_order g.upto) → events_at y.event_order r g.upto ≡ []
     → (g' : SegmentValue) → g' ≡ moved_on g → Covers h r g'
 covers_line y law h r g of c some line quiet g' e =
-    covers_quiet h h r g c some (behind_line g.event_order (subst IsOrderly (sym of.1) law) g.from g.upto some (subst (λ (z : EventOrder). IsLine (what z g.upto)) (sym of.1) line))
+    covers_quiet h h r g c some (behind_line g.event_order (subst IsOrderly (sym of.1) law) g.from g.upto some (subst (λ (z : EventOrder). IsLine (word_step z g.upto)) (sym of.1) line))
     (ap (λ (z : EventOrder). events_at z r g.upto) of.1 ∙ quiet) c.shows g' e

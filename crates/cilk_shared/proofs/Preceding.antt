@@ -8,24 +8,24 @@ use Rattle.std.proofs.Common.{◌≡◌, ◌↔◌, ℕ, ◌<◌, ◌≤◌, len
 use Rattle.std.proofs.lemmas.Bool.{leb-true, le-leb}
 use lib.Dec.{leb}
 use Rattle.cilk_tree.specs.declared.event_order.EventOrder.{EventOrder}
-use Rattle.cilk_tree.specs.Word.{WordEvent, plain, read, write, spawn, resume, finish, what, after, IsWord}
+use Rattle.cilk_tree.specs.Word.{WordEvent, plain, read, write, spawn, resume, finish, word_step, predecessors_of, IsWord}
 use Rattle.cilk_tree.specs.Along.{IsAlong}
 use Rattle.cilk_tree.specs.Earliest.{earliest}
 use Rattle.cilk_tree.proofs.AlongPlans.{afters, is_word, many, was_word}
 use Rattle.cilk_tree.proofs.Passing.{IsEarliest, earliest_is}
 use Rattle.cilk_shared.specs.Values.{SegmentValue, HoldsPreceding, MayPass}
 
-pub earliest_next : (g h : SegmentValue) (s : EventOrder) (o o' : Option ℕ) → g ≡ h → IsAlong s h.event_order → o ≡ earliest (after s g.upto) → o ≡ o' → IsEarliest o' (after h.event_order h.upto)
+pub earliest_next : (g h : SegmentValue) (s : EventOrder) (o o' : Option ℕ) → g ≡ h → IsAlong s h.event_order → o ≡ earliest (predecessors_of s g.upto) → o ≡ o' → IsEarliest o' (predecessors_of h.event_order h.upto)
 earliest_next g h s o o' same along is found =
-    subst (λ (x : Option ℕ). IsEarliest x (after h.event_order h.upto)) found
+    subst (λ (x : Option ℕ). IsEarliest x (predecessors_of h.event_order h.upto)) found
     (subst (λ (preceding : ℕ → List ℕ). IsEarliest o (preceding h.upto)) (sym (afters s h.event_order along))
-    (subst (λ (k : SegmentValue). IsEarliest o (after s k.upto)) same
-    (subst (λ (x : Option ℕ). IsEarliest x (after s g.upto)) (sym is) (earliest_is (after s g.upto)))))
+    (subst (λ (k : SegmentValue). IsEarliest o (predecessors_of s k.upto)) same
+    (subst (λ (x : Option ℕ). IsEarliest x (predecessors_of s g.upto)) (sym is) (earliest_is (predecessors_of s g.upto)))))
 
-pub holds_all : (h : SegmentValue) → IsEarliest None (after h.event_order h.upto) → HoldsPreceding h
+pub holds_all : (h : SegmentValue) → IsEarliest None (predecessors_of h.event_order h.upto) → HoldsPreceding h
 holds_all h k e a = absurd (k e a)
 
-pub holds_from : (g h : SegmentValue) (m : ℕ) → g ≡ h → IsEarliest (Some m) (after h.event_order h.upto)
+pub holds_from : (g h : SegmentValue) (m : ℕ) → g ≡ h → IsEarliest (Some m) (predecessors_of h.event_order h.upto)
     → (IsTrue (leb g.from m) → HoldsPreceding h) × (HoldsPreceding h → IsTrue (leb g.from m))
 holds_from g h m same k =
     let from : g.from ≡ h.from = ap (λ (x : SegmentValue). x.from) same in (
@@ -43,7 +43,7 @@ has_no_next h none may = let l = may.0 in omega (arith, none, l)
 pub is_past : (h : SegmentValue) (s : EventOrder) (n : ℕ) → IsAlong s h.event_order → n ≡ length s.events → n < h.upto → MayPass h → ⊥
 is_past h s n along all past may = let l = may.1 in let k = many s h.event_order along in omega (arith, l, k, all, past)
 
-pub is_step : (h : SegmentValue) (s : EventOrder) → IsAlong s h.event_order → IsWord (what s h.upto) → MayPass h → ⊥
+pub is_step : (h : SegmentValue) (s : EventOrder) → IsAlong s h.event_order → IsWord (word_step s h.upto) → MayPass h → ⊥
 is_step h s along word may = subst IsWord may.2 (is_word s h.event_order along h.upto word)
 
 is_plain : (e : WordEvent) → (IsWord e → ⊥) → e ≡ plain
@@ -54,9 +54,9 @@ is_plain spawn not = absurd (not tt)
 is_plain (resume q) not = absurd (not tt)
 is_plain finish not = absurd (not tt)
 
-pub is_passed : (h : SegmentValue) (s : EventOrder) (n : ℕ) (b : Bool) → IsAlong s h.event_order → n ≡ length s.events → h.from < h.upto → h.upto ≤ n → (IsWord (what s h.upto) → ⊥) → IsTrue b ↔ HoldsPreceding h → IsTrue b ↔ MayPass h
+pub is_passed : (h : SegmentValue) (s : EventOrder) (n : ℕ) (b : Bool) → IsAlong s h.event_order → n ≡ length s.events → h.from < h.upto → h.upto ≤ n → (IsWord (word_step s h.upto) → ⊥) → IsTrue b ↔ HoldsPreceding h → IsTrue b ↔ MayPass h
 is_passed h s n b along all some within not holds =
     let k = many s h.event_order along in (
-      λ t. (some, omega (arith, within, all, k), is_plain (what h.event_order h.upto) (λ word. not (was_word s h.event_order along h.upto word)), holds.0 t),
+      λ t. (some, omega (arith, within, all, k), is_plain (word_step h.event_order h.upto) (λ word. not (was_word s h.event_order along h.upto word)), holds.0 t),
       λ may. holds.1 may.3,
     )

@@ -14,7 +14,7 @@ use Rattle.cilk_tree.specs.Frames.{Enters, IsInFrame}
 use Rattle.cilk_tree.specs.Races.{event_at}
 use Rattle.cilk_tree.specs.declared.mark.Mark.TheVariants as mark
 use Rattle.cilk_tree.specs.declared.event_order.EventOrder.{EventOrder}
-use Rattle.cilk_tree.specs.Word.{event, what, after, spawn, resume, finish, plain, word_event, resumption, is_spawn}
+use Rattle.cilk_tree.specs.Word.{event, word_step, predecessors_of, spawn, resume, finish, plain, word_event, resumption, is_spawn}
 use Rattle.cilk_tree.proofs.Events.{mark_at, spawn_mark, resume_mark}
 use Rattle.cilk_shared.specs.declared.reducers.Reducers.{Reducers}
 use Rattle.cilk_shared.specs.Reducers.{ends_from, entered, frame_behind, frame_in, of_event, events_at}
@@ -38,11 +38,11 @@ module _ (s : EventOrder) (r : Reducers) (p : ℕ) where
   pub quiet_value : (i : Instance) (v : ℤ) → event s p ≡ Some (events.Value i v) → events_at s r p ≡ []
   quiet_value i v is = ap (of_event r (frame_in s.events p)) is
 
-  pub quiet_spawn : what s p ≡ spawn → events_at s r p ≡ []
-  quiet_spawn is = spawn_quiet r (frame_in s.events p) (event s p) (spawn_mark s.events p (event s p) (after s p) is)
+  pub quiet_spawn : word_step s p ≡ spawn → events_at s r p ≡ []
+  quiet_spawn is = spawn_quiet r (frame_in s.events p) (event s p) (spawn_mark s.events p (event s p) (predecessors_of s p) is)
 
-  pub quiet_resume : (k : ℕ) → what s p ≡ resume k → events_at s r p ≡ []
-  quiet_resume k is = resume_quiet r (frame_in s.events p) (event s p) (resume_mark s.events p (event s p) (after s p) k is).mark
+  pub quiet_resume : (k : ℕ) → word_step s p ≡ resume k → events_at s r p ≡ []
+  quiet_resume k is = resume_quiet r (frame_in s.events p) (event s p) (resume_mark s.events p (event s p) (predecessors_of s p) k is).mark
 
 no_finish : (es : List Event) (ps : List ℕ) → resumption es ps ≡ finish → ⊥
 no_finish es [] e = cc e

@@ -16,7 +16,7 @@ use Rattle.cilk_tree.specs.declared.event_order.EventOrder.{EventOrder}
 use Rattle.cilk_shared.specs.declared.view.View.{View}
 use Rattle.cilk_shared.specs.Rule.{In, Done, IsStart, Parted, IsCut, Sits}
 use Rattle.cilk_shared.proofs.Sets.{word_of_resume}
-use Rattle.cilk_tree.specs.Word.{resume, what, after, Before, IsWord, IsLine}
+use Rattle.cilk_tree.specs.Word.{resume, word_step, predecessors_of, Before, IsWord, IsLine}
 use Rattle.cilk_tree.specs.Reach.{Among, direct, through}
 use Rattle.cilk_tree.specs.Orders.{IsOrderly}
 
@@ -62,7 +62,7 @@ module _ (s : EventOrder) (views : List View) (parted : Parted s views) (id : �
     }
 
   -- a range of another seat that holds a later event than all of v begins at a resumption, past v
-  pub past : (some_done : v.from < v.upto) (i x : ℕ) (u : View) → i ≢ id → get_elem? views i ≡ some u → In u x → v.upto ≤ x → (v.upto ≤ u.from) × IsWord (what s u.from)
+  pub past : (some_done : v.from < v.upto) (i x : ℕ) (u : View) → i ≢ id → get_elem? views i ≡ some u → In u x → v.upto ≤ x → (v.upto ≤ u.from) × IsWord (word_step s u.from)
   past some_done i x u other there inside le =
       let low = (parted.begins id v at some_done).0 in
       dite (dec_le v.upto u.from)
@@ -70,7 +70,7 @@ module _ (s : EventOrder) (views : List View) (parted : Parted s views) (id : �
         far,
         ⊎_elim
             (λ (z : u.from ≡ 1). absurd (omega arith))
-            (λ (r : (q : ℕ) × (what s u.from ≡ resume q)). word_of_resume (what s u.from) r.0 r.1)
+            (λ (r : (q : ℕ) × (word_step s u.from ≡ resume q)). word_of_resume (word_step s u.from) r.0 r.1)
             (parted.begins i u there (omega (arith, inside.0, inside.1))).1,
       ))
       (λ not. let last : ℕ = v.upto - 1 in
@@ -87,7 +87,7 @@ module _ (s : EventOrder) (views : List View) (parted : Parted s views) (id : �
         sits.rest u.from g.0 (omega (arith, inside.0)) some_done g.1
 
     -- an event at p that is no resumption is not done yet
-    pub fresh_line : ((q : ℕ) → what s p ≡ resume q → ⊥) → (i : ℕ) (u : View) → get_elem? views i ≡ some u → In u p → ⊥
+    pub fresh_line : ((q : ℕ) → word_step s p ≡ resume q → ⊥) → (i : ℕ) (u : View) → get_elem? views i ≡ some u → In u p → ⊥
     fresh_line line i u there inside = dite (ℕ_discrete i id)
         (λ (same : i ≡ id). let is : u ≡ v = at_once views id u v (subst (λ k. get_elem? views k ≡ some u) same there) at in
         let f = sits.from some_done in
@@ -99,11 +99,11 @@ module _ (s : EventOrder) (views : List View) (parted : Parted s views) (id : �
         dite (ℕ_discrete u.from p)
         (λ (here : u.from ≡ p). ⊎_elim
         (λ (z : u.from ≡ 1). absurd (omega (arith, f.0, some_done)))
-        (λ (r : (q : ℕ) × (what s u.from ≡ resume q)). line r.0 (subst (λ k. what s k ≡ resume r.0) here r.1))
+        (λ (r : (q : ℕ) × (word_step s u.from ≡ resume q)). line r.0 (subst (λ k. word_step s k ≡ resume r.0) here r.1))
         (parted.begins i u there (omega (arith, inside.0, inside.1))).1)
         (λ (away : u.from ≢ p). sits.rest u.from g.0 (omega (arith, inside.0)) some_done g.1))
 
-    done_within : (q : ℕ) → a ≤ q → q < p → IsWord (what s q) → Done views q
+    done_within : (q : ℕ) → a ≤ q → q < p → IsWord (word_step s q) → Done views q
     done_within q le lt word = let f = sits.from some_done in
         dite (dec_lt q v.upto)
         (λ (in_v : q < v.upto). (id, v, at, (omega (arith, f.0), in_v)))
@@ -111,17 +111,17 @@ module _ (s : EventOrder) (views : List View) (parted : Parted s views) (id : �
 
     module _ (law : IsOrderly s) (cut : IsCut s (Done views)) where
       -- what comes before an event of the segment is done
-      pub reach : {q x : ℕ} → Before s q x → a ≤ x → x < p → IsWord (what s q) → Done views q
+      pub reach : {q x : ℕ} → Before s q x → a ≤ x → x < p → IsWord (word_step s q) → Done views q
       reach {q} {x} (direct there) le lt word = ⊎_elim
-          (λ (r : (k : ℕ) × (what s x ≡ resume k)). cut x q (done_within x le lt (word_of_resume (what s x) r.0 r.1)) (word_of_resume (what s x) r.0 r.1) word (direct there))
-          (λ (inner : (e : ℕ) → Among e (after s x) → a ≤ e). let lower = law.earlier x q there in done_within q (inner q there) (omega arith) word)
+          (λ (r : (k : ℕ) × (word_step s x ≡ resume k)). cut x q (done_within x le lt (word_of_resume (word_step s x) r.0 r.1)) (word_of_resume (word_step s x) r.0 r.1) word (direct there))
+          (λ (inner : (e : ℕ) → Among e (predecessors_of s x) → a ≤ e). let lower = law.earlier x q there in done_within q (inner q there) (omega arith) word)
           (sits.whole x le lt)
       reach {q} {x} (through {e = e} b there) le lt word = ⊎_elim
-          (λ (r : (k : ℕ) × (what s x ≡ resume k)). cut x q (done_within x le lt (word_of_resume (what s x) r.0 r.1)) (word_of_resume (what s x) r.0 r.1) word (through b there))
-          (λ (inner : (e : ℕ) → Among e (after s x) → a ≤ e). let lower = law.earlier x e there in reach b (inner e there) (omega arith) word)
+          (λ (r : (k : ℕ) × (word_step s x ≡ resume k)). cut x q (done_within x le lt (word_of_resume (word_step s x) r.0 r.1)) (word_of_resume (word_step s x) r.0 r.1) word (through b there))
+          (λ (inner : (e : ℕ) → Among e (predecessors_of s x) → a ≤ e). let lower = law.earlier x e there in reach b (inner e there) (omega arith) word)
           (sits.whole x le lt)
 
       -- what comes before the next event is done
-      pub ready_line : IsLine (what s p) → {q : ℕ} → IsWord (what s q) → Before s q p → Done views q
+      pub ready_line : IsLine (word_step s p) → {q : ℕ} → IsWord (word_step s q) → Before s q p → Done views q
       ready_line line {q} word (direct there) = let near = law.line p line q there in done_within q (omega arith) (omega arith) word
       ready_line line {q} word (through {e = e} b there) = let near = law.line p line e there in reach b (omega arith) (omega arith) word

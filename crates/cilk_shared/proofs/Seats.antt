@@ -21,33 +21,33 @@ use Rattle.cilk_shared.specs.Rule.{view, In, Done, IsStart, Parted, IsCut, Told,
 use Rattle.cilk_shared.specs.Rows.{spanned}
 use Rattle.cilk_shared.proofs.Sets.{shows_along, word_of_write, word_of_spawn, word_of_resume, word_of_finish}
 use Rattle.cilk_shared.proofs.Rows.{at_short, at_once, gap}
-use Rattle.cilk_tree.specs.Word.{plain, spawn, what, after, IsWord, finish, write, word}
+use Rattle.cilk_tree.specs.Word.{plain, spawn, word_step, predecessors_of, IsWord, finish, write, word}
 use Rattle.cilk_tree.specs.Reach.{Among, direct, through}
 use Rattle.cilk_tree.specs.Runs.{IsAsked, IsFollowed}
 use Rattle.cilk_tree.specs.Orders.{IsOrderly}
 use Rattle.cilk_tree.specs.Values.{HasValues}
 
 -- the same events are done
-module _ (s : EventOrder) (D E : ℕ → Type 0) (to : (q : ℕ) → IsWord (what s q) → D q → E q) (back : (q : ℕ) → IsWord (what s q) → E q → D q) where
+module _ (s : EventOrder) (D E : ℕ → Type 0) (to : (q : ℕ) → IsWord (word_step s q) → D q → E q) (back : (q : ℕ) → IsWord (word_step s q) → E q → D q) where
   pub cut_along : IsCut s D → IsCut s E
   cut_along cut p q e wp wq b = to q wq (cut p q (back p wp e) wp wq b)
 
   pub reached_along : HasReached s D → HasReached s E
   reached_along reached k word e = reached k word (back k word e)
 
-  cont_along : (p n : ℕ) → what s p ≡ spawn → Cont s D p n → Cont s E p n
-  cont_along p n is (inl a) = inl (a.0, λ e. a.1 (back p (word_of_spawn (what s p) is) e))
-  cont_along p n is (inr (inl a)) = inr (inl (a.0, to p (word_of_spawn (what s p) is) a.1, λ r is_r e. a.2 r is_r (back r (word_of_resume (what s r) p is_r) e)))
-  cont_along p n is (inr (inr a)) = inr (inr (a.0, to p (word_of_spawn (what s p) is) a.1, λ r is_r. to r (word_of_resume (what s r) p is_r) (a.2 r is_r)))
+  cont_along : (p n : ℕ) → word_step s p ≡ spawn → Cont s D p n → Cont s E p n
+  cont_along p n is (inl a) = inl (a.0, λ e. a.1 (back p (word_of_spawn (word_step s p) is) e))
+  cont_along p n is (inr (inl a)) = inr (inl (a.0, to p (word_of_spawn (word_step s p) is) a.1, λ r is_r e. a.2 r is_r (back r (word_of_resume (word_step s r) p is_r) e)))
+  cont_along p n is (inr (inr a)) = inr (inr (a.0, to p (word_of_spawn (word_step s p) is) a.1, λ r is_r. to r (word_of_resume (word_step s r) p is_r) (a.2 r is_r)))
 
   over_along : (n : ℕ) → Over s D n → Over s E n
-  over_along n (inl a) = inl (a.0, λ q is e. a.1 q is (back q (word_of_finish (what s q) is) e))
-  over_along n (inr a) = inr (a.0, λ q is. to q (word_of_finish (what s q) is) (a.1 q is))
+  over_along n (inl a) = inl (a.0, λ q is e. a.1 q is (back q (word_of_finish (word_step s q) is) e))
+  over_along n (inr a) = inr (a.0, λ q is. to q (word_of_finish (word_step s q) is) (a.1 q is))
 
   pub told_along : (words : List ℕ) → Told s D words → Told s E words
   told_along words t = record {
     wide = t.wide;
-    each_cell = λ c lt. shows_along s D E c (get_or words c 0) (λ q v d w. to q (word_of_write (what s q) c v w) d) (λ q v e w. back q (word_of_write (what s q) c v w) e) (t.each_cell c lt);
+    each_cell = λ c lt. shows_along s D E c (get_or words c 0) (λ q v d w. to q (word_of_write (word_step s q) c v w) d) (λ q v e w. back q (word_of_write (word_step s q) c v w) e) (t.each_cell c lt);
     over = over_along (get_or words (cells s) 0) t.over;
     each_spawn = λ p is. cont_along p (get_or words (cells s + p) 0) is (t.each_spawn p is);
   }
@@ -60,8 +60,8 @@ splits s id v t kept at =
     let old : (i : ℕ) (u : View) → get_elem? more i ≡ some u → u.from < u.upto → get_elem? t.views i ≡ some u = λ i u there some_done.
     ⊎_elim (λ x. x) (λ (is : beside v ≡ u). absurd (let none : u.upto ≡ 0 = ap (λ (y : View). y.upto) (sym is) in omega arith)) (at_snoc t.views (beside v) u i there) in
     let held : (i x : ℕ) (u : View) → get_elem? more i ≡ some u → In u x → get_elem? t.views i ≡ some u = λ i x u there inside. old i u there (omega (arith, inside.0, inside.1)) in
-    let to : (q : ℕ) → IsWord (what s q) → Done t.views q → Done more q = λ q _ d. (d.0, d.1, at_longer t.views (beside v ∷ []) d.0 d.1 d.2, d.3) in
-    let back : (q : ℕ) → IsWord (what s q) → Done more q → Done t.views q = λ q _ d. (d.0, d.1, held d.0 q d.1 d.2 d.3, d.3) in
+    let to : (q : ℕ) → IsWord (word_step s q) → Done t.views q → Done more q = λ q _ d. (d.0, d.1, at_longer t.views (beside v ∷ []) d.0 d.1 d.2, d.3) in
+    let back : (q : ℕ) → IsWord (word_step s q) → Done more q → Done t.views q = λ q _ d. (d.0, d.1, held d.0 q d.1 d.2 d.3, d.3) in
     subst (λ vs. Kept s (record { words = t.words; homes = t.homes; views = vs ++ beside v ∷ [] })) (sym same)
     (record {
       parted = record {
@@ -90,16 +90,16 @@ module _ (s : EventOrder) (views : List View) (parted : Parted s views) (id : �
   now_else : (i : ℕ) (u : View) → i ≢ id → i ≢ other → get_elem? views i ≡ some u → get_elem? (set (set views id b) other spent) i ≡ some u
   now_else i u n m e = set_else (set views id b) other i spent m ∙ (set_else views id i b n ∙ e)
 
-  module _ (covers : (x : ℕ) → In v x ⊎ In w x → In b x) (only : (x : ℕ) → IsWord (what s x) → In b x → In v x ⊎ In w x) (starts : b.from < b.upto → IsStart s b.from)
+  module _ (covers : (x : ℕ) → In v x ⊎ In w x → In b x) (only : (x : ℕ) → IsWord (word_step s x) → In b x → In v x ⊎ In w x) (starts : b.from < b.upto → IsStart s b.from)
       (alone : (x i : ℕ) (u : View) → In b x → i ≢ id → i ≢ other → get_elem? views i ≡ some u → In u x → ⊥) where
-    to : (q : ℕ) → IsWord (what s q) → Done views q → Done (set (set views id b) other spent) q
+    to : (q : ℕ) → IsWord (word_step s q) → Done views q → Done (set (set views id b) other spent) q
     to q _ (i, u, e, inside) = dite (ℕ_discrete i id)
         (λ (same : i ≡ id). (id, b, now_id, covers q (inl (subst (λ (y : View). In y q) (at_once views id u v (subst (λ k. get_elem? views k ≡ some u) same e) at) inside))))
         (λ (n : i ≢ id). dite (ℕ_discrete i other)
         (λ (same : i ≡ other). (id, b, now_id, covers q (inr (subst (λ (y : View). In y q) (at_once views other u w (subst (λ k. get_elem? views k ≡ some u) same e) there) inside))))
         (λ (m : i ≢ other). (i, u, now_else i u n m e, inside)))
 
-    back : (q : ℕ) → IsWord (what s q) → Done (set (set views id b) other spent) q → Done views q
+    back : (q : ℕ) → IsWord (word_step s q) → Done (set (set views id b) other spent) q → Done views q
     back q word (i, u, e, inside) = ⊎_elim
         (λ (k : (i ≡ id) × (b ≡ u)). ⊎_elim (λ (x : In v q). (id, v, at, x)) (λ (x : In w q). (other, w, there, x)) (only q word (subst (λ (y : View). In y q) (sym k.1) inside)))
         (λ (k : (i ≢ id) × (i ≢ other) × (get_elem? views i ≡ some u)). (i, u, k.2, inside))
@@ -151,7 +151,7 @@ module _ (s : EventOrder) (law : IsOrderly s) (v w : View) (a b c d : ℕ) (mine
   joins near id other t kept at apart there' =
       let there : get_elem? t.views other ≡ some w = ⊎_elim (λ (m : (other ≡ id) × (joined v w ≡ w)). absurd (apart m.0)) (λ (m : (other ≢ id) × (get_elem? t.views other ≡ some w)). m.1) (at_set t.views id other (joined v w) w there') in
       let Goal : View → Type 0 = λ u. Kept s (record { words = t.words; homes = t.homes; views = set (set t.views id u) other spent }) in
-      let make : (u : View) → ((x : ℕ) → In v x ⊎ In w x → In u x) → ((x : ℕ) → IsWord (what s x) → In u x → In v x ⊎ In w x) → (u.from < u.upto → IsStart s u.from) → ((x i : ℕ) (y : View) → In u x → i ≢ id → i ≢ other → get_elem? t.views i ≡ some y → In y x → ⊥) → Goal u
+      let make : (u : View) → ((x : ℕ) → In v x ⊎ In w x → In u x) → ((x : ℕ) → IsWord (word_step s x) → In u x → In v x ⊎ In w x) → (u.from < u.upto → IsStart s u.from) → ((x i : ℕ) (y : View) → In u x → i ≢ id → i ≢ other → get_elem? t.views i ≡ some y → In y x → ⊥) → Goal u
       = λ u covers only starts alone. kept_joined s t.views kept.parted id v at other w u apart there covers only starts alone t.words kept.cut kept.told kept.reached t.homes in
       let empty_v : v.upto ≤ v.from → Goal (joined v w) = λ e. subst Goal (sym (joined_left e)) (make (view v.event_order w.from w.upto)
       (λ x i. ⊎_elim (λ (m : In v x). absurd (omega (arith, m.0, m.1))) (λ (m : In w x). (m.0, m.1)) i)
@@ -205,7 +205,7 @@ spans s law v w a b c d mine theirs near = dite (dec_lt a b)
       rest = λ q le l _ word. theirs.rest q le l cd word;
       whole = λ x le l. dite (dec_lt x b)
           (λ (in_v : x < b). mine.whole x le in_v)
-          (λ no. ⊎_elim (λ r. inl r) (λ (r : (e : ℕ) → Among e (after s x) → c ≤ e). inr (λ e m. let low = r e m in omega arith)) (theirs.whole x (omega arith) l));
+          (λ no. ⊎_elim (λ r. inl r) (λ (r : (e : ℕ) → Among e (predecessors_of s x) → c ≤ e). inr (λ e m. let low = r e m in omega arith)) (theirs.whole x (omega arith) l));
       known = λ x le l. dite (dec_lt x b) (λ (in_v : x < b). mine.known x le in_v) (λ no. theirs.known x (omega arith) l);
     } in
     subst (λ (r : ℕ × ℕ). Sits s (joined v w) r.0 r.1) (sym (pair_both ab cd)) (subst (λ u. Sits s u a d) (sym (joined_both s law v w a b c d mine theirs lt lt')) it))
@@ -264,7 +264,7 @@ starts s law words is =
     let wide : length values ≡ length s.opening = length-map s.opening word in
     let only : (i : ℕ) (u : View) → get_elem? views i ≡ some u → (i ≡ 0) × (view s 1 2 ≡ u) = only_one (view s 1 2) in
     let one_done : (q : ℕ) → Done views q → q ≡ 1 = λ q d. first_in q (subst (λ (u : View). u.from ≤ q) (sym (only d.0 d.1 d.2).1) d.3.0) (subst (λ (u : View). q < u.upto) (sym (only d.0 d.1 d.2).1) d.3.1) in
-    let quiet : (q : ℕ) → Done views q → what s q ≡ plain = λ q d. ap (λ j. what s j) (one_done q d) ∙ law.root.0 in
+    let quiet : (q : ℕ) → Done views q → word_step s q ≡ plain = λ q d. ap (λ j. word_step s j) (one_done q d) ∙ law.root.0 in
     let past : (i : ℕ) → i < length s.events + 1 → get_or words (cells s + i) 0 ≡ 0 = λ i lt.
     ap (λ ws. get_or ws (cells s + i) 0) is ∙ ap (λ k. get_or (values ++ zeros) (k + i) 0) (sym wide) ∙ get_or-append-add values zeros i 0 ∙ get_or-replicate (length s.events + 1) i 0 0 lt in
     record {
@@ -281,7 +281,7 @@ starts s law words is =
         );
         over = inl ((let z : cells s ≡ cells s + 0 = omega arith in ap (λ i. get_or words i 0) z ∙ past 0 (omega arith)), λ q f d. absurd (let z : plain ≡ finish = sym (quiet q d) ∙ f in cc z));
         each_spawn = λ p at. inl (
-          past p (let i = (law.inside p (word_of_spawn (what s p) at)).1 in omega (arith, i)),
+          past p (let i = (law.inside p (word_of_spawn (word_step s p) at)).1 in omega (arith, i)),
           λ d. absurd (let z : plain ≡ spawn = sym (quiet p d) ∙ at in cc z),
         );
       };
@@ -293,7 +293,7 @@ starts s law words is =
     only_one v (suc i) u e = absurd (some-ne-none u (sym e))
 
 -- nothing comes before the first event
-none_first : (s : EventOrder) → IsOrderly s → (e : ℕ) → Among e (after s 1) → ⊥
+none_first : (s : EventOrder) → IsOrderly s → (e : ℕ) → Among e (predecessors_of s 1) → ⊥
 none_first s law e there = law.none_ahead e there
 
 up_first : (s : EventOrder) → IsOrderly s → HasValues s → IsFollowed s 1
@@ -307,7 +307,7 @@ first_sits s law values = record {
   empty = λ e. e;
   from = λ _. (refl, omega arith, omega arith);
   rest = λ q le lt _ _. omega arith;
-  whole = λ x le lt. inr (λ e there. absurd (none_first s law e (subst (λ j. Among e (after s j)) (first_in x le lt) there)));
+  whole = λ x le lt. inr (λ e there. absurd (none_first s law e (subst (λ j. Among e (predecessors_of s j)) (first_in x le lt) there)));
   known = λ x le lt. subst (λ j. IsFollowed s j) (sym (first_in x le lt)) (up_first s law values);
 }
 
@@ -318,10 +318,10 @@ whole_run s law me same n sits all some_done id t kept at c small =
     shows_along s (Done t.views) (λ q. Unit {0}) c (get_or t.words c 0)
     (λ q v d w. tt)
     (λ q v _ w.
-    let step : IsWord (what s q) = word_of_write (what s q) c v w in
+    let step : IsWord (word_step s q) = word_of_write (word_step s q) c v w in
     let low = law.inside q step in
     let f = sits.from some_done in
     dite (dec_lt q me.0.upto)
     (λ (lt : q < me.0.upto). (id, me.0, at, (omega (arith, f.0, low.0), lt)))
-    (λ no. absurd (sits.rest q (omega arith) (omega (arith, low.1)) some_done (subst (λ z. IsWord (what z q)) (sym same) step))))
+    (λ no. absurd (sits.rest q (omega arith) (omega (arith, low.1)) some_done (subst (λ z. IsWord (word_step z q)) (sym same) step))))
     (kept.told.each_cell c small)

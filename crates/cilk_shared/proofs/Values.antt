@@ -20,7 +20,7 @@ use Rattle.cilk_tree.specs.Races.{event_at, Writes}
 use Rattle.cilk_tree.specs.Sources.{last_write, IsLastWrite}
 use Rattle.cilk_tree.proofs.Sources.{sources_last}
 use Rattle.cilk_tree.specs.declared.event_order.EventOrder.{EventOrder}
-use Rattle.cilk_tree.specs.Word.{after, read, write, word, what}
+use Rattle.cilk_tree.specs.Word.{predecessors_of, read, write, word, word_step}
 use Rattle.cilk_tree.specs.Orders.{IsOrderly}
 use Rattle.cilk_tree.specs.Runs.{IsFollowed}
 use Rattle.cilk_tree.specs.Values.{HasValue, HasValues}
@@ -28,8 +28,8 @@ use Rattle.cilk_tree.proofs.Events.{read_event, write_event, write_what}
 use Rattle.cilk_shared.specs.Rule.{Shows}
 use Rattle.cilk_shared.proofs.Sets.{shows_once, shows_along, word_of_read, word_of_write}
 
-writes_at : (s : EventOrder) (q c n : ℕ) → what s q ≡ write c n → Writes (event_at s.events q) c
-writes_at s q c n is = let w = write_event s.events q (event_at s.events q) (after s q) c n is in subst (λ (o : Option Event). Writes o c) (sym w.1) refl
+writes_at : (s : EventOrder) (q c n : ℕ) → word_step s q ≡ write c n → Writes (event_at s.events q) c
+writes_at s q c n is = let w = write_event s.events q (event_at s.events q) (predecessors_of s q) c n is in subst (λ (o : Option Event). Writes o c) (sym w.1) refl
 
 last_is : (s : EventOrder) (c n : ℕ) → IsLastWrite s.events c (suc n) (last_write s.events c n)
 last_is s c n = let z : suc n - 1 ≡ n = omega arith in subst (λ (k : ℕ). IsLastWrite s.events c (suc n) (last_write s.events c k)) z (sources_last s.events c (suc n) (omega arith))
@@ -40,19 +40,19 @@ shows_value s law c n v h = by (last_write s.events c n) refl
     by : (m : ℕ) → last_write s.events c n ≡ m → Shows s (λ q. q < suc n) c (word v)
     by zero e = inl (
       ap word (h.opened e),
-      λ q w lt is. (let low = (law.inside q (word_of_write (what s q) c w is)).0 in (last_is s c n).last q (omega (arith, e, low)) lt (writes_at s q c w is)),
+      λ q w lt is. (let low = (law.inside q (word_of_write (word_step s q) c w is)).0 in (last_is s c n).last q (omega (arith, e, low)) lt (writes_at s q c w is)),
     )
     by (suc k) e = inr (
       suc k,
       (let l = (last_is s c n).earlier in omega (arith, e, l)),
-      write_what s.events (suc k) (event_at s.events (suc k)) (after s (suc k)) c v (h.written k e),
+      write_what s.events (suc k) (event_at s.events (suc k)) (predecessors_of s (suc k)) c v (h.written k e),
       λ r w lt is. dite (dec_le r (suc k)) (λ (le : r ≤ suc k). le) (λ no. absurd ((last_is s c n).last r (omega (arith, e)) lt (writes_at s r c w is))),
     )
 
-pub reads_shows : (s : EventOrder) → IsOrderly s → HasValues s → (p c n : ℕ) → IsFollowed s p → what s p ≡ read c n → Shows s (λ q. q < p) c n
+pub reads_shows : (s : EventOrder) → IsOrderly s → HasValues s → (p c n : ℕ) → IsFollowed s p → word_step s p ≡ read c n → Shows s (λ q. q < p) c n
 reads_shows s law values p c n up is =
-    let r = read_event s.events p (event_at s.events p) (after s p) c n is in
-    let low = (law.inside p (word_of_read (what s p) c n is)).0 in
+    let r = read_event s.events p (event_at s.events p) (predecessors_of s p) c n is in
+    let low = (law.inside p (word_of_read (word_step s p) c n is)).0 in
     let z : suc (p - 1) ≡ p = omega (arith, low) in
     subst (λ (k : ℕ). Shows s (λ q. q < k) c n) z
     (subst (λ (x : ℕ). Shows s (λ q. q < suc (p - 1)) c x) r.2 (shows_value s law c (p - 1) r.0 (values.reads p c r.0 up r.1)))
@@ -93,7 +93,7 @@ final_value s law values c n shows =
     let x = valued s values c (length s.events) in
     let all : Shows s (λ q. Unit {0}) c (word x.0) = shows_along s (λ q. q < suc (length s.events)) (λ q. Unit {0}) c (word x.0)
     (λ q v lt w. tt)
-    (λ q v _ w. (let i = (law.inside q (word_of_write (what s q) c v w)).1 in omega (arith, i)))
+    (λ q v _ w. (let i = (law.inside q (word_of_write (word_step s q) c v w)).1 in omega (arith, i)))
     (shows_value s law c (length s.events) x.0 x.1) in
     subst (λ (v : ℤ). HasValue s c (length s.events) v) (sym (read_back x.0 n x.2 (shows_once s (λ q. Unit {0}) c (word x.0) n all shows))) x.1
 

@@ -7,7 +7,7 @@ use Rattle.cilk_monoid.specs.Ranges.{Mentions, Resets}
 use Rattle.cilk_tree.specs.Planned.{planned}
 use Rattle.cilk_tree.specs.Reach.{Among, direct, through}
 use Rattle.cilk_tree.specs.declared.event_order.EventOrder.{EventOrder}
-use Rattle.cilk_tree.specs.Word.{after, event, what, Before, plain, spawn, word_event}
+use Rattle.cilk_tree.specs.Word.{predecessors_of, event, word_step, Before, plain, spawn, word_event}
 use Rattle.cilk_shared.specs.Reducers.{events_at, frame_in, of_event}
 use Rattle.cilk_shared.specs.Settled.{Settles}
 use Rattle.cilk_shared.specs.Worked.{two_updates, one_sum, TwoUpdatesAreSettled}
@@ -54,7 +54,7 @@ mention_low i zero h = absurd h
 mention_low i (suc zero) h = absurd h
 mention_low i (suc (suc n)) h = omega arith
 
-one : {q p : ℕ} → Among q (after s p) → Before s q p
+one : {q p : ℕ} → Among q (predecessors_of s p) → Before s q p
 one h = direct h
 
 before_11 : (x : ℕ) → 2 ≤ x → x < 11 → Before s x 11
@@ -98,7 +98,7 @@ settled_at p x q i m st le lt =
     e)
     (settles_where i q st)
 
-begins_at : (k : ℕ) → what s k ≡ spawn → what s (k + 1) ≡ plain
+begins_at : (k : ℕ) → word_step s k ≡ spawn → word_step s (k + 1) ≡ plain
 begins_at zero e = absurd (cc e)
 begins_at (suc zero) e = absurd (cc e)
 begins_at (suc (suc zero)) e = absurd (cc e)
@@ -113,7 +113,7 @@ begins_at (suc (suc (suc (suc (suc (suc (suc (suc (suc (suc zero)))))))))) e = a
 begins_at (suc (suc (suc (suc (suc (suc (suc (suc (suc (suc (suc zero))))))))))) e = absurd (cc e)
 begins_at (suc (suc (suc (suc (suc (suc (suc (suc (suc (suc (suc (suc zero)))))))))))) e = absurd (cc e)
 begins_at (suc (suc (suc (suc (suc (suc (suc (suc (suc (suc (suc (suc (suc zero))))))))))))) e = absurd (cc e)
-begins_at (suc (suc (suc (suc (suc (suc (suc (suc (suc (suc (suc (suc (suc (suc n)))))))))))))) e = let none_there : plain ≡ spawn = ap (λ (o : Option Event). word_event two_updates (suc (suc (suc (suc (suc (suc (suc (suc (suc (suc (suc (suc (suc (suc n)))))))))))))) o (after s (suc (suc (suc (suc (suc (suc (suc (suc (suc (suc (suc (suc (suc (suc n)))))))))))))))) (sym (past n)) ∙ e in absurd (cc none_there)
+begins_at (suc (suc (suc (suc (suc (suc (suc (suc (suc (suc (suc (suc (suc (suc n)))))))))))))) e = let none_there : plain ≡ spawn = ap (λ (o : Option Event). word_event two_updates (suc (suc (suc (suc (suc (suc (suc (suc (suc (suc (suc (suc (suc (suc n)))))))))))))) o (predecessors_of s (suc (suc (suc (suc (suc (suc (suc (suc (suc (suc (suc (suc (suc (suc n)))))))))))))))) (sym (past n)) ∙ e in absurd (cc none_there)
 
 pub two_updates_are_settled : TwoUpdatesAreSettled
 two_updates_are_settled = record { settled = settled_at; begins = begins_at }

@@ -2,7 +2,7 @@
 use Rattle.std.specs.Prelude.{◌≡◌, ℕ, ◌+◌, slice_index}
 use Rattle.atomic_table.specs.Table.{State}
 use Rattle.cilk_tree.specs.declared.event_order.EventOrder.{EventOrder}
-use Rattle.cilk_tree.specs.Word.{spawn, resume, what}
+use Rattle.cilk_tree.specs.Word.{spawn, resume, word_step}
 use Rattle.cilk_shared.specs.declared.view.View.{View}
 use Rattle.cilk_shared.specs.Rule.{cells, Done, Kept}
 
@@ -10,5 +10,5 @@ use Rattle.cilk_shared.specs.Rule.{cells, Done, Kept}
 -- is 1: the next thread that takes it gets it.
 abbrev pub UntakenIsOpen : Type 0
 UntakenIsOpen =
-    (s : EventOrder) (t : State (Unit {0}) View) (k p : ℕ) → Kept s t → what s k ≡ spawn → what s p ≡ resume k
+    (s : EventOrder) (t : State (Unit {0}) View) (k p : ℕ) → Kept s t → word_step s k ≡ spawn → word_step s p ≡ resume k
     → Done t.views k → (Done t.views p → ⊥) → slice_index t.words (cells s + k) ≡ 1

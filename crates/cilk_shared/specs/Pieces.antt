@@ -12,7 +12,7 @@ use Rattle.cilk_shared.specs.Values.{YardValue, SegmentValue, OfYard, moved_on, 
 use Rattle.cilk_shared.specs.declared.taken.Taken.{Taken}
 use Rattle.cilk_shared.specs.declared.taken.Taken.TheVariants.{Yes, No}
 use Rattle.cilk_tree.specs.declared.event_order.EventOrder.{EventOrder}
-use Rattle.cilk_tree.specs.Word.{event, what, resume}
+use Rattle.cilk_tree.specs.Word.{event, word_step, resume}
 use Rattle.cilk_shared.specs.declared.reducers.Reducers.{Reducers}
 use Rattle.cilk_shared.specs.Reducers.{kind_in, events_over}
 use Rattle.cilk_shared.specs.Settled.{AreSettled}
@@ -66,7 +66,7 @@ Adjoining p q = Adjoin (segment_of p) (segment_of q)
 
 -- the continuation of the spawn at k is taken and p has become q, or nothing has changed
 abbrev pub IsPieceTaken : YardValue → PieceValue → ℕ → PieceValue → Taken → Type 0
-IsPieceTaken y p k q Yes = (at : ℕ) × (what y.event_order at ≡ resume k) × (q ≡ piece_of p.reducers (taken_at (segment_of p) at))
+IsPieceTaken y p k q Yes = (at : ℕ) × (word_step y.event_order at ≡ resume k) × (q ≡ piece_of p.reducers (taken_at (segment_of p) at))
 IsPieceTaken y p k q No = q ≡ p
 
 -- this is the piece's next event, the frame requests it, and it is no step on a shared word

@@ -4,7 +4,7 @@ use Rattle.cilk_types.specs.declared.event.Event.TheVariants.{Value}
 use Rattle.cilk_types.specs.declared.event.Instance.{Instance}
 use Rattle.cilk_monoid.specs.Ranges.{Mentions, Resets}
 use Rattle.cilk_tree.specs.declared.event_order.EventOrder.{EventOrder}
-use Rattle.cilk_tree.specs.Word.{event, what, Before, plain, spawn}
+use Rattle.cilk_tree.specs.Word.{event, word_step, Before, plain, spawn}
 use Rattle.cilk_shared.specs.declared.reducers.Reducers.{Reducers}
 use Rattle.cilk_shared.specs.Reducers.{events_at}
 
@@ -18,4 +18,4 @@ Settles s r q i = ((v : ℤ) × (event s q ≡ Some (Value i v))) ⊎ Resets i (
 pub record AreSettled (s : EventOrder) (r : Reducers) : Type 0 where
   pub settled : (p x q : ℕ) (i : Instance) → Mentions i (events_at s r p) → Settles s r q i → p ≤ x → x < q → Before s x q
   -- the child begins right after its spawn
-  pub begins : (k : ℕ) → what s k ≡ spawn → what s (k + 1) ≡ plain
+  pub begins : (k : ℕ) → word_step s k ≡ spawn → word_step s (k + 1) ≡ plain

@@ -4,7 +4,7 @@ use Rattle.atomic_table.specs.Seated.{TableId}
 use Rattle.cilk_types.specs.declared.event.Event.TheVariants.{Read, Write}
 use Rattle.cilk_tree.specs.Reach.{Among}
 use Rattle.cilk_tree.specs.declared.event_order.EventOrder.{EventOrder}
-use Rattle.cilk_tree.specs.Word.{event, what, after, plain, spawn, resume, finish}
+use Rattle.cilk_tree.specs.Word.{event, word_step, predecessors_of, plain, spawn, resume, finish}
 use Rattle.cilk_tree.specs.Runs.{IsAsked}
 use Rattle.cilk_shared.specs.declared.taken.Taken.{Taken}
 use Rattle.cilk_shared.specs.declared.taken.Taken.TheVariants.{Yes, No}
@@ -42,16 +42,16 @@ NextWrite y g c v = GoesOn y g × (c < length y.event_order.opening) × (event y
 
 -- the next event of the segment is a spawn
 abbrev pub NextSpawn : YardValue → SegmentValue → Type 0
-NextSpawn y g = GoesOn y g × (what y.event_order g.upto ≡ spawn)
+NextSpawn y g = GoesOn y g × (word_step y.event_order g.upto ≡ spawn)
 
 -- the next event of the segment is the root's `end`
 abbrev pub NextFinish : YardValue → SegmentValue → Type 0
-NextFinish y g = GoesOn y g × (what y.event_order g.upto ≡ finish)
+NextFinish y g = GoesOn y g × (word_step y.event_order g.upto ≡ finish)
 
 -- The segment is empty, or the `resume` after the spawn at k is its next event, as it is after the
 -- `end` of the spawned child. If there is no spawn at k, there is no such event.
 abbrev pub CanTake : YardValue → SegmentValue → ℕ → Type 0
-CanTake y g k = (p : ℕ) → what y.event_order p ≡ resume k → IsAsked y.event_order p × ((g.upto ≤ g.from) ⊎ ((g.from < g.upto) × (p ≡ g.upto)))
+CanTake y g k = (p : ℕ) → word_step y.event_order p ≡ resume k → IsAsked y.event_order p × ((g.upto ≤ g.from) ⊎ ((g.from < g.upto) × (p ≡ g.upto)))
 
 -- the segment continued at p
 abbrev pub taken_at : SegmentValue → ℕ → SegmentValue
@@ -59,16 +59,16 @@ taken_at g p = record { of = g.of; event_order = g.event_order; from = cond (nat
 
 -- the continuation of the spawn at k is taken and g has become h, or nothing has changed
 abbrev pub IsTaken : YardValue → SegmentValue → ℕ → SegmentValue → Taken → Type 0
-IsTaken y g k h Yes = (p : ℕ) × (what y.event_order p ≡ resume k) × (h ≡ taken_at g p)
+IsTaken y g k h Yes = (p : ℕ) × (word_step y.event_order p ≡ resume k) × (h ≡ taken_at g p)
 IsTaken y g k h No = h ≡ g
 
 -- the immediate predecessors of the next event are not before the start of the segment
 abbrev pub HoldsPreceding : SegmentValue → Type 0
-HoldsPreceding g = (e : ℕ) → Among e (after g.event_order g.upto) → g.from ≤ e
+HoldsPreceding g = (e : ℕ) → Among e (predecessors_of g.event_order g.upto) → g.from ≤ e
 
 -- there is a next event, it is no step on a word, and its immediate predecessors are in the segment
 abbrev pub MayPass : SegmentValue → Type 0
-MayPass g = (g.from < g.upto) × (g.upto ≤ length g.event_order.events) × (what g.event_order g.upto ≡ plain) × HoldsPreceding g
+MayPass g = (g.from < g.upto) × (g.upto ≤ length g.event_order.events) × (word_step g.event_order g.upto ≡ plain) × HoldsPreceding g
 
 -- and the frame requests it
 abbrev pub CanPass : SegmentValue → Type 0
@@ -76,7 +76,7 @@ CanPass g = MayPass g × IsAsked g.event_order g.upto
 
 -- the segment isn't empty, and its next event isn't the `resume` after a spawn
 abbrev pub IsAhead : SegmentValue → Type 0
-IsAhead g = (g.from < g.upto) × ((k : ℕ) → what g.event_order g.upto ≢ resume k)
+IsAhead g = (g.from < g.upto) × ((k : ℕ) → word_step g.event_order g.upto ≢ resume k)
 
 abbrev pub empty_beside : SegmentValue → SegmentValue
 empty_beside g = record { of = g.of; event_order = g.event_order; from = 0; upto = 0 }

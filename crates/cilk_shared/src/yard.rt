@@ -6,7 +6,7 @@ ghost use Rattle.cilk_tree.specs.declared.event_order.EventOrder.{EventOrder};
 ghost use Rattle.cilk_tree.specs.Orders.{IsOrderly};
 ghost use Rattle.cilk_tree.specs.Values.{HasValues, AreFinal};
 ghost use Rattle.cilk_tree.specs.Runs.{IsFollowed};
-ghost use Rattle.cilk_tree.specs.Word.{event, resume, what};
+ghost use Rattle.cilk_tree.specs.Word.{event, resume, word_step};
 ghost use Rattle.cilk_tree.specs.Along.{IsAlong};
 ghost use Rattle.cilk_tree.specs.Resumptions.{AreResumptions};
 ghost use Rattle.cilk_shared.specs.Rows.{spanned};
@@ -260,7 +260,7 @@ impl Yard {
     /// Returns the position of the `resume` after the spawn at `ticket`, or `None` if the plan has
     /// no spawn there.
     pub fn resumption(&self, ticket: Pos) -> Option<Pos>
-        ensures { (p : ℕ) → (result ≡ Some p) ↔ (what self.now.event_order p ≡ resume ticket) }
+        ensures { (p : ℕ) → (result ≡ Some p) ↔ (word_step self.now.event_order p ≡ resume ticket) }
     {
         let at = entry(self.resumptions.as_slice(), ticket as usize);
         if at == 0 { None } else { Some(at) }

@@ -2,7 +2,7 @@
 
 ghost use Rattle.std.specs.Prelude.{◌≡◌, ◌↔◌, ℕ, ◌<◌, length, IfSome, IsSome, IsTrue};
 ghost use Rattle.cilk_tree.specs.Runs.{IsAsked};
-ghost use Rattle.cilk_tree.specs.Word.{event, resume, what};
+ghost use Rattle.cilk_tree.specs.Word.{event, resume, word_step};
 ghost use Rattle.cilk_tree.specs.Along.{IsAlong};
 ghost use Rattle.cilk_shared.specs.Values.{CanTake, IsTaken, OfYard};
 ghost use Rattle.cilk_thread_tests.specs.Settings.{AreOf};
@@ -110,7 +110,7 @@ pub fn take(yard: &Yard, asked: &[bool], segment: &mut Segment, ticket: Pos) -> 
     requires asked { asked.now ≡ yard.now.event_order.asked }
     ensures yard { OfYard yard.now segment.new }
     ensures tried { IfSome result (λ taken. IsTaken yard.now segment.old ticket segment.new taken) }
-    ensures untried { (p : ℕ) → what yard.now.event_order p ≡ resume ticket → CanTake yard.now segment.old ticket → IsSome result }
+    ensures untried { (p : ℕ) → word_step yard.now.event_order p ≡ resume ticket → CanTake yard.now segment.old ticket → IsSome result }
 {
     let at = yard.resumption(ticket)?;
     let goes_on = segment.from() < segment.upto();
@@ -163,7 +163,7 @@ fn is_asked(yard: &Yard, asked: &[bool], at: Pos) -> bool
 // Whether the event at a position is the `resume` after a spawn.
 fn yard_resumes(yard: &Yard, plan: &Plan, at: Pos) -> bool
     requires { IsAlong plan.now yard.now.event_order }
-    ensures { (k : ℕ) → what yard.now.event_order at ≡ resume k → IsTrue result }
+    ensures { (k : ℕ) → word_step yard.now.event_order at ≡ resume k → IsTrue result }
 {
     plan.resumed_by(at).is_some()
 }

@@ -13,7 +13,7 @@ use Rattle.cilk_monoid.specs.Ranges.{Mentions, Resets}
 use Rattle.cilk_hypermap.specs.Views.{output}
 use Rattle.cilk_tree.specs.Reach.{Reaches}
 use Rattle.cilk_tree.specs.declared.mark.Mark.TheVariants as mark
-use Rattle.cilk_tree.specs.Word.{WordEvent, plain, read, write, spawn, resume, finish, word_event, event, after, what, Before, IsWord}
+use Rattle.cilk_tree.specs.Word.{WordEvent, plain, read, write, spawn, resume, finish, word_event, event, predecessors_of, word_step, Before, IsWord}
 use Rattle.cilk_tree.proofs.Events.{mark_at, spawn_mark}
 use Rattle.cilk_tree.specs.declared.kind.Kind.{Kind}
 use Rattle.cilk_tree.specs.declared.kind.Kind.TheVariants as kinds
@@ -132,13 +132,13 @@ along_settled plan s r along h = record {
     kind_at : (p : ℕ) → option_map kind_of (event s p) ≡ option_map kind_of (event plan p)
     kind_at p = sym (slice_get-map kind_of s.events (p - 1)) ∙ ap (λ (ks : List Kind). slice_get ks (p - 1)) along.kinds ∙ slice_get-map kind_of plan.events (p - 1)
 
-    spawn_at : (k : ℕ) → what s k ≡ spawn → what plan k ≡ spawn
+    spawn_at : (k : ℕ) → word_step s k ≡ spawn → word_step plan k ≡ spawn
     spawn_at k e =
-        let is = a_spawn (event s k) (spawn_mark s.events k (event s k) (after s k) e) in
-        spawned plan.events k (event plan k) (after plan k) is.0 (sym (kind_at k) ∙ ap (option_map kind_of) is.1)
+        let is = a_spawn (event s k) (spawn_mark s.events k (event s k) (predecessors_of s k) e) in
+        spawned plan.events k (event plan k) (predecessors_of plan k) is.0 (sym (kind_at k) ∙ ap (option_map kind_of) is.1)
 
-    plain_at : (k : ℕ) → what plan k ≡ plain → what s k ≡ plain
-    plain_at k e = no_word (what s k) (λ h. subst IsWord e (was_word plan s along k h))
+    plain_at : (k : ℕ) → word_step plan k ≡ plain → word_step s k ≡ plain
+    plain_at k e = no_word (word_step s k) (λ h. subst IsWord e (was_word plan s along k h))
 
     before : (x q : ℕ) → Before plan x q → Before s x q
     before x q b = subst (λ (f : ℕ → List ℕ). Reaches f x q) (sym (afters plan s along)) b

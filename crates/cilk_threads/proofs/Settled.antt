@@ -37,7 +37,7 @@ use Rattle.cilk_peers.specs.Peers.{SamePeers}
 use Rattle.cilk_peers.specs.ViewRaces.{ReadsReducer, UsesReducer, HasNoViewRace, AreCreatedBeforeUse}
 use Rattle.cilk_peers.proofs.Frames.{frames_keep_peers}
 use Rattle.cilk_tree.specs.declared.event_order.EventOrder.{EventOrder}
-use Rattle.cilk_tree.specs.Word.{event, after, what, Before, plain, spawn}
+use Rattle.cilk_tree.specs.Word.{event, predecessors_of, word_step, Before, plain, spawn}
 use Rattle.cilk_tree.proofs.Events.{mark_at, spawn_mark, begin_what}
 use Rattle.cilk_tree.specs.Planned.{planned}
 use Rattle.cilk_tree.proofs.Passed.{gives_predecessors}
@@ -417,8 +417,8 @@ module _ (p : Source) (inputs : List ℤ) (run : Transcript) (es : List numbers.
       (λ (e : output ≡ i). absurd (no_output made.place (made.is ∙ ap (λ (k : numbered.Instance). Some (events.Create k)) (sym e))))
       (mention_made b i low (event_at es b) refl m)
 
-  begins_at : (k : ℕ) → what s k ≡ spawn → what s (k + 1) ≡ plain
-  begins_at k e = begin_what es (k + 1) (event s (k + 1)) (after s (k + 1)) (spawn_next shape es spells k (spawn_mark es k (event s k) (after s k) e))
+  begins_at : (k : ℕ) → word_step s k ≡ spawn → word_step s (k + 1) ≡ plain
+  begins_at k e = begin_what es (k + 1) (event s (k + 1)) (predecessors_of s (k + 1)) (spawn_next shape es spells k (spawn_mark es k (event s k) (predecessors_of s k) e))
 
 pub runs_settled : RaceFreeRunsAreSettled
 runs_settled p inputs run es outcome opening shape r well runs spells free table = record {

@@ -55,7 +55,7 @@ ReadsNow ls r i = ReadsViewAt ls r (retirements ls r i)
 abbrev Keeps : Tree → List Line → ℕ → ℕ → Option Birth → Type 0
 Keeps t ls i r o = AreReads (ReadsNow ls r i) (class_at t ls) i o
 
--- the same lifetime goes on
+-- the same lifetime continues
 abbrev Kept : Tree → List Line → ℕ → ℕ → Option Birth → Type 0
 Kept t ls i r o = AreReads (ReadsNow ls r i) (class_at t ls) (suc i) o
 

@@ -61,7 +61,7 @@ survey_next ls l here old new v suits kept noted_is count few le last =
       few = omega (arith, a, c, count, few);
     }
 
--- where a reducer's line may not come, no trace goes on with it
+-- where a reducer's line may not come, no trace continues with it
 pub misplaced : (ls more : List Line) (l : Line) (v : Survey) → IsSurvey ls v → (Suits l (alive_in v.births) → ⊥) → IsTrace (ls ++ l ∷ more) → ⊥
 misplaced ls more l v s n t =
     n (suits_along l (is_alive (ls ++ l ∷ more) (length ls)) (alive_in v.births)

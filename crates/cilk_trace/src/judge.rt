@@ -39,7 +39,7 @@ pub enum Judged {
 
 /// The second reading so far: its structure, both passes, and the first race of accesses.
 ///
-/// It goes on after a race, so that a trace is judged only where its structure is the one that was
+/// It continues after a race, so that a trace is judged only where its structure is the one that was
 /// surveyed. Memory: 16 bytes a cell, 24 for each reducer that is alive, and a byte a mark.
 #[derive(Drop)]
 pub struct Judge<'a> {

@@ -13,7 +13,7 @@ pub fn structures_keep_marks()
     ensures { KeepsMarks }
 {}
 
-/// No trace begins with lines of which one is refused.
+/// No trace begins with lines that hold a refused one.
 pub fn no_trace_is_refused()
     ensures { RefusesNoTrace }
 {}

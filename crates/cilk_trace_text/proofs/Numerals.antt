@@ -73,7 +73,7 @@ at_end i value ds le same = sym same ∙ rw (drop_all i ds le) refl
 pub too_large : (n i value : ℕ) (ds : List ℕ) → n < 2 ^ 32 → 4294967295 < value → read_on value (drop i ds) ≡ read_on 0 ds → ds ≡ decimal n → ⊥
 too_large n i value ds h large same e = absurd (omega (arith, h, large, same, read_on_grows value (drop i ds), value_is n ds (omega arith) e))
 
--- digits of which the first isn't 0
+-- digits that don't begin with 0
 pub spells : (i value : ℕ) (ds : List ℕ) → value ≤ 4294967295 → length ds ≤ i → (length ds ≡ 0 → ⊥) → (get_or ds 0 0 ≡ 48 → ⊥) → all_ascii_digits (drop i ds) ≡ all_ascii_digits ds → read_on value (drop i ds) ≡ read_on 0 ds → ds ≡ decimal value
 spells i value ds h le long first digits same =
     let is : read_on 0 ds ≡ value = at_end i value ds le same in

@@ -18,7 +18,7 @@ use Rattle.cilk_types.specs.declared.event.Event.TheVariants as events
 use Rattle.cilk_tree.specs.Races.{event_at}
 use Rattle.cilk_tree.specs.Reach.{Among, Reaches, direct, through}
 use Rattle.cilk_tree.specs.declared.event_order.EventOrder.{EventOrder}
-use Rattle.cilk_tree.specs.Word.{WordEvent, plain, read, write, spawn, resume, finish, is_spawn, resumption, word_event, event, after, Before, what, IsWord, IsLine, Conflict}
+use Rattle.cilk_tree.specs.Word.{WordEvent, plain, read, write, spawn, resume, finish, is_spawn, resumption, word_event, event, predecessors_of, Before, word_step, IsWord, IsLine, Conflict}
 use Rattle.cilk_tree.specs.Orders.{IsOrderly}
 use Rattle.cilk_tree.specs.Runs.{IsAsked, IsReached}
 use Rattle.cilk_tree.specs.declared.kind.Kind.{Kind}
@@ -98,10 +98,10 @@ bare_is es p (Some (events.Print v)) ps = refl
 abbrev bare_at : List Kind → List (List ℕ) → ℕ → WordEvent
 bare_at ks pre p = bare_of ks p (slice_get ks (p - 1)) (slice_index_or pre (p - 1) [])
 
-bare_what : (s : EventOrder) (p : ℕ) → bare (what s p) ≡ bare_at (map kind_of s.events) s.preceding p
+bare_what : (s : EventOrder) (p : ℕ) → bare (word_step s p) ≡ bare_at (map kind_of s.events) s.preceding p
 bare_what s p =
-    bare_is s.events p (event s p) (after s p)
-    ∙ ap (λ (o : Option Kind). bare_of (map kind_of s.events) p o (after s p)) (sym (slice_get-map kind_of s.events (p - 1)))
+    bare_is s.events p (event s p) (predecessors_of s p)
+    ∙ ap (λ (o : Option Kind). bare_of (map kind_of s.events) p o (predecessors_of s p)) (sym (slice_get-map kind_of s.events (p - 1)))
 
 -- ---- and back
 abbrev HasNoValue : WordEvent → Type 0
@@ -174,48 +174,48 @@ sync_of o h = absurd (cc h)
 
 -- ---- an event order along a plan
 module _ (plan s : EventOrder) (along : IsAlong plan s) where
-  same : (p : ℕ) → bare (what s p) ≡ bare (what plan p)
+  same : (p : ℕ) → bare (word_step s p) ≡ bare (word_step plan p)
   same p =
       bare_what s p
       ∙ ap (λ (ks : List Kind). bare_at ks s.preceding p) along.kinds
       ∙ ap (λ (pre : List (List ℕ)). bare_at (map kind_of plan.events) pre p) along.preceding
       ∙ sym (bare_what plan p)
 
-  here : (p : ℕ) (x : WordEvent) → HasNoValue x → bare x ≡ x → what plan p ≡ x → what s p ≡ x
-  here p x n b h = bare_alone (what s p) x (same p ∙ ap bare h ∙ b) n
+  here : (p : ℕ) (x : WordEvent) → HasNoValue x → bare x ≡ x → word_step plan p ≡ x → word_step s p ≡ x
+  here p x n b h = bare_alone (word_step s p) x (same p ∙ ap bare h ∙ b) n
 
-  there : (p : ℕ) (x : WordEvent) → HasNoValue x → bare x ≡ x → what s p ≡ x → what plan p ≡ x
-  there p x n b h = bare_alone (what plan p) x (sym (same p) ∙ ap bare h ∙ b) n
+  there : (p : ℕ) (x : WordEvent) → HasNoValue x → bare x ≡ x → word_step s p ≡ x → word_step plan p ≡ x
+  there p x n b h = bare_alone (word_step plan p) x (sym (same p) ∙ ap bare h ∙ b) n
 
-  pub same_resume : (p q : ℕ) → (what s p ≡ resume q) ↔ (what plan p ≡ resume q)
+  pub same_resume : (p q : ℕ) → (word_step s p ≡ resume q) ↔ (word_step plan p ≡ resume q)
   same_resume p q = (there p (resume q) tt refl, here p (resume q) tt refl)
 
-  pub afters : after s ≡ after plan
+  pub afters : predecessors_of s ≡ predecessors_of plan
   afters = ap (λ (pre : List (List ℕ)). (λ (p : ℕ). slice_index_or pre (p - 1) [])) along.preceding
 
   pub many : length s.events ≡ length plan.events
   many = sym (length-map s.events kind_of) ∙ ap length along.kinds ∙ length-map plan.events kind_of
 
-  among : (e p : ℕ) → Among e (after s p) → Among e (after plan p)
+  among : (e p : ℕ) → Among e (predecessors_of s p) → Among e (predecessors_of plan p)
   among e p a = subst (λ (g : ℕ → List ℕ). Among e (g p)) afters a
 
   before : (q p : ℕ) → Before plan q p → Before s q p
   before q p h = subst (λ (g : ℕ → List ℕ). Reaches g q p) (sym afters) h
 
-  pub was_word : (p : ℕ) → IsWord (what s p) → IsWord (what plan p)
-  was_word p h = bare_word (what plan p) (subst IsWord (same p) (word_bare (what s p) h))
+  pub was_word : (p : ℕ) → IsWord (word_step s p) → IsWord (word_step plan p)
+  was_word p h = bare_word (word_step plan p) (subst IsWord (same p) (word_bare (word_step s p) h))
 
-  pub is_word : (p : ℕ) → IsWord (what plan p) → IsWord (what s p)
-  is_word p h = bare_word (what s p) (subst IsWord (sym (same p)) (word_bare (what plan p) h))
+  pub is_word : (p : ℕ) → IsWord (word_step plan p) → IsWord (word_step s p)
+  is_word p h = bare_word (word_step s p) (subst IsWord (sym (same p)) (word_bare (word_step plan p) h))
 
-  was_line : (p : ℕ) → IsLine (what s p) → IsLine (what plan p)
-  was_line p h = bare_line (what plan p) (subst IsLine (same p) (line_bare (what s p) h))
+  was_line : (p : ℕ) → IsLine (word_step s p) → IsLine (word_step plan p)
+  was_line p h = bare_line (word_step plan p) (subst IsLine (same p) (line_bare (word_step s p) h))
 
-  was_read : (p c n : ℕ) → what s p ≡ read c n → (m : ℕ) × (what plan p ≡ read c m)
-  was_read p c n h = bare_read (what plan p) c (sym (same p) ∙ ap bare h)
+  was_read : (p c n : ℕ) → word_step s p ≡ read c n → (m : ℕ) × (word_step plan p ≡ read c m)
+  was_read p c n h = bare_read (word_step plan p) c (sym (same p) ∙ ap bare h)
 
-  was_write : (p c n : ℕ) → what s p ≡ write c n → (m : ℕ) × (what plan p ≡ write c m)
-  was_write p c n h = bare_write (what plan p) c (sym (same p) ∙ ap bare h)
+  was_write : (p c n : ℕ) → word_step s p ≡ write c n → (m : ℕ) × (word_step plan p ≡ write c m)
+  was_write p c n h = bare_write (word_step plan p) c (sym (same p) ∙ ap bare h)
 
   was_sync : (p : ℕ) → event plan p ≡ Some events.Sync → event s p ≡ Some events.Sync
   was_sync p h = sync_of (event s p)
@@ -228,7 +228,7 @@ module _ (plan s : EventOrder) (along : IsAlong plan s) where
   conflict p q (c, v, w, inr (inr h)) = let a = was_write p c v h.0 in let b = was_write q c w h.1 in (c, a.0, b.0, inr (inr (a.1, b.1)))
 
   module _ (o : IsOrderly plan) where
-    resumed : (p q : ℕ) → what s p ≡ resume q → (what s q ≡ spawn) × Among q (after s p) × ((e : ℕ) → Among e (after s p) → e ≡ q)
+    resumed : (p q : ℕ) → word_step s p ≡ resume q → (word_step s q ≡ spawn) × Among q (predecessors_of s p) × ((e : ℕ) → Among e (predecessors_of s p) → e ≡ q)
     resumed p q h =
         let r = o.resumed p q (there p (resume q) tt refl h) in (
           here q spawn tt refl r.0,
@@ -236,10 +236,10 @@ module _ (plan s : EventOrder) (along : IsAlong plan s) where
           λ e a. r.2 e (among e p a),
         )
 
-    returns : (q : ℕ) → what s q ≡ spawn → (p : ℕ) × (what s p ≡ resume q)
+    returns : (q : ℕ) → word_step s q ≡ spawn → (p : ℕ) × (word_step s p ≡ resume q)
     returns q h = let r = o.returns q (there q spawn tt refl h) in (r.0, here r.0 (resume q) tt refl r.1)
 
-    inside : (p : ℕ) → IsWord (what s p) → (1 ≤ p) × (p ≤ length s.events)
+    inside : (p : ℕ) → IsWord (word_step s p) → (1 ≤ p) × (p ≤ length s.events)
     inside p h = let i = o.inside p (was_word p h) in let m = many in (i.0, let k = i.1 in omega (arith, k, m))
 
     small : length s.opening + length s.events + 1 < 2 ^ 34
@@ -251,8 +251,8 @@ module _ (plan s : EventOrder) (along : IsAlong plan s) where
     some : 1 ≤ length s.events
     some = let m = many in let k = o.root.1 in omega (arith, m, k)
 
-    last : what s (length s.events) ≡ finish
-    last = subst (λ (n : ℕ). what s n ≡ finish) (sym many) (here (length plan.events) finish tt refl o.last)
+    last : word_step s (length s.events) ≡ finish
+    last = subst (λ (n : ℕ). word_step s n ≡ finish) (sym many) (here (length plan.events) finish tt refl o.last)
 
     all : (p : ℕ) → 1 ≤ p → p < length s.events → Before s p (length s.events)
     all p low less =

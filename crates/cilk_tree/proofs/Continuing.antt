@@ -17,7 +17,7 @@ use Rattle.cilk_types.specs.declared.event.Event.TheVariants as events
 use Rattle.cilk_tree.specs.Races.{event_at}
 use Rattle.cilk_tree.specs.declared.event_order.EventOrder.{EventOrder}
 use Rattle.cilk_tree.specs.Orders.{IsOrderly}
-use Rattle.cilk_tree.specs.Word.{WordEvent, event, after, plain, spawn, resume, finish, word_event, resumption, is_spawn, what, IsWord}
+use Rattle.cilk_tree.specs.Word.{WordEvent, event, predecessors_of, plain, spawn, resume, finish, word_event, resumption, is_spawn, word_step, IsWord}
 use Rattle.cilk_tree.specs.declared.blocks.Continuation.{Continuation}
 use Rattle.cilk_tree.specs.declared.kind.Kind.{Kind}
 use Rattle.cilk_tree.specs.declared.kind.Kind.TheVariants as kinds
@@ -136,7 +136,7 @@ set_none (x ∷ l) (suc n) is = ap (λ (z : List (Option Continuation)). x ∷ z
 -- The column's entry at k once the events after n are met: the continuation of a spawn among them;
 -- the `resume` alone of an earlier spawn whose `resume` is among them.
 abbrev pub Stands : EventOrder → ℕ → ℕ → Continuation → Type 0
-Stands s n k c = ((n < k) × IsContinuationOf s k c) ⊎ ((k ≤ n) × (n < c.resume) × (what s c.resume ≡ resume k) × (c.sync ≡ 0))
+Stands s n k c = ((n < k) × IsContinuationOf s k c) ⊎ ((k ≤ n) × (n < c.resume) × (word_step s c.resume ≡ resume k) × (c.sync ≡ 0))
 
 pub record MetSoFar (s : EventOrder) (n : ℕ) (ahead : List (Option ℕ)) (column : List (Option Continuation)) : Type 0 where
   pub long : length column ≡ length s.events + 1
@@ -144,13 +144,13 @@ pub record MetSoFar (s : EventOrder) (n : ℕ) (ahead : List (Option ℕ)) (colu
   pub each : (k : ℕ) (c : Continuation) → (get_or column k None ≡ Some c) ↔ Stands s n k c
 
 module _ (s : EventOrder) (law : IsOrderly s) where
-  spawn_inside : (k p : ℕ) → what s p ≡ resume k → (1 ≤ k) × (k ≤ length s.events)
+  spawn_inside : (k p : ℕ) → word_step s p ≡ resume k → (1 ≤ k) × (k ≤ length s.events)
   spawn_inside k p is = law.inside k (subst IsWord (sym (law.resumed p k is).0) tt)
 
-  resume_inside : (k p : ℕ) → what s p ≡ resume k → p ≤ length s.events
+  resume_inside : (k p : ℕ) → word_step s p ≡ resume k → p ≤ length s.events
   resume_inside k p is = (law.inside p (subst IsWord (sym is) tt)).1
 
-  spawn_ahead : (k p : ℕ) → what s p ≡ resume k → k < p
+  spawn_ahead : (k p : ℕ) → word_step s p ≡ resume k → k < p
   spawn_ahead k p is = law.earlier p k (law.resumed p k is).1
 
   pub met_first : (n : ℕ) (column : List (Option Continuation)) → n ≡ length s.events → length column ≡ length s.events + 1
@@ -172,7 +172,7 @@ module _ (s : EventOrder) (law : IsOrderly s) where
 
   -- where the event at n is the `resume` after a spawn, the place of that spawn is in the column
   pub noted_within : (n : ℕ) (spawned : Option ℕ) (long : ℕ) → long ≡ length s.events + 1
-      → ((k : ℕ) → (spawned ≡ Some k) ↔ (what s n ≡ resume k)) → IfSome spawned (λ k. k < long)
+      → ((k : ℕ) → (spawned ≡ Some k) ↔ (word_step s n ≡ resume k)) → IfSome spawned (λ k. k < long)
   noted_within n None long all is = tt
   noted_within n (Some k) long all is = let l = (spawn_inside k n ((is k).0 refl)).1 in omega (arith, l, all)
 
@@ -180,16 +180,16 @@ module _ (s : EventOrder) (law : IsOrderly s) where
   pub noted : (n g : ℕ) (ahead : List (Option ℕ)) (column : List (Option Continuation)) (resumed synced : Option ℕ) (now : Option Continuation) → MetSoFar s n ahead column
       → ((p : ℕ) → (resumed ≡ Some p) ↔ HasResume column n p) → synced ≡ get_or ahead g None
       → ((c : Continuation) → (now ≡ Some c) ↔ ((resumed ≡ Some c.resume) × (synced ≡ Some c.sync)))
-      → (c : Continuation) → (now ≡ Some c) ↔ ((what s c.resume ≡ resume n) × (get_or ahead g None ≡ Some c.sync))
+      → (c : Continuation) → (now ≡ Some c) ↔ ((word_step s c.resume ≡ resume n) × (get_or ahead g None ≡ Some c.sync))
   noted n g ahead column resumed synced now so_far first second both c = (
     λ e. (let h = (both c).0 e in
         let found = (first c.resume).0 h.0 in
         let stands : Stands s n n found.0 = (so_far.each n found.0).0 found.1 in
-        let there : what s found.0.resume ≡ resume n = elim stands [
+        let there : word_step s found.0.resume ≡ resume n = elim stands [
           | inl behind ↦ absurd (let l = behind.0 in omega (arith, l))
           | inr waits ↦ waits.2
         ] in
-        (ap (λ (p : ℕ). what s p) (sym found.2) ∙ there, sym second ∙ h.1)),
+        (ap (λ (p : ℕ). word_step s p) (sym found.2) ∙ there, sym second ∙ h.1)),
     λ h. (both c).1 (
       (first c.resume).1 (
         resumed_at c.resume,
@@ -201,7 +201,7 @@ module _ (s : EventOrder) (law : IsOrderly s) where
   )
 
   -- of a spawn whose place is neither n nor that of what n resumes nothing changes
-  stands_on : (n m k : ℕ) (c : Continuation) → n ≡ m + 1 → k ≢ n → (what s n ≡ resume k → ⊥) → Stands s n k c ↔ Stands s m k c
+  stands_on : (n m k : ℕ) (c : Continuation) → n ≡ m + 1 → k ≢ n → (word_step s n ≡ resume k → ⊥) → Stands s n k c ↔ Stands s m k c
   stands_on n m k c at apart other = (
     λ h. elim h [
       | inl behind ↦ inl (let l = behind.0 in omega (arith, l, at), behind.1)
@@ -210,14 +210,14 @@ module _ (s : EventOrder) (law : IsOrderly s) where
     λ h. elim h [
       | inl behind ↦ inl (let l = behind.0 in omega (arith, l, at, apart), behind.1)
       | inr waits ↦ (
-          let later : c.resume ≢ n = (λ same. other (ap (λ (p : ℕ). what s p) (sym same) ∙ waits.2)) in
+          let later : c.resume ≢ n = (λ same. other (ap (λ (p : ℕ). word_step s p) (sym same) ∙ waits.2)) in
           inr (let l = waits.0 in omega (arith, l, at), let l = waits.1 in omega (arith, l, at, later), waits.2, waits.3))
     ],
   )
 
   -- at n itself
   stands_here : (n m g : ℕ) (ahead : List (Option ℕ)) (c : Continuation) (now : Option Continuation) → n ≡ m + 1 → IsInFrame s.events n g → HasNext s.events n ahead
-      → ((c : Continuation) → (now ≡ Some c) ↔ ((what s c.resume ≡ resume n) × (get_or ahead g None ≡ Some c.sync)))
+      → ((c : Continuation) → (now ≡ Some c) ↔ ((word_step s c.resume ≡ resume n) × (get_or ahead g None ≡ Some c.sync)))
       → (now ≡ Some c) ↔ Stands s m n c
   stands_here n m g ahead c now at inside next noted = (
     λ e. (let told = (noted c).0 e in inl (omega (arith, at), record { resumes = told.0; ends = (g, inside, (next g c.sync).0 told.1) })),
@@ -229,7 +229,7 @@ module _ (s : EventOrder) (law : IsOrderly s) where
   )
 
   -- at the spawn that n resumes
-  stands_there : (n m k : ℕ) (c : Continuation) → n ≡ m + 1 → what s n ≡ resume k → (Some (resumed_at n) ≡ Some c) ↔ Stands s m k c
+  stands_there : (n m k : ℕ) (c : Continuation) → n ≡ m + 1 → word_step s n ≡ resume k → (Some (resumed_at n) ≡ Some c) ↔ Stands s m k c
   stands_there n m k c at is = (
     λ e. (let same : resumed_at n ≡ c = cc e in
         let first : Stands s m k (resumed_at n) = inr (let l = spawn_ahead k n is in omega (arith, l, at), omega (arith, at), is, refl) in
@@ -243,13 +243,13 @@ module _ (s : EventOrder) (law : IsOrderly s) where
 
   met_each : (n m g : ℕ) (ahead : List (Option ℕ)) (column column' : List (Option Continuation)) (now : Option Continuation) (spawned : Option ℕ)
       → n ≡ m + 1 → n ≤ length s.events → MetSoFar s n ahead column → IsInFrame s.events n g
-      → ((c : Continuation) → (now ≡ Some c) ↔ ((what s c.resume ≡ resume n) × (get_or ahead g None ≡ Some c.sync)))
-      → ((k : ℕ) → (spawned ≡ Some k) ↔ (what s n ≡ resume k))
+      → ((c : Continuation) → (now ≡ Some c) ↔ ((word_step s c.resume ≡ resume n) × (get_or ahead g None ≡ Some c.sync)))
+      → ((k : ℕ) → (spawned ≡ Some k) ↔ (word_step s n ≡ resume k))
       → MatchOption spawned (column' ≡ set column n now) (λ k. column' ≡ set (set column n now) k (Some (resumed_at n)))
       → (k : ℕ) (c : Continuation) → (get_or column' k None ≡ Some c) ↔ Stands s m k c
   met_each n m g ahead column column' now None at within so_far inside noted is put k c =
       let long = so_far.long in
-      let other : (j : ℕ) → what s n ≡ resume j → ⊥ = (λ j h. let e : None ≡ Some j = (is j).1 h in cc e) in
+      let other : (j : ℕ) → word_step s n ≡ resume j → ⊥ = (λ j h. let e : None ≡ Some j = (is j).1 h in cc e) in
       dite (ℕ_discrete k n)
       (λ (here : k ≡ n).
       let there : get_or column' k None ≡ now = ap (λ (v : List (Option Continuation)). get_or v k None) put ∙ ap (λ (x : ℕ). get_or (set column n now) x None) here ∙ get_or-set_same column n now None (omega (arith, within, long)) in
@@ -261,7 +261,7 @@ module _ (s : EventOrder) (law : IsOrderly s) where
       (λ e. step.0 ((so_far.each k c).0 (sym same ∙ e)), λ h. same ∙ (so_far.each k c).1 (step.1 h)))
   met_each n m g ahead column column' now (Some j) at within so_far inside noted is put k c =
       let long = so_far.long in
-      let resumed : what s n ≡ resume j = (is j).0 refl in
+      let resumed : word_step s n ≡ resume j = (is j).0 refl in
       let less = spawn_ahead j n resumed in
       let wide : length (set column n now) ≡ length column = length-set column n now in
       dite (ℕ_discrete k j)
@@ -289,8 +289,8 @@ module _ (s : EventOrder) (law : IsOrderly s) where
 
   met_next : (n m g : ℕ) (kind : Kind) (ahead ahead' : List (Option ℕ)) (column column' : List (Option Continuation)) (now : Option Continuation) (spawned : Option ℕ)
       → n ≡ m + 1 → n ≤ length s.events → MetSoFar s n ahead column → IsInFrame s.events n g → kind_of_event (event s n) ≡ Some kind
-      → ((c : Continuation) → (now ≡ Some c) ↔ ((what s c.resume ≡ resume n) × (get_or ahead g None ≡ Some c.sync)))
-      → ((k : ℕ) → (spawned ≡ Some k) ↔ (what s n ≡ resume k))
+      → ((c : Continuation) → (now ≡ Some c) ↔ ((word_step s c.resume ≡ resume n) × (get_or ahead g None ≡ Some c.sync)))
+      → ((k : ℕ) → (spawned ≡ Some k) ↔ (word_step s n ≡ resume k))
       → MatchOption spawned (column' ≡ set column n now) (λ k. column' ≡ set (set column n now) k (Some (resumed_at n)))
       → (kind ≡ kinds.Sync → IsPut ahead g n ahead') → (kind ≢ kinds.Sync → ahead' ≡ ahead) → MetSoFar s m ahead' column'
   met_next n m g kind ahead ahead' column column' now spawned at within so_far inside is noted resumed noting put kept = record {
@@ -300,7 +300,7 @@ module _ (s : EventOrder) (law : IsOrderly s) where
   }
 
   -- nothing is noted but at spawns
-  unnoted : (n : ℕ) (ahead : List (Option ℕ)) (column : List (Option Continuation)) → MetSoFar s n ahead column → what s n ≢ spawn → (found : Option Continuation) → get_or column n None ≡ found → found ≡ None
+  unnoted : (n : ℕ) (ahead : List (Option ℕ)) (column : List (Option Continuation)) → MetSoFar s n ahead column → word_step s n ≢ spawn → (found : Option Continuation) → get_or column n None ≡ found → found ≡ None
   unnoted n ahead column so_far other None is = refl
   unnoted n ahead column so_far other (Some c) is = absurd (elim ((so_far.each n c).0 is) [
     | inl behind ↦ (let l = behind.0 in omega (arith, l))
@@ -311,18 +311,18 @@ module _ (s : EventOrder) (law : IsOrderly s) where
 
   pub met_spawn : (n m g f : ℕ) (ahead : List (Option ℕ)) (column column' : List (Option Continuation)) (now : Option Continuation)
       → n ≡ m + 1 → n ≤ length s.events → MetSoFar s n ahead column → IsInFrame s.events n g → kind_of_event (event s n) ≡ Some (kinds.Spawn f)
-      → ((c : Continuation) → (now ≡ Some c) ↔ ((what s c.resume ≡ resume n) × (get_or ahead g None ≡ Some c.sync))) → column' ≡ set column n now → MetSoFar s m ahead column'
+      → ((c : Continuation) → (now ≡ Some c) ↔ ((word_step s c.resume ≡ resume n) × (get_or ahead g None ≡ Some c.sync))) → column' ≡ set column n now → MetSoFar s m ahead column'
   met_spawn n m g f ahead column column' now at within so_far inside is noted put =
-      let other : (k : ℕ) → what s n ≢ resume k = not_resume s.events n (event s n) (after s n) (kinds.Spawn f) is (λ r e. cc e) in
+      let other : (k : ℕ) → word_step s n ≢ resume k = not_resume s.events n (event s n) (predecessors_of s n) (kinds.Spawn f) is (λ r e. cc e) in
       met_next n m g (kinds.Spawn f) ahead ahead column column' now None at within so_far inside is noted
       (λ k. (λ e. absurd (let z : None ≡ Some k = e in cc z), λ h. absurd (other k h))) put (λ e. absurd (let z : kinds.Spawn f ≡ kinds.Sync = e in cc z)) (λ _. refl)
 
   met_other : (n m g : ℕ) (kind : Kind) (ahead ahead' : List (Option ℕ)) (column column' : List (Option Continuation)) (spawned : Option ℕ)
       → n ≡ m + 1 → n ≤ length s.events → MetSoFar s n ahead column → IsInFrame s.events n g → kind_of_event (event s n) ≡ Some kind → ((f : ℕ) → kind ≢ kinds.Spawn f)
-      → ((k : ℕ) → (spawned ≡ Some k) ↔ (what s n ≡ resume k)) → MatchOption spawned (column' ≡ column) (λ k. column' ≡ set column k (Some (resumed_at n)))
+      → ((k : ℕ) → (spawned ≡ Some k) ↔ (word_step s n ≡ resume k)) → MatchOption spawned (column' ≡ column) (λ k. column' ≡ set column k (Some (resumed_at n)))
       → (kind ≡ kinds.Sync → IsPut ahead g n ahead') → (kind ≢ kinds.Sync → ahead' ≡ ahead) → MetSoFar s m ahead' column'
   met_other n m g kind ahead ahead' column column' spawned at within so_far inside is none resumed noting put kept =
-      let other : what s n ≢ spawn = not_spawn s.events n (event s n) (after s n) kind is none in
+      let other : word_step s n ≢ spawn = not_spawn s.events n (event s n) (predecessors_of s n) kind is none in
       let same : set column n None ≡ column = set_none column n (unnoted n ahead column so_far other (get_or column n None) refl) in
       met_next n m g kind ahead ahead' column column' None spawned at within so_far inside is
       (λ c. (λ e. absurd (let z : None ≡ Some c = e in cc z), λ h. absurd (other (law.resumed c.resume n h.0).0)))
@@ -330,7 +330,7 @@ module _ (s : EventOrder) (law : IsOrderly s) where
 
   pub met_resume : (n m g f : ℕ) (ahead : List (Option ℕ)) (column column' : List (Option Continuation)) (spawned : Option ℕ)
       → n ≡ m + 1 → n ≤ length s.events → MetSoFar s n ahead column → IsInFrame s.events n g → kind_of_event (event s n) ≡ Some (kinds.Resume f)
-      → ((k : ℕ) → (spawned ≡ Some k) ↔ (what s n ≡ resume k)) → MatchOption spawned (column' ≡ column) (λ k. column' ≡ set column k (Some (resumed_at n))) → MetSoFar s m ahead column'
+      → ((k : ℕ) → (spawned ≡ Some k) ↔ (word_step s n ≡ resume k)) → MatchOption spawned (column' ≡ column) (λ k. column' ≡ set column k (Some (resumed_at n))) → MetSoFar s m ahead column'
   met_resume n m g f ahead column column' spawned at within so_far inside is resumed noting =
       met_other n m g (kinds.Resume f) ahead ahead column column' spawned at within so_far inside is (λ r e. cc e) resumed noting (λ e. absurd (let z : kinds.Resume f ≡ kinds.Sync = e in cc z)) (λ _. refl)
 
@@ -339,7 +339,7 @@ module _ (s : EventOrder) (law : IsOrderly s) where
       → (kind ≡ kinds.Sync → IsPut ahead g n ahead') → (kind ≢ kinds.Sync → ahead' ≡ ahead) → MetSoFar s m ahead' column
   met_quiet n m g kind ahead ahead' column at within so_far inside is no_spawn no_resume put kept =
       met_other n m g kind ahead ahead' column column None at within so_far inside is no_spawn
-      (λ k. (λ e. absurd (let z : None ≡ Some k = e in cc z), λ h. absurd (not_resume s.events n (event s n) (after s n) kind is no_resume k h))) refl put kept
+      (λ k. (λ e. absurd (let z : None ≡ Some k = e in cc z), λ h. absurd (not_resume s.events n (event s n) (predecessors_of s n) kind is no_resume k h))) refl put kept
 
   pub met_sync : (n m g : ℕ) (ahead ahead' : List (Option ℕ)) (column : List (Option Continuation))
       → n ≡ m + 1 → n ≤ length s.events → MetSoFar s n ahead column → IsInFrame s.events n g → kind_of_event (event s n) ≡ Some kinds.Sync → IsPut ahead g n ahead' → MetSoFar s m ahead' column
@@ -369,12 +369,12 @@ kind_there (e ∷ es) (suc k) = kind_there es k
 
 -- where the column of kinds has no `resume`, no spawn's continuation is resumed
 pub resumes_none : (s : EventOrder) (i : ℕ) (column : List Kind) (kind : Kind) → column ≡ map kind_of s.events → slice_get column i ≡ Some kind → ((f : ℕ) → kind ≢ kinds.Resume f)
-    → (k : ℕ) → what s (i + 1) ≡ resume k → ⊥
+    → (k : ℕ) → word_step s (i + 1) ≡ resume k → ⊥
 resumes_none s i column kind same is other k resumed =
     let place : i + 1 - 1 ≡ i = omega arith in
     let here : kind_of_event (event s (i + 1)) ≡ Some kind =
     ap (λ (n : ℕ). kind_of_event (slice_get s.events n)) place ∙ (sym (kind_there s.events i) ∙ (sym (ap (λ (l : List Kind). slice_get l i) same) ∙ is)) in
-    not_resume s.events (i + 1) (event s (i + 1)) (after s (i + 1)) kind here other k resumed
+    not_resume s.events (i + 1) (event s (i + 1)) (predecessors_of s (i + 1)) kind here other k resumed
 
 -- the kind at n, given the kind of the event after the first events
 pub there : (s : EventOrder) (n : ℕ) → n - 1 + 1 ≡ n → (asked : Asked) (frame : ℕ) (kind : Kind) → asked ≡ Next frame kind → IsBehind s (n - 1) asked

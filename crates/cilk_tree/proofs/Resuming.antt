@@ -14,7 +14,7 @@ use Rattle.cilk_tree.specs.declared.mark.Mark.TheVariants as mark
 use Rattle.cilk_tree.specs.Races.{event_at}
 use Rattle.cilk_tree.specs.declared.event_order.EventOrder.{EventOrder}
 use Rattle.cilk_tree.specs.Orders.{IsOrderly}
-use Rattle.cilk_tree.specs.Word.{event, after, plain, resume, word_event, what, is_spawn, resumption, IsWord}
+use Rattle.cilk_tree.specs.Word.{event, predecessors_of, plain, resume, word_event, word_step, is_spawn, resumption, IsWord}
 use Rattle.cilk_tree.proofs.Events.{mark_at, return_what}
 use Rattle.cilk_tree.specs.declared.kind.Kind.TheVariants.{Resume, Spawn}
 use Rattle.cilk_tree.specs.Earliest.{earliest}
@@ -38,9 +38,9 @@ alone : (ps : List ℕ) (k : ℕ) → IsAtMostOne ps → earliest ps ≡ Some k 
 alone ps k (inl none) is = absurd (let c : None ≡ Some k = sym (ap earliest none) ∙ is in cc c)
 alone ps k (inr one) is = let c : Some one.0 ≡ Some k = sym (ap earliest one.1) ∙ is in let d : one.0 ≡ k = cc c in one.1 ∙ ap (λ (x : ℕ). x ∷ []) d
 
-pub resumed_here : (s : EventOrder) (at k f g : ℕ) → IsAtMostOne (after s at) → kind_of_event (event s at) ≡ Some (Resume f) → earliest (after s at) ≡ Some k → kind_of_event (event s k) ≡ Some (Spawn g) → what s at ≡ resume k
+pub resumed_here : (s : EventOrder) (at k f g : ℕ) → IsAtMostOne (predecessors_of s at) → kind_of_event (event s at) ≡ Some (Resume f) → earliest (predecessors_of s at) ≡ Some k → kind_of_event (event s k) ≡ Some (Spawn g) → word_step s at ≡ resume k
 resumed_here s at k f g one is first spawned =
-    return_what s.events at (event s at) (after s at) k (resume_mark (event s at) f is) (alone (after s at) k one first) (spawn_mark (event s k) g spawned)
+    return_what s.events at (event s at) (predecessors_of s at) k (resume_mark (event s at) f is) (alone (predecessors_of s at) k one first) (spawn_mark (event s k) g spawned)
 
 -- ---- a `resume` that is a step on a word
 resumption_word : (es : List Event) (ps : List ℕ) → IsWord (resumption es ps) → (k : ℕ) × (resumption es ps ≡ resume k)
@@ -56,31 +56,31 @@ pub resume_word : (es : List Event) (p f : ℕ) (o : Option Event) (ps : List �
 resume_word es p f (Some (events.Resume g)) ps is h = resumption_word es ps h
 resume_word es p f o ps is h = absurd (cc is)
 
-pub word_of_resume : (s : EventOrder) (at k : ℕ) → what s at ≡ resume k → IsWord (what s at)
+pub word_of_resume : (s : EventOrder) (at k : ℕ) → word_step s at ≡ resume k → IsWord (word_step s at)
 word_of_resume s at k is = subst IsWord (sym is) tt
 
-pub is_word_here : (s : EventOrder) (at f : ℕ) (found : Option ℕ) (b : Bool) → kind_of_event (event s at) ≡ Some (Resume f) → ((k : ℕ) → (found ≡ Some k) ↔ (what s at ≡ resume k)) → b ≡ is_some found
-    → (IsTrue b → IsWord (what s at)) × (IsWord (what s at) → IsTrue b)
+pub is_word_here : (s : EventOrder) (at f : ℕ) (found : Option ℕ) (b : Bool) → kind_of_event (event s at) ≡ Some (Resume f) → ((k : ℕ) → (found ≡ Some k) ↔ (word_step s at ≡ resume k)) → b ≡ is_some found
+    → (IsTrue b → IsWord (word_step s at)) × (IsWord (word_step s at) → IsTrue b)
 is_word_here s at f None b kind is test = (
   λ t. absurd (let c : false ≡ true = sym test ∙ t in cc c),
-  λ w. absurd (let r = resume_word s.events at f (event s at) (after s at) kind w in let c : None ≡ Some r.0 = (is r.0).1 r.1 in cc c),
+  λ w. absurd (let r = resume_word s.events at f (event s at) (predecessors_of s at) kind w in let c : None ≡ Some r.0 = (is r.0).1 r.1 in cc c),
 )
 is_word_here s at f (Some k) b kind is test = (λ t. word_of_resume s at k ((is k).0 refl), λ w. test)
 
 -- ---- the column
 pub record SoFar (s : EventOrder) (i : ℕ) (column : List ℕ) : Type 0 where
   pub long : length column ≡ length s.events + 1
-  pub each : (k p : ℕ) → ((1 ≤ p) × (get_or column k 0 ≡ p)) ↔ ((what s p ≡ resume k) × (p ≤ i))
+  pub each : (k p : ℕ) → ((1 ≤ p) × (get_or column k 0 ≡ p)) ↔ ((word_step s p ≡ resume k) × (p ≤ i))
 
 module _ (s : EventOrder) (law : IsOrderly s) where
-  spawn_within : (k p : ℕ) → what s p ≡ resume k → k < length s.events + 1
+  spawn_within : (k p : ℕ) → word_step s p ≡ resume k → k < length s.events + 1
   spawn_within k p is = let h = (law.inside k (subst IsWord (sym (law.resumed p k is).0) tt)).1 in omega (arith, h)
 
-  pub within : (at n : ℕ) (spawned : Option ℕ) → n ≡ length s.events + 1 → ((k : ℕ) → (spawned ≡ Some k) ↔ (what s at ≡ resume k)) → IfSome spawned (λ k. k < n)
+  pub within : (at n : ℕ) (spawned : Option ℕ) → n ≡ length s.events + 1 → ((k : ℕ) → (spawned ≡ Some k) ↔ (word_step s at ≡ resume k)) → IfSome spawned (λ k. k < n)
   within at n None long is = tt
   within at n (Some k) long is = let l = spawn_within k at ((is k).0 refl) in omega (arith, l, long)
 
-  is_position : (p k : ℕ) → what s p ≡ resume k → 1 ≤ p
+  is_position : (p k : ℕ) → word_step s p ≡ resume k → 1 ≤ p
   is_position p k is = (law.inside p (word_of_resume s p k is)).0
 
   pub resumed_first : (column : List ℕ) → length column ≡ length s.events + 1 → ((k : ℕ) → get_or column k 0 ≡ 0) → SoFar s 0 column
@@ -92,18 +92,18 @@ module _ (s : EventOrder) (law : IsOrderly s) where
     );
   }
 
-  pub same_column : (i at : ℕ) (column : List ℕ) → at ≡ i + 1 → SoFar s i column → ((k : ℕ) → what s at ≡ resume k → ⊥) → SoFar s (i + 1) column
+  pub same_column : (i at : ℕ) (column : List ℕ) → at ≡ i + 1 → SoFar s i column → ((k : ℕ) → word_step s at ≡ resume k → ⊥) → SoFar s (i + 1) column
   same_column i at column next h not = record {
     long = h.long;
     each = λ k p. (
       λ e. let r = (h.each k p).0 e in (r.0, let l = r.1 in omega (arith, l)),
       λ r. dite (ℕ_discrete p at)
-          (λ (here : p ≡ at). absurd (not k (ap (λ (j : ℕ). what s j) (sym here) ∙ r.0)))
+          (λ (here : p ≡ at). absurd (not k (ap (λ (j : ℕ). word_step s j) (sym here) ∙ r.0)))
           (λ (other : p ≢ at). (h.each k p).1 (r.0, let l = r.1 in omega (arith, l))),
     );
   }
 
-  set_column : (i at j : ℕ) (column : List ℕ) → at ≡ i + 1 → SoFar s i column → what s at ≡ resume j → SoFar s (i + 1) (set column j at)
+  set_column : (i at j : ℕ) (column : List ℕ) → at ≡ i + 1 → SoFar s i column → word_step s at ≡ resume j → SoFar s (i + 1) (set column j at)
   set_column i at j column next h is =
       let small = spawn_within j at is in
       let long = h.long in
@@ -112,7 +112,7 @@ module _ (s : EventOrder) (law : IsOrderly s) where
         each = λ k p. dite (ℕ_discrete k j)
             (λ (here : k ≡ j).
             let put : get_or (set column j at) k 0 ≡ at = ap (λ (x : ℕ). get_or (set column j at) x 0) here ∙ get_or-set_same column j at 0 (omega arith) in (
-              λ e. let same : at ≡ p = sym put ∙ e.1 in (ap (λ (x : ℕ). what s x) (sym same) ∙ is ∙ ap (λ (x : ℕ). resume x) (sym here), omega arith),
+              λ e. let same : at ≡ p = sym put ∙ e.1 in (ap (λ (x : ℕ). word_step s x) (sym same) ∙ is ∙ ap (λ (x : ℕ). resume x) (sym here), omega arith),
               λ r. (is_position p k r.0, put ∙ law.once at p j is (r.0 ∙ ap (λ (x : ℕ). resume x) here)),
             ))
             (λ (other : k ≢ j).
@@ -120,13 +120,13 @@ module _ (s : EventOrder) (law : IsOrderly s) where
               λ e. let r = (h.each k p).0 (e.0, sym kept ∙ e.1) in (r.0, let l = r.1 in omega (arith, l)),
               λ r.
                   let q : (1 ≤ p) × (get_or column k 0 ≡ p) = dite (ℕ_discrete p at)
-                  (λ (same : p ≡ at). absurd (other (let c : resume k ≡ resume j = sym r.0 ∙ (ap (λ (x : ℕ). what s x) same ∙ is) in cc c)))
+                  (λ (same : p ≡ at). absurd (other (let c : resume k ≡ resume j = sym r.0 ∙ (ap (λ (x : ℕ). word_step s x) same ∙ is) in cc c)))
                   (λ (apart : p ≢ at). (h.each k p).1 (r.0, let l = r.1 in omega (arith, l))) in
                   (q.0, kept ∙ q.1),
             ));
       }
 
-  pub resumed_next : (i at : ℕ) (column column' : List ℕ) (spawned : Option ℕ) → at ≡ i + 1 → SoFar s i column → ((k : ℕ) → (spawned ≡ Some k) ↔ (what s at ≡ resume k))
+  pub resumed_next : (i at : ℕ) (column column' : List ℕ) (spawned : Option ℕ) → at ≡ i + 1 → SoFar s i column → ((k : ℕ) → (spawned ≡ Some k) ↔ (word_step s at ≡ resume k))
       → MatchOption spawned (column' ≡ column) (λ k. column' ≡ set column k at) → SoFar s (i + 1) column'
   resumed_next i at column column' None next h is noted =
       subst (SoFar s (i + 1)) (sym noted) (same_column i at column next h (λ k w. (let c : None ≡ Some k = (is k).1 w in cc c)))

@@ -6,7 +6,7 @@ use Rattle.cilk_types.specs.declared.event.Event.{Event}
 use Rattle.cilk_types.specs.declared.event.Event.TheVariants.{Sync}
 use Rattle.cilk_tree.specs.Races.{event_at}
 use Rattle.cilk_tree.specs.declared.event_order.EventOrder.{EventOrder}
-use Rattle.cilk_tree.specs.Word.{resume, what}
+use Rattle.cilk_tree.specs.Word.{resume, word_step}
 use Rattle.cilk_tree.specs.declared.blocks.Continuation.{Continuation}
 use Rattle.cilk_tree.specs.Frames.{IsInFrame}
 
@@ -27,7 +27,7 @@ EndsBlockOf es k p = (frame : ℕ) × IsInFrame es k frame × IsNextSync es fram
 -- the continuation of the spawn at k begins with the `resume` after it, and its block ends with
 -- this `sync`
 pub record IsContinuationOf (s : EventOrder) (k : ℕ) (c : Continuation) : Type 0 where
-  pub resumes : what s c.resume ≡ resume k
+  pub resumes : word_step s c.resume ≡ resume k
   pub ends : EndsBlockOf s.events k c.sync
 
 -- the column has each spawn's continuation at the spawn's position, and nothing at the other

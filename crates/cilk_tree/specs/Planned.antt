@@ -9,7 +9,7 @@ use Rattle.cilk_tree.specs.Reach.{IsSynced}
 use Rattle.cilk_tree.specs.Races.{event_at, HasNoRace}
 use Rattle.cilk_tree.specs.declared.event_order.EventOrder.{EventOrder}
 use Rattle.cilk_tree.specs.Values.{HasValue}
-use Rattle.cilk_tree.specs.Word.{event, after}
+use Rattle.cilk_tree.specs.Word.{event, predecessors_of}
 use Rattle.cilk_tree.specs.Passes.{predecessors_in}
 
 -- on the input of the run each event is requested
@@ -38,4 +38,4 @@ IsAtMostOne ps = (ps ≡ []) ⊎ ((p : ℕ) × (ps ≡ p ∷ []))
 
 -- only a `sync` has more than one immediate predecessor
 abbrev pub HasOneAhead : EventOrder → Type 0
-HasOneAhead s = (p : ℕ) → event s p ≢ Some Sync → IsAtMostOne (after s p)
+HasOneAhead s = (p : ℕ) → event s p ≢ Some Sync → IsAtMostOne (predecessors_of s p)

@@ -33,7 +33,7 @@ pub record Rest : Type 0 where
 abbrev pub block : Rest → Tree
 block x = then_later (strand (suc x.events)) x.after
 
--- blocks in series, the first of which begins one event before this point
+-- blocks in series; the first begins one event before this point
 abbrev pub blocks : Rest → Tree
 blocks x = then_later (block x) x.later
 

@@ -11,12 +11,12 @@ abbrev pub event : EventOrder → ℕ → Option Event
 event s p = event_at s.events p
 
 -- the immediate predecessors of a position
-abbrev pub after : EventOrder → ℕ → List ℕ
-after s p = slice_index_or s.preceding (p - 1) []
+abbrev pub predecessors_of : EventOrder → ℕ → List ℕ
+predecessors_of s p = slice_index_or s.preceding (p - 1) []
 
 -- q is before p, by immediate predecessors
 abbrev pub Before : EventOrder → ℕ → ℕ → Type 0
-Before s q p = Reaches (after s) q p
+Before s q p = Reaches (predecessors_of s) q p
 
 -- An event's effect on the shared words: none, a read or a write of a cell whose word is n, a
 -- spawn, the `resume` after the spawn at a position, or the root's `end`.
@@ -51,8 +51,8 @@ word_event es p (Some events.End) ps = if nat_eq p (length es) then finish else 
 word_event es p _ ps = plain
 
 -- the effect of the event at a position on the shared words
-abbrev pub what : EventOrder → ℕ → WordEvent
-what s p = word_event s.events p (event s p) (after s p)
+abbrev pub word_step : EventOrder → ℕ → WordEvent
+word_step s p = word_event s.events p (event s p) (predecessors_of s p)
 
 -- a step on a shared word
 abbrev pub IsWord : WordEvent → Type 0
@@ -76,4 +76,4 @@ IsLine finish = Unit {0}
 abbrev pub Conflict : EventOrder → ℕ → ℕ → Type 0
 Conflict s p q =
     (c : ℕ) × (v : ℕ) × (w : ℕ)
-    × (((what s p ≡ write c v) × (what s q ≡ read c w)) ⊎ ((what s p ≡ read c w) × (what s q ≡ write c v)) ⊎ ((what s p ≡ write c v) × (what s q ≡ write c w)))
+    × (((word_step s p ≡ write c v) × (word_step s q ≡ read c w)) ⊎ ((word_step s p ≡ read c w) × (word_step s q ≡ write c v)) ⊎ ((word_step s p ≡ write c v) × (word_step s q ≡ write c w)))

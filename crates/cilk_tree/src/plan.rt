@@ -6,7 +6,7 @@ ghost use Rattle.cilk_tree.specs.Before.{IsPosition};
 ghost use Rattle.cilk_tree.specs.Orders.{IsOrderly};
 ghost use Rattle.cilk_tree.specs.Runs.{IsAsked};
 ghost use Rattle.cilk_tree.specs.Values.{HasValues};
-ghost use Rattle.cilk_tree.specs.Word.{after, event, resume, what, word, IsWord};
+ghost use Rattle.cilk_tree.specs.Word.{predecessors_of, event, resume, word_step, word, IsWord};
 ghost use Rattle.cilk_tree.specs.Earliest.{earliest as earliest_of};
 ghost use Rattle.cilk_tree.specs.Kinds.{kind_of_event, IsBehind};
 ghost use Rattle.cilk_tree.specs.Planned.{planned, HasOneAhead, HasPlan};
@@ -110,7 +110,7 @@ impl Plan {
     /// first event. A `sync` follows the event before it and the `end`s of the children spawned in
     /// its block.
     pub fn earliest_before(&self, at: Pos) -> Option<Pos>
-        ensures { result ≡ earliest_of (after self.now at) }
+        ensures { result ≡ earliest_of (predecessors_of self.now at) }
     {
         match self.earliest.get(at.saturating_sub(1) as usize) {
             Some(first) => *first,
@@ -121,7 +121,7 @@ impl Plan {
     /// Returns the spawn whose continuation is resumed at a position, if the event there is the
     /// `resume` after a spawn.
     pub fn resumed_by(&self, at: Pos) -> Option<Pos>
-        ensures { (k : ℕ) → (result ≡ Some k) ↔ (what self.now at ≡ resume k) }
+        ensures { (k : ℕ) → (result ≡ Some k) ↔ (word_step self.now at ≡ resume k) }
     {
         self.laws();
         let Some(Kind::Resume { .. }) = self.kind_at(at) else {
@@ -136,7 +136,7 @@ impl Plan {
 
     /// Tells whether the event at a position is a step on a word that threads share.
     pub fn is_word(&self, at: Pos) -> bool
-        ensures { IsTrue result ↔ IsWord (what self.now at) }
+        ensures { IsTrue result ↔ IsWord (word_step self.now at) }
     {
         match self.kind_at(at) {
             Some(Kind::Read { .. } | Kind::Write { .. } | Kind::Spawn { .. }) => true,

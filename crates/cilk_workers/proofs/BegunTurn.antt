@@ -22,7 +22,7 @@ use Rattle.cilk_tree.specs.declared.event_order.EventOrder.{EventOrder}
 use Rattle.cilk_frames.specs.declared.cursor.Answer.TheVariants.{Done}
 use Rattle.cilk_tree.specs.Orders.{IsOrderly}
 use Rattle.cilk_tree.specs.Values.{HasValues}
-use Rattle.cilk_tree.specs.Word.{event, finish, plain, what}
+use Rattle.cilk_tree.specs.Word.{event, finish, plain, word_step}
 use Rattle.cilk_runs.specs.FrameEnvs.{FrameEnv}
 use Rattle.cilk_determinacy.specs.Nested.{named}
 use Rattle.cilk_determinacy.specs.Numbers.{cell_number, instance_number}
@@ -219,6 +219,6 @@ root_answered y replay same order values =
     let some = order.root.1 in
     let more : 1 < length s.events = dite (dec_lt 1 (length s.events)) (λ (l : 1 < length s.events). l)
     (λ no. let one : length s.events ≡ 1 = omega (arith, no, some) in
-    let z : plain ≡ finish = sym order.root.0 ∙ ap (what s) (sym one) ∙ order.last in
+    let z : plain ≡ finish = sym order.root.0 ∙ ap (word_step s) (sym one) ∙ order.last in
     absurd (cc z)) in
     (events.Begin b.0, record { first = omega arith; asked = values.begins; is = e.1; more = more }, tt)

@@ -25,7 +25,7 @@ use Rattle.cilk_shared.specs.Values.{CanPass, CanTake, IsAhead, SegmentValue, Ya
 use Rattle.cilk_tree.specs.declared.event_order.EventOrder.{EventOrder}
 use Rattle.cilk_tree.specs.Orders.{IsOrderly}
 use Rattle.cilk_tree.specs.Runs.{IsAsked, IsFollowed}
-use Rattle.cilk_tree.specs.Word.{event, after, plain, resume, what}
+use Rattle.cilk_tree.specs.Word.{event, predecessors_of, plain, resume, word_step}
 use Rattle.cilk_tree.specs.Reach.{Among}
 use Rattle.cilk_workers.specs.Shared.{SharedValue, event_order_in}
 use Rattle.cilk_shared.specs.Numbers.{HasNumbers}
@@ -54,9 +54,9 @@ pub off_segment : (P : EventOrder → ℕ → Type 0) (y : SharedValue) (p : Pie
 off_segment P y p g same o h = subst (λ (s : EventOrder). P s p.upto) o.1 (subst (λ (z : SegmentValue). P z.event_order z.upto) same h)
 
 -- the piece's next event isn't the `resume` after a spawn
-pub ahead : (y : SharedValue) (p : PieceValue) (g : SegmentValue) → g ≡ segment_of p → IsGood y.run p → ((k : ℕ) → what (event_order_in y) p.upto ≡ resume k → ⊥) → IsAhead g
+pub ahead : (y : SharedValue) (p : PieceValue) (g : SegmentValue) → g ≡ segment_of p → IsGood y.run p → ((k : ℕ) → word_step (event_order_in y) p.upto ≡ resume k → ⊥) → IsAhead g
 ahead y p g same good other =
-    subst IsAhead (sym same) (good.1, of_event_order (λ (s : EventOrder). (k : ℕ) → what s p.upto ≡ resume k → ⊥) y.run p good.0 other)
+    subst IsAhead (sym same) (good.1, of_event_order (λ (s : EventOrder). (k : ℕ) → word_step s p.upto ≡ resume k → ⊥) y.run p good.0 other)
 
 -- the piece with one event more
 pub grown_good : (y : SharedValue) (p q : PieceValue) → IsGood y.run p → q ≡ grown p → IsGood y.run q × (q.from ≡ p.from) × (q.upto ≡ p.upto + 1)
@@ -78,9 +78,9 @@ from_one a b less = omega (arith, less)
 
 -- an event that is no step on a word and no `sync` comes right after the event before it
 pub can_pass : (y : SharedValue) (p : PieceValue) → IsGood y.run p → IsOrderly (event_order_in y) → IsAsked (event_order_in y) p.upto → p.upto < (let s = event_order_in y in length s.events)
-    → what (event_order_in y) p.upto ≡ plain → (event (event_order_in y) p.upto ≡ Some events.Sync → ⊥) → CanPass (segment_of p)
+    → word_step (event_order_in y) p.upto ≡ plain → (event (event_order_in y) p.upto ≡ Some events.Sync → ⊥) → CanPass (segment_of p)
 can_pass y p good order asked more quiet other =
-    of_event_order (λ (s : EventOrder). ((p.from < p.upto) × (p.upto ≤ length s.events) × (what s p.upto ≡ plain) × ((e : ℕ) → Among e (after s p.upto) → p.from ≤ e)) × IsAsked s p.upto) y.run p good.0
+    of_event_order (λ (s : EventOrder). ((p.from < p.upto) × (p.upto ≤ length s.events) × (word_step s p.upto ≡ plain) × ((e : ℕ) → Among e (predecessors_of s p.upto) → p.from ≤ e)) × IsAsked s p.upto) y.run p good.0
     ((good.1, omega (arith, more), quiet, λ e among. let next = order.ordinary p.upto quiet other e among in let less = good.1 in omega (arith, next, less)), asked)
 
 pub passes : (y : SharedValue) (p : PieceValue) (e : Event) → IsGood y.run p → CanPass (segment_of p) → event (event_order_in y) p.upto ≡ Some e → PassesOn p e
@@ -153,10 +153,10 @@ pub begun_on : (p : PieceValue) (at : ℕ) → p.upto ≤ p.from → cond (nat_l
 begun_on p at none = grind (arith, nat_tests)
 
 -- there is one `resume` after a spawn
-pub can_take : (y : SharedValue) (z : YardValue) (p : PieceValue) (ticket at : ℕ) → z ≡ yard_of y.run → IsOrderly (event_order_in y) → IsAsked (event_order_in y) at → what (event_order_in y) at ≡ resume ticket
+pub can_take : (y : SharedValue) (z : YardValue) (p : PieceValue) (ticket at : ℕ) → z ≡ yard_of y.run → IsOrderly (event_order_in y) → IsAsked (event_order_in y) at → word_step (event_order_in y) at ≡ resume ticket
     → ((p.upto ≤ p.from) ⊎ ((p.from < p.upto) × (at ≡ p.upto))) → CanTake z (segment_of p) ticket
 can_take y z p ticket at same order asked is where_to =
-    in_yard (λ (s : EventOrder). (q : ℕ) → what s q ≡ resume ticket → IsAsked s q × ((p.upto ≤ p.from) ⊎ ((p.from < p.upto) × (q ≡ p.upto)))) y z same
+    in_yard (λ (s : EventOrder). (q : ℕ) → word_step s q ≡ resume ticket → IsAsked s q × ((p.upto ≤ p.from) ⊎ ((p.from < p.upto) × (q ≡ p.upto)))) y z same
     (λ q there. let one = order.once at q ticket is there in subst (λ (n : ℕ). IsAsked (event_order_in y) n × ((p.upto ≤ p.from) ⊎ ((p.from < p.upto) × (n ≡ p.upto)))) one (asked, where_to))
 
 -- the chain after the piece's next event
@@ -164,14 +164,14 @@ pub moved : (y : SharedValue) (w : Work) (k : ChainValue) → Works y w → (let
 moved y w k works is = is ∙ ap (λ (c : ChainValue). standing c.of (c.at + 1)) works.stands
 
 abbrev pub IsTakenAt : YardValue → PieceValue → ℕ → PieceValue → Type 0
-IsTakenAt z p ticket q = (at : ℕ) × (what z.event_order at ≡ resume ticket) × (q ≡ piece_of p.reducers (taken_at (segment_of p) at))
+IsTakenAt z p ticket q = (at : ℕ) × (word_step z.event_order at ≡ resume ticket) × (q ≡ piece_of p.reducers (taken_at (segment_of p) at))
 
-there_alone : (y : SharedValue) (z : YardValue) (ticket at : ℕ) → z ≡ yard_of y.run → IsOrderly (event_order_in y) → what (event_order_in y) at ≡ resume ticket → (at' : ℕ) → what z.event_order at' ≡ resume ticket → at' ≡ at
-there_alone y z ticket at same order is at' there = order.once at' at ticket (subst (λ (v : YardValue). what v.event_order at' ≡ resume ticket) same there) is
+there_alone : (y : SharedValue) (z : YardValue) (ticket at : ℕ) → z ≡ yard_of y.run → IsOrderly (event_order_in y) → word_step (event_order_in y) at ≡ resume ticket → (at' : ℕ) → word_step z.event_order at' ≡ resume ticket → at' ≡ at
+there_alone y z ticket at same order is at' there = order.once at' at ticket (subst (λ (v : YardValue). word_step v.event_order at' ≡ resume ticket) same there) is
 
 -- a piece has taken its next event, the `resume` after a spawn
 pub took : (y : SharedValue) (z : YardValue) (w : Work) (ticket : ℕ) (q : PieceValue) (k : ChainValue) → z ≡ yard_of y.run → IsOrderly (event_order_in y) → Works y w
-    → (let p = w.piece in what (event_order_in y) p.upto ≡ resume ticket) → IsTakenAt z w.piece ticket q → (let c = w.chain in k ≡ standing c.of (c.at + 1))
+    → (let p = w.piece in word_step (event_order_in y) p.upto ≡ resume ticket) → IsTakenAt z w.piece ticket q → (let c = w.chain in k ≡ standing c.of (c.at + 1))
     → Works y (record { piece = q; chain = k }) × (let p = w.piece in q ≡ grown p)
 took y z w ticket q k same order works is (at, there, taken) stands =
     let p = w.piece in
@@ -182,14 +182,14 @@ took y z w ticket q k same order works is (at, there, taken) stands =
     (record { good = g.0; stands = moved y w k works stands ∙ ap (λ (n : ℕ). standing y.replay n) (sym g.2) }, is)
 
 -- an empty piece that has taken a continuation begins there
-pub began_there : (y : SharedValue) (z : YardValue) (p : PieceValue) (ticket : ℕ) (q : PieceValue) → z ≡ yard_of y.run → p.upto ≤ p.from → IsTakenAt z p ticket q → what (event_order_in y) q.from ≡ resume ticket
+pub began_there : (y : SharedValue) (z : YardValue) (p : PieceValue) (ticket : ℕ) (q : PieceValue) → z ≡ yard_of y.run → p.upto ≤ p.from → IsTakenAt z p ticket q → word_step (event_order_in y) q.from ≡ resume ticket
 began_there y z p ticket q same none (at, there, taken) =
-    subst (λ (x : PieceValue). what (event_order_in y) x.from ≡ resume ticket) (sym taken)
-    (subst (λ (n : ℕ). what (event_order_in y) n ≡ resume ticket) (sym (begun_on p at none)) (subst (λ (v : YardValue). what v.event_order at ≡ resume ticket) same there))
+    subst (λ (x : PieceValue). word_step (event_order_in y) x.from ≡ resume ticket) (sym taken)
+    (subst (λ (n : ℕ). word_step (event_order_in y) n ≡ resume ticket) (sym (begun_on p at none)) (subst (λ (v : YardValue). word_step v.event_order at ≡ resume ticket) same there))
 
 -- an empty piece has taken a continuation
 pub began : (y : SharedValue) (z : YardValue) (p : PieceValue) (ticket at : ℕ) (q : PieceValue) (k : ChainValue) → z ≡ yard_of y.run → IsOrderly (event_order_in y) → OfRun y.run p → p.upto ≤ p.from
-    → what (event_order_in y) at ≡ resume ticket → IsTakenAt z p ticket q → k ≡ standing y.replay (at + 1) → Works y (record { piece = q; chain = k })
+    → word_step (event_order_in y) at ≡ resume ticket → IsTakenAt z p ticket q → k ≡ standing y.replay (at + 1) → Works y (record { piece = q; chain = k })
 began y z p ticket at q k same order o none is (at', there, taken) stands =
     let one = there_alone y z ticket at same order is at' there in
     let begin = begun_on p at' none in

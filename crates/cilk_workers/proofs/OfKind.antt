@@ -16,7 +16,7 @@ use Rattle.cilk_tree.specs.Kinds.{kind_of, kind_of_event}
 use Rattle.cilk_tree.specs.declared.kind.Kind.{Kind}
 use Rattle.cilk_tree.specs.declared.kind.Kind.TheVariants as kinds
 use Rattle.cilk_tree.specs.declared.event_order.EventOrder.{EventOrder}
-use Rattle.cilk_tree.specs.Word.{plain, resume, finish, spawn, is_spawn, resumption, word_event, event, after, what}
+use Rattle.cilk_tree.specs.Word.{plain, resume, finish, spawn, is_spawn, resumption, word_event, event, predecessors_of, word_step}
 use Rattle.cilk_workers.specs.Asks.{Carries, HasNumber}
 use Rattle.cilk_workers.specs.Turns.{IsSilent}
 
@@ -160,17 +160,17 @@ plain_kind es p (kinds.Value i) v ps h = refl
 plain_kind es p kinds.Print v ps h = refl
 plain_kind es p k v ps h = absurd h
 
-of_event_at : (s : EventOrder) (p : ℕ) (e : Event) → event s p ≡ Some e → what s p ≡ word_event s.events p (Some e) (after s p)
-of_event_at s p e is = ap (λ (o : Option Event). word_event s.events p o (after s p)) is
+of_event_at : (s : EventOrder) (p : ℕ) (e : Event) → event s p ≡ Some e → word_step s p ≡ word_event s.events p (Some e) (predecessors_of s p)
+of_event_at s p e is = ap (λ (o : Option Event). word_event s.events p o (predecessors_of s p)) is
 
-pub what_plain : (s : EventOrder) (p : ℕ) (k : Kind) → kind_of_event (event s p) ≡ Some k → IsPlainKind k → what s p ≡ plain
-what_plain s p k q h = let e = with_kind (event s p) k q in of_event_at s p (event_with k e.0) e.1 ∙ plain_kind s.events p k e.0 (after s p) h
+pub what_plain : (s : EventOrder) (p : ℕ) (k : Kind) → kind_of_event (event s p) ≡ Some k → IsPlainKind k → word_step s p ≡ plain
+what_plain s p k q h = let e = with_kind (event s p) k q in of_event_at s p (event_with k e.0) e.1 ∙ plain_kind s.events p k e.0 (predecessors_of s p) h
 
-pub what_spawn : (s : EventOrder) (p f : ℕ) → kind_of_event (event s p) ≡ Some (kinds.Spawn f) → what s p ≡ spawn
+pub what_spawn : (s : EventOrder) (p f : ℕ) → kind_of_event (event s p) ≡ Some (kinds.Spawn f) → word_step s p ≡ spawn
 what_spawn s p f q = let e = with_kind (event s p) (kinds.Spawn f) q in of_event_at s p (events.Spawn f) e.1
 
 -- an `end` that isn't the last event
-pub what_end : (s : EventOrder) (p : ℕ) → kind_of_event (event s p) ≡ Some kinds.End → p < length s.events → what s p ≡ plain
+pub what_end : (s : EventOrder) (p : ℕ) → kind_of_event (event s p) ≡ Some kinds.End → p < length s.events → word_step s p ≡ plain
 what_end s p q less = let e = with_kind (event s p) kinds.End q in of_event_at s p events.End e.1 ∙ by (nat_eq p (length s.events)) refl
   where
     by : (b : Bool) → nat_eq p (length s.events) ≡ b → (if b then finish else plain) ≡ plain
@@ -187,11 +187,11 @@ not_resumed es (q ∷ []) h = chosen (is_spawn (event_at es q)) q h
 not_resumed es (q ∷ r ∷ ps) h = refl
 
 -- a `resume` that follows no spawn
-pub what_resume : (s : EventOrder) (p f : ℕ) → kind_of_event (event s p) ≡ Some (kinds.Resume f) → ((k : ℕ) → what s p ≡ resume k → ⊥) → what s p ≡ plain
+pub what_resume : (s : EventOrder) (p f : ℕ) → kind_of_event (event s p) ≡ Some (kinds.Resume f) → ((k : ℕ) → word_step s p ≡ resume k → ⊥) → word_step s p ≡ plain
 what_resume s p f q none =
     let e = with_kind (event s p) (kinds.Resume f) q in
     let is = of_event_at s p (events.Resume f) e.1 in
-    is ∙ not_resumed s.events (after s p) (λ k h. none k (is ∙ h))
+    is ∙ not_resumed s.events (predecessors_of s p) (λ k h. none k (is ∙ h))
 
 -- an event of another kind is no `sync`
 pub no_sync : (o : Option Event) (k : Kind) → kind_of_event o ≡ Some k → (k ≡ kinds.Sync → ⊥) → o ≡ Some events.Sync → ⊥

@@ -12,7 +12,7 @@ use Rattle.cilk_tree.specs.declared.kind.Kind.TheVariants as kinds
 use Rattle.cilk_shared.specs.Values.{YardValue}
 use Rattle.cilk_tree.specs.declared.event_order.EventOrder.{EventOrder}
 use Rattle.cilk_tree.specs.PlanStrands.{AreFirsts}
-use Rattle.cilk_tree.specs.Word.{event, resume, what}
+use Rattle.cilk_tree.specs.Word.{event, resume, word_step}
 
 -- a run of the program, and its replay
 pub record SharedValue : Type 0 where
@@ -36,7 +36,7 @@ HasBlock syncs blocks p = (b : ℕ) × (slice_get blocks p ≡ Some b) × (b < l
 
 -- the `resume` after each spawn has a block
 abbrev pub HaveBlocks : EventOrder → List ℕ → List ℕ → Type 0
-HaveBlocks s syncs blocks = (p k : ℕ) → what s p ≡ resume k → HasBlock syncs blocks p
+HaveBlocks s syncs blocks = (p k : ℕ) → word_step s p ≡ resume k → HasBlock syncs blocks p
 
 -- the event at each of the first positions is a `sync`; a strand begins where the last list has its
 -- number; and each `resume` after a spawn has its block

@@ -17,7 +17,7 @@ use Rattle.cilk_tree.specs.declared.kind.Kind.TheVariants as kinds
 use Rattle.cilk_runs.specs.Traces.{trace}
 use Rattle.cilk_shared.specs.Values.{MayPass}
 use Rattle.cilk_tree.specs.Runs.{Departs, IsAsked, IsFollowed}
-use Rattle.cilk_tree.specs.Word.{event, resume, what}
+use Rattle.cilk_tree.specs.Word.{event, resume, word_step}
 use Rattle.cilk_workers.specs.Shared.{SharedValue, event_order_in}
 use Rattle.cilk_workers.specs.declared.work.Work.{Work}
 use Rattle.cilk_workers.specs.declared.work.Turn.{Turn}
@@ -31,7 +31,7 @@ pub record Works (y : SharedValue) (w : Work) : Type 0 where
 
 -- a thief's good work: its piece begins at the `resume` after the spawn at the ticket
 abbrev pub IsThief : SharedValue → ℕ → Work → Type 0
-IsThief y ticket w = Works y w × (let p = w.piece in what (event_order_in y) p.from ≡ resume ticket)
+IsThief y ticket w = Works y w × (let p = w.piece in word_step (event_order_in y) p.from ≡ resume ticket)
 
 -- The result of the run: the course of the plan's run on this input ends with it, whatever number
 -- of ticks it costs. It is the result of the course's last end, the root's.
@@ -60,7 +60,7 @@ IsHeldUp y p = (event (event_order_in y) p.upto ≡ Some events.Sync) × (MayPas
 abbrev pub GoesNoFurther : SharedValue → PieceValue → PieceValue → Type 0
 GoesNoFurther y before p =
     ((p ≡ grown before) × (event (event_order_in y) before.upto ≡ Some events.End))
-    ⊎ ((p ≡ before) × ((k : ℕ) × (what (event_order_in y) before.upto ≡ resume k)))
+    ⊎ ((p ≡ before) × ((k : ℕ) × (word_step (event_order_in y) before.upto ≡ resume k)))
 
 -- The outcomes of a turn. Either the work is good and has one event more, or the worker has an end.
 -- An offered task is the continuation of the spawn that was made. The piece is unchanged where it

@@ -1,7 +1,7 @@
 //! A turn of a worker without work.
 
 ghost use Rattle.std.specs.Prelude.{◌≡◌, ◌≤◌, IfSome};
-ghost use Rattle.cilk_tree.specs.Word.{resume, what};
+ghost use Rattle.cilk_tree.specs.Word.{resume, word_step};
 ghost use Rattle.cilk_workers.specs.Rows.{OfRun};
 ghost use Rattle.cilk_workers.specs.Racks.{MayPick, Of};
 ghost use Rattle.cilk_workers.specs.Activities.{IsActivity};
@@ -53,7 +53,7 @@ impl<'a, 'b, N: Naming, R: Wait, G: Gate> WorkerContext<'a, 'b, N, R, G> {
     fn announce_steal(&self, keys: &mut Vec<Key>, child: Pos, at: Pos) -> bool
         requires context { IsWorkerContext N.run N.replay N.taken self.now }
         requires keys { AreKeys self.now.locks.now.items keys.old.items }
-        requires resumes { what (event_order_in self.now.shared.now) at ≡ resume child }
+        requires resumes { word_step (event_order_in self.now.shared.now) at ≡ resume child }
         ensures { AreKeys self.now.locks.now.items keys.new.items }
     {
         let Some(block) = self.shared.block_at(at) else {

@@ -6,7 +6,7 @@ ghost use Rattle.cilk_tree.specs.Frames.{IsInFrame};
 ghost use Rattle.cilk_tree.specs.declared.kind.Kind.{Kind};
 ghost use Rattle.cilk_tree.specs.declared.kind.Kind.TheVariants as kinds;
 ghost use Rattle.cilk_tree.specs.Runs.{IsAsked};
-ghost use Rattle.cilk_tree.specs.Word.{event, plain, resume, what};
+ghost use Rattle.cilk_tree.specs.Word.{event, plain, resume, word_step};
 ghost use Rattle.cilk_types.specs.declared.event.Event.TheVariants.{Sync};
 ghost use Rattle.cilk_workers.specs.Shared.{event_order_in};
 ghost use Rattle.cilk_workers.specs.Turns.{HasMore, IsDue, IsSilent, Turned, Works};
@@ -22,7 +22,7 @@ use cilk_types::event::{FrameNo, Pos};
 pub(crate) fn passed(shared: &Shared<'_>, work: &mut Work) -> Turn
     requires due { (kind : Kind) × IsDue shared.now work.old kind × IsSilent kind }
     requires more { HasMore shared.now work.old }
-    requires plain { what (event_order_in shared.now) work.old.piece.upto ≡ plain }
+    requires plain { word_step (event_order_in shared.now) work.old.piece.upto ≡ plain }
     requires ordinary { event (event_order_in shared.now) work.old.piece.upto ≡ Some Sync → ⊥ }
     ensures { Turned shared.now work.old.piece work.new result }
 {
@@ -50,7 +50,7 @@ pub(crate) fn synced(shared: &Shared<'_>, work: &mut Work) -> Turn
 pub(crate) fn taken(shared: &Shared<'_>, work: &mut Work, ticket: Pos) -> Turn
     requires due { (kind : Kind) × IsDue shared.now work.old kind × IsSilent kind }
     requires more { HasMore shared.now work.old }
-    requires resumes { what (event_order_in shared.now) work.old.piece.upto ≡ resume ticket }
+    requires resumes { word_step (event_order_in shared.now) work.old.piece.upto ≡ resume ticket }
     ensures { Turned shared.now work.old.piece work.new result }
 {
     shared.laws();

@@ -11,7 +11,7 @@ ghost use Rattle.cilk_tree.specs.Along.{IsAlong};
 ghost use Rattle.cilk_tree.specs.Orders.{IsOrderly};
 ghost use Rattle.cilk_tree.specs.Values.{HasValues};
 ghost use Rattle.cilk_tree.specs.PlanStrands.{BeginsStrand};
-ghost use Rattle.cilk_tree.specs.Word.{event, resume, what};
+ghost use Rattle.cilk_tree.specs.Word.{event, resume, word_step};
 ghost use Rattle.cilk_workers.specs.Shared.{AreColumns, HasCells, IsNext, shared_with, event_order_in};
 
 use crate::columns::{Block, Columns, block_in, strand_in, sync_in};
@@ -149,7 +149,7 @@ impl<'a> Shared<'a> {
     /// Returns the spawn whose continuation is resumed at a position, if the event there is the
     /// `resume` after a spawn.
     pub fn resumed_by(&self, at: Pos) -> Option<Pos>
-        ensures { (k : ℕ) → (result ≡ Some k) ↔ (what (event_order_in self.now) at ≡ resume k) }
+        ensures { (k : ℕ) → (result ≡ Some k) ↔ (word_step (event_order_in self.now) at ≡ resume k) }
     {
         self.plan.resumed_by(at)
     }
@@ -162,7 +162,7 @@ impl<'a> Shared<'a> {
     /// Returns the block of a position, if it has one, as the `resume` after a spawn has.
     pub fn block_at(&self, at: Pos) -> Option<Block>
         ensures block { IfSome result (λ b. event (event_order_in self.now) b.sync ≡ Some Sync) }
-        ensures resumed { (k : ℕ) → what (event_order_in self.now) at ≡ resume k → IsSome result }
+        ensures resumed { (k : ℕ) → word_step (event_order_in self.now) at ≡ resume k → IsSome result }
     {
         let syncs = self.columns.syncs;
         let number = block_in(self.columns.blocks, at, syncs.len())?;

@@ -5,7 +5,7 @@ use Rattle.cilk_types.specs.declared.event.Event.TheVariants as events
 use Rattle.cilk_shared.specs.Pieces.{PieceValue}
 use Rattle.cilk_tree.specs.declared.event_order.EventOrder.{EventOrder}
 use Rattle.cilk_tree.specs.Runs.{IsAsked, IsFollowed}
-use Rattle.cilk_tree.specs.Word.{after, event, finish, resume, what}
+use Rattle.cilk_tree.specs.Word.{predecessors_of, event, finish, resume, word_step}
 use Rattle.cilk_tree.specs.Orders.{IsOrderly}
 use Rattle.cilk_workers.specs.Shared.{event_order_in}
 use Rattle.cilk_workers.proofs.Due.{ahead, grown_good, in_segment, in_yard, off_segment, on_chain}
@@ -13,16 +13,16 @@ use Rattle.cilk_workers.proofs.Ending.{ended_with}
 use Rattle.cilk_workers.proofs.OfKind.{finish_event}
 use Rattle.cilk_workers.proofs.passing.finished.Goals as goal
 
-finishes : (s : EventOrder) (at : ℕ) → IsOrderly s → at ≡ length s.events → what s at ≡ finish
-finishes s at order last = ap (what s) last ∙ order.last
+finishes : (s : EventOrder) (at : ℕ) → IsOrderly s → at ≡ length s.events → word_step s at ≡ finish
+finishes s at order last = ap (word_step s) last ∙ order.last
 
 ends : (s : EventOrder) (at : ℕ) → IsOrderly s → at ≡ length s.events → event s at ≡ Some events.End
-ends s at order last = finish_event s.events at (event s at) (after s at) (finishes s at order last)
+ends s at order last = finish_event s.events at (event s at) (predecessors_of s at) (finishes s at order last)
 
 no_sync : (s : EventOrder) (at : ℕ) → IsOrderly s → at ≡ length s.events → event s at ≡ Some events.Sync → ⊥
 no_sync s at order last q = let z : Some events.End ≡ Some events.Sync = sym (ends s at order last) ∙ q in cc z
 
-no_resume : (s : EventOrder) (at : ℕ) → IsOrderly s → at ≡ length s.events → (k : ℕ) → what s at ≡ resume k → ⊥
+no_resume : (s : EventOrder) (at : ℕ) → IsOrderly s → at ≡ length s.events → (k : ℕ) → word_step s at ≡ resume k → ⊥
 no_resume s at order last k q = let z : finish ≡ resume k = sym (finishes s at order last) ∙ q in cc z
 
 pub follows-requires-clause-next : goal.follows-requires-clause-next
@@ -58,7 +58,7 @@ finish-requires-clause-next c =
     let y = c.args.shared.now in
     let p = c.args.work.now.piece in
     let works = c.requires.works in
-    in_yard (λ s. (p.from < p.upto × IsAsked s p.upto) × (what s p.upto ≡ finish)) y _ c.yard-2.ensures ((works.good.1, c.requires.asked), finishes (event_order_in y) p.upto c.laws.ensures.order c.requires.last)
+    in_yard (λ s. (p.from < p.upto × IsAsked s p.upto) × (word_step s p.upto ≡ finish)) y _ c.yard-2.ensures ((works.good.1, c.requires.asked), finishes (event_order_in y) p.upto c.laws.ensures.order c.requires.last)
 
 pub returns : goal.returns
 returns c =

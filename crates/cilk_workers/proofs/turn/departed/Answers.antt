@@ -4,7 +4,7 @@ use Rattle.cilk_replay.specs.Resumes.{ResumesAreAsked}
 use Rattle.cilk_shared.specs.Values.{SegmentValue, YardValue}
 use Rattle.cilk_tree.specs.declared.event_order.EventOrder.{EventOrder}
 use Rattle.cilk_tree.specs.Runs.{IsFollowed}
-use Rattle.cilk_tree.specs.Word.{resume, what}
+use Rattle.cilk_tree.specs.Word.{resume, word_step}
 use Rattle.cilk_workers.specs.Shared.{event_order_in}
 use Rattle.cilk_workers.proofs.Due.{off_segment}
 use Rattle.cilk_workers.proofs.turn.departed.Goals as goal
@@ -24,5 +24,5 @@ departs-requires-clause-next c =
     off_segment (λ (s : EventOrder) (n : ℕ). IsFollowed s (n - 1)) y p _ c.segment-segment.ensures works.good.0 c.has_followed.ensures in (
       subst (λ (g : SegmentValue). g.from < g.upto) (sym c.segment-segment.ensures) works.good.1,
       λ k is. c.requires.differs
-          (law.ended k p.upto (off_segment (λ (s : EventOrder) (n : ℕ). what s n ≡ resume k) y p _ c.segment-segment.ensures works.good.0 is) followed),
+          (law.ended k p.upto (off_segment (λ (s : EventOrder) (n : ℕ). word_step s n ≡ resume k) y p _ c.segment-segment.ensures works.good.0 is) followed),
     )

@@ -1,6 +1,6 @@
 use Rattle.std.proofs.Common.{subst, sym}
 use Rattle.cilk_shared.specs.Values.{NextRead}
-use Rattle.cilk_tree.specs.Word.{event, after, IsLine}
+use Rattle.cilk_tree.specs.Word.{event, predecessors_of, IsLine}
 use Rattle.cilk_tree.proofs.Events.{read_what}
 use Rattle.cilk_shared.specs.Pieces.{PieceValue, IsPieceOf, segment_of}
 use Rattle.cilk_shared.proofs.Covering.{of_piece, covers_line}
@@ -14,4 +14,4 @@ invariant_of-self c =
     let r = c.self.inside.reducers.value in
     let of = of_piece (IsPieceOf y) c.self.view_is c.requires.yard in
     let next = of_piece (λ (p : PieceValue). NextRead y (segment_of p) c.args.cell) c.self.view_is c.requires.next in
-    covers_line y c.laws.ensures.order c.self.inside.views r g of c.self.invariant next.0.0 (subst IsLine (sym (read_what y.event_order.events g.upto (event y.event_order g.upto) (after y.event_order g.upto) c.args.cell next.2.0 next.2.1)) tt) (quiet_read y.event_order r g.upto c.args.cell next.2.0 next.2.1) _ c.load.ensures.segment
+    covers_line y c.laws.ensures.order c.self.inside.views r g of c.self.invariant next.0.0 (subst IsLine (sym (read_what y.event_order.events g.upto (event y.event_order g.upto) (predecessors_of y.event_order g.upto) c.args.cell next.2.0 next.2.1)) tt) (quiet_read y.event_order r g.upto c.args.cell next.2.0 next.2.1) _ c.load.ensures.segment

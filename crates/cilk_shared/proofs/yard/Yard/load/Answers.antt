@@ -1,6 +1,6 @@
 use Rattle.std.proofs.Common.{◌≡◌, sym, subst, arith}
 use Rattle.cilk_tree.specs.declared.event_order.EventOrder.{EventOrder}
-use Rattle.cilk_tree.specs.Word.{event, after, read, word, what, IsLine}
+use Rattle.cilk_tree.specs.Word.{event, predecessors_of, read, word, word_step, IsLine}
 use Rattle.cilk_tree.proofs.Events.{read_what}
 use Rattle.cilk_shared.specs.Values.{OfYard, NextRead}
 use Rattle.cilk_shared.proofs.Steps.{both, stands, has_room, load_at, moves, moved_at}
@@ -15,7 +15,7 @@ load-found-requires c =
     let p = c.segment.inside.upto in
     let of = both OfYard c.self.view_is c.segment.view_is c.requires.yard in
     let next = both (λ y g. NextRead y g c.args.cell) c.self.view_is c.segment.view_is c.requires.next in
-    let is : what s p ≡ read c.args.cell (word next.2.0) = read_what s.events p (event s p) (after s p) c.args.cell next.2.0 next.2.1 in
+    let is : word_step s p ≡ read c.args.cell (word next.2.0) = read_what s.events p (event s p) (predecessors_of s p) c.args.cell next.2.0 next.2.1 in
     let h = stands s me a p i.0 c.segment.invariant of.1 next.0 (subst IsLine (sym is) tt) in (
       of.0,
       omega (arith, i.3, next.1),
@@ -30,7 +30,7 @@ overflow_add-segment c =
     let p = c.segment.inside.upto in
     let of = both OfYard c.self.view_is c.segment.view_is c.requires.yard in
     let next = both (λ y g. NextRead y g c.args.cell) c.self.view_is c.segment.view_is c.requires.next in
-    let is : what s p ≡ read c.args.cell (word next.2.0) = read_what s.events p (event s p) (after s p) c.args.cell next.2.0 next.2.1 in
+    let is : word_step s p ≡ read c.args.cell (word next.2.0) = read_what s.events p (event s p) (predecessors_of s p) c.args.cell next.2.0 next.2.1 in
     let room = has_room s me a p (stands s me a p c.self.invariant.0 c.segment.invariant of.1 next.0 (subst IsLine (sym is) tt)) in
     omega (arith, room)
 
@@ -42,6 +42,6 @@ invariant_of-segment c =
     let p = c.segment.inside.upto in
     let of = both OfYard c.self.view_is c.segment.view_is c.requires.yard in
     let next = both (λ y g. NextRead y g c.args.cell) c.self.view_is c.segment.view_is c.requires.next in
-    let is : what s p ≡ read c.args.cell (word next.2.0) = read_what s.events p (event s p) (after s p) c.args.cell next.2.0 next.2.1 in
+    let is : word_step s p ≡ read c.args.cell (word next.2.0) = read_what s.events p (event s p) (predecessors_of s p) c.args.cell next.2.0 next.2.1 in
     let h = stands s me a p c.self.invariant.0 c.segment.invariant of.1 next.0 (subst IsLine (sym is) tt) in
     moved_at s me a p h c.load-found.new.seat.me (moves s me a p h c.self.inside.table.shared.table_id.slots c.args.cell c.load-found.result c.load-found.new.seat.me c.load-found.ensures.2)
