@@ -14,7 +14,7 @@
 //!
 //! | Call or law | Result |
 //! |---|---|
-//! | [`settle::settle`] | the outcome of every parallel run that ends, if no two positions of the serial run race |
+//! | [`settle::settle`] | the outcome of every parallel run that ends, or the first race of the serial run |
 //! | [`laws::race_free_programs_are_determinate`] | the theorem |
 //! | [`laws::step_keeps_cuts`] | a single step leads from a consistent cut to another |
 //! | [`events`], [`positions`] | the list of a serial run's events, its tree, and its names |
@@ -25,8 +25,8 @@
 //!
 //! ```text
 //! match settle(alloc, &program, &input)? {
-//!     Some(outcome) => ..,                   // the outcome of every parallel run that ends
-//!     None => ..,                            // two positions of the serial run race
+//!     Verdict::Settled(outcome) => ..,       // the outcome of every parallel run that ends
+//!     Verdict::Race(first) => ..,            // two positions of the serial run race
 //! }
 //! ```
 #![tactic(auto)]

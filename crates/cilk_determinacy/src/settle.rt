@@ -1,10 +1,11 @@
 //! One serial run, checked for races, settles every parallel run.
 
-ghost use Rattle.std.specs.Prelude.{MatchOption, IfOk, IfErr};
+ghost use Rattle.std.specs.Prelude.{IfOk, IfErr};
 ghost use Rattle.cilk_program.specs.Sources.{source};
 ghost use Rattle.cilk_serial.specs.Ran.{IsRunFault};
 ghost use Rattle.cilk_tree.specs.Shape.{Shape, Spells};
-ghost use Rattle.cilk_determinacy.specs.Settled.{IsJudged, SerialRunsSettle, IsSettled, HasRace};
+ghost use Rattle.cilk_tree.specs.Tree.{tree};
+ghost use Rattle.cilk_determinacy.specs.Settled.{IsFirstOf, IsVerdict, SerialRunsSettle};
 
 use crate::words::{inputs_are_words, programs_are_of_words};
 use cilk_cells::race::first_race;
@@ -15,26 +16,45 @@ use cilk_program::program::Program;
 use cilk_serial::fault::RunFault;
 use cilk_serial::run::run;
 use cilk_tree::building::tree_of;
+use cilk_types::event::Pos;
 use cilk_types::input::Input;
 use cilk_types::outcome::Outcome;
 use cilk_types::trace::Trace;
 use std::alloc::{AllocError, Global};
 
-/// Runs a program serially and returns its outcome if the run has no race. Then every parallel run
-/// agrees with the serial one, and has this outcome once it has ended. Returns `None` if the run
-/// has a determinacy race or a view-read race, and an error if it ends by a fault. Cost: that of
-/// the serial run; memory: linear in its events.
-pub fn settle(alloc: Global, program: &Program, input: &Input) -> Result<Option<Outcome>, RunFault>
-    ensures settled { IfOk result (λ found. MatchOption found (HasRace (source program.now) input.now) (λ outcome. IsSettled (source program.now) input.now outcome)) }
+/// The first race of a serial run, by two positions of it, counted from 1.
+#[derive(Clone, Copy, PartialEq, Eq, Debug)]
+pub enum FirstRace {
+    /// The first determinacy race: two accesses of one cell.
+    Determinacy { earlier: Pos, later: Pos },
+    /// No two accesses race, but two reducer-reads do: the creation of a reducer and its first use
+    /// that may find another view.
+    ViewRead { created: Pos, used: Pos },
+}
+
+/// The verdict on a program whose serial run ends without a fault.
+#[derive(Drop)]
+pub enum Verdict {
+    /// No two positions race, and every parallel run that ends has this outcome.
+    Settled(Outcome),
+    /// Two positions race.
+    Race(FirstRace),
+}
+
+/// Runs a program serially, and returns its outcome if no two positions of the run race. Then every
+/// parallel run agrees with the serial one, and has this outcome once it has ended. Otherwise
+/// returns the first race, as [`first_race`] and [`first_view_read`] say; an error if the run ends
+/// by a fault. Cost: that of the serial run; memory: linear in its events.
+pub fn settle(alloc: Global, program: &Program, input: &Input) -> Result<Verdict, RunFault>
+    ensures verdict { IfOk result (λ v. IsVerdict (source program.now) input.now v) }
     ensures fault { IfErr result (λ e. IsRunFault (source program.now) input.now e) }
 {
     programs_are_of_words(program);
     inputs_are_words(input);
     let (outcome, trace) = run(alloc, program, input)?;
-    if is_race_free(alloc, &trace)? {
-        Ok(Some(outcome))
-    } else {
-        Ok(None)
+    match first_of(alloc, &trace)? {
+        Some(race) => Ok(Verdict::Race(race)),
+        None => Ok(Verdict::Settled(outcome)),
     }
 }
 
@@ -47,18 +67,18 @@ pub fn serial_runs_settle(program: &Program, input: &Input)
     inputs_are_words(input);
 }
 
-// Tells whether no two positions race.
-fn is_race_free(alloc: Global, trace: &Trace) -> Result<bool, AllocError>
-    ensures { IfOk result (λ free. (s : Shape) → Spells s trace.now → IsJudged free trace.now) }
+// Returns the first race, or `None` if no two positions race.
+fn first_of(alloc: Global, trace: &Trace) -> Result<Option<FirstRace>, AllocError>
+    ensures { IfOk result (λ found. (s : Shape) → Spells s trace.now → IsFirstOf (tree s) trace.now found) }
 {
     let tree = tree_of(alloc, trace)?;
     let labels = label(alloc, &tree)?;
-    if first_race(alloc, trace, &labels)?.is_some() {
-        return Ok(false);
+    if let Some((earlier, later)) = first_race(alloc, trace, &labels)? {
+        return Ok(Some(FirstRace::Determinacy { earlier, later }));
     }
     let classes = classes(alloc, &tree)?;
-    if first_view_read(alloc, trace, &classes)?.is_some() {
-        return Ok(false);
+    if let Some((created, used)) = first_view_read(alloc, trace, &classes)? {
+        return Ok(Some(FirstRace::ViewRead { created, used }));
     }
-    Ok(true)
+    Ok(None)
 }
