@@ -1,6 +1,6 @@
 -- A serial run without a race settles all runs: from the contracts of the run and of the race
 -- tests.
-use Rattle.std.proofs.Common.{◌≡◌, ℤ, List, IsTrue, tt, Some, None}
+use Rattle.std.proofs.Common.{ℤ, List, IsTrue, Some, None}
 use Rattle.cilk_types.specs.declared.event.Event.{Event}
 use Rattle.cilk_types.specs.declared.outcome.Outcome.{Outcome}
 use Rattle.cilk_program.specs.Syntax.{Source}
@@ -45,5 +45,12 @@ module _ (p : Source) (inputs : List ℤ) (well : IsTrue (is_well_named p)) (has
         let s = shape_of (named p ran.run) in
         let is_first : IsFirstOf (tree s) es (Some first) = judged s spelled in
         record {
-          run = ran.run; events = es; outcome = o; serial = ran.serial; shape = s; spells = spelled
-          is_first = is_first; events_of = of_race (tree s) first is_first }
+          run = ran.run;
+          events = es;
+          outcome = o;
+          serial = ran.serial;
+          shape = s;
+          spells = spelled;
+          is_first = is_first;
+          events_of = of_race (tree s) first is_first;
+        }

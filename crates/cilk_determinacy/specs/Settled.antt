@@ -1,5 +1,5 @@
 -- The consequences of one serial run without a race.
-use Rattle.std.specs.Prelude.{ℤ, Unit, List, Option, Some, None}
+use Rattle.std.specs.Prelude.{ℤ, List, Option, Some, None}
 use Rattle.cilk_types.specs.declared.event.Event.{Event}
 use Rattle.cilk_types.specs.declared.outcome.Outcome.{Outcome}
 use Rattle.cilk_program.specs.Syntax.{Source}

@@ -1,10 +1,13 @@
 //! One serial run, checked for races, settles every parallel run.
 
-ghost use Rattle.std.specs.Prelude.{IfOk, IfErr};
+ghost use Rattle.std.specs.Prelude.{IfOk, IfErr, List, MatchOption};
+ghost use Rattle.cilk_types.specs.declared.event.Event.{Event};
 ghost use Rattle.cilk_program.specs.Sources.{source};
 ghost use Rattle.cilk_serial.specs.Ran.{IsRunFault};
 ghost use Rattle.cilk_tree.specs.Shape.{Shape, Spells};
-ghost use Rattle.cilk_tree.specs.Tree.{tree};
+ghost use Rattle.cilk_tree.specs.Tree.{Tree, tree};
+ghost use Rattle.cilk_tree.specs.Races.{HasNoRace, IsFirstRace};
+ghost use Rattle.cilk_peers.specs.ViewRaces.{HasNoViewRace, IsFirstViewRace};
 ghost use Rattle.cilk_determinacy.specs.Settled.{IsFirstOf, IsVerdict, SerialRunsSettle};
 
 use crate::words::{inputs_are_words, programs_are_of_words};
@@ -52,7 +55,7 @@ pub fn settle(alloc: Global, program: &Program, input: &Input) -> Result<Verdict
     programs_are_of_words(program);
     inputs_are_words(input);
     let (outcome, trace) = run(alloc, program, input)?;
-    match first_of(alloc, &trace)? {
+    match race_of(alloc, &trace)? {
         Some(race) => Ok(Verdict::Race(race)),
         None => Ok(Verdict::Settled(outcome)),
     }
@@ -68,17 +71,25 @@ pub fn serial_runs_settle(program: &Program, input: &Input)
 }
 
 // Returns the first race, or `None` if no two positions race.
-fn first_of(alloc: Global, trace: &Trace) -> Result<Option<FirstRace>, AllocError>
+fn race_of(alloc: Global, trace: &Trace) -> Result<Option<FirstRace>, AllocError>
     ensures { IfOk result (λ found. (s : Shape) → Spells s trace.now → IsFirstOf (tree s) trace.now found) }
 {
     let tree = tree_of(alloc, trace)?;
     let labels = label(alloc, &tree)?;
-    if let Some((earlier, later)) = first_race(alloc, trace, &labels)? {
-        return Ok(Some(FirstRace::Determinacy { earlier, later }));
-    }
+    let accesses = first_race(alloc, trace, &labels)?;
     let classes = classes(alloc, &tree)?;
-    if let Some((created, used)) = first_view_read(alloc, trace, &classes)? {
-        return Ok(Some(FirstRace::ViewRead { created, used }));
+    let reads = first_view_read(alloc, trace, &classes)?;
+    Ok(first_of(accesses, reads))
+}
+
+// Returns the first race of a list, given its first determinacy race and its first view-read race.
+fn first_of(accesses: Option<(Pos, Pos)>, reads: Option<(Pos, Pos)>) -> Option<FirstRace>
+    ensures { (t : Tree) (es : List Event) → MatchOption accesses (HasNoRace t es) (λ pair. IsFirstRace t es pair.0 pair.1)
+        → MatchOption reads (HasNoViewRace t es) (λ pair. IsFirstViewRace t es pair.0 pair.1) → IsFirstOf t es result }
+{
+    match (accesses, reads) {
+        (Some((earlier, later)), _) => Some(FirstRace::Determinacy { earlier, later }),
+        (None, Some((created, used))) => Some(FirstRace::ViewRead { created, used }),
+        (None, None) => None,
     }
-    Ok(None)
 }

@@ -13,7 +13,7 @@ use Rattle.clap.specs.declared.parser.matches.Found.{Found}
 use Rattle.clap.proofs.OnLiterals.{clap_on_literals}
 use Rattle.clap.proofs.WalkLemmas.{first_value-rows}
 use Rattle.cilk_messages.specs.declared.words.Order.{Order}
-use Rattle.cilk_messages.specs.Words.{order_view, Requested, HasShape, Check, IsRefusal, IsWordsFault, Play, Run, Standard, check_with, cilk_app, order_by, order_in, paths_in, paths_view, play_with, script_with, texts, workers_in}
+use Rattle.cilk_messages.specs.Words.{order_view, Requested, HasShape, Check, IsRefusal, IsWordsFault, Judge, Play, Run, Standard, check_with, cilk_app, judge_with, order_by, order_in, paths_in, paths_view, play_with, script_with, texts, workers_in}
 use Rattle.cilk_messages.specs.declared.words.WordsFault.{WordsFault}
 use Rattle.cilk_messages.specs.declared.words.WordsFault.TheVariants.{Usage, Memory}
 
@@ -58,6 +58,25 @@ pub some_certificate : (f : Found) (o : Option (Bor Text)) (c : Bor Text)
     → check_with (rows_of f) ≡ option_map (λ paths. Check paths.0 c.now paths.1) (paths_in (rows_of f))
 some_certificate f o c h e =
     ap (asked_of (rows_of f)) (sym (first_value-rows f (codes "certificate")) ∙ sym h ∙ ap (option_map (λ (s : Bor Text). s.now)) e)
+
+-- matches with no trace
+pub no_trace : (f : Found) (o : Option (Bor Text)) → option_map (λ s. s.now) o ≡ first_value f (codes "trace") → o ≡ None
+    → judge_with (rows_of f) ≡ None
+no_trace f o h e =
+    ap (option_map (λ (trace : Text). Judge trace (first_of (codes "sites") (rows_of f))))
+    (sym (first_value-rows f (codes "trace")) ∙ sym h ∙ ap (option_map (λ (s : Bor Text). s.now)) e)
+
+-- matches with a trace
+pub some_trace : (f : Found) (o i : Option (Bor Text)) (p : Bor Text)
+    → option_map (λ s. s.now) o ≡ first_value f (codes "trace") → o ≡ Some p
+    → option_map (λ s. s.now) i ≡ first_value f (codes "sites") → judge_with (rows_of f) ≡ Some (Judge p.now (option_map (λ s. s.now) i))
+some_trace f o i p h e k =
+    let some : first_of (codes "trace") (rows_of f) ≡ Some p.now =
+    sym (first_value-rows f (codes "trace")) ∙ sym h ∙ ap (option_map (λ (s : Bor Text). s.now)) e in
+    let sites : first_of (codes "sites") (rows_of f) ≡ option_map (λ (s : Bor Text). s.now) i =
+    sym (first_value-rows f (codes "sites")) ∙ sym k in
+    ap (option_map (λ (trace : Text). Judge trace (first_of (codes "sites") (rows_of f)))) some
+    ∙ ap (λ (x : Option Text). Some (Judge p.now x)) sites
 
 -- matches with no script
 pub no_script : (f : Found) (o : Option (Bor Text)) → option_map (λ s. s.now) o ≡ first_value f (codes "script") → o ≡ None

@@ -35,6 +35,9 @@ pub data Requested : Type 0 where
   Check : (program certificate : Text) (input : Option Text) → Requested
   -- with this many workers
   Play : (program script : Text) (workers : ℕ) (input : Option Text) → Requested
+  Settle : (program : Text) (input : Option Text) → Requested
+  -- a trace, and a table of its sites for an explanation
+  Judge : (trace : Text) (sites : Option Text) → Requested
 
 abbrev pub origin_view : code.Origin → Origin
 origin_view origins.Standard = Standard
@@ -47,6 +50,8 @@ order_view (orders.Check program certificate input) =
     Check program.now certificate.now (option_map (λ path. path.now) input)
 order_view (orders.Play program script workers input) =
     Play program.now script.now workers (option_map (λ path. path.now) input)
+order_view (orders.Settle program input) = Settle program.now (option_map (λ path. path.now) input)
+order_view (orders.Judge trace sites) = Judge trace.now (option_map (λ path. path.now) sites)
 
 abbrev pub program_rule : Rule
 program_rule = record (new_rule (codes "program")) { required = true }
@@ -62,6 +67,12 @@ workers_rule = record (new_rule (codes "workers")) { long = Some (codes "workers
 
 abbrev pub input_rule : Rule
 input_rule = record (new_rule (codes "input")) { long = Some (codes "input"); action = Some Set }
+
+abbrev pub trace_rule : Rule
+trace_rule = record (new_rule (codes "trace")) { required = true }
+
+abbrev pub sites_rule : Rule
+sites_rule = record (new_rule (codes "sites")) { long = Some (codes "sites"); action = Some Set }
 
 -- `NAME PROGRAM [--input FILE]`
 abbrev pub program_app : Text → App
@@ -79,15 +90,19 @@ script_app = with_rule (with_rule (new_app (codes "play")) program_rule) script_
 abbrev pub play_app : App
 play_app = with_rule (with_rule script_app workers_rule) input_rule
 
+-- `judge TRACE [--sites FILE]`
+abbrev pub judge_app : App
+judge_app = with_rule (with_rule (new_app (codes "judge")) trace_rule) sites_rule
+
 -- the program without commands
 abbrev pub empty_app : App
 empty_app = on_top (λ s. record s { no_binary_name = true; subcommand_required = true }) (new_app (codes "cilk"))
 
--- the commands: `run`, `certify`, `check` and `play`
+-- the commands: `run`, `certify`, `check`, `play`, `settle` and `judge`
 abbrev pub cilk_app : App
 cilk_app =
-    with_subcommand (with_subcommand (with_subcommand (with_subcommand empty_app (program_app (codes "run")).top)
-    (program_app (codes "certify")).top) check_app.top) play_app.top
+    with_subcommand (with_subcommand (with_subcommand (with_subcommand (with_subcommand (with_subcommand empty_app (program_app (codes "run")).top)
+    (program_app (codes "certify")).top) check_app.top) play_app.top) (program_app (codes "settle")).top) judge_app.top
 
 -- the command is this one to clap's parser
 abbrev pub HasShape : Command → App → Type 0
@@ -135,12 +150,22 @@ script_with rows script =
 abbrev pub play_with : List Row → Option Requested
 play_with rows = option_and_then (script_with rows) (first_of (codes "script") rows)
 
+-- the order of `settle` with these matches
+abbrev pub settle_with : List Row → Option Requested
+settle_with rows = option_map (λ paths. Settle paths.0 paths.1) (paths_in rows)
+
+-- the order of `judge` with these matches
+abbrev pub judge_with : List Row → Option Requested
+judge_with rows = option_map (λ trace. Judge trace (first_of (codes "sites") rows)) (first_of (codes "trace") rows)
+
 abbrev pub named : Text × List Row → Option Requested
 named p =
     if bytes_eq p.0 (codes "run") then run_with p.1
     else (if bytes_eq p.0 (codes "certify") then certify_with p.1
     else (if bytes_eq p.0 (codes "check") then check_with p.1
-    else (if bytes_eq p.0 (codes "play") then play_with p.1 else None)))
+    else (if bytes_eq p.0 (codes "play") then play_with p.1
+    else (if bytes_eq p.0 (codes "settle") then settle_with p.1
+    else (if bytes_eq p.0 (codes "judge") then judge_with p.1 else None)))))
 
 -- the order of a subcommand with its matches
 abbrev pub order_by : Option (Text × List Row) → Option Requested

@@ -5,7 +5,7 @@
 
 ghost use Rattle.std.specs.Prelude.{◌≡◌, ℕ, option_map, IfOk, IfErr, Some};
 ghost use Rattle.clap.specs.Words.{App, found_of, kind_of, rows_of, subcommand_rows_of, with_subcommand};
-ghost use Rattle.cilk_messages.specs.Words.{HasShape, program_app, check_app, cilk_app, empty_app, order_in, order_by, paths_in, paths_view, play_app, play_with, script_app, run_with, certify_with, check_with, IsWordsFault, order_view, IsRefusal, texts, worker_count, workers_in};
+ghost use Rattle.cilk_messages.specs.Words.{HasShape, program_app, check_app, cilk_app, empty_app, judge_app, judge_with, order_in, order_by, paths_in, paths_view, play_app, play_with, script_app, run_with, certify_with, check_with, settle_with, IsWordsFault, order_view, IsRefusal, texts, worker_count, workers_in};
 
 use cilk_syntax::lexer::{all_digits, value_of};
 use clap::error::ErrorKind;
@@ -29,6 +29,10 @@ const CERTIFY: &str = "Write the certificate of a program's serial run";
 const CHECK: &str = "Check a certificate, and whether the run that it is of has a race";
 
 const PLAY: &str = "Run a program in parallel, step by step, by a script";
+
+const SETTLE: &str = "Run a program serially, and tell whether any schedule can change its outcome";
+
+const JUDGE: &str = "Tell whether a recorded run of a C or C++ program has a race";
 
 /// The origin of a program text.
 #[derive(Clone, Copy, PartialEq, Eq)]
@@ -64,6 +68,16 @@ pub enum Order<'a> {
         script: &'a str,
         workers: u32,
         input: Option<&'a str>,
+    },
+    /// Tell whether a program's run has a race, on the input of a file or on the empty input.
+    Settle {
+        program: &'a str,
+        input: Option<&'a str>,
+    },
+    /// Tell whether the run of a trace has a race. An explanation names places by a table of sites.
+    Judge {
+        trace: &'a str,
+        sites: Option<&'a str>,
     },
 }
 
@@ -138,6 +152,19 @@ fn play_command<'a>(alloc: Global) -> Result<Command<'a>, AllocError>
         )
 }
 
+// `judge TRACE [--sites FILE]`
+fn judge_command<'a>(alloc: Global) -> Result<Command<'a>, AllocError>
+    ensures { IfOk result (λ c. HasShape c judge_app) }
+{
+    Command::new(alloc, "judge")
+        .arg(Arg::new(alloc, "trace").required(true))?
+        .arg(
+            Arg::new(alloc, "sites")
+                .long("sites")
+                .action(ArgAction::Set),
+        )
+}
+
 /// Adds a command with its help text.
 ///
 /// It takes the command as a result, so that a failure leaves one value to drop here.
@@ -169,7 +196,9 @@ fn command<'a>(alloc: Global) -> Result<Command<'a>, AllocError>
     let one = with(empty(alloc)?, program_command(alloc, "run"), RUN)?;
     let two = with(one, program_command(alloc, "certify"), CERTIFY)?;
     let three = with(two, check_command(alloc), CHECK)?;
-    with(three, play_command(alloc), PLAY)
+    let four = with(three, play_command(alloc), PLAY)?;
+    let five = with(four, program_command(alloc, "settle"), SETTLE)?;
+    with(five, judge_command(alloc), JUDGE)
 }
 
 // The paths of the program and of the input in a command's matches.
@@ -253,6 +282,23 @@ fn play_order<'a>(play: &ArgMatches<'a>) -> Option<Order<'a>>
     })
 }
 
+// The order of `settle` with these matches.
+fn settle_order<'a>(settle: &ArgMatches<'a>) -> Option<Order<'a>>
+    ensures { option_map order_view result ≡ settle_with (rows_of (found_of settle.now)) }
+{
+    let (program, input) = paths(settle)?;
+    Some(Order::Settle { program, input })
+}
+
+// The order of `judge` with these matches.
+fn judge_order<'a>(judge: &ArgMatches<'a>) -> Option<Order<'a>>
+    ensures { option_map order_view result ≡ judge_with (rows_of (found_of judge.now)) }
+{
+    let trace = judge.get_str("trace")?;
+    let sites = judge.get_str("sites");
+    Some(Order::Judge { trace, sites })
+}
+
 // The order of the matches.
 fn order_of<'a>(matches: &ArgMatches<'a>) -> Option<Order<'a>>
     ensures { option_map order_view result ≡ order_by (subcommand_rows_of matches.now) }
@@ -262,6 +308,8 @@ fn order_of<'a>(matches: &ArgMatches<'a>) -> Option<Order<'a>>
         Some(("certify", certify)) => certify_order(certify),
         Some(("check", check)) => check_order(check),
         Some(("play", play)) => play_order(play),
+        Some(("settle", settle)) => settle_order(settle),
+        Some(("judge", judge)) => judge_order(judge),
         _ => None,
     }
 }
