@@ -1,6 +1,7 @@
 pub mod Lines
 pub mod OnePlayed
 pub mod OneReply
+pub mod OneSettled
 pub mod OneShown
 pub mod Reading
 pub mod Replying

@@ -13,6 +13,7 @@ use Rattle.cilk_script.specs.declared.script.Step.{Step}
 use Rattle.cilk_schedule.proofs.OneEnd.{one_left, one_line, one_stop, left_or_past, left_or_stopped, stopped_or_past}
 use Rattle.cilk_commands.specs.Files.{Failures, IsHeld}
 use Rattle.cilk_commands.specs.OneReply.{IsOfTexts}
+use Rattle.cilk_commands.specs.Replies as replies
 use Rattle.cilk_commands.specs.Replies.{Accepted, BadInput, BadProgram, BadScript, BadWords, Certified, Ended, Faulted, FaultedIn, NoMemory, NotEnded, Refused, Reply, Text, Unreadable}
 use Rattle.cilk_commands.specs.Shown.{PlayShows, ScriptFails, StepsShow, TextShows}
 
@@ -41,6 +42,10 @@ module _ (workers : ℕ) (some : 0 < workers) (steps : List Step) (m : Meant) (i
   kind_of (Certified c) v h = absurd h
   kind_of Accepted v h = absurd h
   kind_of (Refused n ps) v h = absurd h
+  kind_of (replies.Settled names o) v h = absurd h
+  kind_of replies.RaceFree v h = absurd h
+  kind_of (replies.BadTrace n at) v h = absurd h
+  kind_of (replies.Changed name) v h = absurd h
 
   by_kind : (r q : Reply) → Kind r → Kind q → StepsShow workers steps m inputs r → StepsShow workers steps m inputs q → r ≡ q
   by_kind r q (ended names o) (ended names' o') h k = ap₂ Ended (h.0 ∙ sym k.0) (some_is o o' (one_left m.source inputs workers steps (Some o') (Some o) (k.1 some) (h.1 some)))
@@ -80,6 +85,10 @@ fails_at text (Certified c) v h = absurd h
 fails_at text Accepted v h = absurd h
 fails_at text (Refused n ps) v h = absurd h
 fails_at text NotEnded v h = absurd h
+fails_at text (replies.Settled names o) v h = absurd h
+fails_at text replies.RaceFree v h = absurd h
+fails_at text (replies.BadTrace n at) v h = absurd h
+fails_at text (replies.Changed name) v h = absurd h
 
 texts_once : (workers : ℕ) → 0 < workers → (text : Text) (m : Meant) (inputs : List ℤ) (r q : Reply) → IsOfTexts r → IsOfTexts q → TextShows workers text m inputs r → TextShows workers text m inputs q → r ≡ q
 texts_once workers some text m inputs r q v u (inl h) (inl k) =
@@ -107,6 +116,10 @@ text_of path known failed failed' workers m inputs (Certified c) v h = h
 text_of path known failed failed' workers m inputs Accepted v h = h
 text_of path known failed failed' workers m inputs (Refused n ps) v h = h
 text_of path known failed failed' workers m inputs NotEnded v h = h
+text_of path known failed failed' workers m inputs (replies.Settled names o) v h = h
+text_of path known failed failed' workers m inputs replies.RaceFree v h = h
+text_of path known failed failed' workers m inputs (replies.BadTrace n at) v h = h
+text_of path known failed failed' workers m inputs (replies.Changed name) v h = h
 
 one_text : (known : Option Text) (x y : Text) → IsSome known → IsHeld known x → IsHeld known y → y ≡ x
 one_text None x y there h k = cc

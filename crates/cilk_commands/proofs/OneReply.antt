@@ -3,7 +3,7 @@
 -- `given_once`, `input_once`: the texts are one. `one_refusal`, `one_input_refusal`: a text has one
 -- first fault. `same_given`, `one_refused`, `not_refused`: the texts mean one program and one
 -- input, or have one first fault, and not both. `one_judged`, `one_run`, `one_certify`,
--- `one_check`, `one_play`: a command has one reply. `one_reply`: and so have words.
+-- `one_check`, `one_play`, `one_settle`: a command has one reply. `one_reply`: and so have words.
 use Rattle.std.proofs.Common.{◌≡◌, ◌<◌, ℕ, ℤ, List, take, Option, Some, None, refl, sym, ap, ◌∙◌, subst}
 use Rattle.std.specs.Prelude.{◌≢◌, IfSome, IsSome}
 use Rattle.cilk_parser.specs.declared.fault.TextFault.{TextFault}
@@ -20,12 +20,13 @@ use Rattle.cilk_commands.specs.declared.streams.TheConstants.{MAX_READ}
 use Rattle.cilk_commands.specs.OneReply.{HasOneReply, IsKnown, IsKnownInput, IsOfTexts}
 use Rattle.cilk_commands.specs.Files.{Failures}
 use Rattle.cilk_commands.specs.Replies.{BadInput, BadProgram, BadWords, NoMemory, Reply, Text, Unreadable}
-use Rattle.cilk_commands.specs.Serving.{AreGiven, CertifyReply, CheckReply, GivesInput, GivesProgram, InputFileFails, InputRefused, InputUnread, Judged, JudgedReply, NoneGiven, OriginFails, PlayReply, ProgramRefused, ProgramUnread, RunReply, Unjudged, WordsFail, Surroundings}
-use Rattle.cilk_commands.specs.Shown.{CertifyShows, CheckShows, InputFails, PlayShows, ProgramFails, RunShows, input_fault_view, program_fault_view}
+use Rattle.cilk_commands.specs.Serving.{AreGiven, CertifyReply, CheckReply, GivesInput, GivesProgram, InputFileFails, InputRefused, InputUnread, Judged, JudgedReply, NoneGiven, OriginFails, PlayReply, ProgramRefused, ProgramUnread, RunReply, SettleReply, Unjudged, WordsFail, Surroundings}
+use Rattle.cilk_commands.specs.Shown.{CertifyShows, CheckShows, InputFails, PlayShows, ProgramFails, RunShows, SettleShows, input_fault_view, program_fault_view}
 use Rattle.cilk_messages.specs.Words.{Requested, File, Origin, Standard, order_in}
 use Rattle.cilk_messages.specs.Words as words
 use Rattle.cilk_commands.proofs.OneShown.{certifies_once, checks_once, shows_once}
 use Rattle.cilk_commands.proofs.OnePlayed.{plays_once}
+use Rattle.cilk_commands.proofs.OneSettled.{settles_once}
 use Rattle.cilk_commands.proofs.Workers.{HasWorkers, has_workers}
 
 held : (o : Option Text) (f : Text → Text) (x y : Text) → IsSome o → IfSome o (λ all. x ≡ f all)
@@ -163,6 +164,11 @@ one_run : (w : Surroundings) (program : Origin) (input : Option Text) (r q : Rep
 one_run w program input r q x y h k v u =
     one_judged RunShows (λ m inputs text numbers i j r q. shows_once m inputs r q) w program input r q x y h k v u
 
+one_settle : (w : Surroundings) (program : Text) (input : Option Text) (r q : Reply) → IsKnown w (File program) → IsKnownInput w input
+    → SettleReply w program input r → SettleReply w program input q → IsOfTexts r → IsOfTexts q → r ≡ q
+one_settle w program input r q x y h k v u =
+    one_judged SettleShows (λ m inputs text numbers i j r q. settles_once m inputs r q) w (File program) input r q x y h k v u
+
 one_certify : (w : Surroundings) (program : Text) (input : Option Text) (r q : Reply) → IsKnown w (File program)
     → IsKnownInput w input → CertifyReply w program input r → CertifyReply w program input q → IsOfTexts r → IsOfTexts q
     → r ≡ q
@@ -200,6 +206,7 @@ one_answered w (Some (words.Check program certificate input)) some x r q h k v u
     one_check w program certificate input r q x.0 x.1 x.2 h k v u
 one_answered w (Some (words.Play program script workers input)) some x r q h k v u =
     one_play w program script workers input r q some x.0 x.1 x.2 h k v u
+one_answered w (Some (words.Settle program input)) some x r q h k v u = one_settle w program input r q x.0 x.1 h k v u
 
 pub one_reply : (w : Surroundings) (line : List Text) → HasOneReply w (order_in line)
 one_reply w line = one_answered w (order_in line) (has_workers line)

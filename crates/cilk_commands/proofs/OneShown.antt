@@ -39,7 +39,7 @@ use Rattle.cilk_commands.specs.Shown.{CertifyShows, CheckShows, RunFails, RunSho
 -- ---- a program's run
 
 -- the reply to a run: this one if it ends, or the fault that stops it
-data Shown (m : Meant) (inputs : List ℤ) (IsMade : Reply → Outcome → Type 0) (r : Reply) : Type 0 where
+pub data Shown (m : Meant) (inputs : List ℤ) (IsMade : Reply → Outcome → Type 0) (r : Reply) : Type 0 where
   Ends : (o : Outcome) (events : List Event) → IsMade r o → serial.Ran m.source inputs o events → Shown m inputs IsMade r
   Stops : (fault : Fault) (at : ℕ) → r ≡ Faulted (faults.number_of fault) at → serial.Stops m.source inputs fault at
       → Shown m inputs IsMade r
@@ -49,7 +49,7 @@ stopped : (m : Meant) (inputs : List ℤ) (P : Reply → Outcome → Type 0) (r 
 stopped m inputs P r stops.Memory v e h = absurd (subst IsOfTexts e v)
 stopped m inputs P r (stops.At f at) v e h = Stops f at e h
 
-fails : (m : Meant) (inputs : List ℤ) (P : Reply → Outcome → Type 0) (r : Reply) → IsOfTexts r → RunFails m inputs r
+pub fails : (m : Meant) (inputs : List ℤ) (P : Reply → Outcome → Type 0) (r : Reply) → IsOfTexts r → RunFails m inputs r
     → Shown m inputs P r
 fails m inputs P r v h = stopped m inputs P r h.0 v h.1 h.2
 
@@ -58,16 +58,16 @@ one_run_of : (p : Source) (inputs : List ℤ) (r q : Transcript) (es fs : List E
 one_run_of p inputs r q es fs c d h k =
     let a = serial_run_is_one p inputs MAX_TICKS MAX_EVENTS r q es fs c d h k in (a.1, a.2)
 
-same_leaves : (o p : Outcome) → Leaves o ≡ Leaves p → o ≡ p
+pub same_leaves : (o p : Outcome) → Leaves o ≡ Leaves p → o ≡ p
 same_leaves o p e = cc
 
 same_stops : (f g : Fault) → StopsBy f ≡ StopsBy g → f ≡ g
 same_stops f g e = cc
 
-leaves_or_stops : {A : Type 0} (o : Outcome) (f : Fault) → Leaves o ≡ StopsBy f → A
+pub leaves_or_stops : {A : Type 0} (o : Outcome) (f : Fault) → Leaves o ≡ StopsBy f → A
 leaves_or_stops o f e = cc
 
-one_shown : (m : Meant) (inputs : List ℤ) (P : Reply → Outcome → Type 0)
+pub one_shown : (m : Meant) (inputs : List ℤ) (P : Reply → Outcome → Type 0)
     → ((r q : Reply) (o p : Outcome) → o ≡ p → P r o → P q p → r ≡ q)
     → (r q : Reply) → Shown m inputs P r → Shown m inputs P q → r ≡ q
 one_shown m inputs P one r q (Ends o es e h) (Ends p fs d k) =
@@ -104,6 +104,10 @@ shown m inputs (replies.Refused n ps) v h = fails m inputs (IsEnded m) (replies.
 shown m inputs (replies.FaultedIn n name) v h = fails m inputs (IsEnded m) (replies.FaultedIn n name) v h
 shown m inputs (replies.BadScript at) v h = fails m inputs (IsEnded m) (replies.BadScript at) v h
 shown m inputs replies.NotEnded v h = fails m inputs (IsEnded m) replies.NotEnded v h
+shown m inputs (replies.Settled names o) v h = fails m inputs (IsEnded m) (replies.Settled names o) v h
+shown m inputs replies.RaceFree v h = fails m inputs (IsEnded m) replies.RaceFree v h
+shown m inputs (replies.BadTrace n at) v h = fails m inputs (IsEnded m) (replies.BadTrace n at) v h
+shown m inputs (replies.Changed name) v h = fails m inputs (IsEnded m) (replies.Changed name) v h
 
 pub shows_once : (m : Meant) (inputs : List ℤ) (r q : Reply) → IsOfTexts r → IsOfTexts q → RunShows m inputs r
     → RunShows m inputs q → r ≡ q
@@ -133,6 +137,10 @@ wished m inputs (replies.Refused n ps) v h = fails m inputs (IsMade m inputs) (r
 wished m inputs (replies.FaultedIn n name) v h = fails m inputs (IsMade m inputs) (replies.FaultedIn n name) v h
 wished m inputs (replies.BadScript at) v h = fails m inputs (IsMade m inputs) (replies.BadScript at) v h
 wished m inputs replies.NotEnded v h = fails m inputs (IsMade m inputs) replies.NotEnded v h
+wished m inputs (replies.Settled names o) v h = fails m inputs (IsMade m inputs) (replies.Settled names o) v h
+wished m inputs replies.RaceFree v h = fails m inputs (IsMade m inputs) replies.RaceFree v h
+wished m inputs (replies.BadTrace n at) v h = fails m inputs (IsMade m inputs) (replies.BadTrace n at) v h
+wished m inputs (replies.Changed name) v h = fails m inputs (IsMade m inputs) (replies.Changed name) v h
 
 one_made : (m : Meant) (inputs : List ℤ) (r q : Reply) (o p : Outcome) → IsTrue (is_well_named m.source)
     → IsMade m inputs r o → IsMade m inputs q p → r ≡ q
@@ -170,6 +178,10 @@ checked path known failed failed' m inputs (replies.Certified c) v h = absurd h
 checked path known failed failed' m inputs (replies.FaultedIn n name) v h = absurd h
 checked path known failed failed' m inputs (replies.BadScript at) v h = absurd h
 checked path known failed failed' m inputs replies.NotEnded v h = absurd h
+checked path known failed failed' m inputs (replies.Settled names o) v h = absurd h
+checked path known failed failed' m inputs replies.RaceFree v h = absurd h
+checked path known failed failed' m inputs (replies.BadTrace n at) v h = absurd h
+checked path known failed failed' m inputs (replies.Changed name) v h = absurd h
 
 -- a text that is accepted isn't refused
 not_refused : {A : Type 0} (m : Meant) (inputs : List ℤ) (text numbers certificate : Text)

@@ -37,7 +37,7 @@ use Rattle.cilk_schedule.specs.Playing.{Ends, FailsAsSettled, IsFault}
 use Rattle.cilk_schedule.specs.declared.fault.PlayFault.{PlayFault}
 use Rattle.cilk_schedule.specs.declared.fault.PlayFault.TheVariants as play_faults
 use Rattle.cilk_commands.specs.Streams.{AppendsFront, AppendsPart}
-use Rattle.cilk_messages.specs.Words.{Requested, Certify, Check, File, Play, Run, Origin, Standard, order_in}
+use Rattle.cilk_messages.specs.Words.{Requested, Certify, Check, File, Play, Run, Settle, Origin, Standard, order_in}
 use Rattle.cilk_commands.specs.declared.reply.Answer.{Answer}
 use Rattle.cilk_commands.specs.declared.reply.Failure.{Failure}
 use Rattle.cilk_commands.specs.declared.reply.Failure.TheVariants as failures
@@ -60,6 +60,7 @@ no_memory w (Some (Run (File path) input)) = Unjudged (ProgramUnread tt)
 no_memory w (Some (Certify path input)) = Unjudged (ProgramUnread tt)
 no_memory w (Some (Check path certificate input)) = Unjudged (ProgramUnread tt)
 no_memory w (Some (Play path script workers input)) = Unjudged (ProgramUnread tt)
+no_memory w (Some (Settle path input)) = Unjudged (ProgramUnread tt)
 
 or_no_memory : (w : Surroundings) (asked : Option Requested) (wanted r : Reply) → Answers w asked wanted → IsOrNoMemory wanted r → Answers w asked r
 or_no_memory w asked wanted r h (inl e) = subst (λ (x : Reply). Answers w asked x) (sym e) h
@@ -74,6 +75,8 @@ silent (failures.Input number place) = refl
 silent (failures.Run number at) = refl
 silent (failures.Strand number name) = refl
 silent (failures.Script at) = refl
+silent (failures.Trace number at) = refl
+silent (failures.Changed name) = refl
 silent failures.Memory = refl
 
 still_silent : (f : Failure) (r : Reply) → IsOrNoMemory (failure_view f) r → out_text r ≡ []
@@ -271,6 +274,14 @@ text_played path known failed failed' workers q inputs (replies.Refused n ps) te
     (text, held, subst (λ t. TextShows workers t q inputs (replies.Refused n ps)) e h)
 text_played path known failed failed' workers q inputs replies.NotEnded text slice held e h =
     (text, held, subst (λ t. TextShows workers t q inputs replies.NotEnded) e h)
+text_played path known failed failed' workers q inputs (replies.Settled names o) text slice held e h =
+    (text, held, subst (λ t. TextShows workers t q inputs (replies.Settled names o)) e h)
+text_played path known failed failed' workers q inputs replies.RaceFree text slice held e h =
+    (text, held, subst (λ t. TextShows workers t q inputs replies.RaceFree) e h)
+text_played path known failed failed' workers q inputs (replies.BadTrace n at) text slice held e h =
+    (text, held, subst (λ t. TextShows workers t q inputs (replies.BadTrace n at)) e h)
+text_played path known failed failed' workers q inputs (replies.Changed name) text slice held e h =
+    (text, held, subst (λ t. TextShows workers t q inputs (replies.Changed name)) e h)
 
 pub texts_played : {T : Type 0} (x : Result Answer T) (path : Text) (known : Option Text) (failed failed' : Failures) (workers : ℕ) (q : Meant)
     (inputs : List ℤ) (text slice : Text) → IsHeld known text → slice ≡ text → IfOk x (λ a. TextShows workers slice q inputs (answer_view a))

@@ -12,7 +12,7 @@ use Rattle.clap.specs.Walk.{is_empty}
 use Rattle.cilk_syntax.specs.Lexing.{all_digits, value_of}
 use Rattle.cilk_messages.specs.declared.words.TheConstants.{MAX_WORKERS}
 use Rattle.cilk_messages.specs.Words as words
-use Rattle.cilk_messages.specs.Words.{Certify, Check, Play, Requested, Run, certify_with, check_with, cilk_app, named, order_by, order_in, paths_in, play_with, run_with, script_with, worker_count, workers_in}
+use Rattle.cilk_messages.specs.Words.{Certify, Check, Judge, Play, Requested, Run, Settle, certify_with, check_with, cilk_app, judge_with, named, order_by, order_in, paths_in, play_with, run_with, script_with, settle_with, worker_count, workers_in}
 
 -- an order has workers, if it is `play`
 abbrev pub HasWorkers : Option Requested → Type 0
@@ -21,6 +21,8 @@ HasWorkers (Some (Run program input)) = Unit {0}
 HasWorkers (Some (Certify program input)) = Unit {0}
 HasWorkers (Some (Check program certificate input)) = Unit {0}
 HasWorkers (Some (Play program script workers input)) = 0 < workers
+HasWorkers (Some (Settle program input)) = Unit {0}
+HasWorkers (Some (Judge trace sites)) = Unit {0}
 
 counted : (n : ℕ) (b : Bool) → (b ≡ true → 1 ≤ n) → (workers : ℕ) → (if b then Some n else None) ≡ Some workers → 0 < workers
 counted n true some workers e = let z : Some n ≡ Some workers = e in let q : n ≡ workers = cc in let l = some refl in omega (arith, q, l)
@@ -65,6 +67,20 @@ by_certify rows = by (paths_in rows)
     by None = tt
     by (Some paths) = tt
 
+by_settle : (rows : List Row) → HasWorkers (settle_with rows)
+by_settle rows = by (paths_in rows)
+  where
+    by : (o : Option (Text × Option Text)) → HasWorkers (option_map (λ paths. Settle paths.0 paths.1) o)
+    by None = tt
+    by (Some paths) = tt
+
+by_judge : (rows : List Row) → HasWorkers (judge_with rows)
+by_judge rows = by (first_of (codes "trace") rows)
+  where
+    by : (o : Option Text) → HasWorkers (option_map (λ trace. Judge trace (first_of (codes "sites") rows)) o)
+    by None = tt
+    by (Some trace) = tt
+
 by_check : (rows : List Row) → HasWorkers (check_with rows)
 by_check rows = by (first_of (codes "certificate") rows)
   where
@@ -83,7 +99,9 @@ chosen false x y h k = k
 by_command : (entered : Option (Text × List Row)) → HasWorkers (order_by entered)
 by_command None = tt
 by_command (Some p) =
-    let a = chosen (bytes_eq p.0 (codes "play")) (play_with p.1) None (by_play p.1) tt in
+    let j = chosen (bytes_eq p.0 (codes "judge")) (judge_with p.1) None (by_judge p.1) tt in
+    let s = chosen (bytes_eq p.0 (codes "settle")) (settle_with p.1) _ (by_settle p.1) j in
+    let a = chosen (bytes_eq p.0 (codes "play")) (play_with p.1) _ (by_play p.1) s in
     let b = chosen (bytes_eq p.0 (codes "check")) (check_with p.1) _ (by_check p.1) a in
     let c = chosen (bytes_eq p.0 (codes "certify")) (certify_with p.1) _ (by_certify p.1) b in
     chosen (bytes_eq p.0 (codes "run")) (run_with p.1) _ (by_run p.1) c

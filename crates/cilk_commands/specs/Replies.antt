@@ -41,6 +41,14 @@ pub data Reply : Type 0 where
   Refused : (number : ℕ) (places : List ℕ) → Reply
   -- the run of a script hasn't ended
   NotEnded : Reply
+  -- the outcome of every parallel run that ends, with the names of the global reducers
+  Settled : (names : List Text) (outcome : Outcome) → Reply
+  -- no two positions of a trace race
+  RaceFree : Reply
+  -- a fault of a trace at a line, counted from 1
+  BadTrace : (number at : ℕ) → Reply
+  -- a file changed between two readings
+  Changed : (name : Text) → Reply
   -- out of memory
   NoMemory : Reply
 
@@ -49,6 +57,8 @@ status_of (Ended names o) = 0
 status_of (Certified certificate) = 0
 status_of Accepted = 0
 status_of NotEnded = 0
+status_of (Settled names o) = 0
+status_of RaceFree = 0
 status_of (Faulted number at) = 3
 status_of (FaultedIn number name) = 3
 status_of (Refused number places) = 4
@@ -121,6 +131,8 @@ out_text (Certified certificate) = text_of certificate
 out_text Accepted = line (codes "accepted")
 out_text (Refused number places) = refused_line number places
 out_text NotEnded = line (codes "not ended")
+out_text (Settled names o) = line (codes "settled") ++ outcome_text names o
+out_text RaceFree = line (codes "race-free")
 out_text _ = []
 
 -- the text for standard error; clap's text for bad words isn't specified
@@ -137,6 +149,10 @@ IsErrorText (Certified certificate) text = text ≡ []
 IsErrorText Accepted text = text ≡ []
 IsErrorText (Refused number places) text = text ≡ []
 IsErrorText NotEnded text = text ≡ []
+IsErrorText (Settled names o) text = text ≡ []
+IsErrorText RaceFree text = text ≡ []
+IsErrorText (BadTrace number at) text = text ≡ place_line (codes "trace") number at
+IsErrorText (Changed name) text = text ≡ line (codes "changed " ++ name)
 IsErrorText NoMemory text = text ≡ line (codes "no memory")
 
 -- the places that a refusal names
@@ -151,6 +167,8 @@ answer_view (answers.Certificate certificate) = Certified certificate
 answer_view answers.Accepted = Accepted
 answer_view (answers.Refused refusal) = Refused (number_of refusal) (places_of (fields_of refusal))
 answer_view answers.NotEnded = NotEnded
+answer_view (answers.Settled names outcome) = Settled names outcome
+answer_view answers.RaceFree = RaceFree
 
 abbrev pub failure_view : Failure → Reply
 failure_view (failures.Words text) = BadWords
@@ -160,4 +178,6 @@ failure_view (failures.Input number place) = BadInput number place
 failure_view (failures.Run number at) = Faulted number at
 failure_view (failures.Strand number name) = FaultedIn number (let n = name in n.items)
 failure_view (failures.Script at) = BadScript at
+failure_view (failures.Trace number at) = BadTrace number at
+failure_view (failures.Changed name) = Changed name.now
 failure_view failures.Memory = NoMemory

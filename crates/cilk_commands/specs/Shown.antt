@@ -24,12 +24,14 @@ use Rattle.cilk_checker.specs.declared.refusal.Refusal.{Refusal}
 use Rattle.cilk_checker.specs.declared.refusal.Refusal.TheVariants as refusals
 use Rattle.cilk_script.specs.Scripts.{IsNoScript, IsScript}
 use Rattle.cilk_script.specs.declared.script.Step.{Step}
-use Rattle.cilk_determinacy.specs.Settled.{IsSettled}
+use Rattle.cilk_determinacy.specs.Settled.{IsSettled, RacesAt}
+use Rattle.cilk_determinacy.specs.declared.settle.FirstRace.{FirstRace}
+use Rattle.cilk_determinacy.specs.declared.settle.FirstRace.TheVariants.{Determinacy, ViewRead}
 use Rattle.cilk_schedule.specs.declared.fault.PlayFault.{PlayFault}
 use Rattle.cilk_schedule.specs.declared.fault.PlayFault.TheVariants as play_faults
 use Rattle.cilk_schedule.specs.Playing.{Ends, IsLeft, LeavesAsSettled, Passed, StopsBy}
 use Rattle.cilk_commands.specs.Files.{Failures, HasFailed, IsHeld}
-use Rattle.cilk_commands.specs.Replies.{Accepted, BadInput, BadProgram, BadScript, Certified, Ended, Faulted, FaultedIn, NoMemory, NotEnded, Refused, Reply, Text, Unreadable, places_of}
+use Rattle.cilk_commands.specs.Replies.{Accepted, BadInput, BadProgram, BadScript, Certified, Ended, Faulted, FaultedIn, NoMemory, NotEnded, Refused, Reply, Settled, Text, Unreadable, places_of}
 
 abbrev pub program_fault_view : ProgramFault → Reply
 program_fault_view program_faults.Memory = NoMemory
@@ -65,6 +67,19 @@ RunFails m inputs r = (f : RunFault) × (r ≡ run_fault_view f) × IsRunFault m
 abbrev pub RunShows : Meant → List ℤ → Reply → Type 0
 RunShows m inputs (Ended names o) = (names ≡ m.names) × ((events : List Event) × Ran m.source inputs o events)
 RunShows m inputs r = RunFails m inputs r
+
+-- the refusal of a run that races
+abbrev pub refusal_of : FirstRace → Refusal
+refusal_of (Determinacy earlier later) = refusals.Race earlier later
+refusal_of (ViewRead created used) = refusals.ViewRace created used
+
+-- The reply to `settle`: the outcome of the serial run, which every parallel run that ends has, or
+-- the first race of the serial run, or the fault that stops it.
+abbrev pub SettleShows : Meant → List ℤ → Reply → Type 0
+SettleShows m inputs (Settled names o) = (names ≡ m.names) × IsSettled m.source inputs o
+SettleShows m inputs (Refused number places) =
+    (first : FirstRace) × (number ≡ number_of (refusal_of first)) × (places ≡ places_of (fields_of (refusal_of first))) × RacesAt m.source inputs first
+SettleShows m inputs r = RunFails m inputs r
 
 -- the reply to `certify`: the right certificate of the run, in version 2, or the fault that stops
 -- the run

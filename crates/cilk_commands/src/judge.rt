@@ -4,13 +4,15 @@ ghost use Rattle.std.specs.Prelude.{◌≡◌, IfOk, IfErr, map};
 ghost use Rattle.cilk_checker.specs.Judging.{IsProgramText, meant};
 ghost use Rattle.cilk_commands.specs.Replies.{answer_view, failure_view};
 ghost use Rattle.cilk_script.specs.Scripts.{IsScript};
-ghost use Rattle.cilk_commands.specs.Shown.{CertifyShows, InputFails, ProgramFails, RunShows, ScriptFails, StepsShow, TextShows, play_fault_view, run_fault_view};
+ghost use Rattle.cilk_commands.specs.Shown.{CertifyShows, InputFails, ProgramFails, RunShows, SettleShows, ScriptFails, StepsShow, TextShows, play_fault_view, refusal_of, run_fault_view};
 ghost use Rattle.cilk_parser.specs.Inputs.{IsInput};
 
 use crate::reply::{Answer, Failure};
 use cilk_cert_maker::make::make;
 use cilk_checker::fault::ProgramFault;
 use cilk_checker::judge;
+use cilk_checker::refusal::Refusal;
+use cilk_determinacy::settle::{FirstRace, Verdict, settle as settle_run};
 use cilk_parser::fault::TextFault;
 use cilk_parser::input::parse_input;
 use cilk_program::program::{GlobalReducer, Program};
@@ -94,6 +96,31 @@ pub fn run<'a>(alloc: Global, program: &Program, input: &Input) -> Result<Answer
             names: names(alloc, program.reducers.as_slice())?,
             outcome,
         }),
+        Err(fault) => Err(stopped(&fault)),
+    }
+}
+
+// The refusal of a run that races.
+fn refusal(first: FirstRace) -> Refusal
+    ensures { result ≡ refusal_of first }
+{
+    match first {
+        FirstRace::Determinacy { earlier, later } => Refusal::Race { earlier, later },
+        FirstRace::ViewRead { created, used } => Refusal::ViewRace { created, used },
+    }
+}
+
+/// Runs a program serially, and returns the outcome of every parallel run, or the first race.
+pub fn settle<'a>(alloc: Global, program: &Program, input: &Input) -> Result<Answer, Failure<'a>>
+    ensures ok { IfOk result (λ a. SettleShows (meant program.now) input.now (answer_view a)) }
+    ensures err { IfErr result (λ e. SettleShows (meant program.now) input.now (failure_view e)) }
+{
+    match settle_run(alloc, program, input) {
+        Ok(Verdict::Settled(outcome)) => Ok(Answer::Settled {
+            names: names(alloc, program.reducers.as_slice())?,
+            outcome,
+        }),
+        Ok(Verdict::Race(first)) => Ok(Answer::Refused(refusal(first))),
         Err(fault) => Err(stopped(&fault)),
     }
 }

@@ -91,6 +91,20 @@ pub fn outcome(
     Ok(text)
 }
 
+/// Returns the line `settled` and an outcome's text.
+pub fn settled(
+    alloc: Global,
+    names: &[Sequence<u8>],
+    settled: &Outcome,
+) -> Result<Vec<u8>, AllocError>
+    ensures { IfOk result (λ text. text.items ≡ line (codes "settled") ++ outcome_text names.now settled.now) }
+{
+    let mut text = Vec::from_slice(alloc, b"settled\n")?;
+    let lines = outcome(alloc, names, settled)?;
+    text.extend_from_slice(lines.as_slice())?;
+    Ok(text)
+}
+
 /// Returns the line `WHAT N at PLACE`.
 pub fn place(alloc: Global, what: &[u8], number: u16, place: usize) -> Result<Vec<u8>, AllocError>
     ensures { IfOk result (λ text. text.items ≡ place_line what.now number place) }
@@ -181,6 +195,16 @@ pub fn unreadable(alloc: Global, name: &str) -> Result<Vec<u8>, AllocError>
     ensures { IfOk result (λ text. text.items ≡ line (codes "cannot read " ++ name.now)) }
 {
     let mut text = Vec::from_slice(alloc, b"cannot read ")?;
+    text.extend_from_slice(name.as_bytes())?;
+    text.push(b'\n')?;
+    Ok(text)
+}
+
+/// Returns the line `changed NAME`.
+pub fn changed(alloc: Global, name: &str) -> Result<Vec<u8>, AllocError>
+    ensures { IfOk result (λ text. text.items ≡ line (codes "changed " ++ name.now)) }
+{
+    let mut text = Vec::from_slice(alloc, b"changed ")?;
     text.extend_from_slice(name.as_bytes())?;
     text.push(b'\n')?;
     Ok(text)

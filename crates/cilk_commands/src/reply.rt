@@ -46,6 +46,13 @@ pub enum Answer {
     Refused(Refusal),
     /// The run of a script hasn't ended.
     NotEnded,
+    /// Every parallel run that ends has this outcome; with the names of the global reducers.
+    Settled {
+        names: Sequence<Sequence<u8>>,
+        outcome: Outcome,
+    },
+    /// No two positions of a trace race.
+    RaceFree,
 }
 
 /// A failure, which is shown on standard error in place of an answer.
@@ -65,6 +72,10 @@ pub enum Failure<'a> {
     Strand { number: u16, name: Vec<u32> },
     /// The first wrong line of a script, from 1: of another form, or with choices past the limit.
     Script(usize),
+    /// A fault of a trace at a line, counted from 1.
+    Trace { number: u16, line: u32 },
+    /// A file that changed between two readings.
+    Changed(&'a str),
     /// Out of memory.
     Memory,
 }
@@ -77,8 +88,12 @@ impl Answer {
         ensures { result ≡ status_of (answer_view self.now) }
     {
         match self {
-            Answer::Outcome { .. } | Answer::Certificate(_) | Answer::Accepted | Answer::NotEnded =>
-                0,
+            Answer::Outcome { .. }
+            | Answer::Certificate(_)
+            | Answer::Accepted
+            | Answer::NotEnded
+            | Answer::Settled { .. }
+            | Answer::RaceFree => 0,
             Answer::Refused(_) => REFUSED,
         }
     }
@@ -100,6 +115,10 @@ impl Answer {
             Answer::Accepted => b"accepted\n".to_vec(alloc)?,
             Answer::Refused(refusal) => render::refused(alloc, *refusal)?,
             Answer::NotEnded => b"not ended\n".to_vec(alloc)?,
+            Answer::Settled { names, outcome } => {
+                render::settled(alloc, names.as_slice(), outcome)?
+            }
+            Answer::RaceFree => b"race-free\n".to_vec(alloc)?,
         };
         Ok(send(out, text.as_slice()))
     }
@@ -117,7 +136,9 @@ impl Failure<'_> {
             | Failure::Unreadable(_)
             | Failure::Program { .. }
             | Failure::Input { .. }
-            | Failure::Script(_) => WRONG,
+            | Failure::Script(_)
+            | Failure::Trace { .. }
+            | Failure::Changed(_) => WRONG,
             Failure::Run { .. } | Failure::Strand { .. } => FAULTED,
             Failure::Memory => NO_MEMORY,
         }
@@ -135,6 +156,13 @@ impl Failure<'_> {
             Failure::Run { number, at } => render::place(alloc, b"fault", *number, *at as usize),
             Failure::Strand { number, name } => render::strand(alloc, *number, name.as_slice()),
             Failure::Script(line) => render::script(alloc, *line),
+            Failure::Trace { number, line } => render::place(
+                alloc,
+                b"trace",
+                *number,
+                *line as usize,
+            ),
+            Failure::Changed(name) => render::changed(alloc, name),
             Failure::Memory => NO_MEMORY_LINE.as_bytes().to_vec(alloc),
         }
     }

@@ -6,7 +6,7 @@ ghost use Rattle.cilk_commands.specs.Files.{IsHeld};
 ghost use Rattle.cilk_checker.specs.Numbers.{fields_of, number_of};
 ghost use Rattle.cilk_checker.specs.declared.refusal.Refusal.TheVariants as refusals;
 ghost use Rattle.cilk_commands.specs.Replies.{NoMemory, Refused, answer_view, failure_view, places_of};
-ghost use Rattle.cilk_commands.specs.Serving.{AreGiven, CertifyReply, CheckReply, FileFails, GivesInput, GivesProgram, InputFileFails, IsReceived, IsStandard, NoneGiven, OriginFails, PlayReply, RunReply, StandardFails, world};
+ghost use Rattle.cilk_commands.specs.Serving.{AreGiven, CertifyReply, CheckReply, FileFails, GivesInput, GivesProgram, InputFileFails, IsReceived, IsStandard, NoneGiven, OriginFails, PlayReply, RunReply, SettleReply, StandardFails, world};
 ghost use Rattle.cilk_commands.specs.Shown.{CheckShows, PlayShows};
 ghost use Rattle.cilk_commands.specs.Streams.{TakesAtMost};
 ghost use Rattle.cilk_commands.specs.declared.streams.TheConstants.{MAX_READ};
@@ -143,6 +143,26 @@ pub fn run<'a, F: Files, R: Read>(
 {
     let (program, input) = given(alloc, program, input, files, reader)?;
     judge::run(alloc, &program, &input)
+}
+
+/// Settles a program on an input: one serial run tells whether any schedule can change its outcome.
+pub fn settle<'a, F: Files, R: Read>(
+    alloc: Global,
+    program: &'a str,
+    input: Option<&'a str>,
+    files: &mut F,
+    reader: &mut R,
+) -> Result<Answer, Failure<'a>>
+    requires { (F.failed files.old).count < 18446744073709551615 }
+    ensures answer { IfOk result (λ a. SettleReply (world (F.holds files.old) (R.remaining reader.old) (F.failed files.old) (F.failed files.new))
+        program.entry.now (option_map (λ p. p.now) input.entry) (answer_view a)) }
+    ensures failure { IfErr result (λ e. SettleReply (world (F.holds files.old) (R.remaining reader.old) (F.failed files.old) (F.failed files.new))
+        program.entry.now (option_map (λ p. p.now) input.entry) (failure_view e)) }
+    ensures untouched { reader.new ≡ reader.old }
+    ensures most { TakesAtMost MAX_READ (R.remaining reader.old) (R.remaining reader.new) }
+{
+    let (program, input) = given(alloc, Origin::File(program), input, files, reader)?;
+    judge::settle(alloc, &program, &input)
 }
 
 /// Makes the certificate of a program's run on an input.

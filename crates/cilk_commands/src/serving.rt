@@ -10,7 +10,7 @@ ghost use Rattle.cilk_messages.specs.Words.{order_in, order_view, texts};
 
 use crate::files::Files;
 use crate::reply::{Answer, Failure, NO_MEMORY, NO_MEMORY_LINE, WRONG};
-use crate::running::{certify, check, play, run};
+use crate::running::{certify, check, play, run, settle};
 use crate::streams::send;
 use cilk_messages::words::{Order, WordsFault, read};
 use std::alloc::Global;
@@ -51,6 +51,10 @@ pub fn carry_out<'a, F: Files, R: Read>(
             workers,
             input: numbers,
         } => play(alloc, program, script, workers, numbers, files, input),
+        Order::Settle {
+            program,
+            input: numbers,
+        } => settle(alloc, program, numbers, files, input),
     }
 }
 
