@@ -1,9 +1,12 @@
+pub mod Kept
 pub mod Lines
 pub mod OnePlayed
 pub mod OneReply
 pub mod OneSettled
 pub mod OneShown
+pub mod OneTraced
 pub mod Reading
 pub mod Replying
+pub mod TraceReplies
 pub mod Workers
 pub mod Writing

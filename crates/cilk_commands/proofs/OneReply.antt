@@ -3,7 +3,7 @@
 -- `given_once`, `input_once`: the texts are one. `one_refusal`, `one_input_refusal`: a text has one
 -- first fault. `same_given`, `one_refused`, `not_refused`: the texts mean one program and one
 -- input, or have one first fault, and not both. `one_judged`, `one_run`, `one_certify`,
--- `one_check`, `one_play`, `one_settle`: a command has one reply. `one_reply`: and so have words.
+-- `one_check`, `one_play`, `one_settle`, `one_judge`: a command has one reply. `one_reply`: and so have words.
 use Rattle.std.proofs.Common.{◌≡◌, ◌<◌, ℕ, ℤ, List, take, Option, Some, None, refl, sym, ap, ◌∙◌, subst}
 use Rattle.std.specs.Prelude.{◌≢◌, IfSome, IsSome}
 use Rattle.cilk_parser.specs.declared.fault.TextFault.{TextFault}
@@ -19,14 +19,15 @@ use Rattle.cilk_checker.proofs.OneMeaning.{one_meaning}
 use Rattle.cilk_commands.specs.declared.streams.TheConstants.{MAX_READ}
 use Rattle.cilk_commands.specs.OneReply.{HasOneReply, IsKnown, IsKnownInput, IsOfTexts}
 use Rattle.cilk_commands.specs.Files.{Failures}
-use Rattle.cilk_commands.specs.Replies.{BadInput, BadProgram, BadWords, NoMemory, Reply, Text, Unreadable}
-use Rattle.cilk_commands.specs.Serving.{AreGiven, CertifyReply, CheckReply, GivesInput, GivesProgram, InputFileFails, InputRefused, InputUnread, Judged, JudgedReply, NoneGiven, OriginFails, PlayReply, ProgramRefused, ProgramUnread, RunReply, SettleReply, Unjudged, WordsFail, Surroundings}
+use Rattle.cilk_commands.specs.Replies.{BadInput, BadWords, NoMemory, Reply, Text, Unreadable}
+use Rattle.cilk_commands.specs.Serving.{AreGiven, CertifyReply, CheckReply, GivesInput, GivesProgram, InputFileFails, InputRefused, InputUnread, JudgeReply, Judged, JudgedReply, NoneGiven, OriginFails, PlayReply, ProgramRefused, ProgramUnread, RunReply, SettleReply, Unjudged, WordsFail, Surroundings}
 use Rattle.cilk_commands.specs.Shown.{CertifyShows, CheckShows, InputFails, PlayShows, ProgramFails, RunShows, SettleShows, input_fault_view, program_fault_view}
 use Rattle.cilk_messages.specs.Words.{Requested, File, Origin, Standard, order_in}
 use Rattle.cilk_messages.specs.Words as words
 use Rattle.cilk_commands.proofs.OneShown.{certifies_once, checks_once, shows_once}
 use Rattle.cilk_commands.proofs.OnePlayed.{plays_once}
 use Rattle.cilk_commands.proofs.OneSettled.{settles_once}
+use Rattle.cilk_commands.proofs.OneTraced.{judges_once}
 use Rattle.cilk_commands.proofs.Workers.{HasWorkers, has_workers}
 
 held : (o : Option Text) (f : Text → Text) (x y : Text) → IsSome o → IfSome o (λ all. x ≡ f all)
@@ -193,6 +194,10 @@ one_play w program script workers input r q some x y z h k v u =
     (λ m inputs text numbers i j r q. plays_once script (w.files script) w.failed w.failed' workers some m inputs z r q)
     w (File program) input r q x y h k v u
 
+one_judge : (w : Surroundings) (trace : Text) (r q : Reply) → IsKnown w (File trace) → JudgeReply w trace r → JudgeReply w trace q → IsOfTexts r
+    → IsOfTexts q → r ≡ q
+one_judge w trace r q x h k v u = judges_once trace (w.files trace) w.failed w.failed' x r q v u h k
+
 bad_words : (r : Reply) → WordsFail r → IsOfTexts r → r ≡ BadWords
 bad_words BadWords h v = refl
 bad_words NoMemory h v = absurd v
@@ -207,6 +212,7 @@ one_answered w (Some (words.Check program certificate input)) some x r q h k v u
 one_answered w (Some (words.Play program script workers input)) some x r q h k v u =
     one_play w program script workers input r q some x.0 x.1 x.2 h k v u
 one_answered w (Some (words.Settle program input)) some x r q h k v u = one_settle w program input r q x.0 x.1 h k v u
+one_answered w (Some (words.Judge trace sites)) some x r q h k v u = one_judge w trace r q x h k v u
 
 pub one_reply : (w : Surroundings) (line : List Text) → HasOneReply w (order_in line)
 one_reply w line = one_answered w (order_in line) (has_workers line)

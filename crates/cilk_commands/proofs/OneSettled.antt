@@ -3,7 +3,7 @@
 -- - `one_first`: a list has one first race, or none;
 -- - `races_once`, `settled_or_races`: a serial run has one first race, and isn't settled then;
 -- - `settles_once`: so the command `settle` has one reply.
-use Rattle.std.proofs.Common.{◌≡◌, ◌≤◌, ℕ, ℤ, List, Some, sym, ap, ap₂, ◌∙◌, subst, arith}
+use Rattle.std.proofs.Common.{◌≡◌, ℕ, ℤ, List, Some, sym, ap, ap₂, ◌∙◌, subst, arith}
 use Rattle.cilk_types.specs.declared.event.Event.{Event}
 use Rattle.cilk_types.specs.Fault as faults
 use Rattle.cilk_types.specs.declared.fault.Fault.{Fault}

@@ -11,7 +11,7 @@
 -- `steps_fail`: the reply to the steps of a script's text. `script_unread`, `text_played`: a script
 -- that isn't read, and the reply to its text. `played_ok`, `played_err`: the answer to `play`, and
 -- its failure.
-use Rattle.std.proofs.Common.{◌≡◌, ℕ, List, [], Bool, true, false, Option, Some, None, option_map, drop, length, refl, sym, ap, subst, inl, inr, ◌∙◌, arith}
+use Rattle.std.proofs.Common.{◌≡◌, ℕ, List, [], Bool, true, false, Option, Some, None, option_map, drop, refl, sym, ap, subst, inl, inr, ◌∙◌}
 use Rattle.std.specs.Prelude.{◌≢◌, ◌<◌, IsTrue, IsFalse, Result, Ok, Err, IfOk, IfErr, IsErrAnd, ℤ}
 use Rattle.std.specs.Io.KnownBytes.{Appends}
 use Rattle.std.proofs.lemmas.List.{append-nil}
@@ -37,7 +37,7 @@ use Rattle.cilk_schedule.specs.Playing.{Ends, FailsAsSettled, IsFault}
 use Rattle.cilk_schedule.specs.declared.fault.PlayFault.{PlayFault}
 use Rattle.cilk_schedule.specs.declared.fault.PlayFault.TheVariants as play_faults
 use Rattle.cilk_commands.specs.Streams.{AppendsFront, AppendsPart}
-use Rattle.cilk_messages.specs.Words.{Requested, Certify, Check, File, Play, Run, Settle, Origin, Standard, order_in}
+use Rattle.cilk_messages.specs.Words.{Requested, Certify, Check, File, Judge, Play, Run, Settle, Origin, Standard, order_in}
 use Rattle.cilk_commands.specs.declared.reply.Answer.{Answer}
 use Rattle.cilk_commands.specs.declared.reply.Failure.{Failure}
 use Rattle.cilk_commands.specs.declared.reply.Failure.TheVariants as failures
@@ -61,6 +61,7 @@ no_memory w (Some (Certify path input)) = Unjudged (ProgramUnread tt)
 no_memory w (Some (Check path certificate input)) = Unjudged (ProgramUnread tt)
 no_memory w (Some (Play path script workers input)) = Unjudged (ProgramUnread tt)
 no_memory w (Some (Settle path input)) = Unjudged (ProgramUnread tt)
+no_memory w (Some (Judge trace sites)) = tt
 
 or_no_memory : (w : Surroundings) (asked : Option Requested) (wanted r : Reply) → Answers w asked wanted → IsOrNoMemory wanted r → Answers w asked r
 or_no_memory w asked wanted r h (inl e) = subst (λ (x : Reply). Answers w asked x) (sym e) h
@@ -210,6 +211,11 @@ refused_whole p inputs known known' at n m u f e d k h =
     let whole : option_map (drop at) known' ≡ known = rw (e, d) (known_whole known) in
     subst (λ (x : Option Text). IsRefusedText p inputs x f) whole
     (subst (λ (x : Unaccepted). IsUnaccepted p inputs (option_map (drop at) known') n m x) k h)
+
+-- a certificate that isn't read met a failing device
+pub unread_count : (p : Source) (inputs : List ℤ) (known : Option Text) (n m : ℕ) (u : Unaccepted) → u ≡ unaccepted.Unread
+    → IsUnaccepted p inputs known n m u → n < m
+unread_count p inputs known n m u is h = subst (λ (x : Unaccepted). IsUnaccepted p inputs known n m x) is h
 
 -- an accepted text that comes from a file's first byte on is the file's
 pub accepted_whole : (p : Source) (inputs : List ℤ) (known known' : Option Text) (at : ℕ) (es : List Event) (o : Outcome)

@@ -3,7 +3,7 @@
 -- - `by_count`, `by_words`, `by_command`: for a word of digits, the matches of `play`, and those of
 --   a command;
 -- - `has_workers`: the law.
-use Rattle.std.proofs.Common.{◌≡◌, ◌<◌, ◌≤◌, ℕ, Bool, true, false, List, [], ◌∷◌, Option, Some, None, refl, sym, ap, ◌∙◌, subst, arith, leb-true}
+use Rattle.std.proofs.Common.{◌≡◌, ◌<◌, ◌≤◌, ℕ, Bool, true, false, List, [], ◌∷◌, Option, Some, None, refl, arith, leb-true}
 use Rattle.std.specs.Prelude.{◌&&◌, if◌then◌else◌, codes, nat_le, option_map, option_and_then}
 use Rattle.std.specs.Str.{bytes_eq}
 use Rattle.std.proofs.lemmas.Bool.{and_parts}

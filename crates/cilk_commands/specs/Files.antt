@@ -24,3 +24,8 @@ failures count elsewhere = record { count = count; elsewhere = elsewhere }
 -- a read of this path met a failing device, and none of another path did
 abbrev pub HasFailed : List ℕ → Failures → Failures → Type 0
 HasFailed path old new = (old.count < new.count) × (new.elsewhere path ≡ old.elsewhere path)
+
+-- no read failed, and none of a file other than `path`
+pub record IsUnfailed (failed failed' : Failures) (path : List ℕ) : Type 0 where
+  pub count : failed'.count ≡ failed.count
+  pub elsewhere : failed'.elsewhere path ≡ failed.elsewhere path

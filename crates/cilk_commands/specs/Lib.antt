@@ -3,4 +3,6 @@ pub mod OneReply
 pub mod Replies
 pub mod Serving
 pub mod Shown
+pub mod Sources
 pub mod Streams
+pub mod Traces

@@ -2,7 +2,7 @@
 use Rattle.std.specs.Prelude.{◌≡◌, Option, Some, None, IsSome}
 use Rattle.cilk_commands.specs.Replies.{NoMemory, Reply, Text, Unreadable}
 use Rattle.cilk_commands.specs.Serving.{Answers, Surroundings}
-use Rattle.cilk_messages.specs.Words.{Requested, Certify, Check, File, Origin, Play, Run, Settle, Standard}
+use Rattle.cilk_messages.specs.Words.{Requested, Certify, Check, File, Judge, Origin, Play, Run, Settle, Standard}
 
 -- the text of standard input, or of the file, is known
 abbrev pub IsKnown : Surroundings → Origin → Type 0
@@ -24,6 +24,7 @@ AreKnown w (Some (Check program certificate input)) =
 AreKnown w (Some (Play program script workers input)) =
     IsKnown w (File program) × IsKnownInput w input × IsKnown w (File script)
 AreKnown w (Some (Settle program input)) = IsKnown w (File program) × IsKnownInput w input
+AreKnown w (Some (Judge trace sites)) = IsKnown w (File trace)
 
 -- a reply that is neither out of memory nor the failure of a device
 abbrev pub IsOfTexts : Reply → Type 0

@@ -37,7 +37,7 @@ pub data Reply : Type 0 where
   Certified : (certificate : Contents) → Reply
   -- a certificate is accepted
   Accepted : Reply
-  -- a certificate is refused, by a number and the places that it names
+  -- a certificate is refused, or a race is found, by a number and the places that it names
   Refused : (number : ℕ) (places : List ℕ) → Reply
   -- the run of a script hasn't ended
   NotEnded : Reply

@@ -8,7 +8,8 @@ use Rattle.cilk_checker.specs.Judging.{IsProgramText, Meant}
 use Rattle.cilk_commands.specs.Replies.{BadWords, IsErrorText, NoMemory, Reply, Text, Unreadable, line, out_text, status_of}
 use Rattle.cilk_commands.specs.Shown.{CertifyShows, CheckShows, InputFails, PlayShows, ProgramFails, RunShows, SettleShows}
 use Rattle.cilk_commands.specs.Streams.{AppendsFront, AppendsPart}
-use Rattle.cilk_messages.specs.Words.{Requested, Certify, Check, File, Play, Run, Settle, Origin, Standard, order_in}
+use Rattle.cilk_commands.specs.Traces.{JudgeShows}
+use Rattle.cilk_messages.specs.Words.{Requested, Certify, Check, File, Judge, Play, Run, Settle, Origin, Standard, order_in}
 
 -- standard input gives the text: all of it, up to the limit
 abbrev pub IsReceived : Option Text → Text → Type 0
@@ -105,6 +106,10 @@ PlayReply w program script workers input r =
 abbrev pub SettleReply : Surroundings → Text → Option Text → Reply → Type 0
 SettleReply w program input r = JudgedReply SettleShows w (File program) input r
 
+-- the reply to `judge`; the table of sites isn't read for it
+abbrev pub JudgeReply : Surroundings → Text → Reply → Type 0
+JudgeReply w trace r = JudgeShows trace (w.files trace) w.failed w.failed' r
+
 -- the program is read from standard input
 abbrev pub IsStandard : Origin → Type 0
 IsStandard Standard = Unit {0}
@@ -129,6 +134,7 @@ Answers w (Some (Certify program input)) r = CertifyReply w program input r
 Answers w (Some (Check program certificate input)) r = CheckReply w program certificate input r
 Answers w (Some (Play program script workers input)) r = PlayReply w program script workers input r
 Answers w (Some (Settle program input)) r = SettleReply w program input r
+Answers w (Some (Judge trace sites)) r = JudgeReply w trace r
 
 -- the reply's text for standard error is written: all of it, or `is_whole` says that a write failed
 abbrev pub ShowsError : Reply → (is_whole : Bool) → Option Text → Option Text → Type 0

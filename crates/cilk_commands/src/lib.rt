@@ -12,6 +12,7 @@
 //! | [`carry_out`] | the answer to one order, not yet shown |
 //! | [`given`] | a program and its input, read and judged |
 //! | [`disk::Disk`] | the files of the system |
+//! | [`parts::PartSource`] | a file as a source of a certificate's or a trace's text |
 //! | [`reply::Answer`], [`reply::Failure`] | the replies, with their texts and statuses |
 //! | [`laws::reply_is_one`] | one reply to the same words and texts, devices and memory aside |
 //!
@@ -20,7 +21,7 @@
 //! | 0 | an answer |
 //! | 2 | wrong words, a text with a fault, a file that can't be read, or a failed write |
 //! | 3 | the program's run faults |
-//! | 4 | a certificate is refused |
+//! | 4 | a certificate is refused, or a program or a trace has a race |
 //! | 5 | out of memory |
 //!
 //! ```text
@@ -34,12 +35,13 @@ pub mod disk;
 pub mod files;
 mod judge;
 pub mod laws;
-mod parts;
+pub mod parts;
 mod render;
 pub mod reply;
 mod running;
 mod serving;
 pub mod streams;
+mod tracing;
 
 pub use judge::{input, names, stopped};
 pub use running::{given, read_file, refused};

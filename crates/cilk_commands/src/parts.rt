@@ -1,27 +1,35 @@
-//! A file as the source of a certificate's text, read in parts.
+//! A file as the source of a certificate's or a trace's text, read in parts.
 
-ghost use Rattle.std.specs.Prelude.{◌≡◌, ◌∷◌, drop, option_map};
+ghost use Rattle.std.specs.Prelude.{◌≡◌, drop, option_map};
+ghost use Rattle.cilk_commands.specs.Sources.{kept_of};
 
 use crate::files::{FileFault, Files};
 use cilk_checker::source::{PullFault, Source};
 
-/// The file of a path, from a byte on.
+/// The file `path`, from a byte on. The contents of the file `other` stay known.
 #[derive(Drop)]
 pub struct PartSource<'f, 'p, F> {
     files: &'f mut F,
     path: &'p str,
+    other: &'p str,
     at: u64,
 }
 
 impl<'f, 'p, F: Files> PartSource<'f, 'p, F> {
-    /// Returns a source at the beginning of the file of a path.
-    pub fn new(files: &'f mut F, path: &'p str) -> Self
+    /// Returns a source at the beginning of the file `path`. The other file may be the same.
+    pub fn new(files: &'f mut F, path: &'p str, other: &'p str) -> Self
         ensures same_reference { result.files.ghost_name ≡ files.entry.ghost_name }
         ensures files { result.files.now ≡ files.old }
         ensures path { result.path.now ≡ path.entry.now }
+        ensures other { result.other.now ≡ other.entry.now }
         ensures at { result.at ≡ 0 }
     {
-        PartSource { files, path, at: 0 }
+        PartSource {
+            files,
+            path,
+            other,
+            at: 0,
+        }
     }
 }
 
@@ -32,8 +40,8 @@ impl<F: Files> Source for PartSource<'_, '_, F> {
 
     ghost lender = { λ s. s.files.ghost_name };
 
-    // The path, and the failures of other files.
-    ghost kept = { λ s. (F.failed s.files.now).elsewhere s.path.now ∷ s.path.now };
+    // Failed reads of other files than `path`, both paths, and the contents of `other`.
+    ghost kept = { λ s. kept_of (F.failed s.files.now) s.path.now s.other.now (F.holds s.files.now s.other.now) };
 
     fn pull(&mut self, into: &mut [u8]) -> Result<usize, PullFault> {
         match self.files.part(self.path, self.at, into) {

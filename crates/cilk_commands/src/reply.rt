@@ -21,7 +21,7 @@ pub const WRONG: u8 = 2;
 /// The status if the program's run faults.
 pub const FAULTED: u8 = 3;
 
-/// The status if a certificate is refused.
+/// The status if a certificate is refused, or a race is found.
 pub const REFUSED: u8 = 4;
 
 /// The status if memory runs out.
@@ -42,7 +42,7 @@ pub enum Answer {
     Certificate(Certificate),
     /// A certificate is accepted.
     Accepted,
-    /// The refusal of a certificate.
+    /// The refusal of a certificate, or the first race of a program's run or of a trace.
     Refused(Refusal),
     /// The run of a script hasn't ended.
     NotEnded,
@@ -83,7 +83,7 @@ pub enum Failure<'a> {
 impl Answer {
     ghost use Rattle.cilk_commands.specs.Replies.{answer_view};
 
-    /// Returns 4 for a refused certificate, else 0.
+    /// Returns 4 for a refused certificate or a race, else 0.
     pub fn status(&self) -> u8
         ensures { result ≡ status_of (answer_view self.now) }
     {

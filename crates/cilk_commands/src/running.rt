@@ -210,7 +210,7 @@ fn checked<'a, F: Files>(
     ensures failure { IfErr result (λ e. CheckShows path.entry.now (F.holds files.old path.entry.now) (F.failed files.old) (F.failed files.new)
         (meant program) input (failure_view e)) }
 {
-    let mut source = PartSource::new(files, path);
+    let mut source = PartSource::new(files, path, path);
     match check_run(alloc, program, input, &mut source) {
         Ok(_accepted) => Ok(Answer::Accepted),
         Err(Unaccepted::Unread) => Err(Failure::Unreadable(path)),

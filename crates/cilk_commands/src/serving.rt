@@ -12,11 +12,13 @@ use crate::files::Files;
 use crate::reply::{Answer, Failure, NO_MEMORY, NO_MEMORY_LINE, WRONG};
 use crate::running::{certify, check, play, run, settle};
 use crate::streams::send;
+use crate::tracing::judge;
 use cilk_messages::words::{Order, WordsFault, read};
 use std::alloc::Global;
 use std::io::{Read, Write};
 
 /// Carries out an order.
+#[tactic(auto, using(crate::proofs::Reading::takes_same))]
 pub fn carry_out<'a, F: Files, R: Read>(
     alloc: Global,
     order: Order<'a>,
@@ -55,6 +57,7 @@ pub fn carry_out<'a, F: Files, R: Read>(
             program,
             input: numbers,
         } => settle(alloc, program, numbers, files, input),
+        Order::Judge { trace, .. } => judge(alloc, trace, files),
     }
 }
 

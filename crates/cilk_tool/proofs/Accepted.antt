@@ -21,7 +21,7 @@ use Rattle.cilk_threads.specs.Outcomes.{DepartsNowhereOn, DepartsOn, IsFaultOn, 
 use Rattle.cilk_threads.specs.declared.run.ThreadFault.{ThreadFault}
 use Rattle.cilk_threads.specs.declared.run.ThreadFault.TheVariants as faults
 use Rattle.cilk_types.specs.declared.outcome.Outcome.{Outcome}
-use Rattle.cilk_commands.specs.Files.{Failures, IsHeld}
+use Rattle.cilk_commands.specs.Files.{Failures, IsHeld, IsUnfailed}
 use Rattle.cilk_commands.specs.Replies.{Ended, NoMemory, Refused, Reply, Text, failure_view}
 use Rattle.cilk_commands.specs.Serving.{AreGiven, InputFileFails, Judged, JudgedReply, Surroundings}
 use Rattle.cilk_commands.specs.Shown.{CheckShows}
@@ -30,7 +30,7 @@ use Rattle.cilk_commands.specs.declared.reply.Failure.{Failure}
 use Rattle.cilk_tool.specs.Endings.{AreNotGiven, IsVerdict, StaysBeside, ending_view}
 use Rattle.cilk_tool.specs.declared.running.Verdict.{Verdict}
 use Rattle.cilk_tool.specs.declared.running.Verdict.TheVariants as verdicts
-use Rattle.cilk_tool.specs.Shown.{AcceptedShow, DepartsFrom, GivesNumbers, IsAcceptedRun, IsUnfailed, NumbersRefused, NumbersUnread, Ran, RunShows, ThreadsShow, Unaccepted, WithRun, departed}
+use Rattle.cilk_tool.specs.Shown.{AcceptedShow, DepartsFrom, GivesNumbers, IsAcceptedRun, NumbersRefused, NumbersUnread, Ran, RunShows, ThreadsShow, Unaccepted, WithRun, departed}
 use Rattle.cilk_tool.specs.Words.{Requested}
 use Rattle.cilk_tool.specs.declared.running.Ending.{Ending}
 

@@ -8,12 +8,11 @@ use Rattle.cilk_checker.specs.Answers.{IsCertified}
 use Rattle.cilk_checker.specs.Judging.{Meant}
 use Rattle.cilk_types.specs.declared.event.Event.{Event}
 use Rattle.cilk_types.specs.declared.outcome.Outcome.{Outcome}
-use Rattle.cilk_commands.specs.Files.{Failures}
+use Rattle.cilk_commands.specs.Files.{Failures, IsUnfailed}
 use Rattle.cilk_commands.specs.Replies.{Accepted, NoMemory, Refused, Reply, Text, Unreadable, answer_view, failure_view}
 use Rattle.cilk_commands.specs.Shown.{CheckShows}
 use Rattle.cilk_commands.specs.declared.reply.Answer.{Answer}
 use Rattle.cilk_commands.specs.declared.reply.Failure.{Failure}
-use Rattle.cilk_tool.specs.Shown.{IsUnfailed}
 
 -- the answer of the second reading
 module _ (path : Text) (known known' : Option Text) (before between after : Failures) (m : Meant) (inputs : List ℤ)

@@ -4,5 +4,4 @@ pub mod CheckShowing
 pub mod Checked
 pub mod Entered
 pub mod Helped
-pub mod Kept
 pub mod Showing

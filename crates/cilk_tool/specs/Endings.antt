@@ -1,11 +1,11 @@
 -- The results of the parts of `threads`.
 use Rattle.std.specs.Prelude.{◌≡◌, ◌≢◌, ◌⊎◌, ℕ, ℤ, List, [], ◌∷◌, Option, Some, None}
 use Rattle.cilk_checker.specs.Judging.{Meant}
-use Rattle.cilk_commands.specs.Files.{Failures, IsHeld}
+use Rattle.cilk_commands.specs.Files.{Failures, IsHeld, IsUnfailed}
 use Rattle.cilk_commands.specs.Replies.{Accepted, Refused, Reply, Text, answer_view}
 use Rattle.cilk_commands.specs.Serving.{FileFails}
 use Rattle.cilk_commands.specs.Shown.{CheckShows, InputFails}
-use Rattle.cilk_tool.specs.Shown.{IsAcceptedRun, IsUnfailed, departed, no_pool}
+use Rattle.cilk_tool.specs.Shown.{IsAcceptedRun, departed, no_pool}
 use Rattle.cilk_tool.specs.declared.running.Ending.{Ending}
 use Rattle.cilk_tool.specs.declared.running.Ending.TheVariants as endings
 use Rattle.cilk_tool.specs.declared.running.Verdict.{Verdict}

@@ -3,5 +3,4 @@ pub mod Endings
 pub mod Helped
 pub mod Serving
 pub mod Shown
-pub mod Sources
 pub mod Words

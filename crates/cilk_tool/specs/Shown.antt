@@ -8,7 +8,7 @@ use Rattle.cilk_threads.specs.Faults.{IsPool}
 use Rattle.cilk_plan.specs.Plans.{IsPlanOf}
 use Rattle.cilk_tree.specs.declared.event_order.EventOrder.{EventOrder}
 use Rattle.cilk_threads.specs.Outcomes.{DepartsNowhereOn, DepartsOn, IsOutcomeOn}
-use Rattle.cilk_commands.specs.Files.{Failures, IsHeld}
+use Rattle.cilk_commands.specs.Files.{Failures, IsHeld, IsUnfailed}
 use Rattle.cilk_commands.specs.Replies.{Accepted, Ended, NoMemory, Refused, Reply, Text}
 use Rattle.cilk_commands.specs.Serving.{InputFileFails}
 use Rattle.cilk_commands.specs.Shown.{CheckShows, InputFails}
@@ -63,11 +63,6 @@ pub data AcceptedShow (files : Text → Option Text) (failed failed' : Failures)
       → AcceptedShow files failed failed' on workers a m r
   Ran : (numbers : List ℤ) → GivesNumbers files on a.input numbers → RunShows a m numbers workers r
       → AcceptedShow files failed failed' on workers a m r
-
--- no read failed, and none of a file other than `path`
-pub record IsUnfailed (failed failed' : Failures) (path : Text) : Type 0 where
-  pub count : failed'.count ≡ failed.count
-  pub elsewhere : failed'.elsewhere path ≡ failed.elsewhere path
 
 -- The answer for a program and its input: that of the check, if it doesn't accept; otherwise that
 -- of the accepted run, and the certificate was read without a failure.

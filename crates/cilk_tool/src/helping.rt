@@ -10,15 +10,15 @@ ghost use Rattle.cilk_commands.specs.Serving.{FileFails, world};
 ghost use Rattle.cilk_commands.specs.Shown.{CheckShows};
 ghost use Rattle.cilk_tool.specs.CheckWords.{check_view};
 ghost use Rattle.cilk_tool.specs.Helped.{Answers};
-ghost use Rattle.cilk_tool.specs.Shown.{IsUnfailed};
+ghost use Rattle.cilk_commands.specs.Files.{IsUnfailed};
 
 use crate::check_words::CheckOrder;
-use crate::source::CertificateSource;
 use cilk_checker::check::check_end;
 use cilk_checker::ending::End;
 use cilk_checker::refusal::Unaccepted;
 use cilk_checker::source::PullFault;
 use cilk_commands::files::Files;
+use cilk_commands::parts::PartSource;
 use cilk_commands::reply::{Answer, Failure};
 use cilk_commands::{carry_out, given, refused};
 use cilk_helpers::hints::hints;
@@ -40,7 +40,7 @@ fn listed<'a, F: Files>(alloc: Global, path: &'a str, files: &mut F) -> Result<H
     ensures unfailed { OnOk result (IsUnfailed (F.failed files.old) (F.failed files.new) path.entry.now) }
     ensures same { OnOk result (F.holds files.new path.entry.now ≡ F.holds files.old path.entry.now) }
 {
-    let mut source = CertificateSource::new(files, path, path);
+    let mut source = PartSource::new(files, path, path);
     match hints(alloc, &mut source) {
         Ok(hints) => Ok(hints),
         Err(PullFault::Device) => Err(Failure::Unreadable(path)),
@@ -65,7 +65,7 @@ fn compared<'a, F: Files>(
     ensures failure { IfErr result (λ e. CheckShows path.entry.now (F.holds files.old path.entry.now) (F.failed files.old) (F.failed files.new)
         (meant program) input (failure_view e)) }
 {
-    let mut source = CertificateSource::new(files, path, path);
+    let mut source = PartSource::new(files, path, path);
     match check_end(alloc, program, input, end, trace, &mut source) {
         Ok(_accepted) => Ok(Answer::Accepted),
         Err(Unaccepted::Unread) => Err(Failure::Unreadable(path)),

@@ -38,7 +38,6 @@ mod explaining;
 mod helping;
 mod running;
 mod serving;
-mod source;
 pub mod words;
 
 pub use cilk_commands::files::{FileFault, Files};

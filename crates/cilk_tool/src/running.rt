@@ -11,12 +11,12 @@ ghost use Rattle.cilk_tool.specs.Serving.{Answers};
 ghost use Rattle.cilk_tool.specs.Shown.{AcceptedShow, GivesNumbers, RunShows, ThreadsShow};
 ghost use Rattle.cilk_tool.specs.Words.{order_view};
 
-use crate::source::CertificateSource;
 use crate::words::Order;
 use cilk_checker::accepted::Accepted;
 use cilk_checker::check::check_run;
 use cilk_checker::refusal::Unaccepted;
 use cilk_commands::files::Files;
+use cilk_commands::parts::PartSource;
 use cilk_commands::reply::{Answer, Failure};
 use cilk_commands::{given, input as judge_input, names, read_file, refused};
 use cilk_messages::words::Origin;
@@ -70,7 +70,7 @@ fn checked<'a, F: Files>(
     ensures beside { IfOk result (StaysBeside (F.failed files.old) (F.failed files.new) path.entry.now
         (F.holds files.old other.entry.now) (F.holds files.new other.entry.now)) }
 {
-    let mut source = CertificateSource::new(files, path, other);
+    let mut source = PartSource::new(files, path, other);
     match check_run(alloc, program, input, &mut source) {
         Ok(accepted) => Ok(Verdict::Accepted(accepted)),
         Err(Unaccepted::Unread) => Err(Failure::Unreadable(path)),

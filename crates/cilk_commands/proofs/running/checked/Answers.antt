@@ -1,7 +1,8 @@
-use Rattle.std.proofs.Common.{ap₂, rules}
+use Rattle.std.proofs.Common.{ap₂, refl, rules}
 use Rattle.cilk_checker.specs.Judging.{meant}
 use Rattle.cilk_program.specs.Sources.{source}
-use Rattle.cilk_commands.proofs.Replying.{accepted_whole, refused_err, refused_ok, refused_whole}
+use Rattle.cilk_commands.proofs.Kept.{fails}
+use Rattle.cilk_commands.proofs.Replying.{accepted_whole, refused_err, refused_ok, refused_whole, unread_count}
 use Rattle.cilk_commands.proofs.running.checked.Goals as goal
 
 pub returns-in-Err-Refusal-clause-answer : goal.returns-in-Err-Refusal-clause-answer
@@ -25,4 +26,13 @@ returns-in-Ok-clause-answer g c =
       a.outcome,
       accepted_whole (source c.args.program) c.args.input _ _ _ a.trace a.outcome
           (ap₂ (λ files path. g.F.Files.holds files path) made.files made.path) made.at c.in-Ok.ensures.accepted,
+    )
+
+pub returns-in-Err-Unread-clause-failure : goal.returns-in-Err-Unread-clause-failure
+returns-in-Err-Unread-clause-failure g c =
+    let made = c.new-source.ensures in (
+      refl,
+      fails (λ files. g.F.Files.failed files) (λ files. g.F.Files.holds files) c.args.files.now c.new-source.result.files.now c.check_run.new.source.files.now _
+          _ _ _ _ c.args.path.now c.args.path.now made.files made.path made.other c.check_run.ensures.kept (search rules)
+          (unread_count (source c.args.program) c.args.input _ _ _ c.in-Err-Unread.field-0 c.in-Err-Unread.field-0-is c.in-Err-Unread.ensures.unaccepted),
     )

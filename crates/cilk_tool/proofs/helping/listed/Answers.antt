@@ -1,5 +1,5 @@
 use Rattle.std.proofs.Common.{refl, rules}
-use Rattle.cilk_tool.proofs.Checked.{fails, stays}
+use Rattle.cilk_commands.proofs.Kept.{fails, stays}
 use Rattle.cilk_tool.proofs.helping.listed.Goals as goal
 
 pub returns-in-Ok-clause-unfailed : goal.returns-in-Ok-clause-unfailed

@@ -1,7 +1,8 @@
 use Rattle.std.proofs.Common.{ap₂, rules}
 use Rattle.cilk_checker.specs.Judging.{meant}
 use Rattle.cilk_commands.proofs.Replying.{refused_whole}
-use Rattle.cilk_tool.proofs.Checked.{refuses, stays, unread}
+use Rattle.cilk_commands.proofs.Kept.{stays}
+use Rattle.cilk_tool.proofs.Checked.{refuses, unread}
 use Rattle.cilk_tool.proofs.running.checked.Goals as goal
 
 pub returns-in-Ok-clause-beside : goal.returns-in-Ok-clause-beside

@@ -1,4 +1,4 @@
--- The state that a source of a certificate's text keeps, as numbers.
+-- What no pull from a file changes, as numbers.
 use Rattle.std.specs.Prelude.{ℕ, List, [], ◌∷◌, ◌++◌, Option, Some, None, length}
 use Rattle.cilk_commands.specs.Files.{Failures}
 use Rattle.cilk_commands.specs.Replies.{Text}

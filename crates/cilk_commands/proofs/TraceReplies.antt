@@ -1,0 +1,151 @@
+-- The replies of `judge`, by the two readings of a trace's file.
+--
+-- - `numbered`: the lines at a verdict's positions have numbers;
+-- - `verdict_shown`: the reply that shows a verdict;
+-- - `unsurveyed_shown`, `unjudged_shown`: that of a reading that fails;
+-- - `since_ok`, `since_err`: the reply of the second reading, by what was known before the first.
+use Rattle.std.proofs.Common.{◌≡◌, ℕ, ◌+◌, ◌-◌, ◌<◌, ◌^◌, List, length, Option, Some, None, option_map, drop, inl, inr, refl, sym, ap, subst, ◌∙◌, arith}
+use Rattle.std.specs.Prelude.{Result, Ok, Err, IfOk, IfErr, IfSome, slice_get}
+use Rattle.std.proofs.lemmas.Option.{slice_get_within}
+use Rattle.cilk_trace.specs.declared.line.Line.{Line}
+use Rattle.cilk_trace.specs.declared.judge.Verdict.{Verdict}
+use Rattle.cilk_trace.specs.declared.judge.Verdict.TheVariants as verdicts
+use Rattle.cilk_trace.specs.Accesses.{AccessesCell, WritesCell}
+use Rattle.cilk_trace.specs.Judging.{IsJudged, Says}
+use Rattle.cilk_trace.specs.Reducers.{ReadsView}
+use Rattle.cilk_tree.specs.Tree.{Tree, tree}
+use Rattle.cilk_judge.specs.declared.fault.Unjudged.{Unjudged}
+use Rattle.cilk_judge.specs.declared.fault.Unjudged.TheVariants as faults
+use Rattle.cilk_judge.specs.Faults.{IsUnjudgedAgain, IsUnsurveyed}
+use Rattle.cilk_judge.specs.TraceTexts.{GivesText, HasVerdict}
+use Rattle.cilk_commands.specs.Files.{Failures, HasFailed, IsUnfailed}
+use Rattle.cilk_commands.specs.Replies as replies
+use Rattle.cilk_commands.specs.Replies.{Reply, Text, answer_view, failure_view}
+use Rattle.cilk_commands.specs.Traces.{IsNumbered, JudgeShows, unjudged_view, verdict_view}
+use Rattle.cilk_commands.specs.declared.reply.Answer.{Answer}
+use Rattle.cilk_commands.specs.declared.reply.Failure.{Failure}
+
+-- ---- the lines of a verdict
+
+-- an access, or a read of a view, is of a line that is there
+accesses_line : (o : Option Line) (c : ℕ) → AccessesCell o c → (l : Line) × (o ≡ Some l)
+accesses_line (Some l) c h = (l, refl)
+accesses_line None c h = absurd h
+
+writes_line : (o : Option Line) (c : ℕ) → WritesCell o c → (l : Line) × (o ≡ Some l)
+writes_line (Some l) c h = (l, refl)
+writes_line None c h = absurd h
+
+reads_line : (o : Option Line) (r : ℕ) → ReadsView o r → (l : Line) × (o ≡ Some l)
+reads_line (Some l) r h = (l, refl)
+reads_line None r h = absurd h
+
+-- two lines that are there have numbers
+both_numbered : (ls : List Line) (p q : ℕ) → length ls + 1 < 2 ^ 32 - 1 → p < q → (l : Line) × (slice_get ls (q - 1) ≡ Some l)
+    → (p + 1 < 2 ^ 32) × (q + 1 < 2 ^ 32)
+both_numbered ls p q few less at =
+    let within = slice_get_within ls (q - 1) at.0 at.1 in
+    (omega (arith, few, less, within), omega (arith, few, less, within))
+
+said_numbered : (t : Tree) (ls : List Line) (v : Verdict) → length ls + 1 < 2 ^ 32 - 1 → Says t ls v → IsNumbered v
+said_numbered t ls verdicts.RaceFree few h = tt
+said_numbered t ls (verdicts.Race p q) few h =
+    let race = h.race in
+    both_numbered ls p q few race.earlier (elim race.clash [
+      | inl w ↦ accesses_line (slice_get ls (q - 1)) race.cell.cell w.1.0
+      | inr w ↦ writes_line (slice_get ls (q - 1)) race.cell.cell w.1.0
+    ])
+said_numbered t ls (verdicts.ViewRace p q) few h =
+    let race = h.1.race in
+    both_numbered ls p q few race.earlier (reads_line (slice_get ls (q - 1)) race.instance.reducer race.other.0)
+
+pub numbered : (known : Option Text) (v : Verdict) → GivesText known (λ text. HasVerdict text v) → IsNumbered v
+numbered known v h =
+    let is = h.2 in
+    let judged : IsJudged is.lines v = is.judged in
+    said_numbered (tree judged.shape) is.lines v is.spells.few judged.says
+
+-- ---- the replies
+
+-- a file is read from its first byte on
+whole : (known : Option Text) → option_map (drop 0) known ≡ known
+whole None = refl
+whole (Some all) = refl
+
+pub from_first : (P : Option Text → Type 0) (known known' : Option Text) (at : ℕ) → known' ≡ known → at ≡ 0 → P (option_map (drop at) known') → P known
+from_first P known known' at e d h = let same : option_map (drop at) known' ≡ known = rw (e, d) (whole known) in subst P same h
+
+judged_shown : (path : Text) (known : Option Text) (failed failed' : Failures) (v : Verdict) → GivesText known (λ text. HasVerdict text v)
+    → JudgeShows path known failed failed' (verdict_view v)
+judged_shown path known failed failed' verdicts.RaceFree h = h
+judged_shown path known failed failed' (verdicts.Race p q) h = (p, q, refl, (h.0, h.1, inl (refl, h.2)))
+judged_shown path known failed failed' (verdicts.ViewRace p q) h = (p, q, refl, (h.0, h.1, inr (refl, h.2)))
+
+pub verdict_shown : {F : Type 0} (path : Text) (known : Option Text) (failed : F → Failures) (old new : F) (v : Verdict) (r : Reply) → r ≡ verdict_view v
+    → GivesText known (λ text. HasVerdict text v) → JudgeShows path known (failed old) (failed new) r
+verdict_shown path known failed old new v r e h =
+    subst (λ (x : Reply). JudgeShows path known (failed old) (failed new) x) (sym e) (judged_shown path known (failed old) (failed new) v h)
+
+unsurveyed_view : (path : Text) (known : Option Text) (failed failed' : Failures) (a b : ℕ) (e : Unjudged) → (a < b → HasFailed path failed failed')
+    → IsUnsurveyed known a b e → JudgeShows path known failed failed' (unjudged_view path e)
+unsurveyed_view path known failed failed' a b (faults.Malformed line) fails h = (h.0, h.1, inl (refl, h.2))
+unsurveyed_view path known failed failed' a b (faults.Truncated line) fails h = (h.0, h.1, inr (refl, h.2))
+unsurveyed_view path known failed failed' a b faults.Changed fails h = absurd h
+unsurveyed_view path known failed failed' a b faults.Unread fails h = (refl, fails h)
+unsurveyed_view path known failed failed' a b faults.Memory fails h = tt
+
+pub unsurveyed_shown : {F : Type 0} (path : Text) (known known' : Option Text) (at : ℕ) (failed : F → Failures) (old new : F) (a b : ℕ) (e : Unjudged)
+    (r : Reply) → known' ≡ known → at ≡ 0 → r ≡ unjudged_view path e → (a < b → HasFailed path (failed old) (failed new))
+    → IsUnsurveyed (option_map (drop at) known') a b e → JudgeShows path known (failed old) (failed new) r
+unsurveyed_shown path known known' at failed old new a b e r same first is fails h =
+    subst (λ (x : Reply). JudgeShows path known (failed old) (failed new) x) (sym is)
+    (unsurveyed_view path known (failed old) (failed new) a b e fails
+    (from_first (λ k. IsUnsurveyed k a b e) known known' at same first h))
+
+-- a text that is known doesn't change
+unchanged : (known : Option Text) (first : Text) → IfSome known (λ all. first ≡ all) → (known ≡ Some first → ⊥) → known ≡ None
+unchanged None first held h = refl
+unchanged (Some all) first held h = absurd (h (ap Some (sym held)))
+
+unjudged_view_shown : (path : Text) (known : Option Text) (failed failed' : Failures) (a b : ℕ) (first : Text) (e : Unjudged)
+    → IfSome known (λ all. first ≡ all) → (a < b → HasFailed path failed failed') → IsUnjudgedAgain first known a b e
+    → JudgeShows path known failed failed' (unjudged_view path e)
+unjudged_view_shown path known failed failed' a b first (faults.Malformed line) held fails h = absurd h
+unjudged_view_shown path known failed failed' a b first (faults.Truncated line) held fails h = absurd h
+unjudged_view_shown path known failed failed' a b first faults.Changed held fails h = (refl, unchanged known first held h)
+unjudged_view_shown path known failed failed' a b first faults.Unread held fails h = (refl, fails h)
+unjudged_view_shown path known failed failed' a b first faults.Memory held fails h = tt
+
+pub unjudged_shown : {F : Type 0} (path : Text) (known known' : Option Text) (at : ℕ) (failed : F → Failures) (old new : F) (a b : ℕ) (first : Text)
+    (e : Unjudged) (r : Reply) → known' ≡ known → at ≡ 0 → r ≡ unjudged_view path e → IfSome known (λ all. first ≡ all)
+    → (a < b → HasFailed path (failed old) (failed new)) → IsUnjudgedAgain first (option_map (drop at) known') a b e
+    → JudgeShows path known (failed old) (failed new) r
+unjudged_shown path known known' at failed old new a b first e r same from is held fails h =
+    subst (λ (x : Reply). JudgeShows path known (failed old) (failed new) x) (sym is)
+    (unjudged_view_shown path known (failed old) (failed new) a b first e held fails
+    (from_first (λ k. IsUnjudgedAgain first k a b e) known known' at same from h))
+
+-- the reply of the second reading
+module _ (path : Text) (known known' : Option Text) (before between after : Failures) (none : IsUnfailed before between path) (same : known' ≡ known) where
+  as_known : (r : Reply) → JudgeShows path known between after r → JudgeShows path known before after r
+  as_known replies.RaceFree shown = shown
+  as_known (replies.Refused number places) shown = shown
+  as_known (replies.BadTrace number at) shown = shown
+  as_known (replies.Changed name) shown = shown
+  as_known (replies.Unreadable name) shown =
+      (shown.0, (subst (λ (n : ℕ). n < after.count) none.count shown.1.0, shown.1.1 ∙ none.elsewhere))
+  as_known replies.NoMemory shown = tt
+  as_known _ shown = absurd shown
+
+  since : (r : Reply) → JudgeShows path known' between after r → JudgeShows path known before after r
+  since r shown = as_known r (subst (λ (k : Option Text). JudgeShows path k between after r) same shown)
+
+  pub since_ok : {T : Type 0} (x : Result Answer T) → IfOk x (λ a. JudgeShows path known' between after (answer_view a))
+      → IfOk x (λ a. JudgeShows path known before after (answer_view a))
+  since_ok (Ok a) h = since (answer_view a) h
+  since_ok (Err f) h = tt
+
+  pub since_err : {T : Type 0} (x : Result T Failure) → IfErr x (λ f. JudgeShows path known' between after (failure_view f))
+      → IfErr x (λ f. JudgeShows path known before after (failure_view f))
+  since_err (Ok a) h = tt
+  since_err (Err f) h = since (failure_view f) h

@@ -1,0 +1,33 @@
+use Rattle.std.proofs.Common.{ap₂, rules}
+use Rattle.cilk_judge.specs.TraceTexts.{GivesText, HasSurvey}
+use Rattle.cilk_commands.proofs.Kept.{fails, stays}
+use Rattle.cilk_commands.proofs.TraceReplies.{from_first, unsurveyed_shown}
+use Rattle.cilk_commands.proofs.tracing.surveyed.Goals as goal
+
+pub returns-in-Ok-clause-known : goal.returns-in-Ok-clause-known
+returns-in-Ok-clause-known g c =
+    let made = c.new-source.ensures in
+    from_first (λ known. GivesText known (λ text. HasSurvey text c.in-Ok.known)) _ _ _ (ap₂ (λ files path. g.F.Files.holds files path) made.files made.path)
+    made.at c.in-Ok.ensures.known
+
+pub returns-in-Ok-clause-unfailed : goal.returns-in-Ok-clause-unfailed
+returns-in-Ok-clause-unfailed g c =
+    let made = c.new-source.ensures in
+    (stays (λ files. g.F.Files.failed files) (λ files. g.F.Files.holds files) c.args.files.now c.new-source.result.files.now c.survey_text.new.source.files.now _
+    _ _ _ _ c.args.path.now c.args.path.now made.files made.path made.other c.survey_text.ensures.kept (search rules) c.in-Ok.ensures.uncounted).0
+
+pub returns-in-Ok-clause-same : goal.returns-in-Ok-clause-same
+returns-in-Ok-clause-same g c =
+    let made = c.new-source.ensures in
+    (stays (λ files. g.F.Files.failed files) (λ files. g.F.Files.holds files) c.args.files.now c.new-source.result.files.now c.survey_text.new.source.files.now _
+    _ _ _ _ c.args.path.now c.args.path.now made.files made.path made.other c.survey_text.ensures.kept (search rules) c.in-Ok.ensures.uncounted).1
+
+pub returns-in-Err-clause-failure : goal.returns-in-Err-clause-failure
+returns-in-Err-clause-failure g c =
+    let made = c.new-source.ensures in
+    unsurveyed_shown c.args.path.now (g.F.Files.holds c.args.files.now c.args.path.now) _ _ (λ files. g.F.Files.failed files) c.args.files.now _ _ _
+    c.in-Err.fault _
+    (ap₂ (λ files path. g.F.Files.holds files path) made.files made.path) made.at c.unjudged.ensures
+    (fails (λ files. g.F.Files.failed files) (λ files. g.F.Files.holds files) c.args.files.now c.new-source.result.files.now c.survey_text.new.source.files.now _
+    _ _ _ _ c.args.path.now c.args.path.now made.files made.path made.other c.survey_text.ensures.kept (search rules))
+    c.in-Err.ensures.fault

@@ -1,0 +1,108 @@
+//! The command `judge`. A trace's file is read twice, in parts, and nothing of it is kept.
+
+ghost use Rattle.std.specs.Prelude.{◌≡◌, ◌<◌, IfOk, IfErr, OnOk};
+ghost use Rattle.cilk_commands.specs.Files.{IsUnfailed};
+ghost use Rattle.cilk_commands.specs.Replies.{answer_view, failure_view};
+ghost use Rattle.cilk_commands.specs.Traces.{IsNumbered, JudgeShows, unjudged_view, verdict_view};
+ghost use Rattle.cilk_judge.specs.TraceTexts.{GivesText, HasSurvey, HasVerdict};
+
+use crate::files::Files;
+use crate::parts::PartSource;
+use crate::reply::{Answer, Failure};
+use cilk_checker::refusal::Refusal;
+use cilk_judge::fault::Unjudged;
+use cilk_judge::judging::{judge_text, survey_text};
+use cilk_trace::judge::Verdict;
+use cilk_trace::survey::Known;
+use std::alloc::Global;
+
+/// The number of a malformed trace, as of a malformed certificate.
+const MALFORMED: u16 = 301;
+
+/// The number of a truncated trace, as of a truncated certificate.
+const TRUNCATED: u16 = 302;
+
+// The failure that shows why the trace in a file isn't judged.
+fn unjudged<'a>(fault: Unjudged, path: &'a str) -> Failure<'a>
+    ensures { failure_view result ≡ unjudged_view path.entry.now fault }
+{
+    match fault {
+        Unjudged::Malformed { line } => Failure::Trace {
+            number: MALFORMED,
+            line,
+        },
+        Unjudged::Truncated { line } => Failure::Trace {
+            number: TRUNCATED,
+            line,
+        },
+        Unjudged::Changed => Failure::Changed(path),
+        Unjudged::Unread => Failure::Unreadable(path),
+        Unjudged::Memory => Failure::Memory,
+    }
+}
+
+// The answer that shows a verdict. It names lines of the file, where the header is line 1.
+fn shown(verdict: Verdict) -> Answer
+    requires { IsNumbered verdict }
+    ensures { answer_view result ≡ verdict_view verdict }
+{
+    match verdict {
+        Verdict::RaceFree => Answer::RaceFree,
+        Verdict::Race(earlier, later) => Answer::Refused(Refusal::Race {
+            earlier: earlier + 1,
+            later: later + 1,
+        }),
+        Verdict::ViewRace(created, used) => Answer::Refused(Refusal::ViewRace {
+            created: created + 1,
+            used: used + 1,
+        }),
+    }
+}
+
+// Reads a trace's file for the first time.
+fn surveyed<'a, F: Files>(alloc: Global, path: &'a str, files: &mut F) -> Result<Known, Failure<'a>>
+    requires { (F.failed files.old).count < 18446744073709551615 }
+    ensures known { IfOk result (λ k. GivesText (F.holds files.old path.entry.now) (λ text. HasSurvey text k)) }
+    ensures failure { IfErr result (λ e. JudgeShows path.entry.now (F.holds files.old path.entry.now) (F.failed files.old) (F.failed files.new) (failure_view e)) }
+    ensures unfailed { OnOk result (IsUnfailed (F.failed files.old) (F.failed files.new) path.entry.now) }
+    ensures same { OnOk result (F.holds files.new path.entry.now ≡ F.holds files.old path.entry.now) }
+{
+    let mut source = PartSource::new(files, path, path);
+    match survey_text(alloc, &mut source) {
+        Ok(known) => Ok(known),
+        Err(fault) => Err(unjudged(fault, path)),
+    }
+}
+
+// Reads a trace's file for the second time, and judges it.
+fn judged<'a, F: Files>(
+    alloc: Global,
+    path: &'a str,
+    known: &Known,
+    files: &mut F,
+) -> Result<Answer, Failure<'a>>
+    requires counts { (F.failed files.old).count < 18446744073709551615 }
+    requires surveyed { GivesText (F.holds files.old path.now) (λ text. HasSurvey text known.now) }
+    ensures answer { IfOk result (λ a. JudgeShows path.entry.now (F.holds files.old path.entry.now) (F.failed files.old) (F.failed files.new) (answer_view a)) }
+    ensures failure { IfErr result (λ e. JudgeShows path.entry.now (F.holds files.old path.entry.now) (F.failed files.old) (F.failed files.new) (failure_view e)) }
+{
+    let mut source = PartSource::new(files, path, path);
+    match judge_text(alloc, known, &mut source) {
+        Ok(verdict) => Ok(shown(verdict)),
+        Err(fault) => Err(unjudged(fault, path)),
+    }
+}
+
+/// Judges the trace in a file. Memory is linear in the trace's strands and cells.
+pub fn judge<'a, F: Files>(
+    alloc: Global,
+    trace: &'a str,
+    files: &mut F,
+) -> Result<Answer, Failure<'a>>
+    requires { (F.failed files.old).count < 18446744073709551615 }
+    ensures answer { IfOk result (λ a. JudgeShows trace.entry.now (F.holds files.old trace.entry.now) (F.failed files.old) (F.failed files.new) (answer_view a)) }
+    ensures failure { IfErr result (λ e. JudgeShows trace.entry.now (F.holds files.old trace.entry.now) (F.failed files.old) (F.failed files.new) (failure_view e)) }
+{
+    let known = surveyed(alloc, trace, files)?;
+    judged(alloc, trace, &known, files)
+}
