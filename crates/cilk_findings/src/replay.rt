@@ -71,20 +71,24 @@ pub fn follow(
 {
     let mut serial = SerialRun::new(alloc, program, code, input)?;
     let mut notes = Notes::new(alloc, program, code)?;
-    let (fault, stop) = loop {
+    for _step in 0..u64::MAX {
         let callee = serial.callee();
         let place = serial.place();
         match serial.next()? {
             Next::Made(event) => notes.meet(event, place, &callee)?,
-            Next::Ended => break (None, None),
+            Next::Ended => {
+                let replay = notes.into_replay(serial.ticks(), None);
+                return Ok((serial.into_trace(), None, replay));
+            }
             Next::Stops(fault) => {
                 let stop = notes.stop(place, serial.last_operands());
-                break (Some(fault), Some(stop));
+                let replay = notes.into_replay(serial.ticks(), Some(stop));
+                return Ok((serial.into_trace(), Some(fault), replay));
             }
         }
-    };
-    let replay = notes.into_replay(serial.ticks(), stop);
-    Ok((serial.into_trace(), fault, replay))
+    }
+    // not reached, as a run has at most 1,000,000 events
+    Err(AllocError)
 }
 
 /// The notes so far, the frames that have begun and not ended, the innermost last, and the cells of
