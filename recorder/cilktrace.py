@@ -61,11 +61,13 @@ class Rules:
 
 def text_events(stream):
     """The events of a text whose header was read."""
-    position = 1
+    position, word = 1, None
     for line in stream:
         position += 1
+        if word == "end":
+            raise Malformed(position, "bytes after the end")
         found = LINE.fullmatch(line)
-        if not line.endswith(b"\n"):
+        if not line.endswith(b"\n") and len(line) <= LONGEST:
             raise Malformed(position, "no line feed at the end of the file", cut=True)
         if not found or len(line) > LONGEST + 1:
             raise Malformed(position, "no line of a trace")
@@ -146,14 +148,12 @@ def binary_events(stream):
 
 def events(stream):
     """The events of a trace of either form, with `end` as the last; raises Malformed."""
-    header = stream.readline(len(BINARY_HEADER))
+    header = stream.readline(LONGEST + 1)
     if header not in (TEXT_HEADER, BINARY_HEADER):
-        whole = any(h.startswith(header) for h in (TEXT_HEADER, BINARY_HEADER))
-        raise Malformed(1, "no header of a trace", cut=whole)
+        is_cut = not header.endswith(b"\n") and len(header) <= LONGEST
+        raise Malformed(1, "no header of a trace", cut=is_cut)
     rules, ended = Rules(), False
     for event in text_events(stream) if header == TEXT_HEADER else binary_events(stream):
-        if ended:
-            raise Malformed(rules.position + 1, "a line after the end")
         rules.check(event)
         ended = event[0] == "end"
         yield event

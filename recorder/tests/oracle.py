@@ -3,10 +3,11 @@
 
 oracle.py TRACE [SITES]
 
-`race-free`; or `race P Q`: Q is the least position of an access that an earlier one races with, P the least such one;
-or `view-read race P Q` of a reducer, where there is no race of accesses. With a table of sites both are shown by file,
-line and function. It compares each access with all earlier ones of its cells, by the place at which the paths of their
-strands part, so it is quadratic.
+`race-free`; or `race P Q`: Q is the least position of an access that an earlier one races with. Of all that Q races
+with, P is of the strand that comes last where parallel strands are taken in reverse (of greatest Hebrew number), and
+there the first. Or `view-read race P Q` of a reducer, where there is no race of accesses. With a table of sites both
+are shown by file, line and function. It compares each access with all earlier ones of its cells, by the place at which
+the paths of their strands part, so it is quadratic.
 
 The path of a strand has for each open frame its number, its block (how many syncs it has made) and the item in the
 block. A strand that comes later in the run is parallel to an earlier one where their paths part in one block, and the
@@ -65,6 +66,14 @@ class Strands:
             )
         return self.known[key]
 
+    def last_of(self, accesses):
+        """The position among (strand, position) that is the first of the last strand in the reversed order."""
+        last = None
+        for strand, position in sorted(accesses):
+            if last is None or strand != last[0] and not self.parallel(last[0], strand):
+                last = strand, position
+        return last[1]
+
     def peers(self, s):
         """All strands parallel to s."""
         return frozenset(t for t in range(len(self.paths)) if self.parallel(min(s, t), max(s, t)))
@@ -94,10 +103,10 @@ def race_of_accesses(trace, strands):
             earlier = history.setdefault(segment, {})
             for (strand, wrote), position in earlier.items():
                 if (writes or wrote) and strand != here and strands.parallel(strand, here):
-                    racing.append(position)
+                    racing.append((strand, position))
             earlier.setdefault((here, writes), k + 2)
         if racing:
-            return min(racing), k + 2
+            return strands.last_of(racing), k + 2
     return None
 
 

@@ -27,9 +27,9 @@ def compiled(folder, compiler, *words):
     return None if done.returncode == 0 else f"{compiler} {words}: {done.stderr[:800]}"
 
 
-def recorded(folder, program="./prog", form="text"):
+def recorded(folder, program=("./prog",), form="text"):
     """The verdict on a run of a program, with the kinds of the racing accesses' places."""
-    done = call([program], folder, CILK_TRACE="trace", CILK_TRACE_FORM=form, CILK_SITES="sites")
+    done = call(list(program), folder, CILK_TRACE="trace", CILK_TRACE_FORM=form, CILK_SITES="sites")
     with open(os.path.join(folder, "trace"), "rb") as f:
         try:
             trace = list(cilktrace.events(f))
@@ -263,6 +263,10 @@ def both_forms(folder, compiler):
 FAULTS = {
     b"": (2, "line 1"), b"cilktrace 1": (2, "line 1"), b"cilktrace 2\nend\n": (1, "line 1"),
     b"cilktrace 1\n": (2, "line 2"), b"cilktrace 1\nend": (2, "line 2"), b"cilktrace 1\nend\nsync\n": (1, "line 3"),
+    b"cilktrace 1\nend\nsync": (1, "line 3"), b"cilktrace 1\nend\n\n": (1, "line 3"), b"cilktr": (2, "line 1"),
+    b"other": (2, "line 1"), b"other\n": (1, "line 1"), b"x" * 65: (1, "line 1"), b"cilktrace 1\nrea": (2, "line 2"),
+    b"cilktrace 1\nother": (2, "line 2"), b"cilktrace 1\n" + b"x" * 64: (2, "line 2"),
+    b"cilktrace 1\n" + b"x" * 65: (1, "line 2"), b"cilktrace 1\nenter 1\nend\nx": (1, "line 3"),
     b"cilktrace 1\nsync \nend\n": (1, "line 2"), b"cilktrace 1\nread 1 2\nend\n": (1, "line 2"),
     b"cilktrace 1\nread 01 2 3\nend\n": (1, "line 2"), b"cilktrace 1\nread 1 0 3\nend\n": (1, "line 2"),
     b"cilktrace 1\nread 1 4097 3\nend\n": (1, "line 2"), b"cilktrace 1\nread 4294967295 2 3\nend\n": (1, "line 2"),
