@@ -115,7 +115,8 @@ def broken(text, chance):
         lines[at] = chance.choice([
             b"end", b"called", b"spawned", b"", b"read 1 0 1", b"read 1 4097 1", b"write 4294967295 2 1", b"retire 7 1",
             b"clear 4294967291 5", b"enter 4294967296", b"sync".ljust(65), b"enter 1".rjust(8), b"write  1 1 1",
-            b"read 4294967295 1 4294967295", b"enter " + b"9" * 58, b"enter " + b"9" * 59, b"update 1 1", b"create 2 1"])
+            b"read 4294967295 1 4294967295", b"enter " + b"9" * 58, b"enter " + b"9" * 59, b"update 1 1",
+            b"create 2 1"])
     return b"\n".join(lines + [b""])
 
 

@@ -5,6 +5,10 @@
 #include <cilk/cilk.h>
 #include <stdio.h>
 
+#ifndef N
+#define N 12
+#endif
+
 static long fib(int n)
 {
     if (n < 2)
@@ -23,6 +27,6 @@ static long fib(int n)
 
 int main(void)
 {
-    printf("fib(12) = %ld\n", fib(12));
+    printf("fib(%d) = %ld\n", N, fib(N));
     return 0;
 }

@@ -5,7 +5,10 @@
 #include <cilk/cilk.h>
 #include <stdio.h>
 
-enum { N = 16, BLOCK = 4, BLOCKS = N / BLOCK };
+#ifndef N
+#define N 16
+#endif
+enum { BLOCK = 4, BLOCKS = N / BLOCK };
 static double m[N][N];
 
 static void factor(int d)

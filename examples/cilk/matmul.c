@@ -6,7 +6,12 @@
 #include <stdio.h>
 #include <stdlib.h>
 
-enum { N = 16, SMALL = 4 };
+#ifndef N
+#define N 16
+#endif
+#ifndef SMALL
+#define SMALL 4
+#endif
 
 static void multiply_small(double *c, const double *a, const double *b, int n)
 {

@@ -7,6 +7,10 @@
 #include <stdio.h>
 #include <string.h>
 
+#ifndef N
+#define N 6
+#endif
+
 /* Whether a queen at (row, column) is safe from those in the rows above. */
 static int is_safe(const signed char *board, int row, int column)
 {
@@ -49,6 +53,6 @@ static int place(int n, int row, const signed char *board)
 int main(void)
 {
     signed char none[1] = {0};
-    printf("%d ways\n", place(6, 0, none));
+    printf("%d ways\n", place(N, 0, none));
     return 0;
 }

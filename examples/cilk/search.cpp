@@ -7,6 +7,10 @@
 #include <cstdio>
 #include <vector>
 
+#ifndef N
+#define N 24
+#endif
+
 namespace {
 
 constexpr int unreached = -1;
@@ -49,7 +53,7 @@ int advance(const Graph &graph, const std::vector<int> &now, std::vector<int> &l
 } // namespace
 
 int main() {
-  Graph graph(24);
+  Graph graph(N);
   for (int v = 0; v < graph.size(); v++) {
     graph.add(v, (v * 5 + 3) % graph.size());
     graph.add(v, (v * 7 + 2) % graph.size());

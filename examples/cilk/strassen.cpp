@@ -5,6 +5,10 @@
 #include <cstdio>
 #include <vector>
 
+#ifndef N
+#define N 8
+#endif
+
 namespace {
 
 constexpr int small = 4;
@@ -79,13 +83,13 @@ void multiply(const Matrix &x, const Matrix &y, Matrix &z) {
 } // namespace
 
 int main() {
-  Matrix x(8), y(8), z(8);
-  for (int i = 0; i < 8; i++)
-    for (int j = 0; j < 8; j++) {
+  Matrix x(N), y(N), z(N);
+  for (int i = 0; i < N; i++)
+    for (int j = 0; j < N; j++) {
       x.at(i, j) = i + j;
       y.at(i, j) = i - j;
     }
   multiply(x, y, z);
-  std::printf("%g\n", z.at(7, 7));
+  std::printf("%g\n", z.at(N - 1, N - 1));
   return 0;
 }

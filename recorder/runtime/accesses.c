@@ -13,26 +13,46 @@ struct reducer { uintptr_t from, to; uint32_t number; int depth; };
 struct reducers { struct reducer at[MOST_REDUCERS]; int n; uintptr_t from, to; };
 static struct reducers global_reducers, local_reducers;
 static uint32_t reducer_count;
+static int operations; /* on views of classes, that are being done */
 
-uint32_t cilkrec_reducer_create(void)
+/* The program's own call, by its return address, of a function of `cilk/reducer.h`. Those aren't instrumented, so the
+   frame below which they lie is the current one. */
+static const void *call_of_reducer(const void *innermost)
 {
-    if (!recording)
-        return 0;
-    put_reducer(CREATE, ++reducer_count, site_before(RETURN_ADDRESS));
-    return reducer_count;
+    uintptr_t *at = __builtin_frame_address(0), *next;
+
+    for (int i = 0; i < 8; i++, at = next) {
+        next = (uintptr_t *)at[0];
+        if ((uintptr_t)next == frames[depth].base)
+            return (const void *)at[1];
+        if (next <= at || (uintptr_t)(next + 2) > frames[0].top)
+            break;
+    }
+    return innermost;
 }
 
 static void reducer_event(enum reducer_event event, uint32_t number, const void *return_address)
 {
     if (recording && number)
-        put_reducer(event, number, site_before(return_address));
+        put_reducer(event, number, site_before(call_of_reducer(return_address)));
 }
 
-void cilkrec_reducer_update(uint32_t number)
+uint32_t cilkrec_reducer_create(void)
 {
+    if (!recording)
+        return 0;
+    reducer_event(CREATE, ++reducer_count, RETURN_ADDRESS);
+    return reducer_count;
+}
+
+/* An operation on the view of a class's object. Till its end no access is written: its view is no shared memory. */
+void cilkrec_operation_begin(uint32_t number)
+{
+    operations++;
     if (span != UINTPTR_MAX)
         reducer_event(UPDATE, number, RETURN_ADDRESS);
 }
+void cilkrec_operation_end(void) { operations--; }
 void cilkrec_reducer_value(uint32_t number) { reducer_event(VALUE, number, RETURN_ADDRESS); }
 void cilkrec_reducer_retire(uint32_t number) { reducer_event(RETIRE, number, RETURN_ADDRESS); }
 
@@ -93,7 +113,9 @@ static inline void access_cells(enum kind kind, uintptr_t address, uint64_t size
 {
     if (address - stack_low < span)
         return;
-    if (unlikely(global_reducers.n + local_reducers.n)) {
+    if (unlikely(global_reducers.n + local_reducers.n + operations)) {
+        if (operations)
+            return;
         const struct reducer *r = find_reducer(&local_reducers, address);
         if (!r)
             r = find_reducer(&global_reducers, address);

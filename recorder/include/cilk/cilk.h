@@ -23,7 +23,8 @@ void cilkrec_scope_end(int *variable);
 void cilkrec_reducer_local(void *variable, __SIZE_TYPE__ size);
 void cilkrec_reducer_global(void *variable, __SIZE_TYPE__ size);
 unsigned cilkrec_reducer_create(void);
-void cilkrec_reducer_update(unsigned reducer);
+void cilkrec_operation_begin(unsigned reducer);
+void cilkrec_operation_end(void);
 void cilkrec_reducer_value(unsigned reducer);
 void cilkrec_reducer_retire(unsigned reducer);
 #ifdef __cplusplus
