@@ -1,0 +1,114 @@
+#!/usr/bin/env python3
+"""Records the programs of this folder by recorder/cilkrec, each as it is and with -DRACY, judges the traces, and
+compares with the table of README.md: the verdict, and file and line of both accesses.
+
+verdicts.py [PROGRAM] [--show] [--threads RUNS]
+
+PROGRAM judge TRACE judges, with the answers of `cilk judge`; where no program is given, recorder/tests/oracle.py does.
+Programs in C are compiled by gcc and clang, those in C++ by g++ and clang++. --show prints each verdict with its
+places. --threads runs the programs of threads/ so often under ThreadSanitizer of g++ instead, and compares whether
+races are reported. The last line is `N passed, M failed`.
+"""
+
+import argparse
+import glob
+import os
+import re
+import subprocess
+import sys
+import tempfile
+
+HERE = os.path.dirname(os.path.realpath(__file__))
+TOP = os.path.dirname(os.path.dirname(HERE))
+CILKREC = os.path.join(TOP, "recorder", "cilkrec")
+ORACLE = os.path.join(TOP, "recorder", "tests", "oracle.py")
+ROW = re.compile(r"\| `(\w+\.\w+)` \| `refused (\d+)` \| (\w+) at (\S+) \| (\w+) at (\S+) \|")
+
+
+def wanted():
+    """Each program's verdict with -DRACY by the table: the refusal's number, and both accesses."""
+    with open(os.path.join(HERE, "README.md"), encoding="utf-8") as f:
+        rows = [found.groups() for found in map(ROW.match, f) if found]
+    return {name: (f"refused {number}", f"{p} at {at}", f"{q} at {to}") for name, number, p, at, q, to in rows}
+
+
+def run(words, folder, **extra):
+    """A finished process, with its texts."""
+    env = dict(os.environ, CILKREC_QUIET="1", **extra)
+    return subprocess.run(words, cwd=folder, env=env, capture_output=True, text=True, errors="replace", check=False)
+
+
+def answer(program, trace, folder):
+    """The words of the verdict: `race-free`, or `refused` with the number and both positions; or what went wrong."""
+    if program:
+        done = run([*program.split(), "judge", trace], folder)
+        return done.stdout.split() or [f"status {done.returncode}: {done.stderr}"]
+    done = run([sys.executable, ORACLE, trace], folder)
+    first = done.stdout.split("\n")[0] or done.stderr
+    return first.replace("view-read race", "refused 312").replace("race ", "refused 311 ").split()
+
+
+def access(folder, position):
+    """The access at a position of the trace: its kind, and file and line by the table of sites."""
+    with open(os.path.join(folder, "trace"), encoding="ascii") as f:
+        line = next(line for k, line in enumerate(f, 1) if k == position).split()
+    with open(os.path.join(folder, "sites"), encoding="utf-8", errors="replace") as f:
+        sites = dict(row.split()[:2] for row in f if len(row.split()) > 2)
+    return f"{line[0]} at {os.path.basename(sites.get(line[-1], '?'))}"
+
+
+def verdict(compiler, path, options, program):
+    """What is said of a program's run: the verdict, and of a race both accesses."""
+    with tempfile.TemporaryDirectory(prefix="verdicts-") as folder:
+        done = run([CILKREC, compiler, *options, path, "-o", "prog", "-lm"], folder)
+        if done.returncode:
+            return (done.stderr,)
+        run(["./prog"], folder, CILK_TRACE="trace", CILK_SITES="sites")
+        words = answer(program, "trace", folder)
+        if len(words) != 4:
+            return (" ".join(words),)
+        return (" ".join(words[:2]), *(access(folder, int(position)) for position in words[2:]))
+
+
+def recorded(words):
+    """Of each program, compiler and variant: its name, what is wanted, and what is said."""
+    table = wanted()
+    for path in sorted(glob.glob(f"{HERE}/*.c") + glob.glob(f"{HERE}/*.cpp")):
+        name = os.path.basename(path)
+        for compiler in ("gcc", "clang") if name.endswith(".c") else ("g++", "clang++"):
+            yield f"{name} {compiler}", ("race-free",), verdict(compiler, path, [], words.program)
+            yield f"{name} -DRACY {compiler}", table.get(name), verdict(compiler, path, ["-DRACY"], words.program)
+
+
+def in_threads(words):
+    """The same of the programs of threads/: whether ThreadSanitizer reports a race."""
+    for path in sorted(glob.glob(f"{HERE}/threads/*.cpp")):
+        for option, want in (("-URACY", "none"), ("-DRACY", "some")):
+            with tempfile.TemporaryDirectory(prefix="verdicts-") as folder:
+                run(["g++", "-O1", "-g", "-pthread", "-fsanitize=thread", option, path, "-o", "prog"], folder)
+                races = sum("data race" in run(["./prog"], folder).stderr for _ in range(words.threads))
+            print(f"{os.path.basename(path)} {option}: reported in {races} of {words.threads} runs", flush=True)
+            yield f"{os.path.basename(path)} {option}", want, "some" if races else "none"
+
+
+def main():
+    """The command."""
+    known = argparse.ArgumentParser(description=__doc__, formatter_class=argparse.RawDescriptionHelpFormatter)
+    known.add_argument("program", nargs="?")
+    known.add_argument("--show", action="store_true")
+    known.add_argument("--threads", type=int, default=0)
+    words, passed, failed = known.parse_args(), 0, 0
+    if words.program and os.path.exists(words.program.split()[0]):
+        words.program = os.path.abspath(words.program)
+    for name, want, got in (in_threads if words.threads else recorded)(words):
+        passed, failed = passed + (want == got), failed + (want != got)
+        if want != got:
+            print(f"FAILED {name}: {got}, expected {want}", flush=True)
+        elif words.show:
+            print(f"{name}: {'; '.join(got)}", flush=True)
+    print(f"{passed} passed, {failed} failed")
+    return failed > 0
+
+
+if __name__ == "__main__":
+    sys.exit(main())
