@@ -1,4 +1,5 @@
-// ../heat.cpp with threads: halves of the rows in threads, four at a time. With -DRACY each step reads and writes one plate.
+// ../heat.cpp with threads: halves of the rows in threads, four at a time. With -DRACY each step reads and writes one
+// plate.
 #include <array>
 #include <cstdio>
 #include <thread>
