@@ -23,6 +23,7 @@ STEPS = [
     ("the cases", "python3", ["tools/cases.py", "run", PROGRAM], 300),
     ("refused memory in a machine's choices", CC, ["tools/each_failure.py", "--choices"], 300),
     ("refused memory in two runs on one plan", CC, ["tools/each_failure.py", "--plan"], 300),
+    ("the gallery of traces", "g++", ["examples/cilk/verdicts.py", PROGRAM], 300),
     ("hostile use of the program", CC, ["tools/hostile.py", PROGRAM, "--seconds", "100"], 300),
 ]
 

@@ -14,6 +14,7 @@ import argparse
 import glob
 import os
 import re
+import shutil
 import subprocess
 import sys
 import tempfile
@@ -76,6 +77,9 @@ def recorded(words):
     for path in sorted(glob.glob(f"{HERE}/*.c") + glob.glob(f"{HERE}/*.cpp")):
         name = os.path.basename(path)
         for compiler in ("gcc", "clang") if name.endswith(".c") else ("g++", "clang++"):
+            if not shutil.which(compiler):
+                print(f"{name}: {compiler} isn't here", flush=True)
+                continue
             yield f"{name} {compiler}", ("race-free",), verdict(compiler, path, [], words.program)
             yield f"{name} -DRACY {compiler}", table.get(name), verdict(compiler, path, ["-DRACY"], words.program)
 
