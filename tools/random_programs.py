@@ -1,9 +1,9 @@
 #!/usr/bin/env python3
-"""Makes programs by chance, and compares what the tool shows of them with tools/second_opinion.py.
+"""Makes programs by chance, and compares what `run` and `settle` show of them with tools/second_opinion.py.
 
 random_programs.py FIRST END [--cilk COMMAND] [--keep FOLDER]
 
-Seeds go from FIRST up to END. Outcomes have to be equal, and faults with their positions. A program that differs is
+Seeds go from FIRST up to END. Outcomes have to be equal, faults with their positions, and first races. A program that differs is
 kept in the folder (the present one where none is given). Long runs, and faults of a limit, are left out and counted.
 """
 
@@ -198,38 +198,49 @@ class Counted(second_opinion.Run):
 
 
 def second(text):
-    """What the second reading finds: what is shown, and the race if there is one."""
+    """What the second reading finds: what `run` shows, what `settle` shows, and the race if there is one."""
     run = Counted(text, INPUTS)
     try:
         lines = run.whole()
     except second_opinion.Fault as fault:
-        return f"fault {fault} at {run.events + 1}\n", "a fault"
-    kind = "a race" if run.race else "a view-read race" if run.view_race else "no race"
-    return "".join(f"{line}\n" for line in lines), kind
+        return f"fault {fault} at {run.events + 1}\n", "", "a fault"
+    shown = "".join(f"{line}\n" for line in lines)
+    if run.race:
+        return shown, "refused 311 {} {}\n".format(*run.race), "a race"
+    if run.view_race:
+        return shown, "refused 312 {} {}\n".format(*run.view_race), "a view-read race"
+    return shown, f"settled\n{shown}", "no race"
+
+
+def answer(words, command, room):
+    """What a command shows of the program: standard output and standard error."""
+    call = [*words.cilk.split(), command, f"{room}/program.c", "--input", f"{room}/input"]
+    ran = subprocess.run(call, capture_output=True, text=True, check=False)
+    return ran.stdout, ran.stderr
 
 
 def compare(words, room, seed, seen):
     text = Writer(seed).program()
     with open(f"{room}/program.c", "w", encoding="ascii") as it:
         it.write(text)
-    call = [*words.cilk.split(), "run", f"{room}/program.c", "--input", f"{room}/input"]
-    ran = subprocess.run(call, capture_output=True, text=True, check=False)
-    if ran.stderr.startswith(("fault 204", "fault 205", "fault 206")):
+    out, err = answer(words, "run", room)
+    if err.startswith(("fault 204", "fault 205", "fault 206")):
         seen["left out: a limit"] += 1
         return
     try:
-        shown, kind = second(text)
+        shown, verdict, kind = second(text)
     except Long:
         seen["left out: long"] += 1
         return
-    if shown == ran.stdout + ran.stderr:
+    settled = answer(words, "settle", room)[0]
+    if (shown, verdict) == (out + err, settled):
         seen[kind] += 1
         return
     seen["differ"] += 1
     with open(f"{words.keep}/differs_{seed}.c", "w", encoding="ascii") as it:
         it.write(text)
-    tool = ran.stdout + ran.stderr
-    print(f"seed {seed}: {tool[-80:]!r} by the tool, {shown[-80:]!r} by the second reading", flush=True)
+    tool = out + err
+    print(f"seed {seed}: {tool[-80:]!r}, {settled!r} by the tool, {shown[-80:]!r}, {verdict!r} by the second reading", flush=True)
 
 
 def main():
