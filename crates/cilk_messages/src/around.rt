@@ -84,3 +84,13 @@ pub fn is_name(word: &[u8]) -> bool {
         None => false,
     }
 }
+
+/// Returns whether a word is one of these, which blanks separate.
+pub fn is_among(words: &str, word: &[u8]) -> bool {
+    for it in words.split_whitespace() {
+        if it.as_bytes() == word {
+            return true;
+        }
+    }
+    false
+}

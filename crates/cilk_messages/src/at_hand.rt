@@ -3,136 +3,99 @@
 use crate::around::word_at;
 use crate::misuses::{is_argument, is_in_cilk_for, wants_reducer};
 use crate::place::{Location, locate};
+use crate::sentence::{Part, Sentence, say};
 use crate::sites::enclosing;
 use crate::tokens::{Declared, Main, Tokens};
 use cilk_syntax::token::Kind;
-use std::alloc::{AllocError, Global};
 
-/// Describes the token at the place of a fault, and what was expected there.
-///
-/// The result is a line without its end, empty if the number says it all. `wanted` describes what
-/// the grammar expects there.
-pub fn at_hand(
-    alloc: Global,
-    tokens: &Tokens<'_>,
+/// Describes the token at the place of a fault, and what was expected there: nothing if the number
+/// says it all. `wanted` describes what the grammar expects there.
+pub fn at_hand<'a>(
+    tokens: &Tokens<'a>,
     number: u16,
     at: usize,
-    wanted: &str,
-) -> Result<String, AllocError> {
+    wanted: &'a str,
+) -> Option<Sentence<'a>> {
     let token = tokens.number_at(at);
-    let word = match number {
+    let name = match number {
         102 | 105 | 121 => word_at(tokens.text, at),
         _ => tokens.word(token),
     };
-    let shown = String::from_utf8_lossy(alloc, word)?;
-    let name = shown.as_str();
-    match number {
-        102 | 105 | 121 => format!(in alloc; "found `{name}`"),
-        103 => unexpected(alloc, name, wanted),
-        111 => format!(in alloc; "nothing declares `{name}` here"),
-        112 => declared_twice(alloc, tokens, token, name),
-        113 => miscounted(alloc, tokens, token, name),
-        114 => mistaken(alloc, tokens, token, name),
-        115 => without_main(alloc, tokens),
-        117 => format!(in alloc; "`{name}` counts the turns of a `cilk_for`, and is written here"),
-        118 => format!(in alloc;
-            "`{name}` is declared after another statement, or in an inner block"
-        ),
-        119 => format!(in alloc; "the declaration of `{name}` goes past a limit"),
-        _ => Ok(String::new(alloc)),
-    }
+    let words = match number {
+        102 | 105 | 121 => "found `{}`",
+        103 => return Some(unexpected(name, wanted)),
+        111 => "nothing declares `{}` here",
+        112 => return Some(declared_twice(tokens, token, name)),
+        113 => return Some(miscounted(tokens, token, name)),
+        114 => return Some(mistaken(tokens, token, name)),
+        115 => without_main(tokens),
+        117 => "`{}` counts the turns of a `cilk_for`, and is written here",
+        118 => "`{}` is declared after another statement, or in an inner block",
+        119 => "the declaration of `{}` goes past a limit",
+        _ => return None,
+    };
+    Some(say(words).word(name))
 }
 
-fn unexpected(alloc: Global, name: &str, wanted: &str) -> Result<String, AllocError> {
-    let mut text = if name.is_empty() {
-        String::from_str(alloc, "found the text's end")?
-    } else {
-        format!(in alloc; "found `{name}`")?
+fn unexpected<'a>(name: &'a [u8], wanted: &'a str) -> Sentence<'a> {
+    let words = match (name.is_empty(), wanted.is_empty()) {
+        (true, true) => return say("found the text's end"),
+        (true, false) => return say("found the text's end, wanted {}").with(Part::Text(wanted)),
+        (false, true) => "found `{}`",
+        (false, false) => "found `{}`, wanted {}",
     };
-    if !wanted.is_empty() {
-        text.push_str(", wanted ")?;
-        text.push_str(wanted)?;
-    }
-    Ok(text)
+    say(words).word(name).with(Part::Text(wanted))
 }
 
 // The place of the name's other declaration.
-fn declared_twice(
-    alloc: Global,
-    tokens: &Tokens<'_>,
-    token: usize,
-    name: &str,
-) -> Result<String, AllocError> {
+fn declared_twice<'a>(tokens: &Tokens<'a>, token: usize, name: &'a [u8]) -> Sentence<'a> {
     match tokens.declaration_of(token) {
         Some((earlier, _)) => {
             let Location { line, column } = locate(tokens.text, tokens.place(earlier));
-            format!(in alloc; "`{name}` is declared at line {line}, column {column} already")
+            say("`{}` is declared at line {}, column {} already")
+                .word(name)
+                .count(line)
+                .count(column)
         }
-        None => format!(in alloc; "`{name}` is declared already"),
+        None => say("`{}` is declared already").word(name),
     }
 }
 
 // How many parameters a function has, and how many arguments it is given.
-fn miscounted(
-    alloc: Global,
-    tokens: &Tokens<'_>,
-    token: usize,
-    name: &str,
-) -> Result<String, AllocError> {
+fn miscounted<'a>(tokens: &Tokens<'a>, token: usize, name: &'a [u8]) -> Sentence<'a> {
     let given = tokens.parts_behind(token);
     match tokens.declaration_of(token) {
-        Some((_, Declared::Function { parameters, .. })) => {
-            let arguments = if parameters == 1 {
-                "argument"
-            } else {
-                "arguments"
-            };
-            format!(in alloc; "`{name}` wants {parameters} {arguments}, and is given {given}")
-        }
-        _ => {
-            let arguments = if given == 1 { "argument" } else { "arguments" };
-            format!(in alloc; "`{name}` is given {given} {arguments}")
-        }
+        Some((_, Declared::Function { parameters, .. })) => say(
+            "`{}` wants {} argument{}, and is given {}",
+        ).word(name)
+            .counted(parameters)
+            .count(given),
+        _ => say("`{}` is given {} argument{}").word(name).counted(given),
     }
 }
 
 // The kind of the name, and its wrong use.
-fn mistaken(
-    alloc: Global,
-    tokens: &Tokens<'_>,
-    token: usize,
-    name: &str,
-) -> Result<String, AllocError> {
+fn mistaken<'a>(tokens: &Tokens<'a>, token: usize, name: &'a [u8]) -> Sentence<'a> {
     if let Some(Kind::Return) = tokens.kind(token) {
         return match tokens.kind_behind(token) {
-            Some(Kind::Semicolon) => format!(in alloc; "an `int` function returns a number"),
-            _ => format!(in alloc; "a `void` function returns no number"),
+            Some(Kind::Semicolon) => say("an `int` function returns a number"),
+            _ => say("a `void` function returns no number"),
         };
     }
     if is_in_cilk_for(tokens, token) {
-        return in_head(alloc, tokens, token, name);
+        let variable = match enclosing(tokens, token) {
+            Some(open) => tokens.word(open.saturating_add(2)),
+            None => &[],
+        };
+        return say("found `{}`, where `{}`, this `cilk_for`'s variable, is wanted")
+            .word(name)
+            .word(variable);
     }
     let wrong = match tokens.declaration_of(token) {
         Some((_, declared)) => misused(tokens, token, declared),
         None => "is no reducer, which the parameter is",
     };
-    format!(in alloc; "`{name}` {wrong}")
-}
-
-// A name in a loop's head that isn't the loop's variable.
-fn in_head(
-    alloc: Global,
-    tokens: &Tokens<'_>,
-    token: usize,
-    name: &str,
-) -> Result<String, AllocError> {
-    let variable = match enclosing(tokens, token) {
-        Some(open) => tokens.word(open.saturating_add(2)),
-        None => &[],
-    };
-    let variable = String::from_utf8_lossy(alloc, variable)?;
-    let variable = variable.as_str();
-    format!(in alloc; "found `{name}`, where `{variable}`, this `cilk_for`'s variable, is wanted")
+    say("`{}` {}").word(name).with(Part::Text(wrong))
 }
 
 // The mistake in using a name that is declared as this.
@@ -160,11 +123,10 @@ fn misused(tokens: &Tokens<'_>, token: usize, declared: Declared) -> &'static st
 }
 
 // Why the text has no right `main`.
-fn without_main(alloc: Global, tokens: &Tokens<'_>) -> Result<String, AllocError> {
-    let why = match tokens.main() {
+fn without_main(tokens: &Tokens<'_>) -> &'static str {
+    match tokens.main() {
         Main::Void => "`main` is a `void` function, and an `int` one is wanted",
         Main::Int => "`main` has parameters, and none are wanted",
         Main::Absent => "the text has no function `main`",
-    };
-    String::from_str(alloc, why)
+    }
 }

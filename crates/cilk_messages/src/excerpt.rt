@@ -20,15 +20,19 @@ pub fn push_excerpt(
     let from = cut_before(text, first, at);
     let upto = cut_behind(text, at, end);
     let ahead = String::from_utf8_lossy(alloc, between(text, from, at))?;
-    let behind = String::from_utf8_lossy(alloc, between(text, at, upto))?;
     report.push_str(ahead.as_str())?;
-    report.push_str(behind.as_str().trim_end())?;
-    report.push('\n')?;
-    push_blanks(report, ahead.as_str())?;
-    report.push_str("^\n")
+    push_rest(alloc, report, between(text, at, upto))?;
+    push_blanks(report, ahead.as_str())
 }
 
-// Blanks as wide as a text. A tab remains a tab.
+// The rest of the line, without blanks at its end.
+fn push_rest(alloc: Global, report: &mut String, rest: &[u8]) -> Result<(), AllocError> {
+    let rest = String::from_utf8_lossy(alloc, rest)?;
+    report.push_str(rest.as_str().trim_end())?;
+    report.push('\n')
+}
+
+// The mark, after blanks as wide as a text. A tab remains a tab.
 fn push_blanks(report: &mut String, ahead: &str) -> Result<(), AllocError> {
     for symbol in ahead.chars() {
         if symbol == '\t' {
@@ -37,7 +41,7 @@ fn push_blanks(report: &mut String, ahead: &str) -> Result<(), AllocError> {
             push_spaces(report, symbol.width().unwrap_or(0))?;
         }
     }
-    Ok(())
+    report.push_str("^\n")
 }
 
 fn push_spaces(report: &mut String, count: usize) -> Result<(), AllocError> {

@@ -1,7 +1,10 @@
 //! Hints for a token that the grammar doesn't allow at its place.
 
-use crate::hints::Hint;
+use crate::around::is_among;
+use crate::hints::meant;
+use crate::place::between;
 use crate::report::Wanted;
+use crate::sentence::{Sentence, say};
 use crate::sentences::{NO_LENGTH, REDUCER, REDUCER_ARRAY, STRUCTURES, VIEW_MEMBERS};
 use crate::site::Site;
 use crate::sites::{
@@ -16,32 +19,59 @@ use crate::vocabulary::{cast_to, is_type_word, number_named, other_word, word_of
 use cilk_syntax::token::Kind;
 
 /// Returns what to write in place of a refused token.
-pub fn no_form<'a>(tokens: &Tokens<'a>, number: usize, wanted: &Wanted<'_>) -> Option<Hint<'a>> {
+pub fn no_form<'a>(
+    tokens: &Tokens<'a>,
+    number: usize,
+    wanted: &Wanted<'_>,
+) -> Option<Sentence<'a>> {
     let site = Site::new(tokens, number);
     if is_in_head_of_main(tokens, number) {
-        return Some(Hint::Advice(PARAMETERS));
+        return Some(say(PARAMETERS));
     }
     if let Some(cure) = of_words(&site) {
-        return Some(Hint::Advice(cure));
+        return Some(say(cure));
     }
     if is_misspelt_reducer(tokens, number) {
-        return Some(Hint::Advice(REDUCER));
+        return Some(say(REDUCER));
     }
     if let Some(reserved) = misspelt_near(tokens, number) {
-        return Some(Hint::Reserved(reserved));
+        return Some(meant(reserved.as_bytes()));
     }
     if let Some(hint) = missing_mark(tokens, number, wanted) {
         return Some(hint);
     }
+    if let Some(hint) = spawned_assignment(tokens, number) {
+        return Some(hint);
+    }
     if let Some(cure) = of_declaration(&site) {
-        return Some(Hint::Advice(cure));
+        return Some(say(cure));
     }
     if let Some(cure) = of_use(&site) {
-        return Some(Hint::Advice(cure));
+        return Some(say(cure));
     }
     let cure = unpaired(tokens, number, wanted)?;
-    Some(Hint::Advice(cure))
+    Some(say(cure))
 }
+
+// The spawn of an assignment, `cilk_spawn x = f(a);`, in place of an assignment of a spawn.
+fn spawned_assignment<'a>(tokens: &Tokens<'a>, number: usize) -> Option<Sentence<'a>> {
+    if !matches!(tokens.kind(number), Some(Kind::Assign))
+        || !matches!(tokens.kind_back(number, 2), Some(Kind::CilkSpawn))
+    {
+        return None;
+    }
+    let first = tokens.place(number.saturating_add(1));
+    let name = tokens.word(number.checked_sub(1)?);
+    for end in number..tokens.count() {
+        if let Some(Kind::Semicolon) = tokens.kind(end) {
+            let call = between(tokens.text, first, tokens.place(end));
+            return Some(say(SPAWNED_CALL).word(name).word(call));
+        }
+    }
+    None
+}
+
+const SPAWNED_CALL: &str = "the call is spawned, not the assignment: `{} = cilk_spawn {};`";
 
 // In the declaration of a reducer, a length or a first value.
 fn of_declaration(site: &Site<'_, '_>) -> Option<&'static str> {
@@ -52,9 +82,10 @@ fn of_declaration(site: &Site<'_, '_>) -> Option<&'static str> {
         ..
     } = *site;
     if is_in_reducer(tokens, number) {
-        return Some(match word {
-            b"[" => REDUCER_ARRAY,
-            _ => REDUCER,
+        return Some(if word == b"[".as_slice() {
+            REDUCER_ARRAY
+        } else {
+            REDUCER
         });
     }
     if is_in_length(tokens, number) {
@@ -68,12 +99,12 @@ fn of_declaration(site: &Site<'_, '_>) -> Option<&'static str> {
 
 // A global's first value in place of a name or an expression.
 fn first_value(word: &[u8]) -> &'static str {
-    match word {
-        b"INT_MIN" | b"LONG_MIN" | b"LLONG_MIN" | b"INT64_MIN" =>
-            "a global opens with a number: with `-9223372036854775807`, or `main` sets the least one, `-9223372036854775807 - 1`",
-        b"INT_MAX" | b"LONG_MAX" | b"LLONG_MAX" | b"INT64_MAX" =>
-            "a global opens with a number: the greatest one is 9223372036854775807",
-        _ => number_named(word).unwrap_or(FIRST_VALUE),
+    if is_among("INT_MIN LONG_MIN LLONG_MIN INT64_MIN", word) {
+        LEAST
+    } else if is_among("INT_MAX LONG_MAX LLONG_MAX INT64_MAX", word) {
+        GREATEST
+    } else {
+        number_named(word).unwrap_or(FIRST_VALUE)
     }
 }
 
@@ -98,9 +129,10 @@ fn of_words(site: &Site<'_, '_>) -> Option<&'static str> {
     if let Some(named) = size_at(site) {
         return Some(size_of(tokens, named));
     }
-    let of_ahead = match word {
-        b"(" => word_of_c(ahead),
-        _ => other_word(ahead),
+    let of_ahead = if word == b"(".as_slice() {
+        word_of_c(ahead)
+    } else {
+        other_word(ahead)
     };
     if of_ahead.is_some() {
         return of_ahead;
@@ -113,10 +145,12 @@ fn of_words(site: &Site<'_, '_>) -> Option<&'static str> {
 
 // The declaration of a structure: an array for each member, except for the views of reducers.
 fn of_structure(site: &Site<'_, '_>) -> Option<&'static str> {
-    let is_one = match site.word {
-        b"typedef" => site.behind() == b"struct".as_slice(),
-        word => word == b"struct".as_slice(),
+    let first = if site.word == b"typedef".as_slice() {
+        site.behind()
+    } else {
+        site.word
     };
+    let is_one = first == b"struct".as_slice();
     match is_one {
         true if is_viewed(site) => Some(VIEW_MEMBERS),
         true => Some(STRUCTURES),
@@ -184,6 +218,11 @@ const PARAMETERS: &str =
 
 const LENGTH: &str =
     "an array's length is a number: work it out, and write it, as in `int a[1000];`";
+
+const LEAST: &str =
+    "a global opens with a number: with `-9223372036854775807`, or `main` sets the least one, `-9223372036854775807 - 1`";
+
+const GREATEST: &str = "a global opens with a number: the greatest one is 9223372036854775807";
 
 const FIRST_VALUE: &str =
     "a global opens with a number: write that, or let `main` give it another value";

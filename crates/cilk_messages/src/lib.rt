@@ -23,6 +23,8 @@
 //! | [`report::of_script`] | the message after a refused script |
 //! | [`report::of_number`], [`report::of_all`] | the text of `explain` |
 //! | [`reasons::reason_of`] | the meaning of a number, with an example and a cure |
+//! | [`sentence::say`] | a sentence with gaps, and the parts that fill them |
+//! | [`sites::enclosing`] and others | the surroundings of a token |
 //! | [`words::read`] | the command line as an order: `run`, `certify`, `check` or `play` |
 //!
 //! ```text
@@ -46,9 +48,10 @@ pub mod place;
 pub mod reasons;
 mod refusals;
 pub mod report;
+pub mod sentence;
 mod sentences;
 mod site;
-mod sites;
+pub mod sites;
 mod spelling;
 pub mod tokens;
 mod unended;

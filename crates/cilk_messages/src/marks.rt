@@ -1,6 +1,8 @@
 //! Hints for bytes that begin no token.
 
-use crate::around::{before, byte_at, is_name, is_number, word_after, word_at, word_before};
+use crate::around::{
+    before, byte_at, is_among, is_name, is_number, word_after, word_at, word_before,
+};
 use crate::place::line_at;
 use crate::sentences::{BITS, FRACTIONS, INPUT, LIBRARY, PRINT, REDUCER, STRUCTURES, VIEW_MEMBERS};
 
@@ -15,20 +17,20 @@ pub fn odd_byte(text: &[u8], at: usize) -> &'static str {
 
 /// Returns the advice for a word or mark that begins no token.
 pub fn no_token(text: &[u8], at: usize) -> Option<&'static str> {
-    match word_at(text, at) {
-        b"\"" => Some(no_string(text, at)),
-        b"'" => Some(no_character(text, at)),
-        b"#" => Some(no_directive(text, at)),
-        b":" => Some(no_colon(text, at)),
-        b"?" => Some(CHOICE),
-        b"&" => Some(no_ampersand(text, at)),
-        b"|" => Some(
+    match byte_at(text, at) {
+        b'"' => Some(no_string(text, at)),
+        b'\'' => Some(no_character(text, at)),
+        b'#' => Some(no_directive(text, at)),
+        b':' => Some(no_colon(text, at)),
+        b'?' => Some(CHOICE),
+        b'&' => Some(no_ampersand(text, at)),
+        b'|' => Some(
             "there are no operators on bits: put numbers together by `*` and `+`, as `2 * x + 1` for `x << 1 | 1`",
         ),
-        b"^" | b"~" => Some(BITS),
-        b"." => Some(no_point(text, at)),
-        b"/" => Some("a comment ends with `*/`"),
-        word if is_number(word) => Some(no_number(word)),
+        b'^' | b'~' => Some(BITS),
+        b'.' => Some(no_point(text, at)),
+        b'/' => Some("a comment ends with `*/`"),
+        b'0'..=b'9' => Some(no_number(word_at(text, at))),
         _ => None,
     }
 }
@@ -48,38 +50,39 @@ fn called(text: &[u8], at: usize) -> &[u8] {
 // The advice for a string: a read or a print.
 fn no_string(text: &[u8], at: usize) -> &'static str {
     let is_line_end = text.get(at..).unwrap_or(&[]).starts_with(b"\"\\n\"");
-    match called(text, at) {
-        b"scanf" => INPUT,
-        b"printf" | b"puts" | b"print" if is_line_end => LINE_END,
-        _ => "there are no strings: `print(e);` writes a number on a line of its own",
+    let called = called(text, at);
+    if is_among("scanf", called) {
+        INPUT
+    } else if is_line_end && is_among("printf puts print", called) {
+        LINE_END
+    } else {
+        "there are no strings: `print(e);` writes a number on a line of its own"
     }
 }
 
 // The advice for a character: its number. A printed line end needs nothing.
 fn no_character(text: &[u8], at: usize) -> &'static str {
     let is_line_end = text.get(at..).unwrap_or(&[]).starts_with(b"'\\n'");
-    match called(text, at) {
-        b"putchar" | b"print" if is_line_end => LINE_END,
-        _ => "there are no characters: write their numbers",
+    if is_line_end && is_among("putchar print", called(text, at)) {
+        LINE_END
+    } else {
+        "there are no characters: write their numbers"
     }
 }
 
 // A line of the preprocessor.
 fn no_directive(text: &[u8], at: usize) -> &'static str {
-    let word = word_after(text, at.saturating_add(1));
-    match word_at(text, word) {
-        b"define" => {
-            let name = word_after(text, word.saturating_add(b"define".len()));
-            let end = name.saturating_add(word_at(text, name).len());
-            if byte_at(text, end) == b'(' {
-                "there is no preprocessor: a function stands for a macro with arguments, `int least(int a, int b) { .. }`"
-            } else {
-                DEFINITION
-            }
-        }
-        b"if" | b"ifdef" | b"ifndef" | b"else" | b"elif" | b"endif" | b"undef" | b"error" =>
-            "there is no preprocessor: leave this line away",
-        _ => DEFINITION,
+    let first = word_after(text, at.saturating_add(1));
+    let word = word_at(text, first);
+    if is_among("if ifdef ifndef else elif endif undef error", word) {
+        return "there is no preprocessor: leave this line away";
+    }
+    let name = word_after(text, first.saturating_add(word.len()));
+    let end = name.saturating_add(word_at(text, name).len());
+    if is_among("define", word) && byte_at(text, end) == b'(' {
+        "there is no preprocessor: a function stands for a macro with arguments, `int least(int a, int b) { .. }`"
+    } else {
+        DEFINITION
     }
 }
 
@@ -104,10 +107,12 @@ fn no_colon(text: &[u8], at: usize) -> &'static str {
 
 // The advice for a name of C++'s library.
 fn of_std(name: &[u8]) -> &'static str {
-    match name {
-        b"cout" | b"endl" => PRINT,
-        b"cin" => INPUT,
-        _ => LIBRARY,
+    if is_among("cout endl", name) {
+        PRINT
+    } else if is_among("cin", name) {
+        INPUT
+    } else {
+        LIBRARY
     }
 }
 
@@ -139,11 +144,11 @@ fn is_label(text: &[u8], at: usize) -> bool {
 
 // A `&` after an operand is of bits; otherwise it takes an address.
 fn no_ampersand(text: &[u8], at: usize) -> &'static str {
-    match word_before(text, at) {
-        b")" | b"]" => BITS,
-        word if is_name(word) || is_number(word) => BITS,
-        _ =>
-            "there are no pointers: a place in a global array stands for an address, as `i` for `&a[i]`",
+    let ahead = word_before(text, at);
+    if is_among(") ]", ahead) || is_name(ahead) || is_number(ahead) {
+        BITS
+    } else {
+        "there are no pointers: a place in a global array stands for an address, as `i` for `&a[i]`"
     }
 }
 
@@ -200,9 +205,11 @@ fn named_behind(text: &[u8]) -> &[u8] {
 
 // A number of C that isn't one here.
 fn no_number(word: &[u8]) -> &'static str {
-    match word {
-        [b'0', b'x' | b'X', ..] => "write the number with decimal digits",
-        [.., b'l' | b'L' | b'u' | b'U'] =>
+    if word.starts_with(b"0x") || word.starts_with(b"0X") {
+        return "write the number with decimal digits";
+    }
+    match word.last() {
+        Some(b'l' | b'L' | b'u' | b'U') =>
             "`int` is the only type: write the number without letters",
         _ if word.contains(&b'e') || word.contains(&b'E') || word.ends_with(b"f") => FRACTIONS,
         _ => "a number has digits alone, and doesn't begin with 0",

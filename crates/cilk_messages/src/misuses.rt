@@ -8,11 +8,10 @@ use cilk_syntax::token::Kind;
 
 /// Returns the advice for a number that isn't a signed 64-bit one.
 pub fn too_great(text: &[u8], at: usize) -> &'static str {
-    match word_before(text, at) {
-        b"-" =>
-            "the least number is written `-9223372036854775807 - 1`, and where a global is to open with it, `main` sets it",
-        _ =>
-            "count in a greater unit, or keep a greater number in two variables, as its billions and the rest",
+    if word_before(text, at) == b"-".as_slice() {
+        "the least number is written `-9223372036854775807 - 1`, and where a global is to open with it, `main` sets it"
+    } else {
+        "count in a greater unit, or keep a greater number in two variables, as its billions and the rest"
     }
 }
 

@@ -1,11 +1,7 @@
 //! The numbers of the tool: the meaning of each, a text that provokes it, and the cure.
 
-use crate::faults::{
-    input_text, loop_rule, name_kind, name_known, run_limit, run_operation, text_limit, text_token,
-};
-use crate::refusals::{
-    certificate_event, certificate_frame, certificate_line, certified_run, parallel_run,
-};
+use crate::faults::FAULTS;
+use crate::refusals::REFUSALS;
 
 /// An example that provokes a number.
 #[derive(Clone, Copy, Debug)]
@@ -35,30 +31,35 @@ pub struct Reason {
     pub cure: &'static str,
 }
 
-/// All numbers.
-pub const NUMBERS: [u16; 36] = [
-    101, 102, 103, 104, 105, 106, 111, 112, 113, 114, 115, 116, 117, 118, 119, 121, 122, 201, 202,
-    203, 204, 205, 206, 301, 302, 303, 304, 305, 306, 307, 308, 309, 310, 311, 312, 502,
-];
-
 /// Returns the meaning of a number, if it is one of the tool's.
-///
-/// The meanings are in functions rather than a table, whose texts the loader would have to
-/// relocate.
 pub fn reason_of(number: u16) -> Option<Reason> {
-    match number {
-        101..=103 => text_token(number),
-        104..=106 => text_limit(number),
-        111..=113 => name_known(number),
-        114..=115 => name_kind(number),
-        116..=119 => loop_rule(number),
-        121..=122 => input_text(number),
-        201..=203 => run_operation(number),
-        204..=206 => run_limit(number),
-        301..=303 => certificate_line(number),
-        304..=306 => certificate_frame(number),
-        307..=309 => certificate_event(number),
-        310..=312 => certified_run(number),
-        _ => parallel_run(number),
+    match in_table(&FAULTS, number) {
+        None => in_table(&REFUSALS, number),
+        reason => reason,
+    }
+}
+
+fn in_table(table: &[Reason], number: u16) -> Option<Reason> {
+    for reason in table {
+        if reason.number == number {
+            return Some(*reason);
+        }
+    }
+    None
+}
+
+/// Returns the title of a number, empty for another number.
+pub fn title_of(number: u16) -> &'static str {
+    match reason_of(number) {
+        Some(reason) => reason.title,
+        None => "",
+    }
+}
+
+/// Returns the general advice for a number, empty for another number.
+pub fn cure_of(number: u16) -> &'static str {
+    match reason_of(number) {
+        Some(reason) => reason.cure,
+        None => "",
     }
 }

@@ -2,9 +2,12 @@
 
 use crate::at_hand::at_hand;
 use crate::excerpt::push_excerpt;
-use crate::hints::{Hint, hint_of};
+use crate::faults::FAULTS;
+use crate::hints::hint_of;
 use crate::place::{Location, locate};
-use crate::reasons::{Example, NUMBERS, Reason, reason_of};
+use crate::reasons::{Example, Reason, cure_of, reason_of, title_of};
+use crate::refusals::REFUSALS;
+use crate::sentence::{Part, push_line, say};
 use crate::tokens::Tokens;
 use std::alloc::{AllocError, Global};
 
@@ -31,13 +34,15 @@ pub struct Wanted<'a> {
 
 /// Returns the text of `explain NUMBER`, or `None` if the tool has no such number.
 pub fn of_number(alloc: Global, number: u16) -> Result<Option<String>, AllocError> {
-    match reason_of(number) {
-        Some(reason) => Ok(Some(of_reason(alloc, &reason)?)),
-        None => Ok(None),
-    }
+    let Some(reason) = reason_of(number) else {
+        return Ok(None);
+    };
+    let mut text = String::new(alloc);
+    push_reason(alloc, &mut text, &reason)?;
+    Ok(Some(text))
 }
 
-fn of_reason(alloc: Global, reason: &Reason) -> Result<String, AllocError> {
+fn push_reason(alloc: Global, text: &mut String, reason: &Reason) -> Result<(), AllocError> {
     let Reason {
         number,
         title,
@@ -47,36 +52,48 @@ fn of_reason(alloc: Global, reason: &Reason) -> Result<String, AllocError> {
         place,
         cure,
     } = *reason;
-    let example = match example {
-        Example::Program(text) if number > 300 => {
-            format!(in alloc;
-                "The program\n\n    {text}\n\nand the certificate of its run are answered by the line"
-            )?
-        }
-        Example::Program(text) => {
-            format!(in alloc; "The program\n\n    {text}\n\nis answered by the line")?
-        }
-        Example::Edit(edit) => {
-            format!(in alloc;
-                "The certificate of `examples/race.c`, with {edit}, is answered by the line"
-            )?
-        }
-        Example::Words(words) => format!(in alloc; "For example {words}: the answer is the line")?,
+    let (words, shown) = match example {
+        Example::Program(shown) if number > 300 => (
+            "\n\nThe program\n\n    {}\n\nand the certificate of its run are answered by the line",
+            shown,
+        ),
+        Example::Program(shown) => (
+            "\n\nThe program\n\n    {}\n\nis answered by the line",
+            shown,
+        ),
+        Example::Edit(shown) => (
+            "\n\nThe certificate of `examples/race.c`, with {}, is answered by the line",
+            shown,
+        ),
+        Example::Words(shown) => ("\n\nFor example {}: the answer is the line", shown),
     };
-    format!(in alloc;
-        "{number}: {title}\n\n{meaning}\n\n{example}\n\n    {line}\n\nThe place is read as: {place}.\n\n{cure}\n"
-    )
+    let head = say("{}: {}\n\n{}")
+        .count(number as usize)
+        .with(Part::Text(title));
+    head.with(Part::Text(meaning)).push(alloc, text)?;
+    say(words).with(Part::Text(shown)).push(alloc, text)?;
+    let foot = say("\n\n    {}\n\nThe place is read as: {}.\n\n{}\n").with(Part::Text(line));
+    foot.with(Part::Text(place))
+        .with(Part::Text(cure))
+        .push(alloc, text)
 }
 
 /// Returns the text of `explain`: each number with its title.
 pub fn of_all(alloc: Global) -> Result<String, AllocError> {
     let mut text = String::new(alloc);
-    for number in NUMBERS {
-        let title = title_of(number);
-        let line = format!(in alloc; "{number}  {title}\n")?;
-        text.push_str(line.as_str())?;
-    }
+    push_titles(alloc, &mut text, &FAULTS)?;
+    push_titles(alloc, &mut text, &REFUSALS)?;
     Ok(text)
+}
+
+fn push_titles(alloc: Global, text: &mut String, table: &[Reason]) -> Result<(), AllocError> {
+    for reason in table {
+        let line = say("{}  {}\n")
+            .count(reason.number as usize)
+            .with(Part::Text(reason.title));
+        line.push(alloc, text)?;
+    }
+    Ok(())
 }
 
 /// Returns the message after the line of a fault of a text: its line and column, the source line
@@ -86,23 +103,55 @@ pub fn of_text(
     finding: &Finding<'_>,
     wanted: &Wanted<'_>,
 ) -> Result<String, AllocError> {
+    let mut report = String::new(alloc);
+    push_finding(alloc, &mut report, finding, wanted)?;
+    Ok(report)
+}
+
+fn push_finding<'a>(
+    alloc: Global,
+    report: &mut String,
+    finding: &Finding<'a>,
+    wanted: &Wanted<'a>,
+) -> Result<(), AllocError> {
     let Finding {
         file,
         text,
         number,
-        at,
+        ..
     } = *finding;
-    let place = if number == 115 { end_of(text) } else { at };
-    let Location { line, column } = locate(text, place);
-    let title = title_of(number);
-    let mut report = format!(in alloc; "{file}:{line}:{column}: error {number}: {title}\n")?;
-    push_excerpt(alloc, &mut report, text, place)?;
+    let place = if number == 115 {
+        end_of(text)
+    } else {
+        finding.at
+    };
+    let head = say("{}: error {}: {}\n").with(Part::Place(file, locate(text, place)));
+    let head = head
+        .count(number as usize)
+        .with(Part::Text(title_of(number)));
+    head.push(alloc, report)?;
+    push_excerpt(alloc, report, text, place)?;
     let tokens = Tokens::new(alloc, text)?;
-    let found = at_hand(alloc, &tokens, number, at, wanted.words)?;
-    push_line(&mut report, "reason", found.as_str())?;
-    let advice = advice(alloc, &tokens, number, at, wanted)?;
-    push_line(&mut report, "hint", advice.as_str())?;
-    Ok(report)
+    push_advice(alloc, report, &tokens, finding, wanted)
+}
+
+// What stands at the place, and the hint, or the general cure.
+fn push_advice<'a>(
+    alloc: Global,
+    report: &mut String,
+    tokens: &Tokens<'a>,
+    finding: &Finding<'a>,
+    wanted: &Wanted<'a>,
+) -> Result<(), AllocError> {
+    let Finding { number, at, .. } = *finding;
+    if let Some(found) = at_hand(tokens, number, at, wanted.words) {
+        push_line(alloc, report, "reason", &found)?;
+    }
+    let hint = match hint_of(tokens, number, at, wanted) {
+        Some(hint) => hint,
+        None => say(cure_of(number)),
+    };
+    push_line(alloc, report, "hint", &hint)
 }
 
 // The place after the last byte that isn't blank.
@@ -123,98 +172,47 @@ pub fn of_line(
     line: Option<u64>,
     number: u16,
 ) -> Result<String, AllocError> {
-    let Some(
-        Reason {
-            title,
-            meaning,
-            cure,
-            ..
-        },
-    ) = reason_of(number)
-    else {
-        return Ok(String::new(alloc));
-    };
-    let mut report = match line {
-        Some(line) => format!(in alloc; "{file}:{line}:1: error {number}: {title}\n")?,
-        None => format!(in alloc; "{file}: error {number}: {title}\n")?,
-    };
-    push_line(&mut report, "reason", meaning)?;
-    push_line(&mut report, "hint", cure)?;
+    let mut report = String::new(alloc);
+    if let Some(reason) = reason_of(number) {
+        push_refusal(alloc, &mut report, file, line, &reason)?;
+    }
     Ok(report)
+}
+
+fn push_refusal(
+    alloc: Global,
+    report: &mut String,
+    file: &str,
+    line: Option<u64>,
+    reason: &Reason,
+) -> Result<(), AllocError> {
+    let head = match line {
+        Some(line) => say("{}: error {}: {}\n").with(begin_of(file, line as usize)),
+        None => say("{}: error {}: {}\n").with(Part::Text(file)),
+    };
+    let head = head
+        .count(reason.number as usize)
+        .with(Part::Text(reason.title));
+    head.push(alloc, report)?;
+    push_line(alloc, report, "reason", &say(reason.meaning))?;
+    push_line(alloc, report, "hint", &say(reason.cure))
+}
+
+// The place of a line.
+fn begin_of(file: &str, line: usize) -> Part<'_> {
+    Part::Place(file, Location { line, column: 1 })
 }
 
 /// Returns the message after a refused script.
 pub fn of_script(alloc: Global, file: &str, line: usize) -> Result<String, AllocError> {
-    let mut report = format!(in alloc;
-        "{file}:{line}:1: error: no line of a script, or too many choices\n"
-    )?;
-    push_line(&mut report, "reason", SCRIPT_LINES)?;
-    push_line(&mut report, "hint", SCRIPT_LIMITS)?;
+    let mut report = String::new(alloc);
+    say(SCRIPT)
+        .with(begin_of(file, line))
+        .push(alloc, &mut report)?;
     Ok(report)
 }
 
-const SCRIPT_LINES: &str =
-    "a line is `run W`, `run W N`, `steal W K` or `all`, with plain numbers of at most 1,000,000, W and N from 1; or it is empty, or begins with `#`";
-
-const SCRIPT_LIMITS: &str =
-    "a script has at most 1,048,576 bytes and 16,000,000 choices (`docs/SCRIPTS.md`)";
-
-fn title_of(number: u16) -> &'static str {
-    match reason_of(number) {
-        Some(reason) => reason.title,
-        None => "",
-    }
-}
-
-// A line of the report, if there is something to say.
-fn push_line(report: &mut String, what: &str, text: &str) -> Result<(), AllocError> {
-    if text.is_empty() {
-        return Ok(());
-    }
-    report.push_str(what)?;
-    report.push_str(": ")?;
-    report.push_str(text)?;
-    report.push('\n')
-}
-
-// The hint, or the general cure.
-fn advice(
-    alloc: Global,
-    tokens: &Tokens<'_>,
-    number: u16,
-    at: usize,
-    wanted: &Wanted<'_>,
-) -> Result<String, AllocError> {
-    match hint_of(tokens, number, at, wanted) {
-        Some(hint) => in_words(alloc, tokens, &hint),
-        None => match reason_of(number) {
-            Some(reason) => String::from_str(alloc, reason.cure),
-            None => Ok(String::new(alloc)),
-        },
-    }
-}
-
-// A hint in words.
-fn in_words(alloc: Global, tokens: &Tokens<'_>, hint: &Hint<'_>) -> Result<String, AllocError> {
-    match *hint {
-        Hint::Advice(advice) => String::from_str(alloc, advice),
-        Hint::Reserved(word) => format!(in alloc; "perhaps `{word}` is meant"),
-        Hint::Named(name) => {
-            let name = String::from_utf8_lossy(alloc, name)?;
-            format!(in alloc; "perhaps `{name}` is meant")
-        }
-        Hint::Elsewhere(place) => {
-            let Location { line, column } = locate(tokens.text, place);
-            format!(in alloc;
-                "line {line}, column {column} declares it for what follows in that block alone: declare it before both"
-            )
-        }
-        Hint::EndOfLine { mark, line } => {
-            format!(in alloc; "a `{mark}` may be missing at the end of line {line}")
-        }
-        Hint::AheadOf { mark, word } => {
-            let word = String::from_utf8_lossy(alloc, word)?;
-            format!(in alloc; "a `{mark}` may be missing before `{word}`")
-        }
-    }
-}
+const SCRIPT: &str = "{}: error: no line of a script, or too many choices\n\
+     reason: a line is `run W`, `run W N`, `steal W K` or `all`, with plain numbers of at most 1,000,000, W and N from \
+     1; or it is empty, or begins with `#`\n\
+     hint: a script has at most 1,048,576 bytes and 16,000,000 choices (`docs/SCRIPTS.md`)\n";

@@ -85,8 +85,8 @@ pub fn begins(tokens: &Tokens<'_>, number: usize) -> bool {
     ) || is_condition(tokens, closed_head(tokens, number))
 }
 
-// Whether a token is the word before a condition or a loop's head.
-fn is_condition(tokens: &Tokens<'_>, named: Option<usize>) -> bool {
+/// Returns whether a token is the word before a condition or a loop's head.
+pub fn is_condition(tokens: &Tokens<'_>, named: Option<usize>) -> bool {
     match named {
         Some(named) => matches!(
             tokens.kind(named),

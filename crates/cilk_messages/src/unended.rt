@@ -1,8 +1,8 @@
 //! Marks that may be missing before a refused token.
 
-use crate::hints::Hint;
 use crate::place::locate;
 use crate::report::Wanted;
+use crate::sentence::{Part, Sentence, say};
 use crate::sites::{closed_head, enclosing, is_in_brackets};
 use crate::tokens::Tokens;
 use cilk_syntax::token::Kind;
@@ -13,7 +13,7 @@ pub fn missing_mark<'a>(
     tokens: &Tokens<'a>,
     number: usize,
     wanted: &Wanted<'_>,
-) -> Option<Hint<'a>> {
+) -> Option<Sentence<'a>> {
     let has_line = is_on_later_line(tokens, number);
     let could_end = ends_statement(tokens, number) && follows(tokens, number, has_line);
     if wanted.semicolon && could_end {
@@ -54,14 +54,15 @@ fn is_on_later_line(tokens: &Tokens<'_>, number: usize) -> bool {
 }
 
 // A mark that is missing between a token and the one before it.
-fn missing<'a>(tokens: &Tokens<'a>, number: usize, mark: &'static str) -> Option<Hint<'a>> {
+fn missing<'a>(tokens: &Tokens<'a>, number: usize, mark: &'static str) -> Option<Sentence<'a>> {
     let ahead = number.checked_sub(1)?;
     if is_on_later_line(tokens, number) || tokens.kind(number).is_none() {
         let line = locate(tokens.text, tokens.place(ahead)).line;
-        Some(Hint::EndOfLine { mark, line })
+        let words = "a `{}` may be missing at the end of line {}";
+        Some(say(words).with(Part::Text(mark)).count(line))
     } else {
-        let word = tokens.word(number);
-        Some(Hint::AheadOf { mark, word })
+        let words = "a `{}` may be missing before `{}`";
+        Some(say(words).with(Part::Text(mark)).word(tokens.word(number)))
     }
 }
 

@@ -1,6 +1,6 @@
 //! Hints for tokens that don't belong in a statement, a call, a head or an item.
 
-use crate::around::is_name;
+use crate::around::{is_among, is_name};
 use crate::sentences::{
     ARRAY_PARAMETER, ARRAYS, CALL, HEAD, MEMORY, ONE_INDEX, ONE_TYPE, POINTER, PRINT, REDUCER,
     REDUCER_ARRAY, REDUCER_USE, SPAWN,
@@ -71,11 +71,18 @@ fn as_reserved(site: &Site<'_, '_>) -> Option<&'static str> {
 fn in_arguments(site: &Site<'_, '_>) -> Option<&'static str> {
     let is_first = matches!(site.kind_ahead(), Some(Kind::Open));
     let is_second = matches!(site.tokens.kind_back(site.number, 2), Some(Kind::Open));
-    match (head_kind(site.tokens, site.number)?, site.word) {
-        (Kind::Print, b",") => Some("`print(e);` writes one number: a `print` for each"),
-        (Kind::Value | Kind::Update | Kind::Set, b"[") if is_second => Some(REDUCER_ARRAY),
+    match (
+        head_kind(site.tokens, site.number)?,
+        site.tokens.kind(site.number),
+    ) {
+        (Kind::Print, Some(Kind::Comma)) => Some(
+            "`print(e);` writes one number: a `print` for each",
+        ),
+        (Kind::Value | Kind::Update | Kind::Set, Some(Kind::OpenBracket)) if is_second => Some(
+            REDUCER_ARRAY,
+        ),
         (Kind::Value, _) => Some(REDUCER_USE),
-        (Kind::Update | Kind::Set, b")") => Some(REDUCER_USE),
+        (Kind::Update | Kind::Set, Some(Kind::Close)) => Some(REDUCER_USE),
         (Kind::Update | Kind::Set, _) if is_first || is_second => Some(REDUCER_USE),
         _ => None,
     }
@@ -106,39 +113,27 @@ fn of_call(site: &Site<'_, '_>) -> Option<&'static str> {
 }
 
 fn is_operator(site: &Site<'_, '_>) -> bool {
-    matches!(
-        site.word,
-        b"+" | b"-"
-            | b"*"
-            | b"/"
-            | b"%"
-            | b"<"
-            | b"<="
-            | b">"
-            | b">="
-            | b"=="
-            | b"!="
-            | b"&&"
-            | b"||"
-            | b"["
-    )
+    is_among("+ - * / % < <= > >= == != && || [", site.word)
 }
 
 // A token in the head of a loop.
 fn of_loop(site: &Site<'_, '_>) -> Option<&'static str> {
-    match (head_kind(site.tokens, site.number)?, site.word) {
-        (Kind::CilkFor | Kind::For, b"{" | b"}") => None,
-        (Kind::CilkFor, b"<=") => Some(
+    let kind = site.tokens.kind(site.number);
+    match (head_kind(site.tokens, site.number)?, kind) {
+        (Kind::CilkFor | Kind::For, Some(Kind::OpenBrace | Kind::CloseBrace)) => None,
+        (Kind::CilkFor, Some(Kind::LessEqual)) => Some(
             "a `cilk_for` counts up by 1 to a bound that it doesn't reach: `k < n + 1` stands for `k <= n`",
         ),
-        (Kind::CilkFor, b">" | b">=" | b"--" | b"-=") => Some(
+        (
+            Kind::CilkFor,
+            Some(Kind::Greater | Kind::GreaterEqual | Kind::Decrement | Kind::MinusAssign),
+        ) => Some(
             "a `cilk_for` counts up by 1: for a loop downward its body works the index out, `int i = n - 1 - k;`",
         ),
-        (Kind::CilkFor, word) if is_name(word) && matches!(site.kind_ahead(), Some(Kind::Open)) => {
-            Some("a `cilk_for` declares its variable: `cilk_for (int i = 0; i < n; i++)`")
-        }
+        (Kind::CilkFor, _) if is_name(site.word) && matches!(site.kind_ahead(), Some(Kind::Open)) =>
+            { Some("a `cilk_for` declares its variable: `cilk_for (int i = 0; i < n; i++)`") }
         (Kind::CilkFor, _) => Some(HEAD),
-        (Kind::For, b",") => Some(
+        (Kind::For, Some(Kind::Comma)) => Some(
             "a `for` head has one variable and one step: the other ones go before the loop, and at the end of its body",
         ),
         _ => None,
@@ -147,39 +142,40 @@ fn of_loop(site: &Site<'_, '_>) -> Option<&'static str> {
 
 // A `*` that declares a pointer or follows one, or an arrow.
 fn of_star(site: &Site<'_, '_>) -> Option<&'static str> {
-    let Site {
-        tokens,
-        number,
-        word,
-        ahead,
-    } = *site;
-    if matches!((ahead, word), (b"-", b">")) || matches!((word, site.behind()), (b"-", b">")) {
-        return Some(ARROW);
-    }
-    if matches!((ahead, word), (b"*", b")")) {
-        return Some(POINTER);
-    }
-    if word != b"*".as_slice() {
-        return None;
+    let Site { tokens, number, .. } = *site;
+    match (site.kind_ahead(), tokens.kind(number), site.kind_behind()) {
+        (Some(Kind::Minus), Some(Kind::Greater), _) => return Some(ARROW),
+        (_, Some(Kind::Minus), Some(Kind::Greater)) => return Some(ARROW),
+        (Some(Kind::Star), Some(Kind::Close), _) => return Some(POINTER),
+        (_, Some(Kind::Star), _) => {}
+        _ => return None,
     }
     let named = tokens.declaration_of(number.saturating_add(1));
-    match ahead {
-        _ if matches!(named, Some((_, Declared::Reducer))) => Some(REDUCER_USE),
-        b"void" => Some(VIEWS),
-        b"int" if takes_memory(tokens, number) => Some(MEMORY),
-        b"int" | b"(" | b"=" | b";" | b"{" | b"}" | b"," | b")" => Some(POINTER),
-        _ if begins(tokens, number.checked_sub(1)?) => Some(POINTER),
-        _ => None,
+    if matches!(named, Some((_, Declared::Reducer))) {
+        return Some(REDUCER_USE);
+    }
+    if is_among("void", site.ahead) {
+        return Some(VIEWS);
+    }
+    if is_among("int", site.ahead) && takes_memory(tokens, number) {
+        return Some(MEMORY);
+    }
+    if is_among("int ( = ; { } , )", site.ahead) || begins(tokens, number.checked_sub(1)?) {
+        Some(POINTER)
+    } else {
+        None
     }
 }
 
 // Whether memory is allocated between a token and the next semicolon.
 fn takes_memory(tokens: &Tokens<'_>, number: usize) -> bool {
     for later in number..tokens.count() {
-        match tokens.word(later) {
-            b";" | b"{" => return false,
-            b"malloc" | b"calloc" | b"realloc" | b"alloca" => return true,
-            _ => {}
+        let word = tokens.word(later);
+        if is_among("; {", word) {
+            return false;
+        }
+        if is_among("malloc calloc realloc alloca", word) {
+            return true;
         }
     }
     false
@@ -187,33 +183,39 @@ fn takes_memory(tokens: &Tokens<'_>, number: usize) -> bool {
 
 // A bracket, or a token next to one.
 fn of_brackets(site: &Site<'_, '_>) -> Option<&'static str> {
-    let Site {
-        tokens,
-        number,
-        word,
-        ahead,
-    } = *site;
-    match (ahead, word) {
-        (b"]", b"[") => Some(ONE_INDEX),
-        (b"]", b"=") if !matches!(site.kind_behind(), Some(Kind::OpenBrace)) => Some(ASSIGNMENT),
-        (b"]", b"=") | (b"=", b"{") => Some(ZEROS),
-        (_, b",") if is_in_brackets(tokens, number) => Some(ONE_INDEX),
-        (_, b"[") if is_in_head_of_function(tokens, number) => Some(ARRAY_PARAMETER),
-        (_, b"[") => Some(ARRAYS),
+    let Site { tokens, number, .. } = *site;
+    match (site.kind_ahead(), tokens.kind(number)?, site.kind_behind()) {
+        (Some(Kind::CloseBracket), Kind::OpenBracket, _) => Some(ONE_INDEX),
+        (Some(Kind::CloseBracket), Kind::Assign, Some(Kind::OpenBrace)) => Some(ZEROS),
+        (Some(Kind::CloseBracket), Kind::Assign, _) => Some(ASSIGNMENT),
+        (Some(Kind::Assign), Kind::OpenBrace, _) => Some(ZEROS),
+        (_, Kind::Comma, _) if is_in_brackets(tokens, number) => Some(ONE_INDEX),
+        (_, Kind::OpenBracket, _) if is_in_head_of_function(tokens, number) => {
+            Some(ARRAY_PARAMETER)
+        }
+        (_, Kind::OpenBracket, _) => Some(ARRAYS),
         _ => None,
     }
 }
 
 // Two tokens that never follow each other in the language, and often do in C.
 fn of_pair(site: &Site<'_, '_>) -> Option<&'static str> {
-    let has_assign = matches!(site.kind_behind(), Some(Kind::Assign));
-    match (site.ahead, site.word, site.behind()) {
-        (b")", b";", _) if is_prototype(site) => Some(
+    match (site.kind_ahead(), site.tokens.kind(site.number)?) {
+        (Some(Kind::Close), Kind::Semicolon) if is_prototype(site) => Some(
             "a function is known in the whole text: leave this line away",
         ),
-        (b"<", b"<" | b"<=", _) | (_, b"<", b"<" | b"<=") => Some(SHIFT_UP),
-        (b">", b">" | b">=", _) | (_, b">", b">" | b">=") => Some(SHIFT_DOWN),
-        (_, b"/" | b"%", _) if has_assign => Some(
+        (Some(Kind::Less), Kind::Less | Kind::LessEqual) => Some(SHIFT_UP),
+        (Some(Kind::Greater), Kind::Greater | Kind::GreaterEqual) => Some(SHIFT_DOWN),
+        (_, kind) => of_operators(kind, site.kind_behind()?),
+    }
+}
+
+// Two operators that the language doesn't have as one.
+fn of_operators(first: Kind, second: Kind) -> Option<&'static str> {
+    match (first, second) {
+        (Kind::Less, Kind::Less | Kind::LessEqual) => Some(SHIFT_UP),
+        (Kind::Greater, Kind::Greater | Kind::GreaterEqual) => Some(SHIFT_DOWN),
+        (Kind::Slash | Kind::Percent, Kind::Assign) => Some(
             "`+=`, `-=` and `*=` are the only such assignments: write `x = x / e`",
         ),
         _ => None,
@@ -272,14 +274,14 @@ fn of_statement(site: &Site<'_, '_>) -> Option<&'static str> {
 // A token at a wrong place.
 fn of_token(site: &Site<'_, '_>) -> Option<&'static str> {
     let head = head_kind(site.tokens, site.number);
-    match site.word {
-        b"++" | b"--" => Some(STEP),
-        b"=" if matches!(head, Some(Kind::If | Kind::While)) => Some(
+    match site.tokens.kind(site.number)? {
+        Kind::Increment | Kind::Decrement => Some(STEP),
+        Kind::Assign if matches!(head, Some(Kind::If | Kind::While)) => Some(
             "`==` compares: an assignment is a statement of its own, and stands in no expression",
         ),
-        b"=" | b"+=" | b"-=" | b"*=" => Some(ASSIGNMENT),
-        b"cilk_spawn" => Some(SPAWN),
-        b"cilk_reducer" => Some(REDUCER),
+        Kind::Assign | Kind::PlusAssign | Kind::MinusAssign | Kind::StarAssign => Some(ASSIGNMENT),
+        Kind::CilkSpawn => Some(SPAWN),
+        Kind::CilkReducer => Some(REDUCER),
         _ => None,
     }
 }

@@ -1,5 +1,6 @@
 //! Words of C and OpenCilk that the language lacks, and what to write for each.
 
+use crate::around::is_among;
 use crate::sentences::{
     CAST, INPUT, LIBRARY, LINE_AWAY, MEMORY, NO_CLOCK, NO_LENGTH, ONE_TYPE, PRINT, REDUCER,
     REDUCER_USE, STRUCTURES,
@@ -12,10 +13,8 @@ type Row = (&'static str, &'static str);
 fn said_of(table: &[Row], word: &[u8]) -> Option<&'static str> {
     for row in table {
         let (words, said) = *row;
-        for it in words.split_whitespace() {
-            if it.as_bytes() == word {
-                return Some(said);
-            }
+        if is_among(words, word) {
+            return Some(said);
         }
     }
     None
@@ -59,17 +58,12 @@ pub fn library_word(word: &[u8]) -> Option<&'static str> {
     }
 }
 
-const AHEAD: [Row; 2] = [
-    ("int void const volatile", "yes"),
-    ("typedef enum REDUCER_VIEW", ""),
-];
-
 /// Returns whether a word belongs to a type or comes before one.
 pub fn is_type_word(word: &[u8]) -> bool {
-    match said_of(&AHEAD, word) {
-        Some(said) => !said.is_empty(),
-        None => !is_reducer_word(word) && other_type(word).is_some(),
-    }
+    is_among("int void const volatile", word)
+        || (said_of(&TYPES, word).is_some()
+            && !is_among("typedef enum REDUCER_VIEW", word)
+            && !is_reducer_word(word))
 }
 
 // Whether OpenCilk or Cilk Plus declares reducers with this word.
@@ -81,9 +75,10 @@ fn is_reducer_word(word: &[u8]) -> bool {
 
 /// Returns the advice for a cast to a type.
 pub fn cast_to(word: &[u8]) -> &'static str {
-    match word {
-        b"int" => "`int` is the only type, so nothing is cast: leave `(int)` away",
-        _ => CAST,
+    if word == b"int".as_slice() {
+        "`int` is the only type, so nothing is cast: leave `(int)` away"
+    } else {
+        CAST
     }
 }
 

@@ -1,0 +1,109 @@
+//! Sentences with gaps, and the parts that fill them.
+//!
+//! A sentence owns nothing, so a hint is made without memory, and only what shows it can fail.
+
+use crate::place::Location;
+use std::alloc::{AllocError, Global};
+
+/// A part of a sentence.
+#[derive(Clone, Copy)]
+pub enum Part<'a> {
+    Text(&'a str),
+    /// Bytes of a program's text.
+    Word(&'a [u8]),
+    Count(usize),
+    Number(i64),
+    /// The plural ending of a counted word: none for 1.
+    Plural(usize),
+    /// `FILE:LINE:COLUMN`.
+    Place(&'a str, Location),
+}
+
+// The most gaps of a sentence.
+const GAPS: usize = 6;
+
+/// A sentence, in which `{}` stands for each part.
+#[derive(Clone, Copy)]
+pub struct Sentence<'a> {
+    words: &'a str,
+    parts: [Part<'a>; GAPS],
+    count: usize,
+}
+
+/// A sentence of these words, whose gaps are empty so far.
+pub fn say(words: &str) -> Sentence<'_> {
+    Sentence {
+        words,
+        parts: [Part::Text(""); GAPS],
+        count: 0,
+    }
+}
+
+impl<'a> Sentence<'a> {
+    /// Fills the next gap.
+    pub fn with(self, part: Part<'a>) -> Sentence<'a> {
+        let mut filled = self;
+        if let Some(gap) = filled.parts.get_mut(self.count) {
+            *gap = part;
+        }
+        filled.count = self.count.saturating_add(1);
+        filled
+    }
+
+    /// Fills the next gap with a word of a program's text.
+    pub fn word(self, word: &'a [u8]) -> Sentence<'a> {
+        self.with(Part::Word(word))
+    }
+
+    /// Fills the next gap with a number.
+    pub fn count(self, count: usize) -> Sentence<'a> {
+        self.with(Part::Count(count))
+    }
+
+    /// Fills the next two gaps with a count and the plural ending of what it counts.
+    pub fn counted(self, count: usize) -> Sentence<'a> {
+        self.with(Part::Count(count)).with(Part::Plural(count))
+    }
+
+    /// Adds the sentence to a text.
+    pub fn push(&self, alloc: Global, text: &mut String) -> Result<(), AllocError> {
+        let mut rest = self.words;
+        for part in &self.parts {
+            let Some((ahead, behind)) = rest.split_once("{}") else {
+                break;
+            };
+            text.push_str(ahead)?;
+            push_part(alloc, text, *part)?;
+            rest = behind;
+        }
+        text.push_str(rest)
+    }
+}
+
+fn push_part(alloc: Global, text: &mut String, part: Part<'_>) -> Result<(), AllocError> {
+    match part {
+        Part::Text(words) => text.push_str(words),
+        Part::Word(word) => text.push_str(String::from_utf8_lossy(alloc, word)?.as_str()),
+        Part::Count(count) => write!(text, "{count}"),
+        Part::Number(number) => write!(text, "{number}"),
+        Part::Plural(1) => Ok(()),
+        Part::Plural(_) => text.push('s'),
+        Part::Place(file, Location { line, column }) => write!(text, "{file}:{line}:{column}"),
+    }
+}
+
+/// Adds a line `WHAT: SENTENCE`, but nothing for a sentence without words.
+pub fn push_line(
+    alloc: Global,
+    text: &mut String,
+    what: &str,
+    sentence: &Sentence<'_>,
+) -> Result<(), AllocError> {
+    if sentence.words.is_empty() {
+        return Ok(());
+    }
+    text.push_str(what)?;
+    text.push_str(": ")?;
+    sentence.push(alloc, text)?;
+    text.push('\n')
+}
