@@ -31,6 +31,9 @@ pub struct Reason {
     pub cure: &'static str,
 }
 
+/// The greatest number.
+pub const LAST: u16 = 502;
+
 /// Returns the meaning of a number, if it is one of the tool's.
 pub fn reason_of(number: u16) -> Option<Reason> {
     match in_table(&FAULTS, number) {

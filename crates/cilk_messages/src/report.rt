@@ -2,11 +2,9 @@
 
 use crate::at_hand::at_hand;
 use crate::excerpt::push_excerpt;
-use crate::faults::FAULTS;
 use crate::hints::hint_of;
 use crate::place::{Location, locate};
-use crate::reasons::{Example, Reason, cure_of, reason_of, title_of};
-use crate::refusals::REFUSALS;
+use crate::reasons::{Example, LAST, Reason, cure_of, reason_of, title_of};
 use crate::sentence::{Part, push_line, say};
 use crate::tokens::Tokens;
 use std::alloc::{AllocError, Global};
@@ -81,17 +79,18 @@ fn push_reason(alloc: Global, text: &mut String, reason: &Reason) -> Result<(), 
 /// Returns the text of `explain`: each number with its title.
 pub fn of_all(alloc: Global) -> Result<String, AllocError> {
     let mut text = String::new(alloc);
-    push_titles(alloc, &mut text, &FAULTS)?;
-    push_titles(alloc, &mut text, &REFUSALS)?;
+    push_titles(alloc, &mut text)?;
     Ok(text)
 }
 
-fn push_titles(alloc: Global, text: &mut String, table: &[Reason]) -> Result<(), AllocError> {
-    for reason in table {
-        let line = say("{}  {}\n")
-            .count(reason.number as usize)
-            .with(Part::Text(reason.title));
-        line.push(alloc, text)?;
+fn push_titles(alloc: Global, text: &mut String) -> Result<(), AllocError> {
+    for number in 0..=LAST {
+        if let Some(reason) = reason_of(number) {
+            let line = say("{}  {}\n")
+                .count(number as usize)
+                .with(Part::Text(reason.title));
+            line.push(alloc, text)?;
+        }
     }
     Ok(())
 }
