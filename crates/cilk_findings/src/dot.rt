@@ -10,41 +10,57 @@ pub const MAX_NODES: usize = 2000;
 /// their count of events, S nodes are diamonds, P nodes are circles. For a tree of more than
 /// [`MAX_NODES`] nodes the result is a comment that says so.
 pub fn dot(alloc: Global, tree: &SpTree) -> Result<String, AllocError> {
-    let nodes = tree.as_slice();
-    let count = nodes.len();
+    let mut text = String::new(alloc);
+    let count = tree.as_slice().len();
     if count > MAX_NODES {
-        return format!(in alloc;
-            "// the tree has {count} nodes, and at most {MAX_NODES} are drawn: try a smaller input\n"
-        );
+        push_too_many(&mut text, count)?;
+    } else {
+        let mut open = Vec::new(alloc);
+        push_graph(&mut text, &mut open, tree)?;
     }
-    let mut text = String::from_str(alloc, "digraph run {\n")?;
-    // The nodes that still miss a child, once for each missing child.
-    let mut open: Vec<usize> = Vec::new(alloc);
+    Ok(text)
+}
+
+fn push_too_many(text: &mut String, count: usize) -> Result<(), AllocError> {
+    write!(
+        text,
+        "// the tree has {count} nodes, and at most {MAX_NODES} are drawn: try a smaller input\n"
+    )
+}
+
+// The graph. `open` has the nodes that still miss a child, once for each missing child.
+fn push_graph(text: &mut String, open: &mut Vec<usize>, tree: &SpTree) -> Result<(), AllocError> {
+    text.push_str("digraph run {\n")?;
     let mut strand: usize = 0;
-    for (number, node) in nodes.iter().enumerate() {
+    for (number, node) in tree.as_slice().iter().enumerate() {
         if let Node::Strand { .. } = node {
             strand = strand.saturating_add(1);
         }
-        text.push_str(line_of(alloc, number, node, strand)?.as_str())?;
+        push_node(text, number, node, strand)?;
         if let Some(above) = open.pop() {
-            text.push_str(format!(in alloc; "  n{above} -> n{number};\n")?.as_str())?;
+            write!(text, "  n{above} -> n{number};\n")?;
         }
         if !matches!(node, Node::Strand { .. }) {
             open.push(number)?;
             open.push(number)?;
         }
     }
-    text.push_str("}\n")?;
-    Ok(text)
+    text.push_str("}\n")
 }
 
 // The line that declares a node.
-fn line_of(alloc: Global, number: usize, node: &Node, strand: usize) -> Result<String, AllocError> {
+fn push_node(
+    text: &mut String,
+    number: usize,
+    node: &Node,
+    strand: usize,
+) -> Result<(), AllocError> {
     match *node {
-        Node::Strand { events } => format!(in alloc;
+        Node::Strand { events } => write!(
+            text,
             "  n{number} [shape=box, label=\"{strand}: {events}\"];\n"
         ),
-        Node::Series { .. } => format!(in alloc; "  n{number} [shape=diamond, label=\"S\"];\n"),
-        Node::Parallel { .. } => format!(in alloc; "  n{number} [shape=circle, label=\"P\"];\n"),
+        Node::Series { .. } => write!(text, "  n{number} [shape=diamond, label=\"S\"];\n"),
+        Node::Parallel { .. } => write!(text, "  n{number} [shape=circle, label=\"P\"];\n"),
     }
 }

@@ -27,11 +27,16 @@ fn picture_of(alloc: Global, trace: &Trace) -> Result<String, AllocError> {
 }
 
 fn picture(alloc: Global, steps: &[u32]) -> Result<String, AllocError> {
-    let most = greatest(steps);
-    let mut text = head(alloc, steps.len(), most)?;
-    push_outline(alloc, &mut text, steps, most)?;
-    push_foot(alloc, &mut text)?;
+    let mut text = String::new(alloc);
+    push_picture(&mut text, steps)?;
     Ok(text)
+}
+
+fn push_picture(text: &mut String, steps: &[u32]) -> Result<(), AllocError> {
+    let most = greatest(steps);
+    push_head(text, steps.len(), most)?;
+    push_outline(text, steps, most)?;
+    push_foot(text)
 }
 
 // The most events of one step, but at least 1.
@@ -43,24 +48,20 @@ fn greatest(steps: &[u32]) -> usize {
     most
 }
 
-fn head(alloc: Global, span: usize, most: usize) -> Result<String, AllocError> {
-    format!(in alloc;
+fn push_head(text: &mut String, span: usize, most: usize) -> Result<(), AllocError> {
+    write!(
+        text,
         "<svg xmlns=\"http://www.w3.org/2000/svg\" viewBox=\"0 0 {WIDTH} {HEIGHT}\">\n<title>events that could be made at each of {span} steps, at most {most}</title>\n<path fill=\"#4477aa\" d=\"M0 {HEIGHT}"
     )
 }
 
 // The corners of the outline, from left to right.
-fn push_outline(
-    alloc: Global,
-    text: &mut String,
-    steps: &[u32],
-    most: usize,
-) -> Result<(), AllocError> {
+fn push_outline(text: &mut String, steps: &[u32], most: usize) -> Result<(), AllocError> {
     let mut top = HEIGHT;
     for column in 0..WIDTH {
         let next = top_of(most_in(steps, column), most);
         if next != top {
-            push_corner(alloc, text, column, next)?;
+            write!(text, " H{column} V{next}")?;
         }
         top = next;
     }
@@ -73,17 +74,8 @@ fn top_of(events: usize, most: usize) -> usize {
     HEIGHT.saturating_sub(height)
 }
 
-fn push_corner(
-    alloc: Global,
-    text: &mut String,
-    column: usize,
-    top: usize,
-) -> Result<(), AllocError> {
-    text.push_str(format!(in alloc; " H{column} V{top}")?.as_str())
-}
-
-fn push_foot(alloc: Global, text: &mut String) -> Result<(), AllocError> {
-    text.push_str(format!(in alloc; " H{WIDTH} V{HEIGHT} Z\"/>\n</svg>\n")?.as_str())
+fn push_foot(text: &mut String) -> Result<(), AllocError> {
+    write!(text, " H{WIDTH} V{HEIGHT} Z\"/>\n</svg>\n")
 }
 
 // The most events of the steps that fall into a column.

@@ -10,22 +10,17 @@ impl Walker<'_> {
     /// Walks over an expression.
     pub fn expression(&mut self, tree: &Expr) -> Result<(), AllocError> {
         match tree {
-            Expr::Number(_) | Expr::Variable(_) => {
-                let at = self.take();
-                self.put(at)
-            }
-            Expr::Element(_, index) => {
-                let at = self.take();
-                self.take();
-                self.expression(index)?;
-                self.take();
-                self.put(at)
-            }
             Expr::Group(inner) => {
                 self.take();
                 self.expression(inner)?;
                 self.take();
                 Ok(())
+            }
+            Expr::Element(_, inner) | Expr::Input(inner) => {
+                let at = self.follow("t.", 0)?;
+                self.expression(inner)?;
+                self.take();
+                self.put(at)
             }
             Expr::Unary(_, operand) => {
                 let at = self.take();
@@ -33,35 +28,33 @@ impl Walker<'_> {
                 self.put(at)
             }
             Expr::Binary(operator, left, right) => {
+                let (ahead, behind) = marks_of(*operator);
                 self.expression(left)?;
-                let at = self.take();
-                self.put_times(at, instructions_ahead(*operator))?;
+                let at = self.follow(ahead, 0)?;
                 self.expression(right)?;
-                self.put_times(at, instructions_behind(*operator))
+                self.follow(behind, at)?;
+                Ok(())
             }
-            Expr::Value(_) => {
-                self.pass(2);
-                let at = self.take();
-                self.take();
-                self.put(at)
-            }
-            Expr::Input(place) => {
-                let at = self.take();
-                self.take();
-                self.expression(place)?;
-                self.take();
-                self.put(at)
-            }
-            Expr::InputCount => {
-                let at = self.take();
-                self.pass(2);
-                self.put(at)
-            }
+            _ => self.operand(tree),
         }
     }
 
-    /// Walks over an assignment whose statement begins at byte `at`.
-    pub fn assignment(&mut self, at: usize, tree: &Assignment) -> Result<(), AllocError> {
+    // An operand of tokens alone.
+    fn operand(&mut self, tree: &Expr) -> Result<(), AllocError> {
+        self.follow(
+            match tree {
+                Expr::Value(_) => "..t.p",
+                Expr::InputCount => "t..p",
+                _ => "tp",
+            },
+            0,
+        )?;
+        Ok(())
+    }
+
+    /// Walks over an assignment.
+    pub fn assignment(&mut self, tree: &Assignment) -> Result<(), AllocError> {
+        let at = self.here();
         self.put(at)?;
         match tree {
             Assignment::Set(place, value) => {
@@ -92,7 +85,8 @@ impl Walker<'_> {
         if !is_ahead {
             self.take();
         }
-        self.put_times(name, 3)
+        self.follow("ppp", name)?;
+        Ok(())
     }
 
     // Walks over the index of an assigned place, if it has one. Returns the place of its name.
@@ -124,24 +118,16 @@ impl Walker<'_> {
                 self.expression(&argument.value)?;
             }
         }
-        self.take();
-        self.put_times(at, 2)
+        self.follow(".pp", at)?;
+        Ok(())
     }
 }
 
-// The number of instructions that an operator has between its operands.
-fn instructions_ahead(operator: BinaryOperator) -> usize {
+// The marks between the operands of an operator, and after them.
+fn marks_of(operator: BinaryOperator) -> (&'static str, &'static str) {
     match operator {
-        BinaryOperator::And => 1,
-        BinaryOperator::Or => 3,
-        _ => 0,
-    }
-}
-
-// The number of instructions that it has after them.
-fn instructions_behind(operator: BinaryOperator) -> usize {
-    match operator {
-        BinaryOperator::And => 3,
-        _ => 1,
+        BinaryOperator::And => ("tp", "ppp"),
+        BinaryOperator::Or => ("tppp", "p"),
+        _ => ("t", "p"),
     }
 }

@@ -114,8 +114,7 @@ impl Walker<'_> {
             }
         }
         self.row(body)?;
-        let at = self.take();
-        self.put_times(at, 3)?;
+        self.follow("tppp", 0)?;
         let empty = BodyMap::new(self.alloc, name);
         Ok(mem::replace(&mut self.body, empty))
     }

@@ -17,7 +17,7 @@
 //! | [`shares::shares`] | the same for groups of frames, as those of one function |
 //! | [`profile::profile`] | the number of events at each step of the span |
 //! | [`drawing::profile_of`], [`drawing::tree_of_run`] | pictures as SVG and for Graphviz |
-//! | [`naming::accessed`] | the name of the variable, element or reducer of an event |
+//! | [`scene::Scene`] | names, places and paths of a run's frames and events, in words |
 //! | [`partings::parted_at`] | where a `cilk_sync` would separate a spawn from later code |
 //!
 //! Work is the number of events of a run. Span is the length of its longest chain of events in
@@ -39,14 +39,12 @@ pub mod fault;
 pub mod faults;
 pub mod items;
 pub mod map;
-pub mod naming;
-pub mod notes;
 pub mod partings;
-pub mod paths;
 pub mod profile;
 mod repeats;
 pub mod replay;
 pub mod runs;
+pub mod scene;
 pub mod shares;
 mod statements;
 pub mod totals;

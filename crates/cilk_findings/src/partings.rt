@@ -1,52 +1,40 @@
 //! Places for a `cilk_sync` that separates a spawn from later code.
 
-use crate::case::Case;
-use crate::notes::place_of;
+use crate::scene::Scene;
+use cilk_messages::sentence::{Sentence, say};
+use cilk_messages::sites::{closed_head, is_condition};
 use cilk_messages::tokens::Tokens;
 use cilk_syntax::token::Kind;
 use std::alloc::AllocError;
 
-/// Where a sync separates a spawn from later code, by a byte of the text.
-#[derive(Clone, Copy, PartialEq, Eq)]
-enum Parting {
-    /// Before the statement that begins there.
-    Ahead(usize),
-    /// Before the statement that begins there, which is the body of a loop or a branch of an `if`,
-    /// without braces.
-    Within(usize),
-    /// Before the brace that ends a loop's body there.
-    AtEnd(usize),
-    /// After the statement that begins there, which is a loop's body without braces.
-    Behind(usize),
-    /// Before the name there, in the middle of a declaration.
-    Between(usize),
-}
+/// Where a sync separates a spawn from later code: in words, with a byte of the text.
+type Parting = (&'static str, usize);
+
+// Before a statement.
+const AHEAD: &str = "before {}";
+
+// Before the body of a loop or a branch of an `if`, without braces.
+const WITHIN: &str = "before {}, in braces with the statement there";
+
+// Before the brace that ends a loop's body.
+const AT_END: &str = "before {}, at the end of the loop's body";
+
+// After a loop's body without braces.
+const BEHIND: &str = "after the statement at {}, in braces with it";
+
+// Before a name in the middle of a declaration.
+const BETWEEN: &str = "before {}, where a declaration of its own has to begin";
 
 /// Says in words where a `cilk_sync` separates the spawn at byte `spawn` from the later code at
 /// byte `at`.
-pub fn parted_at(case: &Case<'_>, spawn: usize, at: usize) -> Result<String, AllocError> {
-    let alloc = case.alloc;
-    let tokens = Tokens::new(alloc, case.text)?;
-    let parting = parting_of(&tokens, tokens.number_at(spawn), tokens.number_at(at));
-    let place = match parting {
-        Parting::Ahead(place) | Parting::Within(place) | Parting::AtEnd(place) => place,
-        Parting::Behind(place) | Parting::Between(place) => place,
-    };
-    let place = place_of(case, place)?;
-    let place = place.as_str();
-    match parting {
-        Parting::Ahead(_) => format!(in alloc; "before {place}"),
-        Parting::Within(_) => format!(in alloc;
-            "before {place}, in braces with the statement there"
-        ),
-        Parting::AtEnd(_) => format!(in alloc; "before {place}, at the end of the loop's body"),
-        Parting::Behind(_) => {
-            format!(in alloc; "after the statement at {place}, in braces with it")
-        }
-        Parting::Between(_) => {
-            format!(in alloc; "before {place}, where a declaration of its own has to begin")
-        }
-    }
+pub fn parted_at<'a>(
+    scene: &Scene<'a>,
+    spawn: usize,
+    at: usize,
+) -> Result<Sentence<'a>, AllocError> {
+    let tokens = Tokens::new(scene.case.alloc, scene.case.text)?;
+    let (words, place) = parting_of(&tokens, tokens.number_at(spawn), tokens.number_at(at));
+    Ok(say(words).with(scene.place(place)))
 }
 
 // The place, by numbers of tokens.
@@ -57,7 +45,7 @@ fn parting_of(tokens: &Tokens<'_>, spawn: usize, access: usize) -> Parting {
     }
     if let Some(name) = declared_at(tokens, first, access) {
         if first <= spawn && spawn < name {
-            return Parting::Between(tokens.place(name));
+            return (BETWEEN, tokens.place(name));
         }
     }
     ahead(tokens, first, spawn)
@@ -73,7 +61,7 @@ fn statement_of(tokens: &Tokens<'_>, number: usize) -> usize {
         match tokens.kind(earlier) {
             Some(Kind::Open) => {
                 if depth == 0 {
-                    is_head = has_head(tokens.kind_back(earlier, 1));
+                    is_head = is_condition(tokens, earlier.checked_sub(1));
                 }
                 depth = depth.saturating_add(1);
             }
@@ -91,13 +79,6 @@ fn statement_of(tokens: &Tokens<'_>, number: usize) -> usize {
         }
     }
     first
-}
-
-fn has_head(kind: Option<Kind>) -> bool {
-    matches!(
-        kind,
-        Some(Kind::If | Kind::While | Kind::For | Kind::CilkFor)
-    )
 }
 
 // The token after a statement.
@@ -157,9 +138,9 @@ fn at_end(tokens: &Tokens<'_>, first: usize) -> Parting {
     match tokens.kind(body) {
         Some(Kind::OpenBrace) => {
             let brace = end_of(tokens, body).saturating_sub(1);
-            Parting::AtEnd(tokens.place(brace))
+            (AT_END, tokens.place(brace))
         }
-        _ => Parting::Behind(tokens.place(body)),
+        _ => (BEHIND, tokens.place(body)),
     }
 }
 
@@ -200,33 +181,14 @@ fn declared_at(tokens: &Tokens<'_>, first: usize, number: usize) -> Option<usize
 fn ahead(tokens: &Tokens<'_>, first: usize, spawn: usize) -> Parting {
     let mut start = first;
     for _level in 0..tokens.count() {
-        match headed(tokens, start) {
+        match closed_head(tokens, start) {
             Some(outer) if !stands_in(tokens, outer, spawn) => start = outer,
             _ => break,
         }
     }
     let place = tokens.place(start);
     match tokens.kind_back(start, 1) {
-        Some(Kind::Close | Kind::Else) => Parting::Within(place),
-        _ => Parting::Ahead(place),
+        Some(Kind::Close | Kind::Else) => (WITHIN, place),
+        _ => (AHEAD, place),
     }
-}
-
-// The loop or condition whose head ends just before a token.
-fn headed(tokens: &Tokens<'_>, number: usize) -> Option<usize> {
-    if !matches!(tokens.kind_back(number, 1), Some(Kind::Close)) {
-        return None;
-    }
-    let mut depth: usize = 0;
-    for back in 1..number.saturating_add(1) {
-        match tokens.kind_back(number, back) {
-            Some(Kind::Close) => depth = depth.saturating_add(1),
-            Some(Kind::Open) if depth == 1 => {
-                return number.checked_sub(back)?.checked_sub(1);
-            }
-            Some(Kind::Open) => depth = depth.saturating_sub(1),
-            _ => {}
-        }
-    }
-    None
 }

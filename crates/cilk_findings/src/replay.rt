@@ -131,18 +131,7 @@ impl<'a> Notes<'a> {
     fn step(&self, place: usize) -> StepNote {
         let frame = self.open.last().copied().unwrap_or(0);
         let first = match self.frames.get(frame) {
-            Some(
-                FrameNote {
-                    body: Body::Function(number),
-                    ..
-                },
-            ) => self.code.function_entry(*number).place,
-            Some(
-                FrameNote {
-                    body: Body::Loop(number),
-                    ..
-                },
-            ) => self.code.loop_entry(*number).place,
+            Some(note) => first_of(self.code, note.body),
             None => 0,
         };
         StepNote {
@@ -258,6 +247,14 @@ impl<'a> Notes<'a> {
             ticks,
             stop,
         }
+    }
+}
+
+/// Returns the place of a body's first instruction.
+pub fn first_of(code: &Code, body: Body) -> usize {
+    match body {
+        Body::Function(number) => code.function_entry(number).place,
+        Body::Loop(number) => code.loop_entry(number).place,
     }
 }
 

@@ -2,10 +2,9 @@
 
 use crate::case::Case;
 use crate::fault::CaseFault;
-use crate::replay::{FrameNote, Replay, StepNote, follow};
+use crate::replay::{Replay, first_of, follow};
 use cilk_lower::code::{Code, Instr};
 use cilk_lower::lower::lower;
-use cilk_program::program::Body;
 use cilk_types::event::Event;
 use cilk_types::fault::Fault;
 use cilk_types::trace::Trace;
@@ -45,23 +44,14 @@ impl Run {
 
     /// Returns whether an event, counted from 0, is a child's result.
     pub fn gives_result(&self, index: usize) -> bool {
-        let Some(StepNote { frame, instruction }) = self.replay.steps.get(index).copied() else {
+        let Some(step) = self.replay.steps.get(index) else {
             return false;
         };
-        let Some(
-            FrameNote {
-                body: Body::Function(number),
-                ..
-            },
-        ) = self.replay.frames.get(frame)
-        else {
+        let Some(note) = self.replay.frames.get(step.frame) else {
             return false;
         };
-        let first = self.code.function_entry(*number).place;
-        matches!(
-            self.code.instrs().get(first.saturating_add(instruction)),
-            Some(Instr::GiveResult)
-        )
+        let place = first_of(&self.code, note.body).saturating_add(step.instruction);
+        matches!(self.code.instrs().get(place), Some(Instr::GiveResult))
     }
 
     /// Returns an event, counted from 0.

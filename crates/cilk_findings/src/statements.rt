@@ -2,9 +2,7 @@
 
 use crate::map::BodyMap;
 use crate::walker::Walker;
-use cilk_syntax::tree::{
-    Assignment, Beginning, Bounds, Expr, Local, LocalInitializer, Name, Reducer, Stmt,
-};
+use cilk_syntax::tree::{Assignment, Beginning, Bounds, Expr, Local, LocalInitializer, Name, Stmt};
 use cilk_types::invocation::Invocation;
 use std::alloc::AllocError;
 use std::mem;
@@ -22,21 +20,11 @@ impl Walker<'_> {
     #[cycle(statements)]
     fn statement(&mut self, tree: &Stmt) -> Result<(), AllocError> {
         match tree {
-            Stmt::Empty => {
-                let at = self.take();
-                self.put(at)
-            }
             Stmt::Block(row) => {
-                let at = self.take();
-                self.put(at)?;
+                self.follow("tp", 0)?;
                 self.row(row)?;
                 self.take();
                 Ok(())
-            }
-            Stmt::Declare(locals) => self.declaration(locals),
-            Stmt::Reducer(reducer) => self.reducer(*reducer),
-            Stmt::Assign(_) | Stmt::Invoke(_, _) | Stmt::AssignCall(_, _, _) | Stmt::Sync => {
-                self.simple(tree)
             }
             Stmt::If(test, body) => {
                 self.test(test)?;
@@ -45,8 +33,7 @@ impl Walker<'_> {
             Stmt::IfElse(test, first, second) => {
                 self.test(test)?;
                 self.statement(first)?;
-                let at = self.take();
-                self.put(at)?;
+                self.follow("tp", 0)?;
                 self.statement(second)
             }
             Stmt::While(test, body) => {
@@ -69,56 +56,64 @@ impl Walker<'_> {
                 self.statement(body)?;
                 self.leave(outside)
             }
-            Stmt::Return(_, value) => self.returned(value),
-            Stmt::Print(value) => {
-                let at = self.take();
-                self.put(at)?;
-                self.take();
-                self.expression(value)?;
-                self.pass(2);
-                self.put(at)
-            }
-            Stmt::Update(_, value) | Stmt::Set(_, value) => self.updated(value),
+            _ => self.simple(tree),
         }
     }
 
-    // A statement of one line without an inner statement or a declaration.
+    // A statement without an inner one.
     fn simple(&mut self, tree: &Stmt) -> Result<(), AllocError> {
         match tree {
-            Stmt::Assign(assignment) => {
-                let at = self.here();
-                self.assignment(at, assignment)?;
+            Stmt::Declare(locals) => self.declaration(locals)?,
+            // `int cilk_reducer(KIND) NAME;`
+            Stmt::Reducer(reducer) => {
+                self.put(reducer.name.at)?;
+                self.pass(6);
             }
+            Stmt::Assign(assignment) => self.assignment(assignment)?,
             Stmt::Invoke(how, call) => {
                 let at = self.here();
                 self.put(at)?;
                 self.call(*how, call)?;
             }
             Stmt::AssignCall(_, how, call) => {
-                let at = self.take();
-                self.put(at)?;
-                self.take();
+                self.follow("tp.", 0)?;
                 self.call(*how, call)?;
             }
-            _ => {
-                let at = self.take();
-                self.put_times(at, 2)?;
+            Stmt::Return(_, value) => return self.returned(value),
+            // `print(VALUE);`
+            Stmt::Print(value) => {
+                let at = self.follow("tp.", 0)?;
+                self.expression(value)?;
+                self.follow(".p", at)?;
             }
+            // `WORD(NAME, VALUE);`
+            Stmt::Update(_, value) | Stmt::Set(_, value) => {
+                let name = self.follow("tp.t.", 0)?;
+                self.expression(value)?;
+                self.follow(".p", name)?;
+            }
+            Stmt::Sync => {
+                self.follow("tpp", 0)?;
+            }
+            _ => return self.empty(),
         }
         self.take();
         Ok(())
     }
 
+    fn empty(&mut self) -> Result<(), AllocError> {
+        self.follow("tp", 0)?;
+        Ok(())
+    }
+
     fn declaration(&mut self, locals: &[Local]) -> Result<(), AllocError> {
-        let at = self.take();
-        self.put(at)?;
+        self.follow("tp", 0)?;
         for (number, local) in locals.iter().enumerate() {
             if number > 0 {
                 self.take();
             }
             self.local(local)?;
         }
-        self.take();
         Ok(())
     }
 
@@ -139,41 +134,24 @@ impl Walker<'_> {
         }
     }
 
-    // `int cilk_reducer(KIND) NAME;`
-    fn reducer(&mut self, reducer: Reducer) -> Result<(), AllocError> {
-        self.pass(7);
-        self.put(reducer.name.at)
-    }
-
     // `WORD (TEST)`, and the jump after it. Returns the place of the word.
     fn test(&mut self, test: &Expr) -> Result<usize, AllocError> {
-        let at = self.take();
-        self.put(at)?;
-        self.take();
+        let at = self.follow("tp.", 0)?;
         self.expression(test)?;
-        self.take();
-        self.put(at)?;
-        Ok(at)
+        self.follow(".p", at)
     }
 
     // `for (BEGINNING;`. Returns the place of the word.
     fn head(&mut self, beginning: &Option<Beginning>) -> Result<usize, AllocError> {
-        let at = self.take();
-        self.put(at)?;
-        self.take();
+        let at = self.follow("tp.", 0)?;
         match beginning {
             Some(Beginning::Declares(name, value)) => {
                 self.body.cells.push(*name)?;
-                self.take();
-                self.put(name.at)?;
-                self.pass(2);
+                self.follow(".tp.", 0)?;
                 self.expression(value)?;
                 self.put(name.at)?;
             }
-            Some(Beginning::Assigns(assignment)) => {
-                let at = self.here();
-                self.assignment(at, assignment)?;
-            }
+            Some(Beginning::Assigns(assignment)) => self.assignment(assignment)?,
             None => {}
         }
         self.take();
@@ -193,8 +171,7 @@ impl Walker<'_> {
     // `STEP)`.
     fn turn_step(&mut self, step: &Option<Assignment>) -> Result<(), AllocError> {
         if let Some(assignment) = step {
-            let at = self.here();
-            self.assignment(at, assignment)?;
+            self.assignment(assignment)?;
         }
         self.take();
         Ok(())
@@ -203,14 +180,12 @@ impl Walker<'_> {
     // The head of a `cilk_for`, and the first instructions of a frame of its turns. Returns the
     // body around it, with the loop's number.
     fn enter(&mut self, bounds: &Bounds) -> Result<(BodyMap, usize), AllocError> {
-        let at = self.take();
-        self.put(at)?;
-        self.pass(4);
+        let at = self.follow("tp....", 0)?;
         self.expression(&bounds.low)?;
         self.pass(3);
         self.expression(&bounds.high)?;
         self.pass_close();
-        self.put_times(at, 2)?;
+        self.follow("pp", at)?;
         let name = Name {
             at,
             end: at.saturating_add(8),
@@ -220,7 +195,7 @@ impl Walker<'_> {
         let inside = BodyMap::new(self.alloc, name);
         let outside = mem::replace(&mut self.body, inside);
         self.body.cells.push(bounds.variable)?;
-        self.put_times(at, 2)?;
+        self.follow("pp", at)?;
         Ok((outside, number))
     }
 
@@ -228,7 +203,7 @@ impl Walker<'_> {
     fn leave(&mut self, outside: (BodyMap, usize)) -> Result<(), AllocError> {
         let (body, number) = outside;
         let at = self.body.name.at;
-        self.put_times(at, 10)?;
+        self.follow("pppppppppp", at)?;
         let inside = mem::replace(&mut self.body, body);
         if let Some(place) = self.loops.get_mut(number) {
             *place = inside;
@@ -237,25 +212,12 @@ impl Walker<'_> {
     }
 
     fn returned(&mut self, value: &Option<Box<Expr>>) -> Result<(), AllocError> {
-        let at = self.take();
-        self.put(at)?;
+        let at = self.follow("tp", 0)?;
         if let Some(value) = value {
             self.expression(value)?;
             self.put(at)?;
         }
-        self.take();
-        self.put_times(at, 3)
-    }
-
-    // `WORD (NAME, VALUE);`
-    fn updated(&mut self, value: &Expr) -> Result<(), AllocError> {
-        let at = self.take();
-        self.put(at)?;
-        self.take();
-        let name = self.take();
-        self.take();
-        self.expression(value)?;
-        self.pass(2);
-        self.put(name)
+        self.follow(".ppp", at)?;
+        Ok(())
     }
 }

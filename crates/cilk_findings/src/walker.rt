@@ -89,12 +89,18 @@ impl Walker<'_> {
         Ok(())
     }
 
-    /// Adds `count` instructions.
-    pub fn put_times(&mut self, at: usize, count: usize) -> Result<(), AllocError> {
-        for _instruction in 0..count {
-            self.put(at)?;
+    /// Follows marks: `.` passes a token, `t` passes one and keeps its place, and `p` adds an
+    /// instruction from the kept place. Returns the kept place, at first `at`.
+    pub fn follow(&mut self, marks: &str, at: usize) -> Result<usize, AllocError> {
+        let mut kept = at;
+        for mark in marks.as_bytes() {
+            match *mark {
+                b't' => kept = self.take(),
+                b'p' => self.put(kept)?,
+                _ => self.pass(1),
+            }
         }
-        Ok(())
+        Ok(kept)
     }
 
     /// Returns the number of the function with a name.

@@ -1,7 +1,7 @@
 //! The child that runs in parallel with a read or set of a reducer.
 
 use cilk_findings::replay::FrameNote;
-use cilk_findings::runs::Run;
+use cilk_findings::scene::Scene;
 use cilk_types::event::{Event, Instance};
 use cilk_types::invocation::Invocation;
 use std::alloc::{AllocError, Global};
@@ -28,11 +28,16 @@ pub struct Beside {
 
 impl Beside {
     /// Classifies the frames of a run for the event `upto` of a frame.
-    pub fn of(alloc: Global, run: &Run, frame: usize, upto: usize) -> Result<Beside, AllocError> {
-        let above = above(alloc, run, frame)?;
+    pub fn of(
+        alloc: Global,
+        scene: &Scene<'_>,
+        frame: usize,
+        upto: usize,
+    ) -> Result<Beside, AllocError> {
+        let above = above(alloc, scene, frame)?;
         Ok(Beside {
-            sides: sides(alloc, run, above.as_slice())?,
-            synced: syncs(alloc, run, upto)?,
+            sides: sides(alloc, scene, above.as_slice())?,
+            synced: syncs(alloc, scene, upto)?,
             upto,
         })
     }
@@ -53,11 +58,18 @@ impl Beside {
 
     /// Returns the last change of a reducer before the event that is in a child in parallel with
     /// it.
-    pub fn changing(&self, run: &Run, instance: Instance) -> Option<Change> {
+    pub fn changing(&self, scene: &Scene<'_>, instance: Instance) -> Option<Change> {
         let mut found = None;
-        for (index, event) in run.trace.as_slice().iter().enumerate().take(self.upto) {
+        for (index, event) in scene
+            .run
+            .trace
+            .as_slice()
+            .iter()
+            .enumerate()
+            .take(self.upto)
+        {
             if changes(event, instance) {
-                if let Some(change) = self.change_at(run, index) {
+                if let Some(change) = self.change_at(scene, index) {
                     found = Some(change);
                 }
             }
@@ -66,10 +78,10 @@ impl Beside {
     }
 
     // An earlier event, if it is in a child in parallel with this one.
-    fn change_at(&self, run: &Run, index: usize) -> Option<Change> {
-        let step = run.replay.steps.get(index)?;
+    fn change_at(&self, scene: &Scene<'_>, index: usize) -> Option<Change> {
+        let step = scene.run.replay.steps.get(index)?;
         let child = self.sides.get(step.frame).copied()??;
-        let note = run.replay.frames.get(child)?;
+        let note = scene.run.replay.frames.get(child)?;
         if self.is_beside(note) {
             let frame = step.frame;
             Some(Change { frame, child })
@@ -78,23 +90,48 @@ impl Beside {
         }
     }
 
-    /// Returns for each frame its last child in parallel with the event.
-    pub fn last_children(
+    /// Returns the last child in parallel of the nearest frame that has one, from the event's frame
+    /// `second` up to `first`.
+    pub fn any(
         &self,
         alloc: Global,
-        run: &Run,
-    ) -> Result<Vec<Option<usize>>, AllocError> {
+        scene: &Scene<'_>,
+        first: usize,
+        second: usize,
+    ) -> Result<Option<Change>, AllocError> {
         let mut last: Vec<Option<usize>> = Vec::new(alloc);
-        last.resize(run.replay.frames.len(), None)?;
-        for (number, note) in run.replay.frames.iter().enumerate() {
+        last.resize(scene.run.replay.frames.len(), None)?;
+        for (number, note) in scene.run.replay.frames.iter().enumerate() {
             if self.is_beside(note) {
                 if let Some(slot) = last.get_mut(note.parent) {
                     *slot = Some(number);
                 }
             }
         }
-        Ok(last)
+        Ok(nearest(scene, last.as_slice(), first, second))
     }
+}
+
+fn nearest(
+    scene: &Scene<'_>,
+    children: &[Option<usize>],
+    first: usize,
+    second: usize,
+) -> Option<Change> {
+    let mut common = second;
+    for _level in 0..scene.run.replay.frames.len() {
+        if let Some(Some(child)) = children.get(common).copied() {
+            return Some(Change {
+                frame: child,
+                child,
+            });
+        }
+        if common == first {
+            return None;
+        }
+        common = scene.above(common)?;
+    }
+    None
 }
 
 fn changes(event: &Event, wanted: Instance) -> bool {
@@ -105,28 +142,32 @@ fn changes(event: &Event, wanted: Instance) -> bool {
 }
 
 // For each frame: whether it is this frame or one of its ancestors.
-fn above(alloc: Global, run: &Run, frame: usize) -> Result<Vec<bool>, AllocError> {
-    let count = run.replay.frames.len();
+fn above(alloc: Global, scene: &Scene<'_>, frame: usize) -> Result<Vec<bool>, AllocError> {
+    let count = scene.run.replay.frames.len();
     let mut above: Vec<bool> = Vec::new(alloc);
     above.resize(count, false)?;
-    let mut at = frame;
+    let mut at = Some(frame);
     for _level in 0..count {
-        if let Some(slot) = above.get_mut(at) {
+        let Some(frame) = at else {
+            break;
+        };
+        if let Some(slot) = above.get_mut(frame) {
             *slot = true;
         }
-        match run.replay.frames.get(at) {
-            Some(note) if at != 0 => at = note.parent,
-            _ => break,
-        }
+        at = scene.above(frame);
     }
     Ok(above)
 }
 
 // For each frame: the child of an ancestor that it is in. Parents have smaller numbers than their
 // children.
-fn sides(alloc: Global, run: &Run, above: &[bool]) -> Result<Vec<Option<usize>>, AllocError> {
+fn sides(
+    alloc: Global,
+    scene: &Scene<'_>,
+    above: &[bool],
+) -> Result<Vec<Option<usize>>, AllocError> {
     let mut sides: Vec<Option<usize>> = Vec::new(alloc);
-    for (number, note) in run.replay.frames.iter().enumerate() {
+    for (number, note) in scene.run.replay.frames.iter().enumerate() {
         let is_above = matches!(above.get(number), Some(true));
         let is_child = matches!(above.get(note.parent), Some(true));
         let side = match (is_above, is_child) {
@@ -143,11 +184,11 @@ fn sides(alloc: Global, run: &Run, above: &[bool]) -> Result<Vec<Option<usize>>,
 }
 
 // For each frame: its last sync before an event.
-fn syncs(alloc: Global, run: &Run, upto: usize) -> Result<Vec<usize>, AllocError> {
+fn syncs(alloc: Global, scene: &Scene<'_>, upto: usize) -> Result<Vec<usize>, AllocError> {
     let mut synced: Vec<usize> = Vec::new(alloc);
-    synced.resize(run.replay.frames.len(), 0)?;
-    for (index, event) in run.trace.as_slice().iter().enumerate().take(upto) {
-        if let (Event::Sync, Some(step)) = (event, run.replay.steps.get(index)) {
+    synced.resize(scene.run.replay.frames.len(), 0)?;
+    for (index, event) in scene.run.trace.as_slice().iter().enumerate().take(upto) {
+        if let (Event::Sync, Some(step)) = (event, scene.run.replay.steps.get(index)) {
             if let Some(slot) = synced.get_mut(step.frame) {
                 *slot = index;
             }

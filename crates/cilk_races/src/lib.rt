@@ -18,7 +18,7 @@
 //! |---|---|
 //! | [`races::of_race`] | the report on a race |
 //! | [`races::script_of_race`] | the script of a schedule that makes the later access first |
-//! | [`schedules::made_by`] | the outcome of a schedule, in words, if `play` accepts it |
+//! | [`schedules::push_schedule`] | the outcome of a schedule, in words, if `play` accepts it |
 //!
 //! ```text
 //! let case = Case::of(alloc, "race.c", text, input)?;

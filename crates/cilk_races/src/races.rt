@@ -2,21 +2,22 @@
 
 use crate::beside::{Beside, Change};
 use crate::cures::cure_of;
-use crate::schedules::{Played, Schedule, made_by, push_schedule};
+use crate::schedules::{Schedule, push_schedule, script_of};
 use crate::sharing::{Ways, common_cure, kept_cure};
 use cilk_findings::case::Case;
 use cilk_findings::fault::CaseFault;
-use cilk_findings::naming::{accessed, function_of, reducer_name};
-use cilk_findings::notes::{place_of, push_line, push_place};
 use cilk_findings::partings::parted_at;
-use cilk_findings::paths::{chain, halves, invoked_at, push_path, turns_of};
-use cilk_findings::replay::{FrameNote, StepNote};
+use cilk_findings::replay::FrameNote;
 use cilk_findings::runs::Run;
-use cilk_messages::reasons::reason_of;
-use cilk_program::program::Body;
+use cilk_findings::scene::Scene;
+use cilk_messages::reasons::{cure_of as cure_of_number, title_of};
+use cilk_messages::sentence::{Part, Sentence, push_line, say};
 use cilk_types::event::Event;
 use cilk_types::invocation::Invocation;
 use std::alloc::AllocError;
+
+// The number of a determinacy race.
+const DETERMINACY: u16 = 311;
 
 /// The frames of a race. `later` is the later event, counted from 0, and `second` its frame.
 /// `beside` is the frame of the earlier event, or a child in parallel that may update the reducer.
@@ -30,6 +31,25 @@ struct Pair {
     child: usize,
 }
 
+/// A race as the checker reports it. Events count from 0.
+#[derive(Clone, Copy)]
+struct Race {
+    number: u16,
+    earlier: usize,
+    later: usize,
+}
+
+impl Race {
+    // A race whose events count from 1.
+    fn of(number: u16, earlier: u64, later: u64) -> Race {
+        Race {
+            number,
+            earlier: (earlier as usize).saturating_sub(1),
+            later: (later as usize).saturating_sub(1),
+        }
+    }
+}
+
 /// Returns the report that follows the line of a race: both accesses, the paths from them up to the
 /// common frame, the spawn between them, a place for a sync, a schedule that was played, and a
 /// hint. Events count from 1. Fails with [`CaseFault::Unfit`] where the run doesn't have both
@@ -41,41 +61,13 @@ pub fn of_race(
     later: u64,
 ) -> Result<String, CaseFault> {
     let run = Run::of(case)?;
-    let earlier = (earlier as usize).saturating_sub(1);
-    let later = (later as usize).saturating_sub(1);
-    if run.event(earlier).is_none() || run.event(later).is_none() {
+    let race = Race::of(number, earlier, later);
+    if run.event(race.earlier).is_none() || run.event(race.later).is_none() {
         return Err(CaseFault::Unfit);
     }
     let mut report = String::new(case.alloc);
-    push_race(case, &run, &mut report, number, earlier, later)?;
+    push_race(&Scene { case, run: &run }, &mut report, race)?;
     Ok(report)
-}
-
-fn push_race(
-    case: &Case<'_>,
-    run: &Run,
-    report: &mut String,
-    number: u16,
-    earlier: usize,
-    later: usize,
-) -> Result<(), AllocError> {
-    push_accesses(case, run, report, number, earlier, later)?;
-    if number == 311 {
-        if let Some(pair) = of_accesses(run, earlier, later) {
-            let headings = ["the earlier one", "the later one"];
-            push_pair(case, run, report, &pair, headings)?;
-            return push_cure(case, run, report, later, &pair);
-        }
-    } else if let Some(pair) = of_views(case, run, earlier, later)? {
-        push_pair(case, run, report, &pair, ["beside it", "the way to it"])?;
-    } else {
-        push_first_child(case, run, report, earlier, later)?;
-    }
-    let cure = match run.event(later) {
-        Some(Event::Value { .. }) => kept_cure(case, place(case, run, later))?,
-        _ => None,
-    };
-    push_hint(report, cure, number)
 }
 
 /// Returns the script of a schedule of two workers that makes the later event first, if there is
@@ -87,235 +79,108 @@ pub fn script_of_race(
     later: u64,
 ) -> Result<Option<String>, CaseFault> {
     let run = Run::of(case)?;
-    let earlier = (earlier as usize).saturating_sub(1);
-    let later = (later as usize).saturating_sub(1);
-    Ok(script_of(case, &run, number, earlier, later)?)
-}
-
-fn script_of(
-    case: &Case<'_>,
-    run: &Run,
-    number: u16,
-    earlier: usize,
-    later: usize,
-) -> Result<Option<String>, AllocError> {
-    let pair = if number == 311 {
-        of_accesses(run, earlier, later)
-    } else {
-        of_views(case, run, earlier, later)?
-    };
-    let Some(pair) = pair else {
-        return Ok(None);
-    };
-    match made_by(case, &schedule_of(run, &pair))? {
-        Some(Played { script, .. }) => Ok(Some(script)),
+    let scene = Scene { case, run: &run };
+    match pair_of(&scene, Race::of(number, earlier, later))? {
+        Some(pair) => Ok(script_of(case, &schedule_of(&scene, &pair))?),
         None => Ok(None),
     }
 }
 
-// The hint for a determinacy race.
-fn push_cure(
-    case: &Case<'_>,
-    run: &Run,
-    report: &mut String,
-    later: usize,
-    pair: &Pair,
-) -> Result<(), AllocError> {
-    let in_turns = match run.replay.frames.get(pair.child) {
-        Some(
-            FrameNote {
-                body: Body::Loop(_),
-                ..
-            },
-        ) => true,
-        _ => false,
-    };
-    let cure = match run.event(later) {
-        Some(event) => match common_cure(case, run, &event, &ways_of(case, run, pair))? {
-            None => cure_of(case, run, &event, in_turns)?,
-            cure => cure,
-        },
-        None => None,
-    };
-    push_hint(report, cure, 311)
+fn push_race(scene: &Scene<'_>, report: &mut String, race: Race) -> Result<(), AllocError> {
+    push_later(scene, report, race)?;
+    push_earlier(scene, report, race)?;
+    let pair = pair_of(scene, race)?;
+    match pair {
+        Some(pair) => push_pair(scene, report, race.number, &pair)?,
+        None if race.number == DETERMINACY => {}
+        None => push_first_child(scene, report, race)?,
+    }
+    let hint = hint_of(scene, race, pair)?;
+    push_line(scene.case.alloc, report, "hint", &hint)
 }
 
 // The hint, or the refusal number's general one.
-fn push_hint(report: &mut String, cure: Option<String>, number: u16) -> Result<(), AllocError> {
-    match cure {
-        Some(cure) => push_line(report, "hint", cure.as_str()),
-        None => push_reason(report, number),
-    }
+fn hint_of<'a>(
+    scene: &Scene<'a>,
+    race: Race,
+    pair: Option<Pair>,
+) -> Result<Sentence<'a>, AllocError> {
+    let cure = match (scene.run.event(race.later), pair) {
+        (Some(event), Some(pair)) if race.number == DETERMINACY => {
+            let ways = ways_of(scene, &pair);
+            match common_cure(scene, &event, &ways)? {
+                None => cure_of(scene, &event, scene.is_of_loop(pair.child)),
+                cure => cure,
+            }
+        }
+        (Some(Event::Value { .. }), _) => kept_cure(scene, byte_of(scene, race.later))?,
+        _ => None,
+    };
+    Ok(cure.unwrap_or(say(cure_of_number(race.number))))
 }
 
 // The paths to both accesses, for a hint.
-fn ways_of(case: &Case<'_>, run: &Run, pair: &Pair) -> Ways {
+fn ways_of(scene: &Scene<'_>, pair: &Pair) -> Ways {
     Ways {
         earlier: pair.beside,
         later: pair.second,
         common: pair.common,
         child: pair.child,
-        leaves_at: leaving(case, run, pair),
+        leaves_at: leaving(scene, pair),
     }
 }
 
-// The general hint of a refusal number.
-fn push_reason(report: &mut String, number: u16) -> Result<(), AllocError> {
-    match reason_of(number) {
-        Some(reason) => push_line(report, "hint", reason.cure),
-        None => Ok(()),
+// The later access, as the error.
+fn push_later(scene: &Scene<'_>, report: &mut String, race: Race) -> Result<(), AllocError> {
+    let head = say("{}: error {}: {}: ").with(scene.place(byte_of(scene, race.later)));
+    let head = head
+        .count(race.number as usize)
+        .with(Part::Text(title_of(race.number)));
+    scene.push(report, &head)?;
+    push_access(scene, report, race.later, race.later)?;
+    scene.push_excerpt(report, byte_of(scene, race.later))
+}
+
+// The earlier access, as a note.
+fn push_earlier(scene: &Scene<'_>, report: &mut String, race: Race) -> Result<(), AllocError> {
+    let at = byte_of(scene, race.earlier);
+    scene.push(report, &say("{}: note: ").with(scene.place(at)))?;
+    push_access(scene, report, race.earlier, race.later)?;
+    if race.number == DETERMINACY {
+        report.push_str(", and nothing orders the two")?;
     }
+    scene.push_excerpt(report, at)
 }
 
-// Both paths up to the common frame under these headings, the spawn, the place for a sync, and a
-// schedule.
-fn push_pair(
-    case: &Case<'_>,
-    run: &Run,
+// What an event does to what the later one accesses. A child's result names the child.
+fn push_access(
+    scene: &Scene<'_>,
     report: &mut String,
-    pair: &Pair,
-    headings: [&str; 2],
-) -> Result<(), AllocError> {
-    let [earlier, later] = headings;
-    let Pair {
-        beside,
-        second,
-        common,
-        ..
-    } = *pair;
-    push_way(case, run, report, earlier, beside, Some(common))?;
-    push_way(case, run, report, later, second, Some(common))?;
-    push_way(case, run, report, "both", common, None)?;
-    push_parallel(case, run, report, pair)?;
-    push_parting(case, run, report, pair)?;
-    push_schedule(case, report, &schedule_of(run, pair))
-}
-
-// A reducer that is read or set with no earlier child in parallel. So the event is itself in a
-// spawned child, and code after that spawn may update the reducer in parallel.
-fn push_first_child(
-    case: &Case<'_>,
-    run: &Run,
-    report: &mut String,
-    created: usize,
-    used: usize,
-) -> Result<(), AllocError> {
-    let alloc = case.alloc;
-    let (Some(first), Some(second)) = (frame_of(run, created), frame_of(run, used)) else {
-        return Ok(());
-    };
-    push_way(case, run, report, "the way to it", second, None)?;
-    let mut at = second;
-    for _level in 0..run.replay.frames.len() {
-        let Some(note) = run.replay.frames.get(at) else {
-            break;
-        };
-        if at == first {
-            break;
-        }
-        if note.how == Invocation::Spawn {
-            let text = if let Body::Loop(_) = note.body {
-                String::from_str(
-                    alloc,
-                    "the turns of a `cilk_for` run in parallel, and a later one may update the reducer beside this",
-                )?
-            } else {
-                let spawn = place_of(case, invoked_at(case, run, note))?;
-                let spawn = spawn.as_str();
-                format!(in alloc;
-                    "the spawn at {spawn} lets what follows it update the reducer beside its child"
-                )?
-            };
-            push_line(report, "parallel", text.as_str())?;
-            break;
-        }
-        at = note.parent;
-    }
-    push_line(report, "schedule", IN_SERIES)
-}
-
-const IN_SERIES: &str =
-    "none is shown: in every schedule, all events before this one in the serial run come before it";
-
-// The later access as the error, and the earlier one as a note.
-fn push_accesses(
-    case: &Case<'_>,
-    run: &Run,
-    report: &mut String,
-    number: u16,
-    earlier: usize,
+    index: usize,
     later: usize,
 ) -> Result<(), AllocError> {
-    let name = match run.event(later) {
-        Some(event) => accessed(case, run, &event)?,
-        None => String::new(case.alloc),
-    };
-    push_later(case, run, report, number, later, name.as_str())?;
-    push_earlier(case, run, report, number, earlier, name.as_str())
-}
-
-fn push_later(
-    case: &Case<'_>,
-    run: &Run,
-    report: &mut String,
-    number: u16,
-    index: usize,
-    name: &str,
-) -> Result<(), AllocError> {
-    let alloc = case.alloc;
-    let title = match reason_of(number) {
-        Some(reason) => reason.title,
-        None => "",
-    };
-    let done = done_by(run, index);
-    let giver = giver_of(case, run, index)?;
-    let giver = giver.as_str();
-    let what = format!(in alloc; "error {number}: {title}: {name} is {done} here{giver}")?;
-    push_place(case, report, place(case, run, index), what.as_str())
-}
-
-fn push_earlier(
-    case: &Case<'_>,
-    run: &Run,
-    report: &mut String,
-    number: u16,
-    index: usize,
-    name: &str,
-) -> Result<(), AllocError> {
-    let alloc = case.alloc;
-    let done = done_by(run, index);
-    let giver = giver_of(case, run, index)?;
-    let giver = giver.as_str();
-    let beside = if number == 311 {
-        ", and nothing orders the two"
-    } else {
-        ""
-    };
-    let what = format!(in alloc; "note: {name} is {done} here{giver}{beside}")?;
-    push_place(case, report, place(case, run, index), what.as_str())
-}
-
-// The function whose result an event writes, if the event is a child's result.
-fn giver_of(case: &Case<'_>, run: &Run, index: usize) -> Result<String, AllocError> {
-    let alloc = case.alloc;
-    match frame_of(run, index) {
-        Some(frame) if run.gives_result(index) => {
-            let function = function_of(case, run, frame)?;
-            let function = function.as_str();
-            format!(in alloc; ", with the result of `{function}`")
+    if let Some(event) = scene.run.event(later) {
+        scene.push(report, &scene.accessed(&event))?;
+    }
+    let done = say(" is {} here").with(Part::Text(done_by(scene.run, index)));
+    scene.push(report, &done)?;
+    match scene.frame_of(index) {
+        Some(frame) if scene.run.gives_result(index) => {
+            let giver = say(", with the result of `{}`").word(scene.function_of(frame));
+            scene.push(report, &giver)
         }
-        _ => Ok(String::new(alloc)),
+        _ => Ok(()),
     }
 }
 
-// The place of an event. A creation's place is the declaration of its reducer.
-fn place(case: &Case<'_>, run: &Run, index: usize) -> usize {
-    if let Some(Event::Create { instance }) = run.event(index) {
-        if let Some(name) = reducer_name(case, run, instance) {
+// The byte of an event. Of a creation it is the declaration of the reducer.
+fn byte_of(scene: &Scene<'_>, index: usize) -> usize {
+    if let Some(Event::Create { instance }) = scene.run.event(index) {
+        if let Some(name) = scene.reducer(instance) {
             return name.at;
         }
     }
-    run.replay.place(&case.map, index).unwrap_or(0)
+    scene.run.replay.place(&scene.case.map, index).unwrap_or(0)
 }
 
 fn done_by(run: &Run, index: usize) -> &'static str {
@@ -328,260 +193,231 @@ fn done_by(run: &Run, index: usize) -> &'static str {
     }
 }
 
-fn frame_of(run: &Run, index: usize) -> Option<usize> {
-    let step = run.replay.steps.get(index)?;
-    Some(step.frame)
-}
-
-// The parent of a frame; none for the first frame.
-fn above(run: &Run, frame: usize) -> Option<usize> {
-    if frame == 0 {
-        return None;
+// The frames of a race, if there is an earlier child in parallel with the later event.
+fn pair_of(scene: &Scene<'_>, race: Race) -> Result<Option<Pair>, AllocError> {
+    if race.number == DETERMINACY {
+        Ok(of_accesses(scene, race))
+    } else {
+        of_views(scene, race)
     }
-    let note = run.replay.frames.get(frame)?;
-    Some(note.parent)
-}
-
-// Whether a frame is `outer` or one of its descendants.
-fn is_within(run: &Run, frame: usize, outer: usize) -> bool {
-    let mut at = frame;
-    for _level in 0..run.replay.frames.len() {
-        if at == outer {
-            return true;
-        }
-        match above(run, at) {
-            Some(parent) => at = parent,
-            None => return false,
-        }
-    }
-    false
 }
 
 // The common frame of two accesses, and its child around the earlier one.
-fn of_accesses(run: &Run, earlier: usize, later: usize) -> Option<Pair> {
-    let first = frame_of(run, earlier)?;
-    let second = frame_of(run, later)?;
-    let mut child = first;
-    for _level in 0..run.replay.frames.len() {
-        let common = above(run, child)?;
-        if is_within(run, second, common) {
-            return Some(Pair {
-                later,
-                beside: first,
-                second,
-                common,
-                child,
-            });
-        }
-        child = common;
-    }
-    None
+fn of_accesses(scene: &Scene<'_>, race: Race) -> Option<Pair> {
+    let beside = scene.frame_of(race.earlier)?;
+    let second = scene.frame_of(race.later)?;
+    let common = scene.common(scene.above(beside)?, second);
+    Some(Pair {
+        later: race.later,
+        beside,
+        second,
+        common,
+        child: scene.child_of(common, beside)?,
+    })
 }
 
 // A read of a reducer, and an unsynced child that was spawned before it in its frame or an
 // ancestor. It is the child that changes the reducer, if there is one.
-fn of_views(
-    case: &Case<'_>,
-    run: &Run,
-    earlier: usize,
-    later: usize,
-) -> Result<Option<Pair>, AllocError> {
-    let (Some(first), Some(second)) = (frame_of(run, earlier), frame_of(run, later)) else {
+fn of_views(scene: &Scene<'_>, race: Race) -> Result<Option<Pair>, AllocError> {
+    let (Some(first), Some(second)) = (scene.frame_of(race.earlier), scene.frame_of(race.later))
+    else {
         return Ok(None);
     };
-    let beside = Beside::of(case.alloc, run, second, later)?;
-    if let Some(Event::Set { instance, .. } | Event::Value { instance, .. }) = run.event(later) {
-        if let Some(Change { frame, child }) = beside.changing(run, instance) {
-            return Ok(above(run, child).map(|common| Pair {
-                later,
-                beside: frame,
-                second,
-                common,
-                child,
-            }));
+    let alloc = scene.case.alloc;
+    let beside = Beside::of(alloc, scene, second, race.later)?;
+    let change = match scene.run.event(race.later) {
+        Some(Event::Set { instance, .. } | Event::Value { instance, .. }) => {
+            beside.changing(scene, instance)
         }
-    }
-    let children = beside.last_children(case.alloc, run)?;
-    Ok(beside_any(run, children.as_slice(), later, first, second))
+        _ => None,
+    };
+    let change = match change {
+        None => beside.any(alloc, scene, first, second)?,
+        change => change,
+    };
+    Ok(with_common(scene, race.later, second, change))
 }
 
-// The last child in parallel of the nearest frame that has one, from the event's frame up to
-// `first`.
-fn beside_any(
-    run: &Run,
-    children: &[Option<usize>],
+fn with_common(
+    scene: &Scene<'_>,
     later: usize,
-    first: usize,
     second: usize,
+    change: Option<Change>,
 ) -> Option<Pair> {
-    let mut common = second;
-    for _level in 0..run.replay.frames.len() {
-        if let Some(Some(child)) = children.get(common).copied() {
-            return Some(Pair {
-                later,
-                beside: child,
-                second,
-                common,
-                child,
-            });
-        }
-        match above(run, common) {
-            Some(parent) if common != first => common = parent,
-            _ => return None,
-        }
-    }
-    None
+    let Change { frame, child } = change?;
+    Some(Pair {
+        later,
+        beside: frame,
+        second,
+        common: scene.above(child)?,
+        child,
+    })
+}
+
+// Both paths up to the common frame, the spawn, the place for a sync, and a schedule.
+fn push_pair(
+    scene: &Scene<'_>,
+    report: &mut String,
+    number: u16,
+    pair: &Pair,
+) -> Result<(), AllocError> {
+    let (earlier, later) = if number == DETERMINACY {
+        ("the earlier one:\n", "the later one:\n")
+    } else {
+        ("beside it:\n", "the way to it:\n")
+    };
+    push_way(scene, report, earlier, pair.beside, Some(pair.common))?;
+    push_way(scene, report, later, pair.second, Some(pair.common))?;
+    push_way(scene, report, "around both:\n", pair.common, None)?;
+    scene.push(report, &parallel(scene, pair))?;
+    push_parting(scene, report, pair)?;
+    push_schedule(scene, report, &schedule_of(scene, pair))
 }
 
 // The path from a frame up to another one. Nothing if both are the same.
 fn push_way(
-    case: &Case<'_>,
-    run: &Run,
+    scene: &Scene<'_>,
     report: &mut String,
     what: &str,
     frame: usize,
     top: Option<usize>,
 ) -> Result<(), AllocError> {
-    let way = chain(case.alloc, run, frame, top)?;
-    if way.is_empty() {
+    if Some(frame) == top {
         return Ok(());
     }
     report.push_str(what)?;
-    report.push_str(":\n")?;
-    push_path(case, run, report, way.as_slice())
+    scene.push_path(report, frame, top)
+}
+
+// A reducer that is read or set with no earlier child in parallel. So the event is itself in a
+// spawned child, and code after that spawn may update the reducer in parallel.
+fn push_first_child(scene: &Scene<'_>, report: &mut String, race: Race) -> Result<(), AllocError> {
+    let (Some(first), Some(second)) = (scene.frame_of(race.earlier), scene.frame_of(race.later))
+    else {
+        return Ok(());
+    };
+    push_way(scene, report, "the way to it:\n", second, None)?;
+    if let Some(child) = spawned_below(scene, first, second) {
+        let line = if scene.is_of_loop(child) {
+            say(TURNS_AFTER)
+        } else {
+            say(CHILD_AFTER).with(scene.place(scene.invoked_at(child)))
+        };
+        scene.push(report, &line)?;
+    }
+    report.push_str(IN_SERIES)
+}
+
+const TURNS_AFTER: &str =
+    "parallel: the turns of a `cilk_for` run in parallel, and a later one may update the reducer beside this\n";
+
+const CHILD_AFTER: &str =
+    "parallel: the spawn at {} lets what follows it update the reducer beside its child\n";
+
+const IN_SERIES: &str =
+    "schedule: none is shown: in every schedule, all events before this one in the serial run come before it\n";
+
+// The nearest spawned frame around a frame, below `outer`.
+fn spawned_below(scene: &Scene<'_>, outer: usize, frame: usize) -> Option<usize> {
+    let mut at = frame;
+    for _level in 0..scene.run.replay.frames.len() {
+        let note = scene.frame(at)?;
+        if at == outer {
+            return None;
+        }
+        if note.how == Invocation::Spawn {
+            return Some(at);
+        }
+        at = note.parent;
+    }
+    None
 }
 
 // The spawn or loop that lets the two run in parallel.
-fn push_parallel(
-    case: &Case<'_>,
-    run: &Run,
-    report: &mut String,
-    pair: &Pair,
-) -> Result<(), AllocError> {
-    let alloc = case.alloc;
-    let Some(child) = run.replay.frames.get(pair.child) else {
-        return Ok(());
-    };
-    let text = if let Body::Loop(_) = child.body {
-        String::from_str(alloc, "the turns of a `cilk_for` run in parallel")?
-    } else {
-        let spawn = place_of(case, invoked_at(case, run, child))?;
-        let spawn = spawn.as_str();
-        format!(in alloc; "the spawn at {spawn} lets its child run beside what follows it")?
-    };
-    push_line(report, "parallel", text.as_str())
+fn parallel<'a>(scene: &Scene<'a>, pair: &Pair) -> Sentence<'a> {
+    if scene.is_of_loop(pair.child) {
+        return say("parallel: the turns of a `cilk_for` run in parallel\n");
+    }
+    let spawn = scene.place(scene.invoked_at(pair.child));
+    say("parallel: the spawn at {} lets its child run beside what follows it\n").with(spawn)
 }
 
 // The place for a sync between the two.
-fn push_parting(
-    case: &Case<'_>,
-    run: &Run,
-    report: &mut String,
-    pair: &Pair,
-) -> Result<(), AllocError> {
-    let alloc = case.alloc;
-    let Some(common) = run.replay.frames.get(pair.common) else {
-        return Ok(());
-    };
-    let text = if halves(common) {
-        let one = turn_below(case, run, pair.beside, pair.common)?;
-        let other = turn_below(case, run, pair.second, pair.common)?;
-        let one = one.as_str();
-        let other = other.as_str();
-        format!(in alloc;
-            "no sync, since {one} and {other} are of one loop: let each turn have its own, or write `for`"
-        )?
-    } else {
-        let at = leaving(case, run, pair);
-        let spawn = match run.replay.frames.get(pair.child) {
-            Some(child) => invoked_at(case, run, child),
-            None => 0,
-        };
-        let place = parted_at(case, spawn, at)?;
-        let place = place.as_str();
-        let function = function_of(case, run, pair.common)?;
-        let function = function.as_str();
-        format!(in alloc; "a `cilk_sync;` in `{function}` {place}")?
-    };
-    push_line(report, "parted by", text.as_str())
+fn push_parting(scene: &Scene<'_>, report: &mut String, pair: &Pair) -> Result<(), AllocError> {
+    if scene.halves(pair.common) {
+        let one = scene.turns(turn_below(scene, pair.beside, pair.common));
+        let other = scene.turns(turn_below(scene, pair.second, pair.common));
+        report.push_str("to order them: no sync, since ")?;
+        scene.push(report, &one)?;
+        report.push_str(" and ")?;
+        scene.push(report, &other)?;
+        return report.push_str(OF_ONE_LOOP);
+    }
+    let spawn = scene.invoked_at(pair.child);
+    let place = parted_at(scene, spawn, leaving(scene, pair))?;
+    let sync = say("to order them: a `cilk_sync;` in `{}` ").word(scene.function_of(pair.common));
+    scene.push(report, &sync)?;
+    scene.push(report, &place)?;
+    report.push('\n')
 }
 
-// The turn or turns of a loop around a frame, below a frame that halves them.
-fn turn_below(
-    case: &Case<'_>,
-    run: &Run,
-    frame: usize,
-    common: usize,
-) -> Result<String, AllocError> {
-    let body = match run.replay.frames.get(common) {
+const OF_ONE_LOOP: &str = " are of one loop: let each turn have its own, or write `for`\n";
+
+// The frame of the turn or turns of a loop around a frame, below a frame that halves them.
+fn turn_below(scene: &Scene<'_>, frame: usize, common: usize) -> usize {
+    let body = match scene.frame(common) {
         Some(note) => note.body,
-        None => return Ok(String::new(case.alloc)),
+        None => return frame,
     };
     let mut at = frame;
     let mut turn = frame;
-    for _level in 0..run.replay.frames.len() {
-        let Some(note) = run.replay.frames.get(at) else {
+    for _level in 0..scene.run.replay.frames.len() {
+        let Some(note) = scene.frame(at) else {
             break;
         };
         if at == common {
             break;
         }
-        if note.body == body && (at == frame || !halves(note)) {
+        if note.body == body && (at == frame || !scene.halves(at)) {
             turn = at;
         }
         at = note.parent;
     }
-    match run.replay.frames.get(turn) {
-        Some(note) => turns_of(case, note),
-        None => Ok(String::new(case.alloc)),
-    }
+    turn
 }
 
-// The place in the common frame of the later access, or of the invocation on the path to it.
-fn leaving(case: &Case<'_>, run: &Run, pair: &Pair) -> usize {
-    let mut at = pair.second;
-    for _level in 0..run.replay.frames.len() {
-        if at == pair.common {
-            return place(case, run, pair.later);
-        }
-        let Some(note) = run.replay.frames.get(at) else {
-            break;
-        };
-        let FrameNote {
-            parent,
-            instruction,
-            ..
-        } = *note;
-        if parent == pair.common {
-            let step = StepNote {
-                frame: parent,
-                instruction,
-            };
-            return run.replay.spot(&case.map, step).unwrap_or(0);
-        }
-        at = parent;
+// The byte in the common frame of the later access, or of the invocation on the path to it.
+fn leaving(scene: &Scene<'_>, pair: &Pair) -> usize {
+    if pair.second == pair.common {
+        return byte_of(scene, pair.later);
     }
-    place(case, run, pair.later)
+    match scene.child_of(pair.common, pair.second) {
+        Some(child) => scene.invoked_at(child),
+        None => byte_of(scene, pair.later),
+    }
 }
 
 // One worker runs up to the spawn. Another steals the continuation and makes the later access
 // first. Then the first one runs the child.
-fn schedule_of(run: &Run, pair: &Pair) -> Schedule {
+fn schedule_of(scene: &Scene<'_>, pair: &Pair) -> Schedule {
     let mut offered: usize = 0;
-    let mut at = pair.child;
-    for _level in 0..run.replay.frames.len() {
-        let Some(note) = run.replay.frames.get(at) else {
+    let mut at = Some(pair.child);
+    for _level in 0..scene.run.replay.frames.len() {
+        let Some(frame) = at else {
             break;
         };
-        if at == 0 {
-            break;
-        }
-        if note.how == Invocation::Spawn {
+        if matches!(
+            scene.frame(frame),
+            Some(FrameNote {
+                how: Invocation::Spawn,
+                ..
+            })
+        ) {
             offered = offered.saturating_add(1);
         }
-        at = note.parent;
+        at = scene.above(frame);
     }
-    let (begun, ended) = match run.replay.frames.get(pair.child) {
+    let (begun, ended) = match scene.frame(pair.child) {
         Some(note) => (note.begun, note.ended.unwrap_or(pair.later)),
         None => (0, pair.later),
     };

@@ -1,13 +1,14 @@
 //! A schedule that makes the later of two accesses first, and its outcome.
 
 use cilk_findings::case::Case;
-use cilk_findings::notes::push_line;
+use cilk_findings::scene::Scene;
+use cilk_messages::sentence::{Part, Sentence, push_line, say};
 use cilk_schedule::{PlayFault, play_steps};
-use cilk_script::script::{ScriptFault, read};
+use cilk_script::script::{ScriptFault, Step, read};
 use cilk_serial::fault::RunFault;
 use cilk_serial::run::run;
 use cilk_types::outcome::{Final, Outcome};
-use std::alloc::{AllocError, Global};
+use std::alloc::AllocError;
 
 /// A schedule of two workers. The first makes `ahead` events, up to a spawn. The second steals the
 /// continuation at `place` and makes `behind` events. Then the first makes the `child` events of
@@ -34,48 +35,31 @@ impl Schedule {
     }
 }
 
-/// A script that `play` accepted, and its outcome in words.
-#[derive(Drop)]
-pub struct Played {
-    pub script: String,
-    pub leaves: String,
-}
-
-/// Plays a schedule. Returns `None` where `play` refuses its script or doesn't reach the run's end.
-pub fn made_by(case: &Case<'_>, schedule: &Schedule) -> Result<Option<Played>, AllocError> {
+/// Returns the script of a schedule, if `play` accepts it and reaches the run's end.
+pub fn script_of(case: &Case<'_>, schedule: &Schedule) -> Result<Option<String>, AllocError> {
     let script = schedule.script(case)?;
     match leaves(case, script.as_str())? {
-        Some(leaves) => Ok(Some(Played { script, leaves })),
+        Some(_) => Ok(Some(script)),
         None => Ok(None),
-    }
-}
-
-// The outcome of a script in words, if `play` accepts it.
-fn leaves(case: &Case<'_>, script: &str) -> Result<Option<String>, AllocError> {
-    let alloc = case.alloc;
-    let steps = match read(alloc, script.as_bytes()) {
-        Ok(steps) => steps,
-        Err(ScriptFault::Line(_)) => return Ok(None),
-        Err(ScriptFault::Memory) => return Err(AllocError),
-    };
-    match play_steps(alloc, &case.program, &case.input, 2, steps.as_slice()) {
-        Ok(Some(outcome)) => Ok(Some(left(case, &outcome)?)),
-        Ok(None) => Ok(None),
-        Err(fault) => stopped(alloc, &fault),
     }
 }
 
 /// Adds the outcome of a schedule and its script, if `play` accepts it.
 pub fn push_schedule(
-    case: &Case<'_>,
+    scene: &Scene<'_>,
     report: &mut String,
     schedule: &Schedule,
 ) -> Result<(), AllocError> {
-    let Some(Played { script, leaves }) = made_by(case, schedule)? else {
+    let script = schedule.script(scene.case)?;
+    push_script(scene, report, script.as_str())
+}
+
+fn push_script(scene: &Scene<'_>, report: &mut String, script: &str) -> Result<(), AllocError> {
+    let Some(leaves) = leaves(scene.case, script)? else {
         return Ok(());
     };
-    push_line(report, "schedule", leaves.as_str())?;
-    for line in script.as_str().lines() {
+    push_line(scene.case.alloc, report, "schedule", &leaves)?;
+    for line in script.lines() {
         report.push_str("  ")?;
         report.push_str(line)?;
         report.push('\n')?;
@@ -83,66 +67,55 @@ pub fn push_schedule(
     Ok(())
 }
 
-// The outcome in words where a fault stops the run. None if the script is refused.
-fn stopped(alloc: Global, fault: &PlayFault) -> Result<Option<String>, AllocError> {
-    match fault {
-        PlayFault::Stop { fault, name: _ } => {
-            let number = fault.number();
-            Ok(Some(format!(in alloc;
-                "by this script for `play` the run stops by fault {number}"
-            )?))
-        }
-        PlayFault::Memory => Err(AllocError),
-        PlayFault::Line(_line) => Ok(None),
+// The outcome of a script in words, if `play` accepts it.
+fn leaves(case: &Case<'_>, script: &str) -> Result<Option<Sentence<'static>>, AllocError> {
+    let steps = match read(case.alloc, script.as_bytes()) {
+        Ok(steps) => steps,
+        Err(ScriptFault::Line(_)) => return Ok(None),
+        Err(ScriptFault::Memory) => return Err(AllocError),
+    };
+    played(case, steps.as_slice())
+}
+
+fn played(case: &Case<'_>, steps: &[Step]) -> Result<Option<Sentence<'static>>, AllocError> {
+    match play_steps(case.alloc, &case.program, &case.input, 2, steps) {
+        Ok(Some(outcome)) => Ok(Some(left(case, &outcome)?)),
+        Ok(None) | Err(PlayFault::Line(_)) => Ok(None),
+        Err(PlayFault::Stop { fault, .. }) => Ok(Some(say(STOPS).count(fault.number() as usize))),
+        Err(PlayFault::Memory) => Err(AllocError),
     }
 }
 
+const STOPS: &str = "by this script for `play` the run stops by fault {}";
+
 // The difference between an outcome and that of `run`.
-fn left(case: &Case<'_>, outcome: &Outcome) -> Result<String, AllocError> {
-    let alloc = case.alloc;
-    match run(alloc, &case.program, &case.input) {
-        Ok((serial, _trace)) => differing(alloc, outcome, &serial),
-        Err(RunFault::At { fault, .. }) => {
-            let number = fault.number();
-            format!(in alloc;
-                "by this script for `play` the run ends, where `run` stops by fault {number}"
-            )
-        }
+fn left(case: &Case<'_>, outcome: &Outcome) -> Result<Sentence<'static>, AllocError> {
+    match run(case.alloc, &case.program, &case.input) {
+        Ok((serial, _trace)) => Ok(differing(outcome, &serial)),
+        Err(RunFault::At { fault, .. }) => Ok(say(ENDS).count(fault.number() as usize)),
         Err(RunFault::Memory) => Err(AllocError),
     }
 }
 
+const ENDS: &str = "by this script for `play` the run ends, where `run` stops by fault {}";
+
 // The difference between an outcome and the serial run's.
-fn differing(alloc: Global, outcome: &Outcome, serial: &Outcome) -> Result<String, AllocError> {
-    let result = outcome.result;
-    let wanted = serial.result;
-    if result != wanted {
-        return format!(in alloc;
-            "this script for `play` leaves the result {result}, where `run` shows {wanted}"
-        );
+fn differing(outcome: &Outcome, serial: &Outcome) -> Sentence<'static> {
+    if outcome.result != serial.result {
+        let words = say("this script for `play` leaves the result {}, where `run` shows {}");
+        return words
+            .with(Part::Number(outcome.result))
+            .with(Part::Number(serial.result));
     }
-    if outcome.output.as_slice() != serial.output.as_slice() {
-        return String::from_str(
-            alloc,
-            "this script for `play` prints other numbers than `run`",
-        );
-    }
-    if !are_same(outcome.reducers.as_slice(), serial.reducers.as_slice()) {
-        return String::from_str(
-            alloc,
-            "this script for `play` leaves another value in a reducer than `run`",
-        );
-    }
-    if outcome.globals.as_slice() != serial.globals.as_slice() {
-        return String::from_str(
-            alloc,
-            "this script for `play` leaves other values in global variables than `run`, and shows the same",
-        );
-    }
-    String::from_str(
-        alloc,
-        "this script for `play` makes the later access first; what it leaves is the same here",
-    )
+    say(if outcome.output.as_slice() != serial.output.as_slice() {
+        "this script for `play` prints other numbers than `run`"
+    } else if !are_same(outcome.reducers.as_slice(), serial.reducers.as_slice()) {
+        "this script for `play` leaves another value in a reducer than `run`"
+    } else if outcome.globals.as_slice() != serial.globals.as_slice() {
+        "this script for `play` leaves other values in global variables than `run`, and shows the same"
+    } else {
+        "this script for `play` makes the later access first; what it leaves is the same here"
+    })
 }
 
 fn are_same(one: &[Final], other: &[Final]) -> bool {

@@ -1,0 +1,355 @@
+//! A case with its run: the frames, places and names that a report speaks of.
+
+use crate::case::Case;
+use crate::map::{BodyMap, GlobalName};
+use crate::replay::{FrameNote, StepNote};
+use crate::runs::Run;
+use cilk_messages::excerpt::push_excerpt;
+use cilk_messages::place::locate;
+use cilk_messages::sentence::{Part, Sentence, say};
+use cilk_program::program::Body;
+use cilk_syntax::tree::Name;
+use cilk_types::event::{Event, Instance};
+use cilk_types::invocation::Invocation;
+use std::alloc::AllocError;
+
+// The frames that a report shows at the lower and the upper end of a long path.
+const NEAR: usize = 8;
+
+const FAR: usize = 4;
+
+/// A case and its run.
+#[derive(Clone, Copy)]
+pub struct Scene<'a> {
+    pub case: &'a Case<'a>,
+    pub run: &'a Run,
+}
+
+/// Places.
+impl<'a> Scene<'a> {
+    /// Returns `FILE:LINE:COLUMN` of a byte.
+    pub fn place(&self, at: usize) -> Part<'a> {
+        Part::Place(self.case.file, locate(self.case.text, at))
+    }
+
+    /// Returns the byte of the text from which a step's instruction comes.
+    pub fn spot(&self, step: StepNote) -> usize {
+        self.run.replay.spot(&self.case.map, step).unwrap_or(0)
+    }
+
+    /// Returns the byte of the text at which a frame is invoked.
+    pub fn invoked_at(&self, frame: usize) -> usize {
+        match self.frame(frame) {
+            Some(note) => self.spot(StepNote {
+                frame: note.parent,
+                instruction: note.instruction,
+            }),
+            None => 0,
+        }
+    }
+
+    /// Ends a line about a byte of the text, and adds an excerpt of the text there.
+    pub fn push_excerpt(&self, report: &mut String, at: usize) -> Result<(), AllocError> {
+        report.push('\n')?;
+        push_excerpt(self.case.alloc, report, self.case.text, at)
+    }
+
+    /// Adds a sentence.
+    pub fn push(&self, report: &mut String, sentence: &Sentence<'_>) -> Result<(), AllocError> {
+        sentence.push(self.case.alloc, report)
+    }
+}
+
+/// Frames. Parents have smaller numbers than their children.
+impl<'a> Scene<'a> {
+    /// Returns the note of a frame.
+    pub fn frame(&self, number: usize) -> Option<FrameNote> {
+        self.run.replay.frames.get(number).copied()
+    }
+
+    /// Returns the frame of an event.
+    pub fn frame_of(&self, index: usize) -> Option<usize> {
+        let step = self.run.replay.steps.get(index)?;
+        Some(step.frame)
+    }
+
+    /// Returns the parent of a frame; none for the first frame.
+    pub fn above(&self, frame: usize) -> Option<usize> {
+        if frame == 0 {
+            return None;
+        }
+        let note = self.frame(frame)?;
+        Some(note.parent)
+    }
+
+    /// Returns the nearest frame that two frames are in.
+    pub fn common(&self, one: usize, other: usize) -> usize {
+        let mut one = one;
+        let mut other = other;
+        for _level in 0..self.run.replay.frames.len() {
+            if one == other {
+                break;
+            }
+            if one > other {
+                one = self.above(one).unwrap_or(0);
+            } else {
+                other = self.above(other).unwrap_or(0);
+            }
+        }
+        one
+    }
+
+    /// Returns the child of `outer` that a frame is in.
+    pub fn child_of(&self, outer: usize, frame: usize) -> Option<usize> {
+        let mut at = frame;
+        for _level in 0..self.run.replay.frames.len() {
+            let parent = self.above(at)?;
+            if parent == outer {
+                return Some(at);
+            }
+            at = parent;
+        }
+        None
+    }
+
+    /// Returns whether a frame runs turns of a loop.
+    pub fn is_of_loop(&self, frame: usize) -> bool {
+        match self.frame(frame) {
+            Some(note) => matches!(note.body, Body::Loop(_)),
+            None => false,
+        }
+    }
+
+    /// Returns whether a frame halves the turns of its loop.
+    pub fn halves(&self, frame: usize) -> bool {
+        match self.frame(frame) {
+            Some(note) => {
+                matches!(note.body, Body::Loop(_)) && note.high.saturating_sub(note.low) > 1
+            }
+            None => false,
+        }
+    }
+
+    /// Returns the nearest frame of a function around a frame, and the function's number.
+    pub fn function_at(&self, frame: usize) -> Option<(usize, u32)> {
+        let mut at = frame;
+        for _level in 0..self.run.replay.frames.len() {
+            let note = self.frame(at)?;
+            if let Body::Function(number) = note.body {
+                return Some((at, number));
+            }
+            at = note.parent;
+        }
+        None
+    }
+}
+
+/// Names.
+impl<'a> Scene<'a> {
+    /// Returns the bytes of a name.
+    pub fn word(&self, name: Name) -> &'a [u8] {
+        match self.case.text.get(name.at..name.end) {
+            Some(word) => word,
+            None => &[],
+        }
+    }
+
+    /// Returns the name of a body; `cilk_for` for a loop.
+    pub fn body_name(&self, body: Body) -> &'a [u8] {
+        match self.case.map.body(body) {
+            Some(map) => self.word(map.name),
+            None => &[],
+        }
+    }
+
+    /// Returns the name of the function that a frame runs, or in which its loop is.
+    pub fn function_of(&self, frame: usize) -> &'a [u8] {
+        match self.function_at(frame) {
+            Some((_, number)) => self.body_name(Body::Function(number)),
+            None => &[],
+        }
+    }
+
+    /// Returns the frame that has the variable of a cell, and the variable's name.
+    pub fn variable(&self, cell: usize) -> Option<(usize, Name)> {
+        let (frame, number) = self.run.replay.owner(cell)?;
+        let note = self.frame(frame)?;
+        let map: &BodyMap = self.case.map.body(note.body)?;
+        Some((frame, map.cells.get(number).copied()?))
+    }
+
+    /// Returns the global that has a cell, if a global has it.
+    pub fn global(&self, cell: usize) -> Option<GlobalName> {
+        if cell < self.case.program.globals.len() {
+            self.case.map.global(cell)
+        } else {
+            None
+        }
+    }
+
+    /// Returns the name with which a reducer is declared. The first frame numbers the global
+    /// reducers before its own.
+    pub fn reducer(&self, instance: Instance) -> Option<Name> {
+        let place = (instance.place as usize).checked_sub(1)?;
+        let frame = (instance.frame as usize).checked_sub(1)?;
+        let globals = if frame == 0 {
+            self.case.map.reducers.len()
+        } else {
+            0
+        };
+        if place < globals {
+            return self.case.map.reducers.get(place).copied();
+        }
+        let note = self.frame(frame)?;
+        let map: &BodyMap = self.case.map.body(note.body)?;
+        map.reducers.get(place.saturating_sub(globals)).copied()
+    }
+
+    /// Returns the variable, element or reducer that an event accesses, in words: none for other
+    /// events.
+    pub fn accessed(&self, event: &Event) -> Sentence<'a> {
+        match *event {
+            Event::Read { cell, .. } | Event::Write { cell, .. } => self.of_cell(cell as usize),
+            Event::Create { instance }
+            | Event::Update { instance, .. }
+            | Event::Set { instance, .. }
+            | Event::Value { instance, .. } => match self.reducer(instance) {
+                Some(name) => say("the reducer `{}`").word(self.word(name)),
+                None => say(""),
+            },
+            _ => say(""),
+        }
+    }
+
+    fn of_cell(&self, cell: usize) -> Sentence<'a> {
+        if let Some(global) = self.global(cell) {
+            let name = self.word(global.name);
+            return match global.length {
+                Some(_) => say("`{}[{}]`")
+                    .word(name)
+                    .count(cell.saturating_sub(global.first)),
+                None => say("`{}`").word(name),
+            };
+        }
+        match self.variable(cell) {
+            Some((frame, name)) => {
+                say("`{}` of `{}`")
+                    .word(self.word(name))
+                    .word(self.function_of(frame))
+            }
+            None => say(""),
+        }
+    }
+
+    /// Returns the turn or turns of a frame, by the loop's variable.
+    pub fn turns(&self, frame: usize) -> Sentence<'a> {
+        let Some(note) = self.frame(frame) else {
+            return say("");
+        };
+        let variable = match self.case.map.body(note.body) {
+            Some(BodyMap { cells, .. }) => cells.first().copied(),
+            None => None,
+        };
+        let variable = match variable {
+            Some(name) => self.word(name),
+            None => &[],
+        };
+        if self.halves(frame) {
+            let last = note.high.saturating_sub(1);
+            let turns = say("turns `{}` = {} to {}").word(variable);
+            turns.with(Part::Number(note.low)).with(Part::Number(last))
+        } else {
+            say("turn `{}` = {}")
+                .word(variable)
+                .with(Part::Number(note.low))
+        }
+    }
+}
+
+/// Paths from a frame up to `top`, without `top`. Frames above the first one that only halve turns
+/// are left out.
+impl<'a> Scene<'a> {
+    // The next frame of a path.
+    fn next_above(&self, frame: usize, top: Option<usize>) -> Option<usize> {
+        let mut at = frame;
+        for _level in 0..self.run.replay.frames.len() {
+            at = self.above(at)?;
+            if Some(at) == top {
+                return None;
+            }
+            if !self.halves(at) {
+                return Some(at);
+            }
+        }
+        None
+    }
+
+    /// Returns the number of frames of a path.
+    pub fn length(&self, frame: usize, top: Option<usize>) -> usize {
+        let mut at = Some(frame).filter(|frame| Some(*frame) != top);
+        let mut length: usize = 0;
+        for _level in 0..self.run.replay.frames.len() {
+            let Some(frame) = at else {
+                break;
+            };
+            length = length.saturating_add(1);
+            at = self.next_above(frame, top);
+        }
+        length
+    }
+
+    /// Adds a line for each frame of a path: the function or turns that it runs, and where it was
+    /// invoked.
+    pub fn push_path(
+        &self,
+        report: &mut String,
+        frame: usize,
+        top: Option<usize>,
+    ) -> Result<(), AllocError> {
+        let length = self.length(frame, top);
+        let last = length.saturating_sub(FAR);
+        let mut at = frame;
+        for level in 0..length {
+            if level < NEAR || level >= last {
+                self.push_frame(report, at)?;
+            } else if level == NEAR {
+                let more = say("  and {} frame{} more\n").counted(last.saturating_sub(NEAR));
+                self.push(report, &more)?;
+            }
+            at = self.next_above(at, top).unwrap_or(0);
+        }
+        Ok(())
+    }
+
+    fn push_frame(&self, report: &mut String, frame: usize) -> Result<(), AllocError> {
+        let Some(note) = self.frame(frame) else {
+            return Ok(());
+        };
+        report.push_str("  in ")?;
+        let line = match (note.body, note.how) {
+            (Body::Loop(_), _) => {
+                self.push(report, &self.turns(frame))?;
+                say(" of the `cilk_for` at {}\n").with(self.place(self.loop_at(note.body)))
+            }
+            (_, _) if frame == 0 => say("`{}`\n").word(self.body_name(note.body)),
+            (_, Invocation::Call) => self.invoked("`{}`, called at {}\n", frame, note.body),
+            (_, Invocation::Spawn) => self.invoked("`{}`, spawned at {}\n", frame, note.body),
+        };
+        self.push(report, &line)
+    }
+
+    // Where a function was invoked.
+    fn invoked(&self, words: &'a str, frame: usize, body: Body) -> Sentence<'a> {
+        say(words)
+            .word(self.body_name(body))
+            .with(self.place(self.invoked_at(frame)))
+    }
+
+    // The byte of a body's name.
+    fn loop_at(&self, body: Body) -> usize {
+        match self.case.map.body(body) {
+            Some(map) => map.name.at,
+            None => 0,
+        }
+    }
+}
