@@ -17,7 +17,7 @@ _cilk() {{
     case $COMP_CWORD:${{COMP_WORDS[1]}}:${{COMP_WORDS[COMP_CWORD - 1]}} in
         1:*) words="{commands} help --help --version" files= ;;
         2:help:*) words="{commands}" files= ;;
-        *:--input | *:--on) ;;
+        *:--input | *:--on | *:--sites) ;;
         *:--workers | *:--helpers | *:explain:*) files= ;;
 {cases}
     esac
@@ -33,7 +33,7 @@ _cilk() {{
     case $CURRENT:$words[2]:$words[CURRENT-1] in
         2:*) compadd -- {commands} help --help --version; return ;;
         3:help:*) compadd -- {commands}; return ;;
-        *:--input | *:--on) _files; return ;;
+        *:--input | *:--on | *:--sites) _files; return ;;
         *:--workers | *:--helpers | *:explain:*) return ;;
 {cases}
     esac
@@ -46,7 +46,8 @@ compdef _cilk cilk
 def made(source):
     """The two texts, of the lines `Usage: cilk COMMAND .. [--OPTION ..]`."""
     usages = dict(re.findall(r"\nUsage: cilk ([a-z]+) ([^\n]*)\n", source))
-    options = {name: " ".join([*re.findall(r"--[a-z]+", text), "--help"]) for name, text in usages.items() if "PROGRAM" in text}
+    usages_of_files = {name: text for name, text in usages.items() if re.match("PROGRAM|TRACE", text)}
+    options = {name: " ".join([*re.findall(r"--[a-z]+", text), "--help"]) for name, text in usages_of_files.items()}
     texts = {}
     for end, form, variable in (("bash", BASH, "words"), ("zsh", ZSH, "words_of")):
         cases = "\n".join(f'        *:{name}:*) {variable}="{words}" ;;' for name, words in options.items())

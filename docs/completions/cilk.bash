@@ -2,10 +2,11 @@
 _cilk() {
     local word=${COMP_WORDS[COMP_CWORD]} words= files=-f
     case $COMP_CWORD:${COMP_WORDS[1]}:${COMP_WORDS[COMP_CWORD - 1]} in
-        1:*) words="explain run certify check threads play schedule measure help --help --version" files= ;;
-        2:help:*) words="explain run certify check threads play schedule measure" files= ;;
-        *:--input | *:--on) ;;
+        1:*) words="explain settle run certify check threads play schedule measure judge help --help --version" files= ;;
+        2:help:*) words="explain settle run certify check threads play schedule measure judge" files= ;;
+        *:--input | *:--on | *:--sites) ;;
         *:--workers | *:--helpers | *:explain:*) files= ;;
+        *:settle:*) words="--input --help" ;;
         *:run:*) words="--input --explain --help" ;;
         *:certify:*) words="--input --explain --help" ;;
         *:check:*) words="--input --helpers --explain --help" ;;
@@ -13,6 +14,7 @@ _cilk() {
         *:play:*) words="--workers --input --explain --help" ;;
         *:schedule:*) words="--input --explain --help" ;;
         *:measure:*) words="--input --csv --svg --dot --explain --help" ;;
+        *:judge:*) words="--sites --explain --help" ;;
     esac
     [ -n "$files" ] && [ "${word#-}" = "$word" ] && words=
     mapfile -t COMPREPLY < <(compgen $files -W "$words" -- "$word")

@@ -3,10 +3,11 @@
 _cilk() {
     local words_of=
     case $CURRENT:$words[2]:$words[CURRENT-1] in
-        2:*) compadd -- explain run certify check threads play schedule measure help --help --version; return ;;
-        3:help:*) compadd -- explain run certify check threads play schedule measure; return ;;
-        *:--input | *:--on) _files; return ;;
+        2:*) compadd -- explain settle run certify check threads play schedule measure judge help --help --version; return ;;
+        3:help:*) compadd -- explain settle run certify check threads play schedule measure judge; return ;;
+        *:--input | *:--on | *:--sites) _files; return ;;
         *:--workers | *:--helpers | *:explain:*) return ;;
+        *:settle:*) words_of="--input --help" ;;
         *:run:*) words_of="--input --explain --help" ;;
         *:certify:*) words_of="--input --explain --help" ;;
         *:check:*) words_of="--input --helpers --explain --help" ;;
@@ -14,6 +15,7 @@ _cilk() {
         *:play:*) words_of="--workers --input --explain --help" ;;
         *:schedule:*) words_of="--input --explain --help" ;;
         *:measure:*) words_of="--input --csv --svg --dot --explain --help" ;;
+        *:judge:*) words_of="--sites --explain --help" ;;
     esac
     [[ $PREFIX == -* ]] && compadd -- ${=words_of} || _files
 }

@@ -29,6 +29,8 @@ no_outcome (failures.Input number place) = tt
 no_outcome (failures.Run number at) = tt
 no_outcome (failures.Strand number name) = tt
 no_outcome (failures.Script at) = tt
+no_outcome (failures.Trace number at) = tt
+no_outcome (failures.Changed name) = tt
 no_outcome failures.Memory = tt
 
 complains : (r wanted : Reply) (status status' : ℕ) (told : Bool) (o e m e' : Option Text) → r ≡ wanted → status ≡ status_of r → ShowsError r told e m

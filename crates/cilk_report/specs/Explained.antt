@@ -5,11 +5,11 @@ use Rattle.std.specs.Str.{bytes_eq}
 use Rattle.std.specs.Io.KnownBytes.{Appends}
 use Rattle.cilk_findings.specs.declared.totals.Totals.{Totals}
 use Rattle.cilk_commands.specs.Files.{Failures}
-use Rattle.cilk_commands.specs.Replies.{Ended, NoMemory, Refused, Reply, Text, line, status_of}
+use Rattle.cilk_commands.specs.Replies.{BadTrace, Ended, NoMemory, Refused, Reply, Text, line, status_of}
 use Rattle.cilk_commands.specs.Serving.{Answers, RunReply, Serves, ShowsError, WordsFail, world}
 use Rattle.cilk_commands.specs.Streams.{AppendsFront, AppendsPart}
 use Rattle.cilk_commands.specs.declared.reply.TheConstants.{NO_MEMORY}
-use Rattle.cilk_messages.specs.Words.{Origin, order_in}
+use Rattle.cilk_messages.specs.Words.{Judge, Origin, Requested, Settle, order_in}
 use Rattle.cilk_report.specs.Measured.{AreTotalsOf, IsMeasureText}
 use Rattle.cilk_report.specs.Words.{behind_first, is_help as asks_help, is_measure, measured_run}
 use Rattle.cilk_report.specs.declared.about.About.{About as AboutAnswer}
@@ -18,6 +18,23 @@ use Rattle.cilk_report.specs.declared.about.About.TheVariants as answers
 -- the word `--explain`
 abbrev pub is_flag : Text → Bool
 is_flag word = bytes_eq word (codes "--explain")
+
+-- an order that is explained without `--explain`: to settle a program, or to judge a trace with a table of its sites
+abbrev pub explains_itself : Option Requested → Bool
+explains_itself (Some (Settle program input)) = true
+explains_itself (Some (Judge trace (Some sites))) = true
+explains_itself _ = false
+
+-- a trace has a fault
+abbrev pub IsTraceFault : Reply → Type 0
+IsTraceFault (BadTrace number at) = Unit {0}
+IsTraceFault _ = ⊥
+
+-- a trace has a race or a fault: its file may be read again for an explanation
+abbrev pub IsReadAgain : Option Requested → Reply → Type 0
+IsReadAgain (Some (Judge trace sites)) (Refused number places) = Unit {0}
+IsReadAgain (Some (Judge trace sites)) (BadTrace number at) = Unit {0}
+IsReadAgain _ _ = ⊥
 
 -- the words without each `--explain`
 abbrev pub unflagged : List Text → List Text
@@ -36,7 +53,8 @@ is_help word = bytes_eq word (codes "--help") || bytes_eq word (codes "-h")
 abbrev pub is_command : Text → Bool
 is_command word =
     bytes_eq word (codes "run") || (bytes_eq word (codes "certify") || (bytes_eq word (codes "check") || (bytes_eq word (codes "threads")
-    || (bytes_eq word (codes "play") || (bytes_eq word (codes "measure") || (bytes_eq word (codes "schedule") || bytes_eq word (codes "explain")))))))
+    || (bytes_eq word (codes "play") || (bytes_eq word (codes "measure") || (bytes_eq word (codes "schedule") || (bytes_eq word (codes "settle")
+    || (bytes_eq word (codes "judge") || bytes_eq word (codes "explain")))))))))
 
 -- a word that alone is about the tool: a request for help, the version, or all numbers
 abbrev pub is_question : Text → Bool
@@ -87,8 +105,8 @@ WritesText text status out out' err err' =
 abbrev pub WritesAbout : ℕ → Option Text → Option Text → Option Text → Option Text → Type 0
 WritesAbout status out out' err err' = (text : Text) × WritesText text status out out' err err'
 
--- the reply of `serve` to these words, then a text on standard error; all reads of files are those
--- of `serve`
+-- the reply of `serve` to these words, then a text on standard error; all failed reads of files are
+-- those of `serve`
 abbrev pub ServesThenExplains : List Text → (Text → Option Text) → Option Text → Failures → Failures → ℕ
     → Option Text → Option Text → Option Text → Option Text → Type 0
 ServesThenExplains words files input failed failed' status out out' err err' =
@@ -152,7 +170,10 @@ pub data Schedules (words : List Text) (files : Text → Option Text) (input : O
 pub data ServesExplained (words : List Text) (files : Text → Option Text) (input : Option Text) (failed failed' : Failures)
     (status : ℕ) (out out' err err' : Option Text) : Type 0 where
   -- the reply of `serve`
-  Served : (told : Bool) → Serves words (world files input failed failed') status told out out' err err'
+  Served : (told : Bool) → explains_itself (order_in words) ≡ false → Serves words (world files input failed failed') status told out out' err err'
+      → ServesExplained words files input failed failed' status out out' err err'
+  -- the reply of `serve`, then a text
+  Settling : explains_itself (order_in words) ≡ true → ServesThenExplains words files input failed failed' status out out' err err'
       → ServesExplained words files input failed failed' status out out' err err'
   -- the words aren't a command line of `serve` and have `--explain` among them: the reply to the
   -- others, then a text

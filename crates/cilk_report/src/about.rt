@@ -47,6 +47,8 @@ fn is_command(word: &str) -> bool
         || word == "play"
         || word == "measure"
         || word == "schedule"
+        || word == "settle"
+        || word == "judge"
         || word == "explain"
 }
 

@@ -63,11 +63,22 @@ fn files_of<'a>(order: &Order<'a>) -> Named<'a> {
             input,
             other: script,
         },
+        Order::Settle { program, input } => Named {
+            program: Origin::File(program),
+            input,
+            other: "",
+        },
+        Order::Judge { trace, .. } => Named {
+            program: Origin::File(trace),
+            input: None,
+            other: "",
+        },
     }
 }
 
 /// Returns the explanation of an answer: the reason of a refusal, and nothing for other answers.
-/// `kept` has the files as they were read.
+/// `kept` has the files as they were read. A trace isn't kept, so that of `judge` is
+/// [`crate::judging::of_trace_race`].
 pub fn of_answer(
     alloc: Global,
     order: &Order<'_>,

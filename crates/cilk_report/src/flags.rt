@@ -1,8 +1,10 @@
 //! The word `--explain` in a command line.
 
-ghost use Rattle.std.specs.Prelude.{◌≡◌, IfOk, filter, not};
-ghost use Rattle.cilk_report.specs.Explained.{is_flag};
+ghost use Rattle.std.specs.Prelude.{◌≡◌, IfOk, Some, filter, not};
+ghost use Rattle.cilk_report.specs.Explained.{explains_itself, is_flag};
+ghost use Rattle.cilk_messages.specs.Words.{order_view};
 
+use cilk_messages::words::Order;
 use std::alloc::{AllocError, Global};
 
 /// Returns whether a word is `--explain`.
@@ -21,4 +23,17 @@ pub fn unflagged<'a>(alloc: Global, words: &[&'a str]) -> Result<Vec<&'a str>, A
         .copied()
         .filter(|word| !is_flag(word))
         .collect(alloc)
+}
+
+/// Returns whether an order is explained without `--explain`.
+pub fn explains_itself(order: &Order<'_>) -> bool
+    ensures { result ≡ explains_itself (Some (order_view order.now)) }
+{
+    match order {
+        Order::Settle { .. } => true,
+        Order::Judge { sites: Some(_), .. } => true,
+        Order::Judge { sites: None, .. } => false,
+        Order::Run { .. } | Order::Certify { .. } | Order::Check { .. } | Order::Play { .. } =>
+            false,
+    }
 }

@@ -11,11 +11,14 @@ pub const VERSION: &str = "cilk 1.0.0 (Ruqwabi)\n";
 
 /// The text of `--help`. It also follows clap's text where a command line isn't valid.
 pub const HELP: &str = "\
-Runs and checks programs of a small integer C with cilk_spawn, cilk_sync, cilk_for and reducers.
+Runs and checks programs of a small integer C with cilk_spawn, cilk_sync, cilk_for and reducers, and finds races in
+recorded runs of C and C++ programs.
 
 Usage: cilk COMMAND ARGUMENTS.. [OPTIONS]
 
 All commands:
+  settle PROGRAM              run the program serially, and tell whether a schedule can change what it leaves: `settled`
+                              and the outcome; or the first race, where it is, why, and what to write instead
   run PROGRAM                 run the program serially; show the numbers that it prints, its global reducers, its result
   certify PROGRAM             make that run and write its certificate: a list of its events, frames and strands
   check PROGRAM CERTIFICATE   check that the certificate is right and that nothing races: if so, `accepted`, and every
@@ -26,6 +29,7 @@ All commands:
   play PROGRAM SCRIPT         run the program in parallel, step by step, by the orders of a script to its workers
   schedule PROGRAM CERTIFICATE
                               if `check` finds a race, write a script for `play` that makes its later access first
+  judge TRACE                 tell whether a recorded run of a C or C++ program has a race (docs/TRACES.md)
   measure PROGRAM             run the program serially and show, instead of its outcome, its events, ticks, frames,
                               strands, work, span and parallelism, and a table by function and loop
   explain [NUMBER]            explain a refusal's number: its meaning, a text that provokes it, the cure; or list all
@@ -37,10 +41,17 @@ Arguments:
   PROGRAM         a file with a program text, of at most 262,144 bytes
   CERTIFICATE     a certificate, such as `certify` writes, of at most 268,435,456 bytes
   SCRIPT          a file with a script, of at most 1,048,576 bytes (docs/SCRIPTS.md)
+  TRACE           a trace in its text form, of at most 268,435,456 bytes; a program made by recorder/cilkrec writes it
 
-Options of run, certify, check, threads, play, schedule and measure:
+Options of settle, run, certify, check, threads, play, schedule and measure:
   --input FILE    the numbers for `input(k)`, at most 65,536, separated by blanks; without this option there are none
-  --explain       after a refusal, say on standard error at which line and column it is, why, and what to write instead
+  --explain       after a refusal, say on standard error at which line and column it is, why, and what to write instead;
+                  `settle` does so without it
+
+Options of judge:
+  --sites FILE    after a refusal, say on standard error at which files, lines and functions the accesses are, by the
+                  table of sites in FILE
+  --explain       the same without a table, by lines of the trace; and why a text isn't a trace
 
 Options of measure:
   --csv           write the table with commas
@@ -58,14 +69,14 @@ Option of threads:
                   if the program departs from the certified run on them
 
 Status:
-  0 done    2 wrong words, file, program, input or script; or a failed write; or this help    3 a fault of the run
-  4 the certificate, or the numbers of --on, are refused    5 out of memory
+  0 done    2 wrong words, file, program, input, script or trace; or a failed write; or this help
+  3 a fault of the run    4 a race, or a refused certificate, or refused numbers of --on    5 out of memory
 
 Limits of a run:
   1,000,000 events, 16,000,000 ticks of work, 65,536 frames, 1,048,576 variables and elements
 
 Documents, beside the program's sources: README.md, docs/LANGUAGE.md, docs/FROM-CILK.md (what differs from C and
-OpenCilk), docs/REFUSALS.md, docs/CHECKER.md, docs/SCRIPTS.md, docs/EDITORS.md, docs/PROVED.md
+OpenCilk), docs/REFUSALS.md, docs/CHECKER.md, docs/SCRIPTS.md, docs/TRACES.md, docs/EDITORS.md, docs/PROVED.md
 ";
 
 /// The help on `explain`, and the answer to `explain` without a valid number.
@@ -102,14 +113,33 @@ Options:
   --input FILE    the numbers for `input(k)`, at most 65,536, separated by blanks; without this option there are none
 ";
 
-const FOOT: &str = "  \
+const EXPLAINS: &str = "  \
   --explain       after a refusal, say on standard error at which line and column it is, why, and what to write instead
+";
+
+const FOOT: &str = "  \
   -h, --help      show this text, if it is the only word after the command
 
 hint: `cilk --help` describes all commands, statuses and limits
 ";
 
 const WORKERS: &str = "  --workers N     the number of workers, 1 to 64; 2 without this option\n";
+
+const SETTLE: Page = Page {
+    head: "\
+Run a program serially, and tell whether any schedule can change what it leaves
+
+Usage: cilk settle PROGRAM [--input FILE]
+
+The answer is one of
+  settled         and the lines that `run` shows: every parallel run on this input that ends leaves the same
+  refused 311 P Q or refused 312 P Q: the first race, by two events of the run; status 4
+  fault N at P    on standard error: the run stops by a fault in place of event P; status 3
+An explanation follows on standard error: at which lines and columns it is, why, and what to write instead.
+",
+    argument: "",
+    options: "  --explain       changes nothing here\n",
+};
 
 const RUN: Page = Page {
     head: "\
@@ -192,9 +222,39 @@ Usage: cilk measure PROGRAM [--input FILE] [--csv | --svg | --dot] [--explain]
 ",
 };
 
+/// The help on `judge`.
+const JUDGE: &str = "\
+Tell whether a recorded run of a C or C++ program has a race
+
+Usage: cilk judge TRACE [--sites FILE] [--explain]
+
+The answer is one of
+  race-free       no schedule of the spawns and syncs changes the order of two accesses to one cell, unless both read,
+                  nor what a reducer shows
+  refused 311 P Q or refused 312 P Q: the first race, by two lines of the trace; status 4
+  trace 301 at L  on standard error: line L isn't one of a trace, or not there (302: the trace is cut off); status 2
+
+Arguments:
+  TRACE           a trace in its text form (docs/TRACES.md), of at most 268,435,456 bytes
+
+Options:
+  --sites FILE    after a refusal, say on standard error at which files, lines and functions the accesses are, by the
+                  table of sites in FILE
+  --explain       the same without a table, by lines of the trace; and why a text isn't a trace
+  -h, --help      show this text, if it is the only word after the command
+
+To record a run (recorder/README.md):
+  recorder/cilkrec gcc -O2 prog.c -o prog
+  CILK_TRACE=prog.trace CILK_SITES=prog.sites ./prog
+  cilk judge prog.trace --sites prog.sites
+
+hint: `cilk --help` describes all commands, statuses and limits
+";
+
 /// Returns the help on a command that takes a program.
 fn page_of(command: &str) -> Option<Page> {
     match command {
+        "settle" => Some(SETTLE),
         "run" => Some(RUN),
         "certify" => Some(CERTIFY),
         "check" => Some(CHECK),
@@ -216,10 +276,12 @@ pub fn help_on(alloc: Global, command: &str) -> Result<String, AllocError> {
         },
     ) = page_of(command)
     else {
-        return String::from_str(alloc, EXPLAIN);
+        let page = if command == "judge" { JUDGE } else { EXPLAIN };
+        return String::from_str(alloc, page);
     };
     let mut text = String::from_str(alloc, head)?;
-    for part in [PROGRAM, argument, OPTIONS, options, FOOT] {
+    let explains = if command == "settle" { "" } else { EXPLAINS };
+    for part in [PROGRAM, argument, OPTIONS, options, explains, FOOT] {
         text.push_str(part)?;
     }
     Ok(text)
@@ -233,8 +295,13 @@ pub fn advice(alloc: Global, words: &[&str]) -> Result<String, AllocError> {
             "\nhint: `cilk help {first}` describes `{first}` and its options\n"
         ),
         [first, ..] if first.ends_with(".c") => format!(in alloc;
-            "\nhint: to run this program: `cilk run {first}`\n"
+            "\nhint: to run this program: `cilk run {first}`; to see whether it races: `cilk settle {first}`\n"
         ),
+        [first, ..] if first.ends_with(".trace") => format!(in alloc;
+            "\nhint: to judge this trace: `cilk judge {first}`\n"
+        ),
+        [first, ..] if is_near_settle(first) => near(alloc, "settle"),
+        [first, ..] if is_near_judge(first) => near(alloc, "judge"),
         [first] => format!(in alloc;
             "\nhint: to run the program `{first}`: `cilk run {first}`; `cilk --help` lists the commands\n"
         ),
@@ -243,7 +310,29 @@ pub fn advice(alloc: Global, words: &[&str]) -> Result<String, AllocError> {
 }
 
 fn is_command(word: &str) -> bool {
-    page_of(word).is_some() || word == "explain"
+    page_of(word).is_some() || word == "judge" || word == "explain"
+}
+
+// A word that may stand for `settle`.
+fn is_near_settle(word: &str) -> bool {
+    matches!(
+        word,
+        "settled" | "settles" | "setle" | "settel" | "race" | "races" | "verify"
+    )
+}
+
+// A word that may stand for `judge`.
+fn is_near_judge(word: &str) -> bool {
+    matches!(
+        word,
+        "judged" | "judges" | "jugde" | "juge" | "judg" | "trace" | "traces" | "cilkscreen"
+    )
+}
+
+fn near(alloc: Global, command: &str) -> Result<String, AllocError> {
+    format!(in alloc;
+        "\nhint: perhaps `{command}` is meant: `cilk help {command}` describes it; `cilk --help` lists the commands\n"
+    )
 }
 
 // The error of `schedule` without a certificate.

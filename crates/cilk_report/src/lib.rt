@@ -4,10 +4,12 @@
 //! [`serve_explained`] serves one call of the tool. A command line of [`cilk_commands::serve`] is
 //! served as that function does. The word `--explain` adds to it: the same line comes first, on the
 //! same stream and with the same status, then an explanation on standard error. It names the place,
-//! the reason and a fix. An explanation is derived from the texts themselves, by a second serial
-//! run where that is needed (`cilk_findings`, `cilk_races`). [`KeptFiles`] therefore keeps the
-//! texts as they were read, and the first bytes of a certificate. So the explanation is about the
-//! texts that were judged. A command line of `serve` keeps no copies.
+//! the reason and a fix. `settle` is explained without that word, and so is `judge` with a table of
+//! sites. An explanation is derived from the texts themselves, by a second serial run where that is
+//! needed (`cilk_findings`, `cilk_races`). [`KeptFiles`] therefore keeps the texts as they were
+//! read, and the first bytes of a certificate. So the explanation is about the texts that were
+//! judged. A trace isn't kept, since it may be larger than memory: its file is read again. A command
+//! line of `serve` without an explanation keeps no copies.
 //!
 //! `measure` prints work, span and parallelism of a run (Frigo, Leiserson and Randall 1998), then a
 //! table by function and loop, or a picture. `schedule` prints a script for `play` that shows a
@@ -32,14 +34,19 @@
 #![tactic(auto)]
 
 mod about;
+mod accesses;
+mod again;
 mod certificate;
 mod explaining;
 mod flags;
 mod help;
+mod judging;
 mod kept;
+mod numbered;
 mod rows;
 mod scheduling;
 mod serving;
+mod sites;
 mod table;
 mod text;
 mod totals;

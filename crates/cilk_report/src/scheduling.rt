@@ -4,6 +4,8 @@ ghost use Rattle.std.specs.Prelude.{◌≡◌, ◌<◌, IfOk, IfSome};
 ghost use Rattle.cilk_report.specs.Words.{behind_first};
 ghost use Rattle.cilk_report.specs.Explained.{IsRefusal, Schedules, is_schedule, words_of_check};
 ghost use Rattle.cilk_commands.specs.Replies.{answer_view};
+ghost use Rattle.cilk_commands.specs.Streams.{TakesAtMost};
+ghost use Rattle.cilk_commands.specs.declared.streams.TheConstants.{MAX_READ};
 ghost use Rattle.cilk_messages.specs.Words.{texts};
 
 use crate::explaining::{of_answer, of_failure, race_of, texts_of};
@@ -40,6 +42,7 @@ fn check_words<'a>(alloc: Global, words: &[&'a str]) -> Result<Vec<&'a str>, All
 }
 
 /// Serves the command `schedule`.
+#[tactic(auto, using(cilk_commands::proofs::Reading::takes_same))]
 pub fn serve_schedule<F: Keeps, R: Read, O: Write, E: Write>(
     alloc: Global,
     words: &[&str],
@@ -49,8 +52,9 @@ pub fn serve_schedule<F: Keeps, R: Read, O: Write, E: Write>(
     err: &mut E,
 ) -> u8
     requires { (F.failed files.old).count < 18446744073709551615 }
-    ensures { Schedules (words_of_check (texts words.now)) (F.holds files.old) (R.remaining input.old) (F.failed files.old) (F.failed files.new)
+    ensures shown { Schedules (words_of_check (texts words.now)) (F.holds files.old) (R.remaining input.old) (F.failed files.old) (F.failed files.new)
         result (O.contents out.old) (O.contents out.new) (E.contents err.old) (E.contents err.new) }
+    ensures most { TakesAtMost MAX_READ (R.remaining input.old) (R.remaining input.new) }
 {
     match check_words(alloc, words) {
         Ok(plain) => {
@@ -62,6 +66,7 @@ pub fn serve_schedule<F: Keeps, R: Read, O: Write, E: Write>(
 }
 
 // Serves the command by the words of the check.
+#[tactic(auto, using(cilk_commands::proofs::Reading::takes_same))]
 fn serve_checked<F: Keeps, R: Read, O: Write, E: Write>(
     alloc: Global,
     words: &[&str],
@@ -72,8 +77,9 @@ fn serve_checked<F: Keeps, R: Read, O: Write, E: Write>(
     err: &mut E,
 ) -> u8
     requires { (F.failed files.old).count < 18446744073709551615 }
-    ensures { Schedules (texts words.now) (F.holds files.old) (R.remaining input.old) (F.failed files.old) (F.failed files.new)
+    ensures shown { Schedules (texts words.now) (F.holds files.old) (R.remaining input.old) (F.failed files.old) (F.failed files.new)
         result (O.contents out.old) (O.contents out.new) (E.contents err.old) (E.contents err.new) }
+    ensures most { TakesAtMost MAX_READ (R.remaining input.old) (R.remaining input.new) }
 {
     match read(alloc, words) {
         Ok(order) => match carry_out(alloc, order, files, input) {

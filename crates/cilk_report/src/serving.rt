@@ -1,21 +1,24 @@
 //! From a command line to its reply and explanation.
 
 ghost use Rattle.std.specs.Prelude.{◌≡◌, ◌<◌, None, Some, false, length, option_map, true};
-ghost use Rattle.cilk_report.specs.Explained.{ComesBehind, Follows, Measures, Schedules, ServesExplained, ServesThenExplains, WritesText, is_about, is_schedule, unflagged, words_of_check};
+ghost use Rattle.cilk_report.specs.Explained.{ComesBehind, Follows, IsReadAgain, Measures, Schedules, ServesExplained, ServesThenExplains, WritesText, explains_itself, is_about, is_schedule, unflagged, words_of_check};
 ghost use Rattle.cilk_report.specs.Words.{is_measure, measured_run, words_of_run};
-ghost use Rattle.cilk_commands.specs.Replies.{failure_view};
+ghost use Rattle.cilk_commands.specs.Replies.{answer_view, failure_view};
 ghost use Rattle.cilk_commands.specs.Serving.{WordsFail};
-ghost use Rattle.cilk_messages.specs.Words.{order_in, origin_view, texts};
+ghost use Rattle.cilk_commands.specs.Streams.{TakesAtMost};
+ghost use Rattle.cilk_commands.specs.declared.streams.TheConstants.{MAX_READ};
+ghost use Rattle.cilk_messages.specs.Words.{order_in, order_view, origin_view, texts};
 
 use crate::about::{About, answer_about};
 use crate::explaining::{of_answer, of_failure};
-use crate::flags::unflagged;
+use crate::flags::{explains_itself, unflagged};
 use crate::help::{EXPLAIN, advice};
+use crate::judging::{Judged, of_trace_failure, of_trace_race};
 use crate::scheduling::{is_schedule, serve_schedule};
 use crate::{
     Keeps, Kept, asks, is_measure, run_of, run_words, text_of, totals_of, usage_of_measure,
 };
-use cilk_commands::reply::{Failure, NO_MEMORY, WRONG};
+use cilk_commands::reply::{Answer, Failure, NO_MEMORY, WRONG};
 use cilk_commands::streams::send;
 use cilk_commands::{Served, carry_out, complain, show, tell};
 use cilk_findings::fault::CaseFault;
@@ -25,7 +28,9 @@ use std::io::{Read, Write};
 
 /// Serves the words after the program's name and returns the exit status. Command lines of
 /// [`cilk_commands::serve`] are served as that function does. With `--explain` an explanation
-/// follows the same reply. `measure`, `schedule` and questions about the tool are answered as well.
+/// follows the same reply; it follows that of `settle`, and that of `judge` with a table of sites,
+/// in any case. `measure`, `schedule` and questions about the tool are answered as well.
+#[tactic(auto, using(cilk_commands::proofs::Reading::takes_same))]
 pub fn serve_explained<F: Keeps, R: Read, O: Write, E: Write>(
     alloc: Global,
     words: &[&str],
@@ -48,8 +53,16 @@ pub fn serve_explained<F: Keeps, R: Read, O: Write, E: Write>(
         → length (unflagged (texts words.now)) < length (texts words.now)
         → ServesThenExplains (unflagged (texts words.now)) (F.holds files.old) (R.remaining input.old) (F.failed files.old) (F.failed files.new)
         result (O.contents out.old) (O.contents out.new) (E.contents err.old) (E.contents err.new) }
+    ensures settled { explains_itself (order_in (texts words.now)) ≡ true
+        → ServesThenExplains (texts words.now) (F.holds files.old) (R.remaining input.old) (F.failed files.old) (F.failed files.new)
+        result (O.contents out.old) (O.contents out.new) (E.contents err.old) (E.contents err.new) }
+    ensures most { TakesAtMost MAX_READ (R.remaining input.old) (R.remaining input.new) }
 {
     match read(alloc, words) {
+        Ok(order) if explains_itself(&order) => {
+            files.keep();
+            serve_flagged(alloc, words, files, input, out, err)
+        }
         Ok(order) => match carry_out(alloc, order, files, input) {
             Ok(answer) => show(alloc, &answer, out, err).status,
             Err(failure) => complain(alloc, &failure, err).status,
@@ -63,6 +76,7 @@ pub fn serve_explained<F: Keeps, R: Read, O: Write, E: Write>(
 }
 
 /// Serves a command line that isn't one of `serve`.
+#[tactic(auto, using(cilk_commands::proofs::Reading::takes_same))]
 fn serve_other<F: Keeps, R: Read, O: Write, E: Write>(
     alloc: Global,
     words: &[&str],
@@ -86,6 +100,7 @@ fn serve_other<F: Keeps, R: Read, O: Write, E: Write>(
         → length (unflagged (texts words.now)) < length (texts words.now)
         → ServesThenExplains (unflagged (texts words.now)) (F.holds files.old) (R.remaining input.old) (F.failed files.old) (F.failed files.new)
         result (O.contents out.old) (O.contents out.new) (E.contents err.old) (E.contents err.new) }
+    ensures most { TakesAtMost MAX_READ (R.remaining input.old) (R.remaining input.new) }
 {
     if is_measure(words) {
         serve_measure(alloc, words, files, input, out, err)
@@ -95,6 +110,7 @@ fn serve_other<F: Keeps, R: Read, O: Write, E: Write>(
 }
 
 /// Serves a command line that isn't one of `serve` or `measure`.
+#[tactic(auto, using(cilk_commands::proofs::Reading::takes_same))]
 fn serve_unmeasured<F: Keeps, R: Read, O: Write, E: Write>(
     alloc: Global,
     words: &[&str],
@@ -115,6 +131,7 @@ fn serve_unmeasured<F: Keeps, R: Read, O: Write, E: Write>(
         → length (unflagged (texts words.now)) < length (texts words.now)
         → ServesThenExplains (unflagged (texts words.now)) (F.holds files.old) (R.remaining input.old) (F.failed files.old) (F.failed files.new)
         result (O.contents out.old) (O.contents out.new) (E.contents err.old) (E.contents err.new) }
+    ensures most { TakesAtMost MAX_READ (R.remaining input.old) (R.remaining input.new) }
 {
     if is_schedule(words) {
         serve_schedule(alloc, words, files, input, out, err)
@@ -124,6 +141,7 @@ fn serve_unmeasured<F: Keeps, R: Read, O: Write, E: Write>(
 }
 
 /// Serves a command line that isn't one of `serve`, `measure` or `schedule`.
+#[tactic(auto, using(cilk_commands::proofs::Reading::takes_same))]
 fn serve_unscheduled<F: Keeps, R: Read, O: Write, E: Write>(
     alloc: Global,
     words: &[&str],
@@ -140,6 +158,7 @@ fn serve_unscheduled<F: Keeps, R: Read, O: Write, E: Write>(
     ensures explained { is_about (texts words.now) ≡ false → length (unflagged (texts words.now)) < length (texts words.now)
         → ServesThenExplains (unflagged (texts words.now)) (F.holds files.old) (R.remaining input.old) (F.failed files.old) (F.failed files.new)
         result (O.contents out.old) (O.contents out.new) (E.contents err.old) (E.contents err.new) }
+    ensures most { TakesAtMost MAX_READ (R.remaining input.old) (R.remaining input.new) }
 {
     match answer_about(alloc, words) {
         Ok(About::Text(text)) => tell_text(text.as_bytes(), out, err),
@@ -176,6 +195,7 @@ fn advised(alloc: Global, words: &[&str], usage: String) -> Result<String, Alloc
 }
 
 /// Serves a command line as `serve` does, then explains what was shown.
+#[tactic(auto, using(cilk_commands::proofs::Reading::takes_same))]
 fn serve_flagged<F: Keeps, R: Read, O: Write, E: Write>(
     alloc: Global,
     words: &[&str],
@@ -185,22 +205,19 @@ fn serve_flagged<F: Keeps, R: Read, O: Write, E: Write>(
     err: &mut E,
 ) -> u8
     requires { (F.failed files.old).count < 18446744073709551615 }
-    ensures { ServesThenExplains (texts words.now) (F.holds files.old) (R.remaining input.old) (F.failed files.old) (F.failed files.new)
+    ensures shown { ServesThenExplains (texts words.now) (F.holds files.old) (R.remaining input.old) (F.failed files.old) (F.failed files.new)
         result (O.contents out.old) (O.contents out.new) (E.contents err.old) (E.contents err.new) }
+    ensures most { TakesAtMost MAX_READ (R.remaining input.old) (R.remaining input.new) }
 {
     match read(alloc, words) {
         Ok(order) => match carry_out(alloc, order, files, input) {
             Ok(answer) => {
                 let served = show(alloc, &answer, out, err);
-                follow(served, of_answer(alloc, &order, &answer, files.kept()), err)
+                follow(served, answered(alloc, &order, &answer, files), err)
             }
             Err(failure) => {
                 let served = complain(alloc, &failure, err);
-                follow(
-                    served,
-                    of_failure(alloc, &order, &failure, files.kept()),
-                    err,
-                )
+                follow(served, failed(alloc, &order, &failure, files), err)
             }
         },
         Err(WordsFault::Usage(usage)) => complain(alloc, &refusal(alloc, words, usage), err).status,
@@ -208,7 +225,60 @@ fn serve_flagged<F: Keeps, R: Read, O: Write, E: Write>(
     }
 }
 
+/// Returns the explanation of an answer. A trace with a race is read again for it.
+fn answered<F: Keeps>(
+    alloc: Global,
+    order: &Order<'_>,
+    answer: &Answer,
+    files: &mut F,
+) -> Result<String, CaseFault>
+    ensures { (IsReadAgain (Some (order_view order.now)) (answer_view answer.now) → ⊥) → F.failed files.new ≡ F.failed files.old }
+{
+    match order {
+        Order::Judge { trace, sites } => match answer {
+            Answer::Refused(refusal) => {
+                let judged = Judged {
+                    trace,
+                    sites: *sites,
+                };
+                of_trace_race(alloc, judged, *refusal, files)
+            }
+            Answer::Outcome { .. }
+            | Answer::Certificate(_)
+            | Answer::Accepted
+            | Answer::NotEnded
+            | Answer::Settled { .. }
+            | Answer::RaceFree => Ok(String::new(alloc)),
+        },
+        Order::Run { .. }
+        | Order::Certify { .. }
+        | Order::Check { .. }
+        | Order::Play { .. }
+        | Order::Settle { .. } => of_answer(alloc, order, answer, files.kept()),
+    }
+}
+
+/// Returns the explanation of a failure. A malformed trace is read again for it.
+fn failed<F: Keeps>(
+    alloc: Global,
+    order: &Order<'_>,
+    failure: &Failure<'_>,
+    files: &mut F,
+) -> Result<String, CaseFault>
+    ensures { (IsReadAgain (Some (order_view order.now)) (failure_view failure.now) → ⊥) → F.failed files.new ≡ F.failed files.old }
+{
+    match order {
+        Order::Judge { trace, .. } => of_trace_failure(alloc, trace, failure, files),
+        Order::Run { .. }
+        | Order::Certify { .. }
+        | Order::Check { .. }
+        | Order::Play { .. }
+        | Order::Settle { .. } => of_failure(alloc, order, failure, files.kept()),
+    }
+}
+
 /// Serves `measure`.
+#[tactic(auto, using(cilk_commands::proofs::Reading::takes_same))]
 fn serve_measure<F: Keeps, R: Read, O: Write, E: Write>(
     alloc: Global,
     words: &[&str],
@@ -218,8 +288,9 @@ fn serve_measure<F: Keeps, R: Read, O: Write, E: Write>(
     err: &mut E,
 ) -> u8
     requires { (F.failed files.old).count < 18446744073709551615 }
-    ensures { Measures (texts words.now) (F.holds files.old) (R.remaining input.old) (F.failed files.old) (F.failed files.new)
+    ensures shown { Measures (texts words.now) (F.holds files.old) (R.remaining input.old) (F.failed files.old) (F.failed files.new)
         result (O.contents out.old) (O.contents out.new) (E.contents err.old) (E.contents err.new) }
+    ensures most { TakesAtMost MAX_READ (R.remaining input.old) (R.remaining input.new) }
 {
     match run_words(alloc, words) {
         Ok(plain) => serve_run(alloc, words, plain.as_slice(), files, input, out, err),
@@ -228,6 +299,7 @@ fn serve_measure<F: Keeps, R: Read, O: Write, E: Write>(
 }
 
 /// Serves `measure` by the words of the run.
+#[tactic(auto, using(cilk_commands::proofs::Reading::takes_same))]
 fn serve_run<F: Keeps, R: Read, O: Write, E: Write>(
     alloc: Global,
     words: &[&str],
@@ -239,8 +311,9 @@ fn serve_run<F: Keeps, R: Read, O: Write, E: Write>(
 ) -> u8
     requires room { (F.failed files.old).count < 18446744073709551615 }
     requires plain { texts plain.now ≡ words_of_run (texts words.now) }
-    ensures { Measures (texts words.now) (F.holds files.old) (R.remaining input.old) (F.failed files.old) (F.failed files.new)
+    ensures shown { Measures (texts words.now) (F.holds files.old) (R.remaining input.old) (F.failed files.old) (F.failed files.new)
         result (O.contents out.old) (O.contents out.new) (E.contents err.old) (E.contents err.new) }
+    ensures most { TakesAtMost MAX_READ (R.remaining input.old) (R.remaining input.new) }
 {
     match read(alloc, plain) {
         Ok(order) => match run_of(order) {
@@ -255,6 +328,7 @@ fn serve_run<F: Keeps, R: Read, O: Write, E: Write>(
 }
 
 /// Shows the measures of a run. If the run fails, shows why, with an explanation if requested.
+#[tactic(auto, using(cilk_commands::proofs::Reading::takes_same))]
 fn show_measured<F: Keeps, R: Read, O: Write, E: Write>(
     alloc: Global,
     words: &[&str],
@@ -267,8 +341,9 @@ fn show_measured<F: Keeps, R: Read, O: Write, E: Write>(
 ) -> u8
     requires room { (F.failed files.old).count < 18446744073709551615 }
     requires named { measured_run (texts words.now) ≡ Some (origin_view program, option_map (λ p. p.now) numbers) }
-    ensures { Measures (texts words.now) (F.holds files.old) (R.remaining input.old) (F.failed files.old) (F.failed files.new)
+    ensures shown { Measures (texts words.now) (F.holds files.old) (R.remaining input.old) (F.failed files.old) (F.failed files.new)
         result (O.contents out.old) (O.contents out.new) (E.contents err.old) (E.contents err.new) }
+    ensures most { TakesAtMost MAX_READ (R.remaining input.old) (R.remaining input.new) }
 {
     let order = Order::Run {
         program,

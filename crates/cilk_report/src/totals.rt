@@ -4,6 +4,8 @@ ghost use Rattle.std.specs.Prelude.{◌≡◌, ◌<◌, IfErr, IfOk, option_map}
 ghost use Rattle.cilk_report.specs.Measured.{AreTotalsOf};
 ghost use Rattle.cilk_commands.specs.Replies.{failure_view};
 ghost use Rattle.cilk_commands.specs.Serving.{RunReply, world};
+ghost use Rattle.cilk_commands.specs.Streams.{TakesAtMost};
+ghost use Rattle.cilk_commands.specs.declared.streams.TheConstants.{MAX_READ};
 ghost use Rattle.cilk_messages.specs.Words.{origin_view};
 
 use cilk_commands::files::Files;
@@ -15,6 +17,7 @@ use std::alloc::Global;
 use std::io::Read;
 
 /// Returns the totals of a program's run on its input. Its failures are those of `run`.
+#[tactic(auto, using(cilk_commands::proofs::Reading::takes_same))]
 pub fn totals_of<'a, F: Files, R: Read>(
     alloc: Global,
     program: Origin<'a>,
@@ -27,6 +30,7 @@ pub fn totals_of<'a, F: Files, R: Read>(
         (origin_view program.entry) (option_map (λ p. p.now) numbers.entry) t) }
     ensures failure { IfErr result (λ e. RunReply (world (F.holds files.old) (R.remaining input.old) (F.failed files.old) (F.failed files.new))
         (origin_view program.entry) (option_map (λ p. p.now) numbers.entry) (failure_view e)) }
+    ensures most { TakesAtMost MAX_READ (R.remaining input.old) (R.remaining input.new) }
 {
     let (program, numbers) = given(alloc, program, numbers, files, input)?;
     match measure(alloc, &program, &numbers) {

@@ -102,6 +102,10 @@ pub fn run_of<'a>(order: Order<'a>) -> Option<(Origin<'a>, Option<&'a str>)>
 {
     match order {
         Order::Run { program, input } => Some((program, input)),
-        Order::Certify { .. } | Order::Check { .. } | Order::Play { .. } => None,
+        Order::Certify { .. }
+        | Order::Check { .. }
+        | Order::Play { .. }
+        | Order::Settle { .. }
+        | Order::Judge { .. } => None,
     }
 }

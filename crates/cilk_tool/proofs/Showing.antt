@@ -39,6 +39,8 @@ silent (failures.Input number place) = refl
 silent (failures.Run number at) = refl
 silent (failures.Strand number name) = refl
 silent (failures.Script at) = refl
+silent (failures.Trace number at) = refl
+silent (failures.Changed name) = refl
 silent failures.Memory = refl
 
 pub still_silent : (f : Failure) (r : Reply) → IsOrNoMemory (failure_view f) r → out_text r ≡ []

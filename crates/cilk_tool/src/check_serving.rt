@@ -4,6 +4,8 @@ ghost use Rattle.std.specs.Prelude.{◌≡◌, ◌<◌, None, length};
 ghost use Rattle.cilk_report.specs.Explained.{unflagged};
 ghost use Rattle.cilk_commands.specs.Replies.{failure_view};
 ghost use Rattle.cilk_commands.specs.Serving.{WordsFail, world};
+ghost use Rattle.cilk_commands.specs.Streams.{TakesAtMost};
+ghost use Rattle.cilk_commands.specs.declared.streams.TheConstants.{MAX_READ};
 ghost use Rattle.cilk_messages.specs.Words.{texts};
 ghost use Rattle.cilk_tool.specs.CheckWords.{check_in};
 ghost use Rattle.cilk_tool.specs.Helped.{HelpedThenExplains, IsHelpedReply};
@@ -22,6 +24,7 @@ use std::thread::Threads;
 const HINT: &str = "\nhint: `cilk help check` describes `check` and its options\n";
 
 /// Serves `check` with `--helpers`, and waits for the helpers.
+#[tactic(auto, using(cilk_commands::proofs::Reading::takes_same))]
 pub fn serve_check<H: Threads + Sync, F: Keeps, R: Read, O: Write, E: Write>(
     rt: &H,
     alloc: Global,
@@ -37,6 +40,7 @@ pub fn serve_check<H: Threads + Sync, F: Keeps, R: Read, O: Write, E: Write>(
     ensures explained { check_in (texts words.now) ≡ None → length (unflagged (texts words.now)) < length (texts words.now)
         → HelpedThenExplains (unflagged (texts words.now)) (world (F.holds files.old) (R.remaining input.old) (F.failed files.old) (F.failed files.new))
         result (O.contents out.old) (O.contents out.new) (E.contents err.old) (E.contents err.new) }
+    ensures most { TakesAtMost MAX_READ (R.remaining input.old) (R.remaining input.new) }
 {
     match read_check(alloc, words) {
         Ok(order) => match check_by_helpers(rt, alloc, &order, files, input) {
@@ -53,6 +57,7 @@ pub fn serve_check<H: Threads + Sync, F: Keeps, R: Read, O: Write, E: Write>(
 
 /// Serves a command line that can't be read as it is. If `--explain` is among the words, the others
 /// are served.
+#[tactic(auto, using(cilk_commands::proofs::Reading::takes_same))]
 fn serve_unread<H: Threads + Sync, F: Keeps, R: Read, O: Write, E: Write>(
     rt: &H,
     alloc: Global,
@@ -70,6 +75,7 @@ fn serve_unread<H: Threads + Sync, F: Keeps, R: Read, O: Write, E: Write>(
     ensures explained { length (unflagged (texts words.now)) < length (texts words.now)
         → HelpedThenExplains (unflagged (texts words.now)) (world (F.holds files.old) (R.remaining input.old) (F.failed files.old) (F.failed files.new))
         result (O.contents out.old) (O.contents out.new) (E.contents err.old) (E.contents err.new) }
+    ensures most { TakesAtMost MAX_READ (R.remaining input.old) (R.remaining input.new) }
 {
     match unflagged(alloc, words) {
         Ok(plain) if plain.len() < words.len() => {
@@ -81,6 +87,7 @@ fn serve_unread<H: Threads + Sync, F: Keeps, R: Read, O: Write, E: Write>(
 }
 
 /// Serves the command, then explains what was shown.
+#[tactic(auto, using(cilk_commands::proofs::Reading::takes_same))]
 fn serve_flagged<H: Threads + Sync, F: Keeps, R: Read, O: Write, E: Write>(
     rt: &H,
     alloc: Global,
@@ -91,8 +98,9 @@ fn serve_flagged<H: Threads + Sync, F: Keeps, R: Read, O: Write, E: Write>(
     err: &mut E,
 ) -> u8
     requires { (F.failed files.old).count < 18446744073709551615 }
-    ensures { HelpedThenExplains (texts words.now) (world (F.holds files.old) (R.remaining input.old) (F.failed files.old) (F.failed files.new))
+    ensures shown { HelpedThenExplains (texts words.now) (world (F.holds files.old) (R.remaining input.old) (F.failed files.old) (F.failed files.new))
         result (O.contents out.old) (O.contents out.new) (E.contents err.old) (E.contents err.new) }
+    ensures most { TakesAtMost MAX_READ (R.remaining input.old) (R.remaining input.new) }
 {
     match read_check(alloc, words) {
         Ok(order) => match check_by_helpers(rt, alloc, &order, files, input) {

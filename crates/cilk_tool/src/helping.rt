@@ -8,6 +8,8 @@ ghost use Rattle.cilk_program.specs.Sources.{source as source_of};
 ghost use Rattle.cilk_commands.specs.Replies.{answer_view, failure_view};
 ghost use Rattle.cilk_commands.specs.Serving.{FileFails, world};
 ghost use Rattle.cilk_commands.specs.Shown.{CheckShows};
+ghost use Rattle.cilk_commands.specs.Streams.{TakesAtMost};
+ghost use Rattle.cilk_commands.specs.declared.streams.TheConstants.{MAX_READ};
 ghost use Rattle.cilk_tool.specs.CheckWords.{check_view};
 ghost use Rattle.cilk_tool.specs.Helped.{Answers};
 ghost use Rattle.cilk_commands.specs.Files.{IsUnfailed};
@@ -99,6 +101,7 @@ fn checked<'a, H: Threads + Sync, F: Files>(
 /// Checks the certificate of a program's run on an input by helpers. The program is read and judged
 /// first, then its input, then the certificate is read twice. A single helper checks as `check`
 /// does, without a thread.
+#[tactic(auto, using(cilk_commands::proofs::Reading::takes_same))]
 pub fn check_by_helpers<'a, H: Threads + Sync, F: Files, R: Read>(
     rt: &H,
     alloc: Global,
@@ -111,6 +114,7 @@ pub fn check_by_helpers<'a, H: Threads + Sync, F: Files, R: Read>(
         (Some (check_view order.now)) (answer_view a)) }
     ensures failure { IfErr result (λ e. Answers (world (F.holds files.old) (R.remaining reader.old) (F.failed files.old) (F.failed files.new))
         (Some (check_view order.now)) (failure_view e)) }
+    ensures most { TakesAtMost MAX_READ (R.remaining reader.old) (R.remaining reader.new) }
 {
     if order.helpers < 2 {
         return carry_out(alloc, order.alone(), files, reader);

@@ -4,6 +4,8 @@ ghost use Rattle.std.specs.Prelude.{◌≡◌, ◌<◌, ◌++◌, IfOk, None, On
 ghost use Rattle.cilk_report.specs.Explained.{unflagged};
 ghost use Rattle.cilk_commands.specs.Replies.{Refused, Reply, failure_view, place_text, refused_line};
 ghost use Rattle.cilk_commands.specs.Serving.{IsOrNoMemory, Shows, WordsFail};
+ghost use Rattle.cilk_commands.specs.Streams.{TakesAtMost};
+ghost use Rattle.cilk_commands.specs.declared.streams.TheConstants.{MAX_READ};
 ghost use Rattle.cilk_messages.specs.Words.{texts};
 ghost use Rattle.cilk_tool.specs.Endings.{ending_view, place_of};
 ghost use Rattle.cilk_tool.specs.Serving.{IsThreadsReply, ServesParallel, ThreadsThenExplains, is_threads};
@@ -39,6 +41,7 @@ const HINT: &str = "\nhint: `cilk help threads` describes `threads` and its opti
 /// accepted program by workers on threads, and `check` with `--helpers` checks a certificate by
 /// helpers on threads. Both wait for their threads. Other command lines are served by
 /// [`cilk_report::serve_explained`].
+#[tactic(auto, using(cilk_commands::proofs::Reading::takes_same))]
 pub fn serve<H: Threads + Wait + Sync, F: Keeps, R: Read, O: Write, E: Write>(
     rt: &H,
     alloc: Global,
@@ -49,8 +52,9 @@ pub fn serve<H: Threads + Wait + Sync, F: Keeps, R: Read, O: Write, E: Write>(
     err: &mut E,
 ) -> u8
     requires { (F.failed files.old).count < 18446744073709551615 }
-    ensures { ServesParallel (texts words.now) (F.holds files.old) (R.remaining input.old) (F.failed files.old) (F.failed files.new)
+    ensures shown { ServesParallel (texts words.now) (F.holds files.old) (R.remaining input.old) (F.failed files.old) (F.failed files.new)
         result (O.contents out.old) (O.contents out.new) (E.contents err.old) (E.contents err.new) }
+    ensures most { TakesAtMost MAX_READ (R.remaining input.old) (R.remaining input.new) }
 {
     if is_threads(words) {
         serve_threads(rt, alloc, words, files, input, out, err)
@@ -72,6 +76,7 @@ fn is_threads(words: &[&str]) -> bool
 }
 
 /// Serves `threads`.
+#[tactic(auto, using(cilk_commands::proofs::Reading::takes_same))]
 fn serve_threads<H: Threads + Wait + Sync, F: Keeps, R: Read, O: Write, E: Write>(
     rt: &H,
     alloc: Global,
@@ -87,6 +92,7 @@ fn serve_threads<H: Threads + Wait + Sync, F: Keeps, R: Read, O: Write, E: Write
     ensures explained { order_in (texts words.now) ≡ None → length (unflagged (texts words.now)) < length (texts words.now)
         → ThreadsThenExplains (unflagged (texts words.now)) (F.holds files.old) (R.remaining input.old) (F.failed files.old) (F.failed files.new)
         result (O.contents out.old) (O.contents out.new) (E.contents err.old) (E.contents err.new) }
+    ensures most { TakesAtMost MAX_READ (R.remaining input.old) (R.remaining input.new) }
 {
     match read(alloc, words) {
         Ok(order) => match carry_out(rt, alloc, &order, files, input) {
@@ -103,6 +109,7 @@ fn serve_threads<H: Threads + Wait + Sync, F: Keeps, R: Read, O: Write, E: Write
 
 /// Serves a command line that can't be read as it is. If `--explain` is among the words, the others
 /// are served.
+#[tactic(auto, using(cilk_commands::proofs::Reading::takes_same))]
 fn serve_unread<H: Threads + Wait + Sync, F: Keeps, R: Read, O: Write, E: Write>(
     rt: &H,
     alloc: Global,
@@ -120,6 +127,7 @@ fn serve_unread<H: Threads + Wait + Sync, F: Keeps, R: Read, O: Write, E: Write>
     ensures explained { length (unflagged (texts words.now)) < length (texts words.now)
         → ThreadsThenExplains (unflagged (texts words.now)) (F.holds files.old) (R.remaining input.old) (F.failed files.old) (F.failed files.new)
         result (O.contents out.old) (O.contents out.new) (E.contents err.old) (E.contents err.new) }
+    ensures most { TakesAtMost MAX_READ (R.remaining input.old) (R.remaining input.new) }
 {
     match unflagged(alloc, words) {
         Ok(plain) if plain.len() < words.len() => {
@@ -131,6 +139,7 @@ fn serve_unread<H: Threads + Wait + Sync, F: Keeps, R: Read, O: Write, E: Write>
 }
 
 /// Serves `threads`, then explains what was shown.
+#[tactic(auto, using(cilk_commands::proofs::Reading::takes_same))]
 fn serve_flagged<H: Threads + Wait + Sync, F: Keeps, R: Read, O: Write, E: Write>(
     rt: &H,
     alloc: Global,
@@ -141,8 +150,9 @@ fn serve_flagged<H: Threads + Wait + Sync, F: Keeps, R: Read, O: Write, E: Write
     err: &mut E,
 ) -> u8
     requires { (F.failed files.old).count < 18446744073709551615 }
-    ensures { ThreadsThenExplains (texts words.now) (F.holds files.old) (R.remaining input.old) (F.failed files.old) (F.failed files.new)
+    ensures shown { ThreadsThenExplains (texts words.now) (F.holds files.old) (R.remaining input.old) (F.failed files.old) (F.failed files.new)
         result (O.contents out.old) (O.contents out.new) (E.contents err.old) (E.contents err.new) }
+    ensures most { TakesAtMost MAX_READ (R.remaining input.old) (R.remaining input.new) }
 {
     match read(alloc, words) {
         Ok(order) => match carry_out(rt, alloc, &order, files, input) {

@@ -5,37 +5,37 @@ use Rattle.cilk_commands.specs.Replies.{answer_view}
 use Rattle.cilk_messages.specs.declared.words.WordsFault.{WordsFault}
 use Rattle.cilk_report.proofs.scheduling.serve_checked.Goals as goal
 
-pub returns-in-Ok-Some : goal.returns-in-Ok-Some
-returns-in-Ok-Some g c =
+pub returns-in-Ok-Some-clause-shown : goal.returns-in-Ok-Some-clause-shown
+returns-in-Ok-Some-clause-shown g c =
     Told (answer_view c.in-Ok-carry_out.answer) c.as_bytes.result.now
     (asked_for _ _ _ _ c.in-Ok.ensures.order c.in-Ok-carry_out.ensures.answer) (rw c.in-Ok-Some.field-0-is at c.in-Ok-Some.ensures) c.tell_text.ensures
 
-pub returns-in-Ok-None : goal.returns-in-Ok-None
-returns-in-Ok-None g c = Checked (
+pub returns-in-Ok-None-clause-shown : goal.returns-in-Ok-None-clause-shown
+returns-in-Ok-None-clause-shown g c = Checked (
   g.E.Write.contents c.show-served.new.err,
   c.show-served.result.told,
   ended _ _ _ _ _ _ _ _ _ _ _ c.in-Ok.ensures.order c.in-Ok-carry_out.ensures.answer c.show-served.ensures c.follow.ensures.status,
   c.follow.ensures.follows,
 )
 
-pub returns-in-Ok-carry_out : goal.returns-in-Ok-carry_out
-returns-in-Ok-carry_out g c = Checked (
+pub returns-in-Ok-carry_out-clause-shown : goal.returns-in-Ok-carry_out-clause-shown
+returns-in-Ok-carry_out-clause-shown g c = Checked (
   g.E.Write.contents c.complain.new.err,
   c.complain.result.told,
   starved _ _ _ _ _ _ _ c.complain.ensures,
   silence _ _,
 )
 
-pub returns-in-Ok : goal.returns-in-Ok
-returns-in-Ok g c = Checked (
+pub returns-in-Ok-clause-shown : goal.returns-in-Ok-clause-shown
+returns-in-Ok-clause-shown g c = Checked (
   g.E.Write.contents c.complain-served.new.err,
   c.complain-served.result.told,
   failed _ _ _ _ _ _ _ _ _ _ c.in-Ok.ensures.order c.in-Err.ensures.failure c.complain-served.ensures c.follow-in-Err.ensures.status,
   c.follow-in-Err.ensures.follows,
 )
 
-pub returns-in-Err-Usage : goal.returns-in-Err-Usage
-returns-in-Err-Usage g c = Checked (
+pub returns-in-Err-Usage-clause-shown : goal.returns-in-Err-Usage-clause-shown
+returns-in-Err-Usage-clause-shown g c = Checked (
   g.E.Write.contents c.complain-in-Err-Usage.new.err,
   c.complain-in-Err-Usage.result.told,
   refused _ _ c.usage_of_schedule.result _ _ _ _ _
@@ -44,8 +44,8 @@ returns-in-Err-Usage g c = Checked (
   silence _ _,
 )
 
-pub returns : goal.returns
-returns g c = Checked (
+pub returns-clause-shown : goal.returns-clause-shown
+returns-clause-shown g c = Checked (
   g.E.Write.contents c.complain-in-Err-Memory.new.err,
   c.complain-in-Err-Memory.result.told,
   starved _ _ _ _ _ _ _ c.complain-in-Err-Memory.ensures,

@@ -5,14 +5,14 @@ use Rattle.cilk_commands.specs.Replies.{Text}
 use Rattle.cilk_messages.specs.Words.{texts}
 use Rattle.cilk_report.proofs.scheduling.serve_schedule.Goals as goal
 
-pub returns-in-Ok : goal.returns-in-Ok
-returns-in-Ok g c =
+pub returns-in-Ok-clause-shown : goal.returns-in-Ok-clause-shown
+returns-in-Ok-clause-shown g c =
     subst (λ (ws : List Text). Schedules ws (g.F.Files.holds c.args.files.now) (g.R.Read.remaining c.args.input.now)
     (g.F.Files.failed c.args.files.now) (g.F.Files.failed c.serve_checked.new.files) c.serve_checked.result (g.O.Write.contents c.args.out.now) (g.O.Write.contents c.serve_checked.new.out)
-    (g.E.Write.contents c.args.err.now) (g.E.Write.contents c.serve_checked.new.err)) (ap texts c.as_slice.ensures.value ∙ c.in-Ok.ensures) c.serve_checked.ensures
+    (g.E.Write.contents c.args.err.now) (g.E.Write.contents c.serve_checked.new.err)) (ap texts c.as_slice.ensures.value ∙ c.in-Ok.ensures) c.serve_checked.ensures.shown
 
-pub returns-in-Err : goal.returns-in-Err
-returns-in-Err g c = Checked (
+pub returns-in-Err-clause-shown : goal.returns-in-Err-clause-shown
+returns-in-Err-clause-shown g c = Checked (
   g.E.Write.contents c.complain.new.err,
   c.complain.result.told,
   starved _ _ _ _ _ _ _ c.complain.ensures,

@@ -1,14 +1,15 @@
-use Rattle.std.proofs.Common.{refl, subst, sym}
+use Rattle.std.proofs.Common.{ap, refl, subst, sym, ◌∙◌}
+use Rattle.std.proofs.lemmas.Bool.{true≢false}
 use Rattle.cilk_report.proofs.Measuring as measuring
-use Rattle.cilk_report.proofs.Replies.{IsUsage, ended, failed, of_kept, silence, starved, unasked}
-use Rattle.cilk_report.specs.Explained.{Checked, Measures, Schedules, Served, ServesExplained, ServesThenExplains, unflagged, words_of_check}
+use Rattle.cilk_report.proofs.Replies.{IsUsage, ended, failed, of_kept, other, silence, starved, starved_or_settled, unasked, yes}
+use Rattle.cilk_report.specs.Explained.{Checked, Measures, Schedules, Served, ServesExplained, ServesThenExplains, Settling, explains_itself, unflagged, words_of_check}
 use Rattle.cilk_messages.specs.Words.{texts}
 use Rattle.cilk_messages.specs.declared.words.WordsFault.{WordsFault}
 use Rattle.cilk_report.proofs.serving.serve_explained.Goals as goal
 
 pub returns-in-Ok-carry_out-clause-served : goal.returns-in-Ok-carry_out-clause-served
 returns-in-Ok-carry_out-clause-served g c =
-    Served c.show.result.told
+    Served c.show.result.told (other _ _ _ c.in-Ok.ensures.order c.explains_itself.ensures c.if-explains_itself.false)
     (ended _ _ _ _ _ _ _ _ _ _ _ c.in-Ok.ensures.order c.in-Ok-carry_out.ensures.answer c.show.ensures refl)
 
 pub returns-in-Ok-carry_out-clause-measured : goal.returns-in-Ok-carry_out-clause-measured
@@ -16,29 +17,29 @@ returns-in-Ok-carry_out-clause-measured g c = λ empty _. absurd (measuring.aske
 
 pub returns-in-Err-clause-served : goal.returns-in-Err-clause-served
 returns-in-Err-clause-served g c =
-    Served c.complain.result.told (failed _ _ _ _ _ _ _ _ _ _ c.in-Ok.ensures.order c.in-Err.ensures.failure c.complain.ensures refl)
+    Served c.complain.result.told (other _ _ _ c.in-Ok.ensures.order c.explains_itself.ensures c.if-explains_itself.false) (failed _ _ _ _ _ _ _ _ _ _ c.in-Ok.ensures.order c.in-Err.ensures.failure c.complain.ensures refl)
 
 pub returns-in-Err-clause-measured : goal.returns-in-Err-clause-measured
 returns-in-Err-clause-measured g c = λ empty _. absurd (measuring.asked _ _ c.in-Ok.ensures.order empty)
 
 pub serve_other-requires-clause-other : goal.serve_other-requires-clause-other
 serve_other-requires-clause-other g c =
-    unasked _ _ (subst (λ (e : WordsFault). IsUsage e) (sym c.in-Err-Usage.field-0-is) tt) c.in-Err-Usage.ensures.fault
+    unasked _ _ (subst (λ (e : WordsFault). IsUsage e) (sym c.in-Err-Usage.field-0-is) tt) c.in-Err-Usage.ensures-1.fault
 
 pub returns-in-Err-Usage-clause-measured : goal.returns-in-Err-Usage-clause-measured
 returns-in-Err-Usage-clause-measured g c = λ _ measures.
     of_kept (λ fs f. Measures (texts c.args.words.now) fs (g.R.Read.remaining c.args.input.now) f (g.F.Files.failed c.serve_other.new.files)
     c.serve_other.result (g.O.Write.contents c.args.out.now) (g.O.Write.contents c.serve_other.new.out) (g.E.Write.contents c.args.err.now)
-    (g.E.Write.contents c.serve_other.new.err)) _ _ _ _ c.keep.ensures.failures c.keep.ensures.same (c.serve_other.ensures.measured measures)
+    (g.E.Write.contents c.serve_other.new.err)) _ _ _ _ c.keep-in-Err-Usage.ensures.failures c.keep-in-Err-Usage.ensures.same (c.serve_other.ensures.measured measures)
 
 pub returns-in-Err-Usage-clause-served : goal.returns-in-Err-Usage-clause-served
 returns-in-Err-Usage-clause-served g c =
     of_kept (λ fs f. ServesExplained (texts c.args.words.now) fs (g.R.Read.remaining c.args.input.now) f (g.F.Files.failed c.serve_other.new.files)
     c.serve_other.result (g.O.Write.contents c.args.out.now) (g.O.Write.contents c.serve_other.new.out) (g.E.Write.contents c.args.err.now)
-    (g.E.Write.contents c.serve_other.new.err)) _ _ _ _ c.keep.ensures.failures c.keep.ensures.same c.serve_other.ensures.served
+    (g.E.Write.contents c.serve_other.new.err)) _ _ _ _ c.keep-in-Err-Usage.ensures.failures c.keep-in-Err-Usage.ensures.same c.serve_other.ensures.served
 
 pub returns-in-Err-Memory-clause-served : goal.returns-in-Err-Memory-clause-served
-returns-in-Err-Memory-clause-served g c = Served c.complain-in-Err-Memory.result.told (starved _ _ _ _ _ _ _ c.complain-in-Err-Memory.ensures)
+returns-in-Err-Memory-clause-served g c = starved_or_settled _ _ _ _ _ _ _ _ _ _ c.complain-in-Err-Memory.ensures
 
 pub returns-in-Err-Memory-clause-measured : goal.returns-in-Err-Memory-clause-measured
 returns-in-Err-Memory-clause-measured g c = λ _ _. measuring.starved _ _ _ _ _ _ _ _ _ _ _ _ c.complain-in-Err-Memory.ensures (silence _ _) refl
@@ -53,7 +54,7 @@ pub returns-in-Err-Usage-clause-explained : goal.returns-in-Err-Usage-clause-exp
 returns-in-Err-Usage-clause-explained g c = λ _ isnt other about less.
     of_kept (λ fs f. ServesThenExplains (unflagged (texts c.args.words.now)) fs (g.R.Read.remaining c.args.input.now) f (g.F.Files.failed c.serve_other.new.files)
     c.serve_other.result (g.O.Write.contents c.args.out.now) (g.O.Write.contents c.serve_other.new.out) (g.E.Write.contents c.args.err.now)
-    (g.E.Write.contents c.serve_other.new.err)) _ _ _ _ c.keep.ensures.failures c.keep.ensures.same (c.serve_other.ensures.explained isnt other about less)
+    (g.E.Write.contents c.serve_other.new.err)) _ _ _ _ c.keep-in-Err-Usage.ensures.failures c.keep-in-Err-Usage.ensures.same (c.serve_other.ensures.explained isnt other about less)
 
 pub returns-in-Err-Memory-clause-explained : goal.returns-in-Err-Memory-clause-explained
 returns-in-Err-Memory-clause-explained g c = λ _ _ _ _ _. (
@@ -73,7 +74,7 @@ pub returns-in-Err-Usage-clause-scheduled : goal.returns-in-Err-Usage-clause-sch
 returns-in-Err-Usage-clause-scheduled g c = λ _ isnt schedules.
     of_kept (λ fs f. Schedules (words_of_check (texts c.args.words.now)) fs (g.R.Read.remaining c.args.input.now) f (g.F.Files.failed c.serve_other.new.files)
     c.serve_other.result (g.O.Write.contents c.args.out.now) (g.O.Write.contents c.serve_other.new.out) (g.E.Write.contents c.args.err.now)
-    (g.E.Write.contents c.serve_other.new.err)) _ _ _ _ c.keep.ensures.failures c.keep.ensures.same (c.serve_other.ensures.scheduled isnt schedules)
+    (g.E.Write.contents c.serve_other.new.err)) _ _ _ _ c.keep-in-Err-Usage.ensures.failures c.keep-in-Err-Usage.ensures.same (c.serve_other.ensures.scheduled isnt schedules)
 
 pub returns-in-Err-Memory-clause-scheduled : goal.returns-in-Err-Memory-clause-scheduled
 returns-in-Err-Memory-clause-scheduled g c = λ _ _ _. Checked (
@@ -82,3 +83,45 @@ returns-in-Err-Memory-clause-scheduled g c = λ _ _ _. Checked (
   starved _ _ _ _ _ _ _ c.complain-in-Err-Memory.ensures,
   silence _ _,
 )
+
+pub returns-in-Ok-carry_out-clause-settled : goal.returns-in-Ok-carry_out-clause-settled
+returns-in-Ok-carry_out-clause-settled g c = λ yes.
+    absurd (true≢false (sym yes ∙ other _ _ _ c.in-Ok.ensures.order c.explains_itself.ensures c.if-explains_itself.false))
+
+pub returns-in-Err-clause-settled : goal.returns-in-Err-clause-settled
+returns-in-Err-clause-settled g c = λ yes.
+    absurd (true≢false (sym yes ∙ other _ _ _ c.in-Ok.ensures.order c.explains_itself.ensures c.if-explains_itself.false))
+
+pub returns-in-Err-Usage-clause-settled : goal.returns-in-Err-Usage-clause-settled
+returns-in-Err-Usage-clause-settled g c = λ yes.
+    absurd (true≢false (sym yes ∙ ap explains_itself (unasked _ _ (subst (λ (e : WordsFault). IsUsage e) (sym c.in-Err-Usage.field-0-is) tt) c.in-Err-Usage.ensures-1.fault)))
+
+pub returns-in-Err-Memory-clause-settled : goal.returns-in-Err-Memory-clause-settled
+returns-in-Err-Memory-clause-settled g c = λ _. (
+  g.E.Write.contents c.complain-in-Err-Memory.new.err,
+  c.complain-in-Err-Memory.result.told,
+  starved _ _ _ _ _ _ _ c.complain-in-Err-Memory.ensures,
+  silence _ _,
+)
+
+pub returns-in-Ok-clause-served : goal.returns-in-Ok-clause-served
+returns-in-Ok-clause-served g c =
+    Settling (yes _ _ _ c.in-Ok.ensures.order c.explains_itself.ensures c.if-explains_itself.true)
+    (of_kept (λ fs f. ServesThenExplains (texts c.args.words.now) fs (g.R.Read.remaining c.args.input.now) f (g.F.Files.failed c.serve_flagged.new.files)
+    c.serve_flagged.result (g.O.Write.contents c.args.out.now) (g.O.Write.contents c.serve_flagged.new.out) (g.E.Write.contents c.args.err.now)
+    (g.E.Write.contents c.serve_flagged.new.err)) _ _ _ _ c.keep.ensures.failures c.keep.ensures.same c.serve_flagged.ensures.shown)
+
+pub returns-in-Ok-clause-settled : goal.returns-in-Ok-clause-settled
+returns-in-Ok-clause-settled g c = λ _.
+    of_kept (λ fs f. ServesThenExplains (texts c.args.words.now) fs (g.R.Read.remaining c.args.input.now) f (g.F.Files.failed c.serve_flagged.new.files)
+    c.serve_flagged.result (g.O.Write.contents c.args.out.now) (g.O.Write.contents c.serve_flagged.new.out) (g.E.Write.contents c.args.err.now)
+    (g.E.Write.contents c.serve_flagged.new.err)) _ _ _ _ c.keep.ensures.failures c.keep.ensures.same c.serve_flagged.ensures.shown
+
+pub returns-in-Ok-clause-measured : goal.returns-in-Ok-clause-measured
+returns-in-Ok-clause-measured g c = λ empty _. absurd (measuring.asked _ _ c.in-Ok.ensures.order empty)
+
+pub returns-in-Ok-clause-scheduled : goal.returns-in-Ok-clause-scheduled
+returns-in-Ok-clause-scheduled g c = λ empty _ _. absurd (measuring.asked _ _ c.in-Ok.ensures.order empty)
+
+pub returns-in-Ok-clause-explained : goal.returns-in-Ok-clause-explained
+returns-in-Ok-clause-explained g c = λ empty _ _ _ _. absurd (measuring.asked _ _ c.in-Ok.ensures.order empty)

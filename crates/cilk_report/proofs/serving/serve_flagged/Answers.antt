@@ -1,26 +1,30 @@
-use Rattle.std.proofs.Common.{subst, sym}
-use Rattle.cilk_report.proofs.Replies.{IsUsage, ended, failed, refused, silence, starved, unasked}
+use Rattle.std.proofs.Common.{Some, subst, sym}
+use Rattle.cilk_commands.specs.Replies.{answer_view, failure_view}
+use Rattle.cilk_messages.specs.Words.{order_view}
+use Rattle.cilk_report.proofs.Replies.{IsUsage, ended, failed, refused, reread, silence, starved, unasked}
 use Rattle.cilk_messages.specs.declared.words.WordsFault.{WordsFault}
 use Rattle.cilk_report.proofs.serving.serve_flagged.Goals as goal
 
-pub returns-in-Ok-carry_out : goal.returns-in-Ok-carry_out
-returns-in-Ok-carry_out g c = (
+pub returns-in-Ok-carry_out-clause-shown : goal.returns-in-Ok-carry_out-clause-shown
+returns-in-Ok-carry_out-clause-shown g c = (
   g.E.Write.contents c.show-served.new.err,
   c.show-served.result.told,
-  ended _ _ _ _ _ _ _ _ _ _ _ c.in-Ok.ensures.order c.in-Ok-carry_out.ensures.answer c.show-served.ensures c.follow.ensures.status,
+  ended _ _ _ _ _ _ _ _ _ _ _ c.in-Ok.ensures.order (reread (g.F.Files.holds c.args.files.now) (g.R.Read.remaining c.args.input.now) (g.F.Files.failed c.args.files.now) _ _
+      (Some (order_view c.in-Ok.order)) (answer_view c.in-Ok-carry_out.answer) c.answered.ensures c.in-Ok-carry_out.ensures.answer) c.show-served.ensures c.follow.ensures.status,
   c.follow.ensures.follows,
 )
 
-pub returns-in-Err : goal.returns-in-Err
-returns-in-Err g c = (
+pub returns-in-Err-clause-shown : goal.returns-in-Err-clause-shown
+returns-in-Err-clause-shown g c = (
   g.E.Write.contents c.complain-served.new.err,
   c.complain-served.result.told,
-  failed _ _ _ _ _ _ _ _ _ _ c.in-Ok.ensures.order c.in-Err.ensures.failure c.complain-served.ensures c.follow-in-Err.ensures.status,
+  failed _ _ _ _ _ _ _ _ _ _ c.in-Ok.ensures.order (reread (g.F.Files.holds c.args.files.now) (g.R.Read.remaining c.args.input.now) (g.F.Files.failed c.args.files.now) _ _
+      (Some (order_view c.in-Ok.order)) (failure_view c.in-Err.failure) c.failed.ensures c.in-Err.ensures.failure) c.complain-served.ensures c.follow-in-Err.ensures.status,
   c.follow-in-Err.ensures.follows,
 )
 
-pub returns-in-Err-Usage : goal.returns-in-Err-Usage
-returns-in-Err-Usage g c = (
+pub returns-in-Err-Usage-clause-shown : goal.returns-in-Err-Usage-clause-shown
+returns-in-Err-Usage-clause-shown g c = (
   g.E.Write.contents c.complain.new.err,
   c.complain.result.told,
   refused _ _ c.refusal.result _ _ _ _ _
@@ -29,8 +33,8 @@ returns-in-Err-Usage g c = (
   silence _ _,
 )
 
-pub returns-in-Err-Memory : goal.returns-in-Err-Memory
-returns-in-Err-Memory g c = (
+pub returns-in-Err-Memory-clause-shown : goal.returns-in-Err-Memory-clause-shown
+returns-in-Err-Memory-clause-shown g c = (
   g.E.Write.contents c.complain-in-Err-Memory.new.err,
   c.complain-in-Err-Memory.result.told,
   starved _ _ _ _ _ _ _ c.complain-in-Err-Memory.ensures,

@@ -4,10 +4,10 @@ use Rattle.cilk_report.specs.Explained.{Measuring}
 use Rattle.cilk_report.proofs.serving.serve_other.Goals as goal
 
 pub returns-then-is_measure-clause-served : goal.returns-then-is_measure-clause-served
-returns-then-is_measure-clause-served g c = Measuring c.requires.other (sym c.is_measure.ensures ∙ c.if-is_measure.true) c.serve_measure.ensures
+returns-then-is_measure-clause-served g c = Measuring c.requires.other (sym c.is_measure.ensures ∙ c.if-is_measure.true) c.serve_measure.ensures.shown
 
 pub returns-then-is_measure-clause-measured : goal.returns-then-is_measure-clause-measured
-returns-then-is_measure-clause-measured g c = λ _. c.serve_measure.ensures
+returns-then-is_measure-clause-measured g c = λ _. c.serve_measure.ensures.shown
 
 pub returns-else-is_measure-clause-served : goal.returns-else-is_measure-clause-served
 returns-else-is_measure-clause-served g c = c.serve_unmeasured.ensures.served

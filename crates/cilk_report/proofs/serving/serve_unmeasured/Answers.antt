@@ -4,10 +4,10 @@ use Rattle.cilk_report.specs.Explained.{Scheduling}
 use Rattle.cilk_report.proofs.serving.serve_unmeasured.Goals as goal
 
 pub returns-then-is_schedule-clause-served : goal.returns-then-is_schedule-clause-served
-returns-then-is_schedule-clause-served g c = Scheduling c.requires.other (sym c.is_schedule.ensures ∙ c.if-is_schedule.true) c.serve_schedule.ensures
+returns-then-is_schedule-clause-served g c = Scheduling c.requires.other (sym c.is_schedule.ensures ∙ c.if-is_schedule.true) c.serve_schedule.ensures.shown
 
 pub returns-then-is_schedule-clause-scheduled : goal.returns-then-is_schedule-clause-scheduled
-returns-then-is_schedule-clause-scheduled g c = λ _. c.serve_schedule.ensures
+returns-then-is_schedule-clause-scheduled g c = λ _. c.serve_schedule.ensures.shown
 
 pub returns-then-is_schedule-clause-explained : goal.returns-then-is_schedule-clause-explained
 returns-then-is_schedule-clause-explained g c =

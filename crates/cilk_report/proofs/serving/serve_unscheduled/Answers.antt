@@ -2,7 +2,7 @@ use Rattle.std.proofs.Common.{◌≡◌, ◌<◌, ◌≤◌, List, ap, length, r
 use Rattle.std.proofs.lemmas.Bool.{true≢false}
 use Rattle.cilk_report.proofs.Plain.{as_many, fewer, plain_texts}
 use Rattle.cilk_report.proofs.Replies.{refused, silence, starved}
-use Rattle.cilk_report.specs.Explained.{About, Explained, Served, ServesThenExplains, unflagged}
+use Rattle.cilk_report.specs.Explained.{About, Explained, Served, ServesThenExplains, explains_itself, unflagged}
 use Rattle.cilk_commands.specs.Replies.{Text}
 use Rattle.cilk_messages.specs.Words.{texts}
 use Rattle.cilk_commands.specs.declared.reply.Failure.TheVariants as failures
@@ -18,7 +18,7 @@ returns-in-Ok-Text-clause-explained g c =
 
 pub returns-in-Ok-Wrong-clause-served : goal.returns-in-Ok-Wrong-clause-served
 returns-in-Ok-Wrong-clause-served g c =
-    Served c.complain.result.told (refused _ _ (failures.Words c.in-Ok-Wrong.text) _ _ _ _ _ c.requires.other tt c.complain.ensures)
+    Served c.complain.result.told (ap explains_itself c.requires.other) (refused _ _ (failures.Words c.in-Ok-Wrong.text) _ _ _ _ _ c.requires.other tt c.complain.ensures)
 
 pub returns-in-Ok-Wrong-clause-explained : goal.returns-in-Ok-Wrong-clause-explained
 returns-in-Ok-Wrong-clause-explained g c =
@@ -32,7 +32,7 @@ returns-in-Ok-clause-served g c =
     Explained c.requires.other (fewer _ _ same less)
     (subst (λ (ws : List Text). ServesThenExplains ws (g.F.Files.holds c.args.files.now) (g.R.Read.remaining c.args.input.now)
     (g.F.Files.failed c.args.files.now) (g.F.Files.failed c.serve_flagged.new.files) c.serve_flagged.result (g.O.Write.contents c.args.out.now) (g.O.Write.contents c.serve_flagged.new.out)
-    (g.E.Write.contents c.args.err.now) (g.E.Write.contents c.serve_flagged.new.err)) same c.serve_flagged.ensures)
+    (g.E.Write.contents c.args.err.now) (g.E.Write.contents c.serve_flagged.new.err)) same c.serve_flagged.ensures.shown)
 
 pub returns-in-Ok-clause-explained : goal.returns-in-Ok-clause-explained
 returns-in-Ok-clause-explained g c = λ _ _.
@@ -40,11 +40,11 @@ returns-in-Ok-clause-explained g c = λ _ _.
     ap texts (c.as_slice.ensures.value ∙ c.in-Ok.ensures) ∙ plain_texts c.args.words.now in
     subst (λ (ws : List Text). ServesThenExplains ws (g.F.Files.holds c.args.files.now) (g.R.Read.remaining c.args.input.now)
     (g.F.Files.failed c.args.files.now) (g.F.Files.failed c.serve_flagged.new.files) c.serve_flagged.result (g.O.Write.contents c.args.out.now) (g.O.Write.contents c.serve_flagged.new.out)
-    (g.E.Write.contents c.args.err.now) (g.E.Write.contents c.serve_flagged.new.err)) same c.serve_flagged.ensures
+    (g.E.Write.contents c.args.err.now) (g.E.Write.contents c.serve_flagged.new.err)) same c.serve_flagged.ensures.shown
 
 pub returns-in-Ok-2-clause-served : goal.returns-in-Ok-2-clause-served
 returns-in-Ok-2-clause-served g c =
-    Served c.complain-in-Ok-2.result.told (refused _ _ c.refusal.result _ _ _ _ _ c.requires.other c.refusal.ensures c.complain-in-Ok-2.ensures)
+    Served c.complain-in-Ok-2.result.told (ap explains_itself c.requires.other) (refused _ _ c.refusal.result _ _ _ _ _ c.requires.other c.refusal.ensures c.complain-in-Ok-2.ensures)
 
 pub returns-in-Ok-2-clause-explained : goal.returns-in-Ok-2-clause-explained
 returns-in-Ok-2-clause-explained g c = λ _ less.
@@ -54,7 +54,7 @@ returns-in-Ok-2-clause-explained g c = λ _ less.
     absurd (as_many _ _ same many less)
 
 pub returns-in-Err-unflagged-clause-served : goal.returns-in-Err-unflagged-clause-served
-returns-in-Err-unflagged-clause-served g c = Served c.complain-in-Err-unflagged.result.told (starved _ _ _ _ _ _ _ c.complain-in-Err-unflagged.ensures)
+returns-in-Err-unflagged-clause-served g c = Served c.complain-in-Err-unflagged.result.told (ap explains_itself c.requires.other) (starved _ _ _ _ _ _ _ c.complain-in-Err-unflagged.ensures)
 
 pub returns-in-Err-unflagged-clause-explained : goal.returns-in-Err-unflagged-clause-explained
 returns-in-Err-unflagged-clause-explained g c = λ _ _. (
@@ -65,7 +65,7 @@ returns-in-Err-unflagged-clause-explained g c = λ _ _. (
 )
 
 pub returns-in-Err-clause-served : goal.returns-in-Err-clause-served
-returns-in-Err-clause-served g c = Served c.complain-in-Err.result.told (starved _ _ _ _ _ _ _ c.complain-in-Err.ensures)
+returns-in-Err-clause-served g c = Served c.complain-in-Err.result.told (ap explains_itself c.requires.other) (starved _ _ _ _ _ _ _ c.complain-in-Err.ensures)
 
 pub returns-in-Err-clause-explained : goal.returns-in-Err-clause-explained
 returns-in-Err-clause-explained g c = λ _ _. (

@@ -7,15 +7,15 @@ use Rattle.cilk_commands.specs.Replies.{Text}
 use Rattle.cilk_messages.specs.Words.{texts}
 use Rattle.cilk_report.proofs.serving.show_measured.Goals as goal
 
-pub returns-in-Ok-text_of : goal.returns-in-Ok-text_of
-returns-in-Ok-text_of g c =
+pub returns-in-Ok-text_of-clause-shown : goal.returns-in-Ok-text_of-clause-shown
+returns-in-Ok-text_of-clause-shown g c =
     Measured _ _ c.in-Ok.totals c.as_slice.result.now c.requires.named c.in-Ok.ensures.totals
     (subst (λ (t : Text). IsMeasureText (texts c.args.words.now) c.in-Ok.totals t) (sym c.as_slice.ensures.value) c.in-Ok-text_of.ensures) c.tell_text.ensures
 
-pub returns-in-Err-text_of : goal.returns-in-Err-text_of
-returns-in-Err-text_of g c = starved _ _ _ _ _ _ _ _ _ _ _ _ c.complain.ensures (silence _ _) refl
+pub returns-in-Err-text_of-clause-shown : goal.returns-in-Err-text_of-clause-shown
+returns-in-Err-text_of-clause-shown g c = starved _ _ _ _ _ _ _ _ _ _ _ _ c.complain.ensures (silence _ _) refl
 
-pub returns-in-Err : goal.returns-in-Err
-returns-in-Err g c =
+pub returns-in-Err-clause-shown : goal.returns-in-Err-clause-shown
+returns-in-Err-clause-shown g c =
     fails _ _ _ _ _ _ _ c.in-Err.failure _ _ _ _ _ _ _ c.requires.named c.in-Err.ensures.failure c.complain-served.ensures c.follow.ensures.follows
     c.follow.ensures.status

@@ -1,4 +1,4 @@
-use Rattle.std.proofs.Common.{◌≡◌, Bool, true, false, sym, ◌∙◌}
+use Rattle.std.proofs.Common.{◌≡◌, Bool, true, sym, ◌∙◌}
 use Rattle.std.proofs.lemmas.Bool.{true≢false}
 use Rattle.std.specs.Prelude.{IfOk, IsFalse, Result, Ok, Err}
 use Rattle.cilk_report.proofs.text.text_of.Goals as goal

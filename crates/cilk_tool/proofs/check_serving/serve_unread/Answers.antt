@@ -17,7 +17,7 @@ returns-in-Ok-clause-served g c =
     Explained c.requires.unread (fewer _ _ same less)
     (subst (λ (ws : List Text). HelpedThenExplains ws (world (g.F.Files.holds c.args.files.now) (g.R.Read.remaining c.args.input.now)
     (g.F.Files.failed c.args.files.now) (g.F.Files.failed c.serve_flagged.new.files)) c.serve_flagged.result (g.O.Write.contents c.args.out.now) (g.O.Write.contents c.serve_flagged.new.out)
-    (g.E.Write.contents c.args.err.now) (g.E.Write.contents c.serve_flagged.new.err)) same c.serve_flagged.ensures)
+    (g.E.Write.contents c.args.err.now) (g.E.Write.contents c.serve_flagged.new.err)) same c.serve_flagged.ensures.shown)
 
 pub returns-in-Ok-clause-explained : goal.returns-in-Ok-clause-explained
 returns-in-Ok-clause-explained g c = λ _.
@@ -25,7 +25,7 @@ returns-in-Ok-clause-explained g c = λ _.
     ap texts (c.as_slice.ensures.value ∙ c.in-Ok.ensures) ∙ plain_texts c.args.words.now in
     subst (λ (ws : List Text). HelpedThenExplains ws (world (g.F.Files.holds c.args.files.now) (g.R.Read.remaining c.args.input.now)
     (g.F.Files.failed c.args.files.now) (g.F.Files.failed c.serve_flagged.new.files)) c.serve_flagged.result (g.O.Write.contents c.args.out.now) (g.O.Write.contents c.serve_flagged.new.out)
-    (g.E.Write.contents c.args.err.now) (g.E.Write.contents c.serve_flagged.new.err)) same c.serve_flagged.ensures
+    (g.E.Write.contents c.args.err.now) (g.E.Write.contents c.serve_flagged.new.err)) same c.serve_flagged.ensures.shown
 
 pub returns-in-Ok-2-clause-served : goal.returns-in-Ok-2-clause-served
 returns-in-Ok-2-clause-served g c =

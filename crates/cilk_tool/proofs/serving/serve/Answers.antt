@@ -2,16 +2,16 @@ use Rattle.std.proofs.Common.{sym, ◌∙◌}
 use Rattle.cilk_tool.specs.Serving.{Helped, Others, Threads}
 use Rattle.cilk_tool.proofs.serving.serve.Goals as goal
 
-pub returns-then-is_threads : goal.returns-then-is_threads
-returns-then-is_threads g c =
+pub returns-then-is_threads-clause-shown : goal.returns-then-is_threads-clause-shown
+returns-then-is_threads-clause-shown g c =
     Threads (sym c.is_threads.ensures ∙ c.if-is_threads.true) c.serve_threads.ensures.served c.serve_threads.ensures.explained
 
-pub returns-then-is_helped : goal.returns-then-is_helped
-returns-then-is_helped g c =
+pub returns-then-is_helped-clause-shown : goal.returns-then-is_helped-clause-shown
+returns-then-is_helped-clause-shown g c =
     Helped (sym c.is_threads.ensures ∙ c.if-is_threads.false) (sym c.is_helped.ensures ∙ c.if-is_helped.true) c.serve_check.ensures.served
     c.serve_check.ensures.explained
 
-pub returns-else-is_helped : goal.returns-else-is_helped
-returns-else-is_helped g c =
+pub returns-else-is_helped-clause-shown : goal.returns-else-is_helped-clause-shown
+returns-else-is_helped-clause-shown g c =
     Others (sym c.is_threads.ensures ∙ c.if-is_threads.false) (sym c.is_helped.ensures ∙ c.if-is_helped.false) c.serve_explained.ensures.served
-    c.serve_explained.ensures.measured c.serve_explained.ensures.scheduled c.serve_explained.ensures.explained
+    c.serve_explained.ensures.measured c.serve_explained.ensures.scheduled c.serve_explained.ensures.explained c.serve_explained.ensures.settled

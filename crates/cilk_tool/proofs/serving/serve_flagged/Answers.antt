@@ -4,8 +4,8 @@ use Rattle.cilk_report.proofs.Replies.{IsUsage, silence}
 use Rattle.cilk_tool.proofs.Showing.{answered, ends, fails, no_words, starved, told_status, unasked}
 use Rattle.cilk_tool.proofs.serving.serve_flagged.Goals as goal
 
-pub returns-in-Ok-carry_out : goal.returns-in-Ok-carry_out
-returns-in-Ok-carry_out g c = (
+pub returns-in-Ok-carry_out-clause-shown : goal.returns-in-Ok-carry_out-clause-shown
+returns-in-Ok-carry_out-clause-shown g c = (
   g.E.Write.contents c.show_ending-served.new.err,
   c.show_ending-served.result.told,
   told_status _ _ _ _ _ _ _ _ _
@@ -14,8 +14,8 @@ returns-in-Ok-carry_out g c = (
   c.follow.ensures.follows,
 )
 
-pub returns-in-Err : goal.returns-in-Err
-returns-in-Err g c = (
+pub returns-in-Err-clause-shown : goal.returns-in-Err-clause-shown
+returns-in-Err-clause-shown g c = (
   g.E.Write.contents c.complain-served.new.err,
   c.complain-served.result.told,
   told_status _ _ _ _ _ _ _ _ _
@@ -24,8 +24,8 @@ returns-in-Err g c = (
   c.follow-in-Err.ensures.follows,
 )
 
-pub returns-in-Err-Usage : goal.returns-in-Err-Usage
-returns-in-Err-Usage g c = (
+pub returns-in-Err-Usage-clause-shown : goal.returns-in-Err-Usage-clause-shown
+returns-in-Err-Usage-clause-shown g c = (
   g.E.Write.contents c.complain.new.err,
   c.complain.result.told,
   fails _ _ _ _ c.advised.result _ _ _
@@ -34,8 +34,8 @@ returns-in-Err-Usage g c = (
   silence _ _,
 )
 
-pub returns-in-Err-Memory : goal.returns-in-Err-Memory
-returns-in-Err-Memory g c = (
+pub returns-in-Err-Memory-clause-shown : goal.returns-in-Err-Memory-clause-shown
+returns-in-Err-Memory-clause-shown g c = (
   g.E.Write.contents c.complain-in-Err-Memory.new.err,
   c.complain-in-Err-Memory.result.told,
   starved _ _ _ _ _ _ _ c.complain-in-Err-Memory.ensures,

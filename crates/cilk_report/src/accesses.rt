@@ -1,0 +1,164 @@
+//! The two accesses of a trace that race, and the spawned call that lets them run in parallel.
+
+use crate::again::Seeks;
+use cilk_findings::fault::CaseFault;
+use cilk_trace::line::Line;
+use cilk_trace_text::reader::TraceReader;
+use std::alloc::{AllocError, Global};
+
+/// The most numbers of a frame's path that are shown.
+const SHOWN: usize = 16;
+
+/// A line of a trace, and the path of the frame that it is in.
+#[derive(Drop)]
+pub struct Access {
+    pub number: u32,
+    pub line: Line,
+    pub frame: String,
+}
+
+/// A call, from its `enter` to its `spawned` or `called`.
+#[derive(Clone, Copy)]
+pub struct CallLines {
+    pub site: u32,
+    pub first: u32,
+    pub last: u32,
+}
+
+/// A frame that is open: its number among its parent's children, and the number of its own.
+#[derive(Clone, Copy)]
+struct Open {
+    site: u32,
+    first: u32,
+    ordinal: u64,
+    children: u64,
+}
+
+/// A search for two lines of a trace. Its memory is linear in the depth of frames.
+#[derive(Drop)]
+pub struct Accesses {
+    alloc: Global,
+    earlier: u32,
+    later: u32,
+    reader: TraceReader,
+    open: Vec<Open>,
+    // The children of the root frame.
+    children: u64,
+    // The fewest frames that were open since the earlier line.
+    fewest: usize,
+    /// The earlier line, once it is found.
+    pub first: Option<Access>,
+    /// The later line, once it is found.
+    pub second: Option<Access>,
+    /// The last call on the way from the earlier line to the later one that ended: it is the child
+    /// in which the earlier line is, of the last frame on both ways.
+    pub parted: Option<CallLines>,
+}
+
+impl Accesses {
+    /// Begins a search for two lines, counted from 1.
+    pub fn new(alloc: Global, earlier: u32, later: u32) -> Accesses {
+        Accesses {
+            alloc,
+            earlier,
+            later,
+            reader: TraceReader::new(),
+            open: Vec::new(alloc),
+            children: 0,
+            fewest: 0,
+            first: None,
+            second: None,
+            parted: None,
+        }
+    }
+
+    fn meet(&mut self, number: u32, line: Line) -> Result<(), AllocError> {
+        match line {
+            Line::Enter { site } => self.enter(number, site)?,
+            Line::Spawned | Line::Called => self.leave(number),
+            _ if number == self.earlier => {
+                self.fewest = self.open.len();
+                self.first = Some(self.access(number, line)?);
+            }
+            _ if number == self.later => self.second = Some(self.access(number, line)?),
+            _ => {}
+        }
+        Ok(())
+    }
+
+    fn enter(&mut self, first: u32, site: u32) -> Result<(), AllocError> {
+        let ordinal = match self.open.last_mut() {
+            Some(parent) => next(&mut parent.children),
+            None => next(&mut self.children),
+        };
+        self.open.push(Open {
+            site,
+            first,
+            ordinal,
+            children: 0,
+        })?;
+        Ok(())
+    }
+
+    fn leave(&mut self, last: u32) {
+        let Some(Open { site, first, .. }) = self.open.pop() else {
+            return;
+        };
+        if self.first.is_some() && self.open.len() < self.fewest {
+            self.fewest = self.open.len();
+            self.parted = Some(CallLines { site, first, last });
+        }
+    }
+
+    fn access(&self, number: u32, line: Line) -> Result<Access, AllocError> {
+        Ok(Access {
+            number,
+            line,
+            frame: self.path()?,
+        })
+    }
+
+    // The path of the current frame: `r`, and the number of each frame on the way among its
+    // parent's children.
+    fn path(&self) -> Result<String, AllocError> {
+        let mut path = String::from_str(self.alloc, "r")?;
+        for (depth, frame) in self.open.iter().enumerate() {
+            if depth == SHOWN {
+                path.push_str("..")?;
+                break;
+            }
+            let ordinal = frame.ordinal;
+            let name = format!(in self.alloc; ".{ordinal}")?;
+            path.push_str(name.as_str())?;
+        }
+        Ok(path)
+    }
+}
+
+// Counts one more, and returns the count.
+fn next(count: &mut u64) -> u64 {
+    *count = count.saturating_add(1);
+    *count
+}
+
+impl Seeks for Accesses {
+    fn take(&mut self, part: &[u8]) -> Result<bool, CaseFault> {
+        let mut rest = part;
+        for _line in 0..part.len() {
+            if rest.is_empty() || self.second.is_some() {
+                break;
+            }
+            let number = self.reader.number();
+            match self.reader.next(rest) {
+                Ok((taken, line)) => {
+                    rest = &rest[taken..];
+                    if let Some(line) = line {
+                        self.meet(number, line)?;
+                    }
+                }
+                Err(_) => return Err(CaseFault::Unfit),
+            }
+        }
+        Ok(self.second.is_none())
+    }
+}

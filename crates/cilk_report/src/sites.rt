@@ -1,0 +1,125 @@
+//! Tables of sites: what the numbers of a trace's sites mean.
+
+ghost use Rattle.std.specs.Prelude.{◌≤◌, length};
+
+use crate::again::{Seeks, put};
+use cilk_findings::fault::CaseFault;
+use cilk_syntax::lexer::{all_digits, value_of};
+use std::alloc::{AllocError, Global};
+
+/// The most bytes of a line that are kept.
+const MAX_LINE: usize = 4096;
+
+/// What the table says of a site: file and line of the source, and the function.
+#[derive(Drop)]
+struct Site {
+    number: u32,
+    place: String,
+    function: String,
+}
+
+/// A search for sites in a table.
+#[derive(Drop)]
+pub struct Sites {
+    alloc: Global,
+    wanted: Vec<u32>,
+    found: Vec<Site>,
+    line: Vec<u8>,
+}
+
+impl Sites {
+    /// Begins a search for sites of these numbers.
+    pub fn new(alloc: Global, wanted: Vec<u32>) -> Sites {
+        Sites {
+            alloc,
+            wanted,
+            found: Vec::new(alloc),
+            line: Vec::new(alloc),
+        }
+    }
+
+    /// Returns whether no site was found.
+    pub fn is_empty(&self) -> bool {
+        self.found.is_empty()
+    }
+
+    /// Returns `FILE:LINE` and the function of a site, if the table names them.
+    pub fn of(&self, number: u32) -> Option<(&str, &str)> {
+        for site in &self.found {
+            if site.number == number {
+                return Some((site.place.as_str(), site.function.as_str()));
+            }
+        }
+        None
+    }
+
+    // Reads a line, unless it is of a site that isn't wanted or isn't known.
+    fn end_line(&mut self) -> Result<(), AllocError> {
+        if let Some((number, rest)) = site_in(self.line.as_slice()) {
+            if self.wanted.contains(&number) && !rest.starts_with(b"?:0 ") {
+                let end = end_of_place(rest);
+                let place = String::from_utf8_lossy(self.alloc, &rest[..end])?;
+                let behind = rest.get(end.saturating_add(1)..).unwrap_or(&[]);
+                let function = String::from_utf8_lossy(self.alloc, behind)?;
+                self.found.push(Site {
+                    number,
+                    place,
+                    function,
+                })?;
+            }
+        }
+        self.line.truncate(0);
+        Ok(())
+    }
+}
+
+// The number at the beginning of a line, and the rest after the space.
+fn site_in(line: &[u8]) -> Option<(u32, &[u8])> {
+    for (at, byte) in line.iter().enumerate() {
+        if *byte == b' ' {
+            let digits = &line[..at];
+            if !all_digits(digits) {
+                return None;
+            }
+            return match value_of(digits) {
+                Some(value) if value <= 4_294_967_295 => Some((value as u32, &line[at + 1..])),
+                _ => None,
+            };
+        }
+    }
+    None
+}
+
+// The end of `FILE:LINE`: the first space after a colon and digits, since a file's name may have
+// spaces.
+fn end_of_place(rest: &[u8]) -> usize
+    ensures { result ≤ length rest.now }
+{
+    let mut has_colon = false;
+    let mut has_digits = false;
+    for (at, byte) in rest.iter().enumerate() {
+        match *byte {
+            b' ' if has_colon && has_digits => return at,
+            b':' => {
+                has_colon = true;
+                has_digits = false;
+            }
+            b'0'..=b'9' => has_digits = true,
+            _ => has_colon = false,
+        }
+    }
+    rest.len()
+}
+
+impl Seeks for Sites {
+    fn take(&mut self, part: &[u8]) -> Result<bool, CaseFault> {
+        for byte in part {
+            if *byte == b'\n' {
+                self.end_line()?;
+            } else if self.line.len() < MAX_LINE {
+                put(&mut self.line, *byte)?;
+            }
+        }
+        Ok(true)
+    }
+}
