@@ -76,9 +76,7 @@ fn block_ending(
     if block != u32::MAX {
         return Ok(block);
     }
-    let Ok(next) = u32::try_from(syncs.len()) else {
-        return Err(AllocError);
-    };
+    let next = syncs.len() as u32;
     put(of, sync as usize, next);
     syncs.push(sync)?;
     Ok(next)

@@ -12,7 +12,6 @@ use cilk_replay::frame_layout::CellBlock;
 use cilk_replay::laws::event_orders_along_have_values;
 use cilk_replay::replay::{FrameEntry, Replay};
 use cilk_shared::yard::Yard;
-use cilk_types::event::FrameNo;
 use cilk_types::input::Input;
 use std::alloc::{AllocError, Global};
 
@@ -38,19 +37,16 @@ pub fn replay(
     Ok(Replay::new(yard, plan.program(), plan.input(), code, input, entries))
 }
 
-// The body and the cells of each frame, in the order of the frames' numbers. No run has as many
-// frames as there are numbers.
+// The body and the cells of each frame, in the order of the frames' numbers.
 fn entries(alloc: Global, plan: &ProgramPlan) -> Result<Vec<FrameEntry>, AllocError>
     ensures { IfOk result (λ v. AreEntriesIn plan.now.run v.items) }
 {
-    let mut entries = Vec::with_capacity(alloc, plan.frames().len())?;
-    for made in 0..FrameNo::MAX {
-        let Some(frame) = plan.frame(made + 1) else {
-            return Ok(entries);
-        };
-        entries.push(entry(frame))?;
+    let frames = plan.frames();
+    let mut entries = Vec::with_capacity(alloc, frames.len())?;
+    'each: for at in 0..frames.len() {
+        entries.push(entry(frames[at]))?;
     }
-    Err(AllocError)
+    Ok(entries)
 }
 
 fn entry(frame: PlannedFrame) -> FrameEntry

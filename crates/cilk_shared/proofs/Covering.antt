@@ -106,7 +106,7 @@ covers_quiet h h' r g c some behind quiet shows g' e =
 
 -- by a continuation that was taken, or not
 pub covers_taken : (y : YardValue) → IsOrderly y.event_order → (h : Hypermap) (r : Reducers) (g : SegmentValue) (k : ℕ) → OfYard y g → CanTake y g k → Covers h r g → (t : Taken) (g' : SegmentValue) → IsTaken y g k g' t → Covers h r g'
-covers_taken y law h r g k of can c No g' e = subst (λ (j : SegmentValue). Covers h r j) (sym e) c
+covers_taken y law h r g k of can c (No d) g' e = subst (λ (j : SegmentValue). Covers h r j) (sym e.0) c
 covers_taken y law h r g k of can c Yes g' e =
     let p = e.0 in
     let is : word_step g.event_order p ≡ resume k = ap (λ (z : EventOrder). word_step z p) of.1 ∙ e.1 in
@@ -127,7 +127,7 @@ covers_taken y law h r g k of can c Yes g' e =
     let at : word_step g.event_order g.upto ≡ resume k = ap (word_step g.event_order) (sym next.1) ∙ is in
     let there : g' ≡ moved_on g = e.2 ∙ ap (λ b. record { of = g.of; event_order = g.event_order; from = cond b g.from p; upto = p + 1 }) (lt-ltb g.from g.upto next.0) ∙ ap (λ n. record { of = g.of; event_order = g.event_order; from = g.from; upto = n + 1 }) next.1 in
     covers_quiet h h r g c next.0 (inl (k, at)) (ap (events_at g.event_order r) (sym next.1) ∙ quiet) c.shows g' there)
-    (can p e.1).1
+    (can p e.1)
 
 -- by an event of one reducer
 pub covers_event : (h h' : Hypermap) (r : Reducers) (g : SegmentValue) → Covers h r g → CanPass g → (i : Instance) (e : ReducerEvent) → instance_of e ≡ i → HasWord e → events_at g.event_order r g.upto ≡ e ∷ []

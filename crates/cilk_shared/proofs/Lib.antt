@@ -11,5 +11,6 @@ pub mod Sets
 pub mod Settling
 pub mod Shown
 pub mod Steps
+pub mod Telling
 pub mod Values
 pub mod Worked

@@ -236,7 +236,7 @@ could_take s D k n one (inl a) = absurd (omega (arith, a.0))
 could_take s D k n one (inr (inl a)) = (a.1, a.2)
 could_take s D k n one (inr (inr a)) = absurd (omega (arith, a.0))
 
-module _ (s : EventOrder) (law : IsOrderly s) (k p : ℕ) (is : word_step s p ≡ resume k) (v : View) (t : State (Unit {0}) View) (id : ℕ) (kept : Kept s t) (at : get_elem? t.views id ≡ some v) (one : get_or t.words (cells s + k) 0 ≡ 1) (fits : IsAsked s p) where
+module _ (s : EventOrder) (law : IsOrderly s) (k p : ℕ) (is : word_step s p ≡ resume k) (v : View) (t : State (Unit {0}) View) (id : ℕ) (kept : Kept s t) (at : get_elem? t.views id ≡ some v) (one : get_or t.words (cells s + k) 0 ≡ 1) (fits : IsAsked s k → IsAsked s p) where
   spawned : word_step s k ≡ spawn
   spawned = (law.resumed p k is).0
 
@@ -247,7 +247,7 @@ module _ (s : EventOrder) (law : IsOrderly s) (k p : ℕ) (is : word_step s p �
   up_spawn = kept.reached k (word_of_spawn (word_step s k) spawned) open_word.0
 
   up : IsFollowed s p
-  up = up_resume s law k p is up_spawn fits
+  up = up_resume s law k p is up_spawn (fits (up_spawn k (inl refl)))
 
   take_fresh : Done t.views p → ⊥
   take_fresh d = open_word.1 p is d
@@ -295,14 +295,14 @@ begun : (s : EventOrder) (v : View) (a p : ℕ) → Goes s v a p → ℕ
 begun s v a p (inl e) = p
 begun s v a p (inr g) = v.from
 
-take_kept : (s : EventOrder) (law : IsOrderly s) (k p : ℕ) (is : word_step s p ≡ resume k) (v : View) (t : State (Unit {0}) View) (id : ℕ) (kept : Kept s t) (at : get_elem? t.views id ≡ some v) (one : get_or t.words (cells s + k) 0 ≡ 1) (fits : IsAsked s p) (a : ℕ) (g : Goes s v a p)
+take_kept : (s : EventOrder) (law : IsOrderly s) (k p : ℕ) (is : word_step s p ≡ resume k) (v : View) (t : State (Unit {0}) View) (id : ℕ) (kept : Kept s t) (at : get_elem? t.views id ≡ some v) (one : get_or t.words (cells s + k) 0 ≡ 1) (fits : IsAsked s k → IsAsked s p) (a : ℕ) (g : Goes s v a p)
     → Kept s (stepped t (cells s + k) 2 id [] (view v.event_order (cond (ltb v.from v.upto) v.from p) (p + 1)) keeps)
 take_kept s law k p is v t id kept at one fits a (inl e) = subst (λ b. Kept s (stepped t (cells s + k) 2 id [] (view v.event_order (cond b v.from p) (p + 1)) keeps)) (sym (le-ltb v.from v.upto e)) (take_new s law k p is v t id kept at one fits e)
 take_kept s law k p is v t id kept at one fits a (inr g) =
     let f = g.1.from g.0 in
     subst (λ b. Kept s (stepped t (cells s + k) 2 id [] (view v.event_order (cond b v.from p) (p + 1)) keeps)) (sym (lt-ltb v.from v.upto (omega (arith, f.0, f.1)))) (take_on s law k p is v t id kept at one fits a g.1 g.0)
 
-pub allows_take : (s : EventOrder) (law : IsOrderly s) (k p : ℕ) (is : word_step s p ≡ resume k) (fits : IsAsked s p) (v : View) (same : v.event_order ≡ s) (a : ℕ) (g : Goes s v a p) (slots id : ℕ)
+pub allows_take : (s : EventOrder) (law : IsOrderly s) (k p : ℕ) (is : word_step s p ≡ resume k) (fits : IsAsked s k → IsAsked s p) (v : View) (same : v.event_order ≡ s) (a : ℕ) (g : Goes s v a p) (slots id : ℕ)
     → Allows (Kept s) slots id (v, []) (cells s + k) (λ n. either (eqb n 1) 2 n) (takes (step slots (cells s + k) 1 2 none) (v, []))
 allows_take s law k p is fits v same a g slots id t kept _ at _ =
     let x : ℕ = get_or t.words (cells s + k) 0 in
@@ -420,7 +420,7 @@ sits_new s z k p is up same = record {
 abbrev pub Ready : ℕ → ℕ → ℕ → Type 0
 Ready a b p = (b ≤ a) ⊎ ((a < b) × (p ≡ b))
 
-module _ (s : EventOrder) (law : IsOrderly s) (me : Me (Unit {0}) View) (bare : me.1 ≡ []) (same : me.0.event_order ≡ s) (a b : ℕ) (sits : Sits me.0.event_order me.0 a b) (k p : ℕ) (is : word_step s p ≡ resume k) (fits : IsAsked s p) where
+module _ (s : EventOrder) (law : IsOrderly s) (me : Me (Unit {0}) View) (bare : me.1 ≡ []) (same : me.0.event_order ≡ s) (a b : ℕ) (sits : Sits me.0.event_order me.0 a b) (k p : ℕ) (is : word_step s p ≡ resume k) (fits : IsAsked s k → IsAsked s p) where
   goes : Ready a b p → Goes s me.0 a p
   goes (inl e) = inl (sits.empty e)
   goes (inr g) = inr (omega (arith, g.0, g.1), subst (λ j. Sits s me.0 a j) (sym g.1) (subst (λ z. Sits z me.0 a b) same sits))
@@ -444,12 +444,12 @@ module _ (s : EventOrder) (law : IsOrderly s) (me : Me (Unit {0}) View) (bare : 
   sits_yes : IsFollowed s k → (r : Ready a b p) → Sits s (view me.0.event_order (cond (ltb me.0.from me.0.upto) me.0.from p) (p + 1)) (cond (ltb a b) a p) (p + 1)
   sits_yes known (inl e) =
       subst (λ c. Sits s (view me.0.event_order (cond c me.0.from p) (p + 1)) (cond (ltb a b) a p) (p + 1)) (sym (le-ltb me.0.from me.0.upto (sits.empty e)))
-      (subst (λ c. Sits s (view me.0.event_order p (p + 1)) (cond c a p) (p + 1)) (sym (le-ltb a b e)) (sits_new s me.0.event_order k p is (up_resume s law k p is known fits) same))
+      (subst (λ c. Sits s (view me.0.event_order p (p + 1)) (cond c a p) (p + 1)) (sym (le-ltb a b e)) (sits_new s me.0.event_order k p is (up_resume s law k p is known (fits (known k (inl refl)))) same))
   sits_yes known (inr g) =
       let f = sits.from g.0 in
       let at : Sits s me.0 a p = subst (λ j. Sits s me.0 a j) (sym g.1) (subst (λ z. Sits z me.0 a b) same sits) in
       subst (λ c. Sits s (view me.0.event_order (cond c me.0.from p) (p + 1)) (cond (ltb a b) a p) (p + 1)) (sym (lt-ltb me.0.from me.0.upto (omega (arith, f.0, f.1))))
-      (subst (λ c. Sits s (view me.0.event_order me.0.from (p + 1)) (cond c a p) (p + 1)) (sym (lt-ltb a b g.0)) (sits_on s law me.0 a p at (omega (arith, g.0, g.1)) (inl (k, is)) (up_resume s law k p is known fits)))
+      (subst (λ c. Sits s (view me.0.event_order me.0.from (p + 1)) (cond c a p) (p + 1)) (sym (lt-ltb a b g.0)) (sits_on s law me.0 a p at (omega (arith, g.0, g.1)) (inl (k, is)) (up_resume s law k p is known (fits (known k (inl refl))))))
 
   pub sits_taken : Ready a b p → (slots i : ℕ) → i ≡ cells s + k → (m' : Me (Unit {0}) View) (r : ℕ) → r ≡ 1 → takes (step slots i 1 2 none) me r m' → (m'.1 ≡ []) × (m'.0.event_order ≡ me.0.event_order) × Sits m'.0.event_order m'.0 (cond (ltb a b) a p) (p + 1)
   sits_taken ready slots i there m' r one told =

@@ -64,10 +64,11 @@ joined p q = piece_of p.reducers (both_of (segment_of p) (segment_of q))
 abbrev pub Adjoining : PieceValue → PieceValue → Type 0
 Adjoining p q = Adjoin (segment_of p) (segment_of q)
 
--- the continuation of the spawn at k is taken and p has become q, or nothing has changed
+-- The continuation of the spawn at k is taken and p has become q; or it is refused, and nothing has
+-- changed.
 abbrev pub IsPieceTaken : YardValue → PieceValue → ℕ → PieceValue → Taken → Type 0
 IsPieceTaken y p k q Yes = (at : ℕ) × (word_step y.event_order at ≡ resume k) × (q ≡ piece_of p.reducers (taken_at (segment_of p) at))
-IsPieceTaken y p k q No = q ≡ p
+IsPieceTaken y p k q (No d) = (q ≡ p) × (d ≡ k)
 
 -- this is the piece's next event, the frame requests it, and it is no step on a shared word
 abbrev pub PassesOn : PieceValue → Event → Type 0

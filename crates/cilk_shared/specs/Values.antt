@@ -1,11 +1,12 @@
 -- The values of a yard and of a segment in contracts.
-use Rattle.std.specs.Prelude.{◌≡◌, ◌≢◌, ℕ, ◌+◌, ◌<◌, ◌≤◌, ◌⊎◌, cond, nat_lt, ℤ, Some, length}
+use Rattle.std.specs.Prelude.{◌≡◌, ◌≢◌, ℕ, ◌+◌, ◌<◌, ◌≤◌, ◌⊎◌, cond, nat_lt, ℤ, pos, List, Some, length, slice_index_or}
 use Rattle.atomic_table.specs.Seated.{TableId}
 use Rattle.cilk_types.specs.declared.event.Event.TheVariants.{Read, Write}
 use Rattle.cilk_tree.specs.Reach.{Among}
 use Rattle.cilk_tree.specs.declared.event_order.EventOrder.{EventOrder}
 use Rattle.cilk_tree.specs.Word.{event, word_step, predecessors_of, plain, spawn, resume, finish}
 use Rattle.cilk_tree.specs.Runs.{IsAsked}
+use Rattle.cilk_tree.specs.Values.{HasValue}
 use Rattle.cilk_shared.specs.declared.taken.Taken.{Taken}
 use Rattle.cilk_shared.specs.declared.taken.Taken.TheVariants.{Yes, No}
 use Rattle.cilk_shared.specs.Rows.{spanned}
@@ -51,16 +52,21 @@ NextFinish y g = GoesOn y g × (word_step y.event_order g.upto ≡ finish)
 -- The segment is empty, or the `resume` after the spawn at k is its next event, as it is after the
 -- `end` of the spawned child. If there is no spawn at k, there is no such event.
 abbrev pub CanTake : YardValue → SegmentValue → ℕ → Type 0
-CanTake y g k = (p : ℕ) → word_step y.event_order p ≡ resume k → IsAsked y.event_order p × ((g.upto ≤ g.from) ⊎ ((g.from < g.upto) × (p ≡ g.upto)))
+CanTake y g k = (p : ℕ) → word_step y.event_order p ≡ resume k → (g.upto ≤ g.from) ⊎ ((g.from < g.upto) × (p ≡ g.upto))
+
+-- a frame that requests the spawn at k requests the `resume` after it
+abbrev pub IsResumed : EventOrder → ℕ → Type 0
+IsResumed s k = (p : ℕ) → word_step s p ≡ resume k → IsAsked s k → IsAsked s p
 
 -- the segment continued at p
 abbrev pub taken_at : SegmentValue → ℕ → SegmentValue
 taken_at g p = record { of = g.of; event_order = g.event_order; from = cond (nat_lt g.from g.upto) g.from p; upto = p + 1 }
 
--- the continuation of the spawn at k is taken and g has become h, or nothing has changed
+-- The continuation of the spawn at k is taken and g has become h; or it is refused, and nothing has
+-- changed.
 abbrev pub IsTaken : YardValue → SegmentValue → ℕ → SegmentValue → Taken → Type 0
 IsTaken y g k h Yes = (p : ℕ) × (word_step y.event_order p ≡ resume k) × (h ≡ taken_at g p)
-IsTaken y g k h No = h ≡ g
+IsTaken y g k h (No d) = (h ≡ g) × (d ≡ k)
 
 -- the immediate predecessors of the next event are not before the start of the segment
 abbrev pub HoldsPreceding : SegmentValue → Type 0
@@ -77,6 +83,11 @@ CanPass g = MayPass g × IsAsked g.event_order g.upto
 -- the segment isn't empty, and its next event isn't the `resume` after a spawn
 abbrev pub IsAhead : SegmentValue → Type 0
 IsAhead g = (g.from < g.upto) × ((k : ℕ) → word_step g.event_order g.upto ≢ resume k)
+
+-- the values of the first n cells after all events
+pub record AreLastValues (s : EventOrder) (n : ℕ) (values : List ℤ) : Type 0 where
+  pub all : length values ≡ n
+  pub each : (cell : ℕ) → cell < n → HasValue s cell (length s.events) (slice_index_or values cell (pos 0))
 
 abbrev pub empty_beside : SegmentValue → SegmentValue
 empty_beside g = record { of = g.of; event_order = g.event_order; from = 0; upto = 0 }

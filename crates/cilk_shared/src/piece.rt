@@ -4,7 +4,7 @@ ghost use Rattle.std.specs.Prelude.{◌≡◌, ◌<◌, ℤ, [], length, Some, I
 ghost use Rattle.cilk_types.specs.declared.event.Event.TheVariants.{Read, Create, Update, Set, Value, Print, End};
 ghost use Rattle.cilk_hypermap.specs.Ranges.{ShowsRange};
 ghost use Rattle.cilk_tree.specs.Frames.{IsInFrame};
-ghost use Rattle.cilk_shared.specs.Values.{OfYard, NextRead, NextWrite, NextSpawn, NextFinish, CanTake, CanPass};
+ghost use Rattle.cilk_shared.specs.Values.{OfYard, NextRead, NextWrite, NextSpawn, NextFinish, CanTake, CanPass, IsResumed};
 ghost use Rattle.cilk_tree.specs.Runs.{IsFollowed};
 ghost use Rattle.cilk_tree.specs.Word.{event};
 ghost use Rattle.cilk_shared.specs.Pieces.{AreOfOne, Adjoining, IsPieceOf, IsPieceTaken, PassesOn, grown, joined, none_beside, number_ahead, piece_of, segment_of};
@@ -160,10 +160,12 @@ impl Piece {
     }
 
     /// Takes the continuation of the spawn at `ticket`, unless it was taken. On success the piece
-    /// continues with its `resume`.
+    /// continues with its `resume`. As in each program, a frame that requests the spawn requests the
+    /// `resume`.
     pub fn take(&mut self, yard: &Yard, ticket: Pos) -> Taken
         requires yard { IsPieceOf yard.now self.old }
         requires next { CanTake yard.now (segment_of self.old) ticket }
+        requires resumed { IsResumed yard.now.event_order ticket }
         ensures { IsPieceTaken yard.now self.old ticket self.new result }
     {
         yard.laws();
@@ -187,7 +189,7 @@ impl Piece {
         requires quiet { events_at self.old.event_order self.old.reducers self.old.upto ≡ [] }
         ensures { self.new ≡ grown self.old }
     {
-        self.segment.pass(yard);
+        self.segment.grow(yard);
     }
 
     /// Creates the reducer with its monoid's unit, as the next event does. If memory runs out,
@@ -206,7 +208,7 @@ impl Piece {
         ensures err { OnErr result (self.new ≡ self.old) }
     {
         self.views.create(alloc, instance, kind)?;
-        self.segment.pass(yard);
+        self.segment.grow(yard);
         Ok(())
     }
 
@@ -226,7 +228,7 @@ impl Piece {
         ensures err { OnErr result (self.new ≡ self.old) }
     {
         self.views.update(alloc, instance, kind, value)?;
-        self.segment.pass(yard);
+        self.segment.grow(yard);
         Ok(())
     }
 
@@ -246,7 +248,7 @@ impl Piece {
         ensures err { OnErr result (self.new ≡ self.old) }
     {
         self.views.set(alloc, instance, kind, value)?;
-        self.segment.pass(yard);
+        self.segment.grow(yard);
         Ok(())
     }
 
@@ -268,7 +270,7 @@ impl Piece {
     {
         yard.laws();
         let number = self.views.value(alloc, instance, kind)?;
-        self.segment.pass(yard);
+        self.segment.grow(yard);
         Ok(number)
     }
 
@@ -280,7 +282,7 @@ impl Piece {
         ensures err { OnErr result (self.new ≡ self.old) }
     {
         self.views.print(alloc, value)?;
-        self.segment.pass(yard);
+        self.segment.grow(yard);
         Ok(())
     }
 
@@ -293,7 +295,7 @@ impl Piece {
         ensures { self.new ≡ grown self.old }
     {
         retire_own(&mut self.views, reducers, frame);
-        self.segment.pass(yard);
+        self.segment.grow(yard);
     }
 
     /// Ends the run: the next event is the root's `end`. So the piece begins with the run's first

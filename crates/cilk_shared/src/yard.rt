@@ -4,7 +4,7 @@ ghost use Rattle.std.specs.Prelude.{◌≡◌, ◌↔◌, ℕ, ◌+◌, ◌<◌,
 ghost use Rattle.cilk_types.specs.declared.event.Event.TheVariants.{Read};
 ghost use Rattle.cilk_tree.specs.declared.event_order.EventOrder.{EventOrder};
 ghost use Rattle.cilk_tree.specs.Orders.{IsOrderly};
-ghost use Rattle.cilk_tree.specs.Values.{HasValues, AreFinal};
+ghost use Rattle.cilk_tree.specs.Values.{HasValues};
 ghost use Rattle.cilk_tree.specs.Runs.{IsFollowed};
 ghost use Rattle.cilk_tree.specs.Word.{event, resume, word_step};
 ghost use Rattle.cilk_tree.specs.Along.{IsAlong};
@@ -12,10 +12,11 @@ ghost use Rattle.cilk_tree.specs.Resumptions.{AreResumptions};
 ghost use Rattle.cilk_shared.specs.Rows.{spanned};
 
 use crate::key::EventOrderKey;
-use crate::taken::Taken;
+use crate::taken::{Denied, Taken};
 use crate::view::View;
 use crate::words::last_values;
 use atomic_table::{Join, Play, Seat, Split, Table, TableRule};
+use cilk_tree::along::event_orders_along_are_orderly;
 use cilk_tree::plan::Plan;
 use cilk_types::event::{Cell, Pos};
 use cilk_types::input::Input;
@@ -136,7 +137,7 @@ impl Model for Segment {
 }
 
 impl Yard {
-    ghost use Rattle.cilk_shared.specs.Values.{OfYard, NextRead, NextWrite, NextSpawn, NextFinish, CanTake, IsTaken, moved_on, empty_beside, Adjoin, both_of};
+    ghost use Rattle.cilk_shared.specs.Values.{AreLastValues, OfYard, NextRead, NextWrite, NextSpawn, NextFinish, CanTake, IsResumed, IsTaken, moved_on, empty_beside, Adjoin, both_of};
 
     /// Makes the words of a run along the plan on this input, and the segment of its first event.
     /// `along` gives the event order of the run on each input.
@@ -236,21 +237,23 @@ impl Yard {
     }
 
     /// Takes the continuation of the spawn at `ticket`, unless it was taken. On success the segment
-    /// continues with its `resume`. Nothing is taken if the plan has no spawn there.
+    /// continues with its `resume`. Nothing is taken if the plan has no spawn there. As in each
+    /// program, a frame that requests the spawn requests the `resume`.
     pub fn take(&self, segment: &mut Segment, ticket: Pos) -> Taken
         requires yard { OfYard self.now segment.old }
         requires next { CanTake self.now segment.old ticket }
+        requires resumed { IsResumed self.now.event_order ticket }
         ensures { IsTaken self.now segment.old ticket segment.new result }
     {
         let Some(at) = self.resumption(ticket) else {
-            return Taken::No;
+            return Taken::No(Denied::of(ticket));
         };
         let found = self
             .table
             .shared
             .compare_exchange::<Takes>(&mut segment.seat, self.cells + ticket as usize, 1, 2);
         if found != 1 {
-            return Taken::No;
+            return Taken::No(Denied::of(ticket));
         }
         segment.from = start(segment.from, segment.upto, at);
         segment.upto = at + 1;
@@ -339,20 +342,27 @@ impl Yard {
         }
     }
 
-    /// Returns the cells' values after the whole run, which the segment covers. If memory runs out,
-    /// the yard and the segment come back.
-    pub fn globals(self, alloc: Global, segment: Segment) -> Result<Vec<i64>, (Yard, Segment)>
+    /// Returns the values of the global cells after the whole run, which the segment covers.
+    /// `count` is the number of the program's global cells, which come before those of frames. If
+    /// memory runs out, the yard and the segment come back.
+    pub fn globals(
+        self,
+        alloc: Global,
+        segment: Segment,
+        count: usize,
+    ) -> Result<Vec<i64>, (Yard, Segment)>
         requires yard { OfYard self segment }
         requires all { (segment.from ≡ 1) × (segment.upto ≡ length self.event_order.events + 1) }
-        ensures ok { IfOk result (λ v. AreFinal self.event_order v.items) }
+        requires count { count ≤ length self.event_order.opening }
+        ensures ok { IfOk result (λ v. AreLastValues self.event_order count v.items) }
         ensures err { IfErr result (λ r. (r.0 ≡ self) × (r.1 ≡ segment)) }
     {
-        let Ok(values) = Vec::with_capacity(alloc, self.cells) else {
+        let Ok(values) = Vec::with_capacity(alloc, count) else {
             return Err((self, segment));
         };
         let Yard {
             table,
-            cells,
+            cells: _,
             resumptions: _,
         } = self;
         let Segment {
@@ -361,7 +371,7 @@ impl Yard {
             upto: _,
         } = segment;
         let closed = table.close_with(seat);
-        let values = last_values(&closed, cells, values);
+        let values = last_values(&closed, count, values);
         closed.free();
         Ok(values)
     }
@@ -414,13 +424,25 @@ impl Segment {
     ghost use Rattle.cilk_shared.specs.Values.{OfYard, CanPass, MayPass, HoldsPreceding, IsAhead, moved_on};
 
     /// Adds the next event, which is no step on a shared word.
-    pub fn pass(&mut self, yard: &Yard)
+    pub fn pass(&mut self, plan: &Plan)
+        requires plan { IsAlong plan.now self.old.event_order }
+        requires next { CanPass self.old }
+        ensures { self.new ≡ moved_on self.old }
+    {
+        plan.laws();
+        event_orders_along_are_orderly();
+        self.upto += 1;
+    }
+
+    // The same for the pieces of a yard, which is made along a plan.
+    pub(crate) fn grow(&mut self, yard: &Yard)
         requires yard { OfYard yard.now self.old }
         requires next { CanPass self.old }
         ensures { self.new ≡ moved_on self.old }
     {
         yard.laws();
-        self.upto += 1;
+        let Segment { upto, .. } = self;
+        *upto += 1;
     }
 
     /// Returns the first position, if the segment has events.

@@ -1,6 +1,6 @@
 //! The next event of a segment, made according to the yard's event order.
 
-ghost use Rattle.std.specs.Prelude.{◌≡◌, ◌↔◌, ℕ, ◌<◌, length, IfSome, IsSome, IsTrue};
+ghost use Rattle.std.specs.Prelude.{◌≡◌, ◌↔◌, ℕ, ◌<◌, ◌≤◌, length, IfSome, IsSome, IsTrue};
 ghost use Rattle.cilk_tree.specs.Runs.{IsAsked};
 ghost use Rattle.cilk_tree.specs.Word.{event, resume, word_step};
 ghost use Rattle.cilk_tree.specs.Along.{IsAlong};
@@ -95,7 +95,7 @@ fn passed(yard: &Yard, plan: &Plan, segment: &mut Segment) -> Done
     ensures { OfYard yard.now segment.new }
 {
     if segment.may_pass(plan) {
-        segment.pass(yard);
+        segment.pass(plan);
         Done::Passed
     } else {
         Done::Nothing
@@ -110,7 +110,7 @@ pub fn take(yard: &Yard, asked: &[bool], segment: &mut Segment, ticket: Pos) -> 
     requires asked { asked.now ≡ yard.now.event_order.asked }
     ensures yard { OfYard yard.now segment.new }
     ensures tried { IfSome result (λ taken. IsTaken yard.now segment.old ticket segment.new taken) }
-    ensures untried { (p : ℕ) → word_step yard.now.event_order p ≡ resume ticket → CanTake yard.now segment.old ticket → IsSome result }
+    ensures untried { (p : ℕ) → word_step yard.now.event_order p ≡ resume ticket → IsAsked yard.now.event_order p → CanTake yard.now segment.old ticket → IsSome result }
 {
     let at = yard.resumption(ticket)?;
     let goes_on = segment.from() < segment.upto();
@@ -123,22 +123,25 @@ pub fn take(yard: &Yard, asked: &[bool], segment: &mut Segment, ticket: Pos) -> 
     Some(yard.take(segment, ticket))
 }
 
-/// Returns the cells' values after the run, if the segment covers the run and there is memory for
-/// them.
+/// Returns the values of the first cells after the run, if the segment covers the run, the run has
+/// these cells, and there is memory for them.
 pub fn last_values(
     alloc: Global,
     yard: Yard,
+    plan: &Plan,
     events: &[Event],
     segment: Segment,
+    count: usize,
 ) -> Option<Vec<i64>>
     requires yard { OfYard yard segment }
+    requires along { IsAlong plan.now yard.event_order }
     requires events { events.now ≡ yard.event_order.events }
 {
     let whole = segment.from() == 1 && segment.last() as usize == events.len();
-    if !whole || events.is_empty() {
+    if !whole || events.is_empty() || !has_cells(&yard, plan, count) {
         return None;
     }
-    yard.globals(alloc, segment).ok()
+    yard.globals(alloc, segment, count).ok()
 }
 
 // The event at a position.
@@ -166,6 +169,14 @@ fn yard_resumes(yard: &Yard, plan: &Plan, at: Pos) -> bool
     ensures { (k : ℕ) → word_step yard.now.event_order at ≡ resume k → IsTrue result }
 {
     plan.resumed_by(at).is_some()
+}
+
+// Whether the run has this many cells.
+fn has_cells(yard: &Yard, plan: &Plan, count: usize) -> bool
+    requires { IsAlong plan.now yard.now.event_order }
+    ensures { IsTrue result → count ≤ length yard.now.event_order.opening }
+{
+    count <= plan.opening().len()
 }
 
 // Whether the run has this cell.

@@ -24,9 +24,10 @@ use Rattle.cilk_lower.specs.declared.layout.Layout.{Layout}
 use Rattle.cilk_lower.specs.Layout.{LaysOut}
 use Rattle.cilk_tree.specs.Sources.{last_write}
 use Rattle.cilk_tree.specs.declared.event_order.EventOrder.{EventOrder}
-use Rattle.cilk_tree.specs.Values.{HasValue, AreFinal}
+use Rattle.cilk_tree.specs.Values.{HasValue}
 use Rattle.cilk_shared.specs.declared.reducers.Reducers.{Reducers}
 use Rattle.cilk_shared.specs.Reducers.{kind_in, events_over}
+use Rattle.cilk_shared.specs.Values.{AreLastValues}
 use Rattle.cilk_replay.proofs.LastWrites.{last_value}
 use Rattle.cilk_frames.specs.Leaving.{finals_of, numbers_in, outcome_of}
 use Rattle.cilk_threads.specs.Finals.{AreLast, IsMadeOf}
@@ -91,7 +92,7 @@ abbrev globals_after : Source → EventOrder → List ℤ
 globals_after p s = cells_from 0 (length p.openings) (cells_after s.events (opening_cells p []))
 
 pub made_is : (p : Source) (s : EventOrder) (r : Reducers) (l : Layout) (cells : List ℤ) (views : Hypermap) (value : ℤ) → LaysOut p l
-    → length p.openings ≤ length s.opening → ((c : ℕ) → slice_index_or s.opening c (pos 0) ≡ opening_cells p [] c) → AreFinal s cells
+    → length p.openings ≤ length s.opening → ((c : ℕ) → slice_index_or s.opening c (pos 0) ≡ opening_cells p [] c) → AreLastValues s (length p.openings) cells
     → ShowsRange (kind_in r) views (events_over s r 1 (length s.events + 1)) → IsMadeOf p s r value (outcome_of l cells views value)
 made_is p s r l cells views value laid many opens final shows = record {
   result = refl;
@@ -105,14 +106,14 @@ made_is p s r l cells views value laid many opens final shows = record {
 }
   where
     within : length p.openings ≤ length cells
-    within = let e = final.all in omega (arith, many, e)
+    within = let e = final.all in omega (arith, e)
 
     long : length (take (length p.openings) cells) ≡ length (globals_after p s)
     long = taken cells (length p.openings) within ∙ sym (long_from 0 (length p.openings) (cells_after s.events (opening_cells p [])))
 
     each : (c : ℕ) → c < length p.openings → slice_index_or cells c (pos 0) ≡ slice_index_or (globals_after p s) c (pos 0)
     each c less =
-        one_value s c (length s.events) (slice_index_or cells c (pos 0)) (slice_index_or (globals_after p s) c (pos 0)) (final.each c (omega (arith, less, many)))
+        one_value s c (length s.events) (slice_index_or cells c (pos 0)) (slice_index_or (globals_after p s) c (pos 0)) (final.each c less)
         (last_value s (opening_cells p []) opens c (length s.events) (slice_index_or (globals_after p s) c (pos 0))
         (from_at 0 (length p.openings) (cells_after s.events (opening_cells p [])) c less
         ∙ ap (cells_after s.events (opening_cells p [])) (let e : 0 + c ≡ c = omega arith in e)
@@ -132,8 +133,8 @@ left_is p well s r value o made inputs run outcome ran table same =
 
 -- of a piece of all events
 pub piece_made : (p : Source) (yard s : EventOrder) → s ≡ yard → (r : Reducers) (l : Layout) (cells : List ℤ) (views : Hypermap) (value : ℤ) → LaysOut p l
-    → length p.openings ≤ length s.opening → ((c : ℕ) → slice_index_or s.opening c (pos 0) ≡ opening_cells p [] c) → AreFinal yard cells
+    → length p.openings ≤ length s.opening → ((c : ℕ) → slice_index_or s.opening c (pos 0) ≡ opening_cells p [] c) → AreLastValues yard (length p.openings) cells
     → (from upto : ℕ) → from ≡ 1 → upto ≡ length s.events + 1 → ShowsRange (kind_in r) views (events_over s r from upto) → IsMadeOf p s r value (outcome_of l cells views value)
 piece_made p yard s same r l cells views value laid many opens final from upto first end shows =
-    made_is p s r l cells views value laid many opens (subst (λ (z : EventOrder). AreFinal z cells) (sym same) final)
+    made_is p s r l cells views value laid many opens (subst (λ (z : EventOrder). AreLastValues z (length p.openings) cells) (sym same) final)
     (subst (λ (n : ℕ). ShowsRange (kind_in r) views (events_over s r 1 n)) end (subst (λ (n : ℕ). ShowsRange (kind_in r) views (events_over s r n upto)) first shows))

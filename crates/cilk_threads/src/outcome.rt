@@ -14,8 +14,8 @@ use cilk_shared::yard::Yard;
 use cilk_types::outcome::Outcome;
 use std::alloc::{AllocError, Global};
 
-/// Returns the outcome of a run whose root returned `value`: the last values of the yard's cells
-/// and of the views in the piece, which covers all events. The run by names along the plan has this
+/// Returns the outcome of a run whose root returned `value`: the last values of the global cells and
+/// of the views in the piece, which covers all events. The run by names along the plan has this
 /// outcome on that input, and so does each serial run with these events. Cost and memory: linear in
 /// the yard and the views.
 pub fn outcome(
@@ -33,10 +33,9 @@ pub fn outcome(
     requires opens { (c : ℕ) → slice_index_or piece.event_order.opening c (pos 0) ≡ opening_cells (source program.now) [] c }
     ensures { IfOk result (λ o. IsMadeOf (source program.now) piece.event_order piece.reducers value o) }
 {
-    let _main = program.main;
     let Parts { mut views, segment } = piece.parted();
-    let Ok(cells) = yard.globals(alloc, segment) else {
+    let Ok(globals) = yard.globals(alloc, segment, program.globals.len()) else {
         return Err(AllocError);
     };
-    cilk_frames::outcome::outcome(alloc, layout, cells.as_slice(), &mut views, value)
+    cilk_frames::outcome::outcome(alloc, layout, globals.as_slice(), &mut views, value)
 }

@@ -5,7 +5,7 @@
 -- - `can_pass`, `passes`: the piece may pass its next event;
 -- - `follows`, `answered`: what the chain may be answered;
 -- - `taken_on`, `begun_on`: the piece that has taken a continuation.
-use Rattle.std.proofs.Common.{◌≡◌, ◌⊎◌, ℕ, ◌+◌, ◌<◌, ◌≤◌, ℤ, cond, nat_lt, length, Some, refl, sym, ap, ap₂, ◌∙◌, subst, arith}
+use Rattle.std.proofs.Common.{◌≡◌, ◌⊎◌, inl, ℕ, ◌+◌, ◌-◌, ◌<◌, ◌≤◌, ℤ, cond, nat_lt, length, Some, refl, sym, ap, ap₂, ◌∙◌, subst, arith}
 use Rattle.std.proofs.lemmas.Bool.Decides.{nat_tests}
 use Rattle.cilk_types.specs.declared.event.Event.{Event}
 use Rattle.cilk_types.specs.declared.event.Event.TheVariants as events
@@ -21,7 +21,7 @@ use Rattle.cilk_shared.specs.Pieces.{PieceValue, IsPieceOf, PassesOn, grown, num
 use Rattle.cilk_shared.specs.Reducers.{events_over, kind_in}
 use Rattle.cilk_shared.specs.declared.reducers.Reducers.{Reducers}
 use Rattle.cilk_tree.specs.declared.kind.Kind.{Kind}
-use Rattle.cilk_shared.specs.Values.{CanPass, CanTake, IsAhead, SegmentValue, YardValue, taken_at}
+use Rattle.cilk_shared.specs.Values.{CanPass, CanTake, IsAhead, IsResumed, SegmentValue, YardValue, taken_at}
 use Rattle.cilk_tree.specs.declared.event_order.EventOrder.{EventOrder}
 use Rattle.cilk_tree.specs.Orders.{IsOrderly}
 use Rattle.cilk_tree.specs.Runs.{IsAsked, IsFollowed}
@@ -153,11 +153,16 @@ pub begun_on : (p : PieceValue) (at : ℕ) → p.upto ≤ p.from → cond (nat_l
 begun_on p at none = grind (arith, nat_tests)
 
 -- there is one `resume` after a spawn
-pub can_take : (y : SharedValue) (z : YardValue) (p : PieceValue) (ticket at : ℕ) → z ≡ yard_of y.run → IsOrderly (event_order_in y) → IsAsked (event_order_in y) at → word_step (event_order_in y) at ≡ resume ticket
+pub can_take : (y : SharedValue) (z : YardValue) (p : PieceValue) (ticket at : ℕ) → z ≡ yard_of y.run → IsOrderly (event_order_in y) → word_step (event_order_in y) at ≡ resume ticket
     → ((p.upto ≤ p.from) ⊎ ((p.from < p.upto) × (at ≡ p.upto))) → CanTake z (segment_of p) ticket
-can_take y z p ticket at same order asked is where_to =
-    in_yard (λ (s : EventOrder). (q : ℕ) → word_step s q ≡ resume ticket → IsAsked s q × ((p.upto ≤ p.from) ⊎ ((p.from < p.upto) × (q ≡ p.upto)))) y z same
-    (λ q there. let one = order.once at q ticket is there in subst (λ (n : ℕ). IsAsked (event_order_in y) n × ((p.upto ≤ p.from) ⊎ ((p.from < p.upto) × (n ≡ p.upto)))) one (asked, where_to))
+can_take y z p ticket at same order is where_to =
+    in_yard (λ (s : EventOrder). (q : ℕ) → word_step s q ≡ resume ticket → (p.upto ≤ p.from) ⊎ ((p.from < p.upto) × (q ≡ p.upto))) y z same
+    (λ q there. let one = order.once at q ticket is there in subst (λ (n : ℕ). (p.upto ≤ p.from) ⊎ ((p.from < p.upto) × (n ≡ p.upto))) one where_to)
+
+-- a frame that requests the spawn requests the `resume` after it, if it requests that in any case
+pub resumed_where_asked : (y : SharedValue) (z : YardValue) (ticket at : ℕ) → z ≡ yard_of y.run → IsOrderly (event_order_in y) → IsAsked (event_order_in y) at → word_step (event_order_in y) at ≡ resume ticket → IsResumed z.event_order ticket
+resumed_where_asked y z ticket at same order asked is =
+    in_yard (λ (s : EventOrder). IsResumed s ticket) y z same (λ q there _. subst (IsAsked (event_order_in y)) (order.once at q ticket is there) asked)
 
 -- the chain after the piece's next event
 pub moved : (y : SharedValue) (w : Work) (k : ChainValue) → Works y w → (let c = w.chain in k ≡ standing c.of (c.at + 1)) → (let p = w.piece in k ≡ standing y.replay (p.upto + 1))
@@ -186,6 +191,21 @@ pub began_there : (y : SharedValue) (z : YardValue) (p : PieceValue) (ticket : �
 began_there y z p ticket q same none (at, there, taken) =
     subst (λ (x : PieceValue). word_step (event_order_in y) x.from ≡ resume ticket) (sym taken)
     (subst (λ (n : ℕ). word_step (event_order_in y) n ≡ resume ticket) (sym (begun_on p at none)) (subst (λ (v : YardValue). word_step v.event_order at ≡ resume ticket) same there))
+
+-- it isn't empty
+pub begun_good : (y : SharedValue) (z : YardValue) (p : PieceValue) (ticket at : ℕ) (q : PieceValue) → z ≡ yard_of y.run → IsOrderly (event_order_in y) → OfRun y.run p → p.upto ≤ p.from
+    → word_step (event_order_in y) at ≡ resume ticket → IsTakenAt z p ticket q → IsGood y.run q × (q.upto ≡ at + 1)
+begun_good y z p ticket at q same order o none is (at', there, taken) =
+    let begin = begun_on p at' none in
+    subst (λ (x : PieceValue). IsGood y.run x × (x.upto ≡ at + 1)) (sym taken)
+    ((o, subst (λ (n : ℕ). n < at' + 1) (sym begin) (omega arith)), ap (λ (n : ℕ). n + 1) (there_alone y z ticket at same order is at' there))
+
+-- and its frame requested the `resume`
+pub begun_asked : (y : SharedValue) (q : PieceValue) (g : SegmentValue) (at : ℕ) → IsGood y.run q → q.upto ≡ at + 1 → g ≡ segment_of q → IsFollowed g.event_order (g.upto - 1) → IsAsked (event_order_in y) at
+begun_asked y q g at good upto is followed =
+    let last : q.upto - 1 ≡ at = omega (arith, upto) in
+    let up : IsFollowed q.event_order (q.upto - 1) = subst (λ (x : SegmentValue). IsFollowed x.event_order (x.upto - 1)) is followed in
+    subst (IsAsked (event_order_in y)) last (subst (λ (s : EventOrder). IsAsked s (q.upto - 1)) (let of = good.0 in of.1) (up (q.upto - 1) (inl refl)))
 
 -- an empty piece has taken a continuation
 pub began : (y : SharedValue) (z : YardValue) (p : PieceValue) (ticket at : ℕ) (q : PieceValue) (k : ChainValue) → z ≡ yard_of y.run → IsOrderly (event_order_in y) → OfRun y.run p → p.upto ≤ p.from

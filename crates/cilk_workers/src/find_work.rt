@@ -89,7 +89,7 @@ impl<'a, 'b, N: Naming, R: Wait, G: Gate> WorkerContext<'a, 'b, N, R, G> {
                     Activity::Done(ExitReason::Stopped)
                 }
             }
-            Err(piece) => Activity::Idle(piece),
+            Err((piece, _denied)) => Activity::Idle(piece),
         }
     }
 }

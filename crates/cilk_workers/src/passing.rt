@@ -59,7 +59,7 @@ pub(crate) fn taken(shared: &Shared<'_>, work: &mut Work, ticket: Pos) -> Turn
             work.chain.answer(shared.replay(), Answer::Done);
             Turn::Goes
         }
-        Taken::No => Turn::Ended,
+        Taken::No(_) => Turn::Ended,
     }
 }
 

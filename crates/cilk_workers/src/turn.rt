@@ -19,7 +19,7 @@ use cilk_frames::cursor::Answer;
 use cilk_replay::chain::{Chain, Task};
 use cilk_replay::plan_match::PlanMatch;
 use cilk_shared::piece::Piece;
-use cilk_shared::taken::Taken;
+use cilk_shared::taken::{Denied, Taken};
 use cilk_tree::kind::{Asked, Kind};
 use cilk_types::event::FrameNo;
 use std::alloc::{AllocError, Global};
@@ -104,27 +104,24 @@ pub fn act(alloc: Global, shared: &Shared<'_>, work: &mut Work) -> Turn
 }
 
 /// Starts a thief, which has an empty piece, with a task. Its piece then begins at the `resume` of
-/// the task's spawn. The piece comes back if another worker took the continuation.
-pub fn begin(shared: &Shared<'_>, mut piece: Piece, task: Task) -> Result<Work, Piece>
+/// the task's spawn. If another worker took the continuation, the piece comes back with the yard's
+/// refusal of the task's ticket; so no task is lost otherwise.
+pub fn begin(shared: &Shared<'_>, mut piece: Piece, task: Task) -> Result<Work, (Piece, Denied)>
     requires piece { OfRun shared.now.run piece × (piece.upto ≤ piece.from) }
     requires task { task.of ≡ shared.now.replay }
-    ensures { MatchResult result (IsThief shared.now task.ticket) (λ p. p ≡ piece) }
+    ensures { MatchResult result (IsThief shared.now task.ticket) (λ r. (r.0 ≡ piece) × (r.1 ≡ task.ticket)) }
 {
-    let ticket = task.ticket();
-    let at = task.at();
-    let Asked::Next { frame: _, kind } = shared.next(at) else {
-        return Err(piece);
-    };
-    let mut chain = task.rest().wake(shared.replay());
-    let PlanMatch::Follows = chain.matches_plan(shared.replay(), kind) else {
-        return Err(piece);
-    };
     shared.laws();
+    shared.replay().resumes();
+    let ticket = task.ticket();
+    let rest = task.rest();
     match piece.take(shared.yard(), ticket) {
         Taken::Yes => {
+            piece.segment().has_followed();
+            let mut chain = rest.wake(shared.replay());
             chain.answer(shared.replay(), Answer::Done);
             Ok(Work { piece, chain })
         }
-        Taken::No => Err(piece),
+        Taken::No(denied) => Err((piece, denied)),
     }
 }

@@ -20,13 +20,13 @@ put-requires c =
 
 pub returns-clause-below : goal.returns-clause-below
 returns-clause-below c =
-    let next : c.in-Ok.next ≡ length c.args.syncs.now.items = c.in-Ok.ensures.1 ∙ c.len.ensures ∙ c.args.syncs.now.ok.0 in
+    let next : c.len-next.result ≡ length c.args.syncs.now.items = c.len-next.ensures ∙ c.args.syncs.now.ok.0 in
     (block_new c.args.events.now c.laws.ensures.order c.args.spawn c.args.syncs.now.items c.args.of.now.items c.requires.below c.args.sync c.push.new.self.items c.put.new.column.items
     c.requires.there (sym c.block_of-block.ensures ∙ c.if-block.false) c.in_ok-push.ensures.items (c.put.ensures ∙ ap (set c.args.of.now.items c.args.sync) next)).0
 
 pub returns-clause-block : goal.returns-clause-block
 returns-clause-block c =
-    let next : c.in-Ok.next ≡ length c.args.syncs.now.items = c.in-Ok.ensures.1 ∙ c.len.ensures ∙ c.args.syncs.now.ok.0 in
+    let next : c.len-next.result ≡ length c.args.syncs.now.items = c.len-next.ensures ∙ c.args.syncs.now.ok.0 in
     ap (slice_get c.push.new.self.items) next
     ∙ (block_new c.args.events.now c.laws.ensures.order c.args.spawn c.args.syncs.now.items c.args.of.now.items c.requires.below c.args.sync c.push.new.self.items c.put.new.column.items
     c.requires.there (sym c.block_of-block.ensures ∙ c.if-block.false) c.in_ok-push.ensures.items (c.put.ensures ∙ ap (set c.args.of.now.items c.args.sync) next)).1

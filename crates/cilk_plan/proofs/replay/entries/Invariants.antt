@@ -1,5 +1,6 @@
-use Rattle.cilk_plan.proofs.Making.{EntriesSoFar}
+use Rattle.std.proofs.Common.{◌≡◌, map, take}
+use Rattle.cilk_plan.specs.Replays.{entry_in}
 use Rattle.cilk_plan.proofs.replay.entries.Given as goal
 
-abbrev pub invariant-loop-made : goal.invariant-loop-made
-invariant-loop-made l = EntriesSoFar l.plan.run l.made l.entries.items
+abbrev pub invariant-each : goal.invariant-each
+invariant-each l = l.entries.items ≡ map entry_in (take l.at l.frames)

@@ -1,8 +1,8 @@
-use Rattle.std.proofs.Common.{◌≡◌, length, sym, ap, ◌∙◌, subst, arith, to_z, of_z, w64}
+use Rattle.std.proofs.Common.{◌≡◌, ℕ, length, sym, ap, ◌∙◌, subst, arith, to_z, of_z, w64}
 use Rattle.std.proofs.lemmas.Int.{to_z-of_z}
 use Rattle.cilk_program.specs.Sources.{source}
 use Rattle.cilk_program.proofs.Naming.{well_named_parts}
-use Rattle.cilk_tree.specs.Values.{AreFinal}
+use Rattle.cilk_shared.specs.Values.{AreLastValues}
 use Rattle.cilk_plan.proofs.Telling.{for_ok}
 use Rattle.cilk_frames.specs.Leaving.{outcome_of}
 use Rattle.cilk_threads.specs.Finals.{IsMadeOf}
@@ -23,7 +23,8 @@ returns c =
     let this = IsMadeOf (source c.args.program.now) c.args.piece.event_order c.args.piece.reducers c.args.value in
     let whole = piece_made (source c.args.program.now) c.args.yard.event_order c.args.piece.event_order c.requires.yard.1 c.args.piece.reducers c.args.layout.now
     c.as_slice.result.now c.parted-views.result.views c.args.value c.requires.layout c.requires.globals c.requires.opens
-    (subst (AreFinal c.args.yard.event_order) (sym c.as_slice.ensures.value) c.in-Ok.ensures.ok)
+    (subst (AreLastValues c.args.yard.event_order (length (source c.args.program.now).openings)) (sym c.as_slice.ensures.value)
+    (subst (λ (n : ℕ). AreLastValues c.args.yard.event_order n c.in-Ok.globals.items) c.len.ensures c.in-Ok.ensures.ok))
     c.args.piece.from c.args.piece.upto c.requires.all.0 c.requires.all.1 c.parted-views.ensures.views in
     for_ok (λ o. o ≡ left (to_z w64 (of_z w64 c.args.value))) this c.outcome.result
     (λ o is. subst this (sym (is ∙ ap left (to_z-of_z w64 c.args.value c.ranges.value))) whole)

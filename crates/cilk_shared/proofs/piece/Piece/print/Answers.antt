@@ -13,8 +13,8 @@ use Rattle.cilk_shared.proofs.Covering.{of_piece, covers_event, covers_kept, aft
 use Rattle.cilk_shared.proofs.Shown.{shows_kept}
 use Rattle.cilk_shared.proofs.piece.Piece.print.Goals as goal
 
-pub pass-requires-clause-next : goal.pass-requires-clause-next
-pass-requires-clause-next c = (of_piece (λ (p : PieceValue). PassesOn p (events.Print c.args.value)) c.self.view_is c.requires.next).0
+pub grow-requires-clause-next : goal.grow-requires-clause-next
+grow-requires-clause-next c = (of_piece (λ (p : PieceValue). PassesOn p (events.Print c.args.value)) c.self.view_is c.requires.next).0
 
 pub invariant_of-self : goal.invariant_of-self
 invariant_of-self c =
@@ -29,4 +29,4 @@ invariant_of-self-2 c =
     let next = of_piece (λ (p : PieceValue). PassesOn p (events.Print c.args.value)) c.self.view_is c.requires.next in
     let kind = refl in
     covers_event c.self.inside.views c.print.new.self r g c.self.invariant next.0 output (Updated output c.args.value) refl c.ranges.value
-    (ap (of_event r (frame_in g.event_order.events g.upto)) next.1) Append kind _ c.in_ok-print.ensures.ok (ap (λ x. (structure_of Append).combine (value_in c.self.inside.views Append output) ((structure_of Append).single x)) (to_z-of_z w64 c.args.value c.ranges.value) ∙ after_updated (structure_of Append) output c.args.value (value_in c.self.inside.views Append output)) _ c.pass.ensures
+    (ap (of_event r (frame_in g.event_order.events g.upto)) next.1) Append kind _ c.in_ok-print.ensures.ok (ap (λ x. (structure_of Append).combine (value_in c.self.inside.views Append output) ((structure_of Append).single x)) (to_z-of_z w64 c.args.value c.ranges.value) ∙ after_updated (structure_of Append) output c.args.value (value_in c.self.inside.views Append output)) _ c.grow.ensures

@@ -11,8 +11,8 @@ use Rattle.cilk_shared.proofs.Covering.{of_piece, covers_event, covers_kept, aft
 use Rattle.cilk_shared.proofs.Shown.{shows_kept}
 use Rattle.cilk_shared.proofs.piece.Piece.set.Goals as goal
 
-pub pass-requires-clause-next : goal.pass-requires-clause-next
-pass-requires-clause-next c = (of_piece (λ (p : PieceValue). PassesOn p (events.Set c.args.instance c.args.value)) c.self.view_is c.requires.next).0
+pub grow-requires-clause-next : goal.grow-requires-clause-next
+grow-requires-clause-next c = (of_piece (λ (p : PieceValue). PassesOn p (events.Set c.args.instance c.args.value)) c.self.view_is c.requires.next).0
 
 pub invariant_of-self : goal.invariant_of-self
 invariant_of-self c =
@@ -27,4 +27,4 @@ invariant_of-self-2 c =
     let next = of_piece (λ (p : PieceValue). PassesOn p (events.Set c.args.instance c.args.value)) c.self.view_is c.requires.next in
     let kind = of_piece (λ (p : PieceValue). c.args.kind ≡ kind_in p.reducers c.args.instance) c.self.view_is c.requires.kind in
     covers_event c.self.inside.views c.set.new.self r g c.self.invariant next.0 c.args.instance (SetTo c.args.instance c.args.value) refl c.ranges.value
-    (ap (of_event r (frame_in g.event_order.events g.upto)) next.1) c.args.kind kind _ c.in_ok-set.ensures.ok (ap (λ x. (structure_of c.args.kind).single x) (to_z-of_z w64 c.args.value c.ranges.value) ∙ after_set (structure_of c.args.kind) c.args.instance c.args.value (value_in c.self.inside.views c.args.kind c.args.instance)) _ c.pass.ensures
+    (ap (of_event r (frame_in g.event_order.events g.upto)) next.1) c.args.kind kind _ c.in_ok-set.ensures.ok (ap (λ x. (structure_of c.args.kind).single x) (to_z-of_z w64 c.args.value c.ranges.value) ∙ after_set (structure_of c.args.kind) c.args.instance c.args.value (value_in c.self.inside.views c.args.kind c.args.instance)) _ c.grow.ensures

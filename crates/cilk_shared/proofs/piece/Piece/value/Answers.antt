@@ -9,8 +9,8 @@ use Rattle.cilk_shared.proofs.Covering.{of_piece, covers_read, covers_kept, numb
 use Rattle.cilk_shared.proofs.Shown.{shows_kept}
 use Rattle.cilk_shared.proofs.piece.Piece.value.Goals as goal
 
-pub pass-requires-clause-next : goal.pass-requires-clause-next
-pass-requires-clause-next c = (of_piece (λ (p : PieceValue). PassesOn p (events.Value c.args.instance c.requires.next.0)) c.self.view_is c.requires.next.1).0
+pub grow-requires-clause-next : goal.grow-requires-clause-next
+grow-requires-clause-next c = (of_piece (λ (p : PieceValue). PassesOn p (events.Value c.args.instance c.requires.next.0)) c.self.view_is c.requires.next.1).0
 
 pub invariant_of-self : goal.invariant_of-self
 invariant_of-self c =
@@ -24,7 +24,7 @@ invariant_of-self-2 c =
     let r = c.self.inside.reducers.value in
     let next = of_piece (λ (p : PieceValue). PassesOn p (events.Value c.args.instance c.requires.next.0)) c.self.view_is c.requires.next.1 in
     let kind = of_piece (λ (p : PieceValue). c.args.kind ≡ kind_in p.reducers c.args.instance) c.self.view_is c.requires.kind in
-    covers_read c.self.inside.views c.value.new.self r g c.self.invariant next.0 c.args.instance c.requires.next.0 next.1 c.args.kind kind c.in_ok-number.ensures.ok _ c.pass.ensures
+    covers_read c.self.inside.views c.value.new.self r g c.self.invariant next.0 c.args.instance c.requires.next.0 next.1 c.args.kind kind c.in_ok-number.ensures.ok _ c.grow.ensures
 
 pub returns-clause-number : goal.returns-clause-number
 returns-clause-number c =
