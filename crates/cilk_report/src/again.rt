@@ -10,7 +10,7 @@ use std::alloc::AllocError;
 /// The bytes of a part. Large, since a file is opened anew for each part.
 const PART: usize = 32_768;
 
-/// What is looked for in a file.
+/// The goal of a search in a file.
 pub trait Seeks {
     /// Takes the file's next bytes, and returns whether more are wanted.
     fn take(&mut self, part: &[u8]) -> Result<bool, CaseFault>;

@@ -265,7 +265,7 @@ fn site_of(line: Line) -> u32 {
     }
 }
 
-// What is done by a line, in words that `here` follows.
+// The deed of a line, in words that `here` follows.
 fn done_by(alloc: Global, line: Line) -> Result<String, AllocError> {
     match line {
         Line::Read { cells, .. } => in_cells(alloc, cells, "read"),
