@@ -154,9 +154,9 @@ def read(text, words, folder):
     with open(f"{folder}/p.c", "w", encoding="utf-8") as f:
         f.write(text)
     with open(f"{folder}/p.cert", "w", encoding="utf-8") as f:
-        if subprocess.run([*words.check.split(), "certify", "p.c"], cwd=folder, stdout=f, check=False).returncode:
+        if subprocess.run([*parts.absolute(words.check), "certify", "p.c"], cwd=folder, stdout=f, check=False).returncode:
             return None
-    answer = shown([*words.check.split(), "check", "p.c", "p.cert"], folder)[0]
+    answer = shown([*parts.absolute(words.check), "check", "p.c", "p.cert"], folder)[0]
     return ANSWERS.get(answer, answer)
 
 
@@ -165,7 +165,7 @@ def judged(words, folder, k):
     if not words.judge:
         return parts.recorded(folder, ["./prog", str(k)])[0]
     parts.call(["./prog", str(k)], folder, CILK_TRACE="trace")
-    answer, wrong = shown([*words.judge.split(), "trace"], folder)
+    answer, wrong = shown([*parts.absolute(words.judge), "trace"], folder)
     return ANSWERS.get(answer, answer + wrong)
 
 

@@ -12,7 +12,14 @@ import oracle
 HERE = os.path.dirname(os.path.realpath(__file__))
 TOP = os.path.dirname(os.path.dirname(HERE))
 CILKREC = os.path.join(HERE, "..", "cilkrec")
+JUDGE = []  # the words of a program that has to judge each trace as the oracle does
+ANSWERS = {"race-free": "race-free", "race": "refused 311", "view-read race": "refused 312"}
 WORDS = {"free": "race-free", "racy": "race", "view": "view-read race"}
+
+
+def absolute(words):
+    """The words of a command, that may be called in any folder."""
+    return [os.path.abspath(word) if os.path.exists(word) else word for word in words.split()]
 
 
 def call(words, folder, seconds=120, **extra):
@@ -36,6 +43,10 @@ def recorded(folder, program=("./prog",), form="text"):
         except cilktrace.Malformed as e:
             return f"{'cut off' if e.cut else 'malformed'} {e}; status {done.returncode} {done.stderr[:200]}", []
     found = oracle.verdict(trace)
+    if JUDGE and form == "text":
+        answer = call([*JUDGE, "trace"], folder)
+        if answer.stdout != " ".join([ANSWERS[found[0]], *map(str, found[1:])]) + "\n":
+            return f"{answer.stdout}{answer.stderr} by {JUDGE[0]}, {found} by the oracle", []
     places = oracle.sites(os.path.join(folder, "sites"))
     return found[0], [places.get(trace[p - 2][-1], "?") for p in found[1:]]
 
