@@ -5,12 +5,12 @@
 -- - `told_status`: the status is that of what was shown;
 -- - `asked`: words with an order aren't words without one;
 -- - `unasked`: words with a usage error have no order.
-use Rattle.std.proofs.Common.{◌≡◌, ℕ, List, Bool, true, Option, Some, None, refl, sym, ap, subst, inl, inr, ◌∙◌}
+use Rattle.std.proofs.Common.{◌≡◌, ℕ, List, Bool, Option, Some, None, refl, sym, subst, inl, inr, ◌∙◌}
 use Rattle.std.proofs.lemmas.Bool.{true≢false}
 use Rattle.std.specs.Prelude.{IsSome}
 use Rattle.std.specs.Io.KnownBytes.{Appends}
 use Rattle.cilk_commands.specs.Replies.{NoMemory, Reply, Text, failure_view, out_text, status_of}
-use Rattle.cilk_commands.specs.Serving.{IsOrNoMemory, ProgramUnread, Shows, ShowsError, Surroundings, Unjudged, WordsFail}
+use Rattle.cilk_commands.specs.Serving.{IsOrNoMemory, Shows, ShowsError, Surroundings, WordsFail}
 use Rattle.cilk_commands.specs.declared.reply.Failure.{Failure}
 use Rattle.cilk_commands.specs.declared.reply.Failure.TheVariants as failures
 use Rattle.cilk_messages.specs.declared.words.WordsFault.{WordsFault}
