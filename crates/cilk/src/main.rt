@@ -10,9 +10,11 @@
 //!
 //! | Command | Purpose |
 //! |---|---|
+//! | `settle` | tells whether a schedule can change what a program leaves |
 //! | `run` | runs a program serially |
 //! | `certify`, `check` | writes a certificate of a run; checks it, and that the run has no race |
 //! | `threads` | runs an accepted program by work stealing |
+//! | `judge` | tells whether a recorded run of a C or C++ program has a race |
 //! | `play`, `schedule` | plays a script of a schedule; writes one that shows a race |
 //! | `measure` | prints work, span and parallelism |
 //! | `explain`, `help` | explains a number; describes a command |
