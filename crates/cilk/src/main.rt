@@ -10,7 +10,7 @@
 //!
 //! | Command | Purpose |
 //! |---|---|
-//! | `settle` | tells whether a schedule can change what a program leaves |
+//! | `settle` | tells whether a program's run races; if not, every schedule leaves the same |
 //! | `run` | runs a program serially |
 //! | `certify`, `check` | writes a certificate of a run; checks it, and that the run has no race |
 //! | `threads` | runs an accepted program by work stealing |

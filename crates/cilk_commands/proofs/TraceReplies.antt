@@ -75,16 +75,16 @@ whole (Some all) = refl
 pub from_first : (P : Option Text → Type 0) (known known' : Option Text) (at : ℕ) → known' ≡ known → at ≡ 0 → P (option_map (drop at) known') → P known
 from_first P known known' at e d h = let same : option_map (drop at) known' ≡ known = rw (e, d) (whole known) in subst P same h
 
-judged_shown : (path : Text) (known : Option Text) (failed failed' : Failures) (v : Verdict) → GivesText known (λ text. HasVerdict text v)
-    → JudgeShows path known failed failed' (verdict_view v)
-judged_shown path known failed failed' verdicts.RaceFree h = h
-judged_shown path known failed failed' (verdicts.Race p q) h = (p, q, refl, (h.0, h.1, inl (refl, h.2)))
-judged_shown path known failed failed' (verdicts.ViewRace p q) h = (p, q, refl, (h.0, h.1, inr (refl, h.2)))
+judged_shown : (path : Text) (known : Option Text) (failed failed' : Failures) (v : Verdict) → IsUnfailed failed failed' path
+    → GivesText known (λ text. HasVerdict text v) → JudgeShows path known failed failed' (verdict_view v)
+judged_shown path known failed failed' verdicts.RaceFree none h = (none, h)
+judged_shown path known failed failed' (verdicts.Race p q) none h = (p, q, refl, (h.0, h.1, inl (refl, h.2)))
+judged_shown path known failed failed' (verdicts.ViewRace p q) none h = (p, q, refl, (h.0, h.1, inr (refl, h.2)))
 
 pub verdict_shown : {F : Type 0} (path : Text) (known : Option Text) (failed : F → Failures) (old new : F) (v : Verdict) (r : Reply) → r ≡ verdict_view v
-    → GivesText known (λ text. HasVerdict text v) → JudgeShows path known (failed old) (failed new) r
-verdict_shown path known failed old new v r e h =
-    subst (λ (x : Reply). JudgeShows path known (failed old) (failed new) x) (sym e) (judged_shown path known (failed old) (failed new) v h)
+    → IsUnfailed (failed old) (failed new) path → GivesText known (λ text. HasVerdict text v) → JudgeShows path known (failed old) (failed new) r
+verdict_shown path known failed old new v r e none h =
+    subst (λ (x : Reply). JudgeShows path known (failed old) (failed new) x) (sym e) (judged_shown path known (failed old) (failed new) v none h)
 
 unsurveyed_view : (path : Text) (known : Option Text) (failed failed' : Failures) (a b : ℕ) (e : Unjudged) → (a < b → HasFailed path failed failed')
     → IsUnsurveyed known a b e → JudgeShows path known failed failed' (unjudged_view path e)
@@ -128,7 +128,9 @@ unjudged_shown path known known' at failed old new a b first e r same from is he
 -- the reply of the second reading
 module _ (path : Text) (known known' : Option Text) (before between after : Failures) (none : IsUnfailed before between path) (same : known' ≡ known) where
   as_known : (r : Reply) → JudgeShows path known between after r → JudgeShows path known before after r
-  as_known replies.RaceFree shown = shown
+  as_known replies.RaceFree shown =
+      let later = shown.0 in
+      (record { count = later.count ∙ none.count; elsewhere = later.elsewhere ∙ none.elsewhere }, shown.1)
   as_known (replies.Refused number places) shown = shown
   as_known (replies.BadTrace number at) shown = shown
   as_known (replies.Changed name) shown = shown

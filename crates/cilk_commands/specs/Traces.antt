@@ -5,7 +5,7 @@ use Rattle.cilk_trace.specs.declared.judge.Verdict.TheVariants as verdicts
 use Rattle.cilk_judge.specs.declared.fault.Unjudged.{Unjudged}
 use Rattle.cilk_judge.specs.declared.fault.Unjudged.TheVariants as faults
 use Rattle.cilk_judge.specs.TraceTexts.{GivesText, HasVerdict, IsMalformedAt, IsTruncatedAt}
-use Rattle.cilk_commands.specs.Files.{Failures, HasFailed}
+use Rattle.cilk_commands.specs.Files.{Failures, HasFailed, IsUnfailed}
 use Rattle.cilk_commands.specs.Replies.{BadTrace, Changed, NoMemory, RaceFree, Refused, Reply, Text, Unreadable}
 
 -- The lines of the file at two positions of its trace. Line 1 is the header, which no position counts.
@@ -39,11 +39,11 @@ RacesAs number p q text =
 abbrev pub IsBadAs : ℕ → ℕ → Text → Type 0
 IsBadAs number line text = ((number ≡ 301) × IsMalformedAt text line) ⊎ ((number ≡ 302) × IsTruncatedAt text line)
 
--- The reply to the trace in the file of this path: it has no race, or a first one; or its text isn't a
--- trace's; or it changed between two readings, or can't be read. `known` are the contents of the file,
+-- The reply to the trace in the file of this path: it has no race, and no read of it failed; or it has
+-- a first race; or its text isn't a trace's; or it changed between two readings, or can't be read. `known` are the contents of the file,
 -- if they are known; `failed` and `failed'` are the failed reads before and after.
 abbrev pub JudgeShows : Text → Option Text → Failures → Failures → Reply → Type 0
-JudgeShows path known failed failed' RaceFree = GivesText known (λ text. HasVerdict text verdicts.RaceFree)
+JudgeShows path known failed failed' RaceFree = IsUnfailed failed failed' path × GivesText known (λ text. HasVerdict text verdicts.RaceFree)
 JudgeShows path known failed failed' (Refused number places) =
     (p : ℕ) × (q : ℕ) × (places ≡ lines_at p q) × GivesText known (λ text. RacesAs number p q text)
 JudgeShows path known failed failed' (BadTrace number at) = GivesText known (λ text. IsBadAs number at text)

@@ -145,7 +145,8 @@ pub fn run<'a, F: Files, R: Read>(
     judge::run(alloc, &program, &input)
 }
 
-/// Settles a program on an input: one serial run tells whether any schedule can change its outcome.
+/// Settles a program on an input: one serial run tells whether it races. If not, no schedule changes
+/// its outcome.
 pub fn settle<'a, F: Files, R: Read>(
     alloc: Global,
     program: &'a str,

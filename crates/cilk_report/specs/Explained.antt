@@ -106,7 +106,7 @@ abbrev pub WritesAbout : ℕ → Option Text → Option Text → Option Text →
 WritesAbout status out out' err err' = (text : Text) × WritesText text status out out' err err'
 
 -- the reply of `serve` to these words, then a text on standard error; all failed reads of files are
--- those of `serve`
+-- those of `serve`, but for a trace that is read again for the text
 abbrev pub ServesThenExplains : List Text → (Text → Option Text) → Option Text → Failures → Failures → ℕ
     → Option Text → Option Text → Option Text → Option Text → Type 0
 ServesThenExplains words files input failed failed' status out out' err err' =

@@ -17,8 +17,8 @@ recorded runs of C and C++ programs.
 Usage: cilk COMMAND ARGUMENTS.. [OPTIONS]
 
 All commands:
-  settle PROGRAM              run the program serially, and tell whether a schedule can change what it leaves: `settled`
-                              and the outcome; or the first race, where it is, why, and what to write instead
+  settle PROGRAM              run the program serially, and tell whether it races: if not, `settled` and the outcome, which
+                              every schedule leaves; or the first race, where it is, why, and what to write instead
   run PROGRAM                 run the program serially; show the numbers that it prints, its global reducers, its result
   certify PROGRAM             make that run and write its certificate: a list of its events, frames and strands
   check PROGRAM CERTIFICATE   check that the certificate is right and that nothing races: if so, `accepted`, and every
@@ -127,7 +127,7 @@ const WORKERS: &str = "  --workers N     the number of workers, 1 to 64; 2 witho
 
 const SETTLE: Page = Page {
     head: "\
-Run a program serially, and tell whether any schedule can change what it leaves
+Run a program serially, and tell whether it races: if not, no schedule changes what it leaves
 
 Usage: cilk settle PROGRAM [--input FILE]
 
@@ -135,6 +135,7 @@ The answer is one of
   settled         and the lines that `run` shows: every parallel run on this input that ends leaves the same
   refused 311 P Q or refused 312 P Q: the first race, by two events of the run; status 4
   fault N at P    on standard error: the run stops by a fault in place of event P; status 3
+or what `run` writes for a wrong program or input.
 An explanation follows on standard error: at which lines and columns it is, why, and what to write instead.
 ",
     argument: "",
@@ -229,10 +230,11 @@ Tell whether a recorded run of a C or C++ program has a race
 Usage: cilk judge TRACE [--sites FILE] [--explain]
 
 The answer is one of
-  race-free       no schedule of the spawns and syncs changes the order of two accesses to one cell, unless both read,
-                  nor what a reducer shows
+  race-free       no two accesses to one cell may come in either order, unless both read, and no reducer is read
+                  where its view depends on the schedule
   refused 311 P Q or refused 312 P Q: the first race, by two lines of the trace; status 4
   trace 301 at L  on standard error: line L isn't one of a trace, or not there (302: the trace is cut off); status 2
+  changed TRACE   on standard error: it isn't the same in the second reading; status 2
 
 Arguments:
   TRACE           a trace in its text form (docs/TRACES.md), of at most 268,435,456 bytes

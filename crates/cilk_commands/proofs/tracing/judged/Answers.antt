@@ -1,6 +1,6 @@
 use Rattle.std.proofs.Common.{ap₂, rules}
 use Rattle.cilk_judge.specs.TraceTexts.{GivesText, HasVerdict}
-use Rattle.cilk_commands.proofs.Kept.{fails}
+use Rattle.cilk_commands.proofs.Kept.{fails, stays}
 use Rattle.cilk_commands.proofs.TraceReplies.{from_first, numbered, unjudged_shown, verdict_shown}
 use Rattle.cilk_commands.proofs.tracing.judged.Goals as goal
 
@@ -14,6 +14,8 @@ returns-in-Ok-clause-answer g c =
     let made = c.new-source.ensures in
     let first = c.requires.surveyed in
     verdict_shown c.args.path.now (g.F.Files.holds c.args.files.now c.args.path.now) (λ files. g.F.Files.failed files) c.args.files.now _ c.in-Ok.verdict _ c.shown.ensures
+    (stays (λ files. g.F.Files.failed files) (λ files. g.F.Files.holds files) c.args.files.now c.new-source.result.files.now c.judge_text.new.source.files.now _
+    _ _ _ _ c.args.path.now c.args.path.now made.files made.path made.other c.judge_text.ensures.kept (search rules) c.in-Ok.ensures.uncounted).0
     (from_first (λ known. GivesText known (λ text. HasVerdict text c.in-Ok.verdict)) _ _ _ (ap₂ (λ files path. g.F.Files.holds files path) made.files made.path)
     made.at (c.in-Ok.ensures.verdict first.0 first.2))
 
