@@ -17,8 +17,8 @@ recorded runs of C and C++ programs.
 Usage: cilk COMMAND ARGUMENTS.. [OPTIONS]
 
 All commands:
-  settle PROGRAM              run the program serially, and tell whether it races: if not, `settled` and the outcome, which
-                              every schedule leaves; or the first race, where it is, why, and what to write instead
+  settle PROGRAM              run the program serially, and tell whether it races: if not, `settled` and the outcome
+                              of every schedule; or the first race, where it is, why, and what to write instead
   run PROGRAM                 run the program serially; show the numbers that it prints, its global reducers, its result
   certify PROGRAM             make that run and write its certificate: a list of its events, frames and strands
   check PROGRAM CERTIFICATE   check that the certificate is right and that nothing races: if so, `accepted`, and every
