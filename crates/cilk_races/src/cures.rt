@@ -32,7 +32,8 @@ fn of_global(is_array: bool, in_turns: bool) -> &'static str {
 }
 
 const TURNS_OF_ARRAY: &str =
-    "let each turn write elements of `{}` of its own, by an index that no other turn has, or in a longer array";
+    "let each turn write elements of `{}` of its own, by an index that no other turn has; a turn that reads what \
+     another writes needs a second array to read, or a `for`";
 
 const ARRAY: &str =
     "put a `cilk_sync;` between the two, or let each strand write elements of `{}` of its own, in a longer array if \
@@ -53,5 +54,5 @@ const SHARED: &str =
 
 // A variable that takes the result of a spawned call.
 const RESULT: &str =
-    "what a spawned call leaves in `{}` is there behind a `cilk_sync;`: read it and write it there, and give each \
+    "what a spawned call leaves in `{}` is there only after a `cilk_sync;`: read it and write it there, and give each \
      spawned call a variable of its own";

@@ -315,7 +315,7 @@ const CHILD_AFTER: &str =
     "parallel: the spawn at {} lets what follows it update the reducer beside its child\n";
 
 const IN_SERIES: &str =
-    "schedule: none is shown: in every schedule, all events before this one in the serial run come before it\n";
+    "schedule: none for this event: all earlier ones come before it in every schedule; a later one may differ\n";
 
 // The nearest spawned frame around a frame, below `outer`.
 fn spawned_below(scene: &Scene<'_>, outer: usize, frame: usize) -> Option<usize> {

@@ -114,7 +114,7 @@ fn differing(outcome: &Outcome, serial: &Outcome) -> Sentence<'static> {
     } else if outcome.globals.as_slice() != serial.globals.as_slice() {
         "this script for `play` leaves other values in global variables than `run`, and shows the same"
     } else {
-        "this script for `play` makes the later access first; what it leaves is the same here"
+        "this script for `play` makes the later access first, and leaves the same; another script may differ"
     })
 }
 

@@ -112,7 +112,7 @@ fn of_count<'a>(tokens: &Tokens<'a>, name: &'a [u8]) -> Option<Sentence<'a>> {
 
 const COUNT: &str =
     "`{}` counts the places of `{}` that are filled, and no two strands may count on one variable: let each write \
-     places that are its own, as `{}[i]` by a number `i` that no other has, and gather them behind the `cilk_sync` or \
+     places that are its own, as `{}[i]` by a number `i` that no other has, and gather them after the `cilk_sync` or \
      the loop; a reducer counts them, `int cilk_reducer(add) {};` with `update({}, 1);`";
 
 // The array that is written with this name as its index.
