@@ -1,7 +1,5 @@
 //! Pseudo-random schedules: the outcomes of a program by 200 of them, with 1 to 8 workers.
 
-ghost use Rattle.cilk_schedule.specs.Sound.{IsCode};
-
 use crate::playing::{DIVIDE, code_of, no_input};
 use cilk_checker::judge::program;
 use cilk_lower::code::Code;
@@ -49,9 +47,7 @@ fn by_chance(
     code: &Code,
     input: &Input,
     seed: u32,
-) -> Result<Outcome, Stop>
-    requires { IsCode code.now }
-{
+) -> Result<Outcome, Stop> {
     let workers = seed % 8 + 1;
     let mut chance = Chance { state: seed };
     let Ok(mut machine) = Machine::new(alloc, code, input, workers) else {

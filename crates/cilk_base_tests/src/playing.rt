@@ -1,7 +1,7 @@
 //! Worked programs, and how they are played.
 
 ghost use Rattle.std.specs.Prelude.{◌≡◌, None};
-ghost use Rattle.cilk_schedule.specs.Sound.{IsCode, Runs};
+ghost use Rattle.cilk_schedule.specs.Sound.{Runs};
 
 use cilk_checker::judge::program;
 use cilk_lower::code::Code;
@@ -15,9 +15,7 @@ use cilk_types::word_list::WordList;
 use std::alloc::Global;
 use std::process::Abort;
 
-pub fn code_of(rt: &impl Abort, alloc: Global, text: &str) -> Code
-    ensures { IsCode result }
-{
+pub fn code_of(rt: &impl Abort, alloc: Global, text: &str) -> Code {
     let Ok(program) = program(alloc, text.as_bytes()) else {
         panic!(rt; "no program: {text}");
     };
@@ -62,9 +60,7 @@ fn choice_of(line: Line) -> (Choice, u32) {
 }
 
 /// Returns the run after the choices of these lines.
-pub fn played(rt: &impl Abort, alloc: Global, code: &Code, workers: u32, lines: &[Line]) -> Shown
-    requires { IsCode code.now }
-{
+pub fn played(rt: &impl Abort, alloc: Global, code: &Code, workers: u32, lines: &[Line]) -> Shown {
     let choices = script(rt, alloc, lines);
     match play(alloc, code, &no_input(alloc), workers, choices.as_slice()) {
         Ok(shown) => shown,
@@ -98,9 +94,7 @@ fn turn(machine: &Machine<'_>, worker: u32) -> Choice {
 }
 
 /// Returns the whole run by round-robin choices of n workers.
-pub fn all(rt: &impl Abort, alloc: Global, code: &Code, workers: u32) -> Shown
-    requires { IsCode code.now }
-{
+pub fn all(rt: &impl Abort, alloc: Global, code: &Code, workers: u32) -> Shown {
     let input = no_input(alloc);
     let Ok(mut machine) = Machine::new(alloc, code, &input, workers) else {
         panic!(rt; "no memory");

@@ -2,8 +2,8 @@
 //! stops for good and shows a beginning of the serial run. The gate's tests have enough memory;
 //! `tools/each_failure.py` runs these with each allocation refused in turn.
 
-ghost use Rattle.std.specs.Prelude.{◌≡◌, None, IfOk};
-ghost use Rattle.cilk_schedule.specs.Sound.{IsCode, Runs};
+ghost use Rattle.std.specs.Prelude.{◌≡◌, None};
+ghost use Rattle.cilk_schedule.specs.Sound.{Runs};
 
 use crate::playing::{LIST, LOCAL, no_input, rounds};
 use cilk_checker::fault::ProgramFault;
@@ -47,9 +47,7 @@ fn ends_or_stops(
 }
 
 // The run of one worker.
-fn serial(alloc: Global, code: &Code) -> Result<Shown, AllocError>
-    requires { IsCode code.now }
-{
+fn serial(alloc: Global, code: &Code) -> Result<Shown, AllocError> {
     let input = no_input(alloc);
     let mut machine = Machine::new(alloc, code, &input, 1)?;
     match rounds(alloc, &mut machine, 1) {
@@ -59,9 +57,7 @@ fn serial(alloc: Global, code: &Code) -> Result<Shown, AllocError>
 }
 
 // The run of two workers, and whether it was stopped.
-fn by_two(rt: &impl Abort, alloc: Global, code: &Code) -> Result<(Shown, bool), AllocError>
-    requires { IsCode code.now }
-{
+fn by_two(rt: &impl Abort, alloc: Global, code: &Code) -> Result<(Shown, bool), AllocError> {
     let input = no_input(alloc);
     let mut machine = Machine::new(alloc, code, &input, 2)?;
     let is_stopped = stops(rt, alloc, &mut machine);
@@ -93,9 +89,7 @@ fn gives(shown: &Shown, wanted: i64) -> bool {
 }
 
 // The code of a program.
-fn code_in(rt: &impl Abort, alloc: Global, text: &str) -> Result<Code, AllocError>
-    ensures { IfOk result IsCode }
-{
+fn code_in(rt: &impl Abort, alloc: Global, text: &str) -> Result<Code, AllocError> {
     match program(alloc, text.as_bytes()) {
         Ok(program) => lower(alloc, &program),
         Err(ProgramFault::Memory) => Err(AllocError),

@@ -1,6 +1,7 @@
 //! The code of a program: its instructions, call sites and entry points.
 
 ghost use Rattle.std.specs.Prelude.{◌≡◌, ◌≢◌, ◌<◌, ◌≤◌, ◌^◌, slice_get, unwrap_or, length, None, Some};
+ghost use Rattle.cilk_lower.specs.Behaves.{IsCode};
 ghost use Rattle.cilk_lower.specs.Code.{ArraysFit, JumpsLand, Lands, ArrayFits, SitesFit, entry_of};
 
 use crate::layout::Layout;
@@ -118,8 +119,8 @@ pub struct Site {
     pub result: Option<Place>,
 }
 
-/// The code of a program. Each jump stays within the instructions, each array's cells fit in `u32`,
-/// and each call site has at most 16 words and 16 reducers.
+/// The code of a well-named program. Each jump stays within the instructions, each array's cells
+/// fit in `u32`, and each call site has at most 16 words and 16 reducers.
 pub struct Code {
     instrs: Vec<Instr>,
     sites: Vec<Site>,
@@ -144,18 +145,19 @@ impl Drop for Code {
 }
 
 impl Model for Code {
+    ghost use Rattle.cilk_lower.specs.Behaves.{IsCode};
     ghost use Rattle.cilk_lower.specs.Code.{CodeView, JumpsLand, ArraysFit, SitesFit};
 
     ghost Value = { CodeView };
 
     ghost view = { λ c. record { instrs = c.instrs.items; sites = c.sites.items; root = c.root; functions = c.functions.items; loops = c.loops.items; layout = c.layout } };
 
-    ghost invariant = { λ c. (JumpsLand c.instrs.items × ArraysFit c.instrs.items) × SitesFit c.sites.items };
+    ghost invariant = { λ c. (JumpsLand c.instrs.items × ArraysFit c.instrs.items) × SitesFit c.sites.items × IsCode (record { instrs = c.instrs.items; sites = c.sites.items; root = c.root; functions = c.functions.items; loops = c.loops.items; layout = c.layout }) };
 }
 
 impl Code {
     /// Makes a code of its parts.
-    pub fn new(
+    pub(crate) fn new(
         instrs: Vec<Instr>,
         sites: Vec<Site>,
         root: EntryPoint,
@@ -166,6 +168,7 @@ impl Code {
         requires jumps { JumpsLand instrs.items }
         requires arrays { ArraysFit instrs.items }
         requires sites_fit { SitesFit sites.items }
+        requires is_code { IsCode (record { instrs = instrs.items; sites = sites.items; root = root; functions = functions.items; loops = loops.items; layout = layout }) }
         ensures { result ≡ record { instrs = instrs.items; sites = sites.items; root = root; functions = functions.items; loops = loops.items; layout = layout } }
     {
         Code {
@@ -176,6 +179,13 @@ impl Code {
             loops,
             layout,
         }
+    }
+
+    /// States that this is the code of a well-named program.
+    pub fn laws(&self)
+        ensures { IsCode self.now }
+    {
+        let _root = self.root;
     }
 
     /// Returns the program's opening values, and the cells and reducers of each frame.

@@ -67,7 +67,6 @@ pub struct Literal {
 }
 
 /// An expression.
-#[derive(Drop)]
 pub enum Expr {
     Number(Literal),
     Variable(Place),
@@ -88,16 +87,41 @@ pub enum Expr {
     InputCount,
 }
 
+impl Drop for Expr {
+    fn drop(self) {
+        match self {
+            Expr::Number(_) => {}
+            Expr::Variable(_) => {}
+            Expr::Element(_, _at) => {}
+            Expr::Negate(_inner) => {}
+            Expr::Not(_inner) => {}
+            Expr::Binary(_, _left, _right) => {}
+            Expr::And(_left, _right) => {}
+            Expr::Or(_left, _right) => {}
+            Expr::Value(_) => {}
+            Expr::Input(_at) => {}
+            Expr::InputCount => {}
+        }
+    }
+}
+
 /// The target of an assignment.
-#[derive(Drop)]
 pub enum Target {
     Variable(Place),
     Element(Array, Expr),
 }
 
+impl Drop for Target {
+    fn drop(self) {
+        match self {
+            Target::Variable(_) => {}
+            Target::Element(_, _at) => {}
+        }
+    }
+}
+
 /// A call or spawn of a function: its index, its word and reducer arguments in order, and the
 /// variable that receives the result.
-#[derive(Drop)]
 pub struct Invoke {
     pub how: Invocation,
     pub function: u32,
@@ -106,8 +130,19 @@ pub struct Invoke {
     pub result: Option<Place>,
 }
 
+impl Drop for Invoke {
+    fn drop(self) {
+        let Invoke {
+            how: _,
+            function: _,
+            arguments: _arguments,
+            reducers: _reducers,
+            result: _,
+        } = self;
+    }
+}
+
 /// One variable of a declaration, by its index among the frame's cells.
-#[derive(Drop)]
 pub enum Declaration {
     /// The variable becomes 0.
     Zero(u32),
@@ -116,8 +151,17 @@ pub enum Declaration {
     Invoke(Invoke),
 }
 
+impl Drop for Declaration {
+    fn drop(self) {
+        match self {
+            Declaration::Zero(_) => {}
+            Declaration::Value(_, _value) => {}
+            Declaration::Invoke(_invoke) => {}
+        }
+    }
+}
+
 /// A statement.
-#[derive(Drop)]
 pub enum Stmt {
     /// Does nothing. A local reducer's declaration is empty too: the reducer is created when its
     /// frame begins.
@@ -143,4 +187,27 @@ pub enum Stmt {
     Set(Reducer, Expr),
     /// Returns a value, or 0 if there is none.
     Return(Option<Expr>),
+}
+
+impl Drop for Stmt {
+    fn drop(self) {
+        match self {
+            Stmt::Empty => {}
+            Stmt::Block(_list) => {}
+            Stmt::Declare(_list) => {}
+            Stmt::Assign(_target, _value) => {}
+            Stmt::Change(_target, _, _value) => {}
+            Stmt::Step(_target, _) => {}
+            Stmt::Invoke(_invoke) => {}
+            Stmt::Sync => {}
+            Stmt::If(_test, _body) => {}
+            Stmt::IfElse(_test, _then, _other) => {}
+            Stmt::For(_first, _test, _step, _body) => {}
+            Stmt::ParallelFor(_from, _to, _) => {}
+            Stmt::Print(_value) => {}
+            Stmt::Update(_, _value) => {}
+            Stmt::Set(_, _value) => {}
+            Stmt::Return(_value) => {}
+        }
+    }
 }

@@ -29,7 +29,8 @@ use Rattle.cilk_scheduler.specs.declared.frame_state.FrameState.{FrameState}
 use Rattle.cilk_scheduler.specs.declared.frame_state.Status.{Status}
 use Rattle.cilk_scheduler.proofs.Changing.{changed_length}
 use Rattle.cilk_scheduler.proofs.Placed.{get_some}
-use Rattle.cilk_schedule.specs.Sound.{Comes, Counts, FitsDue, IsCodeOf, Lives, Rests, Sound, frame_of}
+use Rattle.cilk_lower.specs.Behaves.{IsCodeOf}
+use Rattle.cilk_schedule.specs.Sound.{Comes, Counts, FitsDue, Lives, Rests, Sound, frame_of}
 use Rattle.cilk_schedule.proofs.Sounds.{changed_sound, push_get, push_length, pushed, lives_changed}
 
 some_is : {A : Type 0} (x y : A) → Some x ≡ Some y → x ≡ y

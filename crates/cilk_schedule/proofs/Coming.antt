@@ -30,7 +30,8 @@ use Rattle.cilk_scheduler.specs.declared.frame_state.Due.TheVariants as due
 use Rattle.cilk_scheduler.specs.declared.frame_state.FrameState.{FrameState}
 use Rattle.cilk_scheduler.proofs.Changing.{changed_length}
 use Rattle.cilk_scheduler.proofs.Placed.{get_some}
-use Rattle.cilk_schedule.specs.Sound.{Comes, Counts, FitsDue, HasCome, IsCodeOf, Lives, Rests, Sound, frame_of}
+use Rattle.cilk_lower.specs.Behaves.{IsCodeOf}
+use Rattle.cilk_schedule.specs.Sound.{Comes, Counts, FitsDue, HasCome, Lives, Rests, Sound, frame_of}
 use Rattle.cilk_schedule.proofs.Sounds.{changed_sound, lives_changed}
 
 pub some_is : {A : Type 0} (x y : A) → Some x ≡ Some y → x ≡ y

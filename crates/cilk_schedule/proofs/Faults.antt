@@ -41,7 +41,7 @@ use Rattle.cilk_schedule.specs.Acts.{WentTo}
 use Rattle.cilk_schedule.specs.Choices.{IsReadyAt}
 use Rattle.cilk_schedule.specs.Faults.{FaultsAreStops, HasStopped, KeepsTold, StopsFrom}
 use Rattle.cilk_schedule.specs.Reached.{HasReached}
-use Rattle.cilk_schedule.specs.Sound.{IsCodeOf}
+use Rattle.cilk_lower.specs.Behaves.{IsCodeOf}
 use Rattle.cilk_schedule.proofs.Leading.{reached_of}
 use Rattle.cilk_schedule.proofs.Stepping.{held_place}
 

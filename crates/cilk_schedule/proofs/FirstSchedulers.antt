@@ -18,7 +18,7 @@ use Rattle.cilk_scheduler.specs.Openings.{IsNew, first_worker_table}
 use Rattle.cilk_scheduler.proofs.Choosing.{choices_are_steps}
 use Rattle.cilk_scheduler.proofs.Openings.{openings_are_shown}
 use Rattle.cilk_schedule.specs.Reached.{HasOpened, HasReached}
-use Rattle.cilk_schedule.specs.Sound.{IsCodeOf}
+use Rattle.cilk_lower.specs.Behaves.{IsCodeOf}
 use Rattle.cilk_schedule.proofs.Coming.{some_is}
 
 pub each_more : {A : Type 0} (P : ℕ → A → Type 0) (xs : List A) (x : A) → ((v : ℕ) (u : A) → slice_get xs v ≡ Some u → P v u) → P (length xs) x → (v : ℕ) (u : A) → slice_get (xs ++ x ∷ []) v ≡ Some u → P v u

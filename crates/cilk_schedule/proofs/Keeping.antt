@@ -30,7 +30,7 @@ use Rattle.cilk_scheduler.specs.declared.frame_state.Worker.{Worker}
 use Rattle.cilk_schedule.specs.Faults.{FaultsAreStops, IsStoppedBy}
 use Rattle.cilk_schedule.specs.Played.{IsAt}
 use Rattle.cilk_schedule.specs.Reached.{HasReached, LeadsOn, comes_of}
-use Rattle.cilk_schedule.specs.Sound.{IsCodeOf}
+use Rattle.cilk_lower.specs.Behaves.{IsCodeOf}
 use Rattle.cilk_schedule.specs.declared.machine.Machine.{Machine}
 use Rattle.cilk_schedule.proofs.Leading.{reached_of}
 use Rattle.cilk_schedule.proofs.Played.{at_moved}

@@ -27,7 +27,7 @@ use Rattle.cilk_schedule.specs.Acts.{EventsAreSteps}
 use Rattle.cilk_schedule.specs.Ends.{EndsAreSteps}
 use Rattle.cilk_schedule.specs.Passing.{SkipsAreSteps, StealsAreSteps, SyncsAreSteps, WaitsAreSteps}
 use Rattle.cilk_schedule.specs.Reached.{HasReached, IsReached, LeadsOn, comes_of}
-use Rattle.cilk_schedule.specs.Sound.{IsCodeOf}
+use Rattle.cilk_lower.specs.Behaves.{IsCodeOf}
 use Rattle.cilk_schedule.specs.Starting.{StartsAreSteps}
 use Rattle.cilk_schedule.proofs.FirstSchedulers.{goes_on}
 

@@ -21,7 +21,8 @@ use Rattle.cilk_serial.proofs.Sights.{root_sees}
 use Rattle.cilk_scheduler.specs.FrameStates.{seated}
 use Rattle.cilk_scheduler.specs.declared.frame_state.FrameState.{FrameState}
 use Rattle.cilk_serial.specs.Scoped.{Sees}
-use Rattle.cilk_schedule.specs.Sound.{Counts, FitsDue, IsCodeOf, Lives, Rests, Sound}
+use Rattle.cilk_lower.specs.Behaves.{IsCodeOf}
+use Rattle.cilk_schedule.specs.Sound.{Counts, FitsDue, Lives, Rests, Sound}
 use Rattle.cilk_schedule.proofs.Coming.{some_is}
 
 pub few_cells : (p : Source) → IsTrue (is_well_named p) → length p.openings + cells_of p callees.Root ≤ MAX_CELLS

@@ -30,7 +30,7 @@ use Rattle.cilk_schedule.specs.Faults.{HasFault, NamesStop, StopsFrom}
 use Rattle.cilk_schedule.specs.Played.{ChoicesLead, ChoicesStop, HaltAt, IsAt, IsPlayed, IsStop, LeadOn, Leaves, ListsDecide, StopFrom}
 use Rattle.cilk_schedule.specs.Reached.{HasOpened, HasReached, LeadsOn, comes_of}
 use Rattle.cilk_schedule.specs.Shown.{ShowsReached}
-use Rattle.cilk_schedule.specs.Sound.{IsCodeOf}
+use Rattle.cilk_lower.specs.Behaves.{IsCodeOf}
 use Rattle.cilk_schedule.specs.declared.machine.Machine.{Machine}
 use Rattle.cilk_schedule.proofs.Deciding.{choices_decide}
 

@@ -9,7 +9,7 @@ use Rattle.cilk_runs.specs.Steps.{IsFirst}
 use Rattle.cilk_scheduler.specs.Openings.{first_worker_table}
 use Rattle.cilk_scheduler.specs.declared.scheduler.Scheduler.{Scheduler}
 use Rattle.cilk_schedule.specs.Reached.{HasOpened, HasReached}
-use Rattle.cilk_schedule.specs.Sound.{IsCodeOf}
+use Rattle.cilk_lower.specs.Behaves.{IsCodeOf}
 use Rattle.cilk_schedule.specs.declared.machine.Machine.{Machine}
 use Rattle.cilk_schedule.proofs.Played.{leaves_by, opened_at}
 use Rattle.cilk_script.specs.declared.script.Step.{Step}

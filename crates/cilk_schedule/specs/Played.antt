@@ -19,7 +19,8 @@ use Rattle.cilk_schedule.specs.declared.showing.Shown.{Shown}
 use Rattle.cilk_schedule.specs.Deciding.{Agree, IsGoing}
 use Rattle.cilk_schedule.specs.Faults.{HasFault}
 use Rattle.cilk_schedule.specs.Reached.{HasReached}
-use Rattle.cilk_schedule.specs.Sound.{IsCodeOf, Runs}
+use Rattle.cilk_lower.specs.Behaves.{IsCodeOf}
+use Rattle.cilk_schedule.specs.Sound.{Runs}
 use Rattle.cilk_schedule.specs.declared.machine.Machine.{Machine}
 
 module _ (p : Source) (inputs : List ℤ) where

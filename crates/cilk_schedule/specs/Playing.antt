@@ -23,7 +23,7 @@ use Rattle.cilk_schedule.specs.Deciding.{Agree}
 use Rattle.cilk_scheduler.specs.Numbered.{AreNamed}
 use Rattle.cilk_schedule.specs.Played.{IsAt, Leaves}
 use Rattle.cilk_schedule.specs.Reached.{HasOpened, HasReached}
-use Rattle.cilk_schedule.specs.Sound.{IsCodeOf}
+use Rattle.cilk_lower.specs.Behaves.{IsCodeOf}
 use Rattle.cilk_schedule.specs.declared.machine.Machine.{Machine}
 use Rattle.cilk_determinacy.specs.Settled.{AlwaysAsSerial, IsSettled}
 use Rattle.cilk_determinacy.specs.Theorem.{IsAsSerial}

@@ -11,7 +11,7 @@ use Rattle.cilk_scheduler.specs.Schedulers.{Tells}
 use Rattle.cilk_scheduler.specs.declared.scheduler.Scheduler.{Scheduler}
 use Rattle.cilk_schedule.specs.Showing.{ShowsRun}
 use Rattle.cilk_schedule.specs.declared.showing.Shown.{Shown}
-use Rattle.cilk_schedule.specs.Sound.{IsCodeOf}
+use Rattle.cilk_lower.specs.Behaves.{IsCodeOf}
 
 -- The run shown is right for every reachable state, of the program on the inputs, that the
 -- scheduler records. Such a state is the one that the scheduler shows, the one that a fault

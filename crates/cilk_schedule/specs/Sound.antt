@@ -1,5 +1,5 @@
 -- The invariant of a scheduler's state, by its own numbers, which makes the next choice safe.
-use Rattle.std.specs.Prelude.{◌≡◌, ◌+◌, ◌-◌, ◌<◌, ◌≤◌, ℕ, IsTrue, ℤ, List, length, slice_get, Option, Some, None}
+use Rattle.std.specs.Prelude.{◌≡◌, ◌+◌, ◌-◌, ◌<◌, ◌≤◌, ℕ, ℤ, List, length, slice_get, Option, Some, None}
 use Rattle.cilk_types.specs.declared.event.Instance.{Instance}
 use Rattle.cilk_types.specs.declared.invocation.Invocation.{Invocation}
 use Rattle.cilk_types.specs.declared.limits.TheConstants.{MAX_CELLS, MAX_EVENTS, MAX_FRAMES, MAX_TICKS}
@@ -10,11 +10,10 @@ use Rattle.cilk_program.specs.Inside.{AskIsThere}
 use Rattle.cilk_program.specs.Scopes.{Scope}
 use Rattle.cilk_program.specs.SerialRun.{Frame}
 use Rattle.cilk_program.specs.Syntax.{Source}
-use Rattle.cilk_program.specs.WellNamed.{is_well_named}
 use Rattle.cilk_program.specs.Visible.{CanInvoke}
-use Rattle.cilk_lower.specs.Behaves.{Behaves}
+use Rattle.cilk_lower.specs.Behaves.{IsCodeOf}
 use Rattle.cilk_lower.specs.Code.{CodeView}
-use Rattle.cilk_lower.specs.Layout.{LaysOut, function_frame}
+use Rattle.cilk_lower.specs.Layout.{function_frame}
 use Rattle.cilk_lower.specs.declared.code.Owed.{Owed}
 use Rattle.cilk_lower.specs.declared.code.Owed.TheVariants.{Nothing}
 use Rattle.cilk_frames.specs.Cursor.{CursorView}
@@ -27,15 +26,6 @@ use Rattle.cilk_scheduler.specs.declared.scheduler.Scheduler.{Scheduler}
 use Rattle.cilk_scheduler.specs.declared.frame_state.Due.{Due}
 use Rattle.cilk_scheduler.specs.declared.frame_state.Due.TheVariants as due
 use Rattle.cilk_scheduler.specs.declared.frame_state.FrameState.{FrameState}
-
--- the code of a well-named program, with its layout
-pub record IsCodeOf (p : Source) (code : CodeView) : Type 0 where
-  pub well : IsTrue (is_well_named p)
-  pub behaves : Behaves p code
-  pub lays : LaysOut p code.layout
-
-abbrev pub IsCode : CodeView → Type 0
-IsCode code = (p : Source) × IsCodeOf p code
 
 -- the frame continues with what its cursor is owed
 abbrev pub FitsDue : Owed → Due → Type 0

@@ -17,7 +17,8 @@ ghost use Rattle.cilk_schedule.specs.Faults.{FaultsAreStops, HasFault, HasStoppe
 ghost use Rattle.cilk_schedule.specs.Played.{HaltAt, IsPlayed, IsStop, IsUnstopped, LeadOn};
 ghost use Rattle.cilk_schedule.specs.Reached.{HasOpened, HasReached, LeadsOn};
 ghost use Rattle.cilk_schedule.specs.Shown.{ShowsReached};
-ghost use Rattle.cilk_schedule.specs.Sound.{IsCode, IsCodeOf, Runs};
+ghost use Rattle.cilk_lower.specs.Behaves.{IsCodeOf};
+ghost use Rattle.cilk_schedule.specs.Sound.{Runs};
 ghost use Rattle.cilk_program.specs.Syntax.{Source};
 ghost use Rattle.cilk_schedule.specs.Ends.{EndsAreSteps};
 ghost use Rattle.cilk_schedule.specs.Starting.{StartsAreSteps};
@@ -52,7 +53,6 @@ impl<'a> Machine<'a> {
         input: &'a Input,
         workers: u32,
     ) -> Result<Machine<'a>, AllocError>
-        requires { IsCode code.now }
         ensures of { IfOk result (λ m. (m.code.now ≡ code.now) × (m.input.now ≡ input.now)) }
         ensures runs { IfOk result (λ m. Runs m.code.now m.input.now m.scheduler) }
         ensures workers { IfOk result (λ m. length m.scheduler.workers.items ≡ workers) }
@@ -175,7 +175,6 @@ pub fn play(
     workers: u32,
     choices: &[Choice],
 ) -> Result<Shown, (Stop, Vec<u32>)>
-    requires { IsCode code.now }
     ensures played { IfOk result (λ shown. 0 < workers → (p : Source) → IsCodeOf p code.now → IsPlayed p input.now workers choices.now shown) }
     ensures stopped { IfErr result (λ e. 0 < workers → (p : Source) → IsCodeOf p code.now → IsStop p input.now workers choices.now e.0 e.1.items) }
     ensures unnamed { IfErr result (λ e. e.0 ≡ stops.Memory → e.1.items ≡ []) }

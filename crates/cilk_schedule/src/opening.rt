@@ -5,7 +5,8 @@ ghost use Rattle.cilk_scheduler.specs.Parts.{OpensAs};
 ghost use Rattle.cilk_scheduler.specs.declared.frame_state.Worker as frame_state;
 ghost use Rattle.cilk_program.specs.Syntax.{Source};
 ghost use Rattle.cilk_schedule.specs.Reached.{HasOpened};
-ghost use Rattle.cilk_schedule.specs.Sound.{IsCode, IsCodeOf, Runs};
+ghost use Rattle.cilk_lower.specs.Behaves.{IsCodeOf};
+ghost use Rattle.cilk_schedule.specs.Sound.{Runs};
 
 use cilk_frames::asked::AskSlot;
 use cilk_frames::beginnings::root;
@@ -21,12 +22,12 @@ use std::alloc::{AllocError, Global};
 
 /// Returns the state in which the first worker holds the first frame and the others are idle.
 pub fn open(alloc: Global, code: &Code, workers: u32) -> Result<Scheduler, AllocError>
-    requires { IsCode code.now }
     ensures runs { IfOk result (λ b. (inputs : List ℤ) → Runs code.now inputs b) }
     ensures workers { IfOk result (λ b. length b.workers.items ≡ workers) }
     ensures running { IfOk result (λ b. (b.stopped ≡ None) × (b.outcome ≡ None)) }
     ensures opened { IfOk result (λ b. 0 < workers → (p : Source) (inputs : List ℤ) → IsCodeOf p code.now → HasOpened code.now p inputs b (workers - 1)) }
 {
+    code.laws();
     let layout = code.layout();
     let mut cells = Vec::from_slice(alloc, layout.openings.as_slice())?;
     add_cells(&mut cells, layout.function_cells(layout.main))?;

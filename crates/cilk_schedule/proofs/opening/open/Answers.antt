@@ -14,7 +14,7 @@ use Rattle.cilk_schedule.proofs.opening.open.Goals as goal
 
 pub returns-clause-runs : goal.returns-clause-runs
 returns-clause-runs c = λ inputs.
-    let q = c.requires in
+    let q = c.laws.ensures in
     let p = q.0 in
     let is = q.1 in
     let lays = is.lays in

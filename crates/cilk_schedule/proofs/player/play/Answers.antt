@@ -1,6 +1,6 @@
 use Rattle.std.proofs.Common.{◌<◌}
 use Rattle.cilk_program.specs.Sources.{source}
-use Rattle.cilk_schedule.specs.Sound.{IsCodeOf}
+use Rattle.cilk_lower.specs.Behaves.{IsCodeOf}
 use Rattle.cilk_schedule.specs.Playing.{Ends, FailsAsSettled, IsFault}
 use Rattle.cilk_schedule.proofs.Following.{handed}
 use Rattle.cilk_schedule.proofs.OneEnd.{settled_end, settled_fault}
