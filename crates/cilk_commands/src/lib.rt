@@ -33,16 +33,16 @@
 pub mod counted;
 pub mod disk;
 pub mod files;
-mod judge;
+mod judging;
 pub mod laws;
 pub mod parts;
+mod programs;
 mod render;
 pub mod reply;
 mod running;
 mod serving;
 pub mod streams;
-mod tracing;
 
-pub use judge::{input, names, stopped};
+pub use programs::{input, names, stopped};
 pub use running::{given, read_file, refused};
 pub use serving::{Served, carry_out, complain, serve, serve_and_tell, show, tell};

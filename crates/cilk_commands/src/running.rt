@@ -14,8 +14,8 @@ ghost use Rattle.cilk_messages.specs.Words.{origin_view};
 
 use crate::counted::CountedReader;
 use crate::files::{FileFault, Files};
-use crate::judge;
 use crate::parts::PartSource;
+use crate::programs;
 use crate::reply::{Answer, Failure};
 use crate::streams::receive;
 use cilk_checker::check::check_run;
@@ -119,9 +119,9 @@ pub fn given<'a, F: Files, R: Read>(
     ensures most { TakesAtMost MAX_READ (R.remaining reader.old) (R.remaining reader.new) }
 {
     let text = read_program(alloc, program, files, reader)?;
-    let program = judge::program(alloc, text.as_slice())?;
+    let program = programs::program(alloc, text.as_slice())?;
     let text = read_input(alloc, input, files)?;
-    let input = judge::input(alloc, text.as_slice())?;
+    let input = programs::input(alloc, text.as_slice())?;
     Ok((program, input))
 }
 
@@ -142,7 +142,7 @@ pub fn run<'a, F: Files, R: Read>(
     ensures most { TakesAtMost MAX_READ (R.remaining reader.old) (R.remaining reader.new) }
 {
     let (program, input) = given(alloc, program, input, files, reader)?;
-    judge::run(alloc, &program, &input)
+    programs::run(alloc, &program, &input)
 }
 
 /// Settles a program on an input: one serial run tells whether it races. If not, no schedule changes
@@ -163,7 +163,7 @@ pub fn settle<'a, F: Files, R: Read>(
     ensures most { TakesAtMost MAX_READ (R.remaining reader.old) (R.remaining reader.new) }
 {
     let (program, input) = given(alloc, Origin::File(program), input, files, reader)?;
-    judge::settle(alloc, &program, &input)
+    programs::settle(alloc, &program, &input)
 }
 
 /// Makes the certificate of a program's run on an input.
@@ -183,7 +183,7 @@ pub fn certify<'a, F: Files, R: Read>(
     ensures most { TakesAtMost MAX_READ (R.remaining reader.old) (R.remaining reader.new) }
 {
     let (program, input) = given(alloc, Origin::File(program), input, files, reader)?;
-    judge::certificate(alloc, &program, &input)
+    programs::certificate(alloc, &program, &input)
 }
 
 /// Returns a refusal as an answer, or as a failure if it is out of memory.
@@ -257,7 +257,7 @@ fn played<'a, F: Files>(
         workers (meant program.now) input.now (failure_view e)) }
 {
     let text = read_file(alloc, path, files)?;
-    judge::script(alloc, program, input, workers, text.as_slice())
+    programs::script(alloc, program, input, workers, text.as_slice())
 }
 
 /// Plays a script for a program and an input, with `workers` workers. The script is read after the

@@ -9,10 +9,10 @@ ghost use Rattle.cilk_commands.specs.declared.streams.TheConstants.{MAX_READ};
 ghost use Rattle.cilk_messages.specs.Words.{order_in, order_view, texts};
 
 use crate::files::Files;
+use crate::judging::judge;
 use crate::reply::{Answer, Failure, NO_MEMORY, NO_MEMORY_LINE, WRONG};
 use crate::running::{certify, check, play, run, settle};
 use crate::streams::send;
-use crate::tracing::judge;
 use cilk_messages::words::{Order, WordsFault, read};
 use std::alloc::Global;
 use std::io::{Read, Write};

@@ -74,8 +74,8 @@ fn next_again<S: Source>(pieces: &mut Pieces, source: &mut S) -> Result<Option<F
 /// Reads a trace's text again, after [`survey_text`], and judges it.
 ///
 /// The verdict is that of the text that is read now, which has the structure that is known. Time is
-/// linear in the text and the cells that it names; memory: 16 bytes a cell, and 24 for each reducer
-/// that is alive.
+/// linear in the text and the cells that it names; memory: 16 bytes for each number up to the
+/// greatest cell, and 24 for each reducer that is alive.
 pub fn judge_text<S: Source>(
     alloc: Global,
     known: &Known,
@@ -105,8 +105,8 @@ pub fn judge_text<S: Source>(
 
 /// Judges a trace whose text two sources give, one for each reading.
 ///
-/// Pulling stops at the first fault. Nothing is kept of the text: memory is linear in strands and
-/// cells.
+/// Pulling stops at the first fault. Nothing is kept of the text: memory is 12 bytes a strand, and
+/// 16 for each number up to the greatest cell.
 pub fn judge<S: Source, T: Source>(
     alloc: Global,
     first: &mut S,

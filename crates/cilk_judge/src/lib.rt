@@ -1,8 +1,9 @@
 //! Judging a trace's text: whether two accesses of the program that wrote it race, in any schedule.
 //!
 //! `docs/TRACES.md` has the text and its meaning. A text is read twice from a
-//! [`Source`](cilk_checker::source::Source), each time in pieces. No text is kept: memory is linear
-//! in strands and cells. (Races: Feng and Leiserson 1997; views: Lee and Schardl 2015.)
+//! [`Source`](cilk_checker::source::Source), each time in pieces. No text is kept: memory is 12
+//! bytes a strand, and 16 for each number up to the greatest cell that is named. (Races: Feng and
+//! Leiserson 1997; views: Lee and Schardl 2015.)
 //!
 //! | Call | Result |
 //! |---|---|

@@ -1,7 +1,7 @@
 use Rattle.std.proofs.Common.{◌≡◌, rules}
 use Rattle.cilk_checker.specs.Judging.{Meant, meant}
 use Rattle.cilk_commands.proofs.Replying.{fault_shown}
-use Rattle.cilk_commands.proofs.judge.steps_left.Goals as goal
+use Rattle.cilk_commands.proofs.programs.steps_left.Goals as goal
 
 pub returns-in_ok-names-in-Ok-Some-clause-ok : goal.returns-in_ok-names-in-Ok-Some-clause-ok
 returns-in_ok-names-in-Ok-Some-clause-ok c =

@@ -1,6 +1,6 @@
 use Rattle.cilk_checker.specs.Judging.{meant}
 use Rattle.cilk_commands.proofs.Replying.{steps_fail, steps_shown}
-use Rattle.cilk_commands.proofs.judge.script.Goals as goal
+use Rattle.cilk_commands.proofs.programs.script.Goals as goal
 
 pub returns-clause-ok : goal.returns-clause-ok
 returns-clause-ok c =

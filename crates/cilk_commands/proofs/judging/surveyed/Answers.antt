@@ -2,7 +2,7 @@ use Rattle.std.proofs.Common.{ap₂, rules}
 use Rattle.cilk_judge.specs.TraceTexts.{GivesText, HasSurvey}
 use Rattle.cilk_commands.proofs.Kept.{fails, stays}
 use Rattle.cilk_commands.proofs.TraceReplies.{from_first, unsurveyed_shown}
-use Rattle.cilk_commands.proofs.tracing.surveyed.Goals as goal
+use Rattle.cilk_commands.proofs.judging.surveyed.Goals as goal
 
 pub returns-in-Ok-clause-known : goal.returns-in-Ok-clause-known
 returns-in-Ok-clause-known g c =

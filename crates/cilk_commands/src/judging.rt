@@ -93,7 +93,8 @@ fn judged<'a, F: Files>(
     }
 }
 
-/// Judges the trace in a file. Memory is linear in the trace's strands and cells.
+/// Judges the trace in a file. Memory: 12 bytes a strand of the trace, and 16 for each number up to
+/// the greatest cell that it names.
 pub fn judge<'a, F: Files>(
     alloc: Global,
     trace: &'a str,

@@ -2,7 +2,7 @@ use Rattle.std.proofs.Common.{ap₂, rules}
 use Rattle.cilk_judge.specs.TraceTexts.{GivesText, HasVerdict}
 use Rattle.cilk_commands.proofs.Kept.{fails, stays}
 use Rattle.cilk_commands.proofs.TraceReplies.{from_first, numbered, unjudged_shown, verdict_shown}
-use Rattle.cilk_commands.proofs.tracing.judged.Goals as goal
+use Rattle.cilk_commands.proofs.judging.judged.Goals as goal
 
 pub shown-requires : goal.shown-requires
 shown-requires g c =

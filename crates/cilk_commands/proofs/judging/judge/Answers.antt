@@ -1,5 +1,5 @@
 use Rattle.cilk_commands.proofs.TraceReplies.{since_err, since_ok}
-use Rattle.cilk_commands.proofs.tracing.judge.Goals as goal
+use Rattle.cilk_commands.proofs.judging.judge.Goals as goal
 
 pub returns-clause-answer : goal.returns-clause-answer
 returns-clause-answer g c =
