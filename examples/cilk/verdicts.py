@@ -1,6 +1,8 @@
 #!/usr/bin/env python3
 """Records the programs of this folder by recorder/cilkrec, each as it is and with -DRACY, judges the traces, and
-compares with the table of README.md: the verdict, and file and line of both accesses.
+compares with the table of README.md: the verdict, and file and line of both accesses. What `judge` explains of a race
+is compared with explanations.txt, where gcc or g++ compiled the program; numbers of cells and of lines of a trace differ
+by the machine, and are left out.
 
 verdicts.py [PROGRAM] [--show] [--threads RUNS]
 
@@ -23,6 +25,7 @@ HERE = os.path.dirname(os.path.realpath(__file__))
 TOP = os.path.dirname(os.path.dirname(HERE))
 CILKREC = os.path.join(TOP, "recorder", "cilkrec")
 ORACLE = os.path.join(TOP, "recorder", "tests", "oracle.py")
+EXPLAINED = os.path.join(HERE, "explanations.txt")
 ROW = re.compile(r"\| `(\w+\.\w+)` \| `refused (\d+)` \| (\w+) at (\S+) \| (\w+) at (\S+) \|")
 
 
@@ -33,6 +36,20 @@ def wanted():
     return {name: (f"refused {number}", f"{p} at {at}", f"{q} at {to}") for name, number, p, at, q, to in rows}
 
 
+def explanations():
+    """Each program's explanation with -DRACY by explanations.txt: a title, and the lines up to the next one."""
+    with open(EXPLAINED, encoding="utf-8") as f:
+        parts = re.split(r"^== (\S+)\n", f.read(), flags=re.M)
+    return dict(zip(parts[1::2], parts[2::2]))
+
+
+def without_numbers(text):
+    """An explanation without its folder and without the numbers of cells and of a trace's lines."""
+    text = re.sub(r"^\S*/", "", text, flags=re.M)
+    text = re.sub(r"cells? \d+( to \d+)?( and \d+( to \d+)?)?", "cells N", text)
+    return re.sub(r"\bline \d+", "line N", text)
+
+
 def run(words, folder, **extra):
     """A finished process, with its texts."""
     env = dict(os.environ, CILKREC_QUIET="1", **extra)
@@ -40,13 +57,14 @@ def run(words, folder, **extra):
 
 
 def answer(program, trace, folder):
-    """The words of the verdict: `race-free`, or `refused` with the number and both positions; or what went wrong."""
+    """The words of the verdict: `race-free`, or `refused` with the number and both positions; or what went wrong. And
+    the explanation, where a program judges."""
     if program:
-        done = run([*program.split(), "judge", trace], folder)
-        return done.stdout.split() or [f"status {done.returncode}: {done.stderr}"]
+        done = run([*program.split(), "judge", trace, "--sites", "sites"], folder)
+        return done.stdout.split() or [f"status {done.returncode}: {done.stderr}"], done.stderr
     done = run([sys.executable, ORACLE, trace], folder)
     first = done.stdout.split("\n")[0] or done.stderr
-    return first.replace("view-read race", "refused 312").replace("race ", "refused 311 ").split()
+    return first.replace("view-read race", "refused 312").replace("race ", "refused 311 ").split(), ""
 
 
 def access(folder, position):
@@ -59,21 +77,22 @@ def access(folder, position):
 
 
 def verdict(compiler, path, options, program):
-    """What is said of a program's run: the verdict, and of a race both accesses."""
+    """What is said of a program's run: the verdict, of a race both accesses, and by gcc and g++ the explanation."""
     with tempfile.TemporaryDirectory(prefix="verdicts-") as folder:
         done = run([CILKREC, compiler, *options, path, "-o", "prog", "-lm"], folder)
         if done.returncode:
             return (done.stderr,)
         run(["./prog"], folder, CILK_TRACE="trace", CILK_SITES="sites")
-        words = answer(program, "trace", folder)
+        words, text = answer(program, "trace", folder)
         if len(words) != 4:
             return (" ".join(words),)
-        return (" ".join(words[:2]), *(access(folder, int(position)) for position in words[2:]))
+        places = (access(folder, int(position)) for position in words[2:])
+        return (" ".join(words[:2]), *places, *([without_numbers(text)] if text and compiler[0] == "g" else []))
 
 
 def recorded(words):
     """Of each program, compiler and variant: its name, what is wanted, and what is said."""
-    table = wanted()
+    table, texts = wanted(), explanations()
     for path in sorted(glob.glob(f"{HERE}/*.c") + glob.glob(f"{HERE}/*.cpp")):
         name = os.path.basename(path)
         for compiler in ("gcc", "clang") if name.endswith(".c") else ("g++", "clang++"):
@@ -81,7 +100,8 @@ def recorded(words):
                 print(f"{name}: {compiler} isn't here", flush=True)
                 continue
             yield f"{name} {compiler}", ("race-free",), verdict(compiler, path, [], words.program)
-            yield f"{name} -DRACY {compiler}", table.get(name), verdict(compiler, path, ["-DRACY"], words.program)
+            want = table.get(name, ()) + ((texts.get(name),) if words.program and compiler[0] == "g" else ())
+            yield f"{name} -DRACY {compiler}", want, verdict(compiler, path, ["-DRACY"], words.program)
 
 
 def in_threads(words):

@@ -115,6 +115,40 @@ static int ask_addr2line(int questions)
     return answers;
 }
 
+/* Removes each such part of a text. */
+static void leave_out(char *text, const char *part)
+{
+    for (char *at; (at = strstr(text, part));)
+        memmove(at, at + strlen(part), strlen(at + strlen(part)) + 1);
+}
+
+/* Shortens a function's name to what a person calls it: without its parameters, and without what a compiler made of a
+   loop's turn. */
+static void shorten(char *name)
+{
+    int depth = 0;
+
+    name[strcspn(name, "\n")] = 0;
+    if (strstr(name, ".omp_"))
+        strcpy(name, "a turn of a loop");
+    leave_out(name, "(anonymous namespace)::");
+    for (const char *const *cut = (const char *const[]){" [clone", "._omp_fn.", NULL}; *cut; cut++)
+        if (strstr(name, *cut))
+            *strstr(name, *cut) = 0;
+    for (char *at = name; *at; at++) {
+        if (!strncmp(at, "operator", 8)) { /* its name may have any sign, as in operator() and operator< */
+            at += 8;
+            at += !strncmp(at, "()", 2) ? 1 : strspn(at, "<>=-") - 1;
+            continue;
+        }
+        depth += (*at == '<' || *at == '{') - (*at == '>' || *at == '}');
+        if (*at == '(' && depth == 0 && at > name) {
+            *at = 0;
+            return;
+        }
+    }
+}
+
 void write_sites(const char *path)
 {
     size_t bytes = (size_t)(etext - __executable_start);
@@ -146,7 +180,8 @@ void write_sites(const char *path)
         char *more = strstr(place, " (discriminator");
         if (more)
             *more = 0;
-        fprintf(table, "%zu %s %s", i + (uintptr_t)__executable_start - load_address, place, function);
+        shorten(function);
+        fprintf(table, "%zu %s %s\n", i + (uintptr_t)__executable_start - load_address, place, function);
     }
     fputs("end\n", table);
     fclose(table);
