@@ -152,7 +152,7 @@ def compare(first, end, command):
                 continue
             call = [*command.split(), "measure", f"{room}/program.c", "--csv", "--input", f"{room}/input"]
             shown = subprocess.run(call, capture_output=True, text=True, check=False).stdout
-            found = [line.split(" at ")[0] + line[line.find(",") :] if " at " in line else line for line in shown.split("\n\n")[-1].splitlines()]
+            found = [line.split(" at ")[0] + line[line.find(",") :] if " at " in line else line for line in shown.split("\n\n")[1].splitlines()]
             if found == wanted:
                 same += 1
             else:

@@ -21,7 +21,7 @@ DOCUMENT = f"{TOP}/docs/REFUSALS.md"
 PROGRAM = os.environ.get("CILK", f"{TOP}/crates/cilk/out/cilk")
 TEXT = r'"((?:[^"\\]|\\.)*)"'
 REASON = re.compile(
-    rf"(\d+) => Reason \{{\s*number,\s*title: {TEXT},\s*meaning: {TEXT},\s*line: {TEXT},\s*"
+    rf"Reason \{{\s*number: (\d+),\s*title: {TEXT},\s*meaning: {TEXT},\s*line: {TEXT},\s*"
     rf"example: Example::(\w+)\(\s*{TEXT},?\s*\),\s*place: {TEXT},\s*cure: {TEXT},\s*\}}"
 )
 ROW = re.compile(r"\| `(?:program|input|fault|refused) (\d+)(?!\d| in )[^`]*` \| .* \| .* \|$")

@@ -1,1 +1,2 @@
+pub mod Burdened
 pub mod Measures

@@ -8,13 +8,17 @@ use Rattle.cilk_tree.specs.Shape.{Shape, Spells}
 use Rattle.cilk_tree.specs.Tree.{tree, leaves}
 use Rattle.cilk_tree.specs.Span.{IsSpan}
 use Rattle.cilk_cert_maker.specs.Frames.{frames_of, owners_of}
+use Rattle.cilk_findings.specs.Burdened.{IsBurdenedSpan}
+use Rattle.cilk_findings.specs.declared.burdened.TheConstants.{BURDEN}
 use Rattle.cilk_findings.specs.declared.totals.Totals.{Totals}
 
 -- Totals of a list of events: work is its length, and span the length of its longest chain (Frigo,
--- Leiserson and Randall 1998, section 1). Frames and strands are counted.
+-- Leiserson and Randall 1998, section 1). The burdened span is the weight of its heaviest path (He,
+-- Leiserson and Leiserson 2010). Frames and strands are counted.
 pub record AreTotals (events : List Event) (t : Totals) : Type 0 where
   pub work : t.work ≡ length events
   pub span : (s : Shape) → Spells s events → IsSpan (tree s) events t.span
+  pub burdened : (s : Shape) → Spells s events → IsBurdenedSpan BURDEN (tree s) t.burdened_span
   pub frames : (s : Shape) → Spells s events → t.frames ≡ length (frames_of s)
   pub strands : (s : Shape) → Spells s events → t.strands ≡ length (owners_of s)
 

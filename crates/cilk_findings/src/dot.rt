@@ -1,66 +1,128 @@
 //! The series-parallel tree of a small run, as a graph.
 
+use crate::scene::Scene;
+use cilk_messages::place::locate;
 use cilk_tree::tree::{Node, SpTree};
-use std::alloc::{AllocError, Global};
+use std::alloc::AllocError;
 
 /// The most nodes that [`dot`] draws.
-pub const MAX_NODES: usize = 2000;
+pub const MAX_NODES: usize = 500;
 
-/// Returns the tree in the language of Graphviz's `dot`. Strands are boxes with their number and
-/// their count of events, S nodes are diamonds, P nodes are circles. For a tree of more than
-/// [`MAX_NODES`] nodes the result is a comment that says so.
-pub fn dot(alloc: Global, tree: &SpTree) -> Result<String, AllocError> {
-    let mut text = String::new(alloc);
-    let count = tree.as_slice().len();
-    if count > MAX_NODES {
-        push_too_many(&mut text, count)?;
-    } else {
-        let mut open = Vec::new(alloc);
-        push_graph(&mut text, &mut open, tree)?;
+const HEAD: &str =
+    "digraph run {\n  graph [bgcolor=white, fontname=\"sans-serif\"];\n  node [fontname=\"sans-serif\", style=filled, fillcolor=white];\n";
+
+/// Where a node stands: its number, that of its first strand, and the first event of that one,
+/// which counts from 0.
+#[derive(Clone, Copy)]
+struct Position {
+    number: usize,
+    strand: usize,
+    event: usize,
+}
+
+/// Returns the tree of a run in the language of Graphviz's `dot`; none for more than [`MAX_NODES`]
+/// nodes. Strands are boxes with their number, their function, the line of their first event and
+/// their count of events; S nodes are diamonds; P nodes are circles with the line of their spawn.
+pub fn dot(scene: &Scene<'_>, tree: &SpTree) -> Result<Option<String>, AllocError> {
+    if tree.as_slice().len() > MAX_NODES {
+        return Ok(None);
     }
-    Ok(text)
+    let mut text = String::new(scene.case.alloc);
+    push_graph(&mut text, scene, tree)?;
+    Ok(Some(text))
 }
 
-fn push_too_many(text: &mut String, count: usize) -> Result<(), AllocError> {
-    write!(
-        text,
-        "// the tree has {count} nodes, and at most {MAX_NODES} are drawn: try a smaller input\n"
-    )
-}
-
-// The graph. `open` has the nodes that still miss a child, once for each missing child.
-fn push_graph(text: &mut String, open: &mut Vec<usize>, tree: &SpTree) -> Result<(), AllocError> {
-    text.push_str("digraph run {\n")?;
-    let mut strand: usize = 0;
+fn push_graph(text: &mut String, scene: &Scene<'_>, tree: &SpTree) -> Result<(), AllocError> {
+    text.push_str(HEAD)?;
+    push_name(text, scene.case.file)?;
+    // the nodes that still miss a child, once for each missing child
+    let mut open: Vec<usize> = Vec::new(scene.case.alloc);
+    let mut position = Position {
+        number: 0,
+        strand: 1,
+        event: 0,
+    };
     for (number, node) in tree.as_slice().iter().enumerate() {
-        if let Node::Strand { .. } = node {
-            strand = strand.saturating_add(1);
-        }
-        push_node(text, number, node, strand)?;
+        position.number = number;
+        push_node(text, scene, node, position)?;
         if let Some(above) = open.pop() {
             write!(text, "  n{above} -> n{number};\n")?;
         }
-        if !matches!(node, Node::Strand { .. }) {
-            open.push(number)?;
-            open.push(number)?;
+        match node {
+            Node::Strand { events } => {
+                position.strand = position.strand.saturating_add(1);
+                position.event = position.event.saturating_add(*events as usize);
+            }
+            _ => {
+                open.push(number)?;
+                open.push(number)?;
+            }
         }
     }
     text.push_str("}\n")
 }
 
+// The title, with the file's name.
+fn push_name(text: &mut String, file: &str) -> Result<(), AllocError> {
+    text.push_str("  label=\"")?;
+    for symbol in file.chars() {
+        match symbol {
+            '"' | '\\' => {
+                text.push('\\')?;
+                text.push(symbol)?;
+            }
+            '\0'..='\u{1f}' | '\u{7f}' => text.push('?')?,
+            _ => text.push(symbol)?,
+        }
+    }
+    text.push_str(
+        ": S: left, then right; P: left and right in parallel; a box: a strand with its function, first line and events\";\n",
+    )
+}
+
 // The line that declares a node.
 fn push_node(
     text: &mut String,
-    number: usize,
+    scene: &Scene<'_>,
     node: &Node,
-    strand: usize,
+    position: Position,
 ) -> Result<(), AllocError> {
+    let Position {
+        number,
+        strand,
+        event,
+    } = position;
     match *node {
-        Node::Strand { events } => write!(
-            text,
-            "  n{number} [shape=box, label=\"{strand}: {events}\"];\n"
-        ),
+        Node::Strand { events } => {
+            let line = line_of(scene, event);
+            write!(text, "  n{number} [shape=box, label=\"{strand}: ")?;
+            push_function(text, scene, event)?;
+            let plural = if events == 1 { "" } else { "s" };
+            write!(text, ", line {line}\\n{events} event{plural}\"];\n")
+        }
         Node::Series { .. } => write!(text, "  n{number} [shape=diamond, label=\"S\"];\n"),
-        Node::Parallel { .. } => write!(text, "  n{number} [shape=circle, label=\"P\"];\n"),
+        Node::Parallel { .. } => {
+            let line = line_of(scene, event.saturating_sub(1));
+            write!(
+                text,
+                "  n{number} [shape=circle, label=\"P\\nline {line}\"];\n"
+            )
+        }
     }
+}
+
+// The name of the function or loop whose frame makes an event.
+fn push_function(text: &mut String, scene: &Scene<'_>, event: usize) -> Result<(), AllocError> {
+    let note = scene.frame_of(event).and_then(|frame| scene.frame(frame));
+    let Some(note) = note else {
+        return Ok(());
+    };
+    let name = String::from_utf8_lossy(scene.case.alloc, scene.body_name(note.body))?;
+    text.push_str(name.as_str())
+}
+
+// The line of an event.
+fn line_of(scene: &Scene<'_>, event: usize) -> usize {
+    let at = scene.run.replay.place(&scene.case.map, event).unwrap_or(0);
+    locate(scene.case.text, at).line
 }

@@ -1,42 +1,241 @@
-//! Pictures of a run: its parallelism at each step, and its series-parallel tree.
+//! Pictures of a run: the speed-up by several workers, its parallelism at each step, and its
+//! series-parallel tree.
 
+use crate::burdened::BURDEN;
 use crate::case::Case;
+use crate::chart::{Anchor, HEIGHT, LEFT, Picture, WIDTH, scaled};
 use crate::dot::dot;
 use crate::fault::CaseFault;
 use crate::profile::profile;
 use crate::runs::Run;
+use crate::scene::Scene;
+use crate::totals::{Totals, totals_of};
 use cilk_tree::building::tree_of;
-use cilk_types::trace::Trace;
 use std::alloc::{AllocError, Global};
 
-// The picture's size, in units of its view box.
-const WIDTH: usize = 800;
+// The upper ends of the two charts.
+const SPEED_UP: usize = 95;
 
-const HEIGHT: usize = 300;
+const STEPS: usize = 420;
 
-/// Draws, as SVG, how many events could be made at each step of the span with enough workers. The
-/// case's run has to end without a fault; otherwise the error is [`CaseFault::Unfit`].
+// The most workers of the chart.
+const WORKERS: usize = 32;
+
+// Blue and orange, which are told apart by the colour-blind too, and grey.
+const BLUE: &str = "#0072b2";
+
+const ORANGE: &str = "#d55e00";
+
+const GREY: &str = "#777777";
+
+/// Draws, as SVG, the speed-up by 1 to 32 workers, estimated and at most, and how many events could
+/// be made at each step of the span with enough workers. The case's run has to end without a fault;
+/// otherwise the error is [`CaseFault::Unfit`].
 pub fn profile_of(case: &Case<'_>) -> Result<String, CaseFault> {
     let run = ended(case)?;
-    Ok(picture_of(case.alloc, &run.trace)?)
+    let totals = totals_of(case.alloc, &run.trace)?;
+    let steps = profile(case.alloc, &run.trace)?;
+    let picture = picture(case.alloc, case.file, &totals, steps.as_slice())?;
+    Ok(picture)
 }
 
-fn picture_of(alloc: Global, trace: &Trace) -> Result<String, AllocError> {
-    let steps = profile(alloc, trace)?;
-    picture(alloc, steps.as_slice())
+fn picture(
+    alloc: Global,
+    file: &str,
+    totals: &Totals,
+    steps: &[u32],
+) -> Result<String, AllocError> {
+    let mut picture = Picture::new(String::new(alloc))?;
+    push_names(alloc, &mut picture, file, totals)?;
+    push_speed_up(alloc, &mut picture, totals)?;
+    push_steps(alloc, &mut picture, totals, steps)?;
+    picture.finish()
 }
 
-fn picture(alloc: Global, steps: &[u32]) -> Result<String, AllocError> {
-    let mut text = String::new(alloc);
-    push_picture(&mut text, steps)?;
-    Ok(text)
+fn push_names(
+    alloc: Global,
+    picture: &mut Picture,
+    file: &str,
+    totals: &Totals,
+) -> Result<(), AllocError> {
+    let Totals {
+        work,
+        span,
+        burdened_span,
+        ..
+    } = *totals;
+    let parallelism = point(alloc, totals.parallelism())?;
+    let parallelism = parallelism.as_str();
+    let name = format!(in alloc;
+        "{file}: speed-up by workers (work {work}, span {span}, parallelism {parallelism})"
+    )?;
+    let burden = format!(in alloc;
+        "burdened span {burdened_span}: a burden of {BURDEN} for each spawn that a steal may take"
+    )?;
+    picture.words(LEFT, 26, Anchor::Start, name.as_str())?;
+    picture.words(LEFT, 46, Anchor::Start, burden.as_str())
 }
 
-fn push_picture(text: &mut String, steps: &[u32]) -> Result<(), AllocError> {
-    let most = greatest(steps);
-    push_head(text, steps.len(), most)?;
-    push_outline(text, steps, most)?;
-    push_foot(text)
+// The estimate and the bound, for each number of workers.
+fn push_speed_up(alloc: Global, picture: &mut Picture, totals: &Totals) -> Result<(), AllocError> {
+    let most = greatest_speed_up(totals);
+    for part in 0..5_usize {
+        let speed = most.saturating_mul(part) / 4;
+        let name = point(alloc, speed as u64)?;
+        picture.level(height_at(SPEED_UP, speed, most), name.as_str())?;
+    }
+    for part in 0..9_usize {
+        let workers = if part == 0 {
+            1
+        } else {
+            part.saturating_mul(WORKERS) / 8
+        };
+        let name = format!(in alloc; "{workers}")?;
+        picture.column(SPEED_UP, column_of(workers), name.as_str())?;
+    }
+    picture.axes(SPEED_UP)?;
+    let middle = LEFT.saturating_add(WIDTH / 2);
+    picture.words(middle, 355, Anchor::Middle, "workers")?;
+    picture.upward(SPEED_UP, "speed-up")?;
+    push_curve(picture, totals, most, true)?;
+    push_curve(picture, totals, most, false)?;
+    push_key(
+        picture,
+        LEFT,
+        BLUE,
+        "at most: the workers, or the parallelism",
+    )?;
+    push_key(picture, 420, ORANGE, "estimate with the burden")
+}
+
+// The least end of the scale, in hundredths, that holds the greatest speed-up.
+fn greatest_speed_up(totals: &Totals) -> usize {
+    let bound = totals.speed_up_bound(WORKERS as u64) as usize;
+    let mut most: usize = 100;
+    for _octave in 0..5 {
+        if most < bound {
+            most = most.saturating_mul(2);
+        }
+    }
+    most
+}
+
+fn push_curve(
+    picture: &mut Picture,
+    totals: &Totals,
+    most: usize,
+    is_bound: bool,
+) -> Result<(), AllocError> {
+    picture.begin_curve(if is_bound { BLUE } else { ORANGE }, false)?;
+    for number in 0..WORKERS {
+        let workers = number.saturating_add(1);
+        let speed = if is_bound {
+            totals.speed_up_bound(workers as u64)
+        } else {
+            totals.speed_up_estimate(workers as u64)
+        };
+        let x = column_of(workers);
+        let y = height_at(SPEED_UP, speed as usize, most);
+        let to = if number == 0 { "M" } else { " L" };
+        write!(picture.text, "{to}{x} {y}")?;
+    }
+    picture.end_path()
+}
+
+// What a curve's colour means.
+fn push_key(picture: &mut Picture, x: usize, colour: &str, words: &str) -> Result<(), AllocError> {
+    picture.begin_curve(colour, false)?;
+    write!(picture.text, "M{x} 68 h30")?;
+    picture.end_path()?;
+    picture.words(x.saturating_add(38), 72, Anchor::Start, words)
+}
+
+fn column_of(workers: usize) -> usize {
+    LEFT.saturating_add(scaled(workers, WORKERS, WIDTH))
+}
+
+// The distance from the picture's top for a part of a chart's height.
+fn height_at(top: usize, part: usize, whole: usize) -> usize {
+    let height = scaled(part, whole, HEIGHT);
+    top.saturating_add(HEIGHT).saturating_sub(height)
+}
+
+// The events of each step, with a line at the parallelism.
+fn push_steps(
+    alloc: Global,
+    picture: &mut Picture,
+    totals: &Totals,
+    steps: &[u32],
+) -> Result<(), AllocError> {
+    let octaves = octaves_of(greatest(steps));
+    push_scale(alloc, picture, octaves, steps.len())?;
+    push_outline(picture, steps, octaves)?;
+    picture.axes(STEPS)?;
+    let y = height_of(totals.parallelism() as usize, octaves);
+    picture.begin_curve(GREY, true)?;
+    write!(picture.text, "M{LEFT} {y} h{WIDTH}")?;
+    picture.end_path()?;
+    let right = LEFT.saturating_add(WIDTH);
+    picture.words(
+        right,
+        410,
+        Anchor::End,
+        "broken line: the parallelism, which is their mean",
+    )
+}
+
+// Names and scales of the chart of steps.
+fn push_scale(
+    alloc: Global,
+    picture: &mut Picture,
+    octaves: usize,
+    span: usize,
+) -> Result<(), AllocError> {
+    let middle = LEFT.saturating_add(WIDTH / 2);
+    picture.words(
+        LEFT,
+        390,
+        Anchor::Start,
+        "events that could be made at the same time (a column shows the most of its steps)",
+    )?;
+    picture.words(middle, 680, Anchor::Middle, "step of the span")?;
+    picture.upward(STEPS, "events (logarithmic)")?;
+    let mut events: usize = 1;
+    for octave in 0..octaves {
+        if octaves <= 10 || octave % 2 == 0 {
+            let name = format!(in alloc; "{events}")?;
+            picture.level(
+                height_of(events.saturating_mul(100), octaves),
+                name.as_str(),
+            )?;
+        }
+        events = events.saturating_mul(2);
+    }
+    for part in 0..5_usize {
+        let step = span.saturating_mul(part) / 4;
+        let name = format!(in alloc; "{step}")?;
+        let x = LEFT.saturating_add(scaled(part, 4, WIDTH));
+        picture.column(STEPS, x, name.as_str())?;
+    }
+    Ok(())
+}
+
+// The outline of the steps, from left to right.
+fn push_outline(picture: &mut Picture, steps: &[u32], octaves: usize) -> Result<(), AllocError> {
+    let bottom = STEPS.saturating_add(HEIGHT);
+    write!(picture.text, "<path fill=\"{BLUE}\" d=\"M{LEFT} {bottom}")?;
+    let mut top = bottom;
+    for column in 0..WIDTH {
+        let next = height_of(most_in(steps, column).saturating_mul(100), octaves);
+        if next != top {
+            let x = LEFT.saturating_add(column);
+            write!(picture.text, " H{x} V{next}")?;
+        }
+        top = next;
+    }
+    let right = LEFT.saturating_add(WIDTH);
+    write!(picture.text, " H{right} V{bottom} Z")?;
+    picture.end_path()
 }
 
 // The most events of one step, but at least 1.
@@ -46,36 +245,6 @@ fn greatest(steps: &[u32]) -> usize {
         most = most.max(*events as usize);
     }
     most
-}
-
-fn push_head(text: &mut String, span: usize, most: usize) -> Result<(), AllocError> {
-    write!(
-        text,
-        "<svg xmlns=\"http://www.w3.org/2000/svg\" viewBox=\"0 0 {WIDTH} {HEIGHT}\">\n<title>events that could be made at each of {span} steps, at most {most}</title>\n<path fill=\"#4477aa\" d=\"M0 {HEIGHT}"
-    )
-}
-
-// The corners of the outline, from left to right.
-fn push_outline(text: &mut String, steps: &[u32], most: usize) -> Result<(), AllocError> {
-    let mut top = HEIGHT;
-    for column in 0..WIDTH {
-        let next = top_of(most_in(steps, column), most);
-        if next != top {
-            write!(text, " H{column} V{next}")?;
-        }
-        top = next;
-    }
-    Ok(())
-}
-
-// The distance from the top for a step of this many events.
-fn top_of(events: usize, most: usize) -> usize {
-    let height = events.saturating_mul(HEIGHT).checked_div(most).unwrap_or(0);
-    HEIGHT.saturating_sub(height)
-}
-
-fn push_foot(text: &mut String) -> Result<(), AllocError> {
-    write!(text, " H{WIDTH} V{HEIGHT} Z\"/>\n</svg>\n")
 }
 
 // The most events of the steps that fall into a column.
@@ -91,16 +260,58 @@ fn most_in(steps: &[u32], column: usize) -> usize {
     most
 }
 
-/// Draws the series-parallel tree of a small run for Graphviz's `dot`. The case's run has to end
-/// without a fault; otherwise the error is [`CaseFault::Unfit`].
-pub fn tree_of_run(case: &Case<'_>) -> Result<String, CaseFault> {
-    let run = ended(case)?;
-    Ok(tree_of_trace(case.alloc, &run.trace)?)
+// The number of octaves of the scale, from a half up, that a number of events needs.
+fn octaves_of(most: usize) -> usize {
+    let (octaves, rest) = logarithm(most.saturating_mul(100));
+    if rest > 0 {
+        octaves.saturating_add(1)
+    } else {
+        octaves
+    }
 }
 
-fn tree_of_trace(alloc: Global, trace: &Trace) -> Result<String, AllocError> {
-    let tree = tree_of(alloc, trace)?;
-    dot(alloc, &tree)
+// The height of a number of hundredths on that scale.
+fn height_of(number: usize, octaves: usize) -> usize {
+    let (whole, rest) = logarithm(number);
+    let part = whole.saturating_mul(1000).saturating_add(rest);
+    height_at(STEPS, part, octaves.saturating_mul(1000))
+}
+
+// The logarithm of a number of hundredths to the base 2, from a half up: whole octaves, and
+// thousandths of the next, along the chord.
+fn logarithm(number: usize) -> (usize, usize) {
+    let mut octaves: usize = 0;
+    let mut from: usize = 50;
+    for _octave in 0..40 {
+        if from.saturating_mul(2) <= number {
+            from = from.saturating_mul(2);
+            octaves = octaves.saturating_add(1);
+        }
+    }
+    let rest = scaled(number.saturating_sub(from), from, 1000);
+    (octaves, rest)
+}
+
+// A number of hundredths, with a point before two digits unless they are 0.
+fn point(alloc: Global, number: u64) -> Result<String, AllocError> {
+    let whole = number / 100;
+    let tenths = number / 10 % 10;
+    let last = number % 10;
+    if tenths == 0 && last == 0 {
+        format!(in alloc; "{whole}")
+    } else {
+        format!(in alloc; "{whole}.{tenths}{last}")
+    }
+}
+
+/// Draws the series-parallel tree of a small run for Graphviz's `dot`; none of a larger one. The
+/// case's run has to end without a fault; otherwise the error is [`CaseFault::Unfit`].
+pub fn tree_of_run(case: &Case<'_>) -> Result<Option<String>, CaseFault> {
+    let run = ended(case)?;
+    let tree = tree_of(case.alloc, &run.trace)?;
+    let scene = Scene { case, run: &run };
+    let drawn = dot(&scene, &tree)?;
+    Ok(drawn)
 }
 
 // The run of a case that no fault stops.

@@ -13,7 +13,8 @@
 //! | Call | Result |
 //! |---|---|
 //! | [`faults::of_fault`] | why and where a fault stops the run, and a hint |
-//! | [`totals::measure`] | work, span, frames and strands of the serial run |
+//! | [`totals::measure`] | work, span, burdened span, frames and strands of the serial run |
+//! | [`critical::critical_path`] | the events of a longest chain |
 //! | [`shares::shares`] | the same for groups of frames, as those of one function |
 //! | [`profile::profile`] | the number of events at each step of the span |
 //! | [`drawing::profile_of`], [`drawing::tree_of_run`] | pictures as SVG and for Graphviz |
@@ -22,7 +23,8 @@
 //!
 //! Work is the number of events of a run. Span is the length of its longest chain of events in
 //! which each comes before the next under every schedule, so no number of workers needs fewer
-//! steps. Their quotient is the parallelism (Frigo, Leiserson and Randall 1998, section 1).
+//! steps. Their quotient is the parallelism (Frigo, Leiserson and Randall 1998, section 1). In the
+//! burdened span each spawn on the way costs what a steal may cost (He, Leiserson and Leiserson 2010).
 //!
 //! ```text
 //! let case = Case::of(alloc, "sum.c", text, input)?;
@@ -31,7 +33,10 @@
 //! ```
 #![tactic(auto)]
 
+pub mod burdened;
 pub mod case;
+mod chart;
+pub mod critical;
 pub mod dot;
 pub mod drawing;
 mod expressions;
@@ -40,6 +45,7 @@ pub mod faults;
 pub mod items;
 pub mod map;
 pub mod partings;
+pub mod paths;
 pub mod profile;
 mod repeats;
 pub mod replay;

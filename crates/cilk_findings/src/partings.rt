@@ -11,19 +11,19 @@ use std::alloc::AllocError;
 type Parting = (&'static str, usize);
 
 // Before a statement.
-const AHEAD: &str = "before {}";
+const AHEAD: &str = "put a `cilk_sync;` before {}";
 
 // Before the body of a loop or a branch of an `if`, without braces.
-const WITHIN: &str = "before {}, in braces with the statement there";
+const WITHIN: &str = "put a `cilk_sync;` before {}, in braces with the statement there";
 
 // Before the brace that ends a loop's body.
-const AT_END: &str = "before {}, at the end of the loop's body";
+const AT_END: &str = "put a `cilk_sync;` before {}, at the end of the loop's body";
 
 // After a loop's body without braces.
-const BEHIND: &str = "after the statement at {}, in braces with it";
+const BEHIND: &str = "put a `cilk_sync;` after the statement at {}, in braces with it";
 
 // Before a name in the middle of a declaration.
-const BETWEEN: &str = "before {}, where a declaration of its own has to begin";
+const BETWEEN: &str = "put a `cilk_sync;` before {}, where a declaration of its own has to begin";
 
 /// Says in words where a `cilk_sync` separates the spawn at byte `spawn` from the later code at
 /// byte `at`.
@@ -51,9 +51,9 @@ fn parting_of(tokens: &Tokens<'_>, spawn: usize, access: usize) -> Parting {
     ahead(tokens, first, spawn)
 }
 
-// The first token of the innermost statement around a token. The head of a loop or condition
-// belongs to that loop or condition; the body is a statement of its own.
-fn statement_of(tokens: &Tokens<'_>, number: usize) -> usize {
+/// Returns the first token of the innermost statement around a token. The head of a loop or condition
+/// belongs to that loop or condition; the body is a statement of its own.
+pub fn statement_of(tokens: &Tokens<'_>, number: usize) -> usize {
     let mut first: usize = 0;
     let mut depth: usize = 0;
     let mut is_head = false;

@@ -1,11 +1,12 @@
 //! A `cilk_for` that a loop around it begins again and again.
 
-use crate::partings::loop_round;
+use crate::partings::{loop_round, stands_in};
 use crate::replay::StepNote;
 use crate::scene::Scene;
 use cilk_messages::sentence::{Sentence, say};
 use cilk_messages::tokens::Tokens;
 use cilk_program::program::Body;
+use cilk_syntax::token::Kind;
 use std::alloc::AllocError;
 
 /// Returns a hint for a run with too many frames at a `cilk_for` which a loop around it has begun
@@ -26,19 +27,42 @@ fn repeated<'a>(scene: &Scene<'a>, tokens: &Tokens<'a>, step: StepNote) -> Optio
     if times < 2 {
         return None;
     }
-    let place = scene.place(tokens.place(round));
-    Some(
-        say(REPEATED)
-            .word(tokens.word(round))
-            .with(place)
-            .count(times),
-    )
+    let kept = kept_in(tokens, round);
+    let begins = say(if kept.is_some() { KEPT } else { REPEATED });
+    let begins = begins.word(tokens.word(round));
+    let begins = begins.with(scene.place(tokens.place(round))).count(times);
+    let name = kept.unwrap_or(&[]);
+    Some(begins.word(name).word(name))
 }
 
 const REPEATED: &str =
     "the `{}` at {} has begun this `cilk_for` {} times: does that loop end? Each of its turns has to change what its \
-     condition asks for, and none may set that anew, as by `set(r, 0)`. Where it ends, let each turn of the `cilk_for` \
-     do a block of turns (`docs/FROM-CILK.md`, \"Many turns, in blocks\")";
+     condition asks for. Where it ends, let each turn of the `cilk_for` do a block of turns (`docs/FROM-CILK.md`, \
+     \"Many turns, in blocks\")";
+
+const KEPT: &str =
+    "the `{}` at {} has begun this `cilk_for` {} times, and reads `{}`, which keeps what was added in earlier turns: \
+     let each turn begin with `set({}, 0);`";
+
+// A reducer that a loop reads and never sets.
+fn kept_in<'a>(tokens: &Tokens<'a>, round: usize) -> Option<&'a [u8]> {
+    let mut found = None;
+    for number in round..tokens.count() {
+        if matches!(tokens.kind(number), Some(Kind::Value)) && stands_in(tokens, round, number) {
+            found = Some(tokens.word(number.saturating_add(2)));
+        }
+    }
+    let name = found?;
+    for number in round..tokens.count() {
+        if matches!(tokens.kind(number), Some(Kind::Set))
+            && tokens.word(number.saturating_add(2)) == name
+            && stands_in(tokens, round, number)
+        {
+            return None;
+        }
+    }
+    Some(name)
+}
 
 // The `cilk_for` of a step, whether the step halves its turns, begins it or belongs to a turn.
 fn loop_at(scene: &Scene<'_>, step: StepNote) -> Option<usize> {

@@ -10,13 +10,7 @@ use cilk_messages::sentence::{Part, Sentence, say};
 use cilk_program::program::Body;
 use cilk_syntax::tree::Name;
 use cilk_types::event::{Event, Instance};
-use cilk_types::invocation::Invocation;
 use std::alloc::AllocError;
-
-// The frames that a report shows at the lower and the upper end of a long path.
-const NEAR: usize = 8;
-
-const FAR: usize = 4;
 
 /// A case and its run.
 #[derive(Clone, Copy)]
@@ -241,115 +235,25 @@ impl<'a> Scene<'a> {
         }
     }
 
-    /// Returns the turn or turns of a frame, by the loop's variable.
-    pub fn turns(&self, frame: usize) -> Sentence<'a> {
+    /// Returns the turn of a frame, by the loop's variable.
+    pub fn turn(&self, frame: usize) -> Sentence<'a> {
         let Some(note) = self.frame(frame) else {
             return say("");
         };
-        let variable = match self.case.map.body(note.body) {
+        say("turn `{}` = {}")
+            .word(self.turn_variable(note.body))
+            .with(Part::Number(note.low))
+    }
+
+    /// Returns the name of a loop's variable.
+    pub fn turn_variable(&self, body: Body) -> &'a [u8] {
+        let variable = match self.case.map.body(body) {
             Some(BodyMap { cells, .. }) => cells.first().copied(),
             None => None,
         };
-        let variable = match variable {
+        match variable {
             Some(name) => self.word(name),
             None => &[],
-        };
-        if self.halves(frame) {
-            let last = note.high.saturating_sub(1);
-            let turns = say("turns `{}` = {} to {}").word(variable);
-            turns.with(Part::Number(note.low)).with(Part::Number(last))
-        } else {
-            say("turn `{}` = {}")
-                .word(variable)
-                .with(Part::Number(note.low))
-        }
-    }
-}
-
-/// Paths from a frame up to `top`, without `top`. Frames above the first one that only halve turns
-/// are left out.
-impl<'a> Scene<'a> {
-    // The next frame of a path.
-    fn next_above(&self, frame: usize, top: Option<usize>) -> Option<usize> {
-        let mut at = frame;
-        for _level in 0..self.run.replay.frames.len() {
-            at = self.above(at)?;
-            if Some(at) == top {
-                return None;
-            }
-            if !self.halves(at) {
-                return Some(at);
-            }
-        }
-        None
-    }
-
-    /// Returns the number of frames of a path.
-    pub fn length(&self, frame: usize, top: Option<usize>) -> usize {
-        let mut at = Some(frame).filter(|frame| Some(*frame) != top);
-        let mut length: usize = 0;
-        for _level in 0..self.run.replay.frames.len() {
-            let Some(frame) = at else {
-                break;
-            };
-            length = length.saturating_add(1);
-            at = self.next_above(frame, top);
-        }
-        length
-    }
-
-    /// Adds a line for each frame of a path: the function or turns that it runs, and where it was
-    /// invoked.
-    pub fn push_path(
-        &self,
-        report: &mut String,
-        frame: usize,
-        top: Option<usize>,
-    ) -> Result<(), AllocError> {
-        let length = self.length(frame, top);
-        let last = length.saturating_sub(FAR);
-        let mut at = frame;
-        for level in 0..length {
-            if level < NEAR || level >= last {
-                self.push_frame(report, at)?;
-            } else if level == NEAR {
-                let more = say("  and {} frame{} more\n").counted(last.saturating_sub(NEAR));
-                self.push(report, &more)?;
-            }
-            at = self.next_above(at, top).unwrap_or(0);
-        }
-        Ok(())
-    }
-
-    fn push_frame(&self, report: &mut String, frame: usize) -> Result<(), AllocError> {
-        let Some(note) = self.frame(frame) else {
-            return Ok(());
-        };
-        report.push_str("  in ")?;
-        let line = match (note.body, note.how) {
-            (Body::Loop(_), _) => {
-                self.push(report, &self.turns(frame))?;
-                say(" of the `cilk_for` at {}\n").with(self.place(self.loop_at(note.body)))
-            }
-            (_, _) if frame == 0 => say("`{}`\n").word(self.body_name(note.body)),
-            (_, Invocation::Call) => self.invoked("`{}`, called at {}\n", frame, note.body),
-            (_, Invocation::Spawn) => self.invoked("`{}`, spawned at {}\n", frame, note.body),
-        };
-        self.push(report, &line)
-    }
-
-    // Where a function was invoked.
-    fn invoked(&self, words: &'a str, frame: usize, body: Body) -> Sentence<'a> {
-        say(words)
-            .word(self.body_name(body))
-            .with(self.place(self.invoked_at(frame)))
-    }
-
-    // The byte of a body's name.
-    fn loop_at(&self, body: Body) -> usize {
-        match self.case.map.body(body) {
-            Some(map) => map.name.at,
-            None => 0,
         }
     }
 }

@@ -5,6 +5,7 @@ ghost use Rattle.cilk_findings.specs.Measures.{AreMeasures, AreTotals};
 ghost use Rattle.cilk_program.specs.Sources.{source};
 ghost use Rattle.cilk_serial.specs.Ran.{IsRunFault};
 
+use crate::burdened::burdened_span;
 use cilk_cert_maker::column::Columns;
 use cilk_cert_maker::columns::columns;
 use cilk_program::program::Program;
@@ -16,11 +17,13 @@ use cilk_types::input::Input;
 use cilk_types::trace::Trace;
 use std::alloc::{AllocError, Global};
 
-/// The work and the span of a run, in events, and its numbers of frames and strands.
+/// The work, the span and the burdened span of a run, in events, and its numbers of frames and
+/// strands.
 #[derive(Clone, Copy, PartialEq, Eq)]
 pub struct Totals {
     pub work: usize,
     pub span: u64,
+    pub burdened_span: u64,
     pub frames: usize,
     pub strands: usize,
 }
@@ -42,11 +45,47 @@ pub fn totals_of(alloc: Global, trace: &Trace) -> Result<Totals, AllocError>
 {
     let tree = tree_of(alloc, trace)?;
     let span = span(alloc, trace, &tree)?;
+    let burdened_span = burdened_span(alloc, &tree)?;
     let Columns { frames, owners } = columns(alloc, trace)?;
     Ok(Totals {
         work: trace.len(),
         span,
+        burdened_span,
         frames: frames.len(),
         strands: owners.len(),
     })
+}
+
+/// The speed-up by a number of workers, in hundredths, rounded down (He, Leiserson and Leiserson 2010).
+impl Totals {
+    /// Returns the parallelism: work over span.
+    pub fn parallelism(&self) -> u64 {
+        quotient((self.work as u64).saturating_mul(100), self.span)
+    }
+
+    /// Returns an estimate: work over the time of a greedy schedule in which 1.7 burdened spans are
+    /// added to each worker's share of the work. One worker steals nothing.
+    pub fn speed_up_estimate(&self, workers: u64) -> u64 {
+        if workers <= 1 {
+            return 100;
+        }
+        let share = (self.work as u64).saturating_mul(10);
+        let spans = self
+            .burdened_span
+            .saturating_mul(workers)
+            .saturating_mul(17);
+        let scaled = share.saturating_mul(100).saturating_mul(workers);
+        quotient(scaled, share.saturating_add(spans))
+    }
+
+    /// Returns the most that work and span allow: the number of workers, or the parallelism if that
+    /// is less.
+    pub fn speed_up_bound(&self, workers: u64) -> u64 {
+        workers.saturating_mul(100).min(self.parallelism())
+    }
+}
+
+// 0 for the divisor 0.
+fn quotient(number: u64, divisor: u64) -> u64 {
+    number.checked_div(divisor).unwrap_or(0)
 }

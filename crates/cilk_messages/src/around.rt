@@ -2,8 +2,8 @@
 
 use crate::place::between;
 
-// Whether a byte can be in a name or a number.
-fn is_word(byte: u8) -> bool {
+/// Returns whether a byte can be in a name or a number.
+pub fn is_word(byte: u8) -> bool {
     byte.is_ascii_alphanumeric() || byte == b'_'
 }
 

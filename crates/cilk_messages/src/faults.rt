@@ -128,7 +128,7 @@ pub const FAULTS: [Reason; 23] = [
         line: "program 118 at 34",
         example: Example::Program("int main(){;int cilk_reducer(add) s;return 0;}"),
         place: "a local reducer that isn't first in a function's block, at its name",
-        cure: "Move the declaration to the function's first line.",
+        cure: "Move the declaration to the function's first line; where it began anew, as in each turn of a loop, write `set(r, 0);`.",
     },
     Reason {
         number: 119,

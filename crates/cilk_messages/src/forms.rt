@@ -75,12 +75,7 @@ const SPAWNED_CALL: &str = "the call is spawned, not the assignment: `{} = cilk_
 
 // In the declaration of a reducer, a length or a first value.
 fn of_declaration(site: &Site<'_, '_>) -> Option<&'static str> {
-    let Site {
-        tokens,
-        number,
-        word,
-        ..
-    } = *site;
+    let (tokens, number, word) = (site.tokens, site.number, site.word);
     if is_in_reducer(tokens, number) {
         return Some(if word == b"[".as_slice() {
             REDUCER_ARRAY
@@ -204,8 +199,8 @@ fn size_at(site: &Site<'_, '_>) -> Option<usize> {
     named.filter(|named| tokens.word(*named) == b"sizeof".as_slice())
 }
 
-// The advice for the size of an array or of a type.
-fn size_of(tokens: &Tokens<'_>, named: usize) -> &'static str {
+/// Returns the advice for the size of an array or of a type.
+pub fn size_of(tokens: &Tokens<'_>, named: usize) -> &'static str {
     if is_type_word(tokens.word(named.saturating_add(2))) {
         BYTES
     } else {
@@ -213,11 +208,13 @@ fn size_of(tokens: &Tokens<'_>, named: usize) -> &'static str {
     }
 }
 
-const PARAMETERS: &str =
+/// For a `main` with parameters.
+pub const PARAMETERS: &str =
     "`main` has no parameters: `input(k)` is number k of the input, and `input_count()` how many there are";
 
-const LENGTH: &str =
-    "an array's length is a number: work it out, and write it, as in `int a[1000];`";
+/// For a length that isn't a number.
+pub const LENGTH: &str =
+    "an array's length is a number, and no name or sum: work it out, and write it, as in `int a[1000];`";
 
 const LEAST: &str =
     "a global opens with a number: with `-9223372036854775807`, or `main` sets the least one, `-9223372036854775807 - 1`";
@@ -227,4 +224,5 @@ const GREATEST: &str = "a global opens with a number: the greatest one is 922337
 const FIRST_VALUE: &str =
     "a global opens with a number: write that, or let `main` give it another value";
 
-const BYTES: &str = "there is no `sizeof`: count elements, not bytes";
+const BYTES: &str =
+    "there is no `sizeof`: count elements, not bytes, and leave `* sizeof(int)` out";

@@ -5,13 +5,15 @@
 //! into a line and a column, the line of source with a mark below the place, the reason, and a hint
 //! if the mistake is a common one. Hints are found by looking at the tokens around the place. They
 //! know C, C++, Cilk Plus and OpenCilk, since most mistakes are constructs of those that this
-//! language lacks.
+//! language lacks. Behind the hint come the other such constructs of the text, each at its first
+//! line, so that one call tells of all that their tokens alone give away.
 //!
 //! ```text
 //! fib.c:9:12: error 103: no text of the language continues like this
 //!     return fib(n - 1) + fib(n - 2);
 //!               ^
 //! hint: a call stands alone or as the whole right side of an assignment: `x = f(a);`
+//! also line 3: `double`: `int` is the only type; count in thousandths, say
 //! ```
 //!
 //! Nothing here judges a text: the parser or the checker has found the place.
@@ -25,7 +27,7 @@
 //! | [`reasons::reason_of`] | the meaning of a number, with an example and a cure |
 //! | [`sentence::say`] | a sentence with gaps, and the parts that fill them |
 //! | [`sites::enclosing`] and others | the surroundings of a token |
-//! | [`words::read`] | the command line as an order: `run`, `certify`, `check` or `play` |
+//! | [`words::read`] | the command line as an order: `run`, `certify`, `check`, `play`, `settle` or `judge` |
 //!
 //! ```text
 //! match read(alloc, &["run", "fib.c"])? {
@@ -38,10 +40,14 @@
 
 mod around;
 mod at_hand;
+mod certain;
+mod cleaned;
 pub mod excerpt;
 mod faults;
 mod forms;
+mod further;
 pub mod hints;
+mod kinds;
 mod marks;
 mod misuses;
 pub mod place;

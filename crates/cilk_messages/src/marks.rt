@@ -3,7 +3,7 @@
 use crate::around::{
     before, byte_at, is_among, is_name, is_number, word_after, word_at, word_before,
 };
-use crate::place::line_at;
+use crate::place::{between, line_at};
 use crate::sentences::{BITS, FRACTIONS, INPUT, LIBRARY, PRINT, REDUCER, STRUCTURES, VIEW_MEMBERS};
 
 /// Returns the advice for a byte above 127.
@@ -79,7 +79,10 @@ fn no_directive(text: &[u8], at: usize) -> &'static str {
     }
     let name = word_after(text, first.saturating_add(word.len()));
     let end = name.saturating_add(word_at(text, name).len());
-    if is_among("define", word) && byte_at(text, end) == b'(' {
+    let has_value = !between(text, at, word_after(text, end)).contains(&b'\n');
+    if is_among("define", word) && !has_value {
+        "there is no preprocessor: leave this line away"
+    } else if is_among("define", word) && byte_at(text, end) == b'(' {
         "there is no preprocessor: a function stands for a macro with arguments, `int least(int a, int b) { .. }`"
     } else {
         DEFINITION
@@ -87,7 +90,7 @@ fn no_directive(text: &[u8], at: usize) -> &'static str {
 }
 
 const DEFINITION: &str =
-    "there is no preprocessor: a global `int n = 8;` can stand for `#define N 8`";
+    "there is no preprocessor: in place of `#define N 8` write the number 8 wherever `N` stands; a global `int n = 8;` does too, but not for an array's length";
 
 // A colon: in a name of C++, in a `switch`, after a label, or in the head of another loop.
 fn no_colon(text: &[u8], at: usize) -> &'static str {
@@ -203,8 +206,8 @@ fn named_behind(text: &[u8]) -> &[u8] {
     &[]
 }
 
-// A number of C that isn't one here.
-fn no_number(word: &[u8]) -> &'static str {
+/// Returns the advice for a number of C that isn't one here.
+pub fn no_number(word: &[u8]) -> &'static str {
     if word.starts_with(b"0x") || word.starts_with(b"0X") {
         return "write the number with decimal digits";
     }

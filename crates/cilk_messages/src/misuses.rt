@@ -29,6 +29,7 @@ pub fn wrong_kind(tokens: &Tokens<'_>, number: usize) -> Option<&'static str> {
     }
     let is_argument = is_argument(tokens, number);
     match tokens.declaration_of(number) {
+        Some((_, Declared::Reducer)) if is_compared(tokens, number) => Some(GREATEST),
         Some((_, Declared::Reducer)) => Some(of_reducer(behind, is_argument)),
         Some(_) if wants_reducer(tokens, number) => Some(
             "`update`, `set` and `value` take a reducer: `int cilk_reducer(add) r;`",
@@ -62,6 +63,22 @@ pub fn is_argument(tokens: &Tokens<'_>, number: usize) -> bool {
         None => false,
     }
 }
+
+// Whether a token is one side of a comparison in the condition of an `if`.
+fn is_compared(tokens: &Tokens<'_>, number: usize) -> bool {
+    let is_side = compares(tokens.kind_behind(number)) || compares(tokens.kind_back(number, 1));
+    is_side && matches!(head_kind(tokens, number), Some(Kind::If))
+}
+
+fn compares(kind: Option<Kind>) -> bool {
+    matches!(
+        kind,
+        Some(Kind::Less | Kind::Greater | Kind::LessEqual | Kind::GreaterEqual)
+    )
+}
+
+const GREATEST: &str =
+    "for `if (e > r) r = e;` write `update(r, e);` alone, with `max` as the monoid of `r`, or `min` for the least; elsewhere `value(r)` reads it";
 
 const REDUCER_ARGUMENT: &str =
     "an argument for a reducer is the bare name of a reducer of the same monoid";

@@ -2,7 +2,9 @@
 
 use crate::at_hand::at_hand;
 use crate::excerpt::push_excerpt;
+use crate::further::{Told, push_further};
 use crate::hints::hint_of;
+use crate::kinds::{FOREIGN, is_foreign, other_kind};
 use crate::place::{Location, locate};
 use crate::reasons::{Example, LAST, Reason, cure_of, reason_of, title_of};
 use crate::sentence::{Part, push_line, say};
@@ -73,8 +75,19 @@ fn push_reason(alloc: Global, text: &mut String, reason: &Reason) -> Result<(), 
     let foot = say("\n\n    {}\n\nThe place is read as: {}.\n\n{}\n").with(Part::Text(line));
     foot.with(Part::Text(place))
         .with(Part::Text(cure))
-        .push(alloc, text)
+        .push(alloc, text)?;
+    match number {
+        301 => text.push_str(MALFORMED_TRACE),
+        302 => text.push_str(CUT_TRACE),
+        _ => Ok(()),
+    }
 }
+
+const MALFORMED_TRACE: &str =
+    "\nBy `judge`, `trace 301 at L` says that line L isn't in the form of traces, or can't come there in the trace of a run (`docs/TRACES.md`).\n";
+
+const CUT_TRACE: &str =
+    "\nBy `judge`, `trace 302 at L` says that a trace is cut off at line L: record the run again, to its end.\n";
 
 /// Returns the text of `explain`: each number with its title.
 pub fn of_all(alloc: Global) -> Result<String, AllocError> {
@@ -96,7 +109,8 @@ fn push_titles(alloc: Global, text: &mut String) -> Result<(), AllocError> {
 }
 
 /// Returns the message after the line of a fault of a text: its line and column, the source line
-/// with a mark below the place, the token there, and a hint.
+/// with a mark below the place, the token there, a hint, and a line for each further form of other
+/// languages.
 pub fn of_text(
     alloc: Global,
     finding: &Finding<'_>,
@@ -134,7 +148,7 @@ fn push_finding<'a>(
     push_advice(alloc, report, &tokens, finding, wanted)
 }
 
-// What stands at the place, and the hint, or the general cure.
+// What was found at the place, the hint or the general cure, and what else has no form here.
 fn push_advice<'a>(
     alloc: Global,
     report: &mut String,
@@ -150,7 +164,31 @@ fn push_advice<'a>(
         Some(hint) => hint,
         None => say(cure_of(number)),
     };
-    push_line(alloc, report, "hint", &hint)
+    push_line(alloc, report, "hint", &hint)?;
+    push_others(alloc, report, finding, hint.words())
+}
+
+// What else the text of a program has that has no form here.
+fn push_others(
+    alloc: Global,
+    report: &mut String,
+    finding: &Finding<'_>,
+    hint: &str,
+) -> Result<(), AllocError> {
+    let Finding {
+        text,
+        number,
+        at,
+        ..
+    } = *finding;
+    if number == 106 || number > 119 || other_kind(text).is_some() {
+        return Ok(());
+    }
+    push_further(alloc, report, text, Told { at, hint })?;
+    if is_foreign(text) {
+        return push_line(alloc, report, "note", &say(FOREIGN));
+    }
+    Ok(())
 }
 
 // The place after the last byte that isn't blank.

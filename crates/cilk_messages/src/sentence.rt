@@ -40,6 +40,11 @@ pub fn say(words: &str) -> Sentence<'_> {
 }
 
 impl<'a> Sentence<'a> {
+    /// Returns its words, with the gaps.
+    pub fn words(&self) -> &'a str {
+        self.words
+    }
+
     /// Fills the next gap.
     pub fn with(self, part: Part<'a>) -> Sentence<'a> {
         let mut filled = self;

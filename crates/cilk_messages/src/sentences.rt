@@ -1,7 +1,7 @@
 //! Sentences that are used in more than one case.
 
 pub const REDUCER: &str =
-    "a reducer is declared with its monoid alone, `int cilk_reducer(add) r;`: add, min, max, append or affine";
+    "a reducer is a global or stands first in its function, with its monoid alone, `int cilk_reducer(add) r;`: add, min, max, append or affine; `update(r, e);` takes a number into it, and `value(r)` reads it";
 
 pub const REDUCER_ARRAY: &str =
     "there are no arrays of reducers: a reducer for each, or a row of a global array for each block of turns, and the rows added up after the loop";
@@ -21,6 +21,9 @@ pub const SPAWN: &str =
 pub const HEAD: &str =
     "a `cilk_for` counts up by 1 to a bound that it doesn't reach: `cilk_for (int k = 0; k < n; k++)`; for another step its body works the index out, `int i = 2 * k;`";
 
+pub const STEP_HEAD: &str =
+    "a `cilk_for` counts up by 1: for `i += step` from `first` to `end` it counts `int k = 0; k < (end - first + step - 1) / step; k++`, and its body begins with `int i = first + step * k;`";
+
 pub const PRINT: &str = "`print(e);` writes a number on a line of its own";
 
 pub const INPUT: &str =
@@ -30,7 +33,8 @@ pub const FRACTIONS: &str = "`int` is the only type: count in thousandths, say";
 
 pub const STRUCTURES: &str = "there are no structures: an array for each member";
 
-pub const MEMORY: &str = "memory is global arrays: `int a[1000];` before the functions";
+pub const MEMORY: &str =
+    "memory is global arrays, `int a[1000];` before the functions: a call that needs room of its own gets the place in such an array where its part begins";
 
 pub const ARRAYS: &str =
     "arrays are global, and their length is a number: `int a[1000];` before the functions";
@@ -40,7 +44,8 @@ pub const ARRAY_PARAMETER: &str =
 
 pub const ONE_INDEX: &str = "an array has one index: `a[i * columns + j]`";
 
-pub const POINTER: &str = "there are no pointers: pass an index into a global array";
+pub const POINTER: &str =
+    "there are no pointers: pass the place of an element in a global array, `sort(first + n)` for `sort(a + n)`, and write `a[p]` for `*p`";
 
 pub const BITS: &str = "there are no operators on bits: take numbers apart by `/` and `%`";
 
@@ -56,4 +61,4 @@ pub const NO_LENGTH: &str =
 pub const ONE_TYPE: &str = "`int` is the only type";
 
 pub const CAST: &str =
-    "`int` is the only type, so nothing is cast: leave the type and its parentheses away";
+    "`int` is the only type, so nothing is cast: leave the type and its parentheses out";

@@ -15,15 +15,11 @@ pub struct Site<'t, 'a> {
 impl<'t, 'a> Site<'t, 'a> {
     /// Returns the site of the token with this number.
     pub fn new(tokens: &'t Tokens<'a>, number: usize) -> Site<'t, 'a> {
-        let ahead = match number.checked_sub(1) {
-            Some(earlier) => tokens.word(earlier),
-            None => &[],
-        };
         Site {
             tokens,
             number,
             word: tokens.word(number),
-            ahead,
+            ahead: tokens.word_back(number, 1),
         }
     }
 

@@ -100,6 +100,14 @@ impl<'a> Tokens<'a> {
         }
     }
 
+    /// Returns the bytes of the token `back` tokens before this one, empty if there is none.
+    pub fn word_back(&self, number: usize, back: usize) -> &'a [u8] {
+        match number.checked_sub(back) {
+            Some(earlier) => self.word(earlier),
+            None => &[],
+        }
+    }
+
     /// Returns the kind that this token declares, if it is a name in its declaration.
     pub fn declared(&self, number: usize) -> Option<Declared> {
         if !matches!(self.kind(number), Some(Kind::Name)) {

@@ -3,7 +3,7 @@
 use crate::around::{is_among, is_name};
 use crate::sentences::{
     ARRAY_PARAMETER, ARRAYS, CALL, HEAD, MEMORY, ONE_INDEX, ONE_TYPE, POINTER, PRINT, REDUCER,
-    REDUCER_ARRAY, REDUCER_USE, SPAWN,
+    REDUCER_ARRAY, REDUCER_USE, SPAWN, STEP_HEAD,
 };
 use crate::site::Site;
 use crate::sites::{
@@ -90,12 +90,7 @@ fn in_arguments(site: &Site<'_, '_>) -> Option<&'static str> {
 
 // A call inside an expression, at its beginning or later; or a function inside another one.
 fn of_call(site: &Site<'_, '_>) -> Option<&'static str> {
-    let Site {
-        tokens,
-        number,
-        word,
-        ..
-    } = *site;
+    let (tokens, number, word) = (site.tokens, site.number, site.word);
     if word == b"(".as_slice() && matches!(site.kind_ahead(), Some(Kind::Name)) {
         let is_typed = matches!(tokens.kind_back(number, 2), Some(Kind::Int | Kind::Void));
         return if is_typed && !is_global(tokens, number) {
@@ -121,21 +116,19 @@ fn of_loop(site: &Site<'_, '_>) -> Option<&'static str> {
     let kind = site.tokens.kind(site.number);
     match (head_kind(site.tokens, site.number)?, kind) {
         (Kind::CilkFor | Kind::For, Some(Kind::OpenBrace | Kind::CloseBrace)) => None,
-        (Kind::CilkFor, Some(Kind::LessEqual)) => Some(
-            "a `cilk_for` counts up by 1 to a bound that it doesn't reach: `k < n + 1` stands for `k <= n`",
-        ),
+        (Kind::CilkFor, Some(Kind::LessEqual)) => Some(UP_TO),
         (
             Kind::CilkFor,
             Some(Kind::Greater | Kind::GreaterEqual | Kind::Decrement | Kind::MinusAssign),
-        ) => Some(
-            "a `cilk_for` counts up by 1: for a loop downward its body works the index out, `int i = n - 1 - k;`",
-        ),
+        ) => Some(DOWNWARD),
         (Kind::CilkFor, _) if is_name(site.word) && matches!(site.kind_ahead(), Some(Kind::Open)) =>
-            { Some("a `cilk_for` declares its variable: `cilk_for (int i = 0; i < n; i++)`") }
-        (Kind::CilkFor, _) => Some(HEAD),
-        (Kind::For, Some(Kind::Comma)) => Some(
-            "a `for` head has one variable and one step: the other ones go before the loop, and at the end of its body",
+            { Some(DECLARES) }
+        (Kind::CilkFor, Some(Kind::Assign)) => Some(STEP_HEAD),
+        (Kind::CilkFor, _) if matches!(site.kind_ahead(), Some(Kind::PlusAssign)) => Some(
+            STEP_HEAD,
         ),
+        (Kind::CilkFor, _) => Some(HEAD),
+        (Kind::For, Some(Kind::Comma)) => Some(ONE_STEP),
         _ => None,
     }
 }
@@ -167,8 +160,8 @@ fn of_star(site: &Site<'_, '_>) -> Option<&'static str> {
     }
 }
 
-// Whether memory is allocated between a token and the next semicolon.
-fn takes_memory(tokens: &Tokens<'_>, number: usize) -> bool {
+/// Returns whether memory is allocated between a token and the next semicolon.
+pub fn takes_memory(tokens: &Tokens<'_>, number: usize) -> bool {
     for later in number..tokens.count() {
         let word = tokens.word(later);
         if is_among("; {", word) {
@@ -201,17 +194,15 @@ fn of_brackets(site: &Site<'_, '_>) -> Option<&'static str> {
 // Two tokens that never follow each other in the language, and often do in C.
 fn of_pair(site: &Site<'_, '_>) -> Option<&'static str> {
     match (site.kind_ahead(), site.tokens.kind(site.number)?) {
-        (Some(Kind::Close), Kind::Semicolon) if is_prototype(site) => Some(
-            "a function is known in the whole text: leave this line away",
-        ),
+        (Some(Kind::Close), Kind::Semicolon) if is_prototype(site) => Some(PROTOTYPE),
         (Some(Kind::Less), Kind::Less | Kind::LessEqual) => Some(SHIFT_UP),
         (Some(Kind::Greater), Kind::Greater | Kind::GreaterEqual) => Some(SHIFT_DOWN),
         (_, kind) => of_operators(kind, site.kind_behind()?),
     }
 }
 
-// Two operators that the language doesn't have as one.
-fn of_operators(first: Kind, second: Kind) -> Option<&'static str> {
+/// Returns the advice for two operators that the language doesn't have as one.
+pub fn of_operators(first: Kind, second: Kind) -> Option<&'static str> {
     match (first, second) {
         (Kind::Less, Kind::Less | Kind::LessEqual) => Some(SHIFT_UP),
         (Kind::Greater, Kind::Greater | Kind::GreaterEqual) => Some(SHIFT_DOWN),
@@ -289,7 +280,23 @@ fn of_token(site: &Site<'_, '_>) -> Option<&'static str> {
 const VIEWS: &str =
     "there are no pointers, and a reducer needs no functions: `int cilk_reducer(add) r;` has its monoid, one of add, min, max, append and affine";
 
-const ARROW: &str =
+pub const UP_TO: &str =
+    "a `cilk_for` counts up by 1 to a bound that it doesn't reach: `k < n + 1` stands for `k <= n`";
+
+pub const DOWNWARD: &str =
+    "a `cilk_for` counts up by 1: for a loop downward its body works the index out, `int i = n - 1 - k;`";
+
+pub const DECLARES: &str = "a `cilk_for` declares its variable: `cilk_for (int i = 0; i < n; i++)`";
+
+pub const ONE_STEP: &str =
+    "a `for` head has one variable and one step: the other ones go before the loop, and at the end of its body";
+
+pub const PROTOTYPE: &str = "a function is known in the whole text: leave this line away";
+
+pub const REDUCER_OPENS: &str =
+    "a reducer opens with the unit of its monoid, 0 for `add`: leave the first value out";
+
+pub const ARROW: &str =
     "there are no pointers and no structures: an array for each member, and an index for the pointer";
 
 const RESERVED_NAME: &str = "this word is reserved here: take another name";
@@ -306,9 +313,9 @@ const NESTED: &str =
 
 const ASSIGNMENT: &str = "an assignment is a statement of its own, and stands in no expression";
 
-const STEP: &str = "`x++` is a statement of its own, or the last part of a `for` head";
+pub const STEP: &str = "`x++` is a statement of its own, or the last part of a `for` head";
 
-const ZEROS: &str =
+pub const ZEROS: &str =
     "an array opens with zeros: write its elements in `main`, or read them from the input";
 
 const SHIFT_UP: &str = "there are no operators on bits: `x * 8` stands for `x << 3`";

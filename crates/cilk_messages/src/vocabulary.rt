@@ -75,12 +75,23 @@ fn is_reducer_word(word: &[u8]) -> bool {
 
 /// Returns the advice for a cast to a type.
 pub fn cast_to(word: &[u8]) -> &'static str {
-    if word == b"int".as_slice() {
-        "`int` is the only type, so nothing is cast: leave `(int)` away"
-    } else {
-        CAST
-    }
+    said_of(&CASTS, word).unwrap_or(CAST)
 }
+
+const CASTS: [Row; 3] = [
+    (
+        "unsigned char uint8_t uint16_t uint32_t",
+        "`int` is the only type, and has a sign: write `x % 256` for `(unsigned char)x`, and `x % 4294967296` for `(unsigned)x`, where `x` isn't below 0; below 0 add 256 or 4294967296 to that",
+    ),
+    (
+        "float double",
+        "numbers are whole: leave the cast out, and multiply first, `a * 1000 / b` for `(double)a / b` in thousandths",
+    ),
+    (
+        "int long short int64_t int32_t size_t",
+        "`int` is the only type, and has 64 bits: leave the cast out",
+    ),
+];
 
 const UNSIGNED: &str =
     "`int` is the only type; its 64 bits have a sign. What wraps at 32 bits, as the seed of a generator of random \
@@ -106,7 +117,10 @@ const TYPES: [Row; 11] = [
         "`int` is the only type; count in thousandths, say",
     ),
     ("auto var let", ONE_TYPE),
-    ("enum", "a name for a number is a global: `int RED = 0;`"),
+    (
+        "enum",
+        "in place of `enum { N = 8 };` write the number 8 wherever `N` stands; a global `int n = 8;` does too, but not for an array's length",
+    ),
     ("struct union class", STRUCTURES),
     ("typedef", "`int` is the only type, and needs no other name"),
     ("REDUCER_VIEW", REDUCER_USE),
@@ -121,11 +135,12 @@ fn other_type(word: &[u8]) -> Option<&'static str> {
 }
 
 // Words before a declaration, a statement or an operand.
-const KEYWORDS: [Row; 15] = [
-    (
-        "static const inline register volatile then",
-        "leave this word away",
-    ),
+const KEYWORDS: [Row; 19] = [
+    ("const", "leave `const` out"),
+    ("static", "leave `static` out"),
+    ("inline", "leave `inline` out"),
+    ("register volatile", "leave `register` and `volatile` out"),
+    ("then", "leave `then` out"),
     ("extern", "leave the line away: a text is one whole program"),
     ("using template", LINE_AWAY),
     ("do", "write `while`, with its body once before it"),
@@ -176,13 +191,14 @@ pub fn number_named(word: &[u8]) -> Option<&'static str> {
 }
 
 // Functions of C's library.
-const FUNCTIONS: [Row; 9] = [
+const FUNCTIONS: [Row; 10] = [
     ("printf fprintf puts putchar", PRINT),
     ("scanf getchar argv argc atoi", INPUT),
-    ("malloc calloc realloc alloca free", MEMORY),
+    ("malloc calloc realloc alloca", MEMORY),
+    ("free", "arrays are global: leave this call out"),
     (
         "rand srand",
-        "there is no `rand`: `seed = (seed * 1103515245 + 12345) % 2147483648;`",
+        "there is no `rand`: a global `int seed = 1;`, and for each number `seed = (seed * 1103515245 + 12345) % 2147483648;`, of which `seed / 65536` is good; `seed = s;` stands for `srand(s);`",
     ),
     ("exit abort", "a run ends by a `return` of `main` alone"),
     (

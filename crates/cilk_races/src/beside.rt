@@ -6,11 +6,11 @@ use cilk_types::event::{Event, Instance};
 use cilk_types::invocation::Invocation;
 use std::alloc::{AllocError, Global};
 
-/// A change of a reducer: the frame that makes it, and the child around that frame which runs in
-/// parallel with the event.
+/// A change of a reducer, and the spawned child that parts it from the event: the change or the
+/// event is in it, and the other one behind it.
 #[derive(Clone, Copy)]
 pub struct Change {
-    pub frame: usize,
+    pub at: usize,
     pub child: usize,
 }
 
@@ -23,6 +23,8 @@ pub struct Beside {
     sides: Vec<Option<usize>>,
     // For each frame: its last sync before the event.
     synced: Vec<usize>,
+    // For each frame: whether it is the event's or around it.
+    above: Vec<bool>,
     upto: usize,
 }
 
@@ -38,6 +40,7 @@ impl Beside {
         Ok(Beside {
             sides: sides(alloc, scene, above.as_slice())?,
             synced: syncs(alloc, scene, upto)?,
+            above,
             upto,
         })
     }
@@ -83,55 +86,42 @@ impl Beside {
         let child = self.sides.get(step.frame).copied()??;
         let note = scene.run.replay.frames.get(child)?;
         if self.is_beside(note) {
-            let frame = step.frame;
-            Some(Change { frame, child })
+            Some(Change { at: index, child })
         } else {
             None
         }
     }
 
-    /// Returns the last child in parallel of the nearest frame that has one, from the event's frame
-    /// `second` up to `first`.
-    pub fn any(
-        &self,
-        alloc: Global,
-        scene: &Scene<'_>,
-        first: usize,
-        second: usize,
-    ) -> Result<Option<Change>, AllocError> {
-        let mut last: Vec<Option<usize>> = Vec::new(alloc);
-        last.resize(scene.run.replay.frames.len(), None)?;
-        for (number, note) in scene.run.replay.frames.iter().enumerate() {
-            if self.is_beside(note) {
-                if let Some(slot) = last.get_mut(note.parent) {
-                    *slot = Some(number);
+    /// Returns the first change of a reducer after the event that is behind a spawned child in
+    /// which the event is, and before the sync that waits for this child.
+    pub fn changed(&self, scene: &Scene<'_>, instance: Instance) -> Option<Change> {
+        let mut open: Option<usize> = None;
+        let events = scene.run.trace.as_slice().iter().enumerate();
+        for (index, event) in events.skip(self.upto) {
+            let frame = scene.frame_of(index)?;
+            match *event {
+                Event::End if self.is_spawned_above(scene, frame) => open = Some(frame),
+                Event::End | Event::Sync
+                    if open.and_then(|child| scene.above(child)) == Some(frame) => {
+                    open = None;
                 }
+                _ => {}
+            }
+            if let (true, Some(child)) = (changes(event, instance), open) {
+                return Some(Change { at: index, child });
             }
         }
-        Ok(nearest(scene, last.as_slice(), first, second))
+        None
     }
-}
 
-fn nearest(
-    scene: &Scene<'_>,
-    children: &[Option<usize>],
-    first: usize,
-    second: usize,
-) -> Option<Change> {
-    let mut common = second;
-    for _level in 0..scene.run.replay.frames.len() {
-        if let Some(Some(child)) = children.get(common).copied() {
-            return Some(Change {
-                frame: child,
-                child,
-            });
+    // Whether the event is in a frame, and the frame is a spawned child.
+    fn is_spawned_above(&self, scene: &Scene<'_>, frame: usize) -> bool {
+        let is_above = matches!(self.above.get(frame), Some(true));
+        match scene.frame(frame) {
+            Some(note) => is_above && note.how == Invocation::Spawn,
+            None => false,
         }
-        if common == first {
-            return None;
-        }
-        common = scene.above(common)?;
     }
-    None
 }
 
 fn changes(event: &Event, wanted: Instance) -> bool {

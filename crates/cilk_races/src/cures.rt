@@ -1,58 +1,539 @@
-//! Hints for races by the kind of variable that is accessed.
+//! The cure of a race: a change of the program, a place for a `cilk_sync`, or a choice of both.
 
+use crate::pair::{Pair, Race, byte_of, cell_at};
+use crate::texts;
+use crate::uses::{Added, Most, adds, behind_place, filled, has_name, keeps, kept_by, text_of};
+use cilk_findings::partings::{loop_round, parted_at, stands_in, statement_of};
 use cilk_findings::scene::Scene;
-use cilk_messages::sentence::{Sentence, say};
-use cilk_types::event::Event;
+use cilk_messages::reasons::cure_of as cure_of_number;
+use cilk_messages::sentence::{Part, Sentence, say};
+use cilk_messages::tokens::Tokens;
+use cilk_syntax::token::Kind;
+use cilk_types::event::{Cell, Event};
+use cilk_types::invocation::Invocation;
+use std::alloc::AllocError;
 
-/// Returns a hint for a race on the cell of an event; `None` for other events. With `in_turns`,
-/// turns of a `cilk_for` race; otherwise a spawned child races with the code after its spawn.
-pub fn cure_of<'a>(scene: &Scene<'a>, event: &Event, in_turns: bool) -> Option<Sentence<'a>> {
-    let cell = match *event {
-        Event::Read { cell, .. } | Event::Write { cell, .. } => cell as usize,
-        _ => return None,
-    };
-    let (name, words) = match scene.global(cell) {
-        Some(global) => (global.name, of_global(global.length.is_some(), in_turns)),
-        None => {
-            let (_, name) = scene.variable(cell)?;
-            (name, if in_turns { SHARED } else { RESULT })
-        }
-    };
-    let name = scene.word(name);
-    Some(say(words).word(name).word(name).word(name))
+/// A cure in words: a change or a place for a `cilk_sync`, and what follows it.
+#[derive(Clone, Copy)]
+pub struct Cure<'a> {
+    first: Change<'a>,
+    then: Change<'a>,
 }
 
-fn of_global(is_array: bool, in_turns: bool) -> &'static str {
-    match (is_array, in_turns) {
-        (true, true) => TURNS_OF_ARRAY,
-        (true, false) => ARRAY,
-        (false, true) => TURNS,
-        (false, false) => VARIABLE,
+impl Cure<'_> {
+    /// Adds the words of the cure.
+    pub fn push(&self, scene: &Scene<'_>, report: &mut String) -> Result<(), AllocError> {
+        let Cure { first, then } = *self;
+        scene.push(report, &first.first)?;
+        scene.push(report, &first.second)?;
+        scene.push(report, &then.first)?;
+        scene.push(report, &then.second)
     }
 }
 
-const TURNS_OF_ARRAY: &str =
-    "let each turn write elements of `{}` of its own, by an index that no other turn has; a turn that reads what \
-     another writes needs a second array to read, or a `for`";
+// A change of the program, in two sentences.
+#[derive(Clone, Copy)]
+struct Change<'a> {
+    first: Sentence<'a>,
+    second: Sentence<'a>,
+}
 
-const ARRAY: &str =
-    "put a `cilk_sync;` between the two, or let each strand write elements of `{}` of its own, in a longer array if \
-     need be";
+// What parts the two events of a race.
+#[derive(Clone, Copy)]
+enum Means {
+    Change,
+    /// A change, or a `cilk_sync`.
+    Either,
+    /// A `cilk_sync`, and what it does.
+    Sync,
+}
 
-const TURNS: &str =
-    "what turns add up is for a reducer: `int cilk_reducer(add) {};` (or `min`, `max`) with `update({}, ..)`; else \
-     declare a variable inside the `cilk_for`";
+// A kind of cure, with its words.
+#[derive(Clone, Copy)]
+struct Way<'a> {
+    means: Means,
+    change: Change<'a>,
+}
 
-const VARIABLE: &str =
-    "put a `cilk_sync;` between the two, or return the number; a sum, a least or a greatest is for a reducer: `int \
-     cilk_reducer(add) {};` (or `min`, `max`)";
+fn by_change(change: Change<'_>) -> Way<'_> {
+    Way {
+        means: Means::Change,
+        change,
+    }
+}
 
-// A variable that turns share, as it is declared outside of their loop.
-const SHARED: &str =
-    "declare `{}` inside the `cilk_for`, so that each turn has its own; what turns add up is for a reducer: `int \
-     cilk_reducer(add) {};` (or `min`, `max`) with `update({}, ..)`";
+fn by_either(sentence: Sentence<'_>) -> Way<'_> {
+    let change = plain(sentence);
+    Way {
+        means: Means::Either,
+        change,
+    }
+}
 
-// A variable that takes the result of a spawned call.
-const RESULT: &str =
-    "what a spawned call leaves in `{}` is there only after a `cilk_sync;`: read it and write it there, and give each \
-     spawned call a variable of its own";
+fn by_sync(sentence: Sentence<'_>) -> Way<'_> {
+    let change = plain(sentence);
+    Way {
+        means: Means::Sync,
+        change,
+    }
+}
+
+/// Returns the cure of a race: its number's general one where the run has no pair of events.
+pub fn cure_of<'a>(
+    scene: &Scene<'a>,
+    race: Race,
+    pair: &Option<Pair>,
+) -> Result<Cure<'a>, AllocError> {
+    let nothing = plain(say(""));
+    let Some(pair) = pair else {
+        return Ok(joined(plain(say(cure_of_number(race.number))), nothing));
+    };
+    let tokens = Tokens::new(scene.case.alloc, scene.case.text)?;
+    let site = Site {
+        scene: *scene,
+        tokens: &tokens,
+        pair: *pair,
+    };
+    let way = match site.way_of(race) {
+        Some(way) => way,
+        None => by_sync(say("")),
+    };
+    let parted = parted_at(scene, scene.invoked_at(pair.child), pair.leaving(scene))?;
+    let change = way.change;
+    let sync = plain(parted);
+    let otherwise = both(say(texts::ELSE), parted);
+    Ok(match way.means {
+        Means::Change => joined(change, nothing),
+        Means::Either => joined(change, otherwise),
+        Means::Sync => joined(sync, change),
+    })
+}
+
+fn joined<'a>(first: Change<'a>, then: Change<'a>) -> Cure<'a> {
+    Cure { first, then }
+}
+
+// Two events of a race, and the tokens of the text.
+#[derive(Drop)]
+struct Site<'a, 't> {
+    scene: Scene<'a>,
+    tokens: &'t Tokens<'a>,
+    pair: Pair,
+}
+
+fn both<'a>(first: Sentence<'a>, second: Sentence<'a>) -> Change<'a> {
+    Change { first, second }
+}
+
+fn plain(sentence: Sentence<'_>) -> Change<'_> {
+    both(sentence, say(""))
+}
+
+impl<'a> Site<'a, '_> {
+    fn way_of(&self, race: Race) -> Option<Way<'a>> {
+        match cell_at(&self.scene, race.later) {
+            Some(cell) => self.of_cell(cell),
+            None => Some(self.of_view(race.later)),
+        }
+    }
+
+    fn of_cell(&self, cell: usize) -> Option<Way<'a>> {
+        let in_turns = self.pair.is_in_turns(&self.scene);
+        let Some(global) = self.scene.global(cell) else {
+            let (_, name) = self.scene.variable(cell)?;
+            let name = self.scene.word(name);
+            return Some(if self.scene.run.gives_result(self.pair.earlier) {
+                self.of_result(name)
+            } else {
+                self.of_variable(name, texts::OWN)
+            });
+        };
+        let name = self.scene.word(global.name);
+        let index = cell.saturating_sub(global.first);
+        Some(match global.length {
+            None => self.of_variable(name, texts::OWN_GLOBAL),
+            Some(length) if in_turns => self.of_turns(name, index, length),
+            Some(_) => self.of_calls(name, index),
+        })
+    }
+
+    // The statements of both events, the later one first.
+    fn statements(&self) -> [usize; 2] {
+        let tokens = self.tokens;
+        let later = tokens.number_at(byte_of(&self.scene, self.pair.later));
+        let earlier = tokens.number_at(byte_of(&self.scene, self.pair.earlier));
+        [statement_of(tokens, later), statement_of(tokens, earlier)]
+    }
+
+    // The result of a spawned call.
+    fn of_result(&self, name: &'a [u8]) -> Way<'a> {
+        if self.scene.run.gives_result(self.pair.later) {
+            return by_either(say(texts::RESULTS));
+        }
+        by_sync(say(texts::RESULT).word(name))
+    }
+
+    // A single variable.
+    fn of_variable(&self, name: &'a [u8], own: &'static str) -> Way<'a> {
+        if let Some(array) = filled(self.tokens, name) {
+            let filled = say(texts::FILLED).word(name).word(array);
+            return by_change(plain(filled.word(array)));
+        }
+        let in_turns = self.pair.is_in_turns(&self.scene);
+        if in_turns && self.is_running(name) {
+            return by_change(plain(say(texts::RUNNING).word(name)));
+        }
+        let [later, earlier] = self.statements();
+        match (self.reduced(later, name), self.reduced(earlier, name)) {
+            (Some(change), Some(_)) => return by_change(change),
+            (Some(change), None) | (None, Some(change)) if in_turns => return by_change(change),
+            _ => {}
+        }
+        if in_turns {
+            by_change(plain(say(own).word(name).word(name)))
+        } else if self.is_beside_call() || self.is_in_one_loop() && self.writes() == (false, true) {
+            by_either(say(texts::PASSED).word(name))
+        } else {
+            by_sync(say(""))
+        }
+    }
+
+    // A reducer for what a statement adds up, or for the number that it keeps.
+    fn reduced(&self, first: usize, name: &'a [u8]) -> Option<Change<'a>> {
+        let tokens = self.tokens;
+        if let Some(sum) = adds(tokens, first, name) {
+            return Some(both(self.declared(first, "add", name), updated(name, sum)));
+        }
+        let Most { monoid, number } = keeps(tokens, first, name)?;
+        let compared = say(texts::COMPARED).word(name).word(number);
+        Some(both(self.declared(first, monoid, name), compared.word(name)))
+    }
+
+    // Where a reducer in place of a variable is declared.
+    fn declared(&self, number: usize, monoid: &'static str, name: &'a [u8]) -> Sentence<'a> {
+        let at = match self.tokens.kind(number) {
+            Some(Kind::Increment | Kind::Decrement | Kind::If) => self.named_from(number, name),
+            _ => number,
+        };
+        let depth = match self.tokens.declaration_of(at) {
+            Some((declared, _)) => depth_of(self.tokens, declared),
+            None => 0,
+        };
+        let words = match depth {
+            0 => texts::GLOBAL,
+            1 => texts::FIRST,
+            _ => texts::INNER,
+        };
+        say(words).with(Part::Text(monoid)).word(name).word(name)
+    }
+
+    // The first token from a place on with this name.
+    fn named_from(&self, number: usize, name: &[u8]) -> usize {
+        for named in number..self.tokens.count() {
+            if self.tokens.word(named) == name {
+                return named;
+            }
+        }
+        number
+    }
+
+    // Whether turns of the loop read a variable elsewhere than where they change it.
+    fn is_running(&self, name: &[u8]) -> bool {
+        let first = self.loop_token();
+        for number in first..self.tokens.count() {
+            if self.tokens.word(number) == name && stands_in(self.tokens, first, number) {
+                let start = statement_of(self.tokens, number);
+                let is_first = start == number || number == start.saturating_add(1);
+                if !is_first
+                    && adds(self.tokens, start, name).is_none()
+                    && keeps(self.tokens, start, name).is_none()
+                {
+                    return self.changes(name);
+                }
+            }
+        }
+        false
+    }
+
+    // Whether a statement of the race adds to the variable.
+    fn changes(&self, name: &[u8]) -> bool {
+        let [later, earlier] = self.statements();
+        adds(self.tokens, later, name).is_some() || adds(self.tokens, earlier, name).is_some()
+    }
+
+    // The token of the loop whose turns race.
+    fn loop_token(&self) -> usize {
+        let at = match self.scene.frame(self.pair.child) {
+            Some(note) => match self.scene.case.map.body(note.body) {
+                Some(map) => map.name.at,
+                None => 0,
+            },
+            None => 0,
+        };
+        self.tokens.number_at(at)
+    }
+}
+
+// Arrays.
+impl<'a> Site<'a, '_> {
+    // Elements that turns of a loop share.
+    fn of_turns(&self, name: &'a [u8], index: usize, length: usize) -> Way<'a> {
+        let tokens = self.tokens;
+        let [later, earlier] = self.statements();
+        let at = behind_mark(tokens, later);
+        let behind = behind_place(tokens, at).saturating_sub(1);
+        let inner = at.saturating_add(2);
+        let position = text_of(tokens, inner, behind);
+        let (variable, turns) = self.turns();
+        let total = length.saturating_mul(turns);
+        if let (Some(sum), Some(_)) = (adds(tokens, later, name), adds(tokens, earlier, name)) {
+            return by_change(if self.is_single() {
+                single(name, sum)
+            } else {
+                let rows = say(texts::ROWS).count(total).count(length).word(variable);
+                let rows = rows.word(position).word(name).word(position);
+                both(rows, say(texts::ROWS_ADDED))
+            });
+        }
+        if self.function_frame(self.pair.second) != self.function_frame(self.pair.common) {
+            return by_change(plain(say(texts::WORK).word(name).word(name)));
+        }
+        by_change(plain(match self.writes() {
+            (false, _) => say(texts::COPIED).word(name),
+            (true, false) => say(texts::FLOW).word(name).count(index).word(name),
+            (true, true) if has_name(tokens, inner, behind, variable) => {
+                say(texts::APART).word(name).word(position)
+            }
+            (true, true) => {
+                let row = say(texts::ROW).word(name).count(total).count(length);
+                row.word(variable)
+            }
+        }))
+    }
+
+    // The nearest frame of a function around a frame.
+    fn function_frame(&self, frame: usize) -> usize {
+        match self.scene.function_at(frame) {
+            Some((around, _)) => around,
+            None => frame,
+        }
+    }
+
+    // Whether the events are writes, the earlier one first.
+    fn writes(&self) -> (bool, bool) {
+        (
+            is_write(self.scene.run.event(self.pair.earlier)),
+            is_write(self.scene.run.event(self.pair.later)),
+        )
+    }
+
+    // The variable of the loop whose turns race, and the number after that of its last turn.
+    fn turns(&self) -> (&'a [u8], usize) {
+        let scene = &self.scene;
+        let mut top = self.pair.common;
+        for _level in 0..scene.run.replay.frames.len() {
+            match scene.above(top) {
+                Some(above) if scene.halves(above) => top = above,
+                _ => break,
+            }
+        }
+        match scene.frame(top) {
+            Some(note) => (
+                scene.turn_variable(note.body),
+                usize::try_from(note.high).unwrap_or(0),
+            ),
+            None => (&[], 0),
+        }
+    }
+
+    // Whether the write of the race writes one element alone in all of the run.
+    fn is_single(&self) -> bool {
+        let (written, cell) = match (
+            self.scene.run.event(self.pair.earlier),
+            self.scene.run.event(self.pair.later),
+        ) {
+            (Some(Event::Write { cell, .. }), _) => (self.pair.earlier, cell),
+            (_, Some(Event::Write { cell, .. })) => (self.pair.later, cell),
+            _ => return false,
+        };
+        let at = byte_of(&self.scene, written);
+        let events = self.scene.run.trace.as_slice();
+        for (index, event) in events.iter().enumerate() {
+            if is_write(Some(*event))
+                && byte_of(&self.scene, index) == at
+                && !is_write_of(event, cell)
+            {
+                return false;
+            }
+        }
+        true
+    }
+
+    // An element that a spawned call and what runs beside it share.
+    fn of_calls(&self, name: &'a [u8], index: usize) -> Way<'a> {
+        let work = say(texts::WORK).word(name).word(name);
+        if !self.is_beside_call() {
+            return if self.is_in_one_loop() && self.writes().1 {
+                by_either(work)
+            } else {
+                by_sync(say(""))
+            };
+        }
+        by_either(if self.is_in_ranges(index) {
+            let called = self.scene.function_of(self.pair.child);
+            say(texts::RANGES)
+                .word(name)
+                .word(called)
+                .word(name)
+                .count(index)
+        } else if self.writes() == (true, false) {
+            say(texts::TABLE).word(name)
+        } else {
+            work
+        })
+    }
+
+    // The child of the common frame that the later event is in.
+    fn branch(&self) -> Option<usize> {
+        self.scene.child_of(self.pair.common, self.pair.second)
+    }
+
+    // Whether the later event is in another call of the spawned function, or in another spawn.
+    fn is_beside_call(&self) -> bool {
+        match (
+            self.branch().and_then(|branch| self.scene.frame(branch)),
+            self.scene.frame(self.pair.child),
+        ) {
+            (Some(branch), Some(child)) => {
+                branch.body == child.body || branch.how == Invocation::Spawn
+            }
+            _ => false,
+        }
+    }
+
+    // Whether the innermost loop around the spawn is around the later path as well.
+    fn is_in_one_loop(&self) -> bool {
+        let tokens = self.tokens;
+        let spawn = tokens.number_at(self.scene.invoked_at(self.pair.child));
+        match loop_round(tokens, spawn) {
+            Some(round) => stands_in(
+                tokens,
+                round,
+                tokens.number_at(self.pair.leaving(&self.scene)),
+            ),
+            None => false,
+        }
+    }
+
+    // Whether both calls have an index between two of their arguments, one after the other.
+    fn is_in_ranges(&self, index: usize) -> bool {
+        match (i64::try_from(index), self.branch()) {
+            (Ok(index), Some(branch)) => {
+                self.is_in_range(self.pair.child, index) && self.is_in_range(branch, index)
+            }
+            _ => false,
+        }
+    }
+
+    fn is_in_range(&self, frame: usize, index: i64) -> bool {
+        for place in 1..self.scene.words_of(frame) {
+            let from = self.scene.argument(frame, place.saturating_sub(1));
+            if let (Some(from), Some(upto)) = (from, self.scene.argument(frame, place)) {
+                if from <= index && index <= upto {
+                    return true;
+                }
+            }
+        }
+        false
+    }
+}
+
+// Reducers.
+impl<'a> Site<'a, '_> {
+    // A reducer that is read or set.
+    fn of_view(&self, at: usize) -> Way<'a> {
+        let tokens = self.tokens;
+        let reducer = tokens.number_at(byte_of(&self.scene, at));
+        let name = tokens.word(reducer);
+        if let Some(Most { monoid, number }) = kept_by(tokens, reducer) {
+            let kept = say(texts::KEPT).with(Part::Text(monoid)).word(name);
+            return by_change(plain(kept.word(name).word(number)));
+        }
+        let is_behind = at == self.pair.later && !self.pair.is_in_turns(&self.scene);
+        if !is_behind && self.is_set(name) {
+            let own = say(texts::OWN_SUM).word(name).word(name).word(name);
+            let monoid = match tokens.declaration_of(reducer) {
+                Some((declared, _)) => tokens.word(declared.saturating_sub(2)),
+                None => &[],
+            };
+            let reducer = say(texts::OWN_REDUCER).word(monoid).word(name);
+            return by_change(both(own.word(name).word(name), reducer));
+        }
+        if self.pair.is_in_turns(&self.scene) {
+            return by_change(plain(say(texts::AFTER_LOOP).word(name)));
+        }
+        if is_behind {
+            return by_sync(say(""));
+        }
+        let read = say(texts::IN_PARENT)
+            .word(name)
+            .word(self.scene.function_of(self.pair.common));
+        let spawn = self.scene.place(self.scene.invoked_at(self.pair.child));
+        by_change(plain(read.with(spawn)))
+    }
+
+    // Whether the text sets a reducer with this name.
+    fn is_set(&self, name: &[u8]) -> bool {
+        for number in 0..self.tokens.count() {
+            if matches!(self.tokens.kind(number), Some(Kind::Set))
+                && self.tokens.word(number.saturating_add(2)) == name
+            {
+                return true;
+            }
+        }
+        false
+    }
+}
+
+fn is_write_of(event: &Event, wanted: Cell) -> bool {
+    matches!(*event, Event::Write { cell, .. } if cell == wanted)
+}
+
+fn is_write(event: Option<Event>) -> bool {
+    matches!(event, Some(Event::Write { .. }))
+}
+
+// A reducer for the one element of an array that is added to.
+fn single<'a>(array: &'a [u8], sum: Added<'a>) -> Change<'a> {
+    let name = b"all".as_slice();
+    let declared = say(texts::SINGLE).with(Part::Text("add")).word(name);
+    both(declared.word(array), updated(name, sum))
+}
+
+// How a reducer is updated and read.
+fn updated<'a>(name: &'a [u8], sum: Added<'a>) -> Sentence<'a> {
+    let updated = say(texts::UPDATED).word(name).with(Part::Text(sum.open));
+    let updated = updated.word(sum.amount).with(Part::Text(sum.close));
+    updated.word(name)
+}
+
+// The token behind `++` or `--`, if one of these stands at a token.
+fn behind_mark(tokens: &Tokens<'_>, number: usize) -> usize {
+    match tokens.kind(number) {
+        Some(Kind::Increment | Kind::Decrement) => number.saturating_add(1),
+        _ => number,
+    }
+}
+
+// The number of blocks around a token.
+fn depth_of(tokens: &Tokens<'_>, number: usize) -> usize {
+    let mut depth: usize = 0;
+    for earlier in 0..number {
+        match tokens.kind(earlier) {
+            Some(Kind::OpenBrace) => depth = depth.saturating_add(1),
+            Some(Kind::CloseBrace) => depth = depth.saturating_sub(1),
+            _ => {}
+        }
+    }
+    depth
+}

@@ -1,29 +1,172 @@
-//! A schedule that makes the later of two accesses first, and its outcome.
+//! A search for a schedule that shows a race.
 
+use crate::pair::Pair;
 use cilk_findings::case::Case;
 use cilk_findings::scene::Scene;
 use cilk_messages::sentence::{Part, Sentence, push_line, say};
 use cilk_schedule::{PlayFault, play_steps};
-use cilk_script::script::{ScriptFault, Step, read};
+use cilk_script::script::{ScriptFault, read};
 use cilk_serial::fault::RunFault;
 use cilk_serial::run::run;
+use cilk_types::invocation::Invocation;
 use cilk_types::outcome::{Final, Outcome};
 use std::alloc::AllocError;
 
-/// A schedule of two workers. The first makes `ahead` events, up to a spawn. The second steals the
-/// continuation at `place` and makes `behind` events. Then the first makes the `child` events of
-/// the child.
+// A run of more events is played by one schedule only.
+const SEARCHED: usize = 20_000;
+
+// The first worker makes no event of the child before the steal, or all up to so many before the
+// event behind the earlier access.
+const NEAR: [usize; 6] = [usize::MAX, 1, 0, 2, 4, 8];
+
+// The second worker makes so many events behind the later access before the first one goes on.
+const BEYOND: [usize; 7] = [0, 1, 2, 4, 8, 16, usize::MAX];
+
+/// A schedule of two workers. The first makes `ahead` events, up to a spawn or into its child. The
+/// second steals the continuation at `place` and makes `behind` events. Then the first makes the
+/// `child` events that are left of the child, and both go on in turn.
 #[derive(Clone, Copy)]
-pub struct Schedule {
-    pub ahead: usize,
-    pub place: usize,
-    pub behind: usize,
-    pub child: usize,
+struct Schedule {
+    ahead: usize,
+    place: usize,
+    behind: usize,
+    child: usize,
 }
 
-impl Schedule {
-    /// Returns the script of this schedule for `play`.
+/// How the outcome of a schedule differs from that of the serial run.
+#[derive(Clone, Copy)]
+enum Difference {
+    Nothing,
+    Globals,
+    Reducer,
+    Output,
+    Result(i64, i64),
+    Stops(u16),
+}
+
+/// The schedule that was found, its outcome, and the number of those that were played.
+#[derive(Clone, Copy)]
+pub struct Found {
+    schedule: Schedule,
+    difference: Difference,
+    played: usize,
+}
+
+/// Plays schedules near a race, until one shows something else than the serial run. Returns the one
+/// whose outcome differs most, if `play` takes any. The first makes the later event first.
+pub fn search(scene: &Scene<'_>, pair: &Pair) -> Result<Option<Found>, AllocError> {
+    let case = scene.case;
+    let serial = match run(case.alloc, &case.program, &case.input) {
+        Ok((serial, _trace)) => serial,
+        Err(RunFault::At { .. }) => return Ok(None),
+        Err(RunFault::Memory) => return Err(AllocError),
+    };
+    let mut best: Option<Found> = None;
+    let mut played: usize = 0;
+    for near in NEAR {
+        for beyond in BEYOND {
+            let schedule = schedule_of(scene, pair, near, beyond);
+            let difference = schedule.play(case, &serial)?;
+            played = played.saturating_add(1);
+            best = better(best, schedule, difference, played);
+            if scene.run.trace.len() > SEARCHED || is_shown(&best) {
+                return Ok(best);
+            }
+        }
+    }
+    Ok(best)
+}
+
+// The more telling one of two outcomes.
+fn better(
+    best: Option<Found>,
+    schedule: Schedule,
+    difference: Option<Difference>,
+    played: usize,
+) -> Option<Found> {
+    match (best, difference) {
+        (Some(found), Some(Difference::Nothing) | None) => Some(Found { played, ..found }),
+        (
+            Some(
+                found @ Found {
+                    difference: Difference::Globals,
+                    ..
+                },
+            ),
+            Some(Difference::Globals),
+        ) => Some(Found { played, ..found }),
+        (_, Some(difference)) => Some(Found {
+            schedule,
+            difference,
+            played,
+        }),
+        (None, None) => None,
+    }
+}
+
+// Whether an outcome shows a difference to a reader.
+fn is_shown(found: &Option<Found>) -> bool {
+    match found {
+        Some(Found { difference, .. }) => {
+            !matches!(difference, Difference::Nothing | Difference::Globals)
+        }
+        None => false,
+    }
+}
+
+impl Found {
+    /// Returns the script of the schedule.
     pub fn script(&self, case: &Case<'_>) -> Result<String, AllocError> {
+        self.schedule.script(case)
+    }
+
+    /// Adds the outcome in words, and the script.
+    pub fn push(&self, case: &Case<'_>, report: &mut String) -> Result<(), AllocError> {
+        push_line(case.alloc, report, "schedule", &self.words())?;
+        let script = self.script(case)?;
+        for line in script.lines() {
+            report.push_str("  ")?;
+            report.push_str(line)?;
+            report.push('\n')?;
+        }
+        Ok(())
+    }
+
+    fn words(&self) -> Sentence<'static> {
+        match self.difference {
+            Difference::Stops(number) => {
+                say("by this script for `play` the run stops by fault {}").count(number as usize)
+            }
+            Difference::Result(result, serial) => {
+                say("this script for `play` leaves the result {}, where `run` shows {}")
+                    .with(Part::Number(result))
+                    .with(Part::Number(serial))
+            }
+            Difference::Output => say("this script for `play` prints other numbers than `run`"),
+            Difference::Reducer => {
+                say("this script for `play` leaves another value in a reducer than `run`")
+            }
+            Difference::Globals => say(GLOBALS).count(self.played),
+            Difference::Nothing if self.played > 1 => say(NOTHING).count(self.played),
+            Difference::Nothing => say(ONE),
+        }
+    }
+}
+
+const GLOBALS: &str =
+    "this script for `play` leaves other values in global variables than `run`; of {} scripts near it, none shows \
+     more";
+
+const NOTHING: &str =
+    "this script for `play` makes the later access first; {} scripts near it were tried, and all leave what `run` \
+     leaves";
+
+const ONE: &str =
+    "this script for `play` makes the later access first, and leaves what `run` leaves; no other was tried, as the \
+     run is long";
+
+impl Schedule {
+    fn script(&self, case: &Case<'_>) -> Result<String, AllocError> {
         let alloc = case.alloc;
         let Schedule {
             ahead,
@@ -33,89 +176,75 @@ impl Schedule {
         } = *self;
         format!(in alloc; "run 1 {ahead}\nsteal 2 {place}\nrun 2 {behind}\nrun 1 {child}\nall\n")
     }
-}
 
-/// Returns the script of a schedule, if `play` accepts it and reaches the run's end.
-pub fn script_of(case: &Case<'_>, schedule: &Schedule) -> Result<Option<String>, AllocError> {
-    let script = schedule.script(case)?;
-    match leaves(case, script.as_str())? {
-        Some(_) => Ok(Some(script)),
-        None => Ok(None),
+    // How its outcome differs, if `play` takes it and reaches the run's end.
+    fn play(&self, case: &Case<'_>, serial: &Outcome) -> Result<Option<Difference>, AllocError> {
+        let script = self.script(case)?;
+        let steps = match read(case.alloc, script.as_bytes()) {
+            Ok(steps) => steps,
+            Err(ScriptFault::Line(_)) => return Ok(None),
+            Err(ScriptFault::Memory) => return Err(AllocError),
+        };
+        match play_steps(case.alloc, &case.program, &case.input, 2, steps.as_slice()) {
+            Ok(Some(outcome)) => Ok(Some(differing(&outcome, serial))),
+            Ok(None) | Err(PlayFault::Line(_)) => Ok(None),
+            Err(PlayFault::Stop { fault, .. }) => Ok(Some(Difference::Stops(fault.number()))),
+            Err(PlayFault::Memory) => Err(AllocError),
+        }
     }
 }
 
-/// Adds the outcome of a schedule and its script, if `play` accepts it.
-pub fn push_schedule(
-    scene: &Scene<'_>,
-    report: &mut String,
-    schedule: &Schedule,
-) -> Result<(), AllocError> {
-    let script = schedule.script(scene.case)?;
-    push_script(scene, report, script.as_str())
-}
-
-fn push_script(scene: &Scene<'_>, report: &mut String, script: &str) -> Result<(), AllocError> {
-    let Some(leaves) = leaves(scene.case, script)? else {
-        return Ok(());
+// A schedule near the one that makes the later event first.
+fn schedule_of(scene: &Scene<'_>, pair: &Pair, near: usize, beyond: usize) -> Schedule {
+    let (begun, ended) = match scene.frame(pair.child) {
+        Some(note) => (note.begun, note.ended.unwrap_or(pair.later)),
+        None => (0, pair.later),
     };
-    push_line(scene.case.alloc, report, "schedule", &leaves)?;
-    for line in script.lines() {
-        report.push_str("  ")?;
-        report.push_str(line)?;
-        report.push('\n')?;
-    }
-    Ok(())
-}
-
-// The outcome of a script in words, if `play` accepts it.
-fn leaves(case: &Case<'_>, script: &str) -> Result<Option<Sentence<'static>>, AllocError> {
-    let steps = match read(case.alloc, script.as_bytes()) {
-        Ok(steps) => steps,
-        Err(ScriptFault::Line(_)) => return Ok(None),
-        Err(ScriptFault::Memory) => return Err(AllocError),
-    };
-    played(case, steps.as_slice())
-}
-
-fn played(case: &Case<'_>, steps: &[Step]) -> Result<Option<Sentence<'static>>, AllocError> {
-    match play_steps(case.alloc, &case.program, &case.input, 2, steps) {
-        Ok(Some(outcome)) => Ok(Some(left(case, &outcome)?)),
-        Ok(None) | Err(PlayFault::Line(_)) => Ok(None),
-        Err(PlayFault::Stop { fault, .. }) => Ok(Some(say(STOPS).count(fault.number() as usize))),
-        Err(PlayFault::Memory) => Err(AllocError),
+    let made = pair.earlier.saturating_add(1).saturating_sub(near);
+    let ahead = made.max(begun.saturating_add(1));
+    let left = scene.run.trace.len().saturating_sub(pair.later);
+    Schedule {
+        ahead,
+        place: spawns_above(scene, pair.child).saturating_sub(1),
+        behind: pair
+            .later
+            .saturating_sub(ended)
+            .saturating_add(beyond.min(left)),
+        child: ended.saturating_add(1).saturating_sub(ahead),
     }
 }
 
-const STOPS: &str = "by this script for `play` the run stops by fault {}";
-
-// The difference between an outcome and that of `run`.
-fn left(case: &Case<'_>, outcome: &Outcome) -> Result<Sentence<'static>, AllocError> {
-    match run(case.alloc, &case.program, &case.input) {
-        Ok((serial, _trace)) => Ok(differing(outcome, &serial)),
-        Err(RunFault::At { fault, .. }) => Ok(say(ENDS).count(fault.number() as usize)),
-        Err(RunFault::Memory) => Err(AllocError),
+// The number of spawned frames from a frame up to the first one.
+fn spawns_above(scene: &Scene<'_>, frame: usize) -> usize {
+    let mut spawns: usize = 0;
+    let mut at = Some(frame);
+    for _level in 0..scene.run.replay.frames.len() {
+        let Some(frame) = at else {
+            break;
+        };
+        if let Some(note) = scene.frame(frame) {
+            if note.how == Invocation::Spawn {
+                spawns = spawns.saturating_add(1);
+            }
+        }
+        at = scene.above(frame);
     }
+    spawns
 }
-
-const ENDS: &str = "by this script for `play` the run ends, where `run` stops by fault {}";
 
 // The difference between an outcome and the serial run's.
-fn differing(outcome: &Outcome, serial: &Outcome) -> Sentence<'static> {
+fn differing(outcome: &Outcome, serial: &Outcome) -> Difference {
     if outcome.result != serial.result {
-        let words = say("this script for `play` leaves the result {}, where `run` shows {}");
-        return words
-            .with(Part::Number(outcome.result))
-            .with(Part::Number(serial.result));
-    }
-    say(if outcome.output.as_slice() != serial.output.as_slice() {
-        "this script for `play` prints other numbers than `run`"
+        Difference::Result(outcome.result, serial.result)
+    } else if outcome.output.as_slice() != serial.output.as_slice() {
+        Difference::Output
     } else if !are_same(outcome.reducers.as_slice(), serial.reducers.as_slice()) {
-        "this script for `play` leaves another value in a reducer than `run`"
+        Difference::Reducer
     } else if outcome.globals.as_slice() != serial.globals.as_slice() {
-        "this script for `play` leaves other values in global variables than `run`, and shows the same"
+        Difference::Globals
     } else {
-        "this script for `play` makes the later access first, and leaves the same; another script may differ"
-    })
+        Difference::Nothing
+    }
 }
 
 fn are_same(one: &[Final], other: &[Final]) -> bool {

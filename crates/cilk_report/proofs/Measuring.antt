@@ -3,13 +3,18 @@
 -- - `fails`: there are no totals, and the reply says why;
 -- - `starved`: out of memory;
 -- - `unnamed`: the words name no run;
+-- - `undrawn`: the run ends, and the picture that is requested isn't drawn; `unshown`: so too, or out of memory;
 -- - `asked`: a command line of `serve` isn't one that `serve` refuses;
 -- - `named`: the run that words measure is that of the `run` command in their place.
-use Rattle.std.proofs.Common.{◌≡◌, ℕ, List, Bool, Option, Some, None, refl, sym, ap, subst, inl, inr, ◌∙◌}
+use Rattle.std.proofs.Common.{◌≡◌, ℕ, List, Bool, true, Option, Some, None, refl, sym, ap, subst, inl, inr, ◌∙◌}
 use Rattle.std.proofs.lemmas.Bool.{true≢false}
 use Rattle.std.specs.Prelude.{IsSome}
 use Rattle.cilk_report.specs.Words.{measured_run, run_of, words_of_run}
-use Rattle.cilk_report.specs.Explained.{Complains, Follows, IsNoOutcome, Measures, OutOfMemory, Unmeasured, Unnamed}
+use Rattle.cilk_report.specs.Explained.{Complains, Follows, IsNoOutcome, Measures, OutOfMemory, Undrawn, Unmeasured, Unnamed}
+use Rattle.cilk_report.specs.Measured.{AreTotalsOf, IsAboutPictures, TellsWhy, is_drawn}
+use Rattle.cilk_report.specs.declared.text.NoText.{NoText}
+use Rattle.cilk_report.specs.declared.text.NoText.TheVariants as reasons
+use Rattle.cilk_findings.specs.declared.totals.Totals.{Totals}
 use Rattle.cilk_commands.specs.Files.{Failures}
 use Rattle.cilk_commands.specs.Replies.{NoMemory, Reply, Text, failure_view, status_of}
 use Rattle.cilk_commands.specs.Serving.{IsOrNoMemory, RunReply, ShowsError, WordsFail, world}
@@ -62,6 +67,29 @@ module _ (words : List Text) (files : Text → Option Text) (input : Option Text
   unnamed f status status' told o e m e' named h shown behind same =
       elim shown.1 [
         | inl is ↦ Unnamed (failure_view f) named h (complains shown.0 (failure_view f) status status' told o e m e' is shown.2 shown.3 behind same)
+        | inr is ↦ OutOfMemory (complains shown.0 NoMemory status status' told o e m e' is shown.2 shown.3 behind same)
+      ]
+
+  pub undrawn : (p : Origin) (i : Option Text) (t : Totals) (f : Failure) (status status' : ℕ) (told : Bool) (o e m e' : Option Text)
+      → measured_run words ≡ Some (p, i) → AreTotalsOf (world files input failed failed') p i t → is_drawn words ≡ true → WordsFail (failure_view f)
+      → Told f status told e m → Follows status' m e' → status' ≡ status → Measures words files input failed failed' status' o o e e'
+  undrawn p i t f status status' told o e m e' named totals drawn h shown behind same =
+      elim shown.1 [
+        | inl is ↦ Undrawn p i t (failure_view f) named totals drawn h (complains shown.0 (failure_view f) status status' told o e m e' is shown.2 shown.3 behind same)
+        | inr is ↦ OutOfMemory (complains shown.0 NoMemory status status' told o e m e' is shown.2 shown.3 behind same)
+      ]
+
+  -- nothing is shown of a run that ended
+  pub unshown : (p : Origin) (i : Option Text) (t : Totals) (why : NoText) (f : Failure) (status status' : ℕ) (told : Bool) (o e m e' : Option Text)
+      → measured_run words ≡ Some (p, i) → AreTotalsOf (world files input failed failed') p i t → IsAboutPictures words why → TellsWhy why (failure_view f)
+      → Told f status told e m → Follows status' m e' → status' ≡ status → Measures words files input failed failed' status' o o e e'
+  unshown p i t reasons.TooLarge f status status' told o e m e' named totals drawn h shown behind same =
+      undrawn p i t f status status' told o e m e' named totals drawn h shown behind same
+  unshown p i t reasons.Unkept f status status' told o e m e' named totals drawn h shown behind same =
+      undrawn p i t f status status' told o e m e' named totals drawn h shown behind same
+  unshown p i t (reasons.Fault fault) f status status' told o e m e' named totals drawn h shown behind same =
+      elim shown.1 [
+        | inl is ↦ OutOfMemory (complains shown.0 NoMemory status status' told o e m e' (is ∙ h) shown.2 shown.3 behind same)
         | inr is ↦ OutOfMemory (complains shown.0 NoMemory status status' told o e m e' is shown.2 shown.3 behind same)
       ]
 

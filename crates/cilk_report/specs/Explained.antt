@@ -10,7 +10,7 @@ use Rattle.cilk_commands.specs.Serving.{Answers, RunReply, Serves, ShowsError, W
 use Rattle.cilk_commands.specs.Streams.{AppendsFront, AppendsPart}
 use Rattle.cilk_commands.specs.declared.reply.TheConstants.{NO_MEMORY}
 use Rattle.cilk_messages.specs.Words.{Judge, Origin, Requested, Settle, order_in}
-use Rattle.cilk_report.specs.Measured.{AreTotalsOf, IsMeasureText}
+use Rattle.cilk_report.specs.Measured.{AreTotalsOf, IsMeasureText, is_drawn}
 use Rattle.cilk_report.specs.Words.{behind_first, is_help as asks_help, is_measure, measured_run}
 use Rattle.cilk_report.specs.declared.about.About.{About as AboutAnswer}
 use Rattle.cilk_report.specs.declared.about.About.TheVariants as answers
@@ -130,6 +130,10 @@ pub data Measures (words : List Text) (files : Text → Option Text) (input : Op
   -- the run ends, and a text with its totals is shown
   Measured : (program : Origin) (numbers : Option Text) (t : Totals) (text : Text) → measured_run words ≡ Some (program, numbers)
       → AreTotalsOf (world files input failed failed') program numbers t → IsMeasureText words t text → WritesText text status out out' err err'
+      → Measures words files input failed failed' status out out' err err'
+  -- the run ends, and a picture of it is requested that isn't drawn: standard error says why
+  Undrawn : (program : Origin) (numbers : Option Text) (t : Totals) (r : Reply) → measured_run words ≡ Some (program, numbers)
+      → AreTotalsOf (world files input failed failed') program numbers t → is_drawn words ≡ true → WordsFail r → Complains r status out out' err err'
       → Measures words files input failed failed' status out out' err err'
   -- the texts aren't a program and its input, or the run stops: the reply is that of `run`
   Unmeasured : (program : Origin) (numbers : Option Text) (r : Reply) → measured_run words ≡ Some (program, numbers)

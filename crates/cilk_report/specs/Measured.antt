@@ -1,5 +1,5 @@
 -- The output of `measure`.
-use Rattle.std.specs.Prelude.{◌≡◌, ℕ, ℤ, Bool, ◌||◌, IsFalse, List, ◌++◌, cond, Option, codes}
+use Rattle.std.specs.Prelude.{◌≡◌, ℕ, ℤ, Bool, true, ◌||◌, IsFalse, List, ◌++◌, cond, Option, codes}
 use Rattle.cilk_types.specs.declared.event.Event.{Event}
 use Rattle.cilk_checker.specs.Judging.{Meant}
 use Rattle.cilk_findings.specs.Measures.{AreMeasures}
@@ -7,8 +7,10 @@ use Rattle.cilk_findings.specs.declared.totals.Totals.{Totals}
 use Rattle.cilk_report.specs.Table.{totals_text}
 use Rattle.cilk_report.specs.Words.{asks}
 use Rattle.cilk_report.specs.declared.table.TheConstants.{BLANK, COMMA}
-use Rattle.cilk_commands.specs.Replies.{Text}
-use Rattle.cilk_commands.specs.Serving.{AreGiven, Surroundings}
+use Rattle.cilk_report.specs.declared.text.NoText.{NoText}
+use Rattle.cilk_report.specs.declared.text.NoText.TheVariants as reasons
+use Rattle.cilk_commands.specs.Replies.{NoMemory, Reply, Text}
+use Rattle.cilk_commands.specs.Serving.{AreGiven, Surroundings, WordsFail}
 use Rattle.cilk_messages.specs.Words.{Origin}
 
 -- the totals of the run of a program on its input, which are read from files and standard input
@@ -34,3 +36,14 @@ IsTable words t text = (ticks : Option ℕ) × (rest : Text) × (text ≡ totals
 -- A table, unless a picture is requested. Nothing is stated about pictures.
 abbrev pub IsMeasureText : List Text → Totals → Text → Type 0
 IsMeasureText words t text = IsFalse (is_drawn words) → IsTable words t text
+
+-- why no text is shown: a picture is requested that isn't drawn, or there is no memory
+abbrev pub IsAboutPictures : List Text → NoText → Type 0
+IsAboutPictures words reasons.TooLarge = is_drawn words ≡ true
+IsAboutPictures words reasons.Unkept = is_drawn words ≡ true
+IsAboutPictures words (reasons.Fault fault) = Unit {0}
+
+-- the reply that tells such a reason: an error about the words, or that there is no memory
+abbrev pub TellsWhy : NoText → Reply → Type 0
+TellsWhy (reasons.Fault fault) r = r ≡ NoMemory
+TellsWhy _ r = WordsFail r

@@ -11,17 +11,20 @@ abbrev pub known_line : List ℕ → ℕ → Option ℕ → List ℕ
 known_line name mark None = []
 known_line name mark (Some number) = total_line name mark number
 
--- work over span in hundredths, rounded down
-abbrev pub hundredths : Totals → ℕ
-hundredths t = t.work * 100 / t.span
+-- work over a span in hundredths, rounded down
+abbrev pub hundredths : ℕ → ℕ → ℕ
+hundredths work span = work * 100 / span
 
 -- a number of hundredths, with a point before the last two digits
 abbrev pub decimal_point : ℕ → List ℕ
 decimal_point n = decimal (n / 100) ++ 46 ∷ decimal (n / 10 % 10) ++ decimal (n % 10)
 
--- the parallelism: work over span, with two digits after the point
-abbrev pub parallelism_line : ℕ → Totals → List ℕ
-parallelism_line mark t = codes "parallelism" ++ mark ∷ decimal_point (hundredths t) ++ 10 ∷ []
+-- a parallelism: work over a span, with two digits after the point
+abbrev pub parallelism_line : List ℕ → ℕ → ℕ → ℕ → List ℕ
+parallelism_line name mark work span = name ++ mark ∷ decimal_point (hundredths work span) ++ 10 ∷ []
+
+abbrev pub burdened_name : List ℕ
+burdened_name = codes "burdened span (a burden of 1000 for each spawn that a steal may take)"
 
 -- The totals, one to a line. The work is the number of events. Ticks aren't among the totals: they
 -- are shown if they are known.
@@ -29,4 +32,5 @@ abbrev pub totals_text : ℕ → Totals → Option ℕ → List ℕ
 totals_text mark t ticks =
     total_line (codes "events") mark t.work ++ known_line (codes "ticks") mark ticks ++ total_line (codes "frames") mark t.frames
     ++ total_line (codes "strands") mark t.strands ++ total_line (codes "work") mark t.work ++ total_line (codes "span") mark t.span
-    ++ parallelism_line mark t
+    ++ parallelism_line (codes "parallelism") mark t.work t.span ++ total_line burdened_name mark t.burdened_span
+    ++ parallelism_line (codes "burdened parallelism") mark t.work t.burdened_span

@@ -55,8 +55,8 @@ Options of judge:
 
 Options of measure:
   --csv           write the table with commas
-  --svg           write a picture instead: how many events could be made at each step, if there were workers enough
-  --dot           write the tree of the run instead, for Graphviz's `dot`; only of a run with at most 2,000 nodes
+  --svg           write a picture instead: the speed-up by workers, and how many events could be made at each step
+  --dot           write the tree of the run instead, for Graphviz's `dot`; only of a run with at most 500 nodes
 
 Option of check:
   --helpers N     share the work among N threads, 1 to 16: the same answer, sooner where frames compute long
@@ -218,8 +218,8 @@ Usage: cilk measure PROGRAM [--input FILE] [--csv | --svg | --dot] [--explain]
     argument: "",
     options: "  \
   --csv           write the table with commas
-  --svg           write a picture instead: how many events could be made at each step, if there were workers enough
-  --dot           write the tree of the run instead, for Graphviz's `dot`; only of a run with at most 2,000 nodes
+  --svg           write a picture instead: the speed-up by workers, and how many events could be made at each step
+  --dot           write the tree of the run instead, for Graphviz's `dot`; only of a run with at most 500 nodes
 ",
 };
 

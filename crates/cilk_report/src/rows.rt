@@ -1,10 +1,13 @@
 //! The rows of `measure` by function and loop.
 
+use crate::critical::push_critical;
+use crate::speed_up::push_speed_ups;
 use cilk_findings::case::Case;
 use cilk_findings::fault::CaseFault;
 use cilk_findings::map::BodyMap;
 use cilk_findings::runs::Run;
 use cilk_findings::shares::{Share, shares};
+use cilk_findings::totals::Totals;
 use cilk_messages::place::{Location, locate};
 use cilk_program::program::Body;
 use std::alloc::{AllocError, Global};
@@ -25,19 +28,22 @@ pub struct Details {
     pub ticks: u64,
     /// A line for each function and loop, after an empty line and a head. The columns are the
     /// number of its frames, the strands and events that these frames make themselves, the work
-    /// from their begin to their end, and the largest span of one frame.
+    /// from their begin to their end, and the largest span of one frame. Then tables of the spawns
+    /// and lines on the critical path, and of the speed-up by several workers.
     pub bodies: String,
 }
 
 /// Measures a case's run, for a table with columns or with commas. The run has to end without a
 /// fault; otherwise the error is [`CaseFault::Unfit`].
-pub fn details_of(case: &Case<'_>, commas: bool) -> Result<Details, CaseFault> {
+pub fn details_of(case: &Case<'_>, totals: &Totals, commas: bool) -> Result<Details, CaseFault> {
     let run = Run::of(case)?;
     if run.fault.is_some() {
         return Err(CaseFault::Unfit);
     }
     let mut bodies = String::new(case.alloc);
     push_rows(case, &run, &mut bodies, commas)?;
+    push_critical(case, &run, &mut bodies, commas)?;
+    push_speed_ups(case.alloc, &mut bodies, totals, commas)?;
     Ok(Details {
         ticks: u64::from(run.replay.ticks),
         bodies,
@@ -58,7 +64,7 @@ fn push_rows(
         width = width.max(row.name.len());
     }
     text.push('\n')?;
-    push_cells(text, "body", HEADINGS, width, commas)?;
+    push_cells(text, "body", &HEADINGS, width, commas)?;
     for row in &rows {
         push_row(alloc, text, row, width, commas)?;
     }
@@ -91,7 +97,7 @@ fn push_row(
         work.as_str(),
         span.as_str(),
     ];
-    push_cells(text, row.name.as_str(), cells, width, commas)
+    push_cells(text, row.name.as_str(), &cells, width, commas)
 }
 
 // A row for each body that ran.
@@ -114,10 +120,23 @@ fn rows_of(case: &Case<'_>, run: &Run) -> Result<Vec<Row>, AllocError> {
     Ok(rows)
 }
 
-fn push_cells(
+/// Adds a line of a table: a name, in a column of this width, and cells.
+pub fn push_cells(
     text: &mut String,
     name: &str,
-    cells: [&str; 5],
+    cells: &[&str],
+    width: usize,
+    commas: bool,
+) -> Result<(), AllocError> {
+    push_front(text, name, cells, width, commas)?;
+    text.push('\n')
+}
+
+/// The same without the line's end.
+pub fn push_front(
+    text: &mut String,
+    name: &str,
+    cells: &[&str],
     width: usize,
     commas: bool,
 ) -> Result<(), AllocError> {
@@ -133,18 +152,19 @@ fn push_cells(
         }
         text.push_str(cell)?;
     }
-    text.push('\n')
+    Ok(())
 }
 
-fn push_blanks(text: &mut String, count: usize) -> Result<(), AllocError> {
+/// Adds blanks.
+pub fn push_blanks(text: &mut String, count: usize) -> Result<(), AllocError> {
     for _blank in 0..count {
         text.push(' ')?;
     }
     Ok(())
 }
 
-// A function's name, or the place of a loop.
-fn title_of(case: &Case<'_>, body: Body) -> Result<String, AllocError> {
+/// Returns a function's name, or `cilk_for` with its place.
+pub fn title_of(case: &Case<'_>, body: Body) -> Result<String, AllocError> {
     let alloc = case.alloc;
     let Some(BodyMap { name: head, .. }) = case.map.body(body) else {
         return Ok(String::new(alloc));

@@ -15,6 +15,7 @@ use crate::flags::{explains_itself, unflagged};
 use crate::help::{EXPLAIN, advice};
 use crate::judging::{Judged, of_trace_failure, of_trace_race};
 use crate::scheduling::{is_schedule, serve_schedule};
+use crate::text::undrawn;
 use crate::{
     Keeps, Kept, asks, is_measure, run_of, run_words, text_of, totals_of, usage_of_measure,
 };
@@ -352,7 +353,7 @@ fn show_measured<F: Keeps, R: Read, O: Write, E: Write>(
     match totals_of(alloc, program, numbers, files, input) {
         Ok(totals) => match text_of(alloc, words, &totals, program, numbers, files.kept()) {
             Ok(text) => tell_text(text.as_slice(), out, err),
-            Err(_) => complain(alloc, &Failure::Memory, err).status,
+            Err(reason) => complain(alloc, &undrawn(alloc, reason), err).status,
         },
         Err(failure) => {
             let served = complain(alloc, &failure, err);

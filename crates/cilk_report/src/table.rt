@@ -1,7 +1,7 @@
 //! The totals of a run as lines of text.
 
 ghost use Rattle.std.specs.Prelude.{◌≡◌, ◌++◌, IfOk, OnOk};
-ghost use Rattle.cilk_report.specs.Table.{decimal_point, hundredths, known_line, parallelism_line, total_line, totals_text};
+ghost use Rattle.cilk_report.specs.Table.{burdened_name, decimal_point, hundredths, known_line, parallelism_line, total_line, totals_text};
 
 use cilk_findings::totals::Totals;
 use itoa::Buffer;
@@ -12,6 +12,9 @@ pub const BLANK: u8 = b' ';
 
 /// The separator in a table with commas.
 pub const COMMA: u8 = b',';
+
+// The name of the burdened span, with `cilk_findings::burdened::BURDEN`.
+const BURDENED: &[u8] = b"burdened span (a burden of 1000 for each spawn that a steal may take)";
 
 // `NAME MARK NUMBER`.
 fn push_total(text: &mut Vec<u8>, name: &[u8], mark: u8, number: u64) -> Result<(), AllocError>
@@ -40,12 +43,12 @@ fn push_known(
     }
 }
 
-// Work over span in hundredths, rounded down.
-fn hundredths(totals: &Totals) -> u128
-    ensures { result ≡ hundredths totals.now }
+// Work over a span in hundredths, rounded down.
+fn hundredths(work: usize, span: u64) -> u128
+    ensures { result ≡ hundredths work span }
 {
-    let work = totals.work as u128 * 100;
-    match totals.span {
+    let work = work as u128 * 100;
+    match span {
         0 => 0,
         span => work / u128::from(span),
     }
@@ -62,20 +65,26 @@ fn push_point(text: &mut Vec<u8>, number: u128) -> Result<(), AllocError>
     text.extend_from_slice(buffer.format(number % 10).as_bytes())
 }
 
-// Work over span, with two digits after the point.
-fn push_parallelism(text: &mut Vec<u8>, mark: u8, totals: &Totals) -> Result<(), AllocError>
-    ensures { OnOk result (text.new.items ≡ text.old.items ++ parallelism_line mark totals.now) }
+// Work over a span, with two digits after the point.
+fn push_parallelism(
+    text: &mut Vec<u8>,
+    name: &[u8],
+    mark: u8,
+    work: usize,
+    span: u64,
+) -> Result<(), AllocError>
+    ensures { OnOk result (text.new.items ≡ text.old.items ++ parallelism_line name.now mark work span) }
 {
-    text.extend_from_slice(b"parallelism")?;
+    text.extend_from_slice(name)?;
     text.push(mark)?;
-    push_point(text, hundredths(totals))?;
+    push_point(text, hundredths(work, span))?;
     text.push(b'\n')?;
     Ok(())
 }
 
 /// Returns the totals, one to a line, with `mark` before each number: events, ticks if they are
-/// known, frames, strands, work, span and parallelism. Parallelism has two digits after the point
-/// and is rounded down.
+/// known, frames, strands, work, span and parallelism, the burdened span, and the parallelism by that.
+/// Parallelism has two digits after the point and is rounded down.
 pub fn totals_text(
     alloc: Global,
     mark: u8,
@@ -91,6 +100,14 @@ pub fn totals_text(
     push_total(&mut text, b"strands", mark, totals.strands as u64)?;
     push_total(&mut text, b"work", mark, totals.work as u64)?;
     push_total(&mut text, b"span", mark, totals.span)?;
-    push_parallelism(&mut text, mark, totals)?;
+    push_parallelism(&mut text, b"parallelism", mark, totals.work, totals.span)?;
+    push_total(&mut text, BURDENED, mark, totals.burdened_span)?;
+    push_parallelism(
+        &mut text,
+        b"burdened parallelism",
+        mark,
+        totals.work,
+        totals.burdened_span,
+    )?;
     Ok(text)
 }

@@ -1,22 +1,46 @@
 //! The text or picture that `measure` shows.
 
-ghost use Rattle.std.specs.Prelude.{◌≡◌, IfOk};
-ghost use Rattle.cilk_report.specs.Measured.{IsMeasureText, IsTable, is_drawn, mark_in};
+ghost use Rattle.std.specs.Prelude.{◌≡◌, IfErr, IfOk};
+ghost use Rattle.cilk_report.specs.Measured.{IsAboutPictures, IsMeasureText, IsTable, TellsWhy, is_drawn, mark_in};
+ghost use Rattle.cilk_commands.specs.Replies.{failure_view};
 ghost use Rattle.cilk_messages.specs.Words.{texts};
 
 use crate::kept::{CaseTexts, Kept};
 use crate::rows::{Details, details_of};
 use crate::table::{BLANK, COMMA, totals_text};
 use crate::words::asks;
+use cilk_commands::reply::Failure;
 use cilk_findings::drawing::{profile_of, tree_of_run};
 use cilk_findings::fault::CaseFault;
 use cilk_findings::totals::Totals;
 use cilk_messages::words::Origin;
-use std::alloc::Global;
+use std::alloc::{AllocError, Global};
+
+/// The reason why nothing is shown of a run that ended.
+#[derive(Clone, Copy, PartialEq, Eq, Debug)]
+pub enum NoText {
+    /// The tree of the run has too many nodes to be drawn.
+    TooLarge,
+    /// A picture is derived from the program's text, and that of standard input isn't kept.
+    Unkept,
+    Fault(CaseFault),
+}
+
+impl From<CaseFault> for NoText {
+    fn from(fault: CaseFault) -> NoText {
+        NoText::Fault(fault)
+    }
+}
+
+impl From<AllocError> for NoText {
+    fn from(_: AllocError) -> NoText {
+        NoText::Fault(CaseFault::Memory)
+    }
+}
 
 /// Returns what `measure` shows of a run with these totals: a table that begins with them, or a
 /// picture. All but the totals is derived from the kept texts. A program from standard input isn't
-/// kept: its table has the totals only, and its picture is empty.
+/// kept: its table has the totals only, and it isn't drawn.
 pub fn text_of(
     alloc: Global,
     words: &[&str],
@@ -24,14 +48,43 @@ pub fn text_of(
     program: Origin<'_>,
     input: Option<&str>,
     kept: &Kept,
-) -> Result<Vec<u8>, CaseFault>
-    ensures { IfOk result (λ text. IsMeasureText (texts words.now) totals.now text.items) }
+) -> Result<Vec<u8>, NoText>
+    ensures text { IfOk result (λ text. IsMeasureText (texts words.now) totals.now text.items) }
+    ensures undrawn { IfErr result (IsAboutPictures (texts words.now)) }
 {
-    let read = CaseTexts::of(program, input, kept)?;
+    let read = match CaseTexts::of(program, input, kept) {
+        Ok(read) => read,
+        Err(fault) => return Err(NoText::Fault(fault)),
+    };
     if is_drawn(words) {
-        drawn(alloc, words, read)
-    } else {
-        table(alloc, words, totals, read)
+        return drawn(alloc, words, read);
+    }
+    match table(alloc, words, totals, read) {
+        Ok(text) => Ok(text),
+        Err(fault) => Err(NoText::Fault(fault)),
+    }
+}
+
+// The errors of a picture that isn't drawn.
+const TOO_LARGE: &str =
+    "error: the run has too many strands to be drawn as a tree: more than 500 nodes\n\
+    hint: measure a smaller input, or draw its steps: `cilk measure PROGRAM --svg`\n";
+
+const UNKEPT: &str = "error: a program from standard input isn't drawn\n\
+    hint: put it into a file: `cilk measure prog.c --svg > prog.svg`\n";
+
+/// Returns the failure for a reason why nothing is shown.
+pub fn undrawn<'a>(alloc: Global, reason: NoText) -> Failure<'a>
+    ensures { TellsWhy reason (failure_view result) }
+{
+    let text = match reason {
+        NoText::TooLarge => TOO_LARGE,
+        NoText::Unkept => UNKEPT,
+        NoText::Fault(_) => return Failure::Memory,
+    };
+    match String::from_str(alloc, text) {
+        Ok(text) => Failure::Words(text),
+        Err(_) => Failure::Memory,
     }
 }
 
@@ -42,18 +95,20 @@ fn is_drawn(words: &[&str]) -> bool
     asks(words, "--svg") || asks(words, "--dot")
 }
 
-// The picture of the steps or of the tree. It is empty if the texts weren't kept.
-fn drawn(alloc: Global, words: &[&str], read: Option<CaseTexts<'_>>) -> Result<Vec<u8>, CaseFault> {
+// The picture of the steps or of the tree.
+fn drawn(alloc: Global, words: &[&str], read: Option<CaseTexts<'_>>) -> Result<Vec<u8>, NoText> {
     let Some(read) = read else {
-        return Ok(Vec::new(alloc));
+        return Err(NoText::Unkept);
     };
     let case = read.case(alloc)?;
-    let picture = if asks(words, "--svg") {
-        profile_of(&case)?
-    } else {
-        tree_of_run(&case)?
-    };
-    Ok(picture.as_bytes().to_vec(alloc)?)
+    if asks(words, "--svg") {
+        let picture = profile_of(&case)?;
+        return Ok(picture.as_bytes().to_vec(alloc)?);
+    }
+    match tree_of_run(&case)? {
+        Some(picture) => Ok(picture.as_bytes().to_vec(alloc)?),
+        None => Err(NoText::TooLarge),
+    }
 }
 
 // The table of the totals and rows.
@@ -65,7 +120,7 @@ fn table(
 ) -> Result<Vec<u8>, CaseFault>
     ensures { IfOk result (λ text. IsTable (texts words.now) totals.now text.items) }
 {
-    let behind = behind_totals(alloc, asks(words, "--csv"), read)?;
+    let behind = behind_totals(alloc, totals, asks(words, "--csv"), read)?;
     let mut text = totals_text(alloc, mark_in(words), totals, behind.ticks)?;
     text.extend_from_slice(behind.bodies.as_bytes())?;
     Ok(text)
@@ -87,6 +142,7 @@ struct Behind {
 
 fn behind_totals(
     alloc: Global,
+    totals: &Totals,
     commas: bool,
     read: Option<CaseTexts<'_>>,
 ) -> Result<Behind, CaseFault> {
@@ -97,7 +153,7 @@ fn behind_totals(
         });
     };
     let case = read.case(alloc)?;
-    let Details { ticks, bodies } = details_of(&case, commas)?;
+    let Details { ticks, bodies } = details_of(&case, totals, commas)?;
     Ok(Behind {
         ticks: Some(ticks),
         bodies,

@@ -1,0 +1,9 @@
+use Rattle.cilk_findings.proofs.Weights.{At}
+use Rattle.cilk_findings.specs.declared.burdened.TheConstants.{BURDEN}
+use Rattle.cilk_findings.proofs.burdened.burdened_span.Given as goal
+
+abbrev pub invariant-loop-place : goal.invariant-loop-place
+invariant-loop-place l = At BURDEN l.tree l.place l.spans
+
+abbrev pub decreases-loop-place : goal.decreases-loop-place
+decreases-loop-place l = l.place

@@ -1,0 +1,127 @@
+//! A critical path of a run: a longest chain of its events.
+
+use cilk_types::event::Event;
+use cilk_types::trace::Trace;
+use std::alloc::{AllocError, Global};
+use std::mem;
+
+/// A chain: its length, and its last event, counted from 0.
+#[derive(Clone, Copy)]
+struct Chain {
+    length: usize,
+    last: usize,
+}
+
+const NO_CHAIN: Chain = Chain { length: 0, last: 0 };
+
+/// A running or waiting frame: the longest chain up to its last event, and up to the ends of the
+/// children that it spawned in its sync block.
+#[derive(Clone, Copy)]
+struct Depth {
+    own: Chain,
+    spawned: Chain,
+    is_spawned: bool,
+}
+
+/// For each event so far the one before it on a longest chain, if there is one.
+#[derive(Drop)]
+struct Chains {
+    before: Vec<usize>,
+    waiting: Vec<Depth>,
+    depth: Depth,
+}
+
+/// Returns the events of a longest chain, in order. Events count from 0. Cost and memory: linear in
+/// the events.
+pub fn critical_path(alloc: Global, trace: &Trace) -> Result<Vec<usize>, AllocError> {
+    let mut chains = Chains {
+        before: Vec::new(alloc),
+        waiting: Vec::new(alloc),
+        depth: Depth {
+            own: NO_CHAIN,
+            spawned: NO_CHAIN,
+            is_spawned: false,
+        },
+    };
+    for event in trace.as_slice() {
+        chains.meet(event)?;
+    }
+    chains.path(alloc)
+}
+
+impl Chains {
+    fn meet(&mut self, event: &Event) -> Result<(), AllocError> {
+        if let Event::Sync = event {
+            self.depth.own = longer(self.depth.own, self.depth.spawned);
+            self.depth.spawned = NO_CHAIN;
+        }
+        self.add()?;
+        match event {
+            Event::Spawn { .. } => self.enter(true),
+            Event::Call { .. } => self.enter(false),
+            Event::End => {
+                self.leave();
+                Ok(())
+            }
+            _ => Ok(()),
+        }
+    }
+
+    // Adds the next event to the frame's chain.
+    fn add(&mut self) -> Result<(), AllocError> {
+        let Chain { length, last } = self.depth.own;
+        let event = self.before.len();
+        self.before.push(last)?;
+        self.depth.own = Chain {
+            length: length.saturating_add(1),
+            last: event,
+        };
+        Ok(())
+    }
+
+    fn enter(&mut self, is_spawned: bool) -> Result<(), AllocError> {
+        let child = Depth {
+            own: self.depth.own,
+            spawned: NO_CHAIN,
+            is_spawned,
+        };
+        let parent = mem::replace(&mut self.depth, child);
+        self.waiting.push(parent)?;
+        Ok(())
+    }
+
+    // Code after a call follows the child; code after a spawn runs beside it.
+    fn leave(&mut self) {
+        let child = self.depth;
+        if let Some(parent) = self.waiting.pop() {
+            self.depth = parent;
+            if child.is_spawned {
+                self.depth.spawned = longer(parent.spawned, child.own);
+            } else {
+                self.depth.own = child.own;
+            }
+        }
+    }
+
+    // The events of the first frame's chain.
+    fn path(&self, alloc: Global) -> Result<Vec<usize>, AllocError> {
+        let Chain { length, last } = self.depth.own;
+        let mut path = Vec::new(alloc);
+        let mut event = last;
+        for _event in 0..length {
+            path.push(event)?;
+            event = self.before.get(event).copied().unwrap_or(0);
+        }
+        path.reverse();
+        Ok(path)
+    }
+}
+
+// The longer chain, or the first.
+fn longer(one: Chain, other: Chain) -> Chain {
+    if other.length > one.length {
+        other
+    } else {
+        one
+    }
+}

@@ -1,0 +1,182 @@
+//! The frames from an event up to the first one, in a report.
+
+use crate::scene::Scene;
+use cilk_messages::sentence::{Part, say};
+use cilk_program::program::Body;
+use cilk_types::event::Event;
+use cilk_types::invocation::Invocation;
+use std::alloc::AllocError;
+
+// The most lines that a report shows of a path.
+const SHOWN: usize = 10;
+
+// A frame writes its arguments among this many of its first events.
+const ARRIVING: usize = 100;
+
+/// Frames of a path, each the caller of the one before, that were invoked at one place.
+#[derive(Clone, Copy)]
+struct Row {
+    first: usize,
+    last: usize,
+    count: usize,
+}
+
+/// Paths from a frame up to `top`, without `top`. Frames above the first one that only halve turns
+/// are left out.
+impl<'a> Scene<'a> {
+    // The next frame of a path.
+    fn next_above(&self, frame: usize, top: Option<usize>) -> Option<usize> {
+        let mut at = frame;
+        for _level in 0..self.run.replay.frames.len() {
+            at = self.above(at)?;
+            if Some(at) == top {
+                return None;
+            }
+            if !self.halves(at) {
+                return Some(at);
+            }
+        }
+        None
+    }
+
+    /// Returns the number of frames of a path.
+    pub fn length(&self, frame: usize, top: Option<usize>) -> usize {
+        let mut at = Some(frame).filter(|frame| Some(*frame) != top);
+        let mut length: usize = 0;
+        for _level in 0..self.run.replay.frames.len() {
+            let Some(frame) = at else {
+                break;
+            };
+            length = length.saturating_add(1);
+            at = self.next_above(frame, top);
+        }
+        length
+    }
+
+    /// Adds a line for each frame of a path: what it runs, and where it was invoked. Frames of a
+    /// recursion, one above the other, share a line.
+    pub fn push_path(
+        &self,
+        report: &mut String,
+        frame: usize,
+        top: Option<usize>,
+    ) -> Result<(), AllocError> {
+        let length = self.length(frame, top);
+        let mut at = frame;
+        let mut passed: usize = 0;
+        for line in 0..length {
+            if passed >= length {
+                break;
+            }
+            if line == SHOWN {
+                let more = say("  and {} frame{} more\n").counted(length.saturating_sub(passed));
+                return self.push(report, &more);
+            }
+            let row = self.row_from(at, top);
+            self.push_row(report, &row)?;
+            passed = passed.saturating_add(row.count);
+            at = self.next_above(row.last, top).unwrap_or(0);
+        }
+        Ok(())
+    }
+
+    // The longest row that begins with a frame.
+    fn row_from(&self, first: usize, top: Option<usize>) -> Row {
+        let mut last = first;
+        let mut count: usize = 1;
+        for _level in 0..self.run.replay.frames.len() {
+            match self.next_above(last, top) {
+                Some(next) if self.are_alike(first, next) => last = next,
+                _ => break,
+            }
+            count = count.saturating_add(1);
+        }
+        Row { first, last, count }
+    }
+
+    // Whether two frames run one function and were invoked at one place.
+    fn are_alike(&self, one: usize, other: usize) -> bool {
+        let (Some(note), Some(next)) = (self.frame(one), self.frame(other)) else {
+            return false;
+        };
+        other != 0 && note.body == next.body && self.invoked_at(one) == self.invoked_at(other)
+    }
+
+    fn push_row(&self, report: &mut String, row: &Row) -> Result<(), AllocError> {
+        let Row { first, last, count } = *row;
+        report.push_str("  in ")?;
+        self.push_frame(report, first)?;
+        if count > 1 && self.words_of(first) > 0 {
+            report.push_str(" to ")?;
+            self.push_frame(report, last)?;
+        }
+        let words = match self.frame(first) {
+            Some(note) if first > 0 && matches!(note.body, Body::Function(_)) => match note.how {
+                Invocation::Call => ", called at {}",
+                Invocation::Spawn => ", spawned at {}",
+            },
+            _ => "",
+        };
+        self.push(report, &say(words).with(self.place(self.invoked_at(first))))?;
+        if count > 1 {
+            self.push(report, &say(" ({} times)").count(count))?;
+        }
+        report.push('\n')
+    }
+
+    /// Adds what a frame runs: a call with its arguments, a turn, or a loop.
+    pub fn push_frame(&self, report: &mut String, frame: usize) -> Result<(), AllocError> {
+        let Some(note) = self.frame(frame) else {
+            return Ok(());
+        };
+        if let Body::Function(number) = note.body {
+            return self.push_call(report, frame, number);
+        }
+        if !self.halves(frame) {
+            self.push(report, &self.turn(frame))?;
+            report.push_str(" of ")?;
+        }
+        let at = match self.case.map.body(note.body) {
+            Some(map) => map.name.at,
+            None => 0,
+        };
+        self.push(report, &say("the `cilk_for` at {}").with(self.place(at)))
+    }
+
+    /// Returns how many numbers the function of a frame is given.
+    pub fn words_of(&self, frame: usize) -> usize {
+        match self.function_at(frame) {
+            Some((_, number)) => match self.case.program.functions.get(number as usize) {
+                Some(function) => function.words as usize,
+                None => 0,
+            },
+            None => 0,
+        }
+    }
+
+    fn push_call(&self, report: &mut String, frame: usize, number: u32) -> Result<(), AllocError> {
+        let name = self.body_name(Body::Function(number));
+        self.push(report, &say("`{}").word(name))?;
+        let words = self.words_of(frame);
+        for place in 0..words {
+            let value = self.argument(frame, place).unwrap_or(0);
+            let form = if place == 0 { "({}" } else { ", {}" };
+            self.push(report, &say(form).with(Part::Number(value)))?;
+        }
+        report.push_str(if words == 0 { "`" } else { ")`" })
+    }
+
+    /// Returns a number that a frame was given, by its place among them from 0.
+    pub fn argument(&self, frame: usize, place: usize) -> Option<i64> {
+        let note = self.frame(frame)?;
+        let wanted = note.cell.saturating_add(place);
+        let events = self.run.trace.as_slice().iter();
+        for event in events.skip(note.begun).take(ARRIVING) {
+            match *event {
+                Event::Write { cell, value } if cell as usize == wanted => return Some(value),
+                _ => {}
+            }
+        }
+        None
+    }
+}

@@ -1,0 +1,52 @@
+//! Files of another kind in place of a program.
+
+// How a file of each kind begins, and what to do with it.
+const KINDS: [(&str, &str); 6] = [
+    (
+        "cilktrace-bin",
+        "this is a trace in the binary form: `recorder/trace2text FILE` makes text of it, which `cilk judge TRACE` reads",
+    ),
+    ("cilktrace ", "this is a trace: `cilk judge TRACE` reads it"),
+    (
+        "cilksites ",
+        "this is a table of sites: `cilk judge TRACE --sites FILE` reads it",
+    ),
+    (
+        "cilkcert ",
+        "this is a certificate: `cilk check PROGRAM CERTIFICATE` reads it, after the text of the program",
+    ),
+    (
+        "run ",
+        "this is a script: `cilk play PROGRAM SCRIPT` reads it, after the text of the program",
+    ),
+    (
+        "\u{7f}ELF",
+        "this is a compiled program, and no text: give the source, in the language of `docs/LANGUAGE.md`; one that `recorder/cilkrec` built writes a trace as it runs, and `cilk judge TRACE` reads that",
+    ),
+];
+
+/// Returns what to do with a text that is no program, if it begins as a file of another kind.
+pub fn other_kind(text: &[u8]) -> Option<&'static str> {
+    for kind in &KINDS {
+        let (front, said) = *kind;
+        if text.starts_with(front.as_bytes()) {
+            return Some(said);
+        }
+    }
+    None
+}
+
+/// A note on a program of C++.
+pub const FOREIGN: &str =
+    "this looks like C++: `recorder/cilkrec` builds such a program as it stands so that it writes a trace, and `cilk judge TRACE` tells of its races (`recorder/README.md`)";
+
+/// Returns whether a text names C++'s library.
+pub fn is_foreign(text: &[u8]) -> bool {
+    for place in 0..text.len() {
+        let rest = text.get(place..).unwrap_or(&[]);
+        if rest.starts_with(b"std::") || rest.starts_with(b"namespace std;") {
+            return true;
+        }
+    }
+    false
+}

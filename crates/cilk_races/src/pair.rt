@@ -1,0 +1,165 @@
+//! The two events of a race, and the frames that they are in.
+
+use crate::beside::{Beside, Change};
+use cilk_findings::scene::Scene;
+use cilk_types::event::{Event, Instance};
+use std::alloc::AllocError;
+
+// The number of a determinacy race.
+const DETERMINACY: u16 = 311;
+
+/// A race as the checker reports it. Events count from 0.
+#[derive(Clone, Copy)]
+pub struct Race {
+    pub number: u16,
+    pub earlier: usize,
+    pub later: usize,
+}
+
+impl Race {
+    /// Returns a race whose events count from 1.
+    pub fn of(number: u16, earlier: u64, later: u64) -> Race {
+        Race {
+            number,
+            earlier: (earlier as usize).saturating_sub(1),
+            later: (later as usize).saturating_sub(1),
+        }
+    }
+
+    /// Returns whether two accesses of a cell race; otherwise a reducer is read or set.
+    pub fn is_of_cell(&self) -> bool {
+        self.number == DETERMINACY
+    }
+}
+
+/// Two events of a run that no schedule has to order, the earlier first, with their frames.
+/// `common` is the nearest frame around both, and `child` its spawned child around the earlier one.
+#[derive(Clone, Copy)]
+pub struct Pair {
+    pub earlier: usize,
+    pub later: usize,
+    pub beside: usize,
+    pub second: usize,
+    pub common: usize,
+    pub child: usize,
+}
+
+/// Returns the pair of a race: its two accesses, or a read or set of a reducer and the nearest
+/// update of it in parallel, if the run has one.
+pub fn pair_of(scene: &Scene<'_>, race: Race) -> Result<Option<Pair>, AllocError> {
+    if race.is_of_cell() {
+        return Ok(of_events(scene, race.earlier, race.later));
+    }
+    let (Some(instance), Some(frame)) = (viewed_at(scene, race.later), scene.frame_of(race.later))
+    else {
+        return Ok(None);
+    };
+    of_view(scene, race.later, frame, instance)
+}
+
+/// Returns the reducer that an event reads or sets.
+pub fn viewed_at(scene: &Scene<'_>, index: usize) -> Option<Instance> {
+    match scene.run.event(index)? {
+        Event::Set { instance, .. } => Some(instance),
+        Event::Value { instance, .. } => Some(instance),
+        _ => None,
+    }
+}
+
+/// Returns the cell that an event reads or writes.
+pub fn cell_at(scene: &Scene<'_>, index: usize) -> Option<usize> {
+    match scene.run.event(index)? {
+        Event::Read { cell, .. } => Some(cell as usize),
+        Event::Write { cell, .. } => Some(cell as usize),
+        _ => None,
+    }
+}
+
+fn of_events(scene: &Scene<'_>, earlier: usize, later: usize) -> Option<Pair> {
+    let beside = scene.frame_of(earlier)?;
+    let second = scene.frame_of(later)?;
+    let common = scene.common(scene.above(beside)?, second);
+    Some(Pair {
+        earlier,
+        later,
+        beside,
+        second,
+        common,
+        child: scene.child_of(common, beside)?,
+    })
+}
+
+// A read or set of a reducer, with the last update before it or the first one after it that runs in
+// parallel.
+fn of_view(
+    scene: &Scene<'_>,
+    at: usize,
+    frame: usize,
+    instance: Instance,
+) -> Result<Option<Pair>, AllocError> {
+    let beside = Beside::of(scene.case.alloc, scene, frame, at)?;
+    if let Some(Change { at: earlier, child }) = beside.changing(scene, instance) {
+        return Ok(with_child(scene, earlier, at, child));
+    }
+    Ok(match beside.changed(scene, instance) {
+        Some(Change { at: later, child }) => with_child(scene, at, later, child),
+        None => None,
+    })
+}
+
+fn with_child(scene: &Scene<'_>, earlier: usize, later: usize, child: usize) -> Option<Pair> {
+    Some(Pair {
+        earlier,
+        later,
+        beside: scene.frame_of(earlier)?,
+        second: scene.frame_of(later)?,
+        common: scene.above(child)?,
+        child,
+    })
+}
+
+impl Pair {
+    /// Returns whether both events are in turns of one loop.
+    pub fn is_in_turns(&self, scene: &Scene<'_>) -> bool {
+        scene.is_of_loop(self.child)
+    }
+
+    /// Returns the byte in the common frame of the later event, or of the invocation on the path to
+    /// it.
+    pub fn leaving(&self, scene: &Scene<'_>) -> usize {
+        match scene.child_of(self.common, self.second) {
+            Some(child) => scene.invoked_at(child),
+            None => byte_of(scene, self.later),
+        }
+    }
+
+    /// Returns the frame of the turn of the common loop that a frame is in.
+    pub fn turn_of(&self, scene: &Scene<'_>, frame: usize) -> usize {
+        let Some(common) = scene.frame(self.common) else {
+            return frame;
+        };
+        let mut at = frame;
+        let mut turn = frame;
+        for _level in 0..scene.run.replay.frames.len() {
+            let Some(note) = scene.frame(at) else {
+                break;
+            };
+            if at == self.common {
+                break;
+            }
+            if note.body == common.body && (at == frame || !scene.halves(at)) {
+                turn = at;
+            }
+            at = note.parent;
+        }
+        turn
+    }
+}
+
+/// Returns the byte of an event. Of a child's result it is the place that invokes the child.
+pub fn byte_of(scene: &Scene<'_>, index: usize) -> usize {
+    if let (true, Some(frame)) = (scene.run.gives_result(index), scene.frame_of(index)) {
+        return scene.invoked_at(frame);
+    }
+    scene.run.replay.place(&scene.case.map, index).unwrap_or(0)
+}
