@@ -14,7 +14,8 @@ NUMBERS = {
 LINE = re.compile(rb"([a-z]+)(?: (0|[1-9]\d*))?(?: (0|[1-9]\d*))?(?: (0|[1-9]\d*))?\n")
 MARKS, KINDS, REDUCERS = ("spawned", "called", "sync", "end"), ("read", "write", "clear"), (
     "create", "update", "value", "retire")  # fmt: skip
-LONGEST, MOST_CELLS, MOST = 64, 4096, 2**32
+LONGEST, MOST_CELLS, MOST, MOST_KINDS = 64, 4096, 2**32, 2**24
+OVER = "a number of 2^32 or more"
 
 
 class Malformed(Exception):
@@ -56,7 +57,7 @@ class Rules:
         elif word == "retire":
             self.alive.discard(event[1])
         if word in NUMBERS and any(n >= MOST for n in event[1:]):
-            raise Malformed(self.position, "a number of 2^32 or more")
+            raise Malformed(self.position, OVER)
 
 
 def text_events(stream):
@@ -110,18 +111,26 @@ class Bytes:
 
 
 def binary_events(stream):
-    """The events of a binary form whose header was read."""
+    """The events of a binary form whose header was read. Each number is judged as it is read."""
     data, kinds, last_cell, position = Bytes(stream), [], 0, 1
+
+    def below(limit, why):
+        number = data.number(position)
+        if number >= limit:
+            raise Malformed(position, why)
+        return number
+
     while True:
         position += 1
         tag = data.number(position)
         while tag == 0:  # a kind of line: kind, count, site, next cell
-            kinds.append([data.number(position) for _ in range(3)] + [last_cell])
-            if kinds[-1][0] >= len(KINDS):
-                raise Malformed(position, "an unknown kind of line")
+            word = below(len(KINDS), "an unknown kind of line")
+            kinds.append([word, *(below(MOST, OVER) for _ in range(2)), last_cell])
+            if len(kinds) > MOST_KINDS:
+                raise Malformed(position, "too many kinds of lines")
             tag = data.number(position)
         if tag == 1:
-            yield ("enter", data.number(position))
+            yield ("enter", below(MOST, OVER))
         elif tag < 6:
             yield (MARKS[tag - 2],)
             if tag == 5 and data.byte() < 0:
@@ -129,20 +138,18 @@ def binary_events(stream):
             if tag == 5:
                 raise Malformed(position + 1, "bytes after the end")
         elif tag == 6:
-            kind, reducer, site = (data.number(position) for _ in range(3))
-            if kind >= len(REDUCERS):
-                raise Malformed(position, "an unknown event of a reducer")
-            yield (REDUCERS[kind], reducer, site)
+            kind = below(len(REDUCERS), "an unknown event of a reducer")
+            yield (REDUCERS[kind], *(below(MOST, OVER) for _ in range(2)))
         elif tag == 7 or tag - 8 >= len(kinds):
             raise Malformed(position, "an undeclared line")
         else:
             kind = kinds[tag - 8]
             moved = data.number(position)
             cell = kind[3] + (moved >> 1 ^ -(moved & 1))
-            count = kind[1] or data.number(position)
-            kind[3], last_cell = cell + count, cell
-            if cell < 0:
+            if not 0 <= cell < MOST:
                 raise Malformed(position, "cells out of range")
+            count = kind[1] or below(MOST, OVER)
+            kind[3], last_cell = cell + count, cell
             yield (KINDS[kind[0]], cell, count) + ((kind[2],) if kind[0] < 2 else ())
 
 

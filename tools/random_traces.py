@@ -1,13 +1,13 @@
 #!/usr/bin/env python3
 """Makes traces by chance, and compares what a program says of them with recorder/tests/oracle.py.
 
-random_traces.py COUNT [--seed N] [--program WORDS] [--jobs N] [--broken SHARE] [--keep FOLDER]
+random_traces.py COUNT [--seed N] [--program WORDS] [--jobs N] [--broken SHARE] [--binary] [--keep FOLDER]
 
 The program is called with the file of a trace as its last word; `./cilk judge` where none is given. It has to answer as
 `cilk judge` does: `race-free`, or `refused 311 P Q` or `refused 312 P Q` with status 4, with both positions of the
 first race. A share of the texts (0.1 if none is given) is broken: cut off, or with a line or byte changed. For those
 `trace 301 at LINE` or `trace 302 at LINE` on the error stream is wanted with status 2, or a verdict where they are
-still traces. A trace that differs is kept in the folder (the present one where none is given). The last line is
+still traces. With --binary traces are written in the binary form. A trace that differs is kept in the folder (the present one where none is given). The last line is
 `N differences`, and the status is 1 if N isn't 0.
 """
 
@@ -120,6 +120,28 @@ def broken(text, chance):
     return b"\n".join(lines + [b""])
 
 
+def binary(text):
+    """A text in the binary form."""
+    out = io.BytesIO()
+    cilktrace.write_binary(cilktrace.events(io.BytesIO(text)), out)
+    return out.getvalue()
+
+
+def broken_binary(data, chance):
+    """A binary form with one thing changed: cut off, or with a byte changed, put in, left out or added."""
+    kind, place = chance.randrange(5), chance.randrange(len(data))
+    if chance.random() < 0.9:
+        place = max(place, min(len(cilktrace.BINARY_HEADER), len(data) - 1))
+    byte = bytes([chance.choice([0, 1, 2, 3, 4, 5, 6, 7, 8, 9, 10, 127, 128, 255, chance.randrange(256)])])
+    if kind == 0:
+        return data[:place]
+    if kind == 1:
+        return data[:place] + byte + data[place + 1 :]
+    if kind == 2:
+        return data[:place] + byte + data[place:]
+    return data + byte if kind == 3 else data[:place] + data[place + 1 :]
+
+
 def expected(text):
     """What is wanted of a trace: standard output, the error stream, the status; or None where a judge may need too much
     memory."""
@@ -133,16 +155,18 @@ def expected(text):
     return ("race-free\n", "", 0) if not pair else (f"refused {REFUSALS[word]} {pair[0]} {pair[1]}\n", "", 4)
 
 
-def compare(program, path, seed, share):
+def compare(words, path, seed):
     """The kind of a trace, and what the program and the oracle say where they differ."""
     chance, text = random.Random(~seed), Writer(seed).text()
-    text = broken(text, chance) if chance.random() < share else text
+    text = binary(text) if words.binary else text
+    if chance.random() < words.broken:
+        text = (broken_binary if words.binary else broken)(text, chance)
     want = expected(text)
     if want is None:
         return "left out: far cells", None, text
     with open(path, "wb") as file:
         file.write(text)
-    done = subprocess.run([*program, path], capture_output=True, text=True, errors="replace", check=False)
+    done = subprocess.run([*words.program.split(), path], capture_output=True, text=True, errors="replace", check=False)
     got = done.stdout, done.stderr, done.returncode
     kind = " ".join((want[0] or want[1]).split()[:2])
     return kind, None if got == want else f"seed {seed}: {got}, expected {want}", text
@@ -154,7 +178,7 @@ def batch(work):
     seen = collections.Counter()
     with tempfile.TemporaryDirectory(prefix="traces-") as room:
         for seed in range(first, end):
-            kind, wrong, text = compare(words.program.split(), f"{room}/trace", seed, words.broken)
+            kind, wrong, text = compare(words, f"{room}/trace", seed)
             seen[kind] += 1
             if wrong:
                 seen["differences"] += 1
@@ -172,6 +196,7 @@ def main():
     known.add_argument("--program", default=f"{TOP}/cilk judge")
     known.add_argument("--jobs", type=int, default=1)
     known.add_argument("--broken", type=float, default=0.1)
+    known.add_argument("--binary", action="store_true")
     known.add_argument("--keep", default=".")
     words = known.parse_args()
     end, seen = words.seed + words.count, collections.Counter()

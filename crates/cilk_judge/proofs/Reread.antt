@@ -1,4 +1,5 @@
--- Lines of a text that comes in pieces: `begun` at its beginning, `refilled` by a pull; `gives_more` says what text a source gives,
+-- Lines of a text that comes in pieces: `begun` at its beginning, `refilled` by a pull, `kept_read` and `reserved` where room is made;
+-- `gives_more` says what text a source gives,
 -- `whole_given`, `fault_given` and `end_given` what is said of it.
 use Rattle.std.proofs.Common.{◌≡◌, ℕ, ◌≤◌, List, [], ◌++◌, take, Option, Some, None, refl, sym, ◌∙◌, ap, arith, append-nil, append_assoc, length-take, length-drop}
 use Rattle.std.specs.Prelude.{IfSome}
@@ -10,10 +11,11 @@ use Rattle.cilk_trace.specs.declared.line.Line.{Line}
 use Rattle.cilk_trace_text.specs.declared.fault.TraceFault.{TraceFault}
 use Rattle.cilk_trace_text.specs.declared.fault.TraceFault.TheVariants as text_faults
 use Rattle.cilk_trace_text.specs.declared.reader.TraceReader.{TraceReader}
-use Rattle.cilk_trace_text.specs.Reading.{Reading, reading_of, stops, whole}
+use Rattle.cilk_trace_text.specs.Forms.{reading_of}
+use Rattle.cilk_trace_text.specs.Reading.{Reading, stops, whole}
 use Rattle.cilk_trace_text.specs.Readers.{ahead, fault_of, returned}
 use Rattle.cilk_trace_text.specs.Texts.{IsTraceText}
-use Rattle.cilk_trace_text.proofs.Wholes.{reads_traces}
+use Rattle.cilk_trace_text.proofs.Forms.{reads_traces}
 use Rattle.cilk_judge.specs.declared.pieces.Pieces.{Pieces}
 use Rattle.cilk_judge.specs.Faults.{told, IsTextFault, IsUnreadAfter}
 use Rattle.cilk_judge.specs.Pieces.{HasRead, IsReading, StopsAt, after_lines, unread}
@@ -57,6 +59,21 @@ refilled known left left' ls old new bytes le same is taken r = record {
     count = ap returned same ∙ r.read.count;
   };
 }
+
+-- room for what is read next
+pub kept_read : (text : List ℕ) (ls : List Line) (old new : Pieces) → unread new ≡ unread old → ((more : List ℕ) → ahead new.reader more ≡ ahead old.reader more)
+    → fault_of new.reader ≡ fault_of old.reader → returned new.reader ≡ returned old.reader → HasRead text ls old → HasRead text ls new
+kept_read text ls old new same law silent count r = record {
+  ahead_is = λ more.
+      r.ahead_is more
+      ∙ (ap (λ (l : List ℕ). after_lines ls (ahead old.reader (l ++ more))) (sym same) ∙ ap (after_lines ls) (sym (law (unread new ++ more))));
+  silent = silent ∙ r.silent;
+  count = count ∙ r.count;
+}
+
+pub reserved : (known left : Option (List ℕ)) (ls : List Line) (old new : Pieces) → ((text : List ℕ) (ks : List Line) → HasRead text ks old → HasRead text ks new)
+    → IsReading known left ls old → IsReading known left ls new
+reserved known left ls old new law r = record { pulled = r.pulled; taken = r.taken; read = law r.pulled ls r.read }
 
 -- ---- a source
 

@@ -9,12 +9,14 @@ use Rattle.cilk_trace.specs.declared.survey.Survey.{Survey}
 use Rattle.cilk_trace.specs.declared.survey.Known.{Known}
 use Rattle.cilk_trace.specs.Surveys.{IsKnownOf, IsSurvey, IsTrace}
 use Rattle.cilk_trace_text.specs.declared.fault.TraceFault.{TraceFault}
-use Rattle.cilk_trace_text.specs.Reading.{Reading, reading_of}
+use Rattle.cilk_trace_text.specs.Forms.{reading_of}
+use Rattle.cilk_trace_text.specs.Reading.{Reading}
 use Rattle.cilk_trace_text.specs.Readers.{ahead}
 use Rattle.cilk_trace_text.specs.Texts.{IsTraceText}
-use Rattle.cilk_trace_text.proofs.Wholes.{reads_traces}
+use Rattle.cilk_trace_text.proofs.Forms.{reads_traces}
 use Rattle.cilk_judge.specs.declared.fault.Unjudged.{Unjudged}
 use Rattle.cilk_judge.specs.declared.fault.Unjudged.TheVariants as faults
+use Rattle.cilk_judge.specs.declared.pieces.Found.{Found}
 use Rattle.cilk_judge.specs.declared.pieces.Pieces.{Pieces}
 use Rattle.cilk_judge.specs.Faults.{again, IsTextFault, IsUnjudged, IsUnjudgedAgain, IsUnreadAfter, IsUnsurveyed, Readings}
 use Rattle.cilk_judge.specs.Pieces.{IsReading, unread}
@@ -66,6 +68,12 @@ survey_given known ls v k s g law =
     (g.0, g.1, record { lines = ls; spells = g.2; known = law ls s (ends_noted ls v.structure g.2.ends s.structure) })
 
 -- ---- the second reading
+
+-- a line that is found, without its number
+pub found_line : (known left : Option (List ℕ)) (ls : List Line) (p : Pieces) (o : Option Found)
+    → IfSome o (λ f. IsReading known left (ls ++ f.line ∷ []) p × (f.number ≡ length ls + 2)) → IfSome o (λ f. IsReading known left (ls ++ f.line ∷ []) p)
+found_line known left ls p None h = tt
+found_line known left ls p (Some f) h = h.0
 
 given_is : (known : Option (List ℕ)) (text all : List ℕ) → known ≡ Some all → IfSome known (λ x. text ≡ x) → text ≡ all
 given_is None text all e g = absurd cc

@@ -3,7 +3,7 @@ use Rattle.std.specs.Prelude.{◌≡◌, ◌⊎◌, ℕ, ◌<◌, List, Option, 
 use Rattle.cilk_trace.specs.declared.line.Line.{Line}
 use Rattle.cilk_trace_text.specs.declared.fault.TraceFault.{TraceFault}
 use Rattle.cilk_trace_text.specs.declared.fault.TraceFault.TheVariants as text_faults
-use Rattle.cilk_trace_text.specs.Reading.{reading_of}
+use Rattle.cilk_trace_text.specs.Forms.{reading_of}
 use Rattle.cilk_judge.specs.declared.fault.Unjudged.{Unjudged}
 use Rattle.cilk_judge.specs.declared.fault.Unjudged.TheVariants as faults
 use Rattle.cilk_judge.specs.TraceTexts.{GivesText, IsMalformedAt, IsTruncatedAt}

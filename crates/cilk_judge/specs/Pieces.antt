@@ -3,7 +3,8 @@ use Rattle.std.specs.Prelude.{◌≡◌, ℕ, List, [], ◌∷◌, ◌++◌, len
 use Rattle.std.specs.Io.KnownBytes.{Consumes}
 use Rattle.cilk_trace.specs.declared.line.Line.{Line}
 use Rattle.cilk_trace_text.specs.declared.fault.TraceFault.{TraceFault}
-use Rattle.cilk_trace_text.specs.Reading.{Reading, reading_of}
+use Rattle.cilk_trace_text.specs.Forms.{reading_of}
+use Rattle.cilk_trace_text.specs.Reading.{Reading}
 use Rattle.cilk_trace_text.specs.Readers.{ahead, fault_of, returned, room_of}
 use Rattle.cilk_judge.specs.declared.pieces.Found.{Found}
 use Rattle.cilk_judge.specs.declared.pieces.Pieces.{Pieces}

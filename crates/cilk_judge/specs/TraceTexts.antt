@@ -6,7 +6,7 @@ use Rattle.cilk_trace.specs.declared.survey.Known.{Known}
 use Rattle.cilk_trace.specs.Surveys.{IsTrace, IsKnownOf}
 use Rattle.cilk_trace.specs.Judging.{IsJudged}
 use Rattle.cilk_trace_text.specs.declared.fault.TraceFault.TheVariants.{Malformed, Truncated}
-use Rattle.cilk_trace_text.specs.Reading.{reading_of}
+use Rattle.cilk_trace_text.specs.Forms.{reading_of}
 use Rattle.cilk_trace_text.specs.Texts.{IsTraceText}
 
 -- some trace begins with these lines

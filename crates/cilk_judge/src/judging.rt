@@ -27,7 +27,7 @@ pub fn survey_text<S: Source>(alloc: Global, source: &mut S) -> Result<Known, Un
     ensures kept { S.kept source.new ≡ S.kept source.old }
 {
     let mut survey = Survey::new(alloc)?;
-    let mut pieces = Pieces::new();
+    let mut pieces = Pieces::new(alloc);
     'lines: while let Some(found) = pieces.next(source)? {
         match survey.meet(&found.line)? {
             Surveyed::Fits => {}
@@ -90,7 +90,7 @@ pub fn judge_text<S: Source>(
     ensures kept { S.kept source.new ≡ S.kept source.old }
 {
     let mut judge = Judge::new(alloc, known)?;
-    let mut pieces = Pieces::new();
+    let mut pieces = Pieces::new(alloc);
     'lines: while let Some(found) = next_again(&mut pieces, source)? {
         match judge.meet(&found.line)? {
             Judged::Fits => {}

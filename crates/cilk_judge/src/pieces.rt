@@ -7,6 +7,7 @@ use cilk_checker::source::{PullFault, Source};
 use cilk_trace::line::Line;
 use cilk_trace_text::fault::TraceFault;
 use cilk_trace_text::reader::TraceReader;
+use std::alloc::{AllocError, Global};
 
 /// The bytes of a pull. Large, since a file is opened anew for each pull.
 const PIECE: usize = 32_768;
@@ -35,17 +36,18 @@ impl Pieces {
     ghost use Rattle.std.specs.Io.KnownBytes.{IsAtEnd};
     ghost use Rattle.cilk_trace.specs.declared.line.Line.{Line};
     ghost use Rattle.cilk_trace_text.specs.declared.fault.TraceFault.{TraceFault};
+    ghost use Rattle.cilk_trace_text.specs.Readers.{HasSlot};
     ghost use Rattle.cilk_trace_text.specs.Texts.{IsTraceText};
     ghost use Rattle.cilk_judge.specs.Faults.{IsUnreadAfter};
     ghost use Rattle.cilk_judge.specs.Pieces.{HasRead, IsReading, StopsAt, line_in, room_in, unread};
     ghost use Rattle.cilk_judge.specs.TraceTexts.{GivesText};
 
     /// Makes the beginning of a text.
-    pub fn new() -> Pieces
+    pub fn new(alloc: Global) -> Pieces
         ensures { (known : Option (List ℕ)) → IsReading known known [] result }
     {
         Pieces {
-            reader: TraceReader::new(),
+            reader: TraceReader::new(alloc),
             buffer: [0; PIECE],
             at: 0,
             end: 0,
@@ -80,9 +82,20 @@ impl Pieces {
         }
     }
 
+    // Makes room for what the next step may keep.
+    fn reserve(&mut self) -> Result<(), AllocError>
+        ensures slot { OnOk result (HasSlot self.new.reader) }
+        ensures read { (text : List ℕ) (ls : List Line) → HasRead text ls self.old → HasRead text ls self.new }
+        ensures piece { (self.new.at ≡ self.old.at) × (self.new.end ≡ self.old.end) }
+        ensures room { room_in self.new ≡ room_in self.old }
+    {
+        self.reader.reserve()
+    }
+
     // Reads on in the piece, up to the end of a line at most.
     fn step(&mut self) -> Result<Option<Found>, TraceFault>
-        requires { self.old.at < self.old.end }
+        requires some { self.old.at < self.old.end }
+        requires slot { HasSlot self.old.reader }
         ensures read { (text : List ℕ) (ls : List Line) → HasRead text ls self.old
             → IfOk result (λ o. HasRead text (ls ++ line_in o) self.new) }
         ensures number { (text : List ℕ) (ls : List Line) → HasRead text ls self.old
@@ -119,6 +132,7 @@ impl Pieces {
                 self.reader.end()?;
                 return Ok(None);
             }
+            self.reserve()?;
             if let Some(found) = self.step()? {
                 return Ok(Some(found));
             }

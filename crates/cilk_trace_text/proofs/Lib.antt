@@ -1,4 +1,7 @@
 pub mod Cuts
+pub mod EventReadings
+pub mod Forms
+pub mod Headers
 pub mod LineWords
 pub mod Numerals
 pub mod Readings

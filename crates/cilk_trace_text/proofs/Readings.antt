@@ -9,7 +9,7 @@ use Rattle.cilk_trace_text.specs.declared.fault.TraceFault.TheVariants.{Malforme
 use Rattle.cilk_trace_text.specs.declared.place.Place.{Place}
 use Rattle.cilk_trace_text.specs.declared.place.Place.TheVariants.{Header, Lines, Over}
 use Rattle.cilk_trace_text.specs.Reading.{TextLines, lines_after, with_front, with_lf, text_lines, HasNoLf, Reading, whole, stops, with_lines, numbered, ending, taken}
-use Rattle.cilk_trace_text.specs.Readers.{reading_lines, rest_of}
+use Rattle.cilk_trace_text.specs.TextReaders.{reading_lines, rest_of}
 
 -- ---- the lines of joined bytes
 
@@ -32,7 +32,7 @@ unfronted b bs [] last h =
 unfronted b bs (l ∷ ls) last h = absurd (some_line (b ∷ l) ls (ap (λ (x : TextLines). x.each) h))
 
 -- bytes without an LF, by the first of them
-split : (t : Bool) (b : ℕ) (bs : List ℕ) (c : TextLines) → cond t (with_lf c) (with_front (b ∷ []) c) ≡ record { each = []; last = b ∷ bs }
+pub split : (t : Bool) (b : ℕ) (bs : List ℕ) (c : TextLines) → cond t (with_lf c) (with_front (b ∷ []) c) ≡ record { each = []; last = b ∷ bs }
     → (t ≡ false) × (c ≡ record { each = []; last = bs })
 split true b bs c h = absurd (some_line [] c.each (ap (λ (x : TextLines). x.each) h))
 split false b bs c h =

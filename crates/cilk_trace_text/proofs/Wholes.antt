@@ -1,4 +1,4 @@
--- A text is read whole exactly where it is a trace's: `reads_traces`.
+-- A text form is read whole exactly where it is a trace's: `text_sound` and `text_again`.
 use Rattle.std.proofs.Common.{◌≡◌, ℕ, ◌+◌, ◌<◌, ◌≤◌, ◌⊎◌, inl, inr, Bool, true, false, cond, ◌&&◌, List, [], ◌∷◌, ◌++◌, length, Option, Some, None, refl, sym, ap, subst, ◌∙◌, eqb, ltb, arith}
 use Rattle.std.specs.Prelude.{codes, option_map}
 use Rattle.std.specs.Str.{bytes_eq}
@@ -11,9 +11,9 @@ use Rattle.cilk_trace_text.specs.declared.fault.TraceFault.TheVariants.{Malforme
 use Rattle.cilk_trace_text.specs.declared.place.Place.{Place}
 use Rattle.cilk_trace_text.specs.declared.place.Place.TheVariants.{Header, Lines, Over}
 use Rattle.cilk_trace_text.specs.Lines.{spelled, line_of}
-use Rattle.cilk_trace_text.specs.Reading.{TextLines, lines_after, with_front, with_lf, text_lines, Reading, stops, with_lines, after_line, line_at, numbered, taken, reading, reading_of}
-use Rattle.cilk_trace_text.specs.Readers.{reading_lines}
-use Rattle.cilk_trace_text.specs.Texts.{lines_text, AreWithin, EndsOnce, IsTraceText, ReadsTraces}
+use Rattle.cilk_trace_text.specs.Reading.{TextLines, lines_after, with_front, with_lf, text_lines, Reading, stops, with_lines, after_line, line_at, numbered, taken, reading, text_reading}
+use Rattle.cilk_trace_text.specs.TextReaders.{reading_lines}
+use Rattle.cilk_trace_text.specs.Texts.{lines_text, AreWithin, EndsOnce, IsText}
 use Rattle.cilk_trace_text.proofs.Readings.{rest_after, line_law}
 use Rattle.cilk_trace_text.proofs.Spellings.{and_right, both, map_some, some_is, cond_none}
 use Rattle.cilk_trace_text.proofs.LineWords.{line_sound, line_again}
@@ -44,14 +44,19 @@ lines_joined (b ∷ bs) = joined_by (eqb b 10) b bs refl (lines_joined bs)
 
 -- ---- a text that is read whole
 
-abbrev read_as : List Line → Reading
+-- the text form of a trace
+pub record IsTextTrace (text : List ℕ) (ls : List Line) : Type 0 where
+  pub form : IsText text ls
+  pub ends : EndsOnce ls
+  pub few : length ls + 1 < 4294967295
+
+abbrev pub read_as : List Line → Reading
 read_as ls = record { lines = ls; fault = None }
 
-no_stop : (f : TraceFault) (ls : List Line) → stops f ≡ read_as ls → ⊥
+pub no_stop : (f : TraceFault) (ls : List Line) → stops f ≡ read_as ls → ⊥
 no_stop f ls e = let q : Some f ≡ None = ap (λ (r : Reading). r.fault) e in cc q
 
-taken_whole : (n : ℕ) (next : Option Line × Place → Reading) (o : Option (Option Line × Place)) (ls : List Line) → taken n next o ≡ read_as ls
-    → (p : Option Line × Place) × (o ≡ Some p) × (next p ≡ read_as ls)
+pub taken_whole : {A : Type 0} (n : ℕ) (next : A → Reading) (o : Option A) (ls : List Line) → taken n next o ≡ read_as ls → (p : A) × (o ≡ Some p) × (next p ≡ read_as ls)
 taken_whole n next None ls e = absurd (no_stop (Malformed n) ls e)
 taken_whole n next (Some p) ls e = (p, refl, e)
 
@@ -73,14 +78,14 @@ over_sound (l ∷ each) n last ls e =
     let t = taken_whole n _ (numbered Over n l) ls e in
     let q : None ≡ Some t.0 = (numbered_sound Over n l t.0 t.1).at in absurd (cc q)
 
-after_end : (x : Line) → (x ≡ lines.End) ⊎ (after_line x ≡ Lines)
+pub after_end : (x : Line) → (x ≡ lines.End) ⊎ (after_line x ≡ Lines)
 after_end lines.End = inl refl
 after_end _ = inr refl
 
 over_lines : Over ≡ Lines → ⊥
 over_lines e = absurd cc
 
-ends_more : (x : Line) (ls : List Line) → after_line x ≡ Lines → EndsOnce ls → EndsOnce (x ∷ ls)
+pub ends_more : (x : Line) (ls : List Line) → after_line x ≡ Lines → EndsOnce ls → EndsOnce (x ∷ ls)
 ends_more lines.End ls e h = absurd (over_lines e)
 ends_more _ ls e h = h
 
@@ -113,7 +118,7 @@ last_sound n l text x ls e d few z y =
       few = omega (arith, few);
     }))
 
-with_line_is : (x : Line) (r : Reading) (ls : List Line) → with_lines (Some x) r ≡ read_as ls → (r ≡ read_as r.lines) × (x ∷ r.lines ≡ ls)
+pub with_line_is : (x : Line) (r : Reading) (ls : List Line) → with_lines (Some x) r ≡ read_as ls → (r ≡ read_as r.lines) × (x ∷ r.lines ≡ ls)
 with_line_is x r ls e =
     let f : r.fault ≡ None = ap (λ (y : Reading). y.fault) e in
     (ap (λ (y : Option TraceFault). record { lines = r.lines; fault = y }) f, ap (λ (y : Reading). y.lines) e)
@@ -145,11 +150,11 @@ header_sound l p e =
     let t = cond_none (bytes_eq l (codes "cilktrace 1")) (Some (None, Lines)) p e in
     ((bytes_eq-Decides l (codes "cilktrace 1")).0 t.0, some_is (None, Lines) p t.1)
 
-whole_sound : (each : List (List ℕ)) (last text : List ℕ) (ls : List Line) → unlines each last ≡ text → reading each Header 1 last ≡ read_as ls → IsTraceText text ls
+whole_sound : (each : List (List ℕ)) (last text : List ℕ) (ls : List Line) → unlines each last ≡ text → reading each Header 1 last ≡ read_as ls → IsTextTrace text ls
 unfolding unlines
 whole_sound [] last text ls is e = by (ltb (length last) 65) e
   where
-    by : (t : Bool) → cond t (stops (Truncated 1)) (stops (Malformed 1)) ≡ read_as ls → IsTraceText text ls
+    by : (t : Bool) → cond t (stops (Truncated 1)) (stops (Malformed 1)) ≡ read_as ls → IsTextTrace text ls
     by true e = absurd (no_stop (Truncated 1) ls e)
     by false e = absurd (no_stop (Malformed 1) ls e)
 whole_sound (l ∷ each) last text ls is e =
@@ -159,8 +164,10 @@ whole_sound (l ∷ each) last text ls is e =
     let s = lines_sound each 2 last ls (ap (λ (p : Option Line × Place). with_lines p.0 (reading each p.1 2 last)) h.1 ∙ t.2) in
     let few = s.few in
     record {
-      spells = sym is ∙ (ap (λ (y : List ℕ). y ++ 10 ∷ unlines each last) h.0 ∙ ap (λ (y : List ℕ). codes "cilktrace 1" ++ 10 ∷ y) s.spells);
-      within = s.within;
+      form = record {
+        spells = sym is ∙ (ap (λ (y : List ℕ). y ++ 10 ∷ unlines each last) h.0 ∙ ap (λ (y : List ℕ). codes "cilktrace 1" ++ 10 ∷ y) s.spells);
+        within = s.within;
+      };
       ends = s.ends;
       few = omega (arith, few);
     }
@@ -196,11 +203,11 @@ lines_again (x ∷ ls) n h e few = line_step n x ls h (omega (arith, few)) ∙ e
       ∙ ap (with_lines (Some x)) (lines_again ls (n + 1) h.1 (ends_less x ls d e) (omega (arith, few)))
 ]
 
-pub reads_traces : ReadsTraces
-reads_traces text ls = (
-  λ e. whole_sound (text_lines text).each (text_lines text).last text ls (lines_joined text) e,
-  λ h. (let few = h.few in
-      ap reading_of h.spells
-      ∙ (line_law Header 1 [] (codes "cilktrace 1") (lines_text ls) refl refl
-      ∙ lines_again ls 2 h.within h.ends (omega (arith, few)))),
-)
+pub text_sound : (text : List ℕ) (ls : List Line) → text_reading text ≡ read_as ls → IsTextTrace text ls
+text_sound text ls e = whole_sound (text_lines text).each (text_lines text).last text ls (lines_joined text) e
+
+pub text_again : (text : List ℕ) (ls : List Line) → IsText text ls → EndsOnce ls → length ls + 1 < 4294967295 → text_reading text ≡ read_as ls
+text_again text ls h ends few =
+    ap text_reading h.spells
+    ∙ (line_law Header 1 [] (codes "cilktrace 1") (lines_text ls) refl refl
+    ∙ lines_again ls 2 h.within ends (omega (arith, few)))

@@ -1,6 +1,12 @@
+pub mod Binary
+pub mod Events
+pub mod EventReaders
+pub mod Forms
 pub mod Lines
+pub mod Numbers
 pub mod Parsing
 pub mod Readers
 pub mod Reading
+pub mod TextReaders
 pub mod Texts
 pub mod Words

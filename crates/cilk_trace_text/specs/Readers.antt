@@ -1,43 +1,58 @@
--- The state of a reader in the middle of a text.
-use Rattle.std.specs.Prelude.{◌≡◌, ℕ, ◌+◌, ◌-◌, ◌*◌, ◌^◌, List, ◌++◌, take, Option, Some, None}
-use Rattle.cilk_trace.specs.declared.line.Line.{Line}
+-- The state of a reader in the middle of a trace.
+use Rattle.std.specs.Prelude.{⊤, ℕ, ◌-◌, ◌^◌, List, ◌++◌, take, Option, None}
 use Rattle.cilk_trace_text.specs.declared.fault.TraceFault.{TraceFault}
-use Rattle.cilk_trace_text.specs.declared.place.Place.{Place}
+use Rattle.cilk_trace_text.specs.declared.reader.Form.{Form}
+use Rattle.cilk_trace_text.specs.declared.reader.Form.TheVariants.{Unknown, Text, Binary}
 use Rattle.cilk_trace_text.specs.declared.reader.TraceReader.{TraceReader}
-use Rattle.cilk_trace_text.specs.Reading.{TextLines, text_lines, Reading, stops, reading}
+use Rattle.cilk_trace_text.specs.EventReaders as events
+use Rattle.cilk_trace_text.specs.Forms.{binary_header, reading_of}
+use Rattle.cilk_trace_text.specs.Reading.{Reading}
+use Rattle.cilk_trace_text.specs.TextReaders as text
+
+abbrev pub fault_by : Form → TraceReader → Option TraceFault
+fault_by Unknown r = None
+fault_by Text r = text.fault_of r.text
+fault_by Binary r = events.fault_of r.events
 
 -- the fault that it has returned
 abbrev pub fault_of : TraceReader → Option TraceFault
-fault_of r = r.fault
+fault_of r = fault_by r.form r
+
+abbrev pub number_by : Form → TraceReader → ℕ
+number_by Unknown r = 1
+number_by Text r = text.line_number r.text
+number_by Binary r = events.line_number r.events
 
 -- the number of the current line
 abbrev pub line_number : TraceReader → ℕ
-line_number r = r.number
+line_number r = number_by r.form r
 
 -- the number of lines that it has returned: those before the current one, without the header
 abbrev pub returned : TraceReader → ℕ
-returned r = r.number - 2
+returned r = line_number r - 2
+
+abbrev pub room_by : Form → TraceReader → ℕ
+room_by Unknown r = 2 ^ 71 - r.matched
+room_by Text r = text.room_of r.text
+room_by Binary r = events.room_of r.events
 
 -- it reads no more bytes than this
 abbrev pub room_of : TraceReader → ℕ
-room_of r = 65 * (2 ^ 32 - r.number) + (64 - r.length)
+room_of r = room_by r.form r
 
--- how many lines a call returned
-abbrev pub count_of : Option Line → ℕ
-count_of None = 0
-count_of (Some line) = 1
+abbrev pub slot_by : Form → TraceReader → Type 0
+slot_by Binary r = events.HasSlot r.events
+slot_by _ r = ⊤
 
-abbrev pub reading_lines : Place → ℕ → TextLines → Reading
-reading_lines place number c = reading c.each place number c.last
+-- there is room for what the next call may keep
+abbrev pub HasSlot : TraceReader → Type 0
+HasSlot r = slot_by r.form r
 
-abbrev pub rest_of : Option TraceFault → Place → ℕ → List ℕ → Reading
-rest_of (Some fault) place number bytes = stops fault
-rest_of None place number bytes = reading_lines place number (text_lines bytes)
+abbrev pub ahead_by : Form → TraceReader → List ℕ → Reading
+ahead_by Unknown r more = reading_of (take r.matched binary_header ++ more)
+ahead_by Text r more = text.ahead r.text more
+ahead_by Binary r more = events.ahead r.events more
 
--- The reading if these bytes follow and then the text ends.
+-- The reading if these bytes follow and then the trace ends.
 abbrev pub ahead : TraceReader → List ℕ → Reading
-ahead r more = rest_of r.fault r.place r.number (take r.length r.bytes ++ more)
-
--- the fault is returned whatever bytes follow
-abbrev pub IsCertain : TraceReader → TraceFault → Type 0
-IsCertain r fault = (more : List ℕ) → ahead r more ≡ stops fault
+ahead r more = ahead_by r.form r more

@@ -70,8 +70,13 @@ ending Over number [] = whole
 ending Over number (b ∷ bs) = stops (Malformed number)
 ending place number bytes = if nat_lt (length bytes) 65 then stops (Truncated number) else stops (Malformed number)
 
+-- how many lines these are
+abbrev pub count_of : Option Line → ℕ
+count_of None = 0
+count_of (Some line) = 1
+
 -- a line that may not be here is malformed
-abbrev pub taken : ℕ → (Option Line × Place → Reading) → Option (Option Line × Place) → Reading
+abbrev pub taken : {A : Type 0} → ℕ → (A → Reading) → Option A → Reading
 taken number next None = stops (Malformed number)
 taken number next (Some p) = next p
 
@@ -81,6 +86,6 @@ reading [] place number last = ending place number last
 reading (l ∷ ls) place number last =
     taken number (λ p. with_lines p.0 (reading ls p.1 (number + 1) last)) (numbered place number l)
 
--- the reading of a text
-abbrev pub reading_of : List ℕ → Reading
-reading_of text = let c = text_lines text in reading c.each Header 1 c.last
+-- the reading of a text form
+abbrev pub text_reading : List ℕ → Reading
+text_reading text = let c = text_lines text in reading c.each Header 1 c.last

@@ -1,9 +1,10 @@
--- The texts of traces, by the grammar: how the lines of a trace are spelled.
-use Rattle.std.specs.Prelude.{⊤, ◌≡◌, ◌↔◌, ℕ, ◌+◌, ◌-◌, ◌<◌, ◌^◌, List, [], ◌∷◌, ◌++◌, length, None, codes}
+-- The texts of traces, by the grammar: how the lines of a trace are spelled in the text form; and the binary form.
+use Rattle.std.specs.Prelude.{⊤, ◌≡◌, ◌⊎◌, ◌↔◌, ℕ, ◌+◌, ◌-◌, ◌<◌, ◌^◌, List, [], ◌∷◌, ◌++◌, length, take, drop, None, codes}
 use Rattle.cilk_trace.specs.declared.line.Line.{Line}
 use Rattle.cilk_trace.specs.declared.line.Line.TheVariants as lines
+use Rattle.cilk_trace_text.specs.Binary.{binary_reading}
+use Rattle.cilk_trace_text.specs.Forms.{binary_header, reading_of}
 use Rattle.cilk_trace_text.specs.Lines.{spelled, IsWithin}
-use Rattle.cilk_trace_text.specs.Reading.{reading_of}
 
 -- each line and an LF
 abbrev pub lines_text : List Line → List ℕ
@@ -25,10 +26,19 @@ EndsOnce (lines.End ∷ []) = ⊤
 EndsOnce (lines.End ∷ (l ∷ ls)) = ⊥
 EndsOnce (_ ∷ ls) = EndsOnce ls
 
--- The text is that of a trace with these lines. The header is line 1.
-pub record IsTraceText (text : List ℕ) (ls : List Line) : Type 0 where
+-- The text is the text form of these lines.
+pub record IsText (text : List ℕ) (ls : List Line) : Type 0 where
   pub spells : text ≡ text_of ls
   pub within : AreWithin ls
+
+-- The text is a binary form of these lines: they are read from the bytes after its header, without a fault.
+pub record IsBinary (text : List ℕ) (ls : List Line) : Type 0 where
+  pub header : take 16 text ≡ binary_header
+  pub reads : binary_reading (drop 16 text) ≡ record { lines = ls; fault = None }
+
+-- The text is that of a trace with these lines, in either form. The header is line 1.
+pub record IsTraceText (text : List ℕ) (ls : List Line) : Type 0 where
+  pub spells : IsText text ls ⊎ IsBinary text ls
   pub ends : EndsOnce ls
   pub few : length ls + 1 < 2 ^ 32 - 1
 

@@ -15,7 +15,7 @@ use cilk_trace::line::{Cells, Line};
 pub(crate) const MAX_CELLS: u32 = 4096;
 
 /// Tells whether these are cells of a line.
-fn are_cells(first: u32, count: u32) -> bool
+pub(crate) fn are_cells(first: u32, count: u32) -> bool
     ensures { result ≡ are_cells first count }
 {
     let last = u64::from(first) + u64::from(count);
@@ -99,7 +99,7 @@ fn line(left: Option<&[u8]>) -> Option<Line>
 }
 
 /// Returns what is due after a line.
-fn after(line: Line) -> Place
+pub(crate) fn after(line: Line) -> Place
     ensures { result ≡ after_line line }
 {
     match line {

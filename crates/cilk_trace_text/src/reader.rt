@@ -1,93 +1,61 @@
-//! Reading a trace's text piece by piece.
+//! Reading a trace piece by piece, in either form.
 
-ghost use Rattle.std.specs.Prelude.{◌≡◌, ◌+◌, ◌<◌, ◌≤◌, ◌^◌, [], ◌∷◌, ◌++◌, length as len_of, take, drop, Some, None, IfSome, IfNone};
-ghost use Rattle.cilk_trace_text.specs.declared.place.Place.TheVariants.{Header, Over};
-ghost use Rattle.cilk_trace_text.specs.Reading.{HasNoLf, numbered};
+ghost use Rattle.std.specs.Prelude.{◌≡◌, ◌<◌};
+ghost use Rattle.cilk_trace_text.specs.declared.reader.Form.TheVariants.{Text, Unknown};
 
+use crate::binary::EventReader;
 use crate::fault::TraceFault;
-use crate::parse::line_at;
-use crate::place::Place;
+use crate::text::TextReader;
 use cilk_trace::line::Line;
+use std::alloc::{AllocError, Global};
 
-/// Most bytes of a line, without its LF.
-pub const MAX_LINE: usize = 64;
+/// The first bytes of a binary form. All else is read as text.
+const BINARY_HEADER: [u8; 16] = *b"cilktrace-bin 1\n";
 
-/// Reads a trace's text in pieces, cut anywhere, and returns its lines one by one. It doesn't
-/// allocate.
-#[derive(Drop, Debug)]
+/// The form of a trace.
+#[derive(Clone, Copy)]
+pub(crate) enum Form {
+    /// It isn't known yet.
+    Unknown,
+    Text,
+    Binary,
+}
+
+/// Reads a trace in pieces, cut anywhere, and returns its lines one by one. It allocates for the
+/// binary form alone: 24 bytes for each kind of line that is declared.
+#[derive(Drop)]
 pub struct TraceReader {
-    place: Place,
-    // The number of the current line.
-    number: u32,
-    // The first `length` bytes are those of the current line so far.
-    bytes: [u8; MAX_LINE],
-    length: usize,
-    fault: Option<TraceFault>,
-    ghost room: { length ≤ 64 },
-    ghost whole: { len_of bytes ≡ 64 },
-    ghost no_lf: { HasNoLf (take length bytes) },
-    ghost at_end: { place ≡ Over → length ≡ 0 },
-    ghost header: { place ≡ Header → number ≡ 1 },
-    ghost later: { (place ≡ Header → ⊥) → 2 ≤ number },
-}
-
-/// Returns the index of the first LF.
-fn end_of_line(piece: &[u8]) -> Option<usize>
-    ensures found { IfSome result (λ at. piece.now ≡ take at piece.now ++ 10 ∷ drop (at + 1) piece.now) }
-    ensures front { IfSome result (λ at. HasNoLf (take at piece.now)) }
-    ensures within { IfSome result (λ at. at < len_of piece.now) }
-    ensures none { IfNone result (HasNoLf piece.now) }
-{
-    for (at, byte) in piece.iter().enumerate() {
-        if *byte == b'\n' {
-            return Some(at);
-        }
-    }
-    None
-}
-
-/// Writes bytes after the first `length`.
-fn append(bytes: &mut [u8; MAX_LINE], length: usize, more: &[u8])
-    requires { length + len_of more.now ≤ 64 }
-    ensures front { take (length + len_of more.now) bytes.new ≡ take length bytes.old ++ more.now }
-    ensures whole { len_of bytes.new ≡ 64 }
-{
-    bytes[length..length + more.len()].copy_from_slice(more);
-}
-
-impl Default for TraceReader {
-    ghost use Rattle.std.specs.Prelude.{ℕ, List};
-    ghost use Rattle.cilk_trace_text.specs.Reading.{reading_of};
-    ghost use Rattle.cilk_trace_text.specs.Readers.{ahead, fault_of};
-
-    // It is at the beginning of a text.
-    ghost is_default = { λ r. ((text : List ℕ) → ahead r text ≡ reading_of text) × (fault_of r ≡ None) };
-
-    fn default() -> Self {
-        TraceReader::new()
-    }
+    alloc: Global,
+    form: Form,
+    // How many bytes of the binary form's header were read.
+    matched: usize,
+    text: TextReader,
+    events: EventReader,
+    ghost begun: { form ≡ Unknown → matched < 16 },
 }
 
 impl TraceReader {
-    ghost use Rattle.std.specs.Prelude.{◌≢◌, ℕ, List, IfErr, IfOk, OnOk, option_map};
+    ghost use Rattle.std.specs.Prelude.{◌≢◌, ◌+◌, ◌≤◌, ℕ, List, [], ◌∷◌, ◌++◌, length as len_of, take, drop, IsTrue, false, Some, None, Err, IfErr, IfOk, IfSome, OnOk};
     ghost use Rattle.cilk_trace_text.specs.declared.fault.TraceFault.{TraceFault};
     ghost use Rattle.cilk_trace_text.specs.declared.fault.TraceFault.TheVariants.{Malformed, Truncated};
-    ghost use Rattle.cilk_trace_text.specs.Reading.{reading_of, stops, whole, with_lines};
-    ghost use Rattle.cilk_trace_text.specs.Readers.{ahead, count_of, fault_of, line_number, returned, room_of, IsCertain};
+    ghost use Rattle.cilk_trace_text.specs.declared.place.Place.TheVariants.{Over};
+    ghost use Rattle.cilk_trace_text.specs.Forms.{binary_header, reading_of};
+    ghost use Rattle.cilk_trace_text.specs.Reading.{count_of, stops, text_reading, whole, with_lines};
+    ghost use Rattle.cilk_trace_text.specs.Readers.{ahead, fault_of, line_number, returned, room_of, HasSlot};
 
-    /// Makes a reader at the beginning of a text.
-    pub fn new() -> Self
+    /// Makes a reader at the beginning of a trace.
+    pub fn new(alloc: Global) -> Self
         ensures text { (text : List ℕ) → ahead result text ≡ reading_of text }
         ensures fault { fault_of result ≡ None }
         ensures number { line_number result ≡ 1 }
         ensures returned { returned result ≡ 0 }
     {
         TraceReader {
-            place: Place::Header,
-            number: 1,
-            bytes: [0; MAX_LINE],
-            length: 0,
-            fault: None,
+            alloc,
+            form: Form::Unknown,
+            matched: 0,
+            text: TextReader::after(b""),
+            events: EventReader::new(alloc),
         }
     }
 
@@ -95,97 +63,96 @@ impl TraceReader {
     pub fn number(&self) -> u32
         ensures { result ≡ line_number self.now }
     {
-        self.number
-    }
-
-    // Ends with the current line as malformed.
-    fn malformed(&mut self) -> TraceFault
-        ensures value { result ≡ Malformed (line_number self.old) }
-        ensures stays { fault_of self.new ≡ Some result }
-    {
-        let line = self.number;
-        let fault = TraceFault::Malformed { line };
-        self.fault = Some(fault);
-        fault
-    }
-
-    // Parses the line that these bytes complete, and returns the place after it.
-    fn line(&self, front: &[u8]) -> Option<(Option<Line>, Place)>
-        requires { self.now.length + len_of front.now ≤ 64 }
-        ensures line { result ≡ numbered self.now.place self.now.number (take self.now.length self.now.bytes ++ front.now) }
-        ensures few { IfSome result (λ r. self.now.number + 1 < 2 ^ 32) }
-    {
-        if self.number == u32::MAX {
-            return None;
+        match self.form {
+            Form::Unknown => 1,
+            Form::Text => self.text.number(),
+            Form::Binary => self.events.number(),
         }
-        if self.length == 0 {
-            return line_at(self.place, front);
-        }
-        let mut bytes = self.bytes;
-        append(&mut bytes, self.length, front);
-        line_at(self.place, &bytes[..self.length + front.len()])
     }
 
-    // Reads the bytes up to the first LF.
-    fn end_line(&mut self, at: usize, piece: &[u8]) -> Result<(usize, Option<Line>), TraceFault>
-        requires within { at < len_of piece.now }
-        requires found { piece.now ≡ take at piece.now ++ 10 ∷ drop (at + 1) piece.now }
-        requires front { HasNoLf (take at piece.now) }
-        requires fault { fault_of self.old ≡ None }
-        requires due { self.old.place ≢ Place.Over }
+    /// Makes room for what the next call of [`TraceReader::next`] may keep. Nothing else changes.
+    pub fn reserve(&mut self) -> Result<(), AllocError>
+        ensures slot { OnOk result (HasSlot self.new) }
+        ensures ahead { (more : List ℕ) → ahead self.new more ≡ ahead self.old more }
+        ensures fault { fault_of self.new ≡ fault_of self.old }
+        ensures number { line_number self.new ≡ line_number self.old }
+        ensures returned { returned self.new ≡ returned self.old }
+        ensures room { room_of self.new ≡ room_of self.old }
+    {
+        match self.form {
+            Form::Binary => self.events.reserve(),
+            Form::Unknown | Form::Text => Ok(()),
+        }
+    }
+
+    // Reads what was read so far as text.
+    fn take_as_text(&mut self)
+        requires { self.old.form ≡ Unknown }
+        ensures ahead { (more : List ℕ) → ahead self.new more ≡ text_reading (take self.old.matched binary_header ++ more) }
+        ensures form { self.new.form ≡ Text }
+        ensures due { self.new.text.place ≢ Over }
+        ensures fault { fault_of self.new ≡ None }
+        ensures number { line_number self.new ≡ 1 }
+        ensures room { room_of self.new ≤ room_of self.old }
+    {
+        self.text = TextReader::after(&BINARY_HEADER[..self.matched]);
+        self.form = Form::Text;
+    }
+
+    // Reads the next byte of the header, if it may be that of a binary form. From the first one on
+    // that isn't, the trace is text.
+    fn matches(&mut self, byte: u8) -> bool
+        requires { self.old.form ≡ Unknown }
+        ensures yes { IsTrue result → (more : List ℕ) → ahead self.old (byte ∷ more) ≡ ahead self.new more }
+        ensures no { result ≡ false → (more : List ℕ) → ahead self.old (byte ∷ more) ≡ ahead self.new (byte ∷ more) }
+        ensures text { result ≡ false → self.new.form ≡ Text }
+        ensures fault { fault_of self.new ≡ None }
+        ensures number { result ≡ false → line_number self.new ≡ 1 }
+        ensures returned { returned self.new ≡ 0 }
+        ensures room { IsTrue result → room_of self.new + 1 ≤ room_of self.old }
+        ensures no_less { room_of self.new ≤ room_of self.old }
+    {
+        if byte != BINARY_HEADER[self.matched] {
+            self.take_as_text();
+            return false;
+        }
+        self.matched += 1;
+        if self.matched == BINARY_HEADER.len() {
+            self.events = EventReader::new(self.alloc);
+            self.form = Form::Binary;
+        }
+        true
+    }
+
+    // Reads bytes where the form isn't known yet.
+    fn begin(&mut self, piece: &[u8]) -> Result<(usize, Option<Line>), TraceFault>
+        requires { self.old.form ≡ Unknown }
         ensures fault { IfErr result (λ fault. (more : List ℕ) → ahead self.old (piece.now ++ more) ≡ stops fault) }
         ensures stays { IfErr result (λ fault. fault_of self.new ≡ Some fault) }
         ensures malformed { IfErr result (λ fault. fault ≡ Malformed (line_number self.old)) }
         ensures line { IfOk result (λ r. (more : List ℕ) → ahead self.old (piece.now ++ more) ≡ with_lines r.1 (ahead self.new (drop r.0 piece.now ++ more))) }
-        ensures taken { IfOk result (λ r. r.0 ≡ at + 1) }
-        ensures number { IfOk result (λ r. line_number self.new ≡ line_number self.old + 1) }
+        ensures taken { IfOk result (λ r. r.0 ≤ len_of piece.now) }
         ensures numbered { IfOk result (λ r. IfSome r.1 (λ _. line_number self.old ≡ returned self.old + 2)) }
         ensures returned { IfOk result (λ r. returned self.new ≡ returned self.old + count_of r.1) }
         ensures room { IfOk result (λ r. room_of self.new + r.0 ≤ room_of self.old) }
+        ensures progress { IfOk result (λ r. r.0 ≡ 0 → piece.now ≡ []) }
         ensures silent { OnOk result (fault_of self.new ≡ None) }
     {
-        if at > MAX_LINE - self.length {
-            return Err(self.malformed());
+        if piece.is_empty() {
+            return Ok((0, None));
         }
-        match self.line(&piece[..at]) {
-            None => Err(self.malformed()),
-            Some((line, place)) => {
-                self.place = place;
-                self.number += 1;
-                self.length = 0;
-                Ok((at + 1, line))
-            }
+        if self.matches(piece[0]) {
+            return Ok((1, None));
         }
-    }
-
-    // Reads bytes without an LF.
-    fn go_on(&mut self, piece: &[u8]) -> Result<(usize, Option<Line>), TraceFault>
-        requires none { HasNoLf piece.now }
-        requires fault { fault_of self.old ≡ None }
-        requires due { self.old.place ≢ Place.Over }
-        ensures fault { IfErr result (λ fault. (more : List ℕ) → ahead self.old (piece.now ++ more) ≡ stops fault) }
-        ensures stays { IfErr result (λ fault. fault_of self.new ≡ Some fault) }
-        ensures malformed { IfErr result (λ fault. fault ≡ Malformed (line_number self.old)) }
-        ensures line { IfOk result (λ r. (more : List ℕ) → ahead self.old (piece.now ++ more) ≡ with_lines r.1 (ahead self.new (drop r.0 piece.now ++ more))) }
-        ensures none { IfOk result (λ r. r.1 ≡ None) }
-        ensures taken { IfOk result (λ r. r.0 ≡ len_of piece.now) }
-        ensures number { IfOk result (λ r. line_number self.new ≡ line_number self.old) }
-        ensures room { IfOk result (λ r. room_of self.new + r.0 ≤ room_of self.old) }
-        ensures silent { OnOk result (fault_of self.new ≡ None) }
-    {
-        if piece.len() > MAX_LINE - self.length {
-            return Err(self.malformed());
-        }
-        append(&mut self.bytes, self.length, piece);
-        self.length += piece.len();
-        Ok((piece.len(), None))
+        self.text.next(piece)
     }
 
     /// Reads bytes from the front of the piece, up to the end of a line at most. It returns the
-    /// number of bytes read, and the line if one is complete; the header gives none. The line's
-    /// number is that of the current line before the call. A fault is returned as soon as a byte or
-    /// the length of a line shows it, and again by each later call.
+    /// number of bytes read, and the line if one is complete; the header and a declaration give
+    /// none. The line's number is that of the current line before the call. A fault is returned as
+    /// soon as a byte, a number or the length of a line shows it, and again by each later call.
     pub fn next(&mut self, piece: &[u8]) -> Result<(usize, Option<Line>), TraceFault>
+        requires slot { HasSlot self.old }
         ensures fault { IfErr result (λ fault. (more : List ℕ) → ahead self.old (piece.now ++ more) ≡ stops fault) }
         ensures stays { IfErr result (λ fault. fault_of self.new ≡ Some fault) }
         ensures same { (fault : TraceFault) → fault_of self.old ≡ Some fault → result ≡ Err fault }
@@ -198,22 +165,14 @@ impl TraceReader {
         ensures progress { IfOk result (λ r. r.0 ≡ 0 → piece.now ≡ []) }
         ensures silent { OnOk result (fault_of self.new ≡ None) }
     {
-        if let Some(fault) = self.fault {
-            return Err(fault);
-        }
-        if piece.is_empty() {
-            return Ok((0, None));
-        }
-        if self.place.is_over() {
-            return Err(self.malformed());
-        }
-        match end_of_line(piece) {
-            Some(at) => self.end_line(at, piece),
-            None => self.go_on(piece),
+        match self.form {
+            Form::Unknown => self.begin(piece),
+            Form::Text => self.text.next(piece),
+            Form::Binary => self.events.next(piece),
         }
     }
 
-    /// Ends the text. If it isn't complete, a fault is returned, and again by each later call.
+    /// Ends the trace. If it isn't complete, a fault is returned, and again by each later call.
     pub fn end(&mut self) -> Result<(), TraceFault>
         ensures whole { OnOk result ((ahead self.old [] ≡ whole) × (self.new ≡ self.old)) }
         ensures fault { IfErr result (λ fault. ahead self.old [] ≡ stops fault) }
@@ -221,15 +180,13 @@ impl TraceReader {
         ensures same { (fault : TraceFault) → fault_of self.old ≡ Some fault → result ≡ Err fault }
         ensures truncated { IfErr result (λ fault. fault_of self.old ≡ None → fault ≡ Truncated (line_number self.old)) }
     {
-        if let Some(fault) = self.fault {
-            return Err(fault);
+        match self.form {
+            Form::Unknown => {
+                self.take_as_text();
+                Err(self.text.truncated())
+            }
+            Form::Text => self.text.end(),
+            Form::Binary => self.events.end(),
         }
-        if self.place.is_over() {
-            return Ok(());
-        }
-        let line = self.number;
-        let fault = TraceFault::Truncated { line };
-        self.fault = Some(fault);
-        Err(fault)
     }
 }

@@ -1,5 +1,8 @@
-use Rattle.cilk_judge.proofs.Surveyed.{again_fault}
+use Rattle.cilk_judge.proofs.Surveyed.{again_fault, found_line}
 use Rattle.cilk_judge.proofs.judging.next_again.Goals as goal
+
+pub returns-in-Ok-clause-line : goal.returns-in-Ok-clause-line
+returns-in-Ok-clause-line g c = λ known ls r. found_line known (g.S.Source.remaining c.next.new.source) ls c.next.new.self c.in-Ok.found (c.in-Ok.ensures.line known ls r)
 
 pub returns-in-Err-clause-fault : goal.returns-in-Err-clause-fault
 returns-in-Err-clause-fault g c = λ known text all ls t r.

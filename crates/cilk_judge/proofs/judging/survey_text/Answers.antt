@@ -1,4 +1,4 @@
-use Rattle.std.proofs.Common.{ℕ, [], ◌∷◌, ◌++◌, ◌+◌, ◌≡◌, length, Option, subst, ◌∙◌}
+use Rattle.std.proofs.Common.{ℕ, [], ◌∷◌, ◌++◌, ◌+◌, ◌≡◌, length, Option, refl, subst, ◌∙◌}
 use Rattle.std.specs.Prelude.{IfNone, IfSome}
 use Rattle.std.proofs.lemmas.Result.{err_from_is_err_and}
 use Rattle.cilk_trace_text.specs.Texts.{IsTraceText}
@@ -8,6 +8,9 @@ use Rattle.cilk_judge.specs.Pieces.{IsReading}
 use Rattle.cilk_judge.specs.TraceTexts.{GivesText}
 use Rattle.cilk_judge.proofs.Surveyed.{unsurveyed, misplaced_given, survey_given}
 use Rattle.cilk_judge.proofs.judging.survey_text.Goals as goal
+
+pub lines-init : goal.lines-init
+lines-init g c = ([], c.new-pieces.ensures (g.S.Source.remaining c.args.source.now), c.in_ok-survey.ensures, refl, refl, refl)
 
 pub returns-in_err-found-clause-fault : goal.returns-in_err-found-clause-fault
 returns-in_err-found-clause-fault g c =

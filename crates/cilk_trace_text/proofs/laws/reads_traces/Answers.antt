@@ -1,4 +1,4 @@
-use Rattle.cilk_trace_text.proofs.Wholes.{reads_traces}
+use Rattle.cilk_trace_text.proofs.Forms.{reads_traces}
 use Rattle.cilk_trace_text.proofs.laws.reads_traces.Goals as goal
 
 pub returns : goal.returns

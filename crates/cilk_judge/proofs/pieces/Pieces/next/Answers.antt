@@ -7,7 +7,7 @@ use Rattle.cilk_trace_text.specs.declared.reader.TraceReader.{TraceReader}
 use Rattle.cilk_judge.specs.declared.pieces.Found.{Found}
 use Rattle.cilk_judge.specs.Faults.{IsUnreadAfter}
 use Rattle.cilk_judge.specs.Pieces.{HasRead, line_in}
-use Rattle.cilk_judge.proofs.Reread.{whole_given, end_given, fault_given}
+use Rattle.cilk_judge.proofs.Reread.{whole_given, end_given, fault_given, reserved}
 use Rattle.cilk_judge.proofs.pieces.Pieces.next.Goals as goal
 
 pub returns-in_err-fill-clause-fault : goal.returns-in_err-fill-clause-fault
@@ -34,12 +34,14 @@ returns-then-not-branch-clause-whole g c = λ known ls r.
 pub returns-in_err-found-clause-fault : goal.returns-in_err-found-clause-fault
 returns-in_err-found-clause-fault g c = λ known ls r.
     let p = err_from_is_err_and c.from_residual-in_err-found.result c.from_residual-in_err-found.ensures.1 in
-    rw (p.1, p.2) (fault_given known (g.S.Source.remaining c.fill.new.source) ls c.fill.new.self c.in_err-found.field-0.0 _ _ c.in_err-found.ensures.fault
-    (c.in_ok-fill.ensures.reading known ls (c.steps.invariant.0 known ls r)))
+    rw (p.1, p.2) (fault_given known (g.S.Source.remaining c.fill.new.source) ls c.reserve.new.self c.in_err-found.field-0.0 _ _ c.in_err-found.ensures.fault
+    (reserved known (g.S.Source.remaining c.fill.new.source) ls c.fill.new.self c.reserve.new.self c.reserve.ensures.read
+    (c.in_ok-fill.ensures.reading known ls (c.steps.invariant.0 known ls r))))
 
 pub returns-in-Some-clause-line : goal.returns-in-Some-clause-line
 returns-in-Some-clause-line g c = λ known ls r.
-    let h = c.in_ok-fill.ensures.reading known ls (c.steps.invariant.0 known ls r) in (
+    let h = reserved known (g.S.Source.remaining c.fill.new.source) ls c.fill.new.self c.reserve.new.self c.reserve.ensures.read
+    (c.in_ok-fill.ensures.reading known ls (c.steps.invariant.0 known ls r)) in (
       record {
         pulled = h.pulled;
         taken = h.taken;
@@ -53,14 +55,16 @@ steps-preserved g c =
     let i = c.steps.invariant in
     let before = i.1 in
     let less = c.in_ok-found.ensures.room in
-    let same = ap (λ (x : TraceReader). room_of x) c.in_ok-fill.ensures.reader in (
-      (λ known ls r. let h = c.in_ok-fill.ensures.reading known ls (i.0 known ls r) in record {
-        pulled = h.pulled;
-        taken = h.taken;
-        read = subst (λ (l : List Line). HasRead h.pulled l c.step.new.self) (append-nil ls)
-            (subst (λ (o : Option Found). HasRead h.pulled (ls ++ line_in o) c.step.new.self) c.in_default.is (c.in_ok-found.ensures.read h.pulled ls h.read));
-      }),
-      omega (arith, before, less, same),
+    let same = ap (λ (x : TraceReader). room_of x) c.in_ok-fill.ensures.reader in
+    let kept = c.reserve.ensures.room in (
+      (λ known ls r. let h = reserved known (g.S.Source.remaining c.fill.new.source) ls c.fill.new.self c.reserve.new.self c.reserve.ensures.read
+          (c.in_ok-fill.ensures.reading known ls (i.0 known ls r)) in record {
+            pulled = h.pulled;
+            taken = h.taken;
+            read = subst (λ (l : List Line). HasRead h.pulled l c.step.new.self) (append-nil ls)
+                (subst (λ (o : Option Found). HasRead h.pulled (ls ++ line_in o) c.step.new.self) c.in_default.is (c.in_ok-found.ensures.read h.pulled ls h.read));
+          }),
+      omega (arith, before, less, same, kept),
       c.in_ok-fill.ensures.uncounted ∙ i.2,
       c.fill.ensures.lender ∙ i.3,
       c.fill.ensures.kept ∙ i.4,

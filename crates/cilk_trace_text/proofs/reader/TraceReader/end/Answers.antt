@@ -1,15 +1,7 @@
-use Rattle.std.proofs.Common.{refl}
-use Rattle.cilk_trace_text.proofs.Readings.{end_whole, end_truncated}
+use Rattle.cilk_trace_text.proofs.Headers.{cut_in_header}
 use Rattle.cilk_trace_text.proofs.reader.TraceReader.end.Goals as goal
 
-pub returns-then-is_over-clause-whole : goal.returns-then-is_over-clause-whole
-returns-then-is_over-clause-whole c =
-    let due = c.is_over.ensures.yes c.if-is_over.true in (
-      end_whole c.args.self.now.fault c.args.self.now.place c.args.self.now.number c.args.self.now.length c.args.self.now.bytes c.in_default.is due (c.args.self.now.at_end due),
-      refl,
-    )
-
-pub returns-clause-fault : goal.returns-clause-fault
-returns-clause-fault c =
-    end_truncated c.args.self.now.fault c.args.self.now.place c.args.self.now.number c.args.self.now.number c.args.self.now.length c.args.self.now.bytes
-    c.in_default.is (c.is_over.ensures.no c.if-is_over.false) c.args.self.now.no_lf c.args.self.now.room refl
+pub returns-in-Unknown-clause-fault : goal.returns-in-Unknown-clause-fault
+returns-in-Unknown-clause-fault c =
+    cut_in_header c.args.self.now c.take_as_text.new.self c.truncated.result c.in-Unknown.is (c.args.self.now.begun c.in-Unknown.is) c.take_as_text.ensures.form
+    c.take_as_text.ensures.ahead c.truncated.ensures.ahead

@@ -1,6 +1,6 @@
 use Rattle.std.proofs.Common.{take}
 use Rattle.cilk_trace_text.proofs.Readings.{line_endless, no_lf_append}
-use Rattle.cilk_trace_text.proofs.reader.TraceReader.go_on.Goals as goal
+use Rattle.cilk_trace_text.proofs.text.TextReader.go_on.Goals as goal
 
 pub returns-then-piece-self-clause-fault : goal.returns-then-piece-self-clause-fault
 returns-then-piece-self-clause-fault c = λ more.

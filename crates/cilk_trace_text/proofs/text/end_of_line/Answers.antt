@@ -2,7 +2,7 @@ use Rattle.std.proofs.Common.{subst}
 use Rattle.std.proofs.lemmas.List.{take_all}
 use Rattle.cilk_trace_text.specs.Reading.{HasNoLf}
 use Rattle.cilk_trace_text.proofs.Readings.{no_lf_next}
-use Rattle.cilk_trace_text.proofs.reader.end_of_line.Goals as goal
+use Rattle.cilk_trace_text.proofs.text.end_of_line.Goals as goal
 
 pub loop-at-preserved : goal.loop-at-preserved
 loop-at-preserved c = no_lf_next c.loop-at.at c.args.piece.now c.loop-at-test.true c.if-byte-eq10.false c.loop-at.invariant

@@ -1,6 +1,6 @@
 use Rattle.std.proofs.Common.{◌+◌, refl}
 use Rattle.cilk_trace_text.proofs.Readings.{line_refused, line_taken, line_long}
-use Rattle.cilk_trace_text.proofs.reader.TraceReader.end_line.Goals as goal
+use Rattle.cilk_trace_text.proofs.text.TextReader.end_line.Goals as goal
 
 pub returns-then-at-self-clause-fault : goal.returns-then-at-self-clause-fault
 returns-then-at-self-clause-fault c = λ more.

@@ -1,5 +1,5 @@
 use Rattle.cilk_trace_text.proofs.Readings.{over}
-use Rattle.cilk_trace_text.proofs.reader.TraceReader.next.Goals as goal
+use Rattle.cilk_trace_text.proofs.text.TextReader.next.Goals as goal
 
 pub returns-then-is_over-clause-fault : goal.returns-then-is_over-clause-fault
 returns-then-is_over-clause-fault c = λ more.
