@@ -11,6 +11,7 @@
 //! | [`serve`] | the status; [`serve_and_tell`] also returns whether standard error was written |
 //! | [`carry_out`] | the answer to one order, not yet shown |
 //! | [`given`] | a program and its input, read and judged |
+//! | [`settle`] | the answer to an order to settle a program |
 //! | [`disk::Disk`] | the files of the system |
 //! | [`parts::PartSource`] | a file as a source of a certificate's or a trace's text |
 //! | [`reply::Answer`], [`reply::Failure`] | the replies, with their texts and statuses |
@@ -44,5 +45,5 @@ mod serving;
 pub mod streams;
 
 pub use programs::{input, names, stopped};
-pub use running::{given, read_file, refused};
+pub use running::{given, read_file, refused, settle};
 pub use serving::{Served, carry_out, complain, serve, serve_and_tell, show, tell};

@@ -159,6 +159,7 @@ pub fn settle<'a, F: Files, R: Read>(
         program.entry.now (option_map (λ p. p.now) input.entry) (answer_view a)) }
     ensures failure { IfErr result (λ e. SettleReply (world (F.holds files.old) (R.remaining reader.old) (F.failed files.old) (F.failed files.new))
         program.entry.now (option_map (λ p. p.now) input.entry) (failure_view e)) }
+    ensures same { (p : List ℕ) → F.holds files.new p ≡ F.holds files.old p }
     ensures untouched { reader.new ≡ reader.old }
     ensures most { TakesAtMost MAX_READ (R.remaining reader.old) (R.remaining reader.new) }
 {

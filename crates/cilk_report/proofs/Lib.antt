@@ -1,3 +1,4 @@
+pub mod Batches
 pub mod Formed
 pub mod Measuring
 pub mod Plain

@@ -1,5 +1,6 @@
 -- The replies of `measure`.
 --
+-- - `complains`: a reply is told on standard error alone;
 -- - `fails`: there are no totals, and the reply says why;
 -- - `starved`: out of memory;
 -- - `unnamed`: the words name no run;
@@ -38,7 +39,7 @@ no_outcome (failures.Trace number at) = tt
 no_outcome (failures.Changed name) = tt
 no_outcome failures.Memory = tt
 
-complains : (r wanted : Reply) (status status' : ℕ) (told : Bool) (o e m e' : Option Text) → r ≡ wanted → status ≡ status_of r → ShowsError r told e m
+pub complains : (r wanted : Reply) (status status' : ℕ) (told : Bool) (o e m e' : Option Text) → r ≡ wanted → status ≡ status_of r → ShowsError r told e m
     → Follows status' m e' → status' ≡ status → Complains wanted status' o o e e'
 complains r wanted status status' told o e m e' is s shown behind same =
     (refl, same ∙ s ∙ ap status_of is, m, told, subst (λ (x : Reply). ShowsError x told e m) is shown, behind)

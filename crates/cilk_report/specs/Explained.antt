@@ -1,6 +1,6 @@
 -- The replies of `serve_explained` to command lines that `serve` doesn't have, and its
 -- explanations.
-use Rattle.std.specs.Prelude.{◌≡◌, ◌⊎◌, ◌<◌, ◌==◌, ◌&&◌, ◌||◌, ℕ, Bool, true, false, not, List, [], ◌∷◌, length, filter, Option, Some, None, codes}
+use Rattle.std.specs.Prelude.{◌≡◌, ◌⊎◌, ◌<◌, ◌&&◌, ◌||◌, ℕ, Bool, true, false, not, List, [], ◌∷◌, length, filter, Option, Some, None, codes}
 use Rattle.std.specs.Str.{bytes_eq}
 use Rattle.std.specs.Io.KnownBytes.{Appends}
 use Rattle.cilk_findings.specs.declared.totals.Totals.{Totals}
@@ -11,7 +11,8 @@ use Rattle.cilk_commands.specs.Streams.{AppendsFront, AppendsPart}
 use Rattle.cilk_commands.specs.declared.reply.TheConstants.{NO_MEMORY}
 use Rattle.cilk_messages.specs.Words.{Judge, Origin, Requested, Settle, order_in}
 use Rattle.cilk_report.specs.Measured.{AreTotalsOf, IsMeasureText, is_drawn}
-use Rattle.cilk_report.specs.Words.{behind_first, is_help as asks_help, is_measure, measured_run}
+use Rattle.cilk_report.specs.Settling.{Batch, SettlesEach, batch_in, is_settling, state}
+use Rattle.cilk_report.specs.Words.{behind_first, is_help as asks_help, is_measure, is_option, measured_run}
 use Rattle.cilk_report.specs.declared.about.About.{About as AboutAnswer}
 use Rattle.cilk_report.specs.declared.about.About.TheVariants as answers
 
@@ -39,11 +40,6 @@ IsReadAgain _ _ = ⊥
 -- the words without each `--explain`
 abbrev pub unflagged : List Text → List Text
 unflagged words = filter (λ w. not (is_flag w)) words
-
--- a word that begins with `-`
-abbrev pub is_option : Text → Bool
-is_option [] = false
-is_option (first ∷ bytes) = first == 45
 
 -- a word that requests help
 abbrev pub is_help : Text → Bool
@@ -145,6 +141,19 @@ pub data Measures (words : List Text) (files : Text → Option Text) (input : Op
   -- out of memory
   OutOfMemory : Complains NoMemory status out out' err err' → Measures words files input failed failed' status out out' err err'
 
+-- The replies of `settle` for several programs, or in a short form.
+pub data Settles (words : List Text) (files : Text → Option Text) (input : Option Text) (failed failed' : Failures)
+    (status : ℕ) (out out' err err' : Option Text) : Type 0 where
+  -- the words name programs, which are settled in order
+  SettledEach : (b : Batch) → batch_in words ≡ Some b
+      → SettlesEach b.form files input b.input b.programs (state 0 failed out err) (state status failed' out' err')
+      → Settles words files input failed failed' status out out' err err'
+  -- the words don't name programs
+  NoPrograms : (r : Reply) → batch_in words ≡ None → WordsFail r → Complains r status out out' err err'
+      → Settles words files input failed failed' status out out' err err'
+  -- out of memory
+  NoRoom : Complains NoMemory status out out' err err' → Settles words files input failed failed' status out out' err err'
+
 -- the first word is `schedule`, and more follows than one request for help
 abbrev pub is_schedule : List Text → Bool
 is_schedule [] = false
@@ -189,6 +198,9 @@ pub data ServesExplained (words : List Text) (files : Text → Option Text) (inp
       → ServesExplained words files input failed failed' status out out' err err'
   -- the words aren't a command line of `serve` and request a schedule
   Scheduling : order_in words ≡ None → is_schedule words ≡ true → Schedules (words_of_check words) files input failed failed' status out out' err err'
+      → ServesExplained words files input failed failed' status out out' err err'
+  -- the words aren't a command line of `serve` and settle several programs, or use a short form
+  SettlingEach : order_in words ≡ None → is_settling words ≡ true → Settles words files input failed failed' status out out' err err'
       → ServesExplained words files input failed failed' status out out' err err'
   -- the words are about the tool itself: a text about it
   About : order_in words ≡ None → is_about words ≡ true → WritesAbout status out out' err err'

@@ -1,4 +1,5 @@
 pub mod Explained
 pub mod Measured
+pub mod Settling
 pub mod Table
 pub mod Words

@@ -1,5 +1,5 @@
--- The command line of `measure`.
-use Rattle.std.specs.Prelude.{Bool, false, ◌&&◌, ◌||◌, not, List, [], ◌∷◌, filter, Option, Some, None, codes}
+-- The command line of `measure`, and words of all commands.
+use Rattle.std.specs.Prelude.{Bool, false, ◌==◌, ◌&&◌, ◌||◌, not, List, [], ◌∷◌, filter, Option, Some, None, codes}
 use Rattle.std.specs.Str.{bytes_eq}
 use Rattle.cilk_commands.specs.Replies.{Text}
 use Rattle.cilk_messages.specs.Words.{Origin, Requested, Run, order_in}
@@ -14,6 +14,11 @@ is_help (word ∷ other ∷ words) = false
 abbrev pub is_measure : List Text → Bool
 is_measure [] = false
 is_measure (word ∷ words) = bytes_eq word (codes "measure") && not (is_help words)
+
+-- a word that begins with `-`
+abbrev pub is_option : Text → Bool
+is_option [] = false
+is_option (first ∷ bytes) = first == 45
 
 -- this word is among the words
 abbrev pub asks : Text → List Text → Bool

@@ -1,7 +1,8 @@
 //! Answers about the tool itself: its help, the meaning of a number, and the version.
 
 ghost use Rattle.std.specs.Prelude.{◌≡◌, IfOk};
-ghost use Rattle.cilk_report.specs.Explained.{IsAnswer, IsAskedFor, is_about, is_command, is_help, is_option, is_question, is_question_on};
+ghost use Rattle.cilk_report.specs.Explained.{IsAnswer, IsAskedFor, is_about, is_command, is_help, is_question, is_question_on};
+ghost use Rattle.cilk_report.specs.Words.{is_option};
 ghost use Rattle.cilk_messages.specs.Words.{texts};
 
 use crate::help::{HELP, VERSION, help_on};
@@ -21,7 +22,7 @@ pub enum About {
 }
 
 /// Returns whether a word begins with `-`.
-fn is_option(word: &str) -> bool
+pub fn is_option(word: &str) -> bool
     ensures { result ≡ is_option word.now }
 {
     match word.as_bytes() {

@@ -62,7 +62,7 @@ impl Accesses {
             alloc,
             earlier,
             later,
-            reader: TraceReader::new(),
+            reader: TraceReader::new(alloc),
             open: Vec::new(alloc),
             children: 0,
             fewest: 0,
@@ -149,6 +149,7 @@ impl Seeks for Accesses {
                 break;
             }
             let number = self.reader.number();
+            self.reader.reserve()?;
             match self.reader.next(rest) {
                 Ok((taken, line)) => {
                     rest = &rest[taken..];

@@ -17,7 +17,7 @@ recorded runs of C and C++ programs.
 Usage: cilk COMMAND ARGUMENTS.. [OPTIONS]
 
 All commands:
-  settle PROGRAM              run the program serially, and tell whether it races: if not, `settled` and the outcome
+  settle PROGRAM..            run each program serially, and tell whether it races: if not, `settled` and the outcome
                               of every schedule; or the first race, where it is, why, and what to write instead
   run PROGRAM                 run the program serially; show the numbers that it prints, its global reducers, its result
   certify PROGRAM             make that run and write its certificate: a list of its events, frames and strands
@@ -41,12 +41,17 @@ Arguments:
   PROGRAM         a file with a program text, of at most 262,144 bytes
   CERTIFICATE     a certificate, such as `certify` writes, of at most 268,435,456 bytes
   SCRIPT          a file with a script, of at most 1,048,576 bytes (docs/SCRIPTS.md)
-  TRACE           a trace in its text form, of at most 268,435,456 bytes; a program made by recorder/cilkrec writes it
+  TRACE           a trace, as text or binary, of at most 268,435,456 bytes; a program made by recorder/cilkrec writes it
 
 Options of settle, run, certify, check, threads, play, schedule and measure:
   --input FILE    the numbers for `input(k)`, at most 65,536, separated by blanks; without this option there are none
   --explain       after a refusal, say on standard error at which line and column it is, why, and what to write instead;
                   `settle` does so without it
+
+Options of settle:
+  --short, --json
+                  a line for each program: its name and the first line of the answer, or a JSON object with its name, the
+                  status and the whole answer
 
 Options of judge:
   --sites FILE    after a refusal, say on standard error at which files, lines and functions the accesses are, by the
@@ -127,9 +132,9 @@ const WORKERS: &str = "  --workers N     the number of workers, 1 to 64; 2 witho
 
 const SETTLE: Page = Page {
     head: "\
-Run a program serially, and tell whether it races: if not, no schedule changes what it leaves
+Run programs serially, and tell of each whether it races: if not, no schedule changes what it leaves
 
-Usage: cilk settle PROGRAM [--input FILE]
+Usage: cilk settle PROGRAM.. [--input FILE] [--short | --json]
 
 The answer is one of
   settled         and the lines that `run` shows: every parallel run on this input that ends leaves the same
@@ -137,9 +142,15 @@ The answer is one of
   fault N at P    on standard error: the run stops by a fault in place of event P; status 3
 or what `run` writes for a wrong program or input.
 An explanation follows on standard error: at which lines and columns it is, why, and what to write instead.
+Several programs are settled one after the other, on the same input, each under a line with its name. The status is the
+greatest of theirs; no memory, or a write that fails, ends the call.
 ",
     argument: "",
-    options: "  --explain       changes nothing here\n",
+    options: "  \
+  --short         a line for each program: its name and the first line of the answer
+  --json          a line for each program: a JSON object with its name, the status and the whole answer
+  --explain       changes nothing here; only for one program
+",
 };
 
 const RUN: Page = Page {
@@ -210,8 +221,8 @@ Usage: cilk schedule PROGRAM CERTIFICATE [--input FILE] [--explain]
 
 const MEASURE: Page = Page {
     head: "\
-Run a program, and show, instead of its outcome, its events, ticks, frames, strands, work, span and parallelism,
-and a table by function and loop
+Run a program, and show, instead of its outcome, its events, ticks, frames, strands, work, span, burdened span
+(with 1,000 events for each spawn on the way) and parallelism, and a table by function and loop
 
 Usage: cilk measure PROGRAM [--input FILE] [--csv | --svg | --dot] [--explain]
 ",
@@ -237,7 +248,7 @@ The answer is one of
   changed TRACE   on standard error: it isn't the same in the second reading; status 2
 
 Arguments:
-  TRACE           a trace in its text form (docs/TRACES.md), of at most 268,435,456 bytes
+  TRACE           a trace, as text or in the binary form (docs/TRACES.md), of at most 268,435,456 bytes
 
 Options:
   --sites FILE    after a refusal, say on standard error at which files, lines and functions the accesses are, by the

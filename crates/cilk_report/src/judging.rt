@@ -31,8 +31,10 @@ const HEADER: &str = "the first line of a trace is `cilktrace 1`";
 const PROGRAM: &str =
     "the first line of a trace is `cilktrace 1`; a program in the language of this tool is judged by `cilk settle`, others by the trace of a run (`cilk help judge`)";
 
+const BINARY_HEADER: &str = "cilktrace-bin 1";
+
 const BINARY: &str =
-    "this is a trace in the binary form: `recorder/trace2text FILE` makes text of it";
+    "reason: the trace is in the binary form: `recorder/trace2text FILE` writes its lines up to this one, and what is wrong\n";
 
 const NO_FORM: &str =
     "it has none of the forms of a trace's lines, or a number is out of range or begins with 0 (docs/TRACES.md)";
@@ -316,29 +318,49 @@ fn of_malformed<F: Keeps>(
     number: u32,
     files: &mut F,
 ) -> Result<String, CaseFault> {
-    let mut found = LineAt::new(alloc, number);
-    seek(trace, files, &mut found)?;
-    let text = found.text()?;
+    let title = format!(in alloc;
+        "{trace}:{number}:1: error 301: a trace can't have this line here\n"
+    )?;
+    let title = title.as_str();
+    if line_at(alloc, trace, 1, files)?.as_str() == BINARY_HEADER {
+        return Ok(format!(in alloc; "{title}{BINARY}")?);
+    }
+    let text = line_at(alloc, trace, number, files)?;
     let text = text.as_str();
-    let reason = match line_in(text) {
-        _ if text.starts_with("cilktrace-bin") => BINARY,
+    let reason = match line_in(alloc, text) {
         _ if number == 1 && trace.ends_with(".c") => PROGRAM,
         _ if number == 1 => HEADER,
         None => NO_FORM,
         Some(line) => misplaced(line),
     };
-    Ok(format!(in alloc;
-        "{trace}:{number}:1: error 301: a trace can't have this line here\n{text}\n^\nreason: {reason}\n"
-    )?)
+    Ok(format!(in alloc; "{title}{text}\n^\nreason: {reason}\n")?)
 }
 
-// The line that a text spells.
-fn line_in(text: &str) -> Option<Line> {
-    let mut reader = TraceReader::new();
-    let _ = reader.next(b"cilktrace 1\n").ok()?;
-    let _ = reader.next(text.as_bytes()).ok()?;
-    let (_, line) = reader.next(b"\n").ok()?;
-    line
+// The beginning of a line of a file.
+fn line_at<F: Keeps>(
+    alloc: Global,
+    path: &str,
+    number: u32,
+    files: &mut F,
+) -> Result<String, CaseFault> {
+    let mut found = LineAt::new(alloc, number);
+    seek(path, files, &mut found)?;
+    Ok(found.text()?)
+}
+
+// The line of the text form that this spells.
+fn line_in(alloc: Global, text: &str) -> Option<Line> {
+    let text = format!(in alloc; "cilktrace 1\n{text}\n").ok()?;
+    let mut rest = text.as_bytes();
+    let mut found = None;
+    let mut reader = TraceReader::new(alloc);
+    for _piece in 0..rest.len() {
+        reader.reserve().ok()?;
+        let (taken, line) = reader.next(rest).ok()?;
+        rest = &rest[taken..];
+        found = found.or(line);
+    }
+    found
 }
 
 // The reason why a line can't be in its place.

@@ -31,6 +31,13 @@ impl Kept {
         }
     }
 
+    // Forgets all copies.
+    fn clear(&mut self) {
+        self.texts.clear();
+        self.front.clear();
+        self.lacks = false;
+    }
+
     fn add(&mut self, alloc: Global, text: &[u8]) {
         if self.copy(alloc, text).is_err() {
             self.lacks = true;
@@ -87,7 +94,7 @@ impl Kept {
 
 /// Files that keep copies of what is read after a call of `keep`.
 pub trait Keeps: Files {
-    /// Keeps copies of what is read from now on.
+    /// Keeps copies of what is read from now on, and forgets earlier ones.
     fn keep(&mut self)
         ensures failures { Self.failed self.new ≡ Self.failed self.old }
         ensures same { Self.holds self.new ≡ Self.holds self.old };
@@ -153,6 +160,7 @@ impl<F: Files> Files for KeptFiles<F> {
 
 impl<F: Files> Keeps for KeptFiles<F> {
     fn keep(&mut self) {
+        self.kept.clear();
         self.keeps = true;
     }
 

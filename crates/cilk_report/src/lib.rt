@@ -1,5 +1,5 @@
 //! Explains the answers of `cilk_commands` on request, and adds the commands `measure`, `schedule`,
-//! `help` and `explain`.
+//! `help` and `explain`, and `settle` for several programs.
 //!
 //! [`serve_explained`] serves one call of the tool. A command line of [`cilk_commands::serve`] is
 //! served as that function does. The word `--explain` adds to it: the same line comes first, on the
@@ -13,7 +13,8 @@
 //!
 //! `measure` prints work, span and parallelism of a run (Frigo, Leiserson and Randall 1998), then a
 //! table by function and loop, or a picture. `schedule` prints a script for `play` that shows a
-//! race. `help`, `explain 103` and `--version` are about the tool itself.
+//! race. `settle` with several programs, `--short` or `--json` shows one reply after the other.
+//! `help`, `explain 103` and `--version` are about the tool itself.
 //!
 //! | Call | Purpose |
 //! |---|---|
@@ -47,6 +48,7 @@ mod numbered;
 mod rows;
 mod scheduling;
 mod serving;
+mod settling;
 mod sites;
 mod speed_up;
 mod table;

@@ -1,7 +1,8 @@
 //! From a command line to its reply and explanation.
 
 ghost use Rattle.std.specs.Prelude.{◌≡◌, ◌<◌, None, Some, false, length, option_map, true};
-ghost use Rattle.cilk_report.specs.Explained.{ComesBehind, Follows, IsReadAgain, Measures, Schedules, ServesExplained, ServesThenExplains, WritesText, explains_itself, is_about, is_schedule, unflagged, words_of_check};
+ghost use Rattle.cilk_report.specs.Explained.{ComesBehind, Follows, IsReadAgain, Measures, Schedules, ServesExplained, ServesThenExplains, Settles, WritesText, explains_itself, is_about, is_schedule, unflagged, words_of_check};
+ghost use Rattle.cilk_report.specs.Settling.{is_settling};
 ghost use Rattle.cilk_report.specs.Words.{is_measure, measured_run, words_of_run};
 ghost use Rattle.cilk_commands.specs.Replies.{answer_view, failure_view};
 ghost use Rattle.cilk_commands.specs.Serving.{WordsFail};
@@ -15,6 +16,7 @@ use crate::flags::{explains_itself, unflagged};
 use crate::help::{EXPLAIN, advice};
 use crate::judging::{Judged, of_trace_failure, of_trace_race};
 use crate::scheduling::{is_schedule, serve_schedule};
+use crate::settling::{is_settling, serve_settling};
 use crate::text::undrawn;
 use crate::{
     Keeps, Kept, asks, is_measure, run_of, run_words, text_of, totals_of, usage_of_measure,
@@ -30,7 +32,8 @@ use std::io::{Read, Write};
 /// Serves the words after the program's name and returns the exit status. Command lines of
 /// [`cilk_commands::serve`] are served as that function does. With `--explain` an explanation
 /// follows the same reply; it follows that of `settle`, and that of `judge` with a table of sites,
-/// in any case. `measure`, `schedule` and questions about the tool are answered as well.
+/// in any case. `measure`, `schedule`, `settle` for several programs or in a short form, and
+/// questions about the tool are answered as well.
 #[tactic(auto, using(cilk_commands::proofs::Reading::takes_same))]
 pub fn serve_explained<F: Keeps, R: Read, O: Write, E: Write>(
     alloc: Global,
@@ -48,6 +51,9 @@ pub fn serve_explained<F: Keeps, R: Read, O: Write, E: Write>(
         result (O.contents out.old) (O.contents out.new) (E.contents err.old) (E.contents err.new) }
     ensures scheduled { order_in (texts words.now) ≡ None → is_measure (texts words.now) ≡ false → is_schedule (texts words.now) ≡ true
         → Schedules (words_of_check (texts words.now)) (F.holds files.old) (R.remaining input.old) (F.failed files.old) (F.failed files.new)
+        result (O.contents out.old) (O.contents out.new) (E.contents err.old) (E.contents err.new) }
+    ensures settles { order_in (texts words.now) ≡ None → is_measure (texts words.now) ≡ false → is_schedule (texts words.now) ≡ false → is_settling (texts words.now) ≡ true
+        → Settles (texts words.now) (F.holds files.old) (R.remaining input.old) (F.failed files.old) (F.failed files.new)
         result (O.contents out.old) (O.contents out.new) (E.contents err.old) (E.contents err.new) }
     ensures explained { order_in (texts words.now) ≡ None → is_measure (texts words.now) ≡ false → is_schedule (texts words.now) ≡ false
         → is_about (texts words.now) ≡ false
@@ -97,6 +103,9 @@ fn serve_other<F: Keeps, R: Read, O: Write, E: Write>(
     ensures scheduled { is_measure (texts words.now) ≡ false → is_schedule (texts words.now) ≡ true
         → Schedules (words_of_check (texts words.now)) (F.holds files.old) (R.remaining input.old) (F.failed files.old) (F.failed files.new)
         result (O.contents out.old) (O.contents out.new) (E.contents err.old) (E.contents err.new) }
+    ensures settles { is_measure (texts words.now) ≡ false → is_schedule (texts words.now) ≡ false → is_settling (texts words.now) ≡ true
+        → Settles (texts words.now) (F.holds files.old) (R.remaining input.old) (F.failed files.old) (F.failed files.new)
+        result (O.contents out.old) (O.contents out.new) (E.contents err.old) (E.contents err.new) }
     ensures explained { is_measure (texts words.now) ≡ false → is_schedule (texts words.now) ≡ false → is_about (texts words.now) ≡ false
         → length (unflagged (texts words.now)) < length (texts words.now)
         → ServesThenExplains (unflagged (texts words.now)) (F.holds files.old) (R.remaining input.old) (F.failed files.old) (F.failed files.new)
@@ -128,6 +137,9 @@ fn serve_unmeasured<F: Keeps, R: Read, O: Write, E: Write>(
     ensures scheduled { is_schedule (texts words.now) ≡ true
         → Schedules (words_of_check (texts words.now)) (F.holds files.old) (R.remaining input.old) (F.failed files.old) (F.failed files.new)
         result (O.contents out.old) (O.contents out.new) (E.contents err.old) (E.contents err.new) }
+    ensures settles { is_schedule (texts words.now) ≡ false → is_settling (texts words.now) ≡ true
+        → Settles (texts words.now) (F.holds files.old) (R.remaining input.old) (F.failed files.old) (F.failed files.new)
+        result (O.contents out.old) (O.contents out.new) (E.contents err.old) (E.contents err.new) }
     ensures explained { is_schedule (texts words.now) ≡ false → is_about (texts words.now) ≡ false
         → length (unflagged (texts words.now)) < length (texts words.now)
         → ServesThenExplains (unflagged (texts words.now)) (F.holds files.old) (R.remaining input.old) (F.failed files.old) (F.failed files.new)
@@ -136,12 +148,15 @@ fn serve_unmeasured<F: Keeps, R: Read, O: Write, E: Write>(
 {
     if is_schedule(words) {
         serve_schedule(alloc, words, files, input, out, err)
+    } else if is_settling(words) {
+        serve_settling(alloc, words, files, input, out, err)
     } else {
         serve_unscheduled(alloc, words, usage, files, input, out, err)
     }
 }
 
-/// Serves a command line that isn't one of `serve`, `measure` or `schedule`.
+/// Serves a command line that isn't one of `serve`, `measure` or `schedule`, nor of `settle` for
+/// several programs.
 #[tactic(auto, using(cilk_commands::proofs::Reading::takes_same))]
 fn serve_unscheduled<F: Keeps, R: Read, O: Write, E: Write>(
     alloc: Global,
@@ -406,7 +421,7 @@ fn explain<E: Write>(text: Result<String, CaseFault>, err: &mut E)
 }
 
 // The line in place of an explanation.
-fn missing(fault: CaseFault) -> &'static str {
+pub(crate) fn missing(fault: CaseFault) -> &'static str {
     match fault {
         CaseFault::Memory => "explanation: no memory\n",
         CaseFault::Unfit => "explanation: the texts aren't those of this answer\n",

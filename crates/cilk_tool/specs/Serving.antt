@@ -2,7 +2,8 @@
 use Rattle.std.specs.Prelude.{◌≡◌, ◌<◌, ◌&&◌, ℕ, Bool, true, false, not, List, [], ◌∷◌, length, Option, Some, None, codes}
 use Rattle.std.specs.Str.{bytes_eq}
 use Rattle.cilk_report.specs.Words.{is_help, is_measure}
-use Rattle.cilk_report.specs.Explained.{Follows, Measures, Schedules, ServesExplained, ServesThenExplains, explains_itself, is_about, is_schedule, unflagged, words_of_check}
+use Rattle.cilk_report.specs.Explained.{Follows, Measures, Schedules, ServesExplained, ServesThenExplains, Settles, explains_itself, is_about, is_schedule, unflagged, words_of_check}
+use Rattle.cilk_report.specs.Settling.{is_settling}
 use Rattle.cilk_commands.specs.Files.{Failures}
 use Rattle.cilk_commands.specs.Replies.{Reply, Text}
 use Rattle.cilk_commands.specs.Serving.{JudgedReply, Shows, Surroundings, WordsFail, world}
@@ -64,6 +65,8 @@ pub data ServesParallel (words : List Text) (files : Text → Option Text) (inpu
       → (tool.order_in words ≡ None → is_measure words ≡ true → Measures words files input failed failed' status out out' err err')
       → (tool.order_in words ≡ None → is_measure words ≡ false → is_schedule words ≡ true
       → Schedules (words_of_check words) files input failed failed' status out out' err err')
+      → (tool.order_in words ≡ None → is_measure words ≡ false → is_schedule words ≡ false → is_settling words ≡ true
+      → Settles words files input failed failed' status out out' err err')
       → (tool.order_in words ≡ None → is_measure words ≡ false → is_schedule words ≡ false → is_about words ≡ false → length (unflagged words) < length words
       → ServesThenExplains (unflagged words) files input failed failed' status out out' err err')
       → (explains_itself (tool.order_in words) ≡ true → ServesThenExplains words files input failed failed' status out out' err err')

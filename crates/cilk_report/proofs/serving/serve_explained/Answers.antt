@@ -1,8 +1,9 @@
 use Rattle.std.proofs.Common.{ap, refl, subst, sym, ◌∙◌}
 use Rattle.std.proofs.lemmas.Bool.{true≢false}
+use Rattle.cilk_report.proofs.Batches as batches
 use Rattle.cilk_report.proofs.Measuring as measuring
 use Rattle.cilk_report.proofs.Replies.{IsUsage, ended, failed, of_kept, other, silence, starved, starved_or_settled, unasked, yes}
-use Rattle.cilk_report.specs.Explained.{Checked, Measures, Schedules, Served, ServesExplained, ServesThenExplains, Settling, explains_itself, unflagged, words_of_check}
+use Rattle.cilk_report.specs.Explained.{Checked, Measures, Schedules, Served, ServesExplained, ServesThenExplains, Settles, Settling, explains_itself, unflagged, words_of_check}
 use Rattle.cilk_messages.specs.Words.{texts}
 use Rattle.cilk_messages.specs.declared.words.WordsFault.{WordsFault}
 use Rattle.cilk_report.proofs.serving.serve_explained.Goals as goal
@@ -125,3 +126,21 @@ returns-in-Ok-clause-scheduled g c = λ empty _ _. absurd (measuring.asked _ _ c
 
 pub returns-in-Ok-clause-explained : goal.returns-in-Ok-clause-explained
 returns-in-Ok-clause-explained g c = λ empty _ _ _ _. absurd (measuring.asked _ _ c.in-Ok.ensures.order empty)
+
+pub returns-in-Ok-clause-settles : goal.returns-in-Ok-clause-settles
+returns-in-Ok-clause-settles g c = λ empty _ _ _. absurd (measuring.asked _ _ c.in-Ok.ensures.order empty)
+
+pub returns-in-Ok-carry_out-clause-settles : goal.returns-in-Ok-carry_out-clause-settles
+returns-in-Ok-carry_out-clause-settles g c = λ empty _ _ _. absurd (measuring.asked _ _ c.in-Ok.ensures.order empty)
+
+pub returns-in-Err-clause-settles : goal.returns-in-Err-clause-settles
+returns-in-Err-clause-settles g c = λ empty _ _ _. absurd (measuring.asked _ _ c.in-Ok.ensures.order empty)
+
+pub returns-in-Err-Usage-clause-settles : goal.returns-in-Err-Usage-clause-settles
+returns-in-Err-Usage-clause-settles g c = λ _ isnt other held.
+    of_kept (λ fs f. Settles (texts c.args.words.now) fs (g.R.Read.remaining c.args.input.now) f (g.F.Files.failed c.serve_other.new.files)
+    c.serve_other.result (g.O.Write.contents c.args.out.now) (g.O.Write.contents c.serve_other.new.out) (g.E.Write.contents c.args.err.now)
+    (g.E.Write.contents c.serve_other.new.err)) _ _ _ _ c.keep-in-Err-Usage.ensures.failures c.keep-in-Err-Usage.ensures.same (c.serve_other.ensures.settles isnt other held)
+
+pub returns-in-Err-Memory-clause-settles : goal.returns-in-Err-Memory-clause-settles
+returns-in-Err-Memory-clause-settles g c = λ _ _ _ _. batches.starved _ _ _ _ _ _ _ _ _ _ c.complain-in-Err-Memory.ensures

@@ -29,3 +29,10 @@ returns-then-is_measure-clause-scheduled g c =
 
 pub returns-else-is_measure-clause-scheduled : goal.returns-else-is_measure-clause-scheduled
 returns-else-is_measure-clause-scheduled g c = λ _. c.serve_unmeasured.ensures.scheduled
+
+pub returns-then-is_measure-clause-settles : goal.returns-then-is_measure-clause-settles
+returns-then-is_measure-clause-settles g c =
+    λ isnt _ _. absurd (true≢false (sym c.if-is_measure.true ∙ c.is_measure.ensures ∙ isnt))
+
+pub returns-else-is_measure-clause-settles : goal.returns-else-is_measure-clause-settles
+returns-else-is_measure-clause-settles g c = λ _. c.serve_unmeasured.ensures.settles

@@ -1,6 +1,7 @@
 use Rattle.std.proofs.Common.{sym, ◌∙◌}
 use Rattle.std.proofs.lemmas.Bool.{true≢false}
-use Rattle.cilk_report.specs.Explained.{Scheduling}
+use Rattle.cilk_report.proofs.Plain.{unasked}
+use Rattle.cilk_report.specs.Explained.{Scheduling, SettlingEach}
 use Rattle.cilk_report.proofs.serving.serve_unmeasured.Goals as goal
 
 pub returns-then-is_schedule-clause-served : goal.returns-then-is_schedule-clause-served
@@ -9,16 +10,37 @@ returns-then-is_schedule-clause-served g c = Scheduling c.requires.other (sym c.
 pub returns-then-is_schedule-clause-scheduled : goal.returns-then-is_schedule-clause-scheduled
 returns-then-is_schedule-clause-scheduled g c = λ _. c.serve_schedule.ensures.shown
 
+pub returns-then-is_schedule-clause-settles : goal.returns-then-is_schedule-clause-settles
+returns-then-is_schedule-clause-settles g c = λ isnt _. absurd (true≢false (sym c.if-is_schedule.true ∙ c.is_schedule.ensures ∙ isnt))
+
 pub returns-then-is_schedule-clause-explained : goal.returns-then-is_schedule-clause-explained
 returns-then-is_schedule-clause-explained g c =
     λ isnt _ _. absurd (true≢false (sym c.if-is_schedule.true ∙ c.is_schedule.ensures ∙ isnt))
 
-pub returns-else-is_schedule-clause-served : goal.returns-else-is_schedule-clause-served
-returns-else-is_schedule-clause-served g c = c.serve_unscheduled.ensures.served
+pub returns-then-is_settling-clause-served : goal.returns-then-is_settling-clause-served
+returns-then-is_settling-clause-served g c = SettlingEach c.requires.other (sym c.is_settling.ensures ∙ c.if-is_settling.true) c.serve_settling.ensures.shown
 
-pub returns-else-is_schedule-clause-scheduled : goal.returns-else-is_schedule-clause-scheduled
-returns-else-is_schedule-clause-scheduled g c =
+pub returns-then-is_settling-clause-scheduled : goal.returns-then-is_settling-clause-scheduled
+returns-then-is_settling-clause-scheduled g c =
     λ held. absurd (true≢false (sym held ∙ sym c.is_schedule.ensures ∙ c.if-is_schedule.false))
 
-pub returns-else-is_schedule-clause-explained : goal.returns-else-is_schedule-clause-explained
-returns-else-is_schedule-clause-explained g c = λ _. c.serve_unscheduled.ensures.explained
+pub returns-then-is_settling-clause-settles : goal.returns-then-is_settling-clause-settles
+returns-then-is_settling-clause-settles g c = λ _ _. c.serve_settling.ensures.shown
+
+pub returns-then-is_settling-clause-explained : goal.returns-then-is_settling-clause-explained
+returns-then-is_settling-clause-explained g c =
+    λ _ _ less. absurd (unasked _ (sym c.is_settling.ensures ∙ c.if-is_settling.true) less)
+
+pub returns-else-is_settling-clause-served : goal.returns-else-is_settling-clause-served
+returns-else-is_settling-clause-served g c = c.serve_unscheduled.ensures.served
+
+pub returns-else-is_settling-clause-scheduled : goal.returns-else-is_settling-clause-scheduled
+returns-else-is_settling-clause-scheduled g c =
+    λ held. absurd (true≢false (sym held ∙ sym c.is_schedule.ensures ∙ c.if-is_schedule.false))
+
+pub returns-else-is_settling-clause-settles : goal.returns-else-is_settling-clause-settles
+returns-else-is_settling-clause-settles g c =
+    λ _ held. absurd (true≢false (sym held ∙ sym c.is_settling.ensures ∙ c.if-is_settling.false))
+
+pub returns-else-is_settling-clause-explained : goal.returns-else-is_settling-clause-explained
+returns-else-is_settling-clause-explained g c = λ _. c.serve_unscheduled.ensures.explained

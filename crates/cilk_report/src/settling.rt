@@ -1,0 +1,415 @@
+//! The command `settle` for several programs, or in a short form.
+
+ghost use Rattle.std.specs.Prelude.{◌≡◌, ◌++◌, ◌⊎◌, Bool, IfOk, IsFalse, IsTrue, None, OnOk, Some, codes, cond, option_map};
+ghost use Rattle.std.specs.Io.KnownBytes.{Appends};
+ghost use Rattle.cilk_commands.specs.Replies.{IsErrorText, NoMemory, failure_view, line, out_text, status_of};
+ghost use Rattle.cilk_commands.specs.Serving.{ShowsError, WordsFail, world};
+ghost use Rattle.cilk_commands.specs.Streams.{AppendsFront, AppendsPart, TakesAtMost};
+ghost use Rattle.cilk_commands.specs.declared.reply.TheConstants.{NO_MEMORY};
+ghost use Rattle.cilk_commands.specs.declared.streams.TheConstants.{MAX_READ};
+ghost use Rattle.cilk_messages.specs.Words.{texts};
+ghost use Rattle.cilk_report.specs.Explained.{Settles};
+ghost use Rattle.cilk_report.specs.Settling.{Fails, IsShown, SettlesEach, Shows, batch_in, batch_view, first_line, heading, is_settling, object_line, reply_view, short_line, state, with_form, with_word};
+
+use crate::about::is_option;
+use crate::explaining::{of_answer, of_failure};
+use crate::serving::missing;
+use crate::{Keeps, Kept, asks, behind_first, is_help};
+use cilk_commands::reply::{Answer, Failure, NO_MEMORY, WRONG};
+use cilk_commands::streams::send;
+use cilk_commands::{complain, settle, tell};
+use cilk_messages::words::Order;
+use json::Writer;
+use std::alloc::{AllocError, Global};
+use std::io::{Read, Write};
+
+/// The form of the replies to several programs.
+#[derive(Clone, Copy, PartialEq, Eq, Debug)]
+pub enum Form {
+    /// Under a heading, with an explanation on standard error.
+    Full,
+    /// A line each.
+    Short,
+    /// A JSON object each.
+    Json,
+}
+
+/// The programs to settle, the file of their input, and the form of the replies.
+#[derive(Drop)]
+pub struct Batch<'a> {
+    programs: Vec<&'a str>,
+    input: Option<&'a str>,
+    form: Form,
+    // Whether the next word has to name the input.
+    awaits: bool,
+}
+
+impl<'a> Batch<'a> {
+    // Takes a word, and returns whether it fits.
+    fn take(&mut self, word: &'a str) -> Result<bool, AllocError>
+        ensures { IfOk result (λ fits. cond fits (Some (batch_view self.new)) None ≡ with_word (batch_view self.old) word.now) }
+    {
+        if self.awaits {
+            self.awaits = false;
+            self.input = Some(word);
+            return Ok(!is_option(word));
+        }
+        if word == "--input" {
+            self.awaits = true;
+            return Ok(self.input.is_none());
+        }
+        if word == "--short" {
+            return Ok(self.choose(Form::Short));
+        }
+        if word == "--json" {
+            return Ok(self.choose(Form::Json));
+        }
+        if is_option(word) {
+            return Ok(false);
+        }
+        self.programs.push(word)?;
+        Ok(true)
+    }
+
+    // Chooses a form, and returns whether none was chosen before.
+    fn choose(&mut self, form: Form) -> bool
+        ensures { cond result (Some (batch_view self.new)) None ≡ with_form (batch_view self.old) form self.old.form }
+    {
+        let is_first = self.form == Form::Full;
+        self.form = form;
+        is_first
+    }
+}
+
+/// Returns whether the first word is `settle`, with more than one request for help behind it and no
+/// `--explain`.
+pub fn is_settling(words: &[&str]) -> bool
+    ensures { result ≡ is_settling (texts words.now) }
+{
+    match words {
+        [first, behind @ ..] => {
+            *first == "settle" && !is_help(behind) && !asks(words, "--explain")
+        }
+        [] => false,
+    }
+}
+
+// What the words behind the first name.
+fn batch_of<'a>(alloc: Global, words: &[&'a str]) -> Result<Option<Batch<'a>>, AllocError>
+    ensures { IfOk result (λ named. option_map batch_view named ≡ batch_in (texts words.now)) }
+{
+    let mut batch = Batch {
+        programs: Vec::new(alloc),
+        input: None,
+        form: Form::Full,
+        awaits: false,
+    };
+    let mut rest = behind_first(words);
+    'each: while let [word, behind @ ..] = rest {
+        if !batch.take(word)? {
+            return Ok(None);
+        }
+        rest = behind;
+    }
+    if batch.awaits || batch.programs.is_empty() {
+        return Ok(None);
+    }
+    Ok(Some(batch))
+}
+
+// The error of `settle` for words that name no programs.
+const USAGE: &str =
+    "error: these words name no programs to settle: `cilk settle PROGRAM.. [--input FILE] [--short | --json]`\n\
+    hint: `cilk help settle` describes `settle` and its options\n";
+
+fn usage_of_settle<'a>(alloc: Global) -> Failure<'a>
+    ensures { WordsFail (failure_view result) }
+{
+    match String::from_str(alloc, USAGE) {
+        Ok(text) => Failure::Words(text),
+        Err(_) => Failure::Memory,
+    }
+}
+
+/// Serves `settle` for several programs, or in a short form.
+#[tactic(auto, using(cilk_commands::proofs::Reading::takes_same))]
+pub fn serve_settling<F: Keeps, R: Read, O: Write, E: Write>(
+    alloc: Global,
+    words: &[&str],
+    files: &mut F,
+    input: &mut R,
+    out: &mut O,
+    err: &mut E,
+) -> u8
+    ensures shown { Settles (texts words.now) (F.holds files.old) (R.remaining input.old) (F.failed files.old) (F.failed files.new)
+        result (O.contents out.old) (O.contents out.new) (E.contents err.old) (E.contents err.new) }
+    ensures most { TakesAtMost MAX_READ (R.remaining input.old) (R.remaining input.new) }
+{
+    match batch_of(alloc, words) {
+        Ok(Some(batch)) => settle_each(alloc, &batch, files, input, out, err),
+        Ok(None) => complain(alloc, &usage_of_settle(alloc), err).status,
+        Err(_) => complain(alloc, &Failure::Memory, err).status,
+    }
+}
+
+// Settles the programs in order, and returns the greatest status.
+fn settle_each<F: Keeps, R: Read, O: Write, E: Write>(
+    alloc: Global,
+    batch: &Batch<'_>,
+    files: &mut F,
+    input: &mut R,
+    out: &mut O,
+    err: &mut E,
+) -> u8
+    ensures shown { let b = batch_view batch.now in SettlesEach b.form (F.holds files.old) (R.remaining input.old) b.input b.programs
+        (state 0 (F.failed files.old) (O.contents out.old) (E.contents err.old)) (state result (F.failed files.new) (O.contents out.new) (E.contents err.new)) }
+    ensures untouched { input.new ≡ input.old }
+{
+    let mut status = 0;
+    let mut rest = batch.programs.as_slice();
+    'each: while let [program, behind @ ..] = rest {
+        let step = settle_one(alloc, program, batch, files, input, out, err);
+        status = status.max(step.status);
+        if !step.goes_on {
+            return status;
+        }
+        rest = behind;
+    }
+    status
+}
+
+/// The status for one program, and whether the call goes on.
+#[derive(Clone, Copy)]
+struct Step {
+    status: u8,
+    goes_on: bool,
+}
+
+// Settles a program, and shows the reply.
+fn settle_one<F: Keeps, R: Read, O: Write, E: Write>(
+    alloc: Global,
+    program: &str,
+    batch: &Batch<'_>,
+    files: &mut F,
+    input: &mut R,
+    out: &mut O,
+    err: &mut E,
+) -> Step
+    ensures goes_on { IsTrue result.goes_on → let b = batch_view batch.now in Shows b.form (world (F.holds files.old) (R.remaining input.old) (F.failed files.old) (F.failed files.new))
+        program.now b.input result.status (O.contents out.old) (O.contents out.new) (E.contents err.old) (E.contents err.new) }
+    ensures ends { IsFalse result.goes_on → let b = batch_view batch.now in Fails b.form (world (F.holds files.old) (R.remaining input.old) (F.failed files.old) (F.failed files.new))
+        program.now b.input result.status (O.contents out.old) (O.contents out.new) (E.contents err.old) (E.contents err.new) }
+    ensures same { F.holds files.new ≡ F.holds files.old }
+    ensures untouched { input.new ≡ input.old }
+{
+    if files.failures() == u64::MAX {
+        return starved(alloc, err);
+    }
+    files.keep();
+    let reply = settle(alloc, program, batch.input, files, input);
+    let status = status_of(&reply);
+    if status == NO_MEMORY {
+        return starved(alloc, err);
+    }
+    match shown(alloc, program, batch, &reply, files.kept()) {
+        Ok(texts) => write_texts(&texts, status, out, err),
+        Err(_) => starved(alloc, err),
+    }
+}
+
+fn status_of(reply: &Result<Answer, Failure<'_>>) -> u8
+    ensures { result ≡ status_of (reply_view reply.now) }
+{
+    match reply {
+        Ok(answer) => answer.status(),
+        Err(failure) => failure.status(),
+    }
+}
+
+// Out of memory: the call ends.
+fn starved<E: Write>(alloc: Global, err: &mut E) -> Step
+    ensures ends { IsFalse result.goes_on }
+    ensures status { result.status ≡ NO_MEMORY }
+    ensures told { (told : Bool) × ShowsError NoMemory told (E.contents err.old) (E.contents err.new) }
+{
+    let served = complain(alloc, &Failure::Memory, err);
+    Step {
+        status: served.status,
+        goes_on: false,
+    }
+}
+
+/// Texts for standard output and standard error.
+#[derive(Drop)]
+struct Texts {
+    out: Vec<u8>,
+    err: Vec<u8>,
+}
+
+// Writes the texts that show a reply with this status. The call ends if a write fails.
+fn write_texts<O: Write, E: Write>(texts: &Texts, status: u8, out: &mut O, err: &mut E) -> Step
+    ensures goes_on { IsTrue result.goes_on → (result.status ≡ status) × Appends (O.contents out.old) (O.contents out.new) texts.now.out.items
+        × Appends (E.contents err.old) (E.contents err.new) texts.now.err.items }
+    ensures ends { IsFalse result.goes_on → ((result.status ≡ 2) × AppendsPart (O.contents out.old) (O.contents out.new) texts.now.out.items
+        × ((told : Bool) × AppendsFront told (E.contents err.old) (E.contents err.new) (line (codes "cannot write"))))
+        ⊎ ((result.status ≡ status) × Appends (O.contents out.old) (O.contents out.new) texts.now.out.items
+        × AppendsPart (E.contents err.old) (E.contents err.new) texts.now.err.items) }
+{
+    if !send(out, texts.out.as_slice()) {
+        let _ = tell(err, b"cannot write\n");
+        return Step {
+            status: WRONG,
+            goes_on: false,
+        };
+    }
+    Step {
+        status,
+        goes_on: send(err, texts.err.as_slice()),
+    }
+}
+
+// The texts that show a program's reply.
+fn shown(
+    alloc: Global,
+    program: &str,
+    batch: &Batch<'_>,
+    reply: &Result<Answer, Failure<'_>>,
+    kept: &Kept,
+) -> Result<Texts, AllocError>
+    ensures { IfOk result (λ texts. IsShown batch.now.form program.now (reply_view reply.now) texts.out.items texts.err.items) }
+{
+    let texts = texts_of(alloc, reply)?;
+    match batch.form {
+        Form::Full => {
+            let order = Order::Settle {
+                program,
+                input: batch.input,
+            };
+            let explanation = explanation(alloc, &order, reply, kept)?;
+            full(alloc, program, texts, explanation.as_str())
+        }
+        Form::Short => {
+            let line = short(alloc, program, whole(texts)?.as_slice())?;
+            Ok(Texts {
+                out: line,
+                err: Vec::new(alloc),
+            })
+        }
+        Form::Json => {
+            let line = object(alloc, program, status_of(reply), whole(texts)?.as_slice())?;
+            Ok(Texts {
+                out: line,
+                err: Vec::new(alloc),
+            })
+        }
+    }
+}
+
+// The texts of a reply.
+fn texts_of(alloc: Global, reply: &Result<Answer, Failure<'_>>) -> Result<Texts, AllocError>
+    ensures { IfOk result (λ texts. (texts.out.items ≡ out_text (reply_view reply.now)) × IsErrorText (reply_view reply.now) texts.err.items) }
+{
+    let mut out = Vec::new(alloc);
+    match reply {
+        Ok(answer) => {
+            if !answer.send(alloc, &mut out)? {
+                return Err(AllocError);
+            }
+            Ok(Texts {
+                out,
+                err: Vec::new(alloc),
+            })
+        }
+        Err(failure) => Ok(Texts {
+            out,
+            err: failure.text(alloc)?,
+        }),
+    }
+}
+
+// The explanation of a reply, or a line why there is none.
+fn explanation(
+    alloc: Global,
+    order: &Order<'_>,
+    reply: &Result<Answer, Failure<'_>>,
+    kept: &Kept,
+) -> Result<String, AllocError> {
+    let found = match reply {
+        Ok(answer) => of_answer(alloc, order, answer, kept),
+        Err(failure) => of_failure(alloc, order, failure, kept),
+    };
+    match found {
+        Ok(text) => Ok(text),
+        Err(fault) => String::from_str(alloc, missing(fault)),
+    }
+}
+
+// A reply's text under a heading, and its text for standard error with an explanation.
+fn full(alloc: Global, program: &str, texts: Texts, explanation: &str) -> Result<Texts, AllocError>
+    ensures out { IfOk result (λ all. all.out.items ≡ heading program.now ++ texts.out.items) }
+    ensures err { IfOk result (λ all. all.err.items ≡ texts.err.items ++ explanation.now) }
+{
+    let mut out = program.as_bytes().to_vec(alloc)?;
+    out.extend_from_slice(b":\n")?;
+    out.extend_from_slice(texts.out.as_slice())?;
+    let mut err = texts.err;
+    err.extend_from_slice(explanation.as_bytes())?;
+    Ok(Texts { out, err })
+}
+
+// Both texts as one.
+fn whole(texts: Texts) -> Result<Vec<u8>, AllocError>
+    ensures { IfOk result (λ text. text.items ≡ texts.out.items ++ texts.err.items) }
+{
+    let mut text = texts.out;
+    text.extend_from_slice(texts.err.as_slice())?;
+    Ok(text)
+}
+
+// The line `PROGRAM: REPLY`.
+fn short(alloc: Global, program: &str, reply: &[u8]) -> Result<Vec<u8>, AllocError>
+    ensures { IfOk result (λ text. text.items ≡ short_line program.now reply.now) }
+{
+    let mut text = program.as_bytes().to_vec(alloc)?;
+    text.extend_from_slice(b": ")?;
+    push_first_line(&mut text, reply)?;
+    text.push(b'\n')?;
+    Ok(text)
+}
+
+// Adds the first line of a reply.
+fn push_first_line(text: &mut Vec<u8>, reply: &[u8]) -> Result<(), AllocError>
+    ensures { OnOk result (text.new.items ≡ text.old.items ++ first_line reply.now) }
+{
+    let mut rest = reply;
+    'line: while let [byte, behind @ ..] = rest {
+        if *byte == b'\n' {
+            return Ok(());
+        }
+        text.push(*byte)?;
+        rest = behind;
+    }
+    Ok(())
+}
+
+// A JSON object of the program, the status and the reply. A reply is text, so nothing else fails
+// than memory.
+fn object(alloc: Global, program: &str, status: u8, reply: &[u8]) -> Result<Vec<u8>, AllocError>
+    ensures { IfOk result (λ text. text.items ≡ object_line program.now status reply.now) }
+{
+    let Ok(reply) = str::from_utf8(reply) else {
+        return Err(AllocError);
+    };
+    let mut writer = Writer::new(Vec::new(alloc));
+    writer.begin_object()?;
+    writer.key("program")?;
+    writer.string(program)?;
+    writer.key("status")?;
+    writer.u64(u64::from(status))?;
+    writer.key("reply")?;
+    writer.string(reply)?;
+    writer.end_object()?;
+    let mut text = writer.into_inner();
+    text.push(b'\n')?;
+    Ok(text)
+}
