@@ -19,11 +19,6 @@ import textwrap
 TOP = os.path.dirname(os.path.dirname(os.path.realpath(__file__)))
 DOCUMENT = f"{TOP}/docs/REFUSALS.md"
 PROGRAM = os.environ.get("CILK", f"{TOP}/crates/cilk/out/cilk")
-TEXT = r'"((?:[^"\\]|\\.)*)"'
-REASON = re.compile(
-    rf"Reason \{{\s*number: (\d+),\s*title: {TEXT},\s*meaning: {TEXT},\s*line: {TEXT},\s*"
-    rf"example: Example::(\w+)\(\s*{TEXT},?\s*\),\s*place: {TEXT},\s*cure: {TEXT},\s*\}}"
-)
 ROW = re.compile(r"\| `(?:program|input|fault|refused) (\d+)(?!\d| in )[^`]*` \| .* \| .* \|$")
 ITEM = re.compile(r"- `(?:program|input|fault|refused) (\d+)(?!\d| in )[^`]*`, by ")
 
@@ -35,12 +30,13 @@ def unescaped(text):
 
 def reasons():
     """Each number with the line, the kind and text of its example, and how the place is read."""
+    with open(f"{TOP}/crates/cilk_messages/src/numbers.rt", encoding="utf-8") as file:
+        table = unescaped(file.read().partition('NUMBERS: &str = "\\\n')[2].rpartition('"')[0])
     found = {}
-    for name in ("faults", "refusals"):
-        with open(f"{TOP}/crates/cilk_messages/src/{name}.rt", encoding="utf-8") as file:
-            for each in REASON.finditer(file.read()):
-                number, _title, _meaning, line, kind, example, place, _cure = each.groups()
-                found[int(number)] = (unescaped(line), kind, unescaped(example), unescaped(place))
+    for entry in table.split("\n\n"):
+        title, _meaning, example, line, place = entry.split("\n")[:5]
+        kind, _blank, shown = example.partition(" ")
+        found[int(title.partition(": ")[0])] = (line, kind, shown, place)
     return found
 
 
@@ -62,7 +58,7 @@ def rewritten(document, known):
             number, within = int(found[1]), line.startswith("-")
             shown, kind, example, place = known[number]
             numbers.append(number)
-            lines += (item if within else row)(shown, f"`{example}`" if kind == "Program" else example, place)
+            lines += (item if within else row)(shown, f"`{example}`" if kind == "program" else example, place)
         elif not (within and line.startswith("  ")):
             within = False
             lines.append(line)
@@ -96,7 +92,7 @@ def wrong_examples(known):
     wrong = []
     with tempfile.TemporaryDirectory() as folder:
         for number, (line, kind, example, _place) in sorted(known.items()):
-            if kind == "Program":
+            if kind == "program":
                 said = provoked(example, number, folder).split("\n")[0]
                 if said != line:
                     wrong.append(f"{number}: the example is answered by `{said}`, not by `{line}`")

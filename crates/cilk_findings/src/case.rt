@@ -8,6 +8,7 @@ use cilk_parser::input::parse_input;
 use cilk_parser::parse::parse;
 use cilk_program::program::Program;
 use cilk_syntax::lexer::lex;
+use cilk_syntax::tree::Tree;
 use cilk_types::input::Input;
 use std::alloc::Global;
 
@@ -43,11 +44,8 @@ impl<'a> Case<'a> {
         text: &'a [u8],
         input: &[u8],
     ) -> Result<Case<'a>, CaseFault> {
-        let tree = parse(alloc, text)?;
         let input = parse_input(alloc, input)?;
-        let program = resolve(alloc, &tree)?;
-        let tokens = lex(alloc, text)?;
-        let map = map_of(alloc, &tree, tokens.as_slice())?;
+        let (program, map) = read(alloc, text)?;
         Ok(Case {
             alloc,
             file,
@@ -57,4 +55,17 @@ impl<'a> Case<'a> {
             map,
         })
     }
+}
+
+// The program of a text, and its map.
+fn read(alloc: Global, text: &[u8]) -> Result<(Program, TextMap), CaseFault> {
+    let tree = parse(alloc, text)?;
+    let map = mapped(alloc, text, &tree)?;
+    Ok((resolve(alloc, &tree)?, map))
+}
+
+fn mapped(alloc: Global, text: &[u8], tree: &Tree) -> Result<TextMap, CaseFault> {
+    let tokens = lex(alloc, text)?;
+    let map = map_of(alloc, tree, tokens.as_slice())?;
+    Ok(map)
 }

@@ -7,6 +7,10 @@ pub const LEFT: usize = 80;
 
 pub const WIDTH: usize = 680;
 
+pub const MIDDLE: usize = LEFT + WIDTH / 2;
+
+pub const RIGHT: usize = LEFT + WIDTH;
+
 pub const HEIGHT: usize = 220;
 
 /// The ends of a picture: colours are explicit, so that it is legible on dark pages too.
@@ -39,11 +43,20 @@ impl Anchor {
 }
 
 impl Picture {
-    /// Begins a picture in a text.
-    pub fn new(text: String) -> Result<Picture, AllocError> {
-        let mut picture = Picture { text };
-        picture.text.push_str(HEAD)?;
-        Ok(picture)
+    /// Begins the picture.
+    pub fn begin(&mut self) -> Result<(), AllocError> {
+        self.text.push_str(HEAD)
+    }
+
+    /// Ends the picture.
+    pub fn end(&mut self) -> Result<(), AllocError> {
+        self.text.push_str("</svg>\n")
+    }
+
+    /// Returns its text.
+    pub fn into_text(self) -> String {
+        let Picture { text } = self;
+        text
     }
 
     /// Adds words at a place.
@@ -54,17 +67,39 @@ impl Picture {
         anchor: Anchor,
         words: &str,
     ) -> Result<(), AllocError> {
+        self.begin_words(x, y, anchor)?;
+        self.escaped(words)?;
+        self.end_words()
+    }
+
+    /// Begins words at a place.
+    pub fn begin_words(&mut self, x: usize, y: usize, anchor: Anchor) -> Result<(), AllocError> {
         let anchor = anchor.name();
         write!(
             self.text,
             "<text x=\"{x}\" y=\"{y}\" text-anchor=\"{anchor}\" fill=\"#222222\">"
-        )?;
-        self.escaped(words)?;
+        )
+    }
+
+    /// Ends words.
+    pub fn end_words(&mut self) -> Result<(), AllocError> {
         self.text.push_str("</text>\n")
     }
 
-    // Adds words, with what XML can't have as itself.
-    fn escaped(&mut self, words: &str) -> Result<(), AllocError> {
+    /// Adds a number of hundredths, with a point before two digits unless they are 0.
+    pub fn point(&mut self, number: u64) -> Result<(), AllocError> {
+        let whole = number / 100;
+        let tenths = number / 10 % 10;
+        let last = number % 10;
+        write!(self.text, "{whole}")?;
+        if tenths > 0 || last > 0 {
+            write!(self.text, ".{tenths}{last}")?;
+        }
+        Ok(())
+    }
+
+    /// Adds words, with what XML can't have as itself.
+    pub fn escaped(&mut self, words: &str) -> Result<(), AllocError> {
         for symbol in words.chars() {
             match symbol {
                 '&' => self.text.push_str("&amp;")?,
@@ -97,28 +132,27 @@ impl Picture {
         )
     }
 
-    /// Adds a mark of the upward scale, with a line across the chart.
-    pub fn level(&mut self, y: usize, words: &str) -> Result<(), AllocError> {
+    /// Adds a mark of the upward scale, in hundredths, with a line across the chart.
+    pub fn level(&mut self, y: usize, hundredths: u64) -> Result<(), AllocError> {
         write!(
             self.text,
             "<path d=\"M{LEFT} {y} h{WIDTH}\" stroke=\"#dddddd\"/>\n"
         )?;
-        self.words(
-            LEFT.saturating_sub(8),
-            y.saturating_add(4),
-            Anchor::End,
-            words,
-        )
+        self.begin_words(LEFT.saturating_sub(8), y.saturating_add(4), Anchor::End)?;
+        self.point(hundredths)?;
+        self.end_words()
     }
 
     /// Adds a mark of the scale to the right.
-    pub fn column(&mut self, top: usize, x: usize, words: &str) -> Result<(), AllocError> {
+    pub fn column(&mut self, top: usize, x: usize, number: usize) -> Result<(), AllocError> {
         let bottom = top.saturating_add(HEIGHT);
         write!(
             self.text,
             "<path d=\"M{x} {bottom} v5\" stroke=\"#222222\"/>\n"
         )?;
-        self.words(x, bottom.saturating_add(20), Anchor::Middle, words)
+        self.begin_words(x, bottom.saturating_add(20), Anchor::Middle)?;
+        write!(self.text, "{number}")?;
+        self.end_words()
     }
 
     /// Begins a curve of this colour, broken if wanted.
@@ -137,13 +171,6 @@ impl Picture {
     /// Ends what a path draws.
     pub fn end_path(&mut self) -> Result<(), AllocError> {
         self.text.push_str("\"/>\n")
-    }
-
-    /// Ends the picture.
-    pub fn finish(self) -> Result<String, AllocError> {
-        let Picture { mut text } = self;
-        text.push_str("</svg>\n")?;
-        Ok(text)
     }
 }
 

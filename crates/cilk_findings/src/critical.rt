@@ -1,4 +1,5 @@
-//! A critical path of a run: a longest chain of its events.
+//! A critical path of a run, a longest chain of its events; and the number of events at each step of
+//! the span.
 
 use cilk_types::event::Event;
 use cilk_types::trace::Trace;
@@ -34,49 +35,67 @@ struct Chains {
 /// Returns the events of a longest chain, in order. Events count from 0. Cost and memory: linear in
 /// the events.
 pub fn critical_path(alloc: Global, trace: &Trace) -> Result<Vec<usize>, AllocError> {
-    let mut chains = Chains {
-        before: Vec::new(alloc),
-        waiting: Vec::new(alloc),
-        depth: Depth {
-            own: NO_CHAIN,
-            spawned: NO_CHAIN,
-            is_spawned: false,
-        },
-    };
+    let mut chains = Chains::new(alloc);
     for event in trace.as_slice() {
         chains.meet(event)?;
     }
     chains.path(alloc)
 }
 
+/// Returns for each step of the span the number of events there. The step of an event is the length
+/// of the longest chain up to it, so with enough workers all events of a step can be made at the
+/// same time. Cost and memory: linear in the events.
+pub fn profile(alloc: Global, trace: &Trace) -> Result<Vec<u32>, AllocError> {
+    let mut steps = Vec::new(alloc);
+    push_steps(&mut Chains::new(alloc), trace, &mut steps)?;
+    Ok(steps)
+}
+
+fn push_steps(chains: &mut Chains, trace: &Trace, steps: &mut Vec<u32>) -> Result<(), AllocError> {
+    for event in trace.as_slice() {
+        let step = chains.meet(event)?;
+        if step >= steps.len() {
+            steps.push(0)?;
+        }
+        if let Some(events) = steps.get_mut(step) {
+            *events = events.saturating_add(1);
+        }
+    }
+    Ok(())
+}
+
 impl Chains {
-    fn meet(&mut self, event: &Event) -> Result<(), AllocError> {
+    fn new(alloc: Global) -> Chains {
+        Chains {
+            before: Vec::new(alloc),
+            waiting: Vec::new(alloc),
+            depth: Depth {
+                own: NO_CHAIN,
+                spawned: NO_CHAIN,
+                is_spawned: false,
+            },
+        }
+    }
+
+    // Adds an event to its frame's chain. Returns the length of the chain before it.
+    fn meet(&mut self, event: &Event) -> Result<usize, AllocError> {
         if let Event::Sync = event {
             self.depth.own = longer(self.depth.own, self.depth.spawned);
             self.depth.spawned = NO_CHAIN;
         }
-        self.add()?;
-        match event {
-            Event::Spawn { .. } => self.enter(true),
-            Event::Call { .. } => self.enter(false),
-            Event::End => {
-                self.leave();
-                Ok(())
-            }
-            _ => Ok(()),
-        }
-    }
-
-    // Adds the next event to the frame's chain.
-    fn add(&mut self) -> Result<(), AllocError> {
         let Chain { length, last } = self.depth.own;
-        let event = self.before.len();
-        self.before.push(last)?;
         self.depth.own = Chain {
             length: length.saturating_add(1),
-            last: event,
+            last: self.before.len(),
         };
-        Ok(())
+        self.before.push(last)?;
+        match event {
+            Event::Spawn { .. } => self.enter(true)?,
+            Event::Call { .. } => self.enter(false)?,
+            Event::End => self.leave(),
+            _ => {}
+        }
+        Ok(length)
     }
 
     fn enter(&mut self, is_spawned: bool) -> Result<(), AllocError> {

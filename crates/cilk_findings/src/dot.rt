@@ -35,14 +35,24 @@ pub fn dot(scene: &Scene<'_>, tree: &SpTree) -> Result<Option<String>, AllocErro
 fn push_graph(text: &mut String, scene: &Scene<'_>, tree: &SpTree) -> Result<(), AllocError> {
     text.push_str(HEAD)?;
     push_name(text, scene.case.file)?;
-    // the nodes that still miss a child, once for each missing child
-    let mut open: Vec<usize> = Vec::new(scene.case.alloc);
+    let mut open = Vec::new(scene.case.alloc);
+    push_nodes(text, scene, tree.as_slice(), &mut open)?;
+    text.push_str("}\n")
+}
+
+// The nodes. `open` has those that still miss a child, once for each missing child.
+fn push_nodes(
+    text: &mut String,
+    scene: &Scene<'_>,
+    nodes: &[Node],
+    open: &mut Vec<usize>,
+) -> Result<(), AllocError> {
     let mut position = Position {
         number: 0,
         strand: 1,
         event: 0,
     };
-    for (number, node) in tree.as_slice().iter().enumerate() {
+    for (number, node) in nodes.iter().enumerate() {
         position.number = number;
         push_node(text, scene, node, position)?;
         if let Some(above) = open.pop() {
@@ -59,7 +69,7 @@ fn push_graph(text: &mut String, scene: &Scene<'_>, tree: &SpTree) -> Result<(),
             }
         }
     }
-    text.push_str("}\n")
+    Ok(())
 }
 
 // The title, with the file's name.

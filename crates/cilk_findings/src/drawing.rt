@@ -3,15 +3,16 @@
 
 use crate::burdened::BURDEN;
 use crate::case::Case;
-use crate::chart::{Anchor, HEIGHT, LEFT, Picture, WIDTH, scaled};
+use crate::chart::{Anchor, HEIGHT, LEFT, MIDDLE, Picture, RIGHT, WIDTH, scaled};
+use crate::critical::profile;
 use crate::dot::dot;
 use crate::fault::CaseFault;
-use crate::profile::profile;
 use crate::runs::Run;
 use crate::scene::Scene;
 use crate::totals::{Totals, totals_of};
 use cilk_tree::building::tree_of;
-use std::alloc::{AllocError, Global};
+use cilk_types::trace::Trace;
+use std::alloc::AllocError;
 
 // The upper ends of the two charts.
 const SPEED_UP: usize = 95;
@@ -33,69 +34,63 @@ const GREY: &str = "#777777";
 /// otherwise the error is [`CaseFault::Unfit`].
 pub fn profile_of(case: &Case<'_>) -> Result<String, CaseFault> {
     let run = ended(case)?;
-    let totals = totals_of(case.alloc, &run.trace)?;
-    let steps = profile(case.alloc, &run.trace)?;
-    let picture = picture(case.alloc, case.file, &totals, steps.as_slice())?;
-    Ok(picture)
+    let text = picture(case, &run.trace)?;
+    Ok(text)
 }
 
-fn picture(
-    alloc: Global,
-    file: &str,
-    totals: &Totals,
-    steps: &[u32],
-) -> Result<String, AllocError> {
-    let mut picture = Picture::new(String::new(alloc))?;
-    push_names(alloc, &mut picture, file, totals)?;
-    push_speed_up(alloc, &mut picture, totals)?;
-    push_steps(alloc, &mut picture, totals, steps)?;
-    picture.finish()
+fn picture(case: &Case<'_>, trace: &Trace) -> Result<String, AllocError> {
+    let totals = totals_of(case.alloc, trace)?;
+    let steps = profile(case.alloc, trace)?;
+    let mut picture = Picture {
+        text: String::new(case.alloc),
+    };
+    push_charts(&mut picture, case.file, &totals, steps.as_slice())?;
+    Ok(picture.into_text())
 }
 
-fn push_names(
-    alloc: Global,
+fn push_charts(
     picture: &mut Picture,
     file: &str,
     totals: &Totals,
+    steps: &[u32],
 ) -> Result<(), AllocError> {
+    picture.begin()?;
+    push_names(picture, file, totals)?;
+    push_speed_up(picture, totals)?;
+    push_steps(picture, totals, steps)?;
+    picture.end()
+}
+
+fn push_names(picture: &mut Picture, file: &str, totals: &Totals) -> Result<(), AllocError> {
     let Totals {
         work,
         span,
         burdened_span,
         ..
     } = *totals;
-    let parallelism = point(alloc, totals.parallelism())?;
-    let parallelism = parallelism.as_str();
-    let name = format!(in alloc;
-        "{file}: speed-up by workers (work {work}, span {span}, parallelism {parallelism})"
+    picture.begin_words(LEFT, 26, Anchor::Start)?;
+    picture.escaped(file)?;
+    write!(
+        picture.text,
+        ": speed-up by workers (work {work}, span {span}, parallelism "
     )?;
-    let burden = format!(in alloc;
+    picture.point(totals.parallelism())?;
+    picture.text.push(')')?;
+    picture.end_words()?;
+    picture.begin_words(LEFT, 46, Anchor::Start)?;
+    write!(
+        picture.text,
         "burdened span {burdened_span}: a burden of {BURDEN} for each spawn that a steal may take"
     )?;
-    picture.words(LEFT, 26, Anchor::Start, name.as_str())?;
-    picture.words(LEFT, 46, Anchor::Start, burden.as_str())
+    picture.end_words()
 }
 
 // The estimate and the bound, for each number of workers.
-fn push_speed_up(alloc: Global, picture: &mut Picture, totals: &Totals) -> Result<(), AllocError> {
+fn push_speed_up(picture: &mut Picture, totals: &Totals) -> Result<(), AllocError> {
     let most = greatest_speed_up(totals);
-    for part in 0..5_usize {
-        let speed = most.saturating_mul(part) / 4;
-        let name = point(alloc, speed as u64)?;
-        picture.level(height_at(SPEED_UP, speed, most), name.as_str())?;
-    }
-    for part in 0..9_usize {
-        let workers = if part == 0 {
-            1
-        } else {
-            part.saturating_mul(WORKERS) / 8
-        };
-        let name = format!(in alloc; "{workers}")?;
-        picture.column(SPEED_UP, column_of(workers), name.as_str())?;
-    }
+    push_workers(picture, most)?;
     picture.axes(SPEED_UP)?;
-    let middle = LEFT.saturating_add(WIDTH / 2);
-    picture.words(middle, 355, Anchor::Middle, "workers")?;
+    picture.words(MIDDLE, 355, Anchor::Middle, "workers")?;
     picture.upward(SPEED_UP, "speed-up")?;
     push_curve(picture, totals, most, true)?;
     push_curve(picture, totals, most, false)?;
@@ -106,6 +101,19 @@ fn push_speed_up(alloc: Global, picture: &mut Picture, totals: &Totals) -> Resul
         "at most: the workers, or the parallelism",
     )?;
     push_key(picture, 420, ORANGE, "estimate with the burden")
+}
+
+// The scales of the chart of workers.
+fn push_workers(picture: &mut Picture, most: usize) -> Result<(), AllocError> {
+    for part in 0..5_usize {
+        let speed = most.saturating_mul(part) / 4;
+        picture.level(height_at(SPEED_UP, speed, most), speed as u64)?;
+    }
+    for part in 0..9_usize {
+        let workers = (part.saturating_mul(WORKERS) / 8).max(1);
+        picture.column(SPEED_UP, column_of(workers), workers)?;
+    }
+    Ok(())
 }
 
 // The least end of the scale, in hundredths, that holds the greatest speed-up.
@@ -161,61 +169,38 @@ fn height_at(top: usize, part: usize, whole: usize) -> usize {
 }
 
 // The events of each step, with a line at the parallelism.
-fn push_steps(
-    alloc: Global,
-    picture: &mut Picture,
-    totals: &Totals,
-    steps: &[u32],
-) -> Result<(), AllocError> {
+fn push_steps(picture: &mut Picture, totals: &Totals, steps: &[u32]) -> Result<(), AllocError> {
     let octaves = octaves_of(greatest(steps));
-    push_scale(alloc, picture, octaves, steps.len())?;
+    picture.words(LEFT, 390, Anchor::Start, EVENTS)?;
+    picture.words(MIDDLE, 680, Anchor::Middle, "step of the span")?;
+    picture.upward(STEPS, "events (logarithmic)")?;
+    push_scale(picture, octaves, steps.len())?;
     push_outline(picture, steps, octaves)?;
     picture.axes(STEPS)?;
     let y = height_of(totals.parallelism() as usize, octaves);
     picture.begin_curve(GREY, true)?;
     write!(picture.text, "M{LEFT} {y} h{WIDTH}")?;
     picture.end_path()?;
-    let right = LEFT.saturating_add(WIDTH);
-    picture.words(
-        right,
-        410,
-        Anchor::End,
-        "broken line: the parallelism, which is their mean",
-    )
+    picture.words(RIGHT, 410, Anchor::End, MEAN)
 }
 
-// Names and scales of the chart of steps.
-fn push_scale(
-    alloc: Global,
-    picture: &mut Picture,
-    octaves: usize,
-    span: usize,
-) -> Result<(), AllocError> {
-    let middle = LEFT.saturating_add(WIDTH / 2);
-    picture.words(
-        LEFT,
-        390,
-        Anchor::Start,
-        "events that could be made at the same time (a column shows the most of its steps)",
-    )?;
-    picture.words(middle, 680, Anchor::Middle, "step of the span")?;
-    picture.upward(STEPS, "events (logarithmic)")?;
-    let mut events: usize = 1;
+const EVENTS: &str =
+    "events that could be made at the same time (a column shows the most of its steps)";
+
+const MEAN: &str = "broken line: the parallelism, which is their mean";
+
+// The scales of the chart of steps.
+fn push_scale(picture: &mut Picture, octaves: usize, span: usize) -> Result<(), AllocError> {
+    let mut hundredths: usize = 100;
     for octave in 0..octaves {
         if octaves <= 10 || octave % 2 == 0 {
-            let name = format!(in alloc; "{events}")?;
-            picture.level(
-                height_of(events.saturating_mul(100), octaves),
-                name.as_str(),
-            )?;
+            picture.level(height_of(hundredths, octaves), hundredths as u64)?;
         }
-        events = events.saturating_mul(2);
+        hundredths = hundredths.saturating_mul(2);
     }
     for part in 0..5_usize {
-        let step = span.saturating_mul(part) / 4;
-        let name = format!(in alloc; "{step}")?;
         let x = LEFT.saturating_add(scaled(part, 4, WIDTH));
-        picture.column(STEPS, x, name.as_str())?;
+        picture.column(STEPS, x, span.saturating_mul(part) / 4)?;
     }
     Ok(())
 }
@@ -233,8 +218,7 @@ fn push_outline(picture: &mut Picture, steps: &[u32], octaves: usize) -> Result<
         }
         top = next;
     }
-    let right = LEFT.saturating_add(WIDTH);
-    write!(picture.text, " H{right} V{bottom} Z")?;
+    write!(picture.text, " H{RIGHT} V{bottom} Z")?;
     picture.end_path()
 }
 
@@ -292,26 +276,17 @@ fn logarithm(number: usize) -> (usize, usize) {
     (octaves, rest)
 }
 
-// A number of hundredths, with a point before two digits unless they are 0.
-fn point(alloc: Global, number: u64) -> Result<String, AllocError> {
-    let whole = number / 100;
-    let tenths = number / 10 % 10;
-    let last = number % 10;
-    if tenths == 0 && last == 0 {
-        format!(in alloc; "{whole}")
-    } else {
-        format!(in alloc; "{whole}.{tenths}{last}")
-    }
-}
-
 /// Draws the series-parallel tree of a small run for Graphviz's `dot`; none of a larger one. The
 /// case's run has to end without a fault; otherwise the error is [`CaseFault::Unfit`].
 pub fn tree_of_run(case: &Case<'_>) -> Result<Option<String>, CaseFault> {
     let run = ended(case)?;
-    let tree = tree_of(case.alloc, &run.trace)?;
-    let scene = Scene { case, run: &run };
-    let drawn = dot(&scene, &tree)?;
+    let drawn = drawn(&Scene { case, run: &run })?;
     Ok(drawn)
+}
+
+fn drawn(scene: &Scene<'_>) -> Result<Option<String>, AllocError> {
+    let tree = tree_of(scene.case.alloc, &scene.run.trace)?;
+    dot(scene, &tree)
 }
 
 // The run of a case that no fault stops.

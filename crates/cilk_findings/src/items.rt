@@ -11,61 +11,58 @@ use std::mem;
 /// tree's text.
 pub fn map_of(alloc: Global, tree: &Tree, tokens: &[Token]) -> Result<TextMap, AllocError> {
     let text = tree.text.as_slice();
-    let headings = headings_of(alloc, text, tree.items.as_slice())?;
+    let mut headings = Vec::new(alloc);
+    push_headings(alloc, text, tree.items.as_slice(), &mut headings)?;
+    walked(alloc, tree, tokens, headings.as_slice())
+}
+
+// The map of a text with these functions.
+fn walked(
+    alloc: Global,
+    tree: &Tree,
+    tokens: &[Token],
+    headings: &[Heading<'_>],
+) -> Result<TextMap, AllocError> {
     let mut walker = Walker {
         alloc,
-        text,
+        text: tree.text.as_slice(),
         tokens,
-        headings: headings.as_slice(),
+        headings,
         next: 0,
         body: BodyMap::new(alloc, Name { at: 0, end: 0 }),
         loops: Vec::new(alloc),
     };
-    let mut map = TextMap {
-        globals: Vec::new(alloc),
-        reducers: Vec::new(alloc),
-        functions: Vec::new(alloc),
-        loops: Vec::new(alloc),
-    };
-    let mut cells: usize = 0;
-    for item in tree.items.as_slice() {
-        match item {
-            Item::Globals(variables) => {
-                cells = push_globals(&mut map.globals, cells, variables)?;
-                walker.pass_line();
-            }
-            Item::Reducer(reducer) => {
-                map.reducers.push(reducer.name)?;
-                walker.pass_line();
-            }
-            Item::Function(_, name, parameters, body) => {
-                map.functions
-                    .push(walker.function_map(*name, parameters, body)?)?;
-            }
-        }
-    }
-    map.loops = mem::replace(&mut walker.loops, Vec::new(alloc));
+    let mut map = TextMap::new(alloc);
+    walker.whole(tree.items.as_slice(), &mut map)?;
+    mem::swap(&mut map.loops, &mut walker.loops);
     Ok(map)
 }
 
-// The functions of a text, in order.
-fn headings_of<'a>(
+// Adds the functions of a text, in order.
+fn push_headings<'a>(
     alloc: Global,
     text: &'a [u8],
     items: &[Item],
-) -> Result<Vec<Heading<'a>>, AllocError> {
-    let mut headings = Vec::new(alloc);
+    headings: &mut Vec<Heading<'a>>,
+) -> Result<(), AllocError> {
     for item in items {
         if let Item::Function(_, name, parameters, _) = item {
-            let mut reducers = Vec::new(alloc);
-            for parameter in parameters {
-                reducers.push(matches!(parameter, Parameter::Reducer(_)))?;
-            }
-            let word = word_of(text, *name);
-            headings.push(Heading { word, reducers })?;
+            headings.push(Heading {
+                word: word_of(text, *name),
+                reducers: reducers_of(alloc, parameters)?,
+            })?;
         }
     }
-    Ok(headings)
+    Ok(())
+}
+
+// Which of a function's parameters are reducers.
+fn reducers_of(alloc: Global, parameters: &[Parameter]) -> Result<Vec<bool>, AllocError> {
+    let mut reducers = Vec::new(alloc);
+    for parameter in parameters {
+        reducers.push(matches!(parameter, Parameter::Reducer(_)))?;
+    }
+    Ok(reducers)
 }
 
 // Adds the variables of a line, which has `cells` cells before it. Returns the count of cells after
@@ -92,6 +89,28 @@ fn push_globals(
 }
 
 impl Walker<'_> {
+    // Adds the names of items, and the maps of functions.
+    fn whole(&mut self, items: &[Item], map: &mut TextMap) -> Result<(), AllocError> {
+        let mut cells: usize = 0;
+        for item in items {
+            match item {
+                Item::Globals(variables) => {
+                    cells = push_globals(&mut map.globals, cells, variables)?;
+                    self.pass_line();
+                }
+                Item::Reducer(reducer) => {
+                    map.reducers.push(reducer.name)?;
+                    self.pass_line();
+                }
+                Item::Function(_, name, parameters, body) => {
+                    map.functions
+                        .push(self.function_map(*name, parameters, body)?)?;
+                }
+            }
+        }
+        Ok(())
+    }
+
     // A function: its parameters, its reducers, its statements, and the instructions at its end.
     fn function_map(
         &mut self,

@@ -16,7 +16,7 @@
 //! | [`totals::measure`] | work, span, burdened span, frames and strands of the serial run |
 //! | [`critical::critical_path`] | the events of a longest chain |
 //! | [`shares::shares`] | the same for groups of frames, as those of one function |
-//! | [`profile::profile`] | the number of events at each step of the span |
+//! | [`critical::profile`] | the number of events at each step of the span |
 //! | [`drawing::profile_of`], [`drawing::tree_of_run`] | pictures as SVG and for Graphviz |
 //! | [`scene::Scene`] | names, places and paths of a run's frames and events, in words |
 //! | [`partings::parted_at`] | where a `cilk_sync` would separate a spawn from later code |
@@ -46,7 +46,6 @@ pub mod items;
 pub mod map;
 pub mod partings;
 pub mod paths;
-pub mod profile;
 mod repeats;
 pub mod replay;
 pub mod runs;

@@ -52,12 +52,23 @@ pub struct StopNote {
 
 /// The notes of a run: its frames, the step of each event, its ticks, and where it stops, if it
 /// doesn't end.
-#[derive(Drop)]
 pub struct Replay {
     pub frames: Vec<FrameNote>,
     pub steps: Vec<StepNote>,
     pub ticks: u32,
     pub stop: Option<StopNote>,
+}
+
+// Written out, so that a proof follows one call where notes are dropped.
+impl Drop for Replay {
+    fn drop(self) {
+        let Replay {
+            frames: _frames,
+            steps: _steps,
+            ticks: _ticks,
+            stop: _stop,
+        } = self;
+    }
 }
 
 /// Makes the serial run of a program, and notes its frames and the instruction of each event.
@@ -93,7 +104,6 @@ pub fn follow(
 
 /// The notes so far, the frames that have begun and not ended, the innermost last, and the cells of
 /// all frames so far.
-#[derive(Drop)]
 struct Notes<'a> {
     program: &'a Program,
     code: &'a Code,
@@ -101,6 +111,19 @@ struct Notes<'a> {
     steps: Vec<StepNote>,
     open: Vec<usize>,
     cells: usize,
+}
+
+impl Drop for Notes<'_> {
+    fn drop(self) {
+        let Notes {
+            program: _program,
+            code: _code,
+            frames: _frames,
+            steps: _steps,
+            open: _open,
+            cells: _cells,
+        } = self;
+    }
 }
 
 impl<'a> Notes<'a> {
@@ -240,7 +263,14 @@ impl<'a> Notes<'a> {
     }
 
     fn into_replay(self, ticks: u32, stop: Option<StopNote>) -> Replay {
-        let Notes { frames, steps, .. } = self;
+        let Notes {
+            program: _program,
+            code: _code,
+            frames,
+            steps,
+            open: _open,
+            cells: _cells,
+        } = self;
         Replay {
             frames,
             steps,

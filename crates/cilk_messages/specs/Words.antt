@@ -53,6 +53,13 @@ order_view (orders.Play program script workers input) =
 order_view (orders.Settle program input) = Settle program.now (option_map (λ path. path.now) input)
 order_view (orders.Judge trace sites) = Judge trace.now (option_map (λ path. path.now) sites)
 
+-- an argument that has to be given, and an option `--NAME VALUE`
+abbrev pub needed : Text → Rule
+needed name = record (new_rule name) { required = true }
+
+abbrev pub taken : Text → Rule
+taken name = record (new_rule name) { long = Some name; action = Some Set }
+
 abbrev pub program_rule : Rule
 program_rule = record (new_rule (codes "program")) { required = true }
 

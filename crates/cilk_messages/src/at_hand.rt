@@ -1,12 +1,11 @@
 //! The reason for a refusal, with the name or token at the place.
 
 use crate::around::word_at;
-use crate::misuses::{is_argument, is_in_cilk_for, wants_reducer};
 use crate::place::{Location, locate};
 use crate::sentence::{Part, Sentence, say};
+use crate::site::Site;
 use crate::sites::enclosing;
-use crate::tokens::{Declared, Main, Tokens};
-use cilk_syntax::token::Kind;
+use crate::tokens::{Declared, Tokens};
 
 /// Describes the token at the place of a fault, and what was expected there: nothing if the number
 /// says it all. `wanted` describes what the grammar expects there.
@@ -28,7 +27,7 @@ pub fn at_hand<'a>(
         112 => return Some(declared_twice(tokens, token, name)),
         113 => return Some(miscounted(tokens, token, name)),
         114 => return Some(mistaken(tokens, token, name)),
-        115 => without_main(tokens),
+        115 => Site::new(tokens, token).said(NO_MAIN)?,
         117 => "`{}` counts the turns of a `cilk_for`, and is written here",
         118 => "`{}` is declared after another statement, or in an inner block",
         119 => "the declaration of `{}` goes past a limit",
@@ -76,13 +75,11 @@ fn miscounted<'a>(tokens: &Tokens<'a>, token: usize, name: &'a [u8]) -> Sentence
 
 // The kind of the name, and its wrong use.
 fn mistaken<'a>(tokens: &Tokens<'a>, token: usize, name: &'a [u8]) -> Sentence<'a> {
-    if let Some(Kind::Return) = tokens.kind(token) {
-        return match tokens.kind_behind(token) {
-            Some(Kind::Semicolon) => say("an `int` function returns a number"),
-            _ => say("a `void` function returns no number"),
-        };
+    let site = Site::new(tokens, token);
+    if site.fits("0 return") {
+        return say(if site.fits("+1 ;") { NO_RESULT } else { RESULT });
     }
-    if is_in_cilk_for(tokens, token) {
+    if site.fits("in cilk_for") {
         let variable = match enclosing(tokens, token) {
             Some(open) => tokens.word(open.saturating_add(2)),
             None => &[],
@@ -91,42 +88,33 @@ fn mistaken<'a>(tokens: &Tokens<'a>, token: usize, name: &'a [u8]) -> Sentence<'
             .word(name)
             .word(variable);
     }
-    let wrong = match tokens.declaration_of(token) {
-        Some((_, declared)) => misused(tokens, token, declared),
-        None => "is no reducer, which the parameter is",
-    };
-    say("`{}` {}").word(name).with(Part::Text(wrong))
+    say("`{}` {}")
+        .word(name)
+        .with(Part::Text(site.said(MISUSED).unwrap_or("")))
 }
 
-// The mistake in using a name that is declared as this.
-fn misused(tokens: &Tokens<'_>, token: usize, declared: Declared) -> &'static str {
-    match (declared, tokens.kind_behind(token)) {
-        (Declared::Reducer, Some(Kind::Open)) => "is a reducer, and can't be called",
-        (Declared::Reducer, Some(Kind::OpenBracket)) => "is a reducer, and has no index",
-        (Declared::Reducer, Some(Kind::Comma | Kind::Close)) if is_argument(tokens, token) => {
-            "is a reducer, and the parameter is none of its monoid"
-        }
-        (Declared::Reducer, _) => {
-            "is a reducer: `value(r)` reads it, `update(r, e)` and `set(r, e)` write it"
-        }
-        (_, _) if wants_reducer(tokens, token) => "is no reducer",
-        (Declared::Array, Some(Kind::Open)) => "is an array, and can't be called",
-        (Declared::Array, _) => "is an array, and stands only with an index: `a[i]`",
-        (Declared::Function { .. }, Some(Kind::Open)) => {
-            "is a `void` function, and its call has no result"
-        }
-        (Declared::Function { .. }, _) => "is a function, and can only be called",
-        (Declared::Variable, Some(Kind::Open)) => "is a variable, and can't be called",
-        (Declared::Variable, Some(Kind::OpenBracket)) => "is no array, and has no index",
-        (Declared::Variable, _) => "is no reducer, which the parameter is",
-    }
-}
+const NO_RESULT: &str = "an `int` function returns a number";
+
+const RESULT: &str = "a `void` function returns no number";
+
+// What is wrong with the use of a name.
+const MISUSED: &str = "\
+is nothing => is no reducer, which the parameter is
+is reducer | +1 ( => is a reducer, and can't be called
+is reducer | +1 [ => is a reducer, and has no index
+is reducer | +1 , ) | -1 ( , | in @ => is a reducer, and the parameter is none of its monoid
+is reducer => is a reducer: `value(r)` reads it, `update(r, e)` and `set(r, e)` write it
+-2 update set value => is no reducer
+is array | +1 ( => is an array, and can't be called
+is array => is an array, and stands only with an index: `a[i]`
+is function procedure | +1 ( => is a `void` function, and its call has no result
+is function procedure => is a function, and can only be called
++1 ( => is a variable, and can't be called
++1 [ => is no array, and has no index
+is variable => is no reducer, which the parameter is";
 
 // Why the text has no right `main`.
-fn without_main(tokens: &Tokens<'_>) -> &'static str {
-    match tokens.main() {
-        Main::Void => "`main` is a `void` function, and an `int` one is wanted",
-        Main::Int => "`main` has parameters, and none are wanted",
-        Main::Absent => "the text has no function `main`",
-    }
-}
+const NO_MAIN: &str = "\
+main procedure => `main` is a `void` function, and an `int` one is wanted
+main function => `main` has parameters, and none are wanted
+main nothing => the text has no function `main`";

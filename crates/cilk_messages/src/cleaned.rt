@@ -2,9 +2,9 @@
 
 use crate::around::{byte_at, is_among, is_word, word_after, word_at};
 use crate::further::Further;
-use crate::marks::{no_number, no_token, odd_byte};
+use crate::marks::{called, no_number, no_token, odd_byte};
 use crate::place::between;
-use crate::sentences::FRACTIONS;
+use crate::sentences::sentence;
 use cilk_syntax::lexer::all_digits;
 use std::alloc::{AllocError, Global};
 
@@ -68,6 +68,7 @@ impl Marks {
 fn hint_at(text: &[u8], at: usize, end: usize) -> Option<&'static str> {
     let word = between(text, at, end);
     match byte_at(text, at) {
+        b'"' if is_among("printf fprintf puts perror", called(text, at)) => None,
         b'0'..=b'9' | b'.' if word.len() > 1 => of_numeral(word),
         0x80..=0xFF => Some(odd_byte(text, at)),
         _ => no_token(text, at),
@@ -76,7 +77,7 @@ fn hint_at(text: &[u8], at: usize, end: usize) -> Option<&'static str> {
 
 fn of_numeral(word: &[u8]) -> Option<&'static str> {
     if word.contains(&b'.') {
-        Some(FRACTIONS)
+        Some(sentence("FRACTIONS"))
     } else if all_digits(word) && byte_at(word, 0) != b'0' {
         None
     } else {

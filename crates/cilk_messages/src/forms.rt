@@ -1,16 +1,12 @@
 //! Hints for a token that the grammar doesn't allow at its place.
 
-use crate::around::is_among;
 use crate::hints::meant;
 use crate::place::between;
 use crate::report::Wanted;
 use crate::sentence::{Sentence, say};
-use crate::sentences::{NO_LENGTH, REDUCER, REDUCER_ARRAY, STRUCTURES, VIEW_MEMBERS};
+use crate::sentences::sentence;
 use crate::site::Site;
-use crate::sites::{
-    cast_at, closed_head, head_of, is_in_first_value, is_in_head_of_main, is_in_length,
-    is_in_reducer,
-};
+use crate::sites::{cast_at, closed_head, head_of};
 use crate::spelling::{is_misspelt_reducer, misspelt_near};
 use crate::tokens::Tokens;
 use crate::unended::{missing_mark, unpaired};
@@ -25,47 +21,46 @@ pub fn no_form<'a>(
     wanted: &Wanted<'_>,
 ) -> Option<Sentence<'a>> {
     let site = Site::new(tokens, number);
-    if is_in_head_of_main(tokens, number) {
-        return Some(say(PARAMETERS));
+    if site.fits("in main | parameter") {
+        return Some(say(sentence("PARAMETERS")));
     }
     if let Some(cure) = of_words(&site) {
         return Some(say(cure));
     }
-    if is_misspelt_reducer(tokens, number) {
-        return Some(say(REDUCER));
+    if is_misspelt_reducer(&site) {
+        return Some(say(sentence("REDUCER")));
     }
     if let Some(reserved) = misspelt_near(tokens, number) {
         return Some(meant(reserved.as_bytes()));
     }
-    if let Some(hint) = missing_mark(tokens, number, wanted) {
+    if let Some(hint) = missing_mark(&site, wanted) {
         return Some(hint);
     }
-    if let Some(hint) = spawned_assignment(tokens, number) {
+    if let Some(hint) = spawned_assignment(&site) {
         return Some(hint);
     }
-    if let Some(cure) = of_declaration(&site) {
-        return Some(say(cure));
+    let cure = of_declaration(&site).or_else(|| of_use(&site));
+    match cure {
+        Some(cure) => Some(say(cure)),
+        None => Some(say(unpaired(&site, wanted)?)),
     }
-    if let Some(cure) = of_use(&site) {
-        return Some(say(cure));
-    }
-    let cure = unpaired(tokens, number, wanted)?;
-    Some(say(cure))
 }
 
 // The spawn of an assignment, `cilk_spawn x = f(a);`, in place of an assignment of a spawn.
-fn spawned_assignment<'a>(tokens: &Tokens<'a>, number: usize) -> Option<Sentence<'a>> {
-    if !matches!(tokens.kind(number), Some(Kind::Assign))
-        || !matches!(tokens.kind_back(number, 2), Some(Kind::CilkSpawn))
-    {
+fn spawned_assignment<'a>(site: &Site<'_, 'a>) -> Option<Sentence<'a>> {
+    let Site { tokens, number, .. } = *site;
+    if !site.fits("0 = | -2 cilk_spawn") {
         return None;
     }
     let first = tokens.place(number.saturating_add(1));
-    let name = tokens.word(number.checked_sub(1)?);
     for end in number..tokens.count() {
         if let Some(Kind::Semicolon) = tokens.kind(end) {
             let call = between(tokens.text, first, tokens.place(end));
-            return Some(say(SPAWNED_CALL).word(name).word(call));
+            return Some(
+                say(SPAWNED_CALL)
+                    .word(tokens.word_back(number, 1))
+                    .word(call),
+            );
         }
     }
     None
@@ -73,97 +68,74 @@ fn spawned_assignment<'a>(tokens: &Tokens<'a>, number: usize) -> Option<Sentence
 
 const SPAWNED_CALL: &str = "the call is spawned, not the assignment: `{} = cilk_spawn {};`";
 
-// In the declaration of a reducer, a length or a first value.
+// In the declaration of a reducer, a length or a global's first value.
 fn of_declaration(site: &Site<'_, '_>) -> Option<&'static str> {
-    let (tokens, number, word) = (site.tokens, site.number, site.word);
-    if is_in_reducer(tokens, number) {
-        return Some(if word == b"[".as_slice() {
-            REDUCER_ARRAY
-        } else {
-            REDUCER
-        });
+    match site.said(DECLARATIONS)? {
+        "number" => Some(number_named(site.word()).unwrap_or(FIRST_VALUE)),
+        cure => Some(cure),
     }
-    if is_in_length(tokens, number) {
-        return Some(LENGTH);
-    }
-    if is_in_first_value(tokens, number) && word != b"{".as_slice() {
-        return Some(first_value(word));
-    }
-    None
 }
 
-// A global's first value in place of a name or an expression.
-fn first_value(word: &[u8]) -> &'static str {
-    if is_among("INT_MIN LONG_MIN LLONG_MIN INT64_MIN", word) {
-        LEAST
-    } else if is_among("INT_MAX LONG_MAX LLONG_MAX INT64_MAX", word) {
-        GREATEST
-    } else {
-        number_named(word).unwrap_or(FIRST_VALUE)
-    }
-}
+const DECLARATIONS: &str = "\
+reducer | 0 [ => REDUCER_ARRAY
+reducer => REDUCER
+length => LENGTH
+0 INT_MIN LONG_MIN LLONG_MIN INT64_MIN | first => LEAST
+0 INT_MAX LONG_MAX LLONG_MAX INT64_MAX | first => GREATEST
+0 - | -1 9223372036854775807 | first => LEAST
+0 ^ { | first => number";
+
+const FIRST_VALUE: &str =
+    "a global opens with a number: write that, or let `main` give it another value";
 
 // Words of C: the token itself, the one before it, or the one before the parentheses that end or
 // begin there.
 fn of_words(site: &Site<'_, '_>) -> Option<&'static str> {
-    let Site {
-        tokens,
-        number,
-        word,
-        ahead,
-    } = *site;
-    if let Some(cure) = of_structure(site) {
-        return Some(cure);
+    let Site { tokens, number, .. } = *site;
+    if site.fits("0 struct") || site.fits("0 typedef | +1 struct") {
+        let is_viewed = is_viewed(site);
+        return Some(sentence(if is_viewed {
+            "VIEW_MEMBERS"
+        } else {
+            "STRUCTURES"
+        }));
     }
     if let Some(first) = cast_at(tokens, number) {
         return Some(cast_to(tokens.word(first)));
     }
-    if let Some(cure) = other_word(word) {
+    if let Some(cure) = other_word(site.word()) {
         return Some(cure);
     }
-    if let Some(named) = size_at(site) {
+    let named = closed_head(tokens, number).or_else(|| head_of(tokens, number));
+    if site.fits("-1 sizeof") {
+        return Some(size_of(tokens, number.saturating_sub(1)));
+    }
+    if let Some(named) = named
+        && tokens.word(named) == b"sizeof".as_slice()
+    {
         return Some(size_of(tokens, named));
     }
-    let of_ahead = if word == b"(".as_slice() {
+    let ahead = tokens.word_back(number, 1);
+    let of_ahead = if site.fits("0 (") {
         word_of_c(ahead)
     } else {
         other_word(ahead)
     };
-    if of_ahead.is_some() {
-        return of_ahead;
-    }
-    match closed_head(tokens, number) {
-        Some(named) => word_of_c(tokens.word(named)),
-        None => other_word(tokens.word(head_of(tokens, number)?)),
+    match (of_ahead, closed_head(tokens, number)) {
+        (Some(cure), _) => Some(cure),
+        (None, Some(named)) => word_of_c(tokens.word(named)),
+        (None, None) => other_word(tokens.word(named?)),
     }
 }
 
-// The declaration of a structure: an array for each member, except for the views of reducers.
-fn of_structure(site: &Site<'_, '_>) -> Option<&'static str> {
-    let first = if site.word == b"typedef".as_slice() {
-        site.behind()
-    } else {
-        site.word
-    };
-    let is_one = first == b"struct".as_slice();
-    match is_one {
-        true if is_viewed(site) => Some(VIEW_MEMBERS),
-        true => Some(STRUCTURES),
-        false => None,
-    }
-}
-
-// Whether a token declares a reducer's type.
+// Whether a reducer of the type that is declared at a token is declared too.
 fn is_viewed(site: &Site<'_, '_>) -> bool {
     let Site { tokens, .. } = *site;
     for number in 1..tokens.count() {
-        if matches!(tokens.kind(number), Some(Kind::CilkReducer)) {
-            let name = number.saturating_sub(1);
-            if matches!(tokens.kind(name), Some(Kind::Name))
-                && declares_type(site, tokens.word(name))
-            {
-                return true;
-            }
+        if Site::new(tokens, number).fits("0 cilk_reducer | -1 @")
+            && declares_type(site, tokens.word_back(number, 1))
+        {
+            return true;
         }
     }
     false
@@ -185,44 +157,14 @@ fn declares_type(site: &Site<'_, '_>, name: &[u8]) -> bool {
     false
 }
 
-// The `sizeof` before a token, or before the parentheses that end or begin there.
-fn size_at(site: &Site<'_, '_>) -> Option<usize> {
-    let Site { tokens, number, .. } = *site;
-    let named = match closed_head(tokens, number) {
-        Some(named) => Some(named),
-        None => head_of(tokens, number),
-    };
-    let ahead = number.checked_sub(1)?;
-    if tokens.word(ahead) == b"sizeof".as_slice() {
-        return Some(ahead);
-    }
-    named.filter(|named| tokens.word(*named) == b"sizeof".as_slice())
-}
-
 /// Returns the advice for the size of an array or of a type.
 pub fn size_of(tokens: &Tokens<'_>, named: usize) -> &'static str {
     if is_type_word(tokens.word(named.saturating_add(2))) {
         BYTES
     } else {
-        NO_LENGTH
+        sentence("NO_LENGTH")
     }
 }
-
-/// For a `main` with parameters.
-pub const PARAMETERS: &str =
-    "`main` has no parameters: `input(k)` is number k of the input, and `input_count()` how many there are";
-
-/// For a length that isn't a number.
-pub const LENGTH: &str =
-    "an array's length is a number, and no name or sum: work it out, and write it, as in `int a[1000];`";
-
-const LEAST: &str =
-    "a global opens with a number: with `-9223372036854775807`, or `main` sets the least one, `-9223372036854775807 - 1`";
-
-const GREATEST: &str = "a global opens with a number: the greatest one is 9223372036854775807";
-
-const FIRST_VALUE: &str =
-    "a global opens with a number: write that, or let `main` give it another value";
 
 const BYTES: &str =
     "there is no `sizeof`: count elements, not bytes, and leave `* sizeof(int)` out";

@@ -1,12 +1,12 @@
 //! What else a text has that the language has no form for, behind the hint for its first fault.
 
-use crate::certain::{Look, form_at};
+use crate::certain::{Look, form_at, own_words};
 use crate::cleaned::cleaned;
 use crate::kinds::is_foreign;
 use crate::place::{between, line_at, locate};
 use crate::sentence::{Part, say};
+use crate::site::Site;
 use crate::tokens::Tokens;
-use cilk_syntax::token::Kind;
 use std::alloc::{AllocError, Global};
 
 // The most forms that are kept, and the most lines that are shown.
@@ -153,7 +153,10 @@ impl<'a, 'h> Further<'a, 'h> {
             self.push_form(alloc, report, &form)?;
             from = form.at.saturating_add(1);
         }
-        Ok(())
+        match self.next(from) {
+            Some(_) => report.push_str("and more: mend these first, then call again\n"),
+            None => Ok(()),
+        }
     }
 }
 
@@ -169,31 +172,41 @@ pub fn push_further(
     further.push(alloc, report)
 }
 
-// Notes the forms of a text.
+// The most tokens that are looked at.
+const LOOKED_AT: usize = 20_000;
+
+// Notes the forms of a text. In a text of C++ `<<` and `>>` may be those of a stream.
 fn find(alloc: Global, text: &[u8], further: &mut Further<'_, '_>) -> Result<(), AllocError> {
     let rest = cleaned(alloc, text, further)?;
     let tokens = Tokens::new(alloc, rest.as_slice())?;
-    look_over(&tokens, further, is_foreign(text));
+    let own = own_words(alloc, &tokens)?;
+    look_over(&tokens, own.as_slice(), further, is_foreign(text));
     Ok(())
 }
 
-// Notes the forms among the tokens. In a text of C++ `<<` and `>>` may be those of a stream.
-fn look_over(tokens: &Tokens<'_>, further: &mut Further<'_, '_>, is_foreign: bool) {
+// Notes the forms among the tokens.
+fn look_over<'a>(
+    tokens: &Tokens<'a>,
+    own: &[&'a [u8]],
+    further: &mut Further<'_, '_>,
+    is_foreign: bool,
+) {
     let mut look = Look::new();
-    for number in 0..tokens.count() {
-        if let Some(hint) = form_at(tokens, number, &mut look) {
-            if !(is_foreign && is_shift(tokens, number)) {
-                further.note(
-                    tokens.place(number),
-                    tokens.word(number).len(),
-                    hint,
-                    look.is_word,
-                );
-            }
+    for number in 0..tokens.count().min(LOOKED_AT) {
+        let site = Site {
+            tokens,
+            number,
+            own,
+        };
+        if let Some(hint) = form_at(&site, &mut look)
+            && !(is_foreign && site.fits("0 < >"))
+        {
+            further.note(
+                tokens.place(number),
+                tokens.word(number).len(),
+                hint,
+                look.is_word,
+            );
         }
     }
-}
-
-fn is_shift(tokens: &Tokens<'_>, number: usize) -> bool {
-    matches!(tokens.kind(number), Some(Kind::Less | Kind::Greater))
 }

@@ -1,39 +1,44 @@
 //! Files of another kind in place of a program.
 
-// How a file of each kind begins, and what to do with it.
-const KINDS: [(&str, &str); 6] = [
-    (
-        "cilktrace-bin",
-        "this is a trace in the binary form: `recorder/trace2text FILE` makes text of it, which `cilk judge TRACE` reads",
-    ),
-    ("cilktrace ", "this is a trace: `cilk judge TRACE` reads it"),
-    (
-        "cilksites ",
-        "this is a table of sites: `cilk judge TRACE --sites FILE` reads it",
-    ),
-    (
-        "cilkcert ",
-        "this is a certificate: `cilk check PROGRAM CERTIFICATE` reads it, after the text of the program",
-    ),
-    (
-        "run ",
-        "this is a script: `cilk play PROGRAM SCRIPT` reads it, after the text of the program",
-    ),
-    (
-        "\u{7f}ELF",
-        "this is a compiled program, and no text: give the source, in the language of `docs/LANGUAGE.md`; one that `recorder/cilkrec` built writes a trace as it runs, and `cilk judge TRACE` reads that",
-    ),
-];
+use crate::around::{byte_at, word_after};
 
-/// Returns what to do with a text that is no program, if it begins as a file of another kind.
+// How a file of each kind begins, and what to do with it.
+const KINDS: &str = "\
+cilktrace-bin => this is a trace in the binary form: `recorder/trace2text FILE` makes text of it, which `cilk judge TRACE` reads
+cilktrace  => this is a trace: `cilk judge TRACE` reads it
+cilksites  => this is a table of sites: `cilk judge TRACE --sites FILE` reads it
+cilkcert  => this is a certificate: `cilk check PROGRAM CERTIFICATE` reads it, after the text of the program
+run  => this is a script: `cilk play PROGRAM SCRIPT` reads it, after the text of the program
+steal  => this is a script: `cilk play PROGRAM SCRIPT` reads it, after the text of the program
+\u{7f}ELF => this is a compiled program, and no text: give the source, in the language of `docs/LANGUAGE.md`; one that `recorder/cilkrec` built writes a trace as it runs, and `cilk judge TRACE` reads that";
+
+/// Returns what to do with a text that is no program, if it begins as a file of another kind. A
+/// script may have comments ahead.
 pub fn other_kind(text: &[u8]) -> Option<&'static str> {
-    for kind in &KINDS {
-        let (front, said) = *kind;
-        if text.starts_with(front.as_bytes()) {
+    let rest = text.get(behind_comments(text)..)?;
+    for kind in KINDS.lines() {
+        let (front, said) = kind.split_once(" => ")?;
+        if rest.starts_with(front.as_bytes()) {
             return Some(said);
         }
     }
     None
+}
+
+// Where the first line begins that isn't a comment of a script, and isn't blank.
+fn behind_comments(text: &[u8]) -> usize {
+    let mut from = word_after(text, 0);
+    for (place, byte) in text.iter().enumerate() {
+        if place >= from {
+            if byte_at(text, from) != b'#' {
+                return from;
+            }
+            if *byte == b'\n' {
+                from = word_after(text, place);
+            }
+        }
+    }
+    from
 }
 
 /// A note on a program of C++.

@@ -4,7 +4,8 @@ use crate::around::{
     before, byte_at, is_among, is_name, is_number, word_after, word_at, word_before,
 };
 use crate::place::{between, line_at};
-use crate::sentences::{BITS, FRACTIONS, INPUT, LIBRARY, PRINT, REDUCER, STRUCTURES, VIEW_MEMBERS};
+use crate::sentences::sentence;
+use crate::vocabulary::is_lock_word;
 
 /// Returns the advice for a byte above 127.
 pub fn odd_byte(text: &[u8], at: usize) -> &'static str {
@@ -22,12 +23,15 @@ pub fn no_token(text: &[u8], at: usize) -> Option<&'static str> {
         b'\'' => Some(no_character(text, at)),
         b'#' => Some(no_directive(text, at)),
         b':' => Some(no_colon(text, at)),
-        b'?' => Some(CHOICE),
+        b'?' => Some(sentence("CHOICE")),
         b'&' => Some(no_ampersand(text, at)),
         b'|' => Some(
             "there are no operators on bits: put numbers together by `*` and `+`, as `2 * x + 1` for `x << 1 | 1`",
         ),
-        b'^' | b'~' => Some(BITS),
+        b'^' => Some(
+            "there are no operators on bits: a loop over `x % 2` and `x / 2` stands for `x ^ y`",
+        ),
+        b'~' => Some("there are no operators on bits: `-x - 1` stands for `~x`"),
         b'.' => Some(no_point(text, at)),
         b'/' => Some("a comment ends with `*/`"),
         b'0'..=b'9' => Some(no_number(word_at(text, at))),
@@ -35,12 +39,8 @@ pub fn no_token(text: &[u8], at: usize) -> Option<&'static str> {
     }
 }
 
-const CHOICE: &str = "there is no `? :`: write `if` and `else`";
-
-const LINE_END: &str = "`print` ends each line itself: leave this away";
-
-// The word before the parenthesis before a place.
-fn called(text: &[u8], at: usize) -> &[u8] {
+/// Returns the word before the parenthesis before a place.
+pub fn called(text: &[u8], at: usize) -> &[u8] {
     match before(text, at) {
         Some(open) if byte_at(text, open) == b'(' => word_before(text, open),
         _ => &[],
@@ -52,9 +52,9 @@ fn no_string(text: &[u8], at: usize) -> &'static str {
     let is_line_end = text.get(at..).unwrap_or(&[]).starts_with(b"\"\\n\"");
     let called = called(text, at);
     if is_among("scanf", called) {
-        INPUT
+        sentence("INPUT")
     } else if is_line_end && is_among("printf puts print", called) {
-        LINE_END
+        sentence("LINE_END")
     } else {
         "there are no strings: `print(e);` writes a number on a line of its own"
     }
@@ -64,7 +64,7 @@ fn no_string(text: &[u8], at: usize) -> &'static str {
 fn no_character(text: &[u8], at: usize) -> &'static str {
     let is_line_end = text.get(at..).unwrap_or(&[]).starts_with(b"'\\n'");
     if is_line_end && is_among("putchar print", called(text, at)) {
-        LINE_END
+        sentence("LINE_END")
     } else {
         "there are no characters: write their numbers"
     }
@@ -83,11 +83,14 @@ fn no_directive(text: &[u8], at: usize) -> &'static str {
     if is_among("define", word) && !has_value {
         "there is no preprocessor: leave this line away"
     } else if is_among("define", word) && byte_at(text, end) == b'(' {
-        "there is no preprocessor: a function stands for a macro with arguments, `int least(int a, int b) { .. }`"
+        MACRO
     } else {
         DEFINITION
     }
 }
+
+const MACRO: &str =
+    "there is no preprocessor: a function stands for a macro with arguments, `int least(int a, int b) { .. }`, and a variable takes its call, `x = least(a, b);`; in an index write out what it stands for, `a[i * n + j]`";
 
 const DEFINITION: &str =
     "there is no preprocessor: in place of `#define N 8` write the number 8 wherever `N` stands; a global `int n = 8;` does too, but not for an array's length";
@@ -98,24 +101,26 @@ fn no_colon(text: &[u8], at: usize) -> &'static str {
     let behind = at.saturating_add(1);
     match byte_at(text, behind) {
         b':' if ahead == b"std".as_slice() => of_std(word_at(text, behind.saturating_add(1))),
-        b':' => REDUCER,
+        b':' => sentence("REDUCER"),
         b'=' => "an assignment is `x = e;`",
         _ if is_case(text, at) => "write `if` and `else if`",
         _ if is_label(text, at) => "there are no labels: a flag in the loop's condition ends it",
         _ if is_name(ahead) =>
             "a loop counts, and has no `:` in its head: `for (int i = 0; i < n; i++)`",
-        _ => CHOICE,
+        _ => sentence("CHOICE"),
     }
 }
 
 // The advice for a name of C++'s library.
 fn of_std(name: &[u8]) -> &'static str {
     if is_among("cout endl", name) {
-        PRINT
+        sentence("PRINT")
     } else if is_among("cin", name) {
-        INPUT
+        sentence("INPUT")
+    } else if is_lock_word(name) {
+        sentence("LOCKS")
     } else {
-        LIBRARY
+        sentence("LIBRARY")
     }
 }
 
@@ -149,9 +154,11 @@ fn is_label(text: &[u8], at: usize) -> bool {
 fn no_ampersand(text: &[u8], at: usize) -> &'static str {
     let ahead = word_before(text, at);
     if is_among(") ]", ahead) || is_name(ahead) || is_number(ahead) {
-        BITS
+        sentence("BITS")
+    } else if is_lock_word(called(text, at)) {
+        sentence("LOCKS")
     } else {
-        "there are no pointers: a place in a global array stands for an address, as `i` for `&a[i]`"
+        "there are no pointers: a place in a global array stands for an address, as `i` for `&a[i]`, and for `&x` a function returns the number"
     }
 }
 
@@ -160,11 +167,11 @@ fn no_point(text: &[u8], at: usize) -> &'static str {
     let ahead = word_before(text, at);
     let is_digit = byte_at(text, at.saturating_add(1)).is_ascii_digit();
     if is_number(ahead) || is_digit {
-        FRACTIONS
+        sentence("FRACTIONS")
     } else if is_view(text, at) || is_reducer(text, ahead) {
-        VIEW_MEMBERS
+        sentence("VIEW_MEMBERS")
     } else {
-        STRUCTURES
+        sentence("STRUCTURES")
     }
 }
 
@@ -214,7 +221,9 @@ pub fn no_number(word: &[u8]) -> &'static str {
     match word.last() {
         Some(b'l' | b'L' | b'u' | b'U') =>
             "`int` is the only type: write the number without letters",
-        _ if word.contains(&b'e') || word.contains(&b'E') || word.ends_with(b"f") => FRACTIONS,
+        _ if word.contains(&b'e') || word.contains(&b'E') || word.ends_with(b"f") => sentence(
+            "FRACTIONS",
+        ),
         _ => "a number has digits alone, and doesn't begin with 0",
     }
 }

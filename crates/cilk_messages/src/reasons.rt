@@ -1,54 +1,47 @@
 //! The numbers of the tool: the meaning of each, a text that provokes it, and the cure.
 
-use crate::faults::FAULTS;
-use crate::refusals::REFUSALS;
-
-/// An example that provokes a number.
-#[derive(Clone, Copy, Debug)]
-pub enum Example {
-    /// A whole program text, without input. For a refusal, with the certificate of its own run.
-    Program(&'static str),
-    /// An edit of the certificate of `examples/race.c`.
-    Edit(&'static str),
-    /// Something else, in words.
-    Words(&'static str),
-}
+use crate::numbers::NUMBERS;
 
 /// The meaning of a number.
-#[derive(Clone, Copy, Debug)]
+#[derive(Clone, Copy)]
 pub struct Reason {
     pub number: u16,
     /// The mistake in a few words.
     pub title: &'static str,
     /// The mistake in a sentence or two.
     pub meaning: &'static str,
+    /// A text that provokes the number, after a word that says what it is.
+    pub example: &'static str,
     /// The line that the tool writes for the example.
     pub line: &'static str,
-    pub example: Example,
     /// How to read the places in such a line.
     pub place: &'static str,
     /// The advice: the text to write instead.
     pub cure: &'static str,
 }
 
-/// The greatest number.
-pub const LAST: u16 = 502;
-
 /// Returns the meaning of a number, if it is one of the tool's.
 pub fn reason_of(number: u16) -> Option<Reason> {
-    match in_table(&FAULTS, number) {
-        None => in_table(&REFUSALS, number),
-        reason => reason,
-    }
-}
-
-fn in_table(table: &[Reason], number: u16) -> Option<Reason> {
-    for reason in table {
-        if reason.number == number {
-            return Some(*reason);
+    for entry in NUMBERS.split("\n\n") {
+        let (digits, text) = entry.split_once(": ")?;
+        if digits.parse::<u16>() == Ok(number) {
+            return read(number, text);
         }
     }
     None
+}
+
+fn read(number: u16, text: &'static str) -> Option<Reason> {
+    let mut lines = text.lines();
+    Some(Reason {
+        number,
+        title: lines.next()?,
+        meaning: lines.next()?,
+        example: lines.next()?,
+        line: lines.next()?,
+        place: lines.next()?,
+        cure: lines.next()?,
+    })
 }
 
 /// Returns the title of a number, empty for another number.

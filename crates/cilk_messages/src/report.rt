@@ -5,14 +5,15 @@ use crate::excerpt::push_excerpt;
 use crate::further::{Told, push_further};
 use crate::hints::hint_of;
 use crate::kinds::{FOREIGN, is_foreign, other_kind};
+use crate::numbers::NUMBERS;
 use crate::place::{Location, locate};
-use crate::reasons::{Example, LAST, Reason, cure_of, reason_of, title_of};
+use crate::reasons::{Reason, cure_of, reason_of, title_of};
 use crate::sentence::{Part, push_line, say};
 use crate::tokens::Tokens;
 use std::alloc::{AllocError, Global};
 
 /// A refused place of a text.
-#[derive(Clone, Copy, Debug)]
+#[derive(Clone, Copy)]
 pub struct Finding<'a> {
     /// The name of the file.
     pub file: &'a str,
@@ -24,7 +25,7 @@ pub struct Finding<'a> {
 }
 
 /// The expectation of the grammar at a refused token.
-#[derive(Clone, Copy, Debug)]
+#[derive(Clone, Copy)]
 pub struct Wanted<'a> {
     /// In words; empty if it isn't known.
     pub words: &'a str,
@@ -52,20 +53,13 @@ fn push_reason(alloc: Global, text: &mut String, reason: &Reason) -> Result<(), 
         place,
         cure,
     } = *reason;
-    let (words, shown) = match example {
-        Example::Program(shown) if number > 300 => (
+    let (kind, shown) = example.split_once(' ').unwrap_or((example, ""));
+    let words = match kind {
+        "program" if number > 300 =>
             "\n\nThe program\n\n    {}\n\nand the certificate of its run are answered by the line",
-            shown,
-        ),
-        Example::Program(shown) => (
-            "\n\nThe program\n\n    {}\n\nis answered by the line",
-            shown,
-        ),
-        Example::Edit(shown) => (
-            "\n\nThe certificate of `examples/race.c`, with {}, is answered by the line",
-            shown,
-        ),
-        Example::Words(shown) => ("\n\nFor example {}: the answer is the line", shown),
+        "program" => "\n\nThe program\n\n    {}\n\nis answered by the line",
+        "edit" => "\n\nThe certificate of `examples/race.c`, with {}, is answered by the line",
+        _ => "\n\nFor example {}: the answer is the line",
     };
     let head = say("{}: {}\n\n{}")
         .count(number as usize)
@@ -97,12 +91,12 @@ pub fn of_all(alloc: Global) -> Result<String, AllocError> {
 }
 
 fn push_titles(alloc: Global, text: &mut String) -> Result<(), AllocError> {
-    for number in 0..=LAST {
-        if let Some(reason) = reason_of(number) {
-            let line = say("{}  {}\n")
-                .count(number as usize)
-                .with(Part::Text(reason.title));
-            line.push(alloc, text)?;
+    for entry in NUMBERS.split("\n\n") {
+        if let Some((number, rest)) = entry.split_once(": ")
+            && let Some((title, _)) = rest.split_once('\n')
+        {
+            let line = say("{}  {}\n").with(Part::Text(number));
+            line.with(Part::Text(title)).push(alloc, text)?;
         }
     }
     Ok(())

@@ -1,5 +1,6 @@
 //! The surroundings of a token: parentheses, head, block or declaration.
 
+use crate::around::is_among;
 use crate::tokens::{Declared, Tokens};
 use crate::vocabulary::is_type_word;
 use cilk_syntax::token::Kind;
@@ -47,14 +48,50 @@ pub fn is_in_head_of_function(tokens: &Tokens<'_>, number: usize) -> bool {
     }
 }
 
-/// Returns whether a token is in the parameter list of `main`.
-pub fn is_in_head_of_main(tokens: &Tokens<'_>, number: usize) -> bool {
-    match head_of(tokens, number) {
-        Some(named) => {
-            tokens.word(named) == b"main".as_slice() && is_in_head_of_function(tokens, number)
-        }
+/// Returns whether the head of a function ends before a token.
+pub fn is_prototype(tokens: &Tokens<'_>, number: usize) -> bool {
+    match closed_head(tokens, number) {
+        Some(named) => matches!(tokens.declared(named), Some(Declared::Function { .. })),
         None => false,
     }
+}
+
+/// Returns whether memory is allocated between a token and the next semicolon.
+pub fn takes_memory(tokens: &Tokens<'_>, number: usize) -> bool {
+    for later in number..tokens.count() {
+        let word = tokens.word(later);
+        if is_among("; {", word) {
+            return false;
+        }
+        if is_among("malloc calloc realloc alloca", word) {
+            return true;
+        }
+    }
+    false
+}
+
+/// Returns whether an assignment or a `return` stands before a token in its statement, outside of
+/// parentheses and brackets.
+pub fn is_chained(tokens: &Tokens<'_>, number: usize) -> bool {
+    let mut depth: usize = 0;
+    for back in 1..number.saturating_add(1) {
+        match tokens.kind_back(number, back) {
+            Some(Kind::Close | Kind::CloseBracket) => depth = depth.saturating_add(1),
+            Some(Kind::Open | Kind::OpenBracket) if depth > 0 => depth = depth.saturating_sub(1),
+            Some(Kind::Assign | Kind::Return) if depth == 0 => return true,
+            Some(Kind::Comma) if depth > 0 => {}
+            Some(
+                Kind::Open
+                | Kind::OpenBracket
+                | Kind::Comma
+                | Kind::Semicolon
+                | Kind::OpenBrace
+                | Kind::CloseBrace,
+            ) => return false,
+            _ => {}
+        }
+    }
+    false
 }
 
 /// Returns whether a token is in a reducer's declaration: at the marks of its monoid, or after its

@@ -24,17 +24,6 @@ pub enum Declared {
     Function { has_result: bool, parameters: usize },
 }
 
-/// The `main` of a text.
-#[derive(Clone, Copy, PartialEq, Eq)]
-pub enum Main {
-    /// No function.
-    Absent,
-    /// A `void` function.
-    Void,
-    /// An `int` one.
-    Int,
-}
-
 impl<'a> Tokens<'a> {
     /// Reads the tokens of a text.
     pub fn new(alloc: Global, text: &'a [u8]) -> Result<Tokens<'a>, AllocError> {
@@ -126,23 +115,16 @@ impl<'a> Tokens<'a> {
         }
     }
 
-    /// Returns the kind of the first function `main`.
-    pub fn main(&self) -> Main {
+    /// Returns the first function `main`, as it is declared.
+    pub fn main(&self) -> Option<Declared> {
         for token in 0..self.count() {
-            if self.word(token) == b"main".as_slice() {
-                match self.declared(token) {
-                    Some(
-                        Declared::Function {
-                            has_result: false,
-                            ..
-                        },
-                    ) => return Main::Void,
-                    Some(Declared::Function { .. }) => return Main::Int,
-                    _ => {}
-                }
+            if self.word(token) == b"main".as_slice()
+                && let Some(declared @ Declared::Function { .. }) = self.declared(token)
+            {
+                return Some(declared);
             }
         }
-        Main::Absent
+        None
     }
 
     // The kind that a name is declared as, by the token after it.
@@ -223,6 +205,22 @@ impl<'a> Tokens<'a> {
             }
         }
         self.function_behind(number, name)
+    }
+
+    /// Returns what a token's name is declared as.
+    pub fn kind_declared(&self, number: usize) -> Option<Declared> {
+        let (_, declared) = self.declaration_of(number)?;
+        Some(declared)
+    }
+
+    /// Returns the first declaration of a name.
+    pub fn first_declared(&self, name: &[u8]) -> Option<usize> {
+        for number in 0..self.count() {
+            if self.declared_by_name(number, name).is_some() {
+                return Some(number);
+            }
+        }
+        None
     }
 
     // The kind that this token declares, if it has this name.

@@ -1,36 +1,29 @@
 //! Words of C and OpenCilk that the language lacks, and what to write for each.
 
 use crate::around::is_among;
-use crate::sentences::{
-    CAST, INPUT, LIBRARY, LINE_AWAY, MEMORY, NO_CLOCK, NO_LENGTH, ONE_TYPE, PRINT, REDUCER,
-    REDUCER_USE, STRUCTURES,
-};
+use crate::sentences::sentence;
 
-// Words of other languages, separated by blanks, and the advice for them.
-type Row = (&'static str, &'static str);
-
-// The advice of a table for a word.
-fn said_of(table: &[Row], word: &[u8]) -> Option<&'static str> {
-    for row in table {
-        let (words, said) = *row;
+// The hint for a word, of a table with lines `WORDS => HINT`.
+fn said_of(table: &'static str, word: &[u8]) -> Option<&'static str> {
+    for line in table.lines() {
+        let (words, hint) = line.split_once(" => ")?;
         if is_among(words, word) {
-            return Some(said);
+            return Some(sentence(hint));
         }
     }
     None
 }
 
-const ALIASES: [Row; 5] = [
-    ("_Cilk_for parallel_for cilk_parallel_for", "cilk_for"),
-    ("_Cilk_spawn spawn", "cilk_spawn"),
-    ("_Cilk_sync sync", "cilk_sync"),
-    ("elif elseif elsif", "else if"),
-    ("fi If IF", "if"),
-];
+const ALIASES: &str = "\
+_Cilk_for parallel_for cilk_parallel_for => cilk_for
+_Cilk_spawn spawn => cilk_spawn
+_Cilk_sync sync => cilk_sync
+elif elseif elsif => else if
+fi If IF => if";
 
 /// Returns the reserved word that does the same as this word of another language.
 pub fn alias(word: &[u8]) -> Option<&'static str> {
-    said_of(&ALIASES, word)
+    said_of(ALIASES, word)
 }
 
 /// Returns the cure for any word that the language lacks.
@@ -44,8 +37,10 @@ pub fn word_of_c(word: &[u8]) -> Option<&'static str> {
 /// Returns the cure for another type, a word of OpenCilk's reducers, or a word before a declaration
 /// or a statement.
 pub fn other_word(word: &[u8]) -> Option<&'static str> {
-    match other_type(word) {
-        None => said_of(&KEYWORDS, word),
+    match said_of(TYPES, word) {
+        None if is_reducer_word(word) => Some(sentence("REDUCER")),
+        None if is_lock_word(word) => Some(sentence("LOCKS")),
+        None => said_of(KEYWORDS, word),
         cure => cure,
     }
 }
@@ -53,7 +48,7 @@ pub fn other_word(word: &[u8]) -> Option<&'static str> {
 /// Returns the cure for a constant or a function of C's headers.
 pub fn library_word(word: &[u8]) -> Option<&'static str> {
     match number_named(word) {
-        None => said_of(&FUNCTIONS, word),
+        None => said_of(FUNCTIONS, word),
         cure => cure,
     }
 }
@@ -61,7 +56,7 @@ pub fn library_word(word: &[u8]) -> Option<&'static str> {
 /// Returns whether a word belongs to a type or comes before one.
 pub fn is_type_word(word: &[u8]) -> bool {
     is_among("int void const volatile", word)
-        || (said_of(&TYPES, word).is_some()
+        || (said_of(TYPES, word).is_some()
             && !is_among("typedef enum REDUCER_VIEW", word)
             && !is_reducer_word(word))
 }
@@ -73,142 +68,87 @@ fn is_reducer_word(word: &[u8]) -> bool {
         || word.starts_with(b"reducer_op")
 }
 
+/// Returns whether a word is of locks, of atomic operations or of threads.
+pub fn is_lock_word(word: &[u8]) -> bool {
+    word.starts_with(b"pthread_")
+        || word.starts_with(b"PTHREAD_")
+        || word.starts_with(b"__sync_")
+        || word.starts_with(b"__atomic_")
+        || word.starts_with(b"atomic_")
+        || word.starts_with(b"omp_")
+        || is_among("atomic mutex lock_guard unique_lock scoped_lock", word)
+}
+
 /// Returns the advice for a cast to a type.
 pub fn cast_to(word: &[u8]) -> &'static str {
-    said_of(&CASTS, word).unwrap_or(CAST)
+    said_of(CASTS, word).unwrap_or(sentence("CAST"))
 }
 
-const CASTS: [Row; 3] = [
-    (
-        "unsigned char uint8_t uint16_t uint32_t",
-        "`int` is the only type, and has a sign: write `x % 256` for `(unsigned char)x`, and `x % 4294967296` for `(unsigned)x`, where `x` isn't below 0; below 0 add 256 or 4294967296 to that",
-    ),
-    (
-        "float double",
-        "numbers are whole: leave the cast out, and multiply first, `a * 1000 / b` for `(double)a / b` in thousandths",
-    ),
-    (
-        "int long short int64_t int32_t size_t",
-        "`int` is the only type, and has 64 bits: leave the cast out",
-    ),
-];
+const CASTS: &str = "\
+unsigned char uint8_t uint16_t uint32_t => `int` is the only type, and has a sign: write `x % 256` for `(unsigned char)x`, and `x % 4294967296` for `(unsigned)x`, where `x` isn't below 0; below 0 add 256 or 4294967296 to that
+float double => numbers are whole: leave the cast out; before a division multiply first, `a * 1000 / b` for `(double)a / b` in thousandths
+int long short int64_t int32_t size_t => `int` is the only type, and has 64 bits: leave the cast out";
 
-const UNSIGNED: &str =
-    "`int` is the only type; its 64 bits have a sign. What wraps at 32 bits, as the seed of a generator of random \
-     numbers, is kept below 2^32 by `%`: `seed = (seed * 1664525 + 1013904223) % 4294967296;`";
-
-const TYPES: [Row; 11] = [
-    (
-        "long short int64_t int32_t int16_t int8_t size_t",
-        "`int` is the only type, and has 64 bits",
-    ),
-    ("unsigned uint32_t", UNSIGNED),
-    (
-        "signed uint64_t uint16_t uint8_t",
-        "`int` is the only type; its 64 bits have a sign",
-    ),
-    ("char", "`int` is the only type; a character is its number"),
-    (
-        "bool _Bool",
-        "`int` is the only type; 0 is false, and all else is true",
-    ),
-    (
-        "float double",
-        "`int` is the only type; count in thousandths, say",
-    ),
-    ("auto var let", ONE_TYPE),
-    (
-        "enum",
-        "in place of `enum { N = 8 };` write the number 8 wherever `N` stands; a global `int n = 8;` does too, but not for an array's length",
-    ),
-    ("struct union class", STRUCTURES),
-    ("typedef", "`int` is the only type, and needs no other name"),
-    ("REDUCER_VIEW", REDUCER_USE),
-];
-
-// The cure for another type, or a word of OpenCilk's reducers.
-fn other_type(word: &[u8]) -> Option<&'static str> {
-    match said_of(&TYPES, word) {
-        None if is_reducer_word(word) => Some(REDUCER),
-        cure => cure,
-    }
-}
+const TYPES: &str = "\
+long short int64_t int32_t int16_t int8_t size_t => `int` is the only type, and has 64 bits
+unsigned uint32_t => `int` is the only type; its 64 bits have a sign. What wraps at 32 bits, as the seed of a generator of random numbers, is kept below 2^32 by `%`: `seed = (seed * 1664525 + 1013904223) % 4294967296;`
+signed uint64_t uint16_t uint8_t => `int` is the only type; its 64 bits have a sign
+char => `int` is the only type; a character is its number
+bool _Bool => `int` is the only type; 0 is false, and all else is true
+float double => FRACTIONS
+auto var let => ONE_TYPE
+enum => in place of `enum { N = 8 };` write the number 8 wherever `N` stands; a global `int n = 8;` does too, but not for an array's length
+struct union class => STRUCTURES
+typedef => `int` is the only type, and needs no other name
+REDUCER_VIEW => REDUCER_USE";
 
 // Words before a declaration, a statement or an operand.
-const KEYWORDS: [Row; 19] = [
-    ("const", "leave `const` out"),
-    ("static", "leave `static` out"),
-    ("inline", "leave `inline` out"),
-    ("register volatile", "leave `register` and `volatile` out"),
-    ("then", "leave `then` out"),
-    ("extern", "leave the line away: a text is one whole program"),
-    ("using template", LINE_AWAY),
-    ("do", "write `while`, with its body once before it"),
-    ("switch case", "write `if` and `else if`"),
-    (
-        "goto",
-        "there is no `goto`: a flag in the loop's condition ends it, and an `if` skips what is left",
-    ),
-    (
-        "break",
-        "there is no `break`: let the loop's condition end it",
-    ),
-    (
-        "continue",
-        "there is no `continue`: put the rest of the body under an `if`",
-    ),
-    (
-        "cilk_scope",
-        "there is no `cilk_scope`: leave the word away, and let a `cilk_sync;` end the block",
-    ),
-    ("sizeof", NO_LENGTH),
-    ("and", "write `&&`"),
-    ("or", "write `||`"),
-    ("not", "write `!`"),
-    ("cout", PRINT),
-    ("cin", INPUT),
-];
+const KEYWORDS: &str = "\
+const => leave `const` out
+static => leave `static` out
+inline => leave `inline` out
+register volatile => leave `register` and `volatile` out
+then => leave `then` out
+extern => leave the line away: a text is one whole program
+using template => LINE_AWAY
+do => write `while`, with its body once before it
+switch case => CASES
+goto => there is no `goto`: a flag in the loop's condition ends it, and an `if` skips what is left
+break => there is no `break`: let the loop's condition end it; that of a `switch` goes away
+continue => there is no `continue`: put the rest of the body under an `if`
+cilk_scope => there is no `cilk_scope`: leave the word away, and let a `cilk_sync;` end the block
+sizeof => NO_LENGTH
+and => write `&&`
+or => write `||`
+not => write `!`
+cout => PRINT
+cin => INPUT";
 
-const NUMBERS: [Row; 7] = [
-    ("true", "1 is true"),
-    ("false", "0 is false"),
-    ("EXIT_SUCCESS", "0 is success"),
-    ("EXIT_FAILURE", "1, say, is failure"),
-    (
-        "INT_MAX LONG_MAX LLONG_MAX INT64_MAX",
-        "the greatest number is 9223372036854775807",
-    ),
-    (
-        "INT_MIN LONG_MIN LLONG_MIN INT64_MIN",
-        "the least number is `-9223372036854775807 - 1`",
-    ),
-    ("NULL", "there are no pointers: -1 can stand for no index"),
-];
+const NUMBERS: &str = "\
+true => 1 is true
+false => 0 is false
+EXIT_SUCCESS => 0 is success
+EXIT_FAILURE => 1, say, is failure
+INT_MAX LONG_MAX LLONG_MAX INT64_MAX => the greatest number is 9223372036854775807
+INT_MIN LONG_MIN LLONG_MIN INT64_MIN => the least number is `-9223372036854775807 - 1`
+NULL => there are no pointers: -1 can stand for no index; a test whether `malloc` gave memory goes away
+RAND_MAX => `seed / 65536` is at most 32767";
 
 /// Returns the number for a constant of C's headers.
 pub fn number_named(word: &[u8]) -> Option<&'static str> {
-    said_of(&NUMBERS, word)
+    said_of(NUMBERS, word)
 }
 
 // Functions of C's library.
-const FUNCTIONS: [Row; 10] = [
-    ("printf fprintf puts putchar", PRINT),
-    ("scanf getchar argv argc atoi", INPUT),
-    ("malloc calloc realloc alloca", MEMORY),
-    ("free", "arrays are global: leave this call out"),
-    (
-        "rand srand",
-        "there is no `rand`: a global `int seed = 1;`, and for each number `seed = (seed * 1103515245 + 12345) % 2147483648;`, of which `seed / 65536` is good; `seed = s;` stands for `srand(s);`",
-    ),
-    ("exit abort", "a run ends by a `return` of `main` alone"),
-    (
-        "assert",
-        "`print` what is to hold, or let the result tell of it",
-    ),
-    (
-        "memcpy memmove memset",
-        "write element by element, in a loop",
-    ),
-    ("clock time", NO_CLOCK),
-    ("sqrt pow abs labs fabs min max qsort", LIBRARY),
-];
+const FUNCTIONS: &str = "\
+printf fprintf puts putchar perror => PRINT
+scanf getchar argv argc atoi atol atof strtol strtoul strtoull => INPUT
+malloc calloc realloc => MEMORY
+alloca => MEMORY_OF_CALLS
+free => arrays are global: leave this call out
+rand srand => there is no `rand`: a global `int seed = 1;`, and for each number `seed = (seed * 1103515245 + 12345) % 2147483648;`, of which `seed / 65536` is good; `seed = s;` stands for `srand(s);`
+exit abort => a run ends by a `return` of `main` alone
+assert => `print` what is to hold, or let the result tell of it
+memcpy memmove memset => write element by element, in a loop
+clock time => there is no clock: `measure` counts what a run takes
+sqrt pow log exp floor ceil abs labs fabs fmin fmax min max strlen strcmp qsort => LIBRARY";

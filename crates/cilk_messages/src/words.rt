@@ -4,8 +4,8 @@
 //! words: a command and its arguments.
 
 ghost use Rattle.std.specs.Prelude.{◌≡◌, ℕ, option_map, IfOk, IfErr, Some};
-ghost use Rattle.clap.specs.Words.{App, found_of, kind_of, rows_of, subcommand_rows_of, with_subcommand};
-ghost use Rattle.cilk_messages.specs.Words.{HasShape, program_app, check_app, cilk_app, empty_app, judge_app, judge_with, order_in, order_by, paths_in, paths_view, play_app, play_with, script_app, run_with, certify_with, check_with, settle_with, IsWordsFault, order_view, IsRefusal, texts, worker_count, workers_in};
+ghost use Rattle.clap.specs.Words.{App, found_of, kind_of, new_app, rows_of, subcommand_rows_of, with_rule, with_subcommand};
+ghost use Rattle.cilk_messages.specs.Words.{HasShape, program_app, check_app, cilk_app, empty_app, judge_app, judge_with, order_in, order_by, paths_in, paths_view, play_app, play_with, needed, run_with, certify_with, check_with, settle_with, IsWordsFault, order_view, IsRefusal, taken, texts, worker_count, workers_in};
 
 use cilk_syntax::lexer::{all_digits, value_of};
 use clap::error::ErrorKind;
@@ -99,70 +99,64 @@ impl From<AllocError> for WordsFault {
     }
 }
 
+// A command of this name, without words of its own.
+fn named<'a>(alloc: Global, name: &'a str) -> Command<'a>
+    ensures { HasShape result (new_app name.entry.now) }
+{
+    Command::new(alloc, name)
+}
+
+// Adds an argument that has to be given.
+fn needing<'a>(
+    alloc: Global,
+    command: Command<'a>,
+    name: &'a str,
+) -> Result<Command<'a>, AllocError>
+    ensures { (a : App) → HasShape command.entry a → IfOk result (λ c. HasShape c (with_rule a (needed name.entry.now))) }
+{
+    command.arg(Arg::new(alloc, name).required(true))
+}
+
+// Adds an option `--NAME VALUE`.
+fn taking<'a>(alloc: Global, command: Command<'a>, name: &'a str) -> Result<Command<'a>, AllocError>
+    ensures { (a : App) → HasShape command.entry a → IfOk result (λ c. HasShape c (with_rule a (taken name.entry.now))) }
+{
+    command.arg(Arg::new(alloc, name).long(name).action(ArgAction::Set))
+}
+
 // `NAME PROGRAM [--input FILE]`
 fn program_command<'a>(alloc: Global, name: &'a str) -> Result<Command<'a>, AllocError>
     ensures { IfOk result (λ c. HasShape c (program_app name.entry.now)) }
 {
-    Command::new(alloc, name)
-        .arg(Arg::new(alloc, "program").required(true))?
-        .arg(
-            Arg::new(alloc, "input")
-                .long("input")
-                .action(ArgAction::Set),
-        )
+    let program = needing(alloc, named(alloc, name), "program")?;
+    taking(alloc, program, "input")
 }
 
 // `check PROGRAM CERTIFICATE [--input FILE]`
 fn check_command<'a>(alloc: Global) -> Result<Command<'a>, AllocError>
     ensures { IfOk result (λ c. HasShape c check_app) }
 {
-    Command::new(alloc, "check")
-        .arg(Arg::new(alloc, "program").required(true))?
-        .arg(Arg::new(alloc, "certificate").required(true))?
-        .arg(
-            Arg::new(alloc, "input")
-                .long("input")
-                .action(ArgAction::Set),
-        )
-}
-
-// `play PROGRAM SCRIPT`
-fn script_command<'a>(alloc: Global) -> Result<Command<'a>, AllocError>
-    ensures { IfOk result (λ c. HasShape c script_app) }
-{
-    Command::new(alloc, "play")
-        .arg(Arg::new(alloc, "program").required(true))?
-        .arg(Arg::new(alloc, "script").required(true))
+    let program = needing(alloc, named(alloc, "check"), "program")?;
+    let both = needing(alloc, program, "certificate")?;
+    taking(alloc, both, "input")
 }
 
 // `play PROGRAM SCRIPT [--workers N] [--input FILE]`
 fn play_command<'a>(alloc: Global) -> Result<Command<'a>, AllocError>
     ensures { IfOk result (λ c. HasShape c play_app) }
 {
-    script_command(alloc)?
-        .arg(
-            Arg::new(alloc, "workers")
-                .long("workers")
-                .action(ArgAction::Set),
-        )?
-        .arg(
-            Arg::new(alloc, "input")
-                .long("input")
-                .action(ArgAction::Set),
-        )
+    let program = needing(alloc, named(alloc, "play"), "program")?;
+    let both = needing(alloc, program, "script")?;
+    let workers = taking(alloc, both, "workers")?;
+    taking(alloc, workers, "input")
 }
 
 // `judge TRACE [--sites FILE]`
 fn judge_command<'a>(alloc: Global) -> Result<Command<'a>, AllocError>
     ensures { IfOk result (λ c. HasShape c judge_app) }
 {
-    Command::new(alloc, "judge")
-        .arg(Arg::new(alloc, "trace").required(true))?
-        .arg(
-            Arg::new(alloc, "sites")
-                .long("sites")
-                .action(ArgAction::Set),
-        )
+    let trace = needing(alloc, named(alloc, "judge"), "trace")?;
+    taking(alloc, trace, "sites")
 }
 
 /// Adds a command with its help text.

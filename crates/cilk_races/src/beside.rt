@@ -14,17 +14,20 @@ pub struct Change {
     pub child: usize,
 }
 
+// A frame as seen from an event: whether it is the event's or around it, otherwise the child of
+// such a frame that it is in, and its last sync before the event.
+#[derive(Clone, Copy)]
+struct Seat {
+    is_above: bool,
+    side: usize,
+    synced: usize,
+}
+
 /// The frames of a run as seen from an event: its ancestors, and the earlier children that run in
 /// parallel with it.
 #[derive(Drop)]
 pub struct Beside {
-    // For each frame: the child of an ancestor of the event that the frame is in. `None` for the
-    // ancestors.
-    sides: Vec<Option<usize>>,
-    // For each frame: its last sync before the event.
-    synced: Vec<usize>,
-    // For each frame: whether it is the event's or around it.
-    above: Vec<bool>,
+    seats: Vec<Seat>,
     upto: usize,
 }
 
@@ -36,13 +39,63 @@ impl Beside {
         frame: usize,
         upto: usize,
     ) -> Result<Beside, AllocError> {
-        let above = above(alloc, scene, frame)?;
-        Ok(Beside {
-            sides: sides(alloc, scene, above.as_slice())?,
-            synced: syncs(alloc, scene, upto)?,
-            above,
-            upto,
-        })
+        let seat = Seat {
+            is_above: false,
+            side: 0,
+            synced: 0,
+        };
+        let mut seats = Vec::new(alloc);
+        seats.resize(scene.run.replay.frames.len(), seat)?;
+        let mut beside = Beside { seats, upto };
+        beside.find_above(scene, frame);
+        beside.find_sides(scene);
+        beside.find_syncs(scene);
+        Ok(beside)
+    }
+
+    fn seat(&self, frame: usize) -> Option<Seat> {
+        self.seats.get(frame).copied()
+    }
+
+    fn is_above(&self, frame: usize) -> bool {
+        matches!(self.seat(frame), Some(Seat { is_above: true, .. }))
+    }
+
+    fn find_above(&mut self, scene: &Scene<'_>, frame: usize) {
+        let mut at = Some(frame);
+        for _level in 0..self.seats.len() {
+            let Some(frame) = at else {
+                break;
+            };
+            if let Some(seat) = self.seats.get_mut(frame) {
+                seat.is_above = true;
+            }
+            at = scene.above(frame);
+        }
+    }
+
+    // Parents have smaller numbers than their children.
+    fn find_sides(&mut self, scene: &Scene<'_>) {
+        for (number, note) in scene.run.replay.frames.iter().enumerate() {
+            let side = match self.seat(note.parent) {
+                Some(parent) if !parent.is_above => parent.side,
+                _ => number,
+            };
+            if let Some(seat) = self.seats.get_mut(number) {
+                seat.side = side;
+            }
+        }
+    }
+
+    fn find_syncs(&mut self, scene: &Scene<'_>) {
+        let events = scene.run.trace.as_slice().iter().enumerate();
+        for (index, event) in events.take(self.upto) {
+            if let (Event::Sync, Some(frame)) = (event, scene.frame_of(index))
+                && let Some(seat) = self.seats.get_mut(frame)
+            {
+                seat.synced = index;
+            }
+        }
     }
 
     // Whether a frame is a spawned child that ended before the event and that its parent hasn't
@@ -52,8 +105,8 @@ impl Beside {
             Some(end) => end < self.upto,
             None => false,
         };
-        let is_open = match self.synced.get(note.parent) {
-            Some(sync) => note.begun >= *sync,
+        let is_open = match self.seat(note.parent) {
+            Some(parent) => note.begun >= parent.synced,
             None => false,
         };
         note.how == Invocation::Spawn && has_ended && is_open
@@ -82,11 +135,12 @@ impl Beside {
 
     // An earlier event, if it is in a child in parallel with this one.
     fn change_at(&self, scene: &Scene<'_>, index: usize) -> Option<Change> {
-        let step = scene.run.replay.steps.get(index)?;
-        let child = self.sides.get(step.frame).copied()??;
-        let note = scene.run.replay.frames.get(child)?;
-        if self.is_beside(note) {
-            Some(Change { at: index, child })
+        let Seat { is_above, side, .. } = self.seat(scene.frame_of(index)?)?;
+        if !is_above && self.is_beside(&scene.frame(side)?) {
+            Some(Change {
+                at: index,
+                child: side,
+            })
         } else {
             None
         }
@@ -116,9 +170,8 @@ impl Beside {
 
     // Whether the event is in a frame, and the frame is a spawned child.
     fn is_spawned_above(&self, scene: &Scene<'_>, frame: usize) -> bool {
-        let is_above = matches!(self.above.get(frame), Some(true));
         match scene.frame(frame) {
-            Some(note) => is_above && note.how == Invocation::Spawn,
+            Some(note) => self.is_above(frame) && note.how == Invocation::Spawn,
             None => false,
         }
     }
@@ -129,60 +182,4 @@ fn changes(event: &Event, wanted: Instance) -> bool {
         Event::Update { instance, .. } | Event::Set { instance, .. } => instance == wanted,
         _ => false,
     }
-}
-
-// For each frame: whether it is this frame or one of its ancestors.
-fn above(alloc: Global, scene: &Scene<'_>, frame: usize) -> Result<Vec<bool>, AllocError> {
-    let count = scene.run.replay.frames.len();
-    let mut above: Vec<bool> = Vec::new(alloc);
-    above.resize(count, false)?;
-    let mut at = Some(frame);
-    for _level in 0..count {
-        let Some(frame) = at else {
-            break;
-        };
-        if let Some(slot) = above.get_mut(frame) {
-            *slot = true;
-        }
-        at = scene.above(frame);
-    }
-    Ok(above)
-}
-
-// For each frame: the child of an ancestor that it is in. Parents have smaller numbers than their
-// children.
-fn sides(
-    alloc: Global,
-    scene: &Scene<'_>,
-    above: &[bool],
-) -> Result<Vec<Option<usize>>, AllocError> {
-    let mut sides: Vec<Option<usize>> = Vec::new(alloc);
-    for (number, note) in scene.run.replay.frames.iter().enumerate() {
-        let is_above = matches!(above.get(number), Some(true));
-        let is_child = matches!(above.get(note.parent), Some(true));
-        let side = match (is_above, is_child) {
-            (true, _) => None,
-            (false, true) => Some(number),
-            (false, false) => match sides.get(note.parent) {
-                Some(side) => *side,
-                None => None,
-            },
-        };
-        sides.push(side)?;
-    }
-    Ok(sides)
-}
-
-// For each frame: its last sync before an event.
-fn syncs(alloc: Global, scene: &Scene<'_>, upto: usize) -> Result<Vec<usize>, AllocError> {
-    let mut synced: Vec<usize> = Vec::new(alloc);
-    synced.resize(scene.run.replay.frames.len(), 0)?;
-    for (index, event) in scene.run.trace.as_slice().iter().enumerate().take(upto) {
-        if let (Event::Sync, Some(step)) = (event, scene.run.replay.steps.get(index)) {
-            if let Some(slot) = synced.get_mut(step.frame) {
-                *slot = index;
-            }
-        }
-    }
-    Ok(synced)
 }

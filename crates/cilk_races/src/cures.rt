@@ -1,7 +1,7 @@
 //! The cure of a race: a change of the program, a place for a `cilk_sync`, or a choice of both.
 
 use crate::pair::{Pair, Race, byte_of, cell_at};
-use crate::texts;
+use crate::texts::text;
 use crate::uses::{Added, Most, adds, behind_place, filled, has_name, keeps, kept_by, text_of};
 use cilk_findings::partings::{loop_round, parted_at, stands_in, statement_of};
 use cilk_findings::scene::Scene;
@@ -13,31 +13,6 @@ use cilk_types::event::{Cell, Event};
 use cilk_types::invocation::Invocation;
 use std::alloc::AllocError;
 
-/// A cure in words: a change or a place for a `cilk_sync`, and what follows it.
-#[derive(Clone, Copy)]
-pub struct Cure<'a> {
-    first: Change<'a>,
-    then: Change<'a>,
-}
-
-impl Cure<'_> {
-    /// Adds the words of the cure.
-    pub fn push(&self, scene: &Scene<'_>, report: &mut String) -> Result<(), AllocError> {
-        let Cure { first, then } = *self;
-        scene.push(report, &first.first)?;
-        scene.push(report, &first.second)?;
-        scene.push(report, &then.first)?;
-        scene.push(report, &then.second)
-    }
-}
-
-// A change of the program, in two sentences.
-#[derive(Clone, Copy)]
-struct Change<'a> {
-    first: Sentence<'a>,
-    second: Sentence<'a>,
-}
-
 // What parts the two events of a race.
 #[derive(Clone, Copy)]
 enum Means {
@@ -48,45 +23,49 @@ enum Means {
     Sync,
 }
 
-// A kind of cure, with its words.
+// A kind of cure, with its words in two sentences.
 #[derive(Clone, Copy)]
 struct Way<'a> {
     means: Means,
-    change: Change<'a>,
+    first: Sentence<'a>,
+    second: Sentence<'a>,
 }
 
-fn by_change(change: Change<'_>) -> Way<'_> {
+fn by_both<'a>(first: Sentence<'a>, second: Sentence<'a>) -> Way<'a> {
     Way {
         means: Means::Change,
-        change,
+        first,
+        second,
     }
 }
 
-fn by_either(sentence: Sentence<'_>) -> Way<'_> {
-    let change = plain(sentence);
+fn by_change(first: Sentence<'_>) -> Way<'_> {
+    by_both(first, say(""))
+}
+
+fn by_either(first: Sentence<'_>) -> Way<'_> {
     Way {
         means: Means::Either,
-        change,
+        ..by_change(first)
     }
 }
 
-fn by_sync(sentence: Sentence<'_>) -> Way<'_> {
-    let change = plain(sentence);
+fn by_sync(first: Sentence<'_>) -> Way<'_> {
     Way {
         means: Means::Sync,
-        change,
+        ..by_change(first)
     }
 }
 
-/// Returns the cure of a race: its number's general one where the run has no pair of events.
-pub fn cure_of<'a>(
-    scene: &Scene<'a>,
+/// Adds the cure of a race: its number's general one where the run has no pair of events.
+pub fn push_cure(
+    scene: &Scene<'_>,
+    report: &mut String,
     race: Race,
     pair: &Option<Pair>,
-) -> Result<Cure<'a>, AllocError> {
-    let nothing = plain(say(""));
+) -> Result<(), AllocError> {
     let Some(pair) = pair else {
-        return Ok(joined(plain(say(cure_of_number(race.number))), nothing));
+        return scene.push(report, &say(cure_of_number(race.number)));
     };
     let tokens = Tokens::new(scene.case.alloc, scene.case.text)?;
     let site = Site {
@@ -94,39 +73,35 @@ pub fn cure_of<'a>(
         tokens: &tokens,
         pair: *pair,
     };
-    let way = match site.way_of(race) {
-        Some(way) => way,
-        None => by_sync(say("")),
-    };
-    let parted = parted_at(scene, scene.invoked_at(pair.child), pair.leaving(scene))?;
-    let change = way.change;
-    let sync = plain(parted);
-    let otherwise = both(say(texts::ELSE), parted);
-    Ok(match way.means {
-        Means::Change => joined(change, nothing),
-        Means::Either => joined(change, otherwise),
-        Means::Sync => joined(sync, change),
-    })
+    let way = site.way_of(race).unwrap_or(by_sync(say("")));
+    push_way(scene, report, &way, pair)
 }
 
-fn joined<'a>(first: Change<'a>, then: Change<'a>) -> Cure<'a> {
-    Cure { first, then }
+fn push_way(
+    scene: &Scene<'_>,
+    report: &mut String,
+    way: &Way<'_>,
+    pair: &Pair,
+) -> Result<(), AllocError> {
+    let parted = parted_at(scene, scene.invoked_at(pair.child), pair.leaving(scene))?;
+    if let Means::Sync = way.means {
+        scene.push(report, &parted)?;
+    }
+    scene.push(report, &way.first)?;
+    scene.push(report, &way.second)?;
+    if let Means::Either = way.means {
+        report.push_str("; or, with less in parallel, ")?;
+        scene.push(report, &parted)?;
+    }
+    Ok(())
 }
 
 // Two events of a race, and the tokens of the text.
-#[derive(Drop)]
+#[derive(Clone, Copy)]
 struct Site<'a, 't> {
     scene: Scene<'a>,
     tokens: &'t Tokens<'a>,
     pair: Pair,
-}
-
-fn both<'a>(first: Sentence<'a>, second: Sentence<'a>) -> Change<'a> {
-    Change { first, second }
-}
-
-fn plain(sentence: Sentence<'_>) -> Change<'_> {
-    both(sentence, say(""))
 }
 
 impl<'a> Site<'a, '_> {
@@ -145,13 +120,14 @@ impl<'a> Site<'a, '_> {
             return Some(if self.scene.run.gives_result(self.pair.earlier) {
                 self.of_result(name)
             } else {
-                self.of_variable(name, texts::OWN)
+                self.of_variable(name, text("OWN"))
             });
         };
         let name = self.scene.word(global.name);
         let index = cell.saturating_sub(global.first);
         Some(match global.length {
-            None => self.of_variable(name, texts::OWN_GLOBAL),
+            None if self.is_in_called() => self.of_variable(name, text("CALLED_GLOBAL")),
+            None => self.of_variable(name, text("OWN_GLOBAL")),
             Some(length) if in_turns => self.of_turns(name, index, length),
             Some(_) => self.of_calls(name, index),
         })
@@ -168,45 +144,45 @@ impl<'a> Site<'a, '_> {
     // The result of a spawned call.
     fn of_result(&self, name: &'a [u8]) -> Way<'a> {
         if self.scene.run.gives_result(self.pair.later) {
-            return by_either(say(texts::RESULTS));
+            return by_either(say(text("RESULTS")));
         }
-        by_sync(say(texts::RESULT).word(name))
+        by_sync(say(text("RESULT")).word(name))
     }
 
     // A single variable.
     fn of_variable(&self, name: &'a [u8], own: &'static str) -> Way<'a> {
         if let Some(array) = filled(self.tokens, name) {
-            let filled = say(texts::FILLED).word(name).word(array);
-            return by_change(plain(filled.word(array)));
+            let filled = say(text("FILLED")).word(name).word(array);
+            return by_change(filled.word(array));
         }
         let in_turns = self.pair.is_in_turns(&self.scene);
         if in_turns && self.is_running(name) {
-            return by_change(plain(say(texts::RUNNING).word(name)));
+            return by_change(say(text("RUNNING")).word(name));
         }
         let [later, earlier] = self.statements();
         match (self.reduced(later, name), self.reduced(earlier, name)) {
-            (Some(change), Some(_)) => return by_change(change),
-            (Some(change), None) | (None, Some(change)) if in_turns => return by_change(change),
+            (Some(change), Some(_)) => return change,
+            (Some(change), None) | (None, Some(change)) if in_turns => return change,
             _ => {}
         }
         if in_turns {
-            by_change(plain(say(own).word(name).word(name)))
+            by_change(say(own).word(name).word(name))
         } else if self.is_beside_call() || self.is_in_one_loop() && self.writes() == (false, true) {
-            by_either(say(texts::PASSED).word(name))
+            by_either(say(text("PASSED")).word(name))
         } else {
             by_sync(say(""))
         }
     }
 
     // A reducer for what a statement adds up, or for the number that it keeps.
-    fn reduced(&self, first: usize, name: &'a [u8]) -> Option<Change<'a>> {
+    fn reduced(&self, first: usize, name: &'a [u8]) -> Option<Way<'a>> {
         let tokens = self.tokens;
         if let Some(sum) = adds(tokens, first, name) {
-            return Some(both(self.declared(first, "add", name), updated(name, sum)));
+            return Some(by_both(self.declared(first, "add", name), updated(name, sum)));
         }
         let Most { monoid, number } = keeps(tokens, first, name)?;
-        let compared = say(texts::COMPARED).word(name).word(number);
-        Some(both(self.declared(first, monoid, name), compared.word(name)))
+        let compared = say(text("COMPARED")).word(name).word(number).word(name);
+        Some(by_both(self.declared(first, monoid, name), compared.word(name)))
     }
 
     // Where a reducer in place of a variable is declared.
@@ -220,9 +196,9 @@ impl<'a> Site<'a, '_> {
             None => 0,
         };
         let words = match depth {
-            0 => texts::GLOBAL,
-            1 => texts::FIRST,
-            _ => texts::INNER,
+            0 => text("GLOBAL"),
+            1 => text("FIRST"),
+            _ => text("INNER"),
         };
         say(words).with(Part::Text(monoid)).word(name).word(name)
     }
@@ -280,35 +256,65 @@ impl<'a> Site<'a, '_> {
     fn of_turns(&self, name: &'a [u8], index: usize, length: usize) -> Way<'a> {
         let tokens = self.tokens;
         let [later, earlier] = self.statements();
-        let at = behind_mark(tokens, later);
+        let written = match self.writes() {
+            (true, false) => earlier,
+            _ => later,
+        };
+        let at = behind_mark(tokens, written);
         let behind = behind_place(tokens, at).saturating_sub(1);
         let inner = at.saturating_add(2);
         let position = text_of(tokens, inner, behind);
         let (variable, turns) = self.turns();
         let total = length.saturating_mul(turns);
         if let (Some(sum), Some(_)) = (adds(tokens, later, name), adds(tokens, earlier, name)) {
-            return by_change(if self.is_single() {
+            return if self.is_single() {
                 single(name, sum)
             } else {
-                let rows = say(texts::ROWS).count(total).count(length).word(variable);
+                let rows = say(text("ROWS")).count(total).count(length).word(variable);
                 let rows = rows.word(position).word(name).word(position);
-                both(rows, say(texts::ROWS_ADDED))
-            });
+                by_both(rows, say(text("ROWS_ADDED")))
+            };
         }
-        if self.function_frame(self.pair.second) != self.function_frame(self.pair.common) {
-            return by_change(plain(say(texts::WORK).word(name).word(name)));
+        if self.is_asked(name, text_of(tokens, at, behind.saturating_add(1))) {
+            return by_change(say(text("CLAIMED")).word(name));
         }
-        by_change(plain(match self.writes() {
-            (false, _) => say(texts::COPIED).word(name),
-            (true, false) => say(texts::FLOW).word(name).count(index).word(name),
-            (true, true) if has_name(tokens, inner, behind, variable) => {
-                say(texts::APART).word(name).word(position)
-            }
+        if self.is_in_called() {
+            return by_change(say(text("WORK")).word(name).word(name));
+        }
+        let is_own = has_name(tokens, inner, behind, variable);
+        by_change(match self.writes() {
+            (true, true) if is_own => say(text("APART")).word(name).word(position),
             (true, true) => {
-                let row = say(texts::ROW).word(name).count(total).count(length);
-                row.word(variable)
+                let row = say(text("ROW")).word(name).word(name).count(total);
+                row.count(length).word(variable)
             }
-        }))
+            _ if !is_own => say(text("ORDER")).word(name),
+            (false, _) => say(text("COPIED")).word(name),
+            (true, false) => say(text("FLOW")).word(name).count(index).word(name),
+        })
+    }
+
+    // Whether the later event is in a function that a turn calls.
+    fn is_in_called(&self) -> bool {
+        self.function_frame(self.pair.second) != self.function_frame(self.pair.common)
+    }
+
+    // Whether an `if` asks what this element of an array is.
+    fn is_asked(&self, name: &[u8], place: &[u8]) -> bool {
+        for number in 0..self.tokens.count() {
+            let named = number.saturating_add(2);
+            if matches!(self.tokens.kind(number), Some(Kind::If))
+                && self.tokens.word(named) == name
+            {
+                let behind = behind_place(self.tokens, named);
+                if matches!(self.tokens.kind(behind), Some(Kind::Equal))
+                    && text_of(self.tokens, named, behind) == place
+                {
+                    return true;
+                }
+            }
+        }
+        false
     }
 
     // The nearest frame of a function around a frame.
@@ -371,7 +377,7 @@ impl<'a> Site<'a, '_> {
 
     // An element that a spawned call and what runs beside it share.
     fn of_calls(&self, name: &'a [u8], index: usize) -> Way<'a> {
-        let work = say(texts::WORK).word(name).word(name);
+        let work = say(text("WORK")).word(name).word(name);
         if !self.is_beside_call() {
             return if self.is_in_one_loop() && self.writes().1 {
                 by_either(work)
@@ -381,13 +387,13 @@ impl<'a> Site<'a, '_> {
         }
         by_either(if self.is_in_ranges(index) {
             let called = self.scene.function_of(self.pair.child);
-            say(texts::RANGES)
+            say(text("RANGES"))
                 .word(name)
                 .word(called)
                 .word(name)
                 .count(index)
         } else if self.writes() == (true, false) {
-            say(texts::TABLE).word(name)
+            say(text("TABLE")).word(name)
         } else {
             work
         })
@@ -456,30 +462,30 @@ impl<'a> Site<'a, '_> {
         let reducer = tokens.number_at(byte_of(&self.scene, at));
         let name = tokens.word(reducer);
         if let Some(Most { monoid, number }) = kept_by(tokens, reducer) {
-            let kept = say(texts::KEPT).with(Part::Text(monoid)).word(name);
-            return by_change(plain(kept.word(name).word(number)));
+            let kept = say(text("KEPT")).with(Part::Text(monoid)).word(name);
+            return by_change(kept.word(name).word(number));
         }
         let is_behind = at == self.pair.later && !self.pair.is_in_turns(&self.scene);
         if !is_behind && self.is_set(name) {
-            let own = say(texts::OWN_SUM).word(name).word(name).word(name);
+            let own = say(text("OWN_SUM")).word(name).word(name).word(name);
             let monoid = match tokens.declaration_of(reducer) {
                 Some((declared, _)) => tokens.word(declared.saturating_sub(2)),
                 None => &[],
             };
-            let reducer = say(texts::OWN_REDUCER).word(monoid).word(name);
-            return by_change(both(own.word(name).word(name), reducer));
+            let reducer = say(text("OWN_REDUCER")).word(monoid).word(name);
+            return by_both(own.word(name).word(name), reducer);
         }
         if self.pair.is_in_turns(&self.scene) {
-            return by_change(plain(say(texts::AFTER_LOOP).word(name)));
+            return by_change(say(text("AFTER_LOOP")).word(name));
         }
         if is_behind {
             return by_sync(say(""));
         }
-        let read = say(texts::IN_PARENT)
+        let read = say(text("IN_PARENT"))
             .word(name)
             .word(self.scene.function_of(self.pair.common));
         let spawn = self.scene.place(self.scene.invoked_at(self.pair.child));
-        by_change(plain(read.with(spawn)))
+        by_change(read.with(spawn))
     }
 
     // Whether the text sets a reducer with this name.
@@ -504,15 +510,15 @@ fn is_write(event: Option<Event>) -> bool {
 }
 
 // A reducer for the one element of an array that is added to.
-fn single<'a>(array: &'a [u8], sum: Added<'a>) -> Change<'a> {
+fn single<'a>(array: &'a [u8], sum: Added<'a>) -> Way<'a> {
     let name = b"all".as_slice();
-    let declared = say(texts::SINGLE).with(Part::Text("add")).word(name);
-    both(declared.word(array), updated(name, sum))
+    let declared = say(text("SINGLE")).with(Part::Text("add")).word(name);
+    by_both(declared.word(array), updated(name, sum))
 }
 
 // How a reducer is updated and read.
 fn updated<'a>(name: &'a [u8], sum: Added<'a>) -> Sentence<'a> {
-    let updated = say(texts::UPDATED).word(name).with(Part::Text(sum.open));
+    let updated = say(text("UPDATED")).word(name).with(Part::Text(sum.open));
     let updated = updated.word(sum.amount).with(Part::Text(sum.close));
     updated.word(name)
 }

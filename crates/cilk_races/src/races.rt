@@ -1,6 +1,6 @@
 //! Reports on two accesses that race, or on a reducer's read that a schedule can change.
 
-use crate::cures::cure_of;
+use crate::cures::push_cure;
 use crate::pair::{Pair, Race, byte_of, cell_at, pair_of, viewed_at};
 use crate::schedules::search;
 use cilk_findings::case::Case;
@@ -54,7 +54,7 @@ fn push_race(scene: &Scene<'_>, report: &mut String, race: Race) -> Result<(), A
     let pair = pair_of(scene, race)?;
     push_events(scene, report, race, &pair)?;
     report.push_str("hint: ")?;
-    cure_of(scene, race, &pair)?.push(scene, report)?;
+    push_cure(scene, report, race, &pair)?;
     report.push('\n')?;
     push_declared(scene, report, race)?;
     match pair {

@@ -5,7 +5,7 @@ use cilk_findings::case::Case;
 use cilk_findings::scene::Scene;
 use cilk_messages::sentence::{Part, Sentence, push_line, say};
 use cilk_schedule::{PlayFault, play_steps};
-use cilk_script::script::{ScriptFault, read};
+use cilk_script::script::{ScriptFault, Step, read};
 use cilk_serial::fault::RunFault;
 use cilk_serial::run::run;
 use cilk_types::invocation::Invocation;
@@ -56,17 +56,20 @@ pub struct Found {
 /// whose outcome differs most, if `play` takes any. The first makes the later event first.
 pub fn search(scene: &Scene<'_>, pair: &Pair) -> Result<Option<Found>, AllocError> {
     let case = scene.case;
-    let serial = match run(case.alloc, &case.program, &case.input) {
-        Ok((serial, _trace)) => serial,
-        Err(RunFault::At { .. }) => return Ok(None),
-        Err(RunFault::Memory) => return Err(AllocError),
-    };
+    match run(case.alloc, &case.program, &case.input) {
+        Ok((serial, _trace)) => best_of(scene, pair, &serial),
+        Err(RunFault::At { .. }) => Ok(None),
+        Err(RunFault::Memory) => Err(AllocError),
+    }
+}
+
+fn best_of(scene: &Scene<'_>, pair: &Pair, serial: &Outcome) -> Result<Option<Found>, AllocError> {
     let mut best: Option<Found> = None;
     let mut played: usize = 0;
     for near in NEAR {
         for beyond in BEYOND {
             let schedule = schedule_of(scene, pair, near, beyond);
-            let difference = schedule.play(case, &serial)?;
+            let difference = schedule.play(scene.case, serial)?;
             played = played.saturating_add(1);
             best = better(best, schedule, difference, played);
             if scene.run.trace.len() > SEARCHED || is_shown(&best) {
@@ -123,13 +126,7 @@ impl Found {
     /// Adds the outcome in words, and the script.
     pub fn push(&self, case: &Case<'_>, report: &mut String) -> Result<(), AllocError> {
         push_line(case.alloc, report, "schedule", &self.words())?;
-        let script = self.script(case)?;
-        for line in script.lines() {
-            report.push_str("  ")?;
-            report.push_str(line)?;
-            report.push('\n')?;
-        }
-        Ok(())
+        self.schedule.say(SHOWN).push(case.alloc, report)
     }
 
     fn words(&self) -> Sentence<'static> {
@@ -165,32 +162,43 @@ const ONE: &str =
     "this script for `play` makes the later access first, and leaves what `run` leaves; no other was tried, as the \
      run is long";
 
+const SCRIPT: &str = "run 1 {}\nsteal 2 {}\nrun 2 {}\nrun 1 {}\nall\n";
+
+const SHOWN: &str = "  run 1 {}\n  steal 2 {}\n  run 2 {}\n  run 1 {}\n  all\n";
+
 impl Schedule {
+    fn say(&self, words: &'static str) -> Sentence<'static> {
+        let steal = say(words).count(self.ahead).count(self.place);
+        steal.count(self.behind).count(self.child)
+    }
+
     fn script(&self, case: &Case<'_>) -> Result<String, AllocError> {
-        let alloc = case.alloc;
-        let Schedule {
-            ahead,
-            place,
-            behind,
-            child,
-        } = *self;
-        format!(in alloc; "run 1 {ahead}\nsteal 2 {place}\nrun 2 {behind}\nrun 1 {child}\nall\n")
+        let mut script = String::new(case.alloc);
+        self.say(SCRIPT).push(case.alloc, &mut script)?;
+        Ok(script)
     }
 
     // How its outcome differs, if `play` takes it and reaches the run's end.
     fn play(&self, case: &Case<'_>, serial: &Outcome) -> Result<Option<Difference>, AllocError> {
         let script = self.script(case)?;
-        let steps = match read(case.alloc, script.as_bytes()) {
-            Ok(steps) => steps,
-            Err(ScriptFault::Line(_)) => return Ok(None),
-            Err(ScriptFault::Memory) => return Err(AllocError),
-        };
-        match play_steps(case.alloc, &case.program, &case.input, 2, steps.as_slice()) {
-            Ok(Some(outcome)) => Ok(Some(differing(&outcome, serial))),
-            Ok(None) | Err(PlayFault::Line(_)) => Ok(None),
-            Err(PlayFault::Stop { fault, .. }) => Ok(Some(Difference::Stops(fault.number()))),
-            Err(PlayFault::Memory) => Err(AllocError),
+        match read(case.alloc, script.as_bytes()) {
+            Ok(steps) => played(case, steps.as_slice(), serial),
+            Err(ScriptFault::Line(_)) => Ok(None),
+            Err(ScriptFault::Memory) => Err(AllocError),
         }
+    }
+}
+
+fn played(
+    case: &Case<'_>,
+    steps: &[Step],
+    serial: &Outcome,
+) -> Result<Option<Difference>, AllocError> {
+    match play_steps(case.alloc, &case.program, &case.input, 2, steps) {
+        Ok(Some(outcome)) => Ok(Some(differing(&outcome, serial))),
+        Ok(None) | Err(PlayFault::Line(_)) => Ok(None),
+        Err(PlayFault::Stop { fault, .. }) => Ok(Some(Difference::Stops(fault.number()))),
+        Err(PlayFault::Memory) => Err(AllocError),
     }
 }
 
