@@ -1,4 +1,4 @@
-//! Worked programs, and how they are played.
+//! Worked programs, and rounds of their workers.
 
 ghost use Rattle.std.specs.Prelude.{◌≡◌, None};
 ghost use Rattle.cilk_schedule.specs.Sound.{Runs};
@@ -6,11 +6,9 @@ ghost use Rattle.cilk_schedule.specs.Sound.{Runs};
 use cilk_checker::judge::program;
 use cilk_lower::code::Code;
 use cilk_lower::lower::lower;
-use cilk_schedule::machine::{Machine, play};
-use cilk_schedule::showing::Shown;
+use cilk_schedule::machine::Machine;
 use cilk_scheduler::choice::{Choice, Stop};
 use cilk_types::input::Input;
-use cilk_types::outcome::Outcome;
 use cilk_types::word_list::WordList;
 use std::alloc::Global;
 use std::process::Abort;
@@ -27,45 +25,6 @@ pub fn code_of(rt: &impl Abort, alloc: Global, text: &str) -> Code {
 
 pub fn no_input(alloc: Global) -> Input {
     Input::new(WordList::new(alloc))
-}
-
-/// A line of a script: a worker continues with its frame n times, or steals the continuation at an
-/// index.
-#[derive(Clone, Copy)]
-pub enum Line {
-    Run(u32, u32),
-    Steal(u32, usize),
-}
-
-/// Returns the choices of these lines, one after another.
-pub fn script(rt: &impl Abort, alloc: Global, lines: &[Line]) -> Vec<Choice> {
-    let mut choices = Vec::new(alloc);
-    for line in lines {
-        let (choice, count) = choice_of(*line);
-        for _ in 0..count {
-            let Ok(()) = choices.push(choice) else {
-                panic!(rt; "no memory");
-            };
-        }
-    }
-    choices
-}
-
-// The choice of a line, and how often it is made.
-fn choice_of(line: Line) -> (Choice, u32) {
-    match line {
-        Line::Run(worker, count) => (Choice::Run(worker), count),
-        Line::Steal(worker, place) => (Choice::Steal(worker, place), 1),
-    }
-}
-
-/// Returns the run after the choices of these lines.
-pub fn played(rt: &impl Abort, alloc: Global, code: &Code, workers: u32, lines: &[Line]) -> Shown {
-    let choices = script(rt, alloc, lines);
-    match play(alloc, code, &no_input(alloc), workers, choices.as_slice()) {
-        Ok(shown) => shown,
-        Err((stop, name)) => panic!(rt; "{stop:?} {name:?}"),
-    }
 }
 
 /// Plays round-robin choices of n workers until the run has ended: each continues with its frame,
@@ -90,29 +49,6 @@ fn turn(machine: &Machine<'_>, worker: u32) -> Choice {
         Choice::Run(worker)
     } else {
         Choice::Steal(worker, 0)
-    }
-}
-
-/// Returns the whole run by round-robin choices of n workers.
-pub fn all(rt: &impl Abort, alloc: Global, code: &Code, workers: u32) -> Shown {
-    let input = no_input(alloc);
-    let Ok(mut machine) = Machine::new(alloc, code, &input, workers) else {
-        panic!(rt; "no memory");
-    };
-    if let Err(stop) = rounds(alloc, &mut machine, workers) {
-        panic!(rt; "{stop:?}");
-    }
-    assert!(rt; machine.ended() && machine.offered() == 0);
-    let Ok(shown) = machine.shown(alloc) else {
-        panic!(rt; "no memory");
-    };
-    shown
-}
-
-pub fn outcome_of<'a>(rt: &impl Abort, shown: &'a Shown) -> &'a Outcome {
-    match shown.outcome() {
-        Some(outcome) => outcome,
-        None => panic!(rt; "not ended"),
     }
 }
 

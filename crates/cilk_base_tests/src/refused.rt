@@ -15,6 +15,7 @@ use cilk_schedule::naming::{CellName, ReducerName, ShownEvent};
 use cilk_schedule::showing::Shown;
 use cilk_scheduler::choice::{Choice, Stop};
 use std::alloc::{AllocError, Global};
+use std::mem::replace;
 use std::process::Abort;
 
 // Two programs, one with an `append` reducer and one with local reducers, and their results.
@@ -156,79 +157,42 @@ fn are_first(shown: &Shown, begun: &[ShownEvent], whole: &Shown, all: &[ShownEve
 // Whether two events of two runs are the same. Indices of frames depend on the schedule, so frames
 // are compared by their paths.
 fn is_same_event(shown: &Shown, one: ShownEvent, whole: &Shown, other: ShownEvent) -> bool {
-    moved(one) == moved(other) && is_same_frame(shown, owner(one), whole, owner(other))
+    let (one, owner) = parted(one);
+    let (other, other_owner) = parted(other);
+    one == other && is_same_frame(shown, owner, whole, other_owner)
 }
 
-// The index of the frame that owns the event's cell or reducer; 0 if it has neither.
-fn owner(event: ShownEvent) -> u32 {
-    let frame = match event {
-        ShownEvent::Read { cell, .. } | ShownEvent::Write { cell, .. } => cell_owner(cell),
-        ShownEvent::Create { reducer }
-        | ShownEvent::Update { reducer, .. }
-        | ShownEvent::Set { reducer, .. }
-        | ShownEvent::Value { reducer, .. } => reducer_owner(reducer),
+// An event as of the first frame's cell or reducer, and the index of the frame that owns it; 0 if
+// it has neither.
+fn parted(event: ShownEvent) -> (ShownEvent, u32) {
+    let mut event = event;
+    let owner = match &mut event {
+        ShownEvent::Read {
+            cell: CellName::Own { frame, place: _ },
+            value: _,
+        }
+        | ShownEvent::Write {
+            cell: CellName::Own { frame, place: _ },
+            value: _,
+        }
+        | ShownEvent::Create {
+            reducer: ReducerName::Own { frame, place: _ },
+        }
+        | ShownEvent::Update {
+            reducer: ReducerName::Own { frame, place: _ },
+            value: _,
+        }
+        | ShownEvent::Set {
+            reducer: ReducerName::Own { frame, place: _ },
+            value: _,
+        }
+        | ShownEvent::Value {
+            reducer: ReducerName::Own { frame, place: _ },
+            value: _,
+        } => replace(frame, 0),
         _ => 0,
     };
-    u32::try_from(frame).unwrap_or(u32::MAX)
-}
-
-fn cell_owner(cell: CellName) -> usize {
-    match cell {
-        CellName::Global(_) => 0,
-        CellName::Own { frame, place: _ } => frame,
-    }
-}
-
-fn reducer_owner(reducer: ReducerName) -> usize {
-    match reducer {
-        ReducerName::Output => 0,
-        ReducerName::Own { frame, place: _ } => frame,
-    }
-}
-
-// The event with the first frame as the owner of its cell or reducer.
-fn moved(event: ShownEvent) -> ShownEvent {
-    match event {
-        ShownEvent::Read { cell, value } => {
-            let cell = moved_cell(cell);
-            ShownEvent::Read { cell, value }
-        }
-        ShownEvent::Write { cell, value } => {
-            let cell = moved_cell(cell);
-            ShownEvent::Write { cell, value }
-        }
-        ShownEvent::Create { reducer } => {
-            let reducer = moved_reducer(reducer);
-            ShownEvent::Create { reducer }
-        }
-        ShownEvent::Update { reducer, value } => {
-            let reducer = moved_reducer(reducer);
-            ShownEvent::Update { reducer, value }
-        }
-        ShownEvent::Set { reducer, value } => {
-            let reducer = moved_reducer(reducer);
-            ShownEvent::Set { reducer, value }
-        }
-        ShownEvent::Value { reducer, value } => {
-            let reducer = moved_reducer(reducer);
-            ShownEvent::Value { reducer, value }
-        }
-        _ => event,
-    }
-}
-
-fn moved_cell(cell: CellName) -> CellName {
-    match cell {
-        CellName::Global(_) => cell,
-        CellName::Own { frame: _, place } => CellName::Own { frame: 0, place },
-    }
-}
-
-fn moved_reducer(reducer: ReducerName) -> ReducerName {
-    match reducer {
-        ReducerName::Output => reducer,
-        ReducerName::Own { frame: _, place } => ReducerName::Own { frame: 0, place },
-    }
+    (event, u32::try_from(owner).unwrap_or(u32::MAX))
 }
 
 // Whether two frames of two runs have the same path: the same ordinals up to the first frame.

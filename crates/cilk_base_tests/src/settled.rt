@@ -20,68 +20,46 @@ const NESTED: &str =
     node(n - 1); cilk_spawn leaf(n); update(l, 10 * n); cilk_sync; update(l, 100 * n); cilk_spawn node(n - 1); } \
     update(l, 1000 * n); } int main() { cilk_spawn node(3); leaf(7); cilk_sync; return value(l); }";
 
-// Checks programs without input: each schedule has the outcome of the serial run.
+fn is_settled(rt: &impl Abort, alloc: Global, text: &str, numbers: &str) {
+    assert_eq!(rt; as_serially(rt, alloc, text, numbers), 200, "{text}");
+}
+
+// Checks programs without input.
 fn are_settled(rt: &impl Abort, alloc: Global, texts: &[&str]) {
     for text in texts {
         is_settled(rt, alloc, text, "");
     }
 }
 
-fn is_settled(rt: &impl Abort, alloc: Global, text: &str, numbers: &str) {
-    assert_eq!(rt; as_serially(rt, alloc, text, numbers), 200, "{text}");
-}
-
 #[test]
-fn worked_programs(rt: HostRuntime) {
-    are_settled(
-        &rt,
-        rt.alloc(),
-        [SUM, LIST, LOCAL, PRINTS, GIVEN, NESTED].as_slice(),
-    );
-}
-
-#[test]
-fn small_examples(rt: HostRuntime) {
+fn small_programs(rt: HostRuntime) {
     let texts = [
-        FIB, SQUARES, MONOIDS, REDUCERS, SPAWNS, STATEMENTS, OPERATORS, WORDS, COUNTDOWN, FIRST,
+        SUM, LIST, LOCAL, PRINTS, GIVEN, NESTED, FIB, SQUARES, MONOIDS, REDUCERS, SPAWNS,
+        STATEMENTS, OPERATORS, WORDS, COUNTDOWN, FIRST,
     ];
-    are_settled(&rt, rt.alloc(), texts.as_slice());
-}
-
-#[test]
-fn examples_with_an_input(rt: HostRuntime) {
+    are_settled(&rt, rt.alloc(), &texts);
     is_settled(&rt, rt.alloc(), INPUTS, INPUTS_INPUT);
+}
+
+#[test]
+fn sorting_and_matrices(rt: HostRuntime) {
+    let texts = [
+        MERGE_SORT,
+        QUICKSORT,
+        MATRIX_PRODUCT,
+        LU,
+        FLOYD_WARSHALL,
+        HEAT,
+        MANDELBROT,
+    ];
+    are_settled(&rt, rt.alloc(), &texts);
+}
+
+#[test]
+fn searches_and_counts(rt: HostRuntime) {
+    let texts = [BFS, COLLATZ, HISTOGRAM, QUEENS, SIEVE, PREFIX_SUM];
+    are_settled(&rt, rt.alloc(), &texts);
     is_settled(&rt, rt.alloc(), KNAPSACK, KNAPSACK_INPUT);
-}
-
-#[test]
-fn sorting(rt: HostRuntime) {
-    are_settled(&rt, rt.alloc(), [MERGE_SORT, QUICKSORT].as_slice());
-}
-
-#[test]
-fn matrices(rt: HostRuntime) {
-    are_settled(&rt, rt.alloc(), [MATRIX_PRODUCT, LU].as_slice());
-}
-
-#[test]
-fn graphs(rt: HostRuntime) {
-    are_settled(&rt, rt.alloc(), [FLOYD_WARSHALL, BFS].as_slice());
-}
-
-#[test]
-fn pictures(rt: HostRuntime) {
-    are_settled(&rt, rt.alloc(), [HEAT, MANDELBROT].as_slice());
-}
-
-#[test]
-fn counts(rt: HostRuntime) {
-    are_settled(&rt, rt.alloc(), [COLLATZ, HISTOGRAM].as_slice());
-}
-
-#[test]
-fn searches(rt: HostRuntime) {
-    are_settled(&rt, rt.alloc(), [QUEENS, SIEVE, PREFIX_SUM].as_slice());
 }
 
 #[test]

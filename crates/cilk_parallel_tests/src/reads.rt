@@ -1,8 +1,5 @@
 //! Reads of files by the commands that start threads, and a certificate whose file fails.
 
-ghost use Rattle.std.specs.Prelude.{◌≡◌};
-
-use cilk_commands::files::{FileFault, Files};
 use cilk_report::KeptFiles;
 use cilk_served::served::{Broken, Ended, Folder};
 use cilk_tool::serve;
@@ -15,50 +12,6 @@ const FIB: &str =
     "#include <cilk/cilk.h>\nint fib(int n) { if (n < 2) { return n; } int x; int y; x = cilk_spawn fib(n - 1); y \
     = fib(n - 2); cilk_sync; return x + y; } int main() { int r; r = fib(10); return r; }";
 
-/// A folder in which each part after the first `parts` fails.
-#[derive(Drop)]
-struct Failing<'a> {
-    folder: Folder<'a>,
-    parts: u64,
-}
-
-impl<'a> Failing<'a> {
-    /// Creates a folder with the program and this certificate.
-    fn new(certificate: &'a [u8], parts: u64) -> Failing<'a>
-        ensures { result.folder.failures ≡ 0 }
-    {
-        Failing {
-            folder: Folder::new(FIB.as_bytes(), b"", certificate, b""),
-            parts,
-        }
-    }
-}
-
-impl Files for Failing<'_> {
-    ghost use Rattle.std.specs.Prelude.{None};
-    ghost use Rattle.cilk_commands.specs.Files.{failures};
-
-    ghost failed = { λ f. failures f.folder.failures (λ _. 0) };
-
-    ghost holds = { λ _ _. None };
-
-    fn read(&mut self, alloc: Global, path: &str) -> Result<Vec<u8>, FileFault> {
-        self.folder.read(alloc, path)
-    }
-
-    fn part(&mut self, path: &str, at: u64, into: &mut [u8]) -> Result<usize, FileFault> {
-        if self.parts == 0 {
-            return self.folder.part("no file", at, into);
-        }
-        self.parts -= 1;
-        self.folder.part(path, at, into)
-    }
-
-    fn failures(&self) -> u64 {
-        self.folder.failures()
-    }
-}
-
 // Makes a call whose reads of the certificate's file fail after `parts` parts.
 fn served<H: Threads + Wait + Sync>(
     rt: &H,
@@ -67,7 +20,9 @@ fn served<H: Threads + Wait + Sync>(
     certificate: &[u8],
     parts: u64,
 ) -> Ended {
-    let mut files = KeptFiles::new(alloc, Failing::new(certificate, parts));
+    let mut folder = Folder::new(FIB.as_bytes(), b"", certificate, b"");
+    folder.parts = parts;
+    let mut files = KeptFiles::new(alloc, folder);
     let (mut out, mut err) = (Vec::new(alloc), Vec::new(alloc));
     let status = serve(
         rt,
@@ -82,45 +37,57 @@ fn served<H: Threads + Wait + Sync>(
         status,
         out,
         err,
-        reads: files.files.folder.reads,
+        reads: files.files.reads,
     }
 }
 
+// The number of parts of a right certificate that a check by helpers reads.
+fn parts_read<H: Threads + Wait + Sync>(
+    rt: &H,
+    alloc: Global,
+    certificate: &[u8],
+    helpers: &str,
+) -> Option<u64> {
+    let words = ["check", "program", "certificate", "--helpers", helpers];
+    let ended = served(rt, alloc, &words, certificate, u64::MAX);
+    if ended.is(0, "accepted\n", "") {
+        ended.reads.checked_sub(1)
+    } else {
+        None
+    }
+}
+
+// Whether a check by two helpers says that the certificate can't be read after some parts.
+fn is_unread<H: Threads + Wait + Sync>(
+    rt: &H,
+    alloc: Global,
+    certificate: &[u8],
+    parts: u64,
+) -> bool {
+    let words = ["check", "program", "certificate", "--helpers", "2"];
+    served(rt, alloc, &words, certificate, parts).is(2, "", "cannot read certificate\n")
+}
+
+// One helper reads the certificate once. The reading for hints ends with the root, before the pull
+// that finds the end of the text.
 #[test]
 fn each_part_of_both_readings_fails(rt: HostRuntime) {
     let made = served(&rt, rt.alloc(), &["certify", "program"], b"", u64::MAX);
     let certificate = made.out.as_slice();
-    let words = ["check", "program", "certificate", "--helpers", "2"];
-    let whole = served(&rt, rt.alloc(), &words, certificate, u64::MAX);
-    assert!(rt; whole.is(0, "accepted\n", ""));
-    let parts = whole.reads.saturating_sub(1);
-    for left in 0..parts {
-        let ended = served(&rt, rt.alloc(), &words, certificate, left);
+    let once = parts_read(&rt, rt.alloc(), certificate, "1").unwrap_or(0);
+    let twice = parts_read(&rt, rt.alloc(), certificate, "2").unwrap_or(0);
+    assert!(rt; once >= 2 && twice == once.saturating_mul(2).saturating_sub(1));
+    for left in 0..twice {
         assert!(rt;
-            ended.is(2, "", "cannot read certificate\n"),
+            is_unread(&rt, rt.alloc(), certificate, left),
             "after {left} parts"
         );
     }
 }
 
 #[test]
-fn one_helper_reads_the_certificate_once(rt: HostRuntime) {
-    let made = served(&rt, rt.alloc(), &["certify", "program"], b"", u64::MAX);
-    let certificate = made.out.as_slice();
-    let one = ["check", "program", "certificate", "--helpers", "1"];
-    let two = ["check", "program", "certificate", "--helpers", "2"];
-    let once = served(&rt, rt.alloc(), &one, certificate, u64::MAX);
-    let twice = served(&rt, rt.alloc(), &two, certificate, u64::MAX);
-    assert!(rt; once.is(0, "accepted\n", "") && twice.is(0, "accepted\n", ""));
-    let parts = once.reads.saturating_sub(1);
-    // The reading for hints ends with the root, before the pull that finds the end of the text.
-    assert!(rt; parts >= 2 && twice.reads == parts.saturating_mul(2));
-}
-
-#[test]
 fn no_file_is_read_for_wrong_words(rt: HostRuntime) {
-    let cases: [&[&str]; 3] = [
-        &["threads"],
+    let cases: [&[&str]; 2] = [
         &["threads", "program"],
         &["threads", "program", "certificate", "--trace", "script"],
     ];

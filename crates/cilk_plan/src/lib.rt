@@ -7,8 +7,8 @@
 //! - the program, its code and the run's input;
 //! - the kinds of the run's events in serial order ([`cilk_tree::plan::Plan`]);
 //! - for each frame, the body that it runs and where its cells are;
-//! - for each spawn, its continuation: the `resume` after it and the `sync` that ends its block;
-//! - the positions of the sync blocks and of the strands.
+//! - for each spawn, the `resume` after it; the blocks with spawns, by the `sync` that ends each;
+//! - the positions at which strands begin.
 //!
 //! It holds no value of any event and no outcome, so a worker knows only what it loads or computes.
 //! A plan can also be run on another input: the run follows the plan as long as the frames request

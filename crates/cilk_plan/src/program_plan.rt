@@ -1,18 +1,14 @@
 //! The plan of an accepted run: all that a worker may know of it.
 
-ghost use Rattle.std.specs.Prelude.{◌≡◌, ◌↔◌, ◌≤◌, ℕ, List, Some, None, slice_get, slice_index_or, IfOk, IsSome};
+ghost use Rattle.std.specs.Prelude.{◌≡◌, ℕ, List, IfOk};
 ghost use Rattle.cilk_checker.specs.Determinate.{AreFramesOf, HasDeterminateRun};
 ghost use Rattle.cilk_lower.specs.Behaves.{Behaves};
 ghost use Rattle.cilk_lower.specs.Layout.{LaysOut};
 ghost use Rattle.cilk_lower.specs.Rooms.{RoomsFit};
-ghost use Rattle.cilk_tree.specs.Blocks.{IsContinuationOf};
 ghost use Rattle.cilk_tree.specs.Resumptions.{AreResumptions};
-ghost use Rattle.cilk_tree.specs.PlanStrands.{BeginsStrand};
-ghost use Rattle.cilk_tree.specs.declared.blocks.Continuation.{Continuation};
 ghost use Rattle.cilk_program.specs.Sources.{source};
 ghost use Rattle.cilk_tree.specs.Orders.{IsOrderly};
 ghost use Rattle.cilk_tree.specs.Kinds.{IsBehind};
-ghost use Rattle.cilk_tree.specs.Word.{spawn, word_step};
 ghost use Rattle.cilk_plan.specs.Columns.{AreBlockEnds, AreBlocks, AreStrands};
 ghost use Rattle.cilk_plan.specs.Continuations.{SpawnsHaveContinuations};
 ghost use Rattle.cilk_plan.specs.Frames.{IsFrameOf};
@@ -26,7 +22,7 @@ use cilk_checker::frames::PlannedFrame;
 use cilk_lower::code::Code;
 use cilk_lower::lower::lower;
 use cilk_program::program::Program;
-use cilk_tree::blocks::{Continuation, continuations};
+use cilk_tree::blocks::continuations;
 use cilk_tree::kind::Asked;
 use cilk_tree::plan::Plan;
 use cilk_tree::plan_strands::starts;
@@ -39,17 +35,14 @@ use std::snapshot::Snapshot;
 /// The plan of a program's run.
 ///
 /// It has the program, its code and the run's input; the plan of its events; the body and cells of
-/// each frame; and the continuations, blocks and strands. It has no value of any event and no
-/// outcome, so a worker knows only what it loads or computes. Contracts see the accepted run and
-/// its event order.
+/// each frame; and the blocks and strands. It has no value of any event and no outcome, so a worker
+/// knows only what it loads or computes. Contracts see the accepted run and its event order.
 pub struct ProgramPlan<'a> {
     program: &'a Program,
     input: &'a Input,
     code: Code,
     events: Plan,
     frames: &'a [PlannedFrame],
-    continuations: Vec<Option<Continuation>>,
-    starts: Vec<Pos>,
     syncs: Vec<Pos>,
     blocks: Vec<u32>,
     strands: Vec<StrandNo>,
@@ -66,8 +59,6 @@ impl Drop for ProgramPlan<'_> {
             code: _code,
             events: _events,
             frames: _frames,
-            continuations: _continuations,
-            starts: _starts,
             syncs: _syncs,
             blocks: _blocks,
             strands: _strands,
@@ -83,9 +74,7 @@ impl<'a> Model for ProgramPlan<'a> {
     ghost use Rattle.cilk_lower.specs.Behaves.{Behaves};
     ghost use Rattle.cilk_lower.specs.Layout.{LaysOut};
     ghost use Rattle.cilk_lower.specs.Rooms.{RoomsFit};
-    ghost use Rattle.cilk_tree.specs.Blocks.{AreContinuations};
     ghost use Rattle.cilk_tree.specs.Resumptions.{AreResumptions};
-    ghost use Rattle.cilk_tree.specs.PlanStrands.{AreStarts};
     ghost use Rattle.cilk_program.specs.Sources.{source};
     ghost use Rattle.cilk_plan.specs.Columns.{AreBlockEnds, AreBlocks, AreStrands};
     ghost use Rattle.cilk_plan.specs.Plans.{IsPlanOf, WholePlan, whole_code};
@@ -96,7 +85,7 @@ impl<'a> Model for ProgramPlan<'a> {
 
     ghost view = { λ p. record { run = p.accepted.value; event_order = p.events } };
 
-    ghost invariant = { λ p. HasDeterminateRun p.accepted.value × (p.program.now ≡ p.accepted.value.program) × (p.input.now ≡ p.accepted.value.input) × Behaves (source p.accepted.value.program) p.code × RoomsFit (source p.accepted.value.program) p.code × LaysOut (source p.accepted.value.program) p.code.layout × IsPlanOf p.accepted.value p.events × AreFramesOf p.accepted.value p.frames.now × AreContinuations p.events p.continuations.items × AreStarts p.accepted.value.trace p.starts.items × AreBlockEnds p.events p.syncs.items × AreStrands p.accepted.value.trace p.strands.items × AreResumptions p.events p.resumptions.items × AreBlocks p.events p.syncs.items p.blocks.items };
+    ghost invariant = { λ p. HasDeterminateRun p.accepted.value × (p.program.now ≡ p.accepted.value.program) × (p.input.now ≡ p.accepted.value.input) × Behaves (source p.accepted.value.program) p.code × RoomsFit (source p.accepted.value.program) p.code × LaysOut (source p.accepted.value.program) p.code.layout × IsPlanOf p.accepted.value p.events × AreFramesOf p.accepted.value p.frames.now × AreBlockEnds p.events p.syncs.items × AreStrands p.accepted.value.trace p.strands.items × AreResumptions p.events p.resumptions.items × AreBlocks p.events p.syncs.items p.blocks.items };
 }
 
 /// Makes the plan of an accepted program's run. Cost and memory: linear in the run's events and the
@@ -118,8 +107,6 @@ pub fn plan<'a>(alloc: Global, accepted: &'a Accepted) -> Result<ProgramPlan<'a>
         code,
         events,
         frames: accepted.frames(),
-        continuations,
-        starts,
         syncs,
         blocks,
         strands,
@@ -192,8 +179,6 @@ impl<'a> ProgramPlan<'a> {
             code: _code,
             events,
             frames: _frames,
-            continuations: _continuations,
-            starts: _starts,
             syncs: _syncs,
             blocks: _blocks,
             strands: _strands,
@@ -228,26 +213,6 @@ impl<'a> ProgramPlan<'a> {
         }
     }
 
-    /// Returns the continuation of the spawn at a position, or `None` if there is no spawn.
-    pub fn continuation(&self, at: Pos) -> Option<Continuation>
-        ensures exact { (c : Continuation) → (result ≡ Some c) ↔ IsContinuationOf self.now.event_order at c }
-        ensures there { IsSome result ↔ (word_step self.now.event_order at ≡ spawn) }
-    {
-        self.laws();
-        continuation_in(&self.continuations, at as usize)
-    }
-
-    /// Returns the position of a strand's first event, or `None` if the run has no such strand.
-    /// Strands are numbered from 1.
-    pub fn strand(&self, number: StrandNo) -> Option<Pos>
-        ensures { (p : ℕ) → (result ≡ Some p) ↔ ((1 ≤ number) × BeginsStrand self.now.event_order.events number p) }
-    {
-        if number == 0 {
-            return None;
-        }
-        start_in(&self.starts, number as usize - 1)
-    }
-
     /// Returns the positions of the `sync`s that end blocks with spawns, in the order of these
     /// blocks' first spawns. Their indices are the blocks' numbers.
     pub fn syncs(&self) -> &[Pos]
@@ -278,21 +243,4 @@ impl<'a> ProgramPlan<'a> {
     {
         self.resumptions.as_slice()
     }
-}
-
-// The continuation at a place, if there is one.
-fn continuation_in(column: &Vec<Option<Continuation>>, place: usize) -> Option<Continuation>
-    ensures { result ≡ slice_index_or column.now.items place None }
-{
-    match column.get(place) {
-        Some(continuation) => *continuation,
-        None => None,
-    }
-}
-
-// The position at a place, if there is one.
-fn start_in(starts: &Vec<Pos>, place: usize) -> Option<Pos>
-    ensures { result ≡ slice_get starts.now.items place }
-{
-    starts.get(place).copied()
 }

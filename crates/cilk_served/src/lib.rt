@@ -6,16 +6,15 @@
 //! given byte.
 //!
 //! [`served`] has a folder of four texts, readers and writers that fail at a chosen point, and
-//! functions that make one call and return what it showed. [`repeats`] builds long texts.
+//! functions that make one call and return what it showed.
 //!
 //! | Item | Purpose |
 //! |---|---|
 //! | [`served::Folder`] | files `program`, `input`, `certificate`, `script`; counts the reads |
 //! | [`served::Broken`], [`served::Torn`] | readers that fail |
-//! | [`served::Drip`] | a reader of one byte at a time |
 //! | [`served::Short`] | a writer with room for a number of bytes |
-//! | [`served::shown`], [`served::played`] | one call, with its status and output |
-//! | [`repeats::repeated`] | a long text of repeated parts |
+//! | [`served::shown`], [`served::checked_in_parts`] | one call, with its status and output |
+//! | [`laws::forms_give_orders`], [`laws::folders_are_known`] | the orders of command lines; the known texts |
 //!
 //! ```text
 //! let ended = shown(alloc, &["run", "program"], text, b"", &mut Broken);
@@ -23,5 +22,5 @@
 //! ```
 #![tactic(auto)]
 
-pub mod repeats;
+pub mod laws;
 pub mod served;

@@ -1,6 +1,8 @@
 //! Calls of the tool over files, readers and writers in memory.
 
-ghost use Rattle.std.specs.Prelude.{◌≡◌, ◌<◌, IfErr, OnOk};
+ghost use Rattle.std.specs.Prelude.{◌≡◌, ◌<◌, ◌≤◌, List, ℕ, Some, IfErr, IfOk, OnOk, length, option_map};
+ghost use Rattle.cilk_served.specs.Folders.{held_in};
+ghost use Rattle.cilk_commands.specs.declared.disk.TheConstants.{MAX_FILE};
 
 use cilk_commands::disk::MAX_FILE;
 use cilk_commands::files::{FileFault, Files};
@@ -17,7 +19,7 @@ pub struct Folder<'a> {
     input: &'a [u8],
     certificate: &'a [u8],
     script: &'a [u8],
-    parts: u64,
+    pub parts: u64,
     pub reads: u64,
     pub failures: u64,
 }
@@ -43,33 +45,51 @@ impl<'a> Folder<'a> {
         }
     }
 
-    /// Returns the text of a path. An unknown path counts as a failure.
+    /// Returns the text of a path. An unknown path and a text of more than `MAX_FILE` bytes count as
+    /// failures.
     fn text(&mut self, path: &str) -> Result<&'a [u8], FileFault>
         requires { self.old.failures < 18446744073709551615 }
+        ensures held { IfOk result (λ t. held_in self.old path.now ≡ Some t.now) }
+        ensures small { IfOk result (λ t. length t.now ≤ MAX_FILE) }
         ensures counted { IfErr result (λ _. self.old.failures < self.new.failures) }
         ensures uncounted { OnOk result (self.new.failures ≡ self.old.failures) }
+        ensures same { (p : List ℕ) → held_in self.new p ≡ held_in self.old p }
     {
         self.reads = self.reads.saturating_add(1);
-        match path {
-            "program" => Ok(self.program),
-            "input" => Ok(self.input),
-            "certificate" => Ok(self.certificate),
-            "script" => Ok(self.script),
+        match self.find(path) {
+            Some(text) if text.len() as u64 <= MAX_FILE => Ok(text),
             _ => {
                 self.failures += 1;
                 Err(FileFault::Device)
             }
         }
     }
+
+    // The text of a path, if there is one.
+    fn find(&self, path: &str) -> Option<&'a [u8]>
+        ensures { option_map (λ t. t.now) result ≡ held_in self.now path.now }
+    {
+        if path == "program" {
+            Some(self.program)
+        } else if path == "input" {
+            Some(self.input)
+        } else if path == "certificate" {
+            Some(self.certificate)
+        } else if path == "script" {
+            Some(self.script)
+        } else {
+            None
+        }
+    }
 }
 
 impl Files for Folder<'_> {
-    ghost use Rattle.std.specs.Prelude.{None};
     ghost use Rattle.cilk_commands.specs.Files.{failures};
+    ghost use Rattle.cilk_served.specs.Folders.{held_in};
 
     ghost failed = { λ f. failures f.failures (λ _. 0) };
 
-    ghost holds = { λ _ _. None };
+    ghost holds = { held_in };
 
     fn read(&mut self, alloc: Global, path: &str) -> Result<Vec<u8>, FileFault> {
         Ok(self.text(path)?.to_vec(alloc)?)
@@ -83,8 +103,7 @@ impl Files for Folder<'_> {
         }
         self.parts -= 1;
         let rest = &whole[whole.len().min(at as usize)..];
-        let room = (MAX_FILE - at) as usize;
-        let count = rest.len().min(into.len()).min(room);
+        let count = rest.len().min(into.len());
         into[..count].copy_from_slice(&rest[..count]);
         Ok(count)
     }
@@ -116,21 +135,6 @@ impl Read for Torn<'_> {
             return Err(io::Error::from(ErrorKind::Other));
         }
         self.rest.read(piece)
-    }
-}
-
-/// A reader of one byte at a time, which counts its reads.
-#[derive(Drop)]
-pub struct Drip<'a> {
-    pub rest: &'a [u8],
-    pub reads: u64,
-}
-
-impl Read for Drip<'_> {
-    fn read(&mut self, piece: &mut [u8]) -> io::Result<usize> {
-        self.reads = self.reads.saturating_add(1);
-        let room = piece.len().min(1);
-        self.rest.read(&mut piece[..room])
     }
 }
 
@@ -211,12 +215,6 @@ pub fn checked_in_parts(alloc: Global, program: &[u8], certificate: &[u8], parts
     served(alloc, &words, files, &mut Broken)
 }
 
-/// Makes a call over a folder with the program, the input and the script.
-pub fn played(alloc: Global, words: &[&str], program: &[u8], input: &[u8], script: &[u8]) -> Ended {
-    let files = Folder::new(program, input, b"", script);
-    served(alloc, words, files, &mut Broken)
-}
-
 /// Makes a call over an unread folder and standard input.
 fn served<R: Read>(alloc: Global, words: &[&str], mut files: Folder<'_>, standard: &mut R) -> Ended
     requires { files.failures ≡ 0 }
@@ -231,18 +229,8 @@ fn served<R: Read>(alloc: Global, words: &[&str], mut files: Folder<'_>, standar
     }
 }
 
-/// Returns the status of a call without words, over standard input and these two writers.
-pub fn status_of<O: Write, E: Write>(
-    alloc: Global,
-    standard: &mut &[u8],
-    out: &mut O,
-    err: &mut E,
-) -> u8 {
-    let mut files = Folder::new(b"", b"", b"", b"");
-    serve(alloc, &[], &mut files, standard, out, err)
-}
-
-/// Returns the same with whether all of standard error was written.
+/// Makes a call without words over standard input and these two writers. Returns its status, and
+/// whether all of standard error was written.
 pub fn served_over<O: Write, E: Write>(
     alloc: Global,
     standard: &mut &[u8],

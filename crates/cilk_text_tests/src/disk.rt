@@ -2,52 +2,50 @@
 
 use cilk_commands::disk::{Disk, MAX_FILE};
 use cilk_commands::files::{FileFault, Files};
+use std::alloc::Global;
+use std::rt::Files as System;
 
-/// Paths that can't be read as files.
-const NO_FILES: [&str; 4] = ["", "/", "/no/such/file", "/dev/null/file"];
+// Whether a path can't be read, and the failure is counted.
+fn is_unread<R: System>(system: &R, alloc: Global, path: &str) -> bool {
+    let mut disk = Disk::new(system);
+    let answer = disk.read(alloc, path);
+    matches!(answer, Err(FileFault::Device)) && disk.failures() == 1
+}
 
-#[test]
-fn what_is_no_file_is_not_read(rt: HostRuntime) {
-    for path in NO_FILES {
-        let mut disk = Disk::new(&rt);
-        let answer = disk.read(rt.alloc(), path);
-        assert!(rt; matches!(answer, Err(FileFault::Device)), "`{path}`");
-        assert_eq!(rt; disk.failures(), 1, "`{path}`");
-    }
+// Whether no part of a path can be read there, and the failure is counted.
+fn has_no_part<R: System>(system: &R, path: &str, at: u64) -> bool {
+    let mut disk = Disk::new(system);
+    let answer = disk.part(path, at, &mut [0; 4]);
+    matches!(answer, Err(FileFault::Device)) && disk.failures() == 1
+}
+
+// Whether a file ends at this place.
+fn ends_at<R: System>(system: &R, path: &str, at: u64) -> bool {
+    let mut disk = Disk::new(system);
+    let answer = disk.part(path, at, &mut [0; 4]);
+    matches!(answer, Ok(0)) && disk.failures() == 0
+}
+
+// Whether a file is read, and has no bytes.
+fn is_empty<R: System>(system: &R, alloc: Global, path: &str) -> bool {
+    let mut disk = Disk::new(system);
+    let answer = disk.read(alloc, path);
+    matches!(&answer, Ok(bytes) if bytes.is_empty()) && disk.failures() == 0
 }
 
 #[test]
-fn what_is_no_file_has_no_parts(rt: HostRuntime) {
-    for path in NO_FILES {
-        let mut disk = Disk::new(&rt);
-        let answer = disk.part(path, 0, &mut [0; 4]);
-        assert!(rt; matches!(answer, Err(FileFault::Device)), "`{path}`");
-        assert_eq!(rt; disk.failures(), 1, "`{path}`");
+fn what_is_no_file_is_not_read(rt: HostRuntime) {
+    for path in ["", "/", "/no/such/file", "/dev/null/file"] {
+        assert!(rt; is_unread(&rt, rt.alloc(), path), "`{path}`");
+        assert!(rt; has_no_part(&rt, path, 0), "`{path}`");
     }
 }
 
 #[test]
 fn an_empty_file_has_no_bytes(rt: HostRuntime) {
-    let mut disk = Disk::new(&rt);
-    let answer = disk.read(rt.alloc(), "/dev/null");
-    assert!(rt; matches!(&answer, Ok(bytes) if bytes.is_empty()));
-    assert_eq!(rt; disk.failures(), 0);
-}
-
-#[test]
-fn an_empty_file_ends_at_any_place(rt: HostRuntime) {
+    assert!(rt; is_empty(&rt, rt.alloc(), "/dev/null"));
     for at in [0, 1, MAX_FILE] {
-        let mut disk = Disk::new(&rt);
-        let answer = disk.part("/dev/null", at, &mut [0; 4]);
-        assert!(rt; matches!(answer, Ok(0)), "at {at}");
-        assert_eq!(rt; disk.failures(), 0, "at {at}");
+        assert!(rt; ends_at(&rt, "/dev/null", at), "at {at}");
     }
-}
-
-#[test]
-fn no_file_has_a_part_past_the_limit(rt: HostRuntime) {
-    let mut disk = Disk::new(&rt);
-    let answer = disk.part("/dev/null", MAX_FILE + 1, &mut [0; 4]);
-    assert!(rt; matches!(answer, Err(FileFault::Device)));
-    assert_eq!(rt; disk.failures(), 1);
+    assert!(rt; has_no_part(&rt, "/dev/null", MAX_FILE + 1));
 }

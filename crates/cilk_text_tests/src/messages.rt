@@ -1,6 +1,9 @@
-//! The messages of faults, and their numbers.
+//! The texts of faults.
 
 use cilk_cert_text::fault::CertFault;
+use cilk_checker::fault::ProgramFault;
+use cilk_checker::refusal::{Refusal, Unaccepted};
+use cilk_checker::source::PullFault;
 use cilk_commands::files::FileFault;
 use cilk_names::fault::{NameErrorKind, NameFault};
 use cilk_parser::fault::{SyntaxErrorKind, TextFault};
@@ -8,200 +11,228 @@ use cilk_schedule::PlayFault;
 use cilk_serial::fault::RunFault;
 use cilk_syntax::lexer::{LexErrorKind, LexFault};
 use cilk_types::fault::Fault;
-use std::alloc::AllocError;
+use std::alloc::Global;
+use std::fmt::Display;
+use std::process::Abort;
 
-#[test]
-fn faults_of_tokens(rt: HostRuntime) -> Result<(), AllocError> {
-    let alloc = rt.alloc();
-    let cases = [
-        (LexErrorKind::NotAscii, "a byte over 127"),
-        (LexErrorKind::Unclosed, "an unclosed comment"),
-        (LexErrorKind::Directive, "an unknown `#` line"),
-        (LexErrorKind::Numeral, "no number"),
-        (LexErrorKind::NoToken, "no token"),
-        (LexErrorKind::TooLarge, "a number over 9223372036854775807"),
-    ];
+const TOKENS: [(LexErrorKind, &str); 6] = [
+    (LexErrorKind::NotAscii, "a byte over 127"),
+    (LexErrorKind::Unclosed, "an unclosed comment"),
+    (LexErrorKind::Directive, "an unknown `#` line"),
+    (LexErrorKind::Numeral, "no number"),
+    (LexErrorKind::NoToken, "no token"),
+    (LexErrorKind::TooLarge, "a number over 9223372036854775807"),
+];
+
+const TEXTS: [(SyntaxErrorKind, &str); 8] = [
+    (SyntaxErrorKind::NotAscii, "a byte over 127"),
+    (SyntaxErrorKind::BadToken, "no token"),
+    (
+        SyntaxErrorKind::Unexpected,
+        "an unexpected token, or the end",
+    ),
+    (
+        SyntaxErrorKind::TooDeep,
+        "nested too deep, or too many operators",
+    ),
+    (
+        SyntaxErrorKind::TooLarge,
+        "a number over 9223372036854775807",
+    ),
+    (SyntaxErrorKind::TooLong, "the text is too long"),
+    (SyntaxErrorKind::BadNumber, "no number of the input"),
+    (
+        SyntaxErrorKind::TooManyNumbers,
+        "too many numbers in the input",
+    ),
+];
+
+const NAMES: [(NameErrorKind, &str); 9] = [
+    (NameErrorKind::Unknown, "an unknown name"),
+    (
+        NameErrorKind::DeclaredTwice,
+        "a name that is declared twice in a scope",
+    ),
+    (NameErrorKind::WrongCount, "a wrong count of arguments"),
+    (NameErrorKind::WrongKind, "a name of the wrong kind"),
+    (NameErrorKind::NoMain, "no `int main` without parameters"),
+    (
+        NameErrorKind::ReturnInLoop,
+        "a `return` inside a `cilk_for`",
+    ),
+    (
+        NameErrorKind::LoopVariable,
+        "a `cilk_for`'s variable that is written",
+    ),
+    (
+        NameErrorKind::ReducerNotFirst,
+        "a reducer that isn't first in a function's body",
+    ),
+    (NameErrorKind::OverLimit, "past a limit of a program"),
+];
+
+const RUNS: [(Fault, &str); 6] = [
+    (Fault::DivisionByZero, "division by zero"),
+    (Fault::IndexOutside, "index outside the array"),
+    (Fault::InputOutside, "input place outside"),
+    (Fault::TooManyEvents, "too many events or ticks"),
+    (Fault::TooManyFrames, "too many frames"),
+    (Fault::TooManyCells, "too many cells"),
+];
+
+const CERTIFICATES: [(CertFault, &str); 3] = [
+    (
+        CertFault::Malformed { line: 7 },
+        "malformed certificate at line 7",
+    ),
+    (
+        CertFault::Truncated { line: 7 },
+        "truncated certificate at line 7",
+    ),
+    (CertFault::Memory, "out of memory"),
+];
+
+const REFUSALS: [(Refusal, &str); 16] = [
+    (
+        Refusal::Program(SyntaxErrorKind::BadToken, 3),
+        "no token in the program at byte 3",
+    ),
+    (
+        Refusal::Name(NameErrorKind::Unknown, 18),
+        "an unknown name in the program at byte 18",
+    ),
+    (
+        Refusal::Input(SyntaxErrorKind::BadNumber, 2),
+        "no number of the input in the input at byte 2",
+    ),
+    (
+        Refusal::Malformed { line: 9 },
+        "malformed certificate at line 9",
+    ),
+    (
+        Refusal::Truncated { line: 10 },
+        "truncated certificate at line 10",
+    ),
+    (Refusal::Event { at: 7 }, "not the run's event at 7"),
+    (Refusal::Stops { at: 16 }, "the run is stopped at 16"),
+    (Refusal::Frame { frame: 2 }, "wrong line of frame 2"),
+    (Refusal::Strand { strand: 4 }, "wrong frame of strand 4"),
+    (
+        Refusal::Hebrew { strand: 2 },
+        "wrong Hebrew number of strand 2",
+    ),
+    (Refusal::Class { strand: 4 }, "wrong peer class of strand 4"),
+    (
+        Refusal::ReadSource { at: 10 },
+        "wrong source of the read at 10",
+    ),
+    (Refusal::Result, "wrong result"),
+    (
+        Refusal::Race {
+            earlier: 7,
+            later: 10,
+        },
+        "a race of 7 and 10",
+    ),
+    (
+        Refusal::ViewRace {
+            created: 2,
+            used: 10,
+        },
+        "a view-read race of 2 and 10",
+    ),
+    (Refusal::Memory, "no memory"),
+];
+
+// Whether a fault is shown as this text.
+fn shows<D: Display + Drop>(alloc: Global, fault: D, text: &str) -> bool {
+    match format!(in alloc; "{fault}") {
+        Ok(shown) => shown.as_str() == text,
+        Err(_) => false,
+    }
+}
+
+fn are_shown<D: Display + Copy + Drop>(rt: &impl Abort, alloc: Global, cases: &[(D, &str)]) {
     for (fault, text) in cases {
-        assert_eq!(rt; format!(in alloc; "{fault}")?.as_str(), text);
-        let placed = LexFault::At(fault, 7);
-        let whole = format!(in alloc; "{text} at byte 7")?;
-        assert_eq!(rt; format!(in alloc; "{placed}")?.as_str(), whole.as_str());
+        assert!(rt; shows(alloc, *fault, text), "{text}");
     }
-    assert_eq!(rt;
-        format!(in alloc; "{}", LexFault::Memory)?.as_str(),
-        "no memory"
-    );
-    Ok(())
 }
 
 #[test]
-fn faults_of_texts(rt: HostRuntime) -> Result<(), AllocError> {
+fn faults_show_their_kinds(rt: HostRuntime) {
     let alloc = rt.alloc();
-    let cases = [
-        (SyntaxErrorKind::NotAscii, 101, "a byte over 127"),
-        (SyntaxErrorKind::BadToken, 102, "no token"),
-        (
-            SyntaxErrorKind::Unexpected,
-            103,
-            "an unexpected token, or the end",
-        ),
-        (
-            SyntaxErrorKind::TooDeep,
-            104,
-            "nested too deep, or too many operators",
-        ),
-        (
-            SyntaxErrorKind::TooLarge,
-            105,
-            "a number over 9223372036854775807",
-        ),
-        (SyntaxErrorKind::TooLong, 106, "the text is too long"),
-        (SyntaxErrorKind::BadNumber, 121, "no number of the input"),
-        (
-            SyntaxErrorKind::TooManyNumbers,
-            122,
-            "too many numbers in the input",
-        ),
-    ];
-    for (fault, number, text) in cases {
-        assert_eq!(rt; fault.number(), number, "{text}");
-        assert_eq!(rt; format!(in alloc; "{fault}")?.as_str(), text);
-        let placed = TextFault::At(fault, 7);
-        let whole = format!(in alloc; "{text} at byte 7")?;
-        assert_eq!(rt; format!(in alloc; "{placed}")?.as_str(), whole.as_str());
-    }
-    assert_eq!(rt;
-        format!(in alloc; "{}", TextFault::Memory)?.as_str(),
-        "no memory"
-    );
-    Ok(())
+    are_shown(&rt, alloc, &TOKENS);
+    are_shown(&rt, alloc, &TEXTS);
+    are_shown(&rt, alloc, &NAMES);
+    are_shown(&rt, alloc, &RUNS);
+    are_shown(&rt, alloc, &CERTIFICATES);
+    are_shown(&rt, alloc, &REFUSALS);
 }
 
 #[test]
-fn faults_of_names(rt: HostRuntime) -> Result<(), AllocError> {
+fn faults_show_their_places(rt: HostRuntime) {
     let alloc = rt.alloc();
-    let cases = [
-        (NameErrorKind::Unknown, 111, "an unknown name"),
-        (
-            NameErrorKind::DeclaredTwice,
-            112,
-            "a name that is declared twice in a scope",
-        ),
-        (NameErrorKind::WrongCount, 113, "a wrong count of arguments"),
-        (NameErrorKind::WrongKind, 114, "a name of the wrong kind"),
-        (
-            NameErrorKind::NoMain,
-            115,
-            "no `int main` without parameters",
-        ),
-        (
-            NameErrorKind::ReturnInLoop,
-            116,
-            "a `return` inside a `cilk_for`",
-        ),
-        (
-            NameErrorKind::LoopVariable,
-            117,
-            "a `cilk_for`'s variable that is written",
-        ),
-        (
-            NameErrorKind::ReducerNotFirst,
-            118,
-            "a reducer that isn't first in a function's body",
-        ),
-        (NameErrorKind::OverLimit, 119, "past a limit of a program"),
-    ];
-    for (fault, number, text) in cases {
-        assert_eq!(rt; fault.number(), number, "{text}");
-        assert_eq!(rt; format!(in alloc; "{fault}")?.as_str(), text);
-        let placed = NameFault::At(fault, 7);
-        let whole = format!(in alloc; "{text} at byte 7")?;
-        assert_eq!(rt; format!(in alloc; "{placed}")?.as_str(), whole.as_str());
-    }
-    assert_eq!(rt;
-        format!(in alloc; "{}", NameFault::Memory)?.as_str(),
-        "no memory"
+    assert!(rt;
+        shows(
+            alloc,
+            LexFault::At(LexErrorKind::NoToken, 7),
+            "no token at byte 7"
+        )
     );
-    Ok(())
-}
-
-#[test]
-fn faults_of_runs(rt: HostRuntime) -> Result<(), AllocError> {
-    let alloc = rt.alloc();
-    let cases = [
-        (Fault::DivisionByZero, 201, "division by zero"),
-        (Fault::IndexOutside, 202, "index outside the array"),
-        (Fault::InputOutside, 203, "input place outside"),
-        (Fault::TooManyEvents, 204, "too many events or ticks"),
-        (Fault::TooManyFrames, 205, "too many frames"),
-        (Fault::TooManyCells, 206, "too many cells"),
-    ];
-    for (fault, number, text) in cases {
-        assert_eq!(rt; fault.number(), number, "{text}");
-        assert_eq!(rt; format!(in alloc; "{fault}")?.as_str(), text);
-        let placed = RunFault::At { fault, at: 7 };
-        let whole = format!(in alloc; "{text} at 7")?;
-        assert_eq!(rt; format!(in alloc; "{placed}")?.as_str(), whole.as_str());
-    }
-    assert_eq!(rt;
-        format!(in alloc; "{}", RunFault::Memory)?.as_str(),
-        "no memory"
+    assert!(rt;
+        shows(
+            alloc,
+            TextFault::At(SyntaxErrorKind::BadToken, 7),
+            "no token at byte 7"
+        )
     );
-    Ok(())
-}
-
-#[test]
-fn faults_of_scripts(rt: HostRuntime) -> Result<(), AllocError> {
-    let alloc = rt.alloc();
-    let line = PlayFault::Line(7);
-    assert_eq!(rt;
-        format!(in alloc; "{line}")?.as_str(),
-        "too many choices at line 7"
+    assert!(rt;
+        shows(
+            alloc,
+            NameFault::At(NameErrorKind::Unknown, 7),
+            "an unknown name at byte 7"
+        )
+    );
+    assert!(rt;
+        shows(
+            alloc,
+            ProgramFault::Text(SyntaxErrorKind::BadToken, 7),
+            "no token at byte 7"
+        )
+    );
+    assert!(rt;
+        shows(
+            alloc,
+            ProgramFault::Name(NameErrorKind::Unknown, 7),
+            "an unknown name at byte 7"
+        )
     );
     let fault = Fault::DivisionByZero;
+    assert!(rt;
+        shows(
+            alloc,
+            RunFault::At { fault, at: 7 },
+            "division by zero at 7"
+        )
+    );
+    assert!(rt; shows(alloc, PlayFault::Line(7), "too many choices at line 7"));
     let name = Vec::new(alloc);
-    let stop = PlayFault::Stop { fault, name };
-    assert_eq!(rt; format!(in alloc; "{stop}")?.as_str(), "division by zero");
-    assert_eq!(rt;
-        format!(in alloc; "{}", PlayFault::Memory)?.as_str(),
-        "no memory"
-    );
-    Ok(())
+    assert!(rt; shows(alloc, PlayFault::Stop { fault, name }, "division by zero"));
+    assert!(rt; shows(alloc, Unaccepted::Refusal(Refusal::Result), "wrong result"));
 }
 
 #[test]
-fn faults_of_certificates(rt: HostRuntime) -> Result<(), AllocError> {
+fn failures_show_what_is_wanting(rt: HostRuntime) {
     let alloc = rt.alloc();
-    let cases = [
-        (
-            CertFault::Malformed { line: 7 },
-            301,
-            "malformed certificate at line 7",
-        ),
-        (
-            CertFault::Truncated { line: 7 },
-            302,
-            "truncated certificate at line 7",
-        ),
-        (CertFault::Memory, 401, "out of memory"),
-    ];
-    for (fault, number, text) in cases {
-        assert_eq!(rt; fault.number(), number, "{text}");
-        assert_eq!(rt; format!(in alloc; "{fault}")?.as_str(), text);
-    }
-    Ok(())
-}
-
-#[test]
-fn faults_of_devices(rt: HostRuntime) -> Result<(), AllocError> {
-    let alloc = rt.alloc();
-    assert_eq!(rt;
-        format!(in alloc; "{}", FileFault::Device)?.as_str(),
-        "cannot read"
-    );
-    assert_eq!(rt;
-        format!(in alloc; "{}", FileFault::Memory)?.as_str(),
-        "no memory"
-    );
-    Ok(())
+    assert!(rt; shows(alloc, LexFault::Memory, "no memory"));
+    assert!(rt; shows(alloc, TextFault::Memory, "no memory"));
+    assert!(rt; shows(alloc, NameFault::Memory, "no memory"));
+    assert!(rt; shows(alloc, ProgramFault::Memory, "no memory"));
+    assert!(rt; shows(alloc, RunFault::Memory, "no memory"));
+    assert!(rt; shows(alloc, PlayFault::Memory, "no memory"));
+    assert!(rt; shows(alloc, FileFault::Memory, "no memory"));
+    assert!(rt; shows(alloc, PullFault::Memory, "no memory"));
+    assert!(rt; shows(alloc, FileFault::Device, "cannot read"));
+    assert!(rt; shows(alloc, PullFault::Device, "cannot read"));
+    assert!(rt; shows(alloc, Unaccepted::Unread, "cannot read"));
 }

@@ -4,26 +4,33 @@ ghost use Rattle.std.specs.Prelude.{◌<◌, ◌≤◌};
 
 use crate::texts::{GETS, certificate};
 use cilk_checker::accepted::Accepted;
-use cilk_checker::ending::End;
 use cilk_checker::judge::program;
 use cilk_checker::refusal::Refusal;
 use cilk_checker::source::Whole;
-use cilk_checker::texts::check;
 use cilk_helpers::check_many;
 use cilk_helpers::depths::replays;
 use cilk_helpers::hints::hints;
-use cilk_helpers::watch::{Unwatched, Watch};
+use cilk_helpers::watch::Watch;
 use cilk_helpers::whole::retell;
 use cilk_lower::lower::lower;
 use cilk_parser::input::parse_input;
-use cilk_serial::run::run;
+use cilk_program::program::Program;
 use cilk_types::event::FrameNo;
+use cilk_types::input::Input;
 use std::alloc::{AllocError, Global};
 use std::hint::spin_loop;
 use std::process::Abort;
 use std::sync::atomic::{AtomicBool, AtomicU32, Ordering};
 use std::test::Fail;
 use std::thread::Threads;
+
+// The certificate of a program without input.
+fn made<R: Abort>(rt: &R, alloc: Global, text: &str) -> Vec<u8> {
+    match certificate(alloc, text, "") {
+        Some(certificate) => certificate,
+        None => panic!(rt; "no certificate: {text}"),
+    }
+}
 
 // The most turns for which frame 2 is held.
 const MOST_TURNS: u32 = 20_000_000;
@@ -70,7 +77,7 @@ fn opens<R: Abort + Threads + Sync>(rt: &R, alloc: Global, helpers: u32) -> bool
     requires some { 0 < helpers }
     requires most { helpers ≤ 16 }
 {
-    let text = certificate(rt, alloc, GETS, "");
+    let text = made(rt, alloc, GETS);
     let hold = Hold::new();
     let answer = check_many(
         rt,
@@ -135,96 +142,56 @@ const TURNS: &str =
 const GIVEN: &str =
     "int a[4]; int cilk_reducer(append) seen; void put(int cilk_reducer(max) m, int at, int n) { a[at] = n; update(m, n); update(seen, a[at]); } int twice(int n) { return n + n; } int main() { int cilk_reducer(max) m; int n = twice(4); cilk_spawn put(m, 0, n); cilk_spawn put(m, 1, n + n); put(m, 2, 3); cilk_sync; put(m, 3, a[1]); return value(m) + a[0]; }";
 
-// The run that is built from a certificate is the serial run, and each frame is replayed once.
-fn is_retold<R: Abort + Threads + Sync>(
+// Whether a run is built from the lists of a certificate: each frame is replayed once, and no replay
+// is missing.
+fn retells<R: Abort + Threads + Sync>(
     rt: &R,
     alloc: Global,
-    text: &str,
+    program: &Program,
+    input: &Input,
+    certificate: &[u8],
     helpers: u32,
-) -> Result<(), Fail>
+) -> Result<bool, Fail>
     requires some { 0 < helpers }
     requires most { helpers ≤ 16 }
 {
-    let certificate = certificate(rt, alloc, text, "");
-    let program = program(alloc, text.as_bytes())?;
-    let input = parse_input(alloc, b"")?;
-    let (wanted, events) = run(alloc, &program, &input)?;
-    let code = lower(alloc, &program)?;
-    let hints = hints(alloc, &mut Whole::new(certificate.as_slice()))?;
-    let frames = hints.frames.len();
-    let counting = Counting::new(alloc, frames)?;
-    let replays = replays(
-        rt, alloc, &program, &code, &input, &hints, helpers, &counting,
-    )?;
-    assert_eq!(rt; counting.count(1), frames);
-    let Some((end, trace)) = retell(alloc, &program, &code, &input, replays)? else {
-        panic!(rt; "not retold: {text}");
-    };
-    let End::Left(outcome, _frames) = end else {
-        panic!(rt; "stopped: {text}");
-    };
-    assert_eq!(rt; outcome.result, wanted.result);
-    assert_eq!(rt; outcome.globals.as_slice(), wanted.globals.as_slice());
-    assert_eq!(rt; outcome.output.as_slice(), wanted.output.as_slice());
-    assert_eq!(rt; trace.as_slice(), events.as_slice());
-    Ok(())
+    let hints = hints(alloc, &mut Whole::new(certificate))?;
+    let counting = Counting::new(alloc, hints.frames.len())?;
+    let code = lower(alloc, program)?;
+    let replays = replays(rt, alloc, program, &code, input, &hints, helpers, &counting)?;
+    let is_once = counting.count(1) == hints.frames.len();
+    Ok(retell(alloc, program, &code, input, replays)?.is_some() && is_once)
 }
 
 #[test]
 fn runs_are_retold(rt: HostRuntime) -> Result<(), Fail> {
+    let alloc = rt.alloc();
+    let input = parse_input(alloc, b"")?;
     for text in [FIB, TURNS, GIVEN] {
-        is_retold(&rt, rt.alloc(), text, 1)?;
-        is_retold(&rt, rt.alloc(), text, 3)?;
-        is_retold(&rt, rt.alloc(), text, 16)?;
+        let certificate = made(&rt, alloc, text);
+        let program = program(alloc, text.as_bytes())?;
+        for helpers in [1, 3, 16] {
+            let is_retold = retells(
+                &rt,
+                alloc,
+                &program,
+                &input,
+                certificate.as_slice(),
+                helpers,
+            )?;
+            assert!(rt; is_retold, "{text}");
+        }
     }
     Ok(())
-}
-
-// Changes the first read value from 7 to 8, in a certificate of two spawned calls.
-fn change<R: Abort>(rt: &R, text: &mut Vec<u8>) {
-    let line = b"read 0 7 ";
-    let found = text
-        .windows(line.len())
-        .position(|part| part == line.as_slice());
-    match text.get_mut(found.unwrap_or(0).saturating_add(7)) {
-        Some(digit) => *digit = b'8',
-        None => panic!(rt; "nothing is read"),
-    }
-}
-
-// The refusal of an answer.
-fn refusal<R: Abort>(rt: &R, answer: Result<Accepted, Refusal>) -> Refusal {
-    match answer {
-        Ok(_) => panic!(rt; "accepted"),
-        Err(refusal) => refusal,
-    }
-}
-
-#[test]
-fn another_word_is_refused_as_without_helpers(rt: HostRuntime) {
-    let alloc = rt.alloc();
-    let mut text = certificate(&rt, alloc, GETS, "");
-    change(&rt, &mut text);
-    let (program, text) = (GETS.as_bytes(), text.as_slice());
-    let one = refusal(&rt, check(alloc, program, b"", text));
-    let many = refusal(
-        &rt,
-        check_many(&rt, alloc, program, b"", text, 2, &Unwatched),
-    );
-    assert_eq!(rt; many.number(), 303);
-    assert_eq!(rt; many.number(), one.number());
-    assert_eq!(rt; many.fields(), one.fields());
 }
 
 // Twenty frames. Each one uses up all ticks if it reads anything but 0.
 const LONG: &str =
     "int g; void work() { if (g) { while (1) { } } } int main() { cilk_for (int i = 0; i < 20; i++) { work(); } return 0; }";
 
-#[test]
-fn other_values_cost_no_more_than_some_runs(rt: HostRuntime) -> Result<(), Fail> {
-    let alloc = rt.alloc();
+// A certificate in which each frame reads 1 in place of 0.
+fn changed(alloc: Global, right: &[u8]) -> Result<Vec<u8>, AllocError> {
     let mut text = Vec::new(alloc);
-    let right = certificate(&rt, alloc, LONG, "");
     for line in right.split_inclusive(|byte| *byte == b'\n') {
         if line == b"read 0 0 0\n".as_slice() {
             text.extend_from_slice(b"read 0 1 0\n")?;
@@ -232,10 +199,32 @@ fn other_values_cost_no_more_than_some_runs(rt: HostRuntime) -> Result<(), Fail>
             text.extend_from_slice(line)?;
         }
     }
+    Ok(text)
+}
+
+// Whether an answer is a refusal by this number.
+fn is_refused(answer: Result<Accepted, Refusal>, number: u16) -> bool {
+    match answer {
+        Ok(_) => false,
+        Err(refusal) => refusal.number() == number,
+    }
+}
+
+#[test]
+fn other_values_cost_no_more_than_some_runs(rt: HostRuntime) -> Result<(), Fail> {
+    let alloc = rt.alloc();
+    let text = changed(alloc, made(&rt, alloc, LONG).as_slice())?;
     let counting = Counting::new(alloc, 100)?;
-    let (program, text) = (LONG.as_bytes(), text.as_slice());
-    let answer = check_many(&rt, alloc, program, b"", text, 1, &counting);
-    assert_eq!(rt; refusal(&rt, answer).number(), 303);
-    assert!(rt; counting.count(1) > 0 && counting.count(1) < 60);
+    let answer = check_many(
+        &rt,
+        alloc,
+        LONG.as_bytes(),
+        b"",
+        text.as_slice(),
+        1,
+        &counting,
+    );
+    let is_refused = is_refused(answer, 303);
+    assert!(rt; is_refused && counting.count(1) > 0 && counting.count(1) < 60);
     Ok(())
 }

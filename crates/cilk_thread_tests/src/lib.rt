@@ -18,6 +18,7 @@
 //! | [`steps::step`] | makes the next event of a segment, if the yard allows it |
 //! | [`steps::take`] | takes a continuation, if it isn't taken yet |
 //! | [`other_inputs`] | runs on other inputs, which end or depart from the plan |
+//! | [`plans`] | the plan of an accepted run, event by event |
 //! | [`helpers`] | certificates checked by several helpers |
 //!
 //! ```text
@@ -31,6 +32,8 @@ mod helpers;
 #[cfg(test)]
 mod other_inputs;
 pub mod others;
+#[cfg(test)]
+mod plans;
 pub mod settings;
 pub mod steps;
 #[cfg(test)]

@@ -10,7 +10,6 @@ use cilk_shared::taken::Taken;
 use cilk_shared::yard::{Segment, Yard};
 use cilk_tree::plan::Plan;
 use cilk_types::event::{Event, Pos};
-use std::process::Abort;
 use std::test::Fail;
 
 // Makes the events up to a position, as far as the run has them, and takes each continuation at its
@@ -51,8 +50,23 @@ fn next(yard: &Yard, plan: &Plan, events: &[Event], asked: &[bool], segment: &mu
     }
 }
 
-// The run departs at this position and doesn't reach its end.
-fn departs_at<R: Abort>(rt: &R, setting: Setting, place: Pos)
+// Whether the run departs at this position, short of its end.
+fn departs(
+    yard: &Yard,
+    plan: &Plan,
+    events: &[Event],
+    asked: &[bool],
+    segment: &mut Segment,
+    place: Pos,
+) -> bool
+    requires yard { OfYard yard.now segment.old }
+    requires run { AreOf yard.now.event_order plan.now events.now asked.now }
+{
+    let done = make_up_to(yard, plan, events, asked, segment, place);
+    done == Done::Departed(place) && segment.upto() == place && !yard.ended(segment)
+}
+
+fn departs_at(setting: Setting, place: Pos) -> bool
     requires segment { OfYard setting.yard setting.segment }
     requires run { AreOf setting.yard.event_order setting.plan setting.events setting.asked.items }
 {
@@ -63,17 +77,31 @@ fn departs_at<R: Abort>(rt: &R, setting: Setting, place: Pos)
         events,
         asked,
     } = setting;
-    let done = make_up_to(
-        &yard,
-        &plan,
-        events.as_slice(),
-        asked.as_slice(),
-        &mut segment,
-        place,
-    );
-    assert_eq!(rt; done, Done::Departed(place));
-    assert_eq!(rt; segment.upto(), place);
-    assert!(rt; !yard.ended(&mut segment));
+    let (events, asked) = (events.as_slice(), asked.as_slice());
+    departs(&yard, &plan, events, asked, &mut segment, place)
+}
+
+// Whether the run on four other numbers reads two of their squares, and then ends.
+fn squares_four(
+    yard: &Yard,
+    plan: &Plan,
+    events: &[Event],
+    asked: &[bool],
+    segment: &mut Segment,
+) -> bool
+    requires yard { OfYard yard.now segment.old }
+    requires run { AreOf yard.now.event_order plan.now events.now asked.now }
+    ensures { OfYard yard.now segment.new }
+{
+    let first = make_up_to(yard, plan, events, asked, segment, 57);
+    let last = make_up_to(yard, plan, events, asked, segment, 58);
+    let is_open = !yard.ended(segment);
+    let ended = make_up_to(yard, plan, events, asked, segment, 60);
+    first == Done::Loaded(25)
+        && last == Done::Loaded(64)
+        && is_open
+        && ended == Done::Finished
+        && yard.ended(segment)
 }
 
 #[test]
@@ -86,26 +114,18 @@ fn four_other_numbers_are_squared(rt: HostRuntime) -> Result<(), Fail> {
         asked,
     } = squares_on_four(rt.alloc())?;
     let events = events.as_slice();
-    let asked = asked.as_slice();
-    let first = make_up_to(&yard, &plan, events, asked, &mut segment, 57);
-    let last = make_up_to(&yard, &plan, events, asked, &mut segment, 58);
-    assert!(rt; first == Done::Loaded(25) && last == Done::Loaded(64));
-    assert!(rt; !yard.ended(&mut segment));
-    let ended = make_up_to(&yard, &plan, events, asked, &mut segment, 60);
-    assert_eq!(rt; ended, Done::Finished);
-    assert!(rt; yard.ended(&mut segment));
-    let Some(values) = last_values(rt.alloc(), yard, &plan, events, segment, 4) else {
-        panic!(rt; "no values");
-    };
-    assert_eq!(rt; values.as_slice(), [25, 36, 49, 64].as_slice());
+    assert!(rt; squares_four(&yard, &plan, events, asked.as_slice(), &mut segment));
+    let values = last_values(rt.alloc(), yard, &plan, events, segment, 4);
+    let wanted = [25, 36, 49, 64];
+    assert!(rt; matches!(&values, Some(values) if values.as_slice() == wanted.as_slice()));
     Ok(())
 }
 
 #[test]
 fn runs_depart_at_the_event_that_they_do_not_ask_for(rt: HostRuntime) -> Result<(), Fail> {
     let alloc = rt.alloc();
-    departs_at(&rt, squares_on_three(alloc)?, 46);
-    departs_at(&rt, turns_on_none(alloc)?, 4);
-    departs_at(&rt, turns_on_seven(alloc)?, 6);
+    assert!(rt; departs_at(squares_on_three(alloc)?, 46));
+    assert!(rt; departs_at(turns_on_none(alloc)?, 4));
+    assert!(rt; departs_at(turns_on_seven(alloc)?, 6));
     Ok(())
 }

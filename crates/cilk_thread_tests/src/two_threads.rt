@@ -1,6 +1,6 @@
 //! Two threads on one yard, in an order that messages force.
 
-ghost use Rattle.std.specs.Prelude.{◌≡◌};
+ghost use Rattle.std.specs.Prelude.{◌≡◌, IfOk};
 ghost use Rattle.cilk_shared.specs.Values.{OfYard};
 ghost use Rattle.cilk_thread_tests.specs.Settings.{AreOf};
 
@@ -12,7 +12,7 @@ use cilk_shared::yard::{Segment, Yard};
 use cilk_tree::plan::Plan;
 use cilk_types::event::{Event, Pos};
 use crossbeam_channel::{Receiver, Sender, bounded};
-use std::alloc::Global;
+use std::alloc::{AllocError, Global};
 use std::process::Abort;
 use std::sync::Wait;
 use std::test::Fail;
@@ -132,30 +132,41 @@ fn takes_the_rest<R: Abort + Wait + Clock>(
     segment
 }
 
-// Ends the run from the `sync` of the two spawns on, and compares the cells' last values.
-fn ends_with<R: Abort>(
-    rt: &R,
-    alloc: Global,
-    yard: Yard,
-    followed: Followed<'_>,
-    mut segment: Segment,
-)
+// Makes the run's events from the `sync` of the two spawns on.
+fn makes_the_end<R: Abort>(rt: &R, yard: &Yard, followed: Followed<'_>, segment: &mut Segment)
+    requires yard { OfYard yard.now segment.old }
+    requires run { AreOf yard.now.event_order followed.plan.now followed.events.now followed.asked.now }
+    ensures { OfYard yard.now segment.new }
+{
+    let synced = make_up_to(rt, yard, followed, segment, 18);
+    assert_eq!(rt; synced, Done::Passed);
+    let first = make_up_to(rt, yard, followed, segment, 19);
+    let second = make_up_to(rt, yard, followed, segment, 20);
+    assert!(rt; first == Done::Loaded(7) && second == Done::Loaded(7));
+    assert!(rt; !yard.ended(segment));
+    let ended = make_up_to(rt, yard, followed, segment, 22);
+    assert!(rt; ended == Done::Finished && yard.ended(segment));
+}
+
+// Ends the run, and compares the cells' last values.
+fn ends<R: Abort>(rt: &R, alloc: Global, yard: Yard, followed: Followed<'_>, mut segment: Segment)
     requires yard { OfYard yard segment }
     requires run { AreOf yard.event_order followed.plan.now followed.events.now followed.asked.now }
 {
-    let synced = make_up_to(rt, &yard, followed, &mut segment, 18);
-    assert_eq!(rt; synced, Done::Passed);
-    let first = make_up_to(rt, &yard, followed, &mut segment, 19);
-    let second = make_up_to(rt, &yard, followed, &mut segment, 20);
-    assert!(rt; first == Done::Loaded(7) && second == Done::Loaded(7));
-    assert!(rt; !yard.ended(&mut segment));
-    let ended = make_up_to(rt, &yard, followed, &mut segment, 22);
-    assert_eq!(rt; ended, Done::Finished);
-    assert!(rt; yard.ended(&mut segment));
-    let Some(values) = last_values(alloc, yard, followed.plan, followed.events, segment, 1) else {
-        panic!(rt; "no values");
+    makes_the_end(rt, &yard, followed, &mut segment);
+    let values = last_values(alloc, yard, followed.plan, followed.events, segment, 1);
+    assert!(rt; matches!(&values, Some(values) if values.as_slice() == [7].as_slice()));
+}
+
+// The setting of the run of two calls.
+fn of_gets<R: Abort>(rt: &R, alloc: Global) -> Result<Setting, AllocError>
+    ensures segment { IfOk result (λ s. OfYard s.yard s.segment) }
+    ensures run { IfOk result (λ s. AreOf s.yard.event_order s.plan s.events s.asked.items) }
+{
+    let Some(accepted) = accepted(alloc, GETS, "") else {
+        panic!(rt; "not accepted");
     };
-    assert_eq!(rt; values.as_slice(), [7].as_slice());
+    on_its_own(alloc, &accepted)
 }
 
 #[test]
@@ -167,7 +178,7 @@ fn a_thief_takes_the_rest(rt: HostRuntime) -> Result<(), Fail> {
         segment,
         events,
         asked,
-    } = on_its_own(alloc, &accepted(&rt, alloc, GETS, ""))?;
+    } = of_gets(&rt, alloc)?;
     let events = events.as_slice();
     let asked = asked.as_slice();
     let (first, second) = yard.apart(segment);
@@ -207,8 +218,22 @@ fn a_thief_takes_the_rest(rt: HostRuntime) -> Result<(), Fail> {
         events,
         asked,
     };
-    ends_with(&rt, alloc, yard, followed, whole);
+    ends(&rt, alloc, yard, followed, whole);
     Ok(())
+}
+
+// One thread makes both children, and takes each continuation back.
+fn makes_both<R: Abort>(rt: &R, yard: &Yard, followed: Followed<'_>, segment: &mut Segment)
+    requires yard { OfYard yard.now segment.old }
+    requires run { AreOf yard.now.event_order followed.plan.now followed.events.now followed.asked.now }
+    ensures { OfYard yard.now segment.new }
+{
+    make_up_to(rt, yard, followed, segment, 9);
+    let first = take(yard, followed.asked, segment, 4);
+    assert!(rt; matches!(first, Some(Taken::Yes)));
+    make_up_to(rt, yard, followed, segment, 16);
+    let second = take(yard, followed.asked, segment, 11);
+    assert!(rt; matches!(second, Some(Taken::Yes)));
 }
 
 #[test]
@@ -220,26 +245,13 @@ fn nobody_takes_the_rest(rt: HostRuntime) -> Result<(), Fail> {
         mut segment,
         events,
         asked,
-    } = on_its_own(alloc, &accepted(&rt, alloc, GETS, ""))?;
+    } = of_gets(&rt, alloc)?;
     let followed = Followed {
         plan: &plan,
         events: events.as_slice(),
         asked: asked.as_slice(),
     };
-    make_up_to(&rt, &yard, followed, &mut segment, 9);
-    assert!(rt;
-        matches!(
-            take(&yard, asked.as_slice(), &mut segment, 4),
-            Some(Taken::Yes)
-        )
-    );
-    make_up_to(&rt, &yard, followed, &mut segment, 16);
-    assert!(rt;
-        matches!(
-            take(&yard, asked.as_slice(), &mut segment, 11),
-            Some(Taken::Yes)
-        )
-    );
-    ends_with(&rt, alloc, yard, followed, segment);
+    makes_both(&rt, &yard, followed, &mut segment);
+    ends(&rt, alloc, yard, followed, segment);
     Ok(())
 }

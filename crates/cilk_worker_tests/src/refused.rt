@@ -2,15 +2,10 @@
 //! must end with the expected outcome. In ordinary tests both runs have memory;
 //! `tools/each_failure.py --plan` refuses each allocation in turn.
 
-use crate::cases::{Case, REDUCERS, SPAWNS};
+use crate::cases::{Alone, CALLS, LOOPS};
 use crate::shown::shown;
-use cilk_cert_maker::make::make;
-use cilk_cert_text::write::write;
-use cilk_checker::accepted::Accepted;
-use cilk_checker::judge::program;
-use cilk_checker::texts::check;
-use cilk_parser::input::parse_input;
-use cilk_plan::program_plan::{ProgramPlan, plan};
+use crate::texts::{accepted, planned};
+use cilk_plan::program_plan::ProgramPlan;
 use cilk_threads::run::ThreadFault;
 use cilk_threads::threads::run_threads;
 use cilk_types::input::Input;
@@ -40,17 +35,15 @@ fn leaves(rt: &impl Abort, alloc: Global, outcome: &Outcome, wanted: &str) {
     assert!(rt; left.as_str() == wanted, "{left} is left, not {wanted}");
 }
 
-// Two runs on one plan. At most one of them is out of memory.
-fn runs_twice<R: Abort + Threads + Wait + Sync>(
-    rt: &R,
+// Checks the outcomes of two runs. At most one of them is out of memory.
+fn leave(
+    rt: &impl Abort,
     alloc: Global,
-    plan: &ProgramPlan<'_>,
-    input: &Input,
+    first: Option<&Outcome>,
+    second: Option<&Outcome>,
     wanted: &str,
 ) {
-    let first = outcome_of(rt, run_threads(rt, alloc, plan, input, POOL, &Open));
-    let second = outcome_of(rt, run_threads(rt, alloc, plan, input, POOL, &Open));
-    match (&first, &second) {
+    match (first, second) {
         (Some(first), Some(second)) => {
             leaves(rt, alloc, first, wanted);
             leaves(rt, alloc, second, wanted);
@@ -61,37 +54,37 @@ fn runs_twice<R: Abort + Threads + Wait + Sync>(
     }
 }
 
-// The program of a text without input, accepted with its own certificate, if there is memory for
-// that.
-fn accepted(alloc: Global, text: &str) -> Option<Accepted> {
-    let program = program(alloc, text.as_bytes()).ok()?;
-    let input = parse_input(alloc, b"").ok()?;
-    let certificate = make(alloc, &program, &input).ok()?;
-    let certificate = write(alloc, &certificate).ok()?;
-    check(alloc, text.as_bytes(), b"", certificate.as_slice()).ok()
+// Two runs on one plan.
+fn runs_twice<R: Abort + Threads + Wait + Sync>(
+    rt: &R,
+    alloc: Global,
+    plan: &ProgramPlan<'_>,
+    input: &Input,
+    wanted: &str,
+) {
+    let first = outcome_of(rt, run_threads(rt, alloc, plan, input, POOL, &Open));
+    let second = outcome_of(rt, run_threads(rt, alloc, plan, input, POOL, &Open));
+    leave(rt, alloc, first.as_ref(), second.as_ref(), wanted);
 }
 
-fn twice<R: Abort + Threads + Wait + Sync>(rt: &R, alloc: Global, case: &Case) {
-    let Some(accepted) = accepted(alloc, case.text) else {
-        panic!(rt; "no memory ahead of the runs");
-    };
-    let (Ok(plan), Ok(input)) = (plan(alloc, &accepted), parse_input(alloc, b"")) else {
-        panic!(rt; "no memory ahead of the runs");
-    };
-    runs_twice(rt, alloc, &plan, &input, case.left);
+fn twice<R: Abort + Threads + Wait + Sync>(rt: &R, alloc: Global, case: &Alone) {
+    let (text, left) = *case;
+    let accepted = accepted(rt, alloc, text, "");
+    let plan = planned(rt, alloc, &accepted);
+    runs_twice(rt, alloc, &plan, accepted.input(), left);
 }
 
 #[test]
 fn two_calls(rt: HostRuntime) {
-    twice(&rt, rt.alloc(), &SPAWNS[0]);
+    twice(&rt, rt.alloc(), &CALLS[0]);
 }
 
 #[test]
 fn a_list(rt: HostRuntime) {
-    twice(&rt, rt.alloc(), &REDUCERS[1]);
+    twice(&rt, rt.alloc(), &LOOPS[2]);
 }
 
 #[test]
 fn three_prints(rt: HostRuntime) {
-    twice(&rt, rt.alloc(), &SPAWNS[2]);
+    twice(&rt, rt.alloc(), &CALLS[2]);
 }

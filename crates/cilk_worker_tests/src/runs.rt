@@ -1,18 +1,17 @@
 //! Programs run by several workers, with the outcomes of their serial runs.
 
-use crate::cases::{ALONG, Case, DEPART, LOOPS, NUMBERS, PARTS, REDUCERS, SPAWNS, UNMANNED};
+use crate::cases::{Alone, CALLS, Case, DEPART, LOOPS, NUMBERS, ON_INPUTS};
 use crate::gates::Counting;
 use crate::shown::left;
 use crate::texts::{accepted, input_of, planned};
 use crate::waits::{Job, in_time};
 use cilk_plan::program_plan::ProgramPlan;
-use cilk_types::event::StrandNo;
 use cilk_types::input::Input;
 use std::alloc::Global;
 use std::process::Abort;
 use std::sync::Wait;
-use std::test::Fail;
 use std::thread::Threads;
+use std::time::Clock;
 
 // The numbers of workers that run a case.
 const POOLS: [u32; 4] = [1, 2, 4, 8];
@@ -22,9 +21,6 @@ const LARGE_POOLS: [u32; 2] = [9, 64];
 
 // The runs of a case by each large number of workers.
 const FEW_TIMES: u32 = 3;
-
-// Numbers of workers that aren't allowed.
-const NO_POOLS: [u32; 2] = [0, 65];
 
 // The runs of a case by each number of workers.
 const TIMES: u32 = 100;
@@ -37,6 +33,17 @@ pub struct Series {
     times: u32,
     // Whether a run begins every strand of the plan.
     is_whole: bool,
+}
+
+// The case of a program without input.
+fn on_nothing(case: &Alone) -> Case {
+    let (text, left) = *case;
+    Case {
+        text,
+        numbers: "",
+        on: "",
+        left,
+    }
 }
 
 // A case whose runs end.
@@ -69,25 +76,13 @@ fn departing(case: &Case) -> Series {
     }
 }
 
-// A case by numbers of workers that aren't allowed.
-fn unmanned(case: &Case) -> Series {
-    Series {
-        case: *case,
-        pools: &NO_POOLS,
-        times: 1,
-        is_whole: false,
-    }
-}
-
 // The number of strands of the plan.
 fn strands(plan: &ProgramPlan<'_>) -> u64 {
     let mut count: u64 = 0;
-    let mut strand: StrandNo = 1;
-    for _ in 0..plan.events().count() {
-        if plan.strand(strand).is_some() {
+    for strand in plan.strands() {
+        if *strand != 0 {
             count = count.saturating_add(1);
         }
-        strand = strand.saturating_add(1);
     }
     count
 }
@@ -149,78 +144,45 @@ pub fn runs<R: Abort + Threads + Wait + Sync>(rt: &R, alloc: Global, series: &Se
     }
 }
 
+// Makes all runs of programs without input.
+fn alone<R: Abort + Threads + Wait + Clock + Sync>(rt: &R, alloc: Global, cases: &[Alone]) {
+    for case in cases {
+        in_time(rt, alloc, &Job::Series(whole(&on_nothing(case))));
+    }
+}
+
 #[test]
-fn spawned_calls(rt: HostRuntime) -> Result<(), Fail> {
-    for case in SPAWNS.as_slice() {
+fn spawned_calls(rt: HostRuntime) {
+    alone(&rt, rt.alloc(), &CALLS);
+}
+
+#[test]
+fn loops(rt: HostRuntime) {
+    alone(&rt, rt.alloc(), &LOOPS);
+}
+
+#[test]
+fn runs_without_spawns(rt: HostRuntime) {
+    alone(&rt, rt.alloc(), &NUMBERS);
+}
+
+#[test]
+fn runs_by_many_workers(rt: HostRuntime) {
+    for case in [&CALLS[1], &LOOPS[2]] {
+        in_time(&rt, rt.alloc(), &Job::Series(by_many(&on_nothing(case))));
+    }
+}
+
+#[test]
+fn runs_on_inputs(rt: HostRuntime) {
+    for case in &ON_INPUTS {
         in_time(&rt, rt.alloc(), &Job::Series(whole(case)));
     }
-    Ok(())
 }
 
 #[test]
-fn spawned_calls_by_many_workers(rt: HostRuntime) -> Result<(), Fail> {
-    in_time(&rt, rt.alloc(), &Job::Series(by_many(&SPAWNS[1])));
-    Ok(())
-}
-
-#[test]
-fn turns_of_loops_by_many_workers(rt: HostRuntime) -> Result<(), Fail> {
-    in_time(&rt, rt.alloc(), &Job::Series(by_many(&REDUCERS[1])));
-    Ok(())
-}
-
-#[test]
-fn turns_of_loops(rt: HostRuntime) -> Result<(), Fail> {
-    for case in LOOPS.as_slice() {
-        in_time(&rt, rt.alloc(), &Job::Series(whole(case)));
-    }
-    Ok(())
-}
-
-#[test]
-fn numbers_without_spawns(rt: HostRuntime) -> Result<(), Fail> {
-    for case in NUMBERS.as_slice() {
-        in_time(&rt, rt.alloc(), &Job::Series(whole(case)));
-    }
-    Ok(())
-}
-
-#[test]
-fn reducers_of_loops(rt: HostRuntime) -> Result<(), Fail> {
-    for case in REDUCERS.as_slice() {
-        in_time(&rt, rt.alloc(), &Job::Series(whole(case)));
-    }
-    Ok(())
-}
-
-#[test]
-fn reducers_of_spawned_calls(rt: HostRuntime) -> Result<(), Fail> {
-    for case in PARTS.as_slice() {
-        in_time(&rt, rt.alloc(), &Job::Series(whole(case)));
-    }
-    Ok(())
-}
-
-#[test]
-fn other_inputs_go_along(rt: HostRuntime) -> Result<(), Fail> {
-    for case in ALONG.as_slice() {
-        in_time(&rt, rt.alloc(), &Job::Series(whole(case)));
-    }
-    Ok(())
-}
-
-#[test]
-fn other_inputs_depart(rt: HostRuntime) -> Result<(), Fail> {
-    for case in DEPART.as_slice() {
+fn other_inputs_depart(rt: HostRuntime) {
+    for case in &DEPART {
         in_time(&rt, rt.alloc(), &Job::Series(departing(case)));
     }
-    Ok(())
-}
-
-#[test]
-fn numbers_of_workers(rt: HostRuntime) -> Result<(), Fail> {
-    for case in UNMANNED.as_slice() {
-        in_time(&rt, rt.alloc(), &Job::Series(unmanned(case)));
-    }
-    Ok(())
 }

@@ -7,57 +7,50 @@ use cilk_checker::judge::program;
 use cilk_checker::texts::check;
 use cilk_parser::input::parse_input;
 use cilk_plan::program_plan::{ProgramPlan, plan};
-use cilk_program::program::Program;
 use cilk_types::input::Input;
 use std::alloc::Global;
 use std::process::Abort;
 
-fn program_of(rt: &impl Abort, alloc: Global, text: &str) -> Program {
-    let Ok(program) = program(alloc, text.as_bytes()) else {
-        panic!(rt; "no program: {text}");
-    };
-    program
+// The text of the certificate of a program's run on an input.
+fn certificate(alloc: Global, text: &str, numbers: &str) -> Option<Vec<u8>> {
+    let program = program(alloc, text.as_bytes()).ok()?;
+    let input = parse_input(alloc, numbers.as_bytes()).ok()?;
+    let certificate = make(alloc, &program, &input).ok()?;
+    write(alloc, &certificate).ok()
+}
+
+// A program that is accepted on an input with its own certificate, if there is memory for that.
+fn certified(alloc: Global, text: &str, numbers: &str) -> Option<Accepted> {
+    let certificate = certificate(alloc, text, numbers)?;
+    check(
+        alloc,
+        text.as_bytes(),
+        numbers.as_bytes(),
+        certificate.as_slice(),
+    )
+    .ok()
+}
+
+/// Certifies and checks a program's run on an input.
+pub fn accepted(rt: &impl Abort, alloc: Global, text: &str, numbers: &str) -> Accepted {
+    match certified(alloc, text, numbers) {
+        Some(accepted) => accepted,
+        None => panic!(rt; "no memory ahead of the runs"),
+    }
 }
 
 /// Returns the input of a text.
 pub fn input_of(rt: &impl Abort, alloc: Global, numbers: &str) -> Input {
     let Ok(input) = parse_input(alloc, numbers.as_bytes()) else {
-        panic!(rt; "no input: {numbers}");
+        panic!(rt; "no memory ahead of the runs");
     };
     input
-}
-
-// The text of the certificate of a program's run on an input.
-fn certificate(rt: &impl Abort, alloc: Global, text: &str, numbers: &str) -> Vec<u8> {
-    let program = program_of(rt, alloc, text);
-    let input = input_of(rt, alloc, numbers);
-    let Ok(certificate) = make(alloc, &program, &input) else {
-        panic!(rt; "no certificate: {text}");
-    };
-    let Ok(bytes) = write(alloc, &certificate) else {
-        panic!(rt; "no text of the certificate: {text}");
-    };
-    bytes
-}
-
-/// Certifies and checks a program's run on an input.
-pub fn accepted(rt: &impl Abort, alloc: Global, text: &str, numbers: &str) -> Accepted {
-    let certificate = certificate(rt, alloc, text, numbers);
-    let (text, numbers, certificate) = (
-        text.as_bytes(),
-        numbers.as_bytes(),
-        certificate.as_slice(),
-    );
-    let Ok(accepted) = check(alloc, text, numbers, certificate) else {
-        panic!(rt; "not accepted");
-    };
-    accepted
 }
 
 /// Returns the plan of an accepted program's run.
 pub fn planned<'a>(rt: &impl Abort, alloc: Global, accepted: &'a Accepted) -> ProgramPlan<'a> {
     let Ok(plan) = plan(alloc, accepted) else {
-        panic!(rt; "no memory for the plan");
+        panic!(rt; "no memory ahead of the runs");
     };
     plan
 }

@@ -26,7 +26,7 @@ invariant_of-result c =
     let a = c.args.accepted.now in
     let same = c.program-program.ensures.value in
     let code = c.in_ok-code.code in
-    let Goal : AcceptedRun → Type 0 = λ r. HasDeterminateRun r × (c.program-program.result.now ≡ r.program) × (c.input.result.now ≡ r.input) × Behaves (source r.program) code × RoomsFit (source r.program) code × LaysOut (source r.program) code.layout × IsPlanOf r c.in_ok-events.events × AreFramesOf r c.frames.result.now × AreContinuations c.in_ok-events.events c.in_ok-continuations.continuations.items × AreStarts r.trace c.in_ok-starts.starts.items × AreBlockEnds c.in_ok-events.events c.in_ok-syncs.syncs.items × AreStrands r.trace c.in_ok-strands.strands.items × AreResumptions c.in_ok-events.events c.in_ok-resumptions.resumptions.items × AreBlocks c.in_ok-events.events c.in_ok-syncs.syncs.items c.in_ok-syncs.blocks.items in
+    let Goal : AcceptedRun → Type 0 = λ r. HasDeterminateRun r × (c.program-program.result.now ≡ r.program) × (c.input.result.now ≡ r.input) × Behaves (source r.program) code × RoomsFit (source r.program) code × LaysOut (source r.program) code.layout × IsPlanOf r c.in_ok-events.events × AreFramesOf r c.frames.result.now × AreBlockEnds c.in_ok-events.events c.in_ok-syncs.syncs.items × AreStrands r.trace c.in_ok-strands.strands.items × AreResumptions c.in_ok-events.events c.in_ok-resumptions.resumptions.items × AreBlocks c.in_ok-events.events c.in_ok-syncs.syncs.items c.in_ok-syncs.blocks.items in
     let h : Goal a = (
       c.program-program.ensures.determinate,
       same,
@@ -36,8 +36,6 @@ invariant_of-result c =
       subst (λ (p : Program). LaysOut (source p) code.layout) same c.in_ok-code.ensures.layout,
       c.in_ok-events.ensures,
       c.frames.ensures,
-      c.in_ok-continuations.ensures,
-      subst (λ (es : List Event). AreStarts es c.in_ok-starts.starts.items) c.trace.ensures.value c.in_ok-starts.ensures,
       c.in_ok-syncs.ensures.syncs,
       subst (λ (es : List Event). AreStrands es c.in_ok-strands.strands.items) c.trace-2.ensures.value c.in_ok-strands.ensures,
       c.in_ok-resumptions.ensures,

@@ -1,0 +1,145 @@
+//! Calls that no command makes.
+
+use crate::playing::{PRINTS, code_of, no_input};
+use cilk_cert_text::certificate::Certificate;
+use cilk_cert_text::read::{read, read_pieces};
+use cilk_cert_text::write::write;
+use cilk_lower::code::Code;
+use cilk_monoid::fold::fold_pieces;
+use cilk_monoid::list::Append;
+use cilk_monoid::monoid::Monoid;
+use cilk_monoid::view::ListView;
+use cilk_schedule::machine::play;
+use cilk_schedule::naming::ShownEvent;
+use cilk_schedule::showing::Shown;
+use cilk_scheduler::choice::Choice;
+use std::alloc::{AllocError, Global};
+use std::process::Abort;
+
+// Certificates of both versions.
+const TEXTS: [&[u8]; 3] = [
+    b"cilkcert 1\nsize 15 2 6\nframe 1 0 0\nframe 2 1 1\nstrand 1 1 1 0\nstrand 2 2 3 2\nstrand 3 2 4 2\nstrand 4 1 2 4\nstrand 5 1 5 0\nstrand 6 1 6 0\nbegin 1\nwrite 0 0\nwrite 1 0\nspawn 2\nbegin 2\nsync\nwrite 0 1\nend\nresume 1\nread 0 1 7\nwrite 1 1\nsync\nread 1 1 11\nsync\nend\nresult 1\nend\n",
+    b"cilkcert 1\nsize 6 0 0\ncreate 1\nupdate 1 -9223372036854775808\nset 1 9223372036854775807\nvalue 1 7\nprint -7\ncall 4294967295\nresult -1\nend\n",
+    b"cilkcert 2\nsize 5 0 0\ncreate 1 2\nupdate 1 2 -3\nset 1 2 3\nvalue 1 2 3\nprint 0\nresult 0\nend\n",
+];
+
+fn is_written(alloc: Global, certificate: &Certificate, text: &[u8]) -> bool {
+    match write(alloc, certificate) {
+        Ok(written) => written.as_slice() == text,
+        Err(_) => false,
+    }
+}
+
+fn is_written_again(alloc: Global, text: &[u8]) -> bool {
+    match read(alloc, text) {
+        Ok(certificate) => is_written(alloc, &certificate, text),
+        Err(_) => false,
+    }
+}
+
+// Reads a text in two pieces, and writes what it read.
+fn is_joined_again(alloc: Global, text: &[u8]) -> bool {
+    let (front, rest) = text.split_at(text.len().min(5));
+    match read_pieces(alloc, &[front, rest]) {
+        Ok(certificate) => is_written(alloc, &certificate, text),
+        Err(_) => false,
+    }
+}
+
+#[test]
+fn certificates_are_read_and_written(rt: HostRuntime) {
+    for text in TEXTS {
+        assert!(rt; is_written_again(rt.alloc(), text));
+        assert!(rt; is_joined_again(rt.alloc(), text));
+    }
+}
+
+// The views of some updates, a view each.
+fn pieces(alloc: Global, numbers: &[i64]) -> Result<Vec<ListView>, AllocError> {
+    let mut pieces = Vec::new(alloc);
+    for number in numbers {
+        pieces.push(Append::single(alloc, *number)?)?;
+    }
+    Ok(pieces)
+}
+
+fn is_product(alloc: Global, pieces: Vec<ListView>, numbers: &[i64]) -> bool {
+    match fold_pieces::<Append>(alloc, pieces) {
+        Ok(product) => product.items.as_slice() == numbers,
+        Err(_) => false,
+    }
+}
+
+#[test]
+fn pieces_multiply_in_order(rt: HostRuntime) -> Result<(), AllocError> {
+    for numbers in [[].as_slice(), [7].as_slice(), [1, 2, 3].as_slice()] {
+        let pieces = pieces(rt.alloc(), numbers)?;
+        assert!(rt; is_product(rt.alloc(), pieces, numbers));
+    }
+    Ok(())
+}
+
+// The three children that print, the last one first: each choice, and how often it is made.
+const PRINTS_REVERSED: [(Choice, u32); 10] = [
+    (Choice::Run(1), 2),
+    (Choice::Steal(2, 0), 1),
+    (Choice::Run(2), 2),
+    (Choice::Steal(3, 0), 1),
+    (Choice::Run(3), 2),
+    (Choice::Steal(4, 0), 1),
+    (Choice::Run(4), 2),
+    (Choice::Run(3), 6),
+    (Choice::Run(2), 6),
+    (Choice::Run(1), 9),
+];
+
+fn choices(alloc: Global) -> Result<Vec<Choice>, AllocError> {
+    let mut choices = Vec::new(alloc);
+    for (choice, count) in PRINTS_REVERSED {
+        for _ in 0..count {
+            choices.push(choice)?;
+        }
+    }
+    Ok(choices)
+}
+
+// Whether the second child printed 2.
+fn prints_two(shown: &Shown) -> bool {
+    matches!(
+        shown.events(&[2]),
+        Some([
+            ShownEvent::Begin,
+            _,
+            ShownEvent::Read { cell: _, value: 2 },
+            ShownEvent::Print { value: 2 },
+            ShownEvent::Sync,
+            ShownEvent::End,
+        ])
+    )
+}
+
+fn is_in_order(shown: &Shown) -> bool {
+    match shown.outcome() {
+        Some(outcome) => {
+            outcome.output.as_slice() == [1, 2, 3].as_slice()
+                && shown.is_joined(&[3])
+                && prints_two(shown)
+        }
+        None => false,
+    }
+}
+
+fn is_played_in_order(alloc: Global, code: &Code, choices: &[Choice]) -> bool {
+    match play(alloc, code, &no_input(alloc), 4, choices) {
+        Ok(shown) => is_in_order(&shown),
+        Err(_) => false,
+    }
+}
+
+#[test]
+fn prints_in_reverse(rt: HostRuntime) -> Result<(), AllocError> {
+    let choices = choices(rt.alloc())?;
+    let code = code_of(&rt, rt.alloc(), PRINTS);
+    assert!(rt; is_played_in_order(rt.alloc(), &code, choices.as_slice()));
+    Ok(())
+}
