@@ -62,7 +62,9 @@ def made(source):
         ".SH NAME",
         "cilk \\- " + roff(about[0].lower() + about[1:].rstrip(".")),
         ".SH SYNOPSIS",
-        *(f".B {roff(it)}\n.br" for it in re.findall(r"\nUsage: (cilk [a-z]+ [^\n]*)\n", source)),
+        ".nf",
+        *(f".B {roff(it)}" for it in re.findall(r"\nUsage: (cilk [a-z]+ [^\n]*)\n", source)),
+        ".fi",
     ]
     for block in blocks:
         title, *lines = block.split("\n")

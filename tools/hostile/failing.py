@@ -42,14 +42,26 @@ def memory(name, command):
             "play": ["play", program, "all", "--workers", "2"],
             "threads": ["threads", program, cert, "--workers", "2"],
             "schedule": ["schedule", program, cert],
+            "settle": ["settle", program],
         }[command] + more
-        wanted = {"check": rows.verdict(name), "schedule": rows.SCRIPTS.get(name)}.get(command, rows.OUTCOMES[name])
+        wanted = {
+            "check": rows.verdict(name), "schedule": rows.SCRIPTS.get(name), "settle": rows.settled(name)
+        }.get(command, rows.OUTCOMES[name])  # fmt: skip
         again = command in ("play", "threads")
         found.expect(room.run(*words), wanted, " ".join(words))
         for setting in ("FAIL_ALLOC", "FAIL_FROM"):
             refusals(room, found, words, wanted, again and setting == "FAIL_ALLOC", setting)
 
     return case
+
+
+def judged(room, found):
+    """Each allocation of `judge` refused, of a trace without a race and of one with a race."""
+    for kind, text in rows.TRACES.items():
+        words = ["judge", room.put(f"{kind}.trace", text)]
+        found.expect(room.run(*words), rows.JUDGED[kind], " ".join(words))
+        for setting in ("FAIL_ALLOC", "FAIL_FROM"):
+            refusals(room, found, words, rows.JUDGED[kind], False, setting)
 
 
 def measured(room, found):
@@ -70,6 +82,9 @@ def explanations(room):
     room.put("cut.cert", rows.certificate("one")[:90])
     return [
         (["check", racy, racy_cert, "--explain"], rows.REFUSED["one"]),
+        (["settle", racy], rows.REFUSED["one"]),
+        (["settle", "fault.c"], Shown(3, b"", b"fault 201 at 16\n")),
+        (["settle", "bad.c"], Shown(2, b"", b"program 103 at 22\n")),
         (["check", racy, "cut.cert", "--explain"], room.run("check", racy, "cut.cert")),
         (["run", "fault.c", "--explain"], Shown(3, b"", b"fault 201 at 16\n")),
         (["run", "bad.c", "--explain"], Shown(2, b"", b"program 103 at 22\n")),
@@ -78,7 +93,8 @@ def explanations(room):
 
 def explained(room, found):
     """Each allocation of an explanation refused: it comes whole, or it is said that it doesn't."""
-    for words, answer in explanations(room):
+    race = ["judge", room.put("spawned.trace", rows.TRACES["spawned"]), "--explain"]
+    for words, answer in [*explanations(room), (race, rows.JUDGED["spawned"])]:
         told, wanted = " ".join(words), room.run(*words)
         begins = wanted._replace(err=wanted.err[: len(answer.err)]) == answer and len(wanted.err) > len(answer.err)
         found.must(begins, f"{told}: the answer, and an explanation", wanted)
@@ -115,6 +131,7 @@ def answers(room):
             (["certify", program, *more], Shown(0, rows.certificate(name), b"")),
             (["check", program, cert, *more], rows.verdict(name)),
             (["play", program, "all", "--workers", "1", *more], outcome),
+            *([(["settle", program, *more], rows.settled(name))] if accepted else []),
             (["threads", program, cert, *more], outcome if accepted else rows.verdict(name)),
         ]
     more = rows.lay(room, "turns")[2]
@@ -122,6 +139,7 @@ def answers(room):
     made.append((["threads", "turns.c", "turns.cert", *more, "--on", "on"], rows.OUTCOMES["turns"]))
     for words in (["measure", "turns.c", *more], *(words for words, _ in explanations(room))):
         made.append((words, room.run(*words)))
+    made += [(["judge", room.put(f"{kind}.trace", text)], rows.JUDGED[kind]) for kind, text in rows.TRACES.items()]
     made += [(["schedule", f"{name}.c", f"{name}.cert"], script) for name, script in rows.SCRIPTS.items()]
     rows.lay(room, "race")
     return made
@@ -130,10 +148,11 @@ def answers(room):
 def fair_after(failed, words, whole, seen):
     """Whether an answer is the right one after this call failed."""
     call, file, name = failed
-    if "--explain" in words and call != "write":  # (a hint comes after the line)
+    explains = "--explain" in words or words[0] == "settle"
+    if explains and call != "write":  # (a hint comes after the line)
         seen = seen if seen == whole else seen._replace(err=seen.err.partition(b"\n")[0] + b"\n")
     if call == "write" and file == 1:
-        err = seen.err[: len(CANNOT_WRITE)] if "--explain" in words else seen.err
+        err = seen.err[: len(CANNOT_WRITE)] if explains else seen.err
         return seen.status == 2 and err == CANNOT_WRITE and whole.out.startswith(seen.out) and seen.out != whole.out
     if call == "write" and file == 2:
         return seen.status == whole.status and seen.out == whole.out and whole.err.startswith(seen.err)
@@ -192,6 +211,7 @@ def written(room):
     return [
         ["run", program], ["certify", program], ["play", program, "all"], ["threads", program, cert],
         ["check", racy, racy_cert], ["check", program, cert], ["threads", racy, racy_cert], ["measure", program],
+        ["settle", program], ["judge", room.put("called.trace", rows.TRACES["called"])],
     ]  # fmt: skip
 
 
@@ -266,7 +286,9 @@ CASES = {f"memory: check {name}": memory(name, "check") for name in ("fib", "rac
 CASES.update({f"memory: play {name}": memory(name, "play") for name in ("list", "local")})
 CASES.update({f"memory: threads {name}": memory(name, "threads") for name in ("gets", "list", "prints")})
 CASES.update({f"memory: schedule {name}": memory(name, "schedule") for name in ("one", "race")})
+CASES.update({f"memory: settle {name}": memory(name, "settle") for name in ("fib", "list")})
 CASES.update({
+    "memory: judge": judged,
     "memory: measure": measured,
     "memory: explanations": explained,
     "memory: threads that can't be started": no_thread,

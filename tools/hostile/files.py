@@ -25,7 +25,7 @@ def places(room):
         (["run", "{}"], no_main), (["certify", "{}"], no_main), (["check", "{}", cert], no_main), (
             ["play", "{}", "all"], no_main
         ),
-        (["threads", "{}", cert], no_main), (["measure", "{}"], no_main),
+        (["threads", "{}", cert], no_main), (["measure", "{}"], no_main), (["judge", "{}"], Shown(2, b"", b"trace 302 at 1\n")),
         (["run", program, "--input", "{}"], whole), (
             ["certify", program, "--input", "{}"], Shown(0, rows.certificate("first"), b"")
         ),
@@ -208,6 +208,33 @@ def changing(room, found):
         worker.join()
 
 
+def exchanged(room, found):
+    """A trace that becomes another one between two readings is told as changed, or judged as one of the two."""
+    stop, answers = threading.Event(), {shown: kind for kind, shown in rows.JUDGED.items()}
+    answers[Shown(2, b"", b"changed moving\n")] = "changed"
+
+    def exchange():
+        while not stop.is_set():
+            for kind, text in rows.TRACES.items():
+                os.replace(f"{room.folder}/{room.put(f'{kind}.next', text)}", f"{room.folder}/moving")
+
+    room.put("moving", rows.TRACES["called"])
+    worker, seen = threading.Thread(target=exchange, daemon=True), set()
+    worker.start()
+    try:
+        for n in range(6000):
+            if n >= 400 and "changed" in seen:
+                break
+            shown = room.run("judge", "moving")
+            found.must(shown in answers, "a trace that changes", shown)
+            seen.add(answers.get(shown))
+            found.count(f"a trace that changes: {answers.get(shown)}")
+    finally:
+        stop.set()
+        worker.join()
+    found.must("changed" in seen, "no trace was told as changed")
+
+
 def growing(room, found):
     """A program that grows past the limit of a file while it is read, as a fifo, can't be read."""
     path = f"{room.folder}/fifo"
@@ -234,5 +261,6 @@ CASES = {
     "files: given twice": twice,
     "files: certificates cut off": cut_certificates,
     "files: one that changes": changing,
+    "files: a trace that changes": exchanged,
     "files: one that grows": growing,
 }

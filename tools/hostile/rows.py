@@ -42,6 +42,18 @@ ACCEPTED = Shown(0, b"accepted\n", b"")
 SCRIPTS = {name: said("run 1 4", "steal 2 0", "run 2 2", "run 1 4", "all") for name in ("one", "race")}
 EXCHANGED = {"one": said("result 0"), "race": said("reducer r 1", "result 0")}
 REFUSED = {"one": Shown(4, b"refused 311 7 10\n", b""), "race": Shown(4, b"refused 312 2 10\n", b"")}
+# A trace without a race, and one with a race of its lines 3 and 5; they differ in the end of the child, and are equally long.
+TRACES = {
+    kind: f"cilktrace 1\nenter {site}\nwrite 8 4 2\n{kind}\nread 8 4 3\nend\n"
+    for kind, site in (("called", 10), ("spawned", 1))
+}
+JUDGED = {"called": said("race-free"), "spawned": Shown(4, b"refused 311 3 5\n", b"")}
+
+
+def settled(name):
+    """What `settle` answers: the outcome of every schedule, or a race."""
+    outcome = OUTCOMES[name]
+    return REFUSED.get(name, outcome._replace(out=b"settled\n" + outcome.out))
 
 
 def run_of(name):

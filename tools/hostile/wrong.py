@@ -82,6 +82,21 @@ WRONG = [
         'if status == 5: status, out, err = 4, b"refused 311 7 10\\n", b"hint: no script of two workers shows this\\n"',
     ),
     (
+        "what isn't read for want of memory is settled",
+        "memory: settle list",
+        'if status == 5: status, out, err = 0, b"settled\\nresult 5\\n", b""',
+    ),
+    (
+        "a race is lost for want of memory",
+        "memory: judge",
+        'if status == 5: status, out, err = 0, b"race-free\\n", b""',
+    ),
+    (
+        "a trace that changed is called malformed",
+        "files: a trace that changes",
+        'if err.startswith(b"changed "): err = b"trace 301 at 2\\n"',
+    ),
+    (
         "a table is cut short for want of memory",
         "memory: measure",
         'if status == 5: status, out, err = 0, b"events 1\\n", b""',

@@ -1,0 +1,1 @@
+int main() { return input(0) + input(1); }
