@@ -6,7 +6,7 @@ _cilk() {
         2:help:*) words="explain settle run certify check threads play schedule measure judge" files= ;;
         *:--input | *:--on | *:--sites) ;;
         *:--workers | *:--helpers | *:explain:*) files= ;;
-        *:settle:*) words="--input --help" ;;
+        *:settle:*) words="--input --short --json --help" ;;
         *:run:*) words="--input --explain --help" ;;
         *:certify:*) words="--input --explain --help" ;;
         *:check:*) words="--input --helpers --explain --help" ;;

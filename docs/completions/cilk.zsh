@@ -7,7 +7,7 @@ _cilk() {
         3:help:*) compadd -- explain settle run certify check threads play schedule measure judge; return ;;
         *:--input | *:--on | *:--sites) _files; return ;;
         *:--workers | *:--helpers | *:explain:*) return ;;
-        *:settle:*) words_of="--input --help" ;;
+        *:settle:*) words_of="--input --short --json --help" ;;
         *:run:*) words_of="--input --explain --help" ;;
         *:certify:*) words_of="--input --explain --help" ;;
         *:check:*) words_of="--input --helpers --explain --help" ;;
