@@ -6,7 +6,7 @@ use Rattle.std.proofs.lemmas.Bool.{cases_lt, lt-ltb, le-ltb, eq-eqb, ne_eqb}
 use Rattle.cilk_trace.specs.declared.histories.Kept.{Kept}
 use Rattle.cilk_trace.specs.declared.histories.History.{History}
 use Rattle.cilk_trace.specs.declared.histories.Kind.{Kind}
-use Rattle.cilk_trace.specs.Histories.{nothing, racing, after, first_of, history_at, IsMet, IsBest}
+use Rattle.cilk_trace.specs.Histories.{nothing, above, rival, racing, after, first_of, history_at, IsMet, IsBest}
 
 abbrev Precedes : Kept → Kept → Type 0
 Precedes r k = (r.hebrew < k.hebrew) ⊎ ((r.hebrew ≡ k.hebrew) × (k.at ≤ r.at))
@@ -47,11 +47,37 @@ worse r k f (inl a) (inr b) = inl (let p = b.0 in omega (arith, a, p))
 worse r k f (inr a) (inl b) = inl (let p = a.0 in omega (arith, p, b))
 worse r k f (inr a) (inr b) = inr (a.0 ∙ b.0, (let p = a.1 in let q = b.1 in omega (arith, p, q)))
 
+-- none is kept of number 0
+abbrev pub IsKept : Kept → Type 0
+IsKept k = k.hebrew ≡ 0 → k ≡ nothing
+
+kept_above : (k : Kept) (n : ℕ) → IsKept (above k n)
+kept_above k n = elim (cases_lt n k.hebrew) [
+  | inl m ↦ (let t = lt-ltb n k.hebrew m in subst (λ (b : Bool). IsKept (cond b k nothing)) (sym t) (λ e. absurd (omega (arith, e, m))))
+  | inr m ↦ (let t = le-ltb n k.hebrew m in subst (λ (b : Bool). IsKept (cond b k nothing)) (sym t) (λ e. refl))
+]
+
+kept_first : (k l : Kept) → IsKept k → IsKept l → IsKept (first_of k l)
+kept_first k l h g = elim (firsts k l).one [
+  | inl e ↦ subst IsKept (sym e) h
+  | inr e ↦ subst IsKept (sym e) g
+]
+
+first_none : (k : Kept) → IsKept k → first_of k nothing ≡ k
+first_none k h = elim (firsts k nothing).one [
+  | inl e ↦ e
+  | inr e ↦ (let z : k.hebrew ≡ 0 = elim (firsts k nothing).left [
+    | inl m ↦ (let v = ap (λ (f : Kept). f.hebrew) e in absurd (omega (arith, m, v)))
+    | inr m ↦ (let w = m.0 in let v = ap (λ (f : Kept). f.hebrew) e in omega (arith, w, v))
+  ] in e ∙ sym (h z))
+]
+
 -- The state before the cell at `place`: the cells from the first on, up to it, are done.
 pub record At (kind : Kind) (here : Kept) (first : ℕ) (old items : List History) (place : ℕ) (best : Kept) : Type 0 where
   pub begun : first ≤ place
   pub met : IsMet kind here (record { first = first; count = place - first }) old items
   pub top : IsBest kind here.hebrew (record { first = first; count = place - first }) old best
+  pub kept : IsKept best
 
 pub at_first : (kind : Kind) (here : Kept) (first : ℕ) (old items : List History) (place : ℕ) (best : Kept)
     → items ≡ old → place ≡ first → best ≡ nothing → At kind here first old items place best
@@ -66,6 +92,7 @@ at_first kind here first old items place best e p b = record {
     found = λ w. (let z = ap (λ (k : Kept). k.hebrew) b in absurd (omega (arith, w, z)));
     greatest = λ c w. (let x = w.0 in let y = w.1 in absurd (omega (arith, x, y, p)));
   };
+  kept = λ z. b;
 }
 
 pub at_next : (kind : Kind) (here : Kept) (first : ℕ) (old items items' : List History) (place : ℕ) (best best' : Kept)
@@ -106,4 +133,13 @@ at_next kind here first old items items' place best best' s lt e b =
               subst (λ (k : ℕ). Precedes (racing kind (history_at old k) here.hebrew) (first_of best r)) (sym q) f.right)
         ]);
       });
+      kept = subst IsKept (sym b') (kept_first best r s.kept (kept_above (rival kind (history_at old place)) here.hebrew));
     }
+
+-- what races is the better one, or there is none and the kept one stays
+pub best_by : (kind : Kind) (here : Kept) (h : History) (best best' raced : Kept) → raced ≡ racing kind h here.hebrew → IsKept best
+    → (best' ≡ first_of best raced) ⊎ ((best' ≡ best) × (raced.hebrew ≡ 0)) → best' ≡ first_of best (racing kind h here.hebrew)
+best_by kind here h best best' raced e k (inl f) = f ∙ ap (first_of best) e
+best_by kind here h best best' raced e k (inr f) =
+    let none : racing kind h here.hebrew ≡ nothing = kept_above (rival kind h) here.hebrew (ap (λ (x : Kept). x.hebrew) (sym e) ∙ f.1) in
+    f.0 ∙ (sym (first_none best k) ∙ ap (first_of best) (sym none))

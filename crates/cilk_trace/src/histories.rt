@@ -50,13 +50,14 @@ fn above(kept: Kept, hebrew: u32) -> Kept
     }
 }
 
-fn better(kept: Kept, here: Kept) -> Kept
-    ensures { result ≡ better kept here }
-{
-    if kept.hebrew < here.hebrew {
-        here
-    } else {
-        kept
+impl Kept {
+    // Puts an access of greater Hebrew number in its place.
+    fn raise(&mut self, here: Kept)
+        ensures { self.new ≡ better self.old here }
+    {
+        if self.hebrew < here.hebrew {
+            *self = here;
+        }
     }
 }
 
@@ -77,30 +78,26 @@ impl History {
         access: Kept::NONE,
     };
 
-    fn racing(self, kind: Kind, hebrew: u32) -> Kept
-        ensures { result ≡ racing kind self hebrew }
+    // Takes an access, and returns the kept one that races with it.
+    fn meet(&mut self, kind: Kind, here: Kept) -> Kept
+        ensures racing { result ≡ racing kind self.old here.hebrew }
+        ensures after { self.new ≡ after kind here self.old }
     {
         match kind {
-            Kind::Read => above(self.write, hebrew),
-            Kind::Write => above(self.access, hebrew),
-            Kind::Clear => Kept::NONE,
-        }
-    }
-
-    fn after(self, kind: Kind, here: Kept) -> History
-        ensures { result ≡ after kind here self }
-    {
-        let access = better(self.access, here);
-        match kind {
-            Kind::Read => History {
-                write: self.write,
-                access,
-            },
-            Kind::Write => History {
-                write: better(self.write, here),
-                access,
-            },
-            Kind::Clear => History::NONE,
+            Kind::Read => {
+                self.access.raise(here);
+                above(self.write, here.hebrew)
+            }
+            Kind::Write => {
+                let kept = self.access;
+                self.write.raise(here);
+                self.access.raise(here);
+                above(kept, here.hebrew)
+            }
+            Kind::Clear => {
+                *self = History::NONE;
+                Kept::NONE
+            }
         }
     }
 }
@@ -132,9 +129,10 @@ impl Histories {
         let mut best = Kept::NONE;
         let last = cells.first as usize + cells.count as usize;
         'each: for place in cells.first as usize..last {
-            let history = self.cells[place];
-            best = first_of(best, history.racing(kind, here.hebrew));
-            self.cells[place] = history.after(kind, here);
+            let raced = self.cells[place].meet(kind, here);
+            if raced.hebrew > 0 {
+                best = first_of(best, raced);
+            }
         }
         best
     }

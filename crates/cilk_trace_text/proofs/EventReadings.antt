@@ -106,7 +106,7 @@ pub end_truncated : (fault : Option TraceFault) (s : Events) (number v u : ℕ) 
 end_truncated fault s number v u none due =
     ap (λ (f : Option TraceFault). rest_of f s number (numbers_from v u [])) none ∙ cut_by s.place (eqb u 1) s number refl due
 
-pub over_piece : (fault : Option TraceFault) (s : Events) (number v u : ℕ) (piece more : List ℕ) → fault ≡ None → s.place ≡ Over → 0 < u → false ≡ eqb (length piece) 0
+pub over_piece : (fault : Option TraceFault) (s : Events) (number v u : ℕ) (piece more : List ℕ) → fault ≡ None → s.place ≡ Over → 0 < u → 0 < length piece
     → rest_of fault s number (numbers_from v u (piece ++ more)) ≡ stops (Malformed number)
-over_piece fault s number v u [] more none e h some = absurd cc
+over_piece fault s number v u [] more none e h some = absurd (omega (arith, some))
 over_piece fault s number v u (b ∷ piece) more none e h some = over_law fault s number b v u (piece ++ more) none e h

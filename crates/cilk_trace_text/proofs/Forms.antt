@@ -18,9 +18,10 @@ use Rattle.cilk_trace_text.specs.Events.{access_line, step_of}
 use Rattle.cilk_trace_text.specs.Forms.{binary_header, reading_of}
 use Rattle.cilk_trace_text.specs.Numbers.{Numbers, NoMore, Cut, Wrong, Next, numbers}
 use Rattle.cilk_trace_text.specs.Reading.{Reading, after_line, count_of, text_reading, with_lines}
-use Rattle.cilk_trace_text.specs.Texts.{EndsOnce, IsText, IsTraceText, ReadsTraces}
+use Rattle.cilk_trace_text.specs.Texts.{AreWithin, EndsOnce, IsText, IsTraceText, ReadsTraces}
 use Rattle.cilk_trace_text.specs.Words.{◌>>=◌}
 use Rattle.cilk_trace_text.proofs.EventReadings.{over_numbers}
+use Rattle.cilk_trace_text.proofs.Limits.{AreRanged, IsRanged, number_within}
 use Rattle.cilk_trace_text.proofs.Spellings.{bind_some, cond_none, map_some, some_is}
 use Rattle.cilk_trace_text.proofs.Wholes.{after_end, ends_more, no_stop, read_as, taken_whole, text_again, text_sound, with_line_is}
 
@@ -67,60 +68,63 @@ over_sound s n (Next m ns) ls h e = absurd (no_stop (Malformed n) ls (sym (over_
 
 -- lines to the end of a trace, from the one with this number on
 record IsTail (n : ℕ) (ls : List Line) : Type 0 where
+  within : AreWithin ls
   ends : EndsOnce ls
   few : n + length ls ≤ 4294967295
 
-next_sound : (s : Events) (n : ℕ) (ns : Numbers) (ls : List Line) (p : Option Line × Events) → s.place ≡ Lines → IsAfter s n p
-    → ((t : Events) (k : ℕ) (ks : List Line) → t.place ≡ Lines → events_reading t k ns ≡ read_as ks → IsTail k ks)
+next_sound : (s : Events) (n : ℕ) (ns : Numbers) (ls : List Line) (p : Option Line × Events) → s.place ≡ Lines → IsAfter s n p → AreRanged p
+    → ((t : Events) (k : ℕ) (ks : List Line) → t.place ≡ Lines → IsRanged t → events_reading t k ns ≡ read_as ks → IsTail k ks)
     → with_lines p.0 (events_reading p.1 (n + count_of p.0) ns) ≡ read_as ls → IsTail n ls
-unfolding IsAfter
-next_sound s n ns ls (None, t) h a later e =
-    let tail = later t (n + 0) ls (a ∙ h) e in
+unfolding IsAfter AreRanged
+next_sound s n ns ls (None, t) h a w later e =
+    let tail = later t (n + 0) ls (a ∙ h) w e in
     let few = tail.few in
-    record { ends = tail.ends; few = omega (arith, few) }
-next_sound s n ns ls (Some l, t) h a later e =
+    record { within = tail.within; ends = tail.ends; few = omega (arith, few) }
+next_sound s n ns ls (Some l, t) h a w later e =
     let r = events_reading t (n + 1) ns in
-    let w = with_line_is l r ls e in
+    let is = with_line_is l r ls e in
     let below = a.0 in
-    subst (IsTail n) w.1 (elim (after_end l) [
-      | inl d ↦ (let none = over_sound t (n + 1) ns r.lines (a.1 ∙ ap after_line d) w.0 in
+    subst (IsTail n) is.1 (elim (after_end l) [
+      | inl d ↦ (let none = over_sound t (n + 1) ns r.lines (a.1 ∙ ap after_line d) is.0 in
           subst (λ (k : List Line). IsTail n (l ∷ k)) none (record {
+            within = (w.0, tt);
             ends = subst (λ (x : Line). EndsOnce (x ∷ [])) (sym d) tt;
             few = omega (arith, below);
           }))
-      | inr d ↦ (let tail = later t (n + 1) r.lines (a.1 ∙ d) w.0 in
+      | inr d ↦ (let tail = later t (n + 1) r.lines (a.1 ∙ d) w.1 is.0 in
           let few = tail.few in
-          record { ends = ends_more l r.lines d tail.ends; few = omega (arith, few) })
+          record { within = (w.0, tail.within); ends = ends_more l r.lines d tail.ends; few = omega (arith, few) })
     ])
 
-lines_sound : (ns : Numbers) (s : Events) (n : ℕ) (ls : List Line) → s.place ≡ Lines → events_reading s n ns ≡ read_as ls → IsTail n ls
-lines_sound NoMore s n ls h e = absurd (no_stop (Truncated n) ls (sym (ap (λ (p : Place). ended p n) h) ∙ e))
-lines_sound Cut s n ls h e = absurd (no_stop (Truncated n) ls (sym (ap (λ (p : Place). cut_off p n) h) ∙ e))
-lines_sound Wrong s n ls h e = absurd (no_stop (Malformed n) ls e)
-lines_sound (Next m ns) s n ls h e =
+lines_sound : (ns : Numbers) (s : Events) (n : ℕ) (ls : List Line) → s.place ≡ Lines → IsRanged s → events_reading s n ns ≡ read_as ls → IsTail n ls
+lines_sound NoMore s n ls h w e = absurd (no_stop (Truncated n) ls (sym (ap (λ (p : Place). ended p n) h) ∙ e))
+lines_sound Cut s n ls h w e = absurd (no_stop (Truncated n) ls (sym (ap (λ (p : Place). cut_off p n) h) ∙ e))
+lines_sound Wrong s n ls h w e = absurd (no_stop (Malformed n) ls e)
+lines_sound (Next m ns) s n ls h w e =
     let t = taken_whole n (λ (p : Option Line × Events). with_lines p.0 (events_reading p.1 (n + count_of p.0) ns)) (after_number s n m) ls e in
-    next_sound s n ns ls t.0 h (number_sound s n m t.0 h t.1) (λ t k ks. lines_sound ns t k ks) t.2
+    next_sound s n ns ls t.0 h (number_sound s n m t.0 h t.1) (number_within s n m t.0 w t.1) (λ t k ks. lines_sound ns t k ks) t.2
 
 -- ---- either form
 
 sound_by : (b : Bool) (text : List ℕ) (ls : List Line) → bytes_eq (take 16 text) binary_header ≡ b
     → cond b (binary_reading (drop 16 text)) (text_reading text) ≡ read_as ls → IsTraceText text ls
 sound_by true text ls is e =
-    let tail = lines_sound (numbers (drop 16 text)) no_events 2 ls refl e in
+    let tail = lines_sound (numbers (drop 16 text)) no_events 2 ls refl (record { sites = tt; due_is = tt }) e in
     let few = tail.few in
     record {
       spells = inr (record { header = (bytes_eq-Decides (take 16 text) binary_header).0 is; reads = e });
+      within = tail.within;
       ends = tail.ends;
       few = omega (arith, few);
     }
-sound_by false text ls is e = let t = text_sound text ls e in record { spells = inl t.form; ends = t.ends; few = t.few }
+sound_by false text ls is e = let t = text_sound text ls e in record { spells = inl t.form; within = t.within; ends = t.ends; few = t.few }
 
 text_form : (text : List ℕ) (ls : List Line) → IsText text ls → bytes_eq (take 16 text) binary_header ≡ false
-text_form text ls h = rw h.spells refl
+text_form text ls h = rw h refl
 
 again : (text : List ℕ) (ls : List Line) → IsTraceText text ls → reading_of text ≡ read_as ls
 again text ls h = elim h.spells [
-  | inl t ↦ ap (λ (b : Bool). cond b (binary_reading (drop 16 text)) (text_reading text)) (text_form text ls t) ∙ text_again text ls t h.ends h.few
+  | inl t ↦ ap (λ (b : Bool). cond b (binary_reading (drop 16 text)) (text_reading text)) (text_form text ls t) ∙ text_again text ls t h.within h.ends h.few
   | inr b ↦ ap (λ (b : Bool). cond b (binary_reading (drop 16 text)) (text_reading text)) ((bytes_eq-Decides (take 16 text) binary_header).1 b.header) ∙ b.reads
 ]
 

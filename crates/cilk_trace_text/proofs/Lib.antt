@@ -2,6 +2,8 @@ pub mod Cuts
 pub mod EventReadings
 pub mod Forms
 pub mod Headers
+pub mod Leb128
+pub mod Limits
 pub mod LineWords
 pub mod Numerals
 pub mod Readings

@@ -30,13 +30,13 @@ keyword_sound : (w : List ℕ) (k : Keyword) → keyword_of w ≡ Some k → w �
 unfolding keyword_of
 keyword_sound w k e = keyword_first all_keywords w k e
 
-within : (f n : ℕ) → IsNumber f → are_cells f n ≡ true → AreCells (record { first = f; count = n })
-within f n h e =
+pub within : (f n : ℕ) → are_cells f n ≡ true → AreCells (record { first = f; count = n })
+within f n e =
     let rest = and_right (ltb 0 n) (ltb n 4097 && ltb (f + n) 4294967297) e in
     let a = ltb-true 0 n (and_left (ltb 0 n) (ltb n 4097 && ltb (f + n) 4294967297) e) in
     let b = ltb-true n 4097 (and_left (ltb n 4097) (ltb (f + n) 4294967297) rest) in
     let c = ltb-true (f + n) 4294967297 (and_right (ltb n 4097) (ltb (f + n) 4294967297) rest) in
-    record { first = h; some = omega (arith, a); few = omega (arith, b); within = omega (arith, c) }
+    record { first = omega (arith, a, c); some = omega (arith, a); few = omega (arith, b); within = omega (arith, c) }
 
 -- cells before the words
 record IsCells (ws : List (List ℕ)) (p : Cells × List (List ℕ)) : Type 0 where
@@ -53,7 +53,7 @@ cells_sound ws p e =
     let t = cond_none (are_cells f.0.0 n.0.0) _ p n.2 in
     let made : Cells × List (List ℕ) = (record { first = f.0.0; count = n.0.0 }, n.0.1) in
     subst (λ (q : Cells × List (List ℕ)). IsCells ws q) (some_is made p t.1)
-    (record { cells = within f.0.0 n.0.0 f'.0 t.0; words = f'.1 ∙ prepend _ _ _ n'.1 })
+    (record { cells = within f.0.0 n.0.0 t.0; words = f'.1 ∙ prepend _ _ _ n'.1 })
 
 -- a line before the words
 record IsRead (k : Keyword) (ws : List (List ℕ)) (p : Line × List (List ℕ)) : Type 0 where

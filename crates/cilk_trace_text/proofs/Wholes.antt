@@ -47,6 +47,7 @@ lines_joined (b ∷ bs) = joined_by (eqb b 10) b bs refl (lines_joined bs)
 -- the text form of a trace
 pub record IsTextTrace (text : List ℕ) (ls : List Line) : Type 0 where
   pub form : IsText text ls
+  pub within : AreWithin ls
   pub ends : EndsOnce ls
   pub few : length ls + 1 < 4294967295
 
@@ -164,10 +165,8 @@ whole_sound (l ∷ each) last text ls is e =
     let s = lines_sound each 2 last ls (ap (λ (p : Option Line × Place). with_lines p.0 (reading each p.1 2 last)) h.1 ∙ t.2) in
     let few = s.few in
     record {
-      form = record {
-        spells = sym is ∙ (ap (λ (y : List ℕ). y ++ 10 ∷ unlines each last) h.0 ∙ ap (λ (y : List ℕ). codes "cilktrace 1" ++ 10 ∷ y) s.spells);
-        within = s.within;
-      };
+      form = sym is ∙ (ap (λ (y : List ℕ). y ++ 10 ∷ unlines each last) h.0 ∙ ap (λ (y : List ℕ). codes "cilktrace 1" ++ 10 ∷ y) s.spells);
+      within = s.within;
       ends = s.ends;
       few = omega (arith, few);
     }
@@ -206,8 +205,8 @@ lines_again (x ∷ ls) n h e few = line_step n x ls h (omega (arith, few)) ∙ e
 pub text_sound : (text : List ℕ) (ls : List Line) → text_reading text ≡ read_as ls → IsTextTrace text ls
 text_sound text ls e = whole_sound (text_lines text).each (text_lines text).last text ls (lines_joined text) e
 
-pub text_again : (text : List ℕ) (ls : List Line) → IsText text ls → EndsOnce ls → length ls + 1 < 4294967295 → text_reading text ≡ read_as ls
-text_again text ls h ends few =
-    ap text_reading h.spells
+pub text_again : (text : List ℕ) (ls : List Line) → IsText text ls → AreWithin ls → EndsOnce ls → length ls + 1 < 4294967295 → text_reading text ≡ read_as ls
+text_again text ls h within ends few =
+    ap text_reading h
     ∙ (line_law Header 1 [] (codes "cilktrace 1") (lines_text ls) refl refl
-    ∙ lines_again ls 2 h.within ends (omega (arith, few)))
+    ∙ lines_again ls 2 within ends (omega (arith, few)))

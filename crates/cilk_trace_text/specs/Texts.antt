@@ -27,9 +27,8 @@ EndsOnce (lines.End ∷ (l ∷ ls)) = ⊥
 EndsOnce (_ ∷ ls) = EndsOnce ls
 
 -- The text is the text form of these lines.
-pub record IsText (text : List ℕ) (ls : List Line) : Type 0 where
-  pub spells : text ≡ text_of ls
-  pub within : AreWithin ls
+abbrev pub IsText : List ℕ → List Line → Type 0
+IsText text ls = text ≡ text_of ls
 
 -- The text is a binary form of these lines: they are read from the bytes after its header, without a fault.
 pub record IsBinary (text : List ℕ) (ls : List Line) : Type 0 where
@@ -39,6 +38,7 @@ pub record IsBinary (text : List ℕ) (ls : List Line) : Type 0 where
 -- The text is that of a trace with these lines, in either form. The header is line 1.
 pub record IsTraceText (text : List ℕ) (ls : List Line) : Type 0 where
   pub spells : IsText text ls ⊎ IsBinary text ls
+  pub within : AreWithin ls
   pub ends : EndsOnce ls
   pub few : length ls + 1 < 2 ^ 32 - 1
 

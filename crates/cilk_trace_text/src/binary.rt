@@ -17,7 +17,7 @@ const MAX_KINDS: usize = 1 << 24;
 const FOURTH_UNIT: u64 = 1 << 21;
 
 /// Reads a trace's binary form, after its header, in pieces that are cut anywhere, and returns its
-/// lines one by one. Memory: 24 bytes for each kind of line that is declared.
+/// lines one by one. Memory: 20 bytes for each kind of line that is declared.
 #[derive(Drop)]
 pub(crate) struct EventReader {
     kinds: Vec<Kind>,
@@ -230,8 +230,9 @@ impl EventReader {
         self.take(number)
     }
 
-    /// Reads the first byte of the piece. It returns the number of bytes read, and the line if one
-    /// is complete. The line's number is that of the current line before the call. A fault is
+    /// Reads bytes from the front of the piece, up to the end of a line at most, or of a declaration
+    /// that took the room for one. It returns the number of bytes read, and the line if one is
+    /// complete. The line's number is that of the current line before the call. A fault is
     /// returned as soon as a number shows it, and again by each later call.
     pub fn next(&mut self, piece: &[u8]) -> Result<(usize, Option<Line>), TraceFault>
         requires slot { HasSlot self.old }
@@ -249,14 +250,18 @@ impl EventReader {
         if let Some(fault) = self.fault {
             return Err(fault);
         }
-        if piece.is_empty() {
-            return Ok((0, None));
+        let mut taken = 0;
+        'bytes: while taken < piece.len() {
+            if self.place.is_over() {
+                return Err(self.malformed());
+            }
+            let line = self.byte(piece[taken])?;
+            taken += 1;
+            if line.is_some() || self.kinds.len() >= self.kinds.capacity() {
+                return Ok((taken, line));
+            }
         }
-        if self.place.is_over() {
-            return Err(self.malformed());
-        }
-        let line = self.byte(piece[0])?;
-        Ok((1, line))
+        Ok((taken, None))
     }
 
     /// Ends the trace. If it isn't complete, a fault is returned, and again by each later call.

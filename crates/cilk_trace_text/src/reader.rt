@@ -22,7 +22,7 @@ pub(crate) enum Form {
 }
 
 /// Reads a trace in pieces, cut anywhere, and returns its lines one by one. It allocates for the
-/// binary form alone: 24 bytes for each kind of line that is declared.
+/// binary form alone: 20 bytes for each kind of line that is declared.
 #[derive(Drop)]
 pub struct TraceReader {
     alloc: Global,
