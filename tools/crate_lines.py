@@ -13,6 +13,7 @@ GHOST = re.compile(r"\bRattle\.(\w+)\.")
 CODE = re.compile(r"(?<![\w:.])(\w+)::")
 COMMENT = re.compile(r"//[^\n]*")
 REMARK = re.compile(r"--[^\n]*")
+STRING = re.compile(r'"(?:[^"\\]|\\.)*"', re.DOTALL)
 
 
 def lines():
@@ -33,7 +34,7 @@ def named_by(crate):
                     text = file.read()
                 if name.endswith(".rt"):
                     text = COMMENT.sub("", text)
-                    found.update(CODE.findall(text))
+                    found.update(CODE.findall(STRING.sub("", text)))
                 elif name.endswith(".antt"):
                     text = REMARK.sub("", text)
                 found.update(GHOST.findall(text))

@@ -85,10 +85,15 @@ pub fn is_name(word: &[u8]) -> bool {
     }
 }
 
-/// Returns whether a word is one of these, which blanks separate.
+/// Returns whether a word is one of these, which blanks separate. `pthread_..` stands for each word
+/// that begins so.
 pub fn is_among(words: &str, word: &[u8]) -> bool {
     for it in words.split_whitespace() {
-        if it.as_bytes() == word {
+        let is_it = match it.strip_suffix("..") {
+            Some(front) => word.starts_with(front.as_bytes()),
+            None => it.as_bytes() == word,
+        };
+        if is_it {
             return true;
         }
     }

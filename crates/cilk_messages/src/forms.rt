@@ -1,5 +1,6 @@
 //! Hints for a token that the grammar doesn't allow at its place.
 
+use crate::around::is_among;
 use crate::hints::meant;
 use crate::place::between;
 use crate::report::Wanted;
@@ -11,7 +12,7 @@ use crate::spelling::{is_misspelt_reducer, misspelt_near};
 use crate::tokens::Tokens;
 use crate::unended::{missing_mark, unpaired};
 use crate::uses::of_use;
-use crate::vocabulary::{cast_to, is_type_word, number_named, other_word, word_of_c};
+use crate::vocabulary::{NUMBERS, TYPE_WORDS, cast_to, other_word, said_of, word_of_c};
 use cilk_syntax::token::Kind;
 
 /// Returns what to write in place of a refused token.
@@ -71,13 +72,14 @@ const SPAWNED_CALL: &str = "the call is spawned, not the assignment: `{} = cilk_
 // In the declaration of a reducer, a length or a global's first value.
 fn of_declaration(site: &Site<'_, '_>) -> Option<&'static str> {
     match site.said(DECLARATIONS)? {
-        "number" => Some(number_named(site.word()).unwrap_or(FIRST_VALUE)),
+        "number" => Some(said_of(NUMBERS, site.word()).unwrap_or(FIRST_VALUE)),
         cure => Some(cure),
     }
 }
 
 const DECLARATIONS: &str = "\
 reducer | 0 [ => REDUCER_ARRAY
+reducer | -1 ( | +1 , => REDUCER_FUNCTIONS
 reducer => REDUCER
 length => LENGTH
 0 INT_MIN LONG_MIN LLONG_MIN INT64_MIN | first => LEAST
@@ -103,7 +105,7 @@ fn of_words(site: &Site<'_, '_>) -> Option<&'static str> {
     if let Some(first) = cast_at(tokens, number) {
         return Some(cast_to(tokens.word(first)));
     }
-    if let Some(cure) = other_word(site.word()) {
+    if let Some(cure) = site.said(STATIC).or(other_word(site.word())) {
         return Some(cure);
     }
     let named = closed_head(tokens, number).or_else(|| head_of(tokens, number));
@@ -127,6 +129,8 @@ fn of_words(site: &Site<'_, '_>) -> Option<&'static str> {
         (None, None) => other_word(tokens.word(named?)),
     }
 }
+
+const STATIC: &str = "0 static | local => STATIC\n-1 static | local => STATIC";
 
 // Whether a reducer of the type that is declared at a token is declared too.
 fn is_viewed(site: &Site<'_, '_>) -> bool {
@@ -159,7 +163,7 @@ fn declares_type(site: &Site<'_, '_>, name: &[u8]) -> bool {
 
 /// Returns the advice for the size of an array or of a type.
 pub fn size_of(tokens: &Tokens<'_>, named: usize) -> &'static str {
-    if is_type_word(tokens.word(named.saturating_add(2))) {
+    if is_among(TYPE_WORDS, tokens.word(named.saturating_add(2))) {
         BYTES
     } else {
         sentence("NO_LENGTH")

@@ -1,11 +1,11 @@
 //! What else a text has that the language has no form for, behind the hint for its first fault.
 
-use crate::certain::{Look, form_at, own_words};
+use crate::certain::{form_at, own_words};
 use crate::cleaned::cleaned;
 use crate::kinds::is_foreign;
 use crate::place::{between, line_at, locate};
 use crate::sentence::{Part, say};
-use crate::site::Site;
+use crate::site::{Look, Site};
 use crate::tokens::Tokens;
 use std::alloc::{AllocError, Global};
 
@@ -24,8 +24,9 @@ struct Form {
     more: usize,
 }
 
+// Behind each text, and with no hint.
 const NO_FORM: Form = Form {
-    at: 0,
+    at: usize::MAX,
     length: 0,
     hint: "",
     more: 0,
@@ -47,7 +48,6 @@ pub struct Further<'a, 'h> {
     from: usize,
     upto: usize,
     forms: [Form; KEPT],
-    count: usize,
 }
 
 impl<'a, 'h> Further<'a, 'h> {
@@ -59,7 +59,6 @@ impl<'a, 'h> Further<'a, 'h> {
             from,
             upto: from.saturating_add(line.len()),
             forms: [NO_FORM; KEPT],
-            count: 0,
         }
     }
 
@@ -69,62 +68,45 @@ impl<'a, 'h> Further<'a, 'h> {
         if at == self.told.at || (is_on_line && hint == self.told.hint) {
             return;
         }
-        if let Some(place) = self.kept(at, length, hint, by_word) {
-            if let Some(form) = self.forms.get_mut(place) {
+        let place = self.place_for(at, length, hint, by_word);
+        if let Some(form) = self.forms.get_mut(place) {
+            if form.hint.is_empty() {
+                *form = Form {
+                    at,
+                    length,
+                    hint,
+                    more: 0,
+                };
+            } else {
                 form.more = form.more.saturating_add(1);
             }
-            return;
-        }
-        let count = self.count;
-        if let Some(form) = self.forms.get_mut(count) {
-            *form = Form {
-                at,
-                length,
-                hint,
-                more: 0,
-            };
-            self.count = count.saturating_add(1);
         }
     }
 
-    // The number of the form that a form is counted with.
-    fn kept(&self, at: usize, length: usize, hint: &str, by_word: bool) -> Option<usize> {
+    // The number of the form that a form is counted with, or of the next one.
+    fn place_for(&self, at: usize, length: usize, hint: &str, by_word: bool) -> usize {
         let word = between(self.text, at, at.saturating_add(length));
-        for (place, form) in self.forms.iter().take(self.count).enumerate() {
+        let mut place: usize = 0;
+        for form in &self.forms {
             let end = form.at.saturating_add(form.length);
             let is_same = !by_word || between(self.text, form.at, end) == word;
-            if is_same && form.hint == hint {
-                return Some(place);
+            if form.hint.is_empty() || (is_same && form.hint == hint) {
+                return place;
             }
+            place = place.saturating_add(1);
         }
-        None
+        place
     }
 
-    // The first form from a place on.
-    fn next(&self, from: usize) -> Option<Form> {
-        let mut first = None;
-        let mut least = self.text.len();
-        for form in self.forms.iter().take(self.count) {
-            if form.at >= from && form.at < least {
-                least = form.at;
-                first = Some(*form);
+    // The first form from a place on, with this hint or, if that is empty, with any.
+    fn first(&self, from: usize, hint: &str) -> Form {
+        let mut first = NO_FORM;
+        for form in &self.forms {
+            if form.at >= from && form.at < first.at && (hint.is_empty() || form.hint == hint) {
+                first = *form;
             }
         }
         first
-    }
-
-    // The place where the hint of a form is told before it.
-    fn told_before(&self, of: &Form) -> Option<usize> {
-        if of.hint == self.told.hint {
-            return Some(self.told.at);
-        }
-        let mut least = of.at;
-        for form in self.forms.iter().take(self.count) {
-            if form.hint == of.hint && form.at < least {
-                least = form.at;
-            }
-        }
-        if least < of.at { Some(least) } else { None }
     }
 
     fn push_form(&self, alloc: Global, report: &mut String, form: &Form) -> Result<(), AllocError> {
@@ -137,9 +119,15 @@ impl<'a, 'h> Further<'a, 'h> {
         if form.more > 0 {
             say(" (and {} more)").count(form.more).push(alloc, report)?;
         }
-        let told = match self.told_before(form) {
-            Some(place) => say(": as at line {}\n").count(locate(self.text, place).line),
-            None => say(": {}\n").with(Part::Text(form.hint)),
+        let told = if form.hint == self.told.hint {
+            self.told.at
+        } else {
+            self.first(0, form.hint).at
+        };
+        let told = if told == form.at {
+            say(": {}\n").with(Part::Text(form.hint))
+        } else {
+            say(": as at line {}\n").count(locate(self.text, told).line)
         };
         told.push(alloc, report)
     }
@@ -147,16 +135,17 @@ impl<'a, 'h> Further<'a, 'h> {
     fn push(&self, alloc: Global, report: &mut String) -> Result<(), AllocError> {
         let mut from: usize = 0;
         for _line in 0..SHOWN {
-            let Some(form) = self.next(from) else {
+            let form = self.first(from, "");
+            if form.hint.is_empty() {
                 return Ok(());
-            };
+            }
             self.push_form(alloc, report, &form)?;
             from = form.at.saturating_add(1);
         }
-        match self.next(from) {
-            Some(_) => report.push_str("and more: mend these first, then call again\n"),
-            None => Ok(()),
+        if self.first(from, "").hint.is_empty() {
+            return Ok(());
         }
+        report.push_str("and more: mend these first, then call again\n")
     }
 }
 
@@ -193,10 +182,12 @@ fn look_over<'a>(
 ) {
     let mut look = Look::new();
     for number in 0..tokens.count().min(LOOKED_AT) {
+        look.see(tokens, number);
         let site = Site {
             tokens,
             number,
             own,
+            look,
         };
         if let Some(hint) = form_at(&site, &mut look)
             && !(is_foreign && site.fits("0 < >"))

@@ -45,11 +45,14 @@ fn behind_comments(text: &[u8]) -> usize {
 pub const FOREIGN: &str =
     "this looks like C++: `recorder/cilkrec` builds such a program as it stands so that it writes a trace, and `cilk judge TRACE` tells of its races (`recorder/README.md`)";
 
-/// Returns whether a text names C++'s library.
+/// Returns whether a text names C++'s library, or its reducers.
 pub fn is_foreign(text: &[u8]) -> bool {
     for place in 0..text.len() {
         let rest = text.get(place..).unwrap_or(&[]);
-        if rest.starts_with(b"std::") || rest.starts_with(b"namespace std;") {
+        if rest.starts_with(b"std::")
+            || rest.starts_with(b"cilk::")
+            || rest.starts_with(b"namespace std;")
+        {
             return true;
         }
     }

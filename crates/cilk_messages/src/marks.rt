@@ -5,7 +5,7 @@ use crate::around::{
 };
 use crate::place::{between, line_at};
 use crate::sentences::sentence;
-use crate::vocabulary::is_lock_word;
+use crate::vocabulary::{LOCK_WORDS, TYPE_WORDS};
 
 /// Returns the advice for a byte above 127.
 pub fn odd_byte(text: &[u8], at: usize) -> &'static str {
@@ -117,7 +117,7 @@ fn of_std(name: &[u8]) -> &'static str {
         sentence("PRINT")
     } else if is_among("cin", name) {
         sentence("INPUT")
-    } else if is_lock_word(name) {
+    } else if is_among(LOCK_WORDS, name) {
         sentence("LOCKS")
     } else {
         sentence("LIBRARY")
@@ -153,9 +153,11 @@ fn is_label(text: &[u8], at: usize) -> bool {
 // A `&` after an operand is of bits; otherwise it takes an address.
 fn no_ampersand(text: &[u8], at: usize) -> &'static str {
     let ahead = word_before(text, at);
-    if is_among(") ]", ahead) || is_name(ahead) || is_number(ahead) {
+    if is_among(TYPE_WORDS, ahead) {
+        sentence("REFERENCES")
+    } else if is_among(") ]", ahead) || is_name(ahead) || is_number(ahead) {
         sentence("BITS")
-    } else if is_lock_word(called(text, at)) {
+    } else if is_among(LOCK_WORDS, called(text, at)) {
         sentence("LOCKS")
     } else {
         "there are no pointers: a place in a global array stands for an address, as `i` for `&a[i]`, and for `&x` a function returns the number"
@@ -221,6 +223,7 @@ pub fn no_number(word: &[u8]) -> &'static str {
     match word.last() {
         Some(b'l' | b'L' | b'u' | b'U') =>
             "`int` is the only type: write the number without letters",
+        _ if is_among("1e-..", word) && !is_among("1e-1 1e-2 1e-3", word) => sentence("TINY"),
         _ if word.contains(&b'e') || word.contains(&b'E') || word.ends_with(b"f") => sentence(
             "FRACTIONS",
         ),

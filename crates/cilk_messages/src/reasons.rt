@@ -1,61 +1,49 @@
-//! The numbers of the tool: the meaning of each, a text that provokes it, and the cure.
+//! The numbers of the tool, and the meaning of each.
 
 use crate::numbers::NUMBERS;
 
-/// The meaning of a number.
-#[derive(Clone, Copy)]
-pub struct Reason {
-    pub number: u16,
-    /// The mistake in a few words.
-    pub title: &'static str,
-    /// The mistake in a sentence or two.
-    pub meaning: &'static str,
-    /// A text that provokes the number, after a word that says what it is.
-    pub example: &'static str,
-    /// The line that the tool writes for the example.
-    pub line: &'static str,
-    /// How to read the places in such a line.
-    pub place: &'static str,
-    /// The advice: the text to write instead.
-    pub cure: &'static str,
-}
+/// The lines of a meaning: the mistake in a few words, and in a sentence or two; a text that
+/// provokes the number, after a word that says what it is; the line that the tool writes for it; how
+/// to read the places in such a line; and the advice.
+pub const TITLE: usize = 0;
+
+pub const MEANING: usize = 1;
+
+pub const EXAMPLE: usize = 2;
+
+pub const LINE: usize = 3;
+
+pub const PLACE: usize = 4;
+
+pub const CURE: usize = 5;
 
 /// Returns the meaning of a number, if it is one of the tool's.
-pub fn reason_of(number: u16) -> Option<Reason> {
+pub fn reason_of(number: u16) -> Option<&'static str> {
     for entry in NUMBERS.split("\n\n") {
-        let (digits, text) = entry.split_once(": ")?;
+        let (digits, reason) = entry.split_once(": ")?;
         if digits.parse::<u16>() == Ok(number) {
-            return read(number, text);
+            return Some(reason);
         }
     }
     None
 }
 
-fn read(number: u16, text: &'static str) -> Option<Reason> {
-    let mut lines = text.lines();
-    Some(Reason {
-        number,
-        title: lines.next()?,
-        meaning: lines.next()?,
-        example: lines.next()?,
-        line: lines.next()?,
-        place: lines.next()?,
-        cure: lines.next()?,
-    })
+/// Returns a line of a meaning, empty if there is none.
+pub fn line_of(reason: &'static str, wanted: usize) -> &'static str {
+    for (number, line) in reason.lines().enumerate() {
+        if number == wanted {
+            return line;
+        }
+    }
+    ""
 }
 
 /// Returns the title of a number, empty for another number.
 pub fn title_of(number: u16) -> &'static str {
-    match reason_of(number) {
-        Some(reason) => reason.title,
-        None => "",
-    }
+    line_of(reason_of(number).unwrap_or(""), TITLE)
 }
 
 /// Returns the general advice for a number, empty for another number.
 pub fn cure_of(number: u16) -> &'static str {
-    match reason_of(number) {
-        Some(reason) => reason.cure,
-        None => "",
-    }
+    line_of(reason_of(number).unwrap_or(""), CURE)
 }

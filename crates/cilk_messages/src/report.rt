@@ -7,7 +7,9 @@ use crate::hints::hint_of;
 use crate::kinds::{FOREIGN, is_foreign, other_kind};
 use crate::numbers::NUMBERS;
 use crate::place::{Location, locate};
-use crate::reasons::{Reason, cure_of, reason_of, title_of};
+use crate::reasons::{
+    CURE, EXAMPLE, LINE, MEANING, PLACE, TITLE, cure_of, line_of, reason_of, title_of,
+};
 use crate::sentence::{Part, push_line, say};
 use crate::tokens::Tokens;
 use std::alloc::{AllocError, Global};
@@ -39,20 +41,17 @@ pub fn of_number(alloc: Global, number: u16) -> Result<Option<String>, AllocErro
         return Ok(None);
     };
     let mut text = String::new(alloc);
-    push_reason(alloc, &mut text, &reason)?;
+    push_reason(alloc, &mut text, number, reason)?;
     Ok(Some(text))
 }
 
-fn push_reason(alloc: Global, text: &mut String, reason: &Reason) -> Result<(), AllocError> {
-    let Reason {
-        number,
-        title,
-        meaning,
-        line,
-        example,
-        place,
-        cure,
-    } = *reason;
+fn push_reason(
+    alloc: Global,
+    text: &mut String,
+    number: u16,
+    reason: &'static str,
+) -> Result<(), AllocError> {
+    let example = line_of(reason, EXAMPLE);
     let (kind, shown) = example.split_once(' ').unwrap_or((example, ""));
     let words = match kind {
         "program" if number > 300 =>
@@ -61,14 +60,16 @@ fn push_reason(alloc: Global, text: &mut String, reason: &Reason) -> Result<(), 
         "edit" => "\n\nThe certificate of `examples/race.c`, with {}, is answered by the line",
         _ => "\n\nFor example {}: the answer is the line",
     };
-    let head = say("{}: {}\n\n{}")
-        .count(number as usize)
-        .with(Part::Text(title));
-    head.with(Part::Text(meaning)).push(alloc, text)?;
+    let head = say("{}: {}\n\n{}").count(number as usize);
+    let head = head.with(Part::Text(line_of(reason, TITLE)));
+    head.with(Part::Text(line_of(reason, MEANING)))
+        .push(alloc, text)?;
     say(words).with(Part::Text(shown)).push(alloc, text)?;
-    let foot = say("\n\n    {}\n\nThe place is read as: {}.\n\n{}\n").with(Part::Text(line));
-    foot.with(Part::Text(place))
-        .with(Part::Text(cure))
+    let foot = say("\n\n    {}\n\nThe place is read as: {}.\n\n{}\n");
+    let foot = foot
+        .with(Part::Text(line_of(reason, LINE)))
+        .with(Part::Text(line_of(reason, PLACE)));
+    foot.with(Part::Text(line_of(reason, CURE)))
         .push(alloc, text)?;
     match number {
         301 => text.push_str(MALFORMED_TRACE),
@@ -205,7 +206,7 @@ pub fn of_line(
 ) -> Result<String, AllocError> {
     let mut report = String::new(alloc);
     if let Some(reason) = reason_of(number) {
-        push_refusal(alloc, &mut report, file, line, &reason)?;
+        push_refusal(alloc, &mut report, begin_of(file, line), number, reason)?;
     }
     Ok(report)
 }
@@ -213,32 +214,37 @@ pub fn of_line(
 fn push_refusal(
     alloc: Global,
     report: &mut String,
-    file: &str,
-    line: Option<u64>,
-    reason: &Reason,
+    place: Part<'_>,
+    number: u16,
+    reason: &'static str,
 ) -> Result<(), AllocError> {
-    let head = match line {
-        Some(line) => say("{}: error {}: {}\n").with(begin_of(file, line as usize)),
-        None => say("{}: error {}: {}\n").with(Part::Text(file)),
-    };
-    let head = head
-        .count(reason.number as usize)
-        .with(Part::Text(reason.title));
-    head.push(alloc, report)?;
-    push_line(alloc, report, "reason", &say(reason.meaning))?;
-    push_line(alloc, report, "hint", &say(reason.cure))
+    let head = say("{}: error {}: {}\n").with(place);
+    let head = head.count(number as usize);
+    head.with(Part::Text(line_of(reason, TITLE)))
+        .push(alloc, report)?;
+    push_line(alloc, report, "reason", &say(line_of(reason, MEANING)))?;
+    push_line(alloc, report, "hint", &say(line_of(reason, CURE)))
 }
 
-// The place of a line.
-fn begin_of(file: &str, line: usize) -> Part<'_> {
-    Part::Place(file, Location { line, column: 1 })
+// The place of a line, or a file alone.
+fn begin_of(file: &str, line: Option<u64>) -> Part<'_> {
+    match line {
+        Some(line) => Part::Place(
+            file,
+            Location {
+                line: line as usize,
+                column: 1,
+            },
+        ),
+        None => Part::Text(file),
+    }
 }
 
 /// Returns the message after a refused script.
 pub fn of_script(alloc: Global, file: &str, line: usize) -> Result<String, AllocError> {
     let mut report = String::new(alloc);
     say(SCRIPT)
-        .with(begin_of(file, line))
+        .with(begin_of(file, Some(line as u64)))
         .push(alloc, &mut report)?;
     Ok(report)
 }

@@ -3,6 +3,7 @@
 // A line `NAME: HINT` for each.
 const SENTENCES: &str = "\
 REDUCER: a reducer is a global or stands first in its function, with its monoid alone, `int cilk_reducer(add) r;`: add, min, max, append or affine; `update(r, e);` takes a number into it, and `value(r)` reads it
+REDUCER_FUNCTIONS: a reducer has a monoid in place of functions, `int cilk_reducer(add) r;`: `add` for a sum, `max` or `min` for the greatest or the least; the functions that it names go away
 REDUCER_ARRAY: there are no arrays of reducers: a reducer for each, or a row of a global array for each block of turns, and the rows added up after the loop
 REDUCER_USE: `value(r)` reads a reducer, and `update(r, e)` takes a number into it
 REDUCER_ARGUMENT: an argument for a reducer is the bare name of a reducer of the same monoid
@@ -23,6 +24,9 @@ PRINT: `print(e);` writes a number on a line of its own
 INPUT: `input(0)` is the first number of the input, as `argv[1]`, and `input_count()` how many there are
 PARAMETERS: `main` has no parameters: `input(0)` is the first number of the input, as `argv[1]`, and `input_count()` how many there are
 FRACTIONS: `int` is the only type: count in thousandths, say, where `a * b / 1000` is the product and `a * 1000 / b` the quotient
+TINY: `int` is the only type: what is less than a thousandth is 0 in thousandths: compare with 0, or with 1
+STATIC: a `static` variable of a function keeps its number from call to call: make it a global, `int k = 0;` before the functions
+COUNT_DOWN: for `for (int i = n; i-- > 0; )` write `for (int i = n - 1; i >= 0; i--)`
 STRUCTURES: there are no structures: an array for each member
 MEMORY: memory is global arrays, `int a[1000];` before the functions: a call that needs room of its own gets the place in such an array where its part begins
 MEMORY_OF_CALLS: memory is global arrays, `int a[1000];` before the functions: a call that needs room of its own gets the place in such an array where its part begins; of few small numbers, one number has a digit for each (`examples/gallery/queens.c`)
@@ -30,9 +34,11 @@ ARRAYS: arrays are global, and their length is a number: `int a[1000];` before t
 ARRAY_PARAMETER: a parameter is no array: pass the place of its first element in a global one
 LENGTH: an array's length is a number, and no name or sum: work it out, and write it, as in `int a[1000];`
 ONE_INDEX: an array has one index: `a[i * columns + j]`
+THREE_INDICES: an array has one index: `a[(i * rows + j) * columns + k]` for `a[i][j][k]`
 ZEROS: an array opens with zeros: write its elements in `main`, or read them from the input
 POINTER: there are no pointers: pass the place of an element in a global array, `sort(first + n)` for `sort(a + n)`, and write `a[p]` for `*p`
 ARROW: there are no pointers and no structures: an array for each member, and an index for the pointer
+REFERENCES: there are no references: pass the place of an element in a global array, or return the number
 BITS: there are no operators on bits: `x % 2` stands for `x & 1`, and `x % 8` for `x & 7`, where `x` isn't below 0
 SHIFT_UP: there are no operators on bits: `x * 8` stands for `x << 3`
 SHIFT_DOWN: there are no operators on bits: `x / 8` stands for `x >> 3`, where `x` isn't below 0

@@ -6,8 +6,9 @@
 //! what comes before an operand, and `?` for any token. Places are
 //!
 //! - `0`, `-1`, `+1` and so on: the token, the one before it, the one behind it;
-//! - `in`: the token before the parentheses around it; `of`: the one before the parentheses that end
-//!   just before it, and `of-1` the one before that;
+//! - `in`: the token before the parentheses around it; `head`: the same, if these are the only
+//!   ones; `of`: the one before the parentheses that end just before it, and `of-1` the one before
+//!   that;
 //! - what a name is declared as, a variable, array, reducer, function or procedure (a `void`
 //!   function): `is` of the name here, `next` of the one behind it, `calls` of the one at `of`,
 //!   `declares` only if it is declared here, and `main` of the text's `main`;
@@ -16,12 +17,12 @@
 use crate::around::{is_among, is_name};
 use crate::sentences::sentence;
 use crate::sites::{
-    begins, closed_head, enclosing, head_of, is_chained, is_global, is_in_brackets,
-    is_in_first_value, is_in_head_of_function, is_in_length, is_in_reducer, is_prototype,
-    takes_memory,
+    begins, closed_head, enclosing, ends_behind, head_of, is_chained, is_global, is_in_brackets,
+    is_in_first_value, is_in_head_of_function, is_in_length, is_in_reducer, is_in_sum,
+    is_prototype, takes_memory,
 };
 use crate::tokens::{Declared, Tokens};
-use crate::vocabulary::is_type_word;
+use crate::vocabulary::TYPE_WORDS;
 use cilk_syntax::token::Kind;
 
 /// A token of a text, by its number.
@@ -31,6 +32,56 @@ pub struct Site<'t, 'a> {
     pub number: usize,
     /// The words that the text declares as names, in order, where types are asked for.
     pub own: &'t [&'a [u8]],
+    /// What came before it, where all tokens are looked at in order.
+    pub look: Look,
+}
+
+/// A look at the tokens of a text in order.
+#[derive(Clone, Copy)]
+pub struct Look {
+    /// Whether the last form is a word.
+    pub is_word: bool,
+    /// The token up to which nothing is told.
+    pub upto: usize,
+    braces: usize,
+    parentheses: usize,
+    // The token before the outermost parenthesis that is open.
+    head: Option<usize>,
+}
+
+impl Look {
+    /// A look that has seen nothing.
+    pub fn new() -> Look {
+        Look {
+            is_word: false,
+            upto: 0,
+            braces: 0,
+            parentheses: 0,
+            head: None,
+        }
+    }
+
+    /// Goes on to a token.
+    pub fn see(&mut self, tokens: &Tokens<'_>, number: usize) {
+        match tokens.kind(number) {
+            Some(Kind::OpenBrace) => {
+                self.braces = self.braces.saturating_add(1);
+                self.parentheses = 0;
+            }
+            Some(Kind::CloseBrace) => {
+                self.braces = self.braces.saturating_sub(1);
+                self.parentheses = 0;
+            }
+            Some(Kind::Open) => {
+                if self.parentheses == 0 {
+                    self.head = number.checked_sub(1);
+                }
+                self.parentheses = self.parentheses.saturating_add(1);
+            }
+            Some(Kind::Close) => self.parentheses = self.parentheses.saturating_sub(1),
+            _ => {}
+        }
+    }
 }
 
 impl<'t, 'a> Site<'t, 'a> {
@@ -40,6 +91,7 @@ impl<'t, 'a> Site<'t, 'a> {
             tokens,
             number,
             own: &[],
+            look: Look::new(),
         }
     }
 
@@ -109,9 +161,11 @@ impl<'t, 'a> Site<'t, 'a> {
             "0" => Some(number),
             "+1" => number.checked_add(1),
             "+2" => number.checked_add(2),
+            "+3" => number.checked_add(3),
             "in" => head_of(tokens, number),
             "of" => closed_head(tokens, number),
             "of-1" => closed_head(tokens, number)?.checked_sub(1),
+            "head" if self.look.parentheses == 1 => self.look.head,
             _ => number.checked_sub(place.strip_prefix('-')?.parse::<usize>().ok()?),
         }
     }
@@ -155,7 +209,12 @@ impl<'t, 'a> Site<'t, 'a> {
             "first" => is_in_first_value(tokens, number),
             "memory" => takes_memory(tokens, number),
             "chained" => is_chained(tokens, number),
+            "flat" => self.look.parentheses == 0,
+            "outer" => self.look.braces == 0,
+            "summed" => is_in_sum(tokens, number),
+            "prototyped" => ends_behind(tokens, number),
             "own" => self.is_own(self.word()),
+            "types" => is_among(TYPE_WORDS, tokens.word(number.saturating_add(1))),
             "type" => self.is_type(Some(number)),
             "typed" => self.is_type(number.checked_sub(1)),
             "typed2" => self.is_type(number.checked_sub(2)),
@@ -175,7 +234,7 @@ impl<'t, 'a> Site<'t, 'a> {
         };
         let word = self.tokens.word(number);
         is_among("int void", word)
-            || (self.is_like(number, "@") && is_type_word(word) && !self.is_own(word))
+            || (self.is_like(number, "@") && is_among(TYPE_WORDS, word) && !self.is_own(word))
     }
 }
 

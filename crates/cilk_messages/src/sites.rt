@@ -2,7 +2,7 @@
 
 use crate::around::is_among;
 use crate::tokens::{Declared, Tokens};
-use crate::vocabulary::is_type_word;
+use crate::vocabulary::TYPE_WORDS;
 use cilk_syntax::token::Kind;
 
 /// Returns the parenthesis that is open at a token, in its own statement. For a closing
@@ -150,6 +150,45 @@ pub fn is_in_length(tokens: &Tokens<'_>, number: usize) -> bool {
     false
 }
 
+// The most tokens that are looked at for a closing parenthesis.
+const NEAR: usize = 200;
+
+/// Returns the first closing parenthesis from a token on, or the token itself if none is near.
+pub fn closing(tokens: &Tokens<'_>, number: usize) -> usize {
+    for later in number..number.saturating_add(NEAR) {
+        if let Some(Kind::Close) = tokens.kind(later) {
+            return later;
+        }
+    }
+    number
+}
+
+/// Returns whether a semicolon follows the parentheses after a name.
+pub fn ends_behind(tokens: &Tokens<'_>, number: usize) -> bool {
+    matches!(
+        tokens.kind_behind(closing(tokens, number)),
+        Some(Kind::Semicolon)
+    )
+}
+
+/// Returns whether an operator follows the parentheses of a call.
+pub fn is_in_sum(tokens: &Tokens<'_>, number: usize) -> bool {
+    let mut depth: usize = 0;
+    for later in number..number.saturating_add(NEAR) {
+        match tokens.kind(later) {
+            Some(Kind::Open) => depth = depth.saturating_add(1),
+            Some(Kind::Close) if depth > 1 => depth = depth.saturating_sub(1),
+            Some(Kind::Close) => {
+                let behind = tokens.word(later.saturating_add(1));
+                return is_among("+ - * / % < > <= >= == != && ||", behind);
+            }
+            None => return false,
+            _ => {}
+        }
+    }
+    false
+}
+
 /// Returns whether a token is in the first value of a global.
 pub fn is_in_first_value(tokens: &Tokens<'_>, number: usize) -> bool {
     for back in 1..number.saturating_add(1) {
@@ -175,7 +214,7 @@ pub fn cast_at(tokens: &Tokens<'_>, number: usize) -> Option<usize> {
         _ => enclosing(tokens, number)?,
     };
     let first = open.saturating_add(1);
-    let is_type = first <= number && is_type_word(tokens.word(first));
+    let is_type = first <= number && is_among(TYPE_WORDS, tokens.word(first));
     if is_type
         && !matches!(
             tokens.kind(open.checked_sub(1)?),

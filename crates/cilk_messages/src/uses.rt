@@ -47,6 +47,7 @@ in value => REDUCER_USE
 0 * | -1 int | memory => MEMORY
 0 * | -1 int ( = ; { } , ) => POINTER
 0 * | second => POINTER
+0 [ | -1 ] | +2 ] | +3 [ => THREE_INDICES
 0 [ | -1 ] => ONE_INDEX
 0 = | -1 ] | +1 { => ZEROS
 0 = | -1 ] => ASSIGNMENT
@@ -73,7 +74,9 @@ in value => REDUCER_USE
 0 void | -1 ? | begins => NESTED
 0 @ | -1 @ | second => ONE_TYPE
 0 else | -1 ? => an `else` follows the one statement of its `if`
+0 -- | +1 > | in for => COUNT_DOWN
 0 ++ -- => STEP
+0 , | parentheses no | local => there is no comma operator: write two statements, each with its `;`
 0 = | in if while => `==` compares: an assignment is a statement of its own, and stands in no expression
 0 = += -= *= => ASSIGNMENT
 0 cilk_spawn => SPAWN

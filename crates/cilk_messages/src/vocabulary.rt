@@ -3,8 +3,8 @@
 use crate::around::is_among;
 use crate::sentences::sentence;
 
-// The hint for a word, of a table with lines `WORDS => HINT`.
-fn said_of(table: &'static str, word: &[u8]) -> Option<&'static str> {
+/// Returns the hint for a word, of a table with lines `WORDS => HINT`.
+pub fn said_of(table: &'static str, word: &[u8]) -> Option<&'static str> {
     for line in table.lines() {
         let (words, hint) = line.split_once(" => ")?;
         if is_among(words, word) {
@@ -14,17 +14,13 @@ fn said_of(table: &'static str, word: &[u8]) -> Option<&'static str> {
     None
 }
 
-const ALIASES: &str = "\
+/// The reserved words that do the same as words of another language.
+pub const ALIASES: &str = "\
 _Cilk_for parallel_for cilk_parallel_for => cilk_for
 _Cilk_spawn spawn => cilk_spawn
 _Cilk_sync sync => cilk_sync
 elif elseif elsif => else if
 fi If IF => if";
-
-/// Returns the reserved word that does the same as this word of another language.
-pub fn alias(word: &[u8]) -> Option<&'static str> {
-    said_of(ALIASES, word)
-}
 
 /// Returns the cure for any word that the language lacks.
 pub fn word_of_c(word: &[u8]) -> Option<&'static str> {
@@ -38,8 +34,7 @@ pub fn word_of_c(word: &[u8]) -> Option<&'static str> {
 /// or a statement.
 pub fn other_word(word: &[u8]) -> Option<&'static str> {
     match said_of(TYPES, word) {
-        None if is_reducer_word(word) => Some(sentence("REDUCER")),
-        None if is_lock_word(word) => Some(sentence("LOCKS")),
+        None if is_among(LOCK_WORDS, word) => Some(sentence("LOCKS")),
         None => said_of(KEYWORDS, word),
         cure => cure,
     }
@@ -47,37 +42,20 @@ pub fn other_word(word: &[u8]) -> Option<&'static str> {
 
 /// Returns the cure for a constant or a function of C's headers.
 pub fn library_word(word: &[u8]) -> Option<&'static str> {
-    match number_named(word) {
+    match said_of(NUMBERS, word) {
         None => said_of(FUNCTIONS, word),
         cure => cure,
     }
 }
 
-/// Returns whether a word belongs to a type or comes before one.
-pub fn is_type_word(word: &[u8]) -> bool {
-    is_among("int void const volatile", word)
-        || (said_of(TYPES, word).is_some()
-            && !is_among("typedef enum REDUCER_VIEW", word)
-            && !is_reducer_word(word))
-}
+/// The words that belong to a type or come before one.
+pub const TYPE_WORDS: &str =
+    "int void const volatile long short int64_t int32_t int16_t int8_t size_t unsigned uint32_t signed uint64_t \
+     uint16_t uint8_t char bool _Bool float double auto var let struct union class";
 
-// Whether OpenCilk or Cilk Plus declares reducers with this word.
-fn is_reducer_word(word: &[u8]) -> bool {
-    word.starts_with(b"CILK_C_")
-        || word.starts_with(b"cilk_reducer_")
-        || word.starts_with(b"reducer_op")
-}
-
-/// Returns whether a word is of locks, of atomic operations or of threads.
-pub fn is_lock_word(word: &[u8]) -> bool {
-    word.starts_with(b"pthread_")
-        || word.starts_with(b"PTHREAD_")
-        || word.starts_with(b"__sync_")
-        || word.starts_with(b"__atomic_")
-        || word.starts_with(b"atomic_")
-        || word.starts_with(b"omp_")
-        || is_among("atomic mutex lock_guard unique_lock scoped_lock", word)
-}
+/// The words of locks, of atomic operations and of threads.
+pub const LOCK_WORDS: &str =
+    "pthread_.. PTHREAD_.. __sync_.. __atomic_.. atomic_.. omp_.. atomic mutex lock_guard unique_lock scoped_lock";
 
 /// Returns the advice for a cast to a type.
 pub fn cast_to(word: &[u8]) -> &'static str {
@@ -100,7 +78,8 @@ auto var let => ONE_TYPE
 enum => in place of `enum { N = 8 };` write the number 8 wherever `N` stands; a global `int n = 8;` does too, but not for an array's length
 struct union class => STRUCTURES
 typedef => `int` is the only type, and needs no other name
-REDUCER_VIEW => REDUCER_USE";
+REDUCER_VIEW => REDUCER_USE
+CILK_C_.. cilk_reducer_.. reducer_op.. => REDUCER";
 
 // Words before a declaration, a statement or an operand.
 const KEYWORDS: &str = "\
@@ -124,7 +103,8 @@ not => write `!`
 cout => PRINT
 cin => INPUT";
 
-const NUMBERS: &str = "\
+/// Constants of C's headers.
+pub const NUMBERS: &str = "\
 true => 1 is true
 false => 0 is false
 EXIT_SUCCESS => 0 is success
@@ -133,11 +113,6 @@ INT_MAX LONG_MAX LLONG_MAX INT64_MAX => the greatest number is 92233720368547758
 INT_MIN LONG_MIN LLONG_MIN INT64_MIN => the least number is `-9223372036854775807 - 1`
 NULL => there are no pointers: -1 can stand for no index; a test whether `malloc` gave memory goes away
 RAND_MAX => `seed / 65536` is at most 32767";
-
-/// Returns the number for a constant of C's headers.
-pub fn number_named(word: &[u8]) -> Option<&'static str> {
-    said_of(NUMBERS, word)
-}
 
 // Functions of C's library.
 const FUNCTIONS: &str = "\
@@ -150,5 +125,6 @@ rand srand => there is no `rand`: a global `int seed = 1;`, and for each number 
 exit abort => a run ends by a `return` of `main` alone
 assert => `print` what is to hold, or let the result tell of it
 memcpy memmove memset => write element by element, in a loop
+__cilkrts_get_nworkers __cilkrts_get_worker_number => a result can't depend on the workers: leave this out, or write a number
 clock time => there is no clock: `measure` counts what a run takes
 sqrt pow log exp floor ceil abs labs fabs fmin fmax min max strlen strcmp qsort => LIBRARY";

@@ -106,29 +106,34 @@ fn named<'a>(alloc: Global, name: &'a str) -> Command<'a>
     Command::new(alloc, name)
 }
 
-// Adds an argument that has to be given.
+// Adds an argument that has to be given. This and what follows take a command as a result, so that
+// a failure leaves one value to drop.
 fn needing<'a>(
     alloc: Global,
-    command: Command<'a>,
+    command: Result<Command<'a>, AllocError>,
     name: &'a str,
 ) -> Result<Command<'a>, AllocError>
-    ensures { (a : App) → HasShape command.entry a → IfOk result (λ c. HasShape c (with_rule a (needed name.entry.now))) }
+    ensures { (a : App) → IfOk command.entry (λ c. HasShape c a) → IfOk result (λ c. HasShape c (with_rule a (needed name.entry.now))) }
 {
-    command.arg(Arg::new(alloc, name).required(true))
+    command?.arg(Arg::new(alloc, name).required(true))
 }
 
 // Adds an option `--NAME VALUE`.
-fn taking<'a>(alloc: Global, command: Command<'a>, name: &'a str) -> Result<Command<'a>, AllocError>
-    ensures { (a : App) → HasShape command.entry a → IfOk result (λ c. HasShape c (with_rule a (taken name.entry.now))) }
+fn taking<'a>(
+    alloc: Global,
+    command: Result<Command<'a>, AllocError>,
+    name: &'a str,
+) -> Result<Command<'a>, AllocError>
+    ensures { (a : App) → IfOk command.entry (λ c. HasShape c a) → IfOk result (λ c. HasShape c (with_rule a (taken name.entry.now))) }
 {
-    command.arg(Arg::new(alloc, name).long(name).action(ArgAction::Set))
+    command?.arg(Arg::new(alloc, name).long(name).action(ArgAction::Set))
 }
 
 // `NAME PROGRAM [--input FILE]`
 fn program_command<'a>(alloc: Global, name: &'a str) -> Result<Command<'a>, AllocError>
     ensures { IfOk result (λ c. HasShape c (program_app name.entry.now)) }
 {
-    let program = needing(alloc, named(alloc, name), "program")?;
+    let program = needing(alloc, Ok(named(alloc, name)), "program");
     taking(alloc, program, "input")
 }
 
@@ -136,18 +141,16 @@ fn program_command<'a>(alloc: Global, name: &'a str) -> Result<Command<'a>, Allo
 fn check_command<'a>(alloc: Global) -> Result<Command<'a>, AllocError>
     ensures { IfOk result (λ c. HasShape c check_app) }
 {
-    let program = needing(alloc, named(alloc, "check"), "program")?;
-    let both = needing(alloc, program, "certificate")?;
-    taking(alloc, both, "input")
+    let program = needing(alloc, Ok(named(alloc, "check")), "program");
+    taking(alloc, needing(alloc, program, "certificate"), "input")
 }
 
 // `play PROGRAM SCRIPT [--workers N] [--input FILE]`
 fn play_command<'a>(alloc: Global) -> Result<Command<'a>, AllocError>
     ensures { IfOk result (λ c. HasShape c play_app) }
 {
-    let program = needing(alloc, named(alloc, "play"), "program")?;
-    let both = needing(alloc, program, "script")?;
-    let workers = taking(alloc, both, "workers")?;
+    let program = needing(alloc, Ok(named(alloc, "play")), "program");
+    let workers = taking(alloc, needing(alloc, program, "script"), "workers");
     taking(alloc, workers, "input")
 }
 
@@ -155,7 +158,7 @@ fn play_command<'a>(alloc: Global) -> Result<Command<'a>, AllocError>
 fn judge_command<'a>(alloc: Global) -> Result<Command<'a>, AllocError>
     ensures { IfOk result (λ c. HasShape c judge_app) }
 {
-    let trace = needing(alloc, named(alloc, "judge"), "trace")?;
+    let trace = needing(alloc, Ok(named(alloc, "judge")), "trace");
     taking(alloc, trace, "sites")
 }
 
@@ -183,16 +186,28 @@ pub fn empty<'a>(alloc: Global) -> Result<Command<'a>, AllocError>
         .bin_name("cilk")
 }
 
+// Adds a command with its help text to a program.
+fn joined<'a>(
+    app: Result<Command<'a>, AllocError>,
+    command: Result<Command<'a>, AllocError>,
+    about: &'a str,
+) -> Result<Command<'a>, AllocError>
+    ensures { (a b : App) → IfOk app.entry (λ c. HasShape c a) → IfOk command.entry (λ c. HasShape c b)
+        → IfOk result (λ r. HasShape r (with_subcommand a b.top)) }
+{
+    with(app?, command, about)
+}
+
 // The program with all commands.
 fn command<'a>(alloc: Global) -> Result<Command<'a>, AllocError>
     ensures { IfOk result (λ c. HasShape c cilk_app) }
 {
-    let one = with(empty(alloc)?, program_command(alloc, "run"), RUN)?;
-    let two = with(one, program_command(alloc, "certify"), CERTIFY)?;
-    let three = with(two, check_command(alloc), CHECK)?;
-    let four = with(three, play_command(alloc), PLAY)?;
-    let five = with(four, program_command(alloc, "settle"), SETTLE)?;
-    with(five, judge_command(alloc), JUDGE)
+    let one = joined(empty(alloc), program_command(alloc, "run"), RUN);
+    let two = joined(one, program_command(alloc, "certify"), CERTIFY);
+    let three = joined(two, check_command(alloc), CHECK);
+    let four = joined(three, play_command(alloc), PLAY);
+    let five = joined(four, program_command(alloc, "settle"), SETTLE);
+    joined(five, judge_command(alloc), JUDGE)
 }
 
 // The paths of the program and of the input in a command's matches.
@@ -321,6 +336,13 @@ pub fn refusal(alloc: Global, error: &Error) -> WordsFault
     }
 }
 
+fn no_order(alloc: Global) -> WordsFault {
+    match String::from_str(alloc, NO_ORDER) {
+        Ok(text) => WordsFault::Usage(text),
+        Err(_) => WordsFault::Memory,
+    }
+}
+
 /// Reads the words after the program's own name as an order.
 pub fn read<'a>(alloc: Global, words: &'a [&'a str]) -> Result<Order<'a>, WordsFault>
     ensures order { IfOk result (λ o. order_in (texts words.now) ≡ Some (order_view o)) }
@@ -335,7 +357,7 @@ pub fn read<'a>(alloc: Global, words: &'a [&'a str]) -> Result<Order<'a>, WordsF
     match command(alloc)?.try_get_matches_from(words) {
         Ok(matches) => match order_of(&matches) {
             Some(order) => Ok(order),
-            None => Err(WordsFault::Usage(String::from_str(alloc, NO_ORDER)?)),
+            None => Err(no_order(alloc)),
         },
         Err(error) => Err(refusal(alloc, &error)),
     }

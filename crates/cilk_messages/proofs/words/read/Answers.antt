@@ -1,5 +1,5 @@
 use Rattle.std.proofs.Common.{◌≡◌, ◌∙◌, sym, length, rules}
-use Rattle.cilk_messages.proofs.Entered.{free_shape, order_found, order_lost, order_of_none, order_of_matches, order_of_refused}
+use Rattle.cilk_messages.proofs.Entered.{free_shape, no_order, order_found, order_lost, order_of_none, order_of_matches, order_of_refused}
 use Rattle.cilk_messages.proofs.words.read.Goals as goal
 
 pub returns-then-is_empty-clause-order : goal.returns-then-is_empty-clause-order
@@ -15,7 +15,7 @@ pub returns-in-Ok-clause-fault : goal.returns-in-Ok-clause-fault
 returns-in-Ok-clause-fault c =
     let some : length c.args.words.now ≡ 0 → ⊥ = search rules in
     let asked = order_of_matches c.in_ok-command.field-0 c.args.words.now c.in-Ok.matches c.in_ok-command.ensures.0 some (c.in-Ok.ensures.kinds (free_shape _ c.in_ok-command.ensures.0)) c.in-Ok.ensures.matches in
-    order_lost c.order_of.result _ (asked ∙ sym c.order_of.ensures) c.in-None.is
+    no_order _ c.no_order.result (order_lost c.order_of.result _ (asked ∙ sym c.order_of.ensures) c.in-None.is)
 
 pub returns-clause-fault : goal.returns-clause-fault
 returns-clause-fault c =
