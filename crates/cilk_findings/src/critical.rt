@@ -35,11 +35,18 @@ struct Chains {
 /// Returns the events of a longest chain, in order. Events count from 0. Cost and memory: linear in
 /// the events.
 pub fn critical_path(alloc: Global, trace: &Trace) -> Result<Vec<usize>, AllocError> {
-    let mut chains = Chains::new(alloc);
+    let mut path = Vec::new(alloc);
+    push_path(&mut Chains::new(alloc), trace, &mut path)?;
+    Ok(path)
+}
+
+fn push_path(chains: &mut Chains, trace: &Trace, path: &mut Vec<usize>) -> Result<(), AllocError> {
     for event in trace.as_slice() {
         chains.meet(event)?;
     }
-    chains.path(alloc)
+    chains.push_path(path)?;
+    path.reverse();
+    Ok(())
 }
 
 /// Returns for each step of the span the number of events there. The step of an event is the length
@@ -122,17 +129,15 @@ impl Chains {
         }
     }
 
-    // The events of the first frame's chain.
-    fn path(&self, alloc: Global) -> Result<Vec<usize>, AllocError> {
+    // Adds the events of the first frame's chain, the last one first.
+    fn push_path(&self, path: &mut Vec<usize>) -> Result<(), AllocError> {
         let Chain { length, last } = self.depth.own;
-        let mut path = Vec::new(alloc);
         let mut event = last;
         for _event in 0..length {
             path.push(event)?;
             event = self.before.get(event).copied().unwrap_or(0);
         }
-        path.reverse();
-        Ok(path)
+        Ok(())
     }
 }
 

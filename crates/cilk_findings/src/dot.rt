@@ -2,6 +2,7 @@
 
 use crate::scene::Scene;
 use cilk_messages::place::locate;
+use cilk_messages::sentence::say;
 use cilk_tree::tree::{Node, SpTree};
 use std::alloc::AllocError;
 
@@ -56,7 +57,8 @@ fn push_nodes(
         position.number = number;
         push_node(text, scene, node, position)?;
         if let Some(above) = open.pop() {
-            write!(text, "  n{above} -> n{number};\n")?;
+            let edge = say("  n{} -> n{};\n").count(above).count(number);
+            scene.push(text, &edge)?;
         }
         match node {
             Node::Strand { events } => {
@@ -76,14 +78,13 @@ fn push_nodes(
 fn push_name(text: &mut String, file: &str) -> Result<(), AllocError> {
     text.push_str("  label=\"")?;
     for symbol in file.chars() {
-        match symbol {
-            '"' | '\\' => {
-                text.push('\\')?;
-                text.push(symbol)?;
-            }
-            '\0'..='\u{1f}' | '\u{7f}' => text.push('?')?,
-            _ => text.push(symbol)?,
+        if matches!(symbol, '"' | '\\') {
+            text.push('\\')?;
         }
+        text.push(match symbol {
+            '\0'..='\u{1f}' | '\u{7f}' => '?',
+            _ => symbol,
+        })?;
     }
     text.push_str(
         ": S: left, then right; P: left and right in parallel; a box: a strand with its function, first line and events\";\n",
@@ -102,33 +103,30 @@ fn push_node(
         strand,
         event,
     } = position;
-    match *node {
+    let named = match *node {
         Node::Strand { events } => {
-            let line = line_of(scene, event);
-            write!(text, "  n{number} [shape=box, label=\"{strand}: ")?;
-            push_function(text, scene, event)?;
-            let plural = if events == 1 { "" } else { "s" };
-            write!(text, ", line {line}\\n{events} event{plural}\"];\n")
+            let strand = say(STRAND).count(number).count(strand);
+            let strand = strand.word(function_at(scene, event));
+            strand.count(line_of(scene, event)).counted(events as usize)
         }
-        Node::Series { .. } => write!(text, "  n{number} [shape=diamond, label=\"S\"];\n"),
-        Node::Parallel { .. } => {
-            let line = line_of(scene, event.saturating_sub(1));
-            write!(
-                text,
-                "  n{number} [shape=circle, label=\"P\\nline {line}\"];\n"
-            )
-        }
-    }
+        Node::Series { .. } => say("  n{} [shape=diamond, label=\"S\"];\n").count(number),
+        Node::Parallel { .. } => say(PARALLEL)
+            .count(number)
+            .count(line_of(scene, event.saturating_sub(1))),
+    };
+    scene.push(text, &named)
 }
 
+const STRAND: &str = "  n{} [shape=box, label=\"{}: {}, line {}\\n{} event{}\"];\n";
+
+const PARALLEL: &str = "  n{} [shape=circle, label=\"P\\nline {}\"];\n";
+
 // The name of the function or loop whose frame makes an event.
-fn push_function(text: &mut String, scene: &Scene<'_>, event: usize) -> Result<(), AllocError> {
-    let note = scene.frame_of(event).and_then(|frame| scene.frame(frame));
-    let Some(note) = note else {
-        return Ok(());
-    };
-    let name = String::from_utf8_lossy(scene.case.alloc, scene.body_name(note.body))?;
-    text.push_str(name.as_str())
+fn function_at<'a>(scene: &Scene<'a>, event: usize) -> &'a [u8] {
+    match scene.frame_of(event) {
+        Some(frame) => scene.body_name(scene.note(frame).body),
+        None => &[],
+    }
 }
 
 // The line of an event.

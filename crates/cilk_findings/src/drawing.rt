@@ -3,16 +3,21 @@
 
 use crate::burdened::BURDEN;
 use crate::case::Case;
-use crate::chart::{Anchor, HEIGHT, LEFT, MIDDLE, Picture, RIGHT, WIDTH, scaled};
+use crate::chart::{
+    BOUND, BURDENED, ESTIMATE, HEAD, HEIGHT, KEYS, LEFT, NAMES, OUTLINE, OUTLINE_END, STEPS_AXES,
+    STEPS_WORDS, WIDTH, WORKERS_AXES, push_column, push_escaped, push_level, scaled,
+    with_hundredths,
+};
 use crate::critical::profile;
 use crate::dot::dot;
 use crate::fault::CaseFault;
 use crate::runs::Run;
 use crate::scene::Scene;
 use crate::totals::{Totals, totals_of};
+use cilk_messages::sentence::say;
 use cilk_tree::building::tree_of;
 use cilk_types::trace::Trace;
-use std::alloc::AllocError;
+use std::alloc::{AllocError, Global};
 
 // The upper ends of the two charts.
 const SPEED_UP: usize = 95;
@@ -21,13 +26,6 @@ const STEPS: usize = 420;
 
 // The most workers of the chart.
 const WORKERS: usize = 32;
-
-// Blue and orange, which are told apart by the colour-blind too, and grey.
-const BLUE: &str = "#0072b2";
-
-const ORANGE: &str = "#d55e00";
-
-const GREY: &str = "#777777";
 
 /// Draws, as SVG, the speed-up by 1 to 32 workers, estimated and at most, and how many events could
 /// be made at each step of the span with enough workers. The case's run has to end without a fault;
@@ -41,77 +39,47 @@ pub fn profile_of(case: &Case<'_>) -> Result<String, CaseFault> {
 fn picture(case: &Case<'_>, trace: &Trace) -> Result<String, AllocError> {
     let totals = totals_of(case.alloc, trace)?;
     let steps = profile(case.alloc, trace)?;
-    let mut picture = Picture {
-        text: String::new(case.alloc),
-    };
-    push_charts(&mut picture, case.file, &totals, steps.as_slice())?;
-    Ok(picture.into_text())
+    let mut text = String::new(case.alloc);
+    push_charts(case, &mut text, &totals, steps.as_slice())?;
+    Ok(text)
 }
 
 fn push_charts(
-    picture: &mut Picture,
-    file: &str,
+    case: &Case<'_>,
+    text: &mut String,
     totals: &Totals,
     steps: &[u32],
 ) -> Result<(), AllocError> {
-    picture.begin()?;
-    push_names(picture, file, totals)?;
-    push_speed_up(picture, totals)?;
-    push_steps(picture, totals, steps)?;
-    picture.end()
-}
-
-fn push_names(picture: &mut Picture, file: &str, totals: &Totals) -> Result<(), AllocError> {
-    let Totals {
-        work,
-        span,
-        burdened_span,
-        ..
-    } = *totals;
-    picture.begin_words(LEFT, 26, Anchor::Start)?;
-    picture.escaped(file)?;
-    write!(
-        picture.text,
-        ": speed-up by workers (work {work}, span {span}, parallelism "
-    )?;
-    picture.point(totals.parallelism())?;
-    picture.text.push(')')?;
-    picture.end_words()?;
-    picture.begin_words(LEFT, 46, Anchor::Start)?;
-    write!(
-        picture.text,
-        "burdened span {burdened_span}: a burden of {BURDEN} for each spawn that a steal may take"
-    )?;
-    picture.end_words()
+    text.push_str(HEAD)?;
+    push_escaped(text, case.file)?;
+    push_speed_up(case.alloc, text, totals)?;
+    push_steps(case.alloc, text, totals, steps)?;
+    text.push_str("</svg>\n")
 }
 
 // The estimate and the bound, for each number of workers.
-fn push_speed_up(picture: &mut Picture, totals: &Totals) -> Result<(), AllocError> {
+fn push_speed_up(alloc: Global, text: &mut String, totals: &Totals) -> Result<(), AllocError> {
+    let names = say(NAMES).count(totals.work).count(totals.span as usize);
+    with_hundredths(names, totals.parallelism()).push(alloc, text)?;
+    let burdened = say(BURDENED).count(totals.burdened_span as usize);
+    burdened.count(BURDEN as usize).push(alloc, text)?;
     let most = greatest_speed_up(totals);
-    push_workers(picture, most)?;
-    picture.axes(SPEED_UP)?;
-    picture.words(MIDDLE, 355, Anchor::Middle, "workers")?;
-    picture.upward(SPEED_UP, "speed-up")?;
-    push_curve(picture, totals, most, true)?;
-    push_curve(picture, totals, most, false)?;
-    push_key(
-        picture,
-        LEFT,
-        BLUE,
-        "at most: the workers, or the parallelism",
-    )?;
-    push_key(picture, 420, ORANGE, "estimate with the burden")
+    push_workers(alloc, text, most)?;
+    text.push_str(WORKERS_AXES)?;
+    push_curve(alloc, text, totals, most, true)?;
+    push_curve(alloc, text, totals, most, false)?;
+    text.push_str(KEYS)
 }
 
 // The scales of the chart of workers.
-fn push_workers(picture: &mut Picture, most: usize) -> Result<(), AllocError> {
+fn push_workers(alloc: Global, text: &mut String, most: usize) -> Result<(), AllocError> {
     for part in 0..5_usize {
         let speed = most.saturating_mul(part) / 4;
-        picture.level(height_at(SPEED_UP, speed, most), speed as u64)?;
+        push_level(alloc, text, height_at(SPEED_UP, speed, most), speed as u64)?;
     }
     for part in 0..9_usize {
         let workers = (part.saturating_mul(WORKERS) / 8).max(1);
-        picture.column(SPEED_UP, column_of(workers), workers)?;
+        push_column(alloc, text, SPEED_UP, column_of(workers), workers)?;
     }
     Ok(())
 }
@@ -129,12 +97,13 @@ fn greatest_speed_up(totals: &Totals) -> usize {
 }
 
 fn push_curve(
-    picture: &mut Picture,
+    alloc: Global,
+    text: &mut String,
     totals: &Totals,
     most: usize,
     is_bound: bool,
 ) -> Result<(), AllocError> {
-    picture.begin_curve(if is_bound { BLUE } else { ORANGE }, false)?;
+    text.push_str(if is_bound { BOUND } else { ESTIMATE })?;
     for number in 0..WORKERS {
         let workers = number.saturating_add(1);
         let speed = if is_bound {
@@ -142,20 +111,11 @@ fn push_curve(
         } else {
             totals.speed_up_estimate(workers as u64)
         };
-        let x = column_of(workers);
+        let to = say(if number == 0 { "M{} {}" } else { " L{} {}" });
         let y = height_at(SPEED_UP, speed as usize, most);
-        let to = if number == 0 { "M" } else { " L" };
-        write!(picture.text, "{to}{x} {y}")?;
+        to.count(column_of(workers)).count(y).push(alloc, text)?;
     }
-    picture.end_path()
-}
-
-// What a curve's colour means.
-fn push_key(picture: &mut Picture, x: usize, colour: &str, words: &str) -> Result<(), AllocError> {
-    picture.begin_curve(colour, false)?;
-    write!(picture.text, "M{x} 68 h30")?;
-    picture.end_path()?;
-    picture.words(x.saturating_add(38), 72, Anchor::Start, words)
+    text.push_str("\"/>\n")
 }
 
 fn column_of(workers: usize) -> usize {
@@ -169,57 +129,64 @@ fn height_at(top: usize, part: usize, whole: usize) -> usize {
 }
 
 // The events of each step, with a line at the parallelism.
-fn push_steps(picture: &mut Picture, totals: &Totals, steps: &[u32]) -> Result<(), AllocError> {
+fn push_steps(
+    alloc: Global,
+    text: &mut String,
+    totals: &Totals,
+    steps: &[u32],
+) -> Result<(), AllocError> {
     let octaves = octaves_of(greatest(steps));
-    picture.words(LEFT, 390, Anchor::Start, EVENTS)?;
-    picture.words(MIDDLE, 680, Anchor::Middle, "step of the span")?;
-    picture.upward(STEPS, "events (logarithmic)")?;
-    push_scale(picture, octaves, steps.len())?;
-    push_outline(picture, steps, octaves)?;
-    picture.axes(STEPS)?;
+    text.push_str(STEPS_WORDS)?;
+    push_scale(alloc, text, octaves, steps.len())?;
+    push_outline(alloc, text, steps, octaves)?;
     let y = height_of(totals.parallelism() as usize, octaves);
-    picture.begin_curve(GREY, true)?;
-    write!(picture.text, "M{LEFT} {y} h{WIDTH}")?;
-    picture.end_path()?;
-    picture.words(RIGHT, 410, Anchor::End, MEAN)
+    say(STEPS_AXES).count(y).push(alloc, text)
 }
 
-const EVENTS: &str =
-    "events that could be made at the same time (a column shows the most of its steps)";
-
-const MEAN: &str = "broken line: the parallelism, which is their mean";
-
 // The scales of the chart of steps.
-fn push_scale(picture: &mut Picture, octaves: usize, span: usize) -> Result<(), AllocError> {
+fn push_scale(
+    alloc: Global,
+    text: &mut String,
+    octaves: usize,
+    span: usize,
+) -> Result<(), AllocError> {
     let mut hundredths: usize = 100;
     for octave in 0..octaves {
         if octaves <= 10 || octave % 2 == 0 {
-            picture.level(height_of(hundredths, octaves), hundredths as u64)?;
+            push_level(
+                alloc,
+                text,
+                height_of(hundredths, octaves),
+                hundredths as u64,
+            )?;
         }
         hundredths = hundredths.saturating_mul(2);
     }
     for part in 0..5_usize {
         let x = LEFT.saturating_add(scaled(part, 4, WIDTH));
-        picture.column(STEPS, x, span.saturating_mul(part) / 4)?;
+        push_column(alloc, text, STEPS, x, span.saturating_mul(part) / 4)?;
     }
     Ok(())
 }
 
 // The outline of the steps, from left to right.
-fn push_outline(picture: &mut Picture, steps: &[u32], octaves: usize) -> Result<(), AllocError> {
-    let bottom = STEPS.saturating_add(HEIGHT);
-    write!(picture.text, "<path fill=\"{BLUE}\" d=\"M{LEFT} {bottom}")?;
-    let mut top = bottom;
+fn push_outline(
+    alloc: Global,
+    text: &mut String,
+    steps: &[u32],
+    octaves: usize,
+) -> Result<(), AllocError> {
+    text.push_str(OUTLINE)?;
+    let mut top = STEPS.saturating_add(HEIGHT);
     for column in 0..WIDTH {
         let next = height_of(most_in(steps, column).saturating_mul(100), octaves);
         if next != top {
             let x = LEFT.saturating_add(column);
-            write!(picture.text, " H{x} V{next}")?;
+            say(" H{} V{}").count(x).count(next).push(alloc, text)?;
         }
         top = next;
     }
-    write!(picture.text, " H{RIGHT} V{bottom} Z")?;
-    picture.end_path()
+    text.push_str(OUTLINE_END)
 }
 
 // The most events of one step, but at least 1.

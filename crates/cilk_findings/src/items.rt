@@ -31,10 +31,14 @@ fn walked(
         next: 0,
         body: BodyMap::new(alloc, Name { at: 0, end: 0 }),
         loops: Vec::new(alloc),
+        lacks_memory: false,
     };
     let mut map = TextMap::new(alloc);
-    walker.whole(tree.items.as_slice(), &mut map)?;
+    walker.whole(tree.items.as_slice(), &mut map);
     mem::swap(&mut map.loops, &mut walker.loops);
+    if walker.lacks_memory {
+        return Err(AllocError);
+    }
     Ok(map)
 }
 
@@ -90,51 +94,49 @@ fn push_globals(
 
 impl Walker<'_> {
     // Adds the names of items, and the maps of functions.
-    fn whole(&mut self, items: &[Item], map: &mut TextMap) -> Result<(), AllocError> {
+    fn whole(&mut self, items: &[Item], map: &mut TextMap) {
         let mut cells: usize = 0;
         for item in items {
             match item {
                 Item::Globals(variables) => {
-                    cells = push_globals(&mut map.globals, cells, variables)?;
+                    match push_globals(&mut map.globals, cells, variables) {
+                        Ok(count) => cells = count,
+                        Err(_) => self.lacks_memory = true,
+                    }
                     self.pass_line();
                 }
                 Item::Reducer(reducer) => {
-                    map.reducers.push(reducer.name)?;
+                    self.keep(map.reducers.push(reducer.name).is_ok());
                     self.pass_line();
                 }
                 Item::Function(_, name, parameters, body) => {
-                    map.functions
-                        .push(self.function_map(*name, parameters, body)?)?;
+                    let function = self.function_map(*name, parameters, body);
+                    self.keep(map.functions.push(function).is_ok());
                 }
             }
         }
-        Ok(())
     }
 
     // A function: its parameters, its reducers, its statements, and the instructions at its end.
-    fn function_map(
-        &mut self,
-        name: Name,
-        parameters: &[Parameter],
-        body: &[Stmt],
-    ) -> Result<BodyMap, AllocError> {
+    fn function_map(&mut self, name: Name, parameters: &[Parameter], body: &[Stmt]) -> BodyMap {
         self.body = BodyMap::new(self.alloc, name);
         self.pass_line();
         for parameter in parameters {
             if let Parameter::Variable(word) = parameter {
-                self.body.cells.push(*word)?;
-                self.put(word.at)?;
+                self.name(*word);
+                self.put(word.at);
             }
         }
         for statement in body {
             if let Stmt::Reducer(reducer) = statement {
-                self.body.reducers.push(reducer.name)?;
-                self.put(reducer.name.at)?;
+                let is_kept = self.body.reducers.push(reducer.name).is_ok();
+                self.keep(is_kept);
+                self.put(reducer.name.at);
             }
         }
-        self.row(body)?;
-        self.follow("tppp", 0)?;
+        self.row(body);
+        self.follow("tppp", 0);
         let empty = BodyMap::new(self.alloc, name);
-        Ok(mem::replace(&mut self.body, empty))
+        mem::replace(&mut self.body, empty)
     }
 }

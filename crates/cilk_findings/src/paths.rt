@@ -96,10 +96,9 @@ impl<'a> Scene<'a> {
 
     // Whether two frames run one function and were invoked at one place.
     fn are_alike(&self, one: usize, other: usize) -> bool {
-        let (Some(note), Some(next)) = (self.frame(one), self.frame(other)) else {
-            return false;
-        };
-        other != 0 && note.body == next.body && self.invoked_at(one) == self.invoked_at(other)
+        other != 0
+            && self.note(one).body == self.note(other).body
+            && self.invoked_at(one) == self.invoked_at(other)
     }
 
     fn push_row(&self, report: &mut String, row: &Row) -> Result<(), AllocError> {
@@ -110,11 +109,10 @@ impl<'a> Scene<'a> {
             report.push_str(" to ")?;
             self.push_frame(report, last)?;
         }
-        let words = match self.frame(first) {
-            Some(note) if first > 0 && matches!(note.body, Body::Function(_)) => match note.how {
-                Invocation::Call => ", called at {}",
-                Invocation::Spawn => ", spawned at {}",
-            },
+        let note = self.note(first);
+        let words = match (note.body, note.how) {
+            (Body::Function(_), Invocation::Call) if first > 0 => ", called at {}",
+            (Body::Function(_), Invocation::Spawn) if first > 0 => ", spawned at {}",
             _ => "",
         };
         self.push(report, &say(words).with(self.place(self.invoked_at(first))))?;
@@ -126,9 +124,7 @@ impl<'a> Scene<'a> {
 
     /// Adds what a frame runs: a call with its arguments, a turn, or a loop.
     pub fn push_frame(&self, report: &mut String, frame: usize) -> Result<(), AllocError> {
-        let Some(note) = self.frame(frame) else {
-            return Ok(());
-        };
+        let note = self.note(frame);
         if let Body::Function(number) = note.body {
             return self.push_call(report, frame, number);
         }
@@ -145,11 +141,9 @@ impl<'a> Scene<'a> {
 
     /// Returns how many numbers the function of a frame is given.
     pub fn words_of(&self, frame: usize) -> usize {
-        match self.function_at(frame) {
-            Some((_, number)) => match self.case.program.functions.get(number as usize) {
-                Some(function) => function.words as usize,
-                None => 0,
-            },
+        let (_, number) = self.around(frame);
+        match self.case.program.functions.get(number as usize) {
+            Some(function) => function.words as usize,
             None => 0,
         }
     }
@@ -168,7 +162,7 @@ impl<'a> Scene<'a> {
 
     /// Returns a number that a frame was given, by its place among them from 0.
     pub fn argument(&self, frame: usize, place: usize) -> Option<i64> {
-        let note = self.frame(frame)?;
+        let note = self.note(frame);
         let wanted = note.cell.saturating_add(place);
         let events = self.run.trace.as_slice().iter();
         for event in events.skip(note.begun).take(ARRIVING) {

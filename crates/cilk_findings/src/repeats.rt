@@ -81,7 +81,7 @@ fn loop_at(scene: &Scene<'_>, step: StepNote) -> Option<usize> {
 
 // The loop whose turns a frame runs.
 fn loop_of(scene: &Scene<'_>, frame: usize) -> Option<usize> {
-    match scene.frame(frame)?.body {
+    match scene.note(frame).body {
         Body::Loop(number) => Some(number as usize),
         Body::Function(_) => None,
     }

@@ -2,6 +2,8 @@
 
 ghost use Rattle.cilk_lower.specs.Behaves.{Behaves};
 ghost use Rattle.cilk_program.specs.Sources.{source};
+ghost use Rattle.cilk_serial.specs.SoFar.{IsIntact};
+ghost use Rattle.std.specs.Prelude.{OnOk};
 
 use crate::map::{BodyMap, TextMap};
 use cilk_frames::operands::LastOperands;
@@ -34,6 +36,19 @@ pub struct FrameNote {
     /// Its first cell.
     pub cell: usize,
 }
+
+/// The note of a frame that no run has.
+pub const NO_FRAME: FrameNote = FrameNote {
+    body: Body::Function(0),
+    low: 0,
+    high: 0,
+    how: Invocation::Call,
+    parent: 0,
+    instruction: 0,
+    begun: 0,
+    ended: None,
+    cell: 0,
+};
 
 /// The frame and the instruction of an event.
 #[derive(Clone, Copy)]
@@ -82,24 +97,9 @@ pub fn follow(
 {
     let mut serial = SerialRun::new(alloc, program, code, input)?;
     let mut notes = Notes::new(alloc, program, code)?;
-    for _step in 0..u64::MAX {
-        let callee = serial.callee();
-        let place = serial.place();
-        match serial.next()? {
-            Next::Made(event) => notes.meet(event, place, &callee)?,
-            Next::Ended => {
-                let replay = notes.into_replay(serial.ticks(), None);
-                return Ok((serial.into_trace(), None, replay));
-            }
-            Next::Stops(fault) => {
-                let stop = notes.stop(place, serial.last_operands());
-                let replay = notes.into_replay(serial.ticks(), Some(stop));
-                return Ok((serial.into_trace(), Some(fault), replay));
-            }
-        }
-    }
-    // not reached, as a run has at most 1,000,000 events
-    Err(AllocError)
+    let (fault, stop) = notes.follow(&mut serial)?;
+    let replay = notes.into_replay(serial.ticks(), stop);
+    Ok((serial.into_trace(), fault, replay))
 }
 
 /// The notes so far, the frames that have begun and not ended, the innermost last, and the cells of
@@ -148,6 +148,29 @@ impl<'a> Notes<'a> {
             first,
         )?;
         Ok(notes)
+    }
+
+    // Makes all events of a run. Returns the fault that stops it, if any, and where.
+    fn follow(
+        &mut self,
+        serial: &mut SerialRun<'_>,
+    ) -> Result<(Option<Fault>, Option<StopNote>), AllocError>
+        ensures { OnOk result (IsIntact serial.new.stage) }
+    {
+        for _step in 0..u64::MAX {
+            let callee = serial.callee();
+            let place = serial.place();
+            match serial.next()? {
+                Next::Made(event) => self.meet(event, place, &callee)?,
+                Next::Ended => return Ok((None, None)),
+                Next::Stops(fault) => {
+                    let stop = self.stop(place, serial.last_operands());
+                    return Ok((Some(fault), Some(stop)));
+                }
+            }
+        }
+        // not reached, as a run has at most 1,000,000 events
+        Err(AllocError)
     }
 
     // The step of an instruction of the current frame, by its place in the code.

@@ -2,7 +2,7 @@
 
 use crate::case::Case;
 use crate::map::{BodyMap, GlobalName};
-use crate::replay::{FrameNote, StepNote};
+use crate::replay::{FrameNote, NO_FRAME, StepNote};
 use crate::runs::Run;
 use cilk_messages::excerpt::push_excerpt;
 use cilk_messages::place::locate;
@@ -33,13 +33,11 @@ impl<'a> Scene<'a> {
 
     /// Returns the byte of the text at which a frame is invoked.
     pub fn invoked_at(&self, frame: usize) -> usize {
-        match self.frame(frame) {
-            Some(note) => self.spot(StepNote {
-                frame: note.parent,
-                instruction: note.instruction,
-            }),
-            None => 0,
-        }
+        let note = self.note(frame);
+        self.spot(StepNote {
+            frame: note.parent,
+            instruction: note.instruction,
+        })
     }
 
     /// Ends a line about a byte of the text, and adds an excerpt of the text there.
@@ -56,9 +54,14 @@ impl<'a> Scene<'a> {
 
 /// Frames. Parents have smaller numbers than their children.
 impl<'a> Scene<'a> {
-    /// Returns the note of a frame.
+    /// Returns the note of a frame, if the run has that frame.
     pub fn frame(&self, number: usize) -> Option<FrameNote> {
         self.run.replay.frames.get(number).copied()
+    }
+
+    /// Returns the note of a frame.
+    pub fn note(&self, number: usize) -> FrameNote {
+        self.frame(number).unwrap_or(NO_FRAME)
     }
 
     /// Returns the frame of an event.
@@ -70,10 +73,10 @@ impl<'a> Scene<'a> {
     /// Returns the parent of a frame; none for the first frame.
     pub fn above(&self, frame: usize) -> Option<usize> {
         if frame == 0 {
-            return None;
+            None
+        } else {
+            Some(self.note(frame).parent)
         }
-        let note = self.frame(frame)?;
-        Some(note.parent)
     }
 
     /// Returns the nearest frame that two frames are in.
@@ -108,33 +111,31 @@ impl<'a> Scene<'a> {
 
     /// Returns whether a frame runs turns of a loop.
     pub fn is_of_loop(&self, frame: usize) -> bool {
-        match self.frame(frame) {
-            Some(note) => matches!(note.body, Body::Loop(_)),
-            None => false,
-        }
+        matches!(self.note(frame).body, Body::Loop(_))
     }
 
     /// Returns whether a frame halves the turns of its loop.
     pub fn halves(&self, frame: usize) -> bool {
-        match self.frame(frame) {
-            Some(note) => {
-                matches!(note.body, Body::Loop(_)) && note.high.saturating_sub(note.low) > 1
-            }
-            None => false,
-        }
+        let note = self.note(frame);
+        matches!(note.body, Body::Loop(_)) && note.high.saturating_sub(note.low) > 1
     }
 
     /// Returns the nearest frame of a function around a frame, and the function's number.
     pub fn function_at(&self, frame: usize) -> Option<(usize, u32)> {
+        Some(self.around(frame))
+    }
+
+    /// Returns the same for a frame of the run.
+    pub fn around(&self, frame: usize) -> (usize, u32) {
         let mut at = frame;
         for _level in 0..self.run.replay.frames.len() {
-            let note = self.frame(at)?;
+            let note = self.note(at);
             if let Body::Function(number) = note.body {
-                return Some((at, number));
+                return (at, number);
             }
             at = note.parent;
         }
-        None
+        (at, 0)
     }
 }
 
@@ -158,17 +159,13 @@ impl<'a> Scene<'a> {
 
     /// Returns the name of the function that a frame runs, or in which its loop is.
     pub fn function_of(&self, frame: usize) -> &'a [u8] {
-        match self.function_at(frame) {
-            Some((_, number)) => self.body_name(Body::Function(number)),
-            None => &[],
-        }
+        self.body_name(Body::Function(self.around(frame).1))
     }
 
     /// Returns the frame that has the variable of a cell, and the variable's name.
     pub fn variable(&self, cell: usize) -> Option<(usize, Name)> {
         let (frame, number) = self.run.replay.owner(cell)?;
-        let note = self.frame(frame)?;
-        let map: &BodyMap = self.case.map.body(note.body)?;
+        let map: &BodyMap = self.case.map.body(self.note(frame).body)?;
         Some((frame, map.cells.get(number).copied()?))
     }
 
@@ -194,8 +191,7 @@ impl<'a> Scene<'a> {
         if place < globals {
             return self.case.map.reducers.get(place).copied();
         }
-        let note = self.frame(frame)?;
-        let map: &BodyMap = self.case.map.body(note.body)?;
+        let map: &BodyMap = self.case.map.body(self.note(frame).body)?;
         map.reducers.get(place.saturating_sub(globals)).copied()
     }
 
@@ -237,9 +233,7 @@ impl<'a> Scene<'a> {
 
     /// Returns the turn of a frame, by the loop's variable.
     pub fn turn(&self, frame: usize) -> Sentence<'a> {
-        let Some(note) = self.frame(frame) else {
-            return say("");
-        };
+        let note = self.note(frame);
         say("turn `{}` = {}")
             .word(self.turn_variable(note.body))
             .with(Part::Number(note.low))

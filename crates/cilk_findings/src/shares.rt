@@ -66,14 +66,8 @@ pub fn shares(
     members: &[usize],
     count: usize,
 ) -> Result<Vec<Share>, AllocError> {
-    let mut counting = Counting::new(alloc, members, count)?;
-    for event in trace.as_slice() {
-        counting.meet(event)?;
-    }
     let mut shares = Vec::new(alloc);
-    for group in &counting.groups {
-        shares.push(group.share)?;
-    }
+    Counting::new(alloc, members, count)?.count_all(trace, &mut shares)?;
     Ok(shares)
 }
 
@@ -95,6 +89,16 @@ impl<'a> Counting<'a> {
         };
         counting.seat = counting.next_frame(false);
         Ok(counting)
+    }
+
+    fn count_all(&mut self, trace: &Trace, shares: &mut Vec<Share>) -> Result<(), AllocError> {
+        for event in trace.as_slice() {
+            self.meet(event)?;
+        }
+        for group in &self.groups {
+            shares.push(group.share)?;
+        }
+        Ok(())
     }
 
     fn meet(&mut self, event: &Event) -> Result<(), AllocError> {

@@ -3,7 +3,7 @@
 use crate::map::BodyMap;
 use cilk_syntax::token::{Kind, Token};
 use cilk_syntax::tree::Name;
-use std::alloc::{AllocError, Global};
+use std::alloc::Global;
 
 /// A function's name, and which of its parameters are reducers.
 #[derive(Drop)]
@@ -12,7 +12,8 @@ pub struct Heading<'a> {
     pub reducers: Vec<bool>,
 }
 
-/// A walk: the next token, the current body, and the loops so far.
+/// A walk: the next token, the current body, and the loops so far. Where memory runs out, the walk
+/// continues to its end, and its map misses something.
 #[derive(Drop)]
 pub struct Walker<'a> {
     pub alloc: Global,
@@ -22,6 +23,7 @@ pub struct Walker<'a> {
     pub next: usize,
     pub body: BodyMap,
     pub loops: Vec<BodyMap>,
+    pub lacks_memory: bool,
 }
 
 /// Returns the bytes of a name.
@@ -84,23 +86,36 @@ impl Walker<'_> {
     }
 
     /// Adds an instruction that comes from the token at byte `at`.
-    pub fn put(&mut self, at: usize) -> Result<(), AllocError> {
-        self.body.spots.push(at)?;
-        Ok(())
+    pub fn put(&mut self, at: usize) {
+        let is_kept = self.body.spots.push(at).is_ok();
+        self.keep(is_kept);
+    }
+
+    /// Adds a variable of the body.
+    pub fn name(&mut self, name: Name) {
+        let is_kept = self.body.cells.push(name).is_ok();
+        self.keep(is_kept);
+    }
+
+    /// Notes whether there was memory for something.
+    pub fn keep(&mut self, is_kept: bool) {
+        if !is_kept {
+            self.lacks_memory = true;
+        }
     }
 
     /// Follows marks: `.` passes a token, `t` passes one and keeps its place, and `p` adds an
     /// instruction from the kept place. Returns the kept place, at first `at`.
-    pub fn follow(&mut self, marks: &str, at: usize) -> Result<usize, AllocError> {
+    pub fn follow(&mut self, marks: &str, at: usize) -> usize {
         let mut kept = at;
         for mark in marks.as_bytes() {
             match *mark {
                 b't' => kept = self.take(),
-                b'p' => self.put(kept)?,
+                b'p' => self.put(kept),
                 _ => self.pass(1),
             }
         }
-        Ok(kept)
+        kept
     }
 
     /// Returns the number of the function with a name.
