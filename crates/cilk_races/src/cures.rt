@@ -2,16 +2,23 @@
 
 use crate::pair::{Pair, Race, byte_of, cell_at};
 use crate::texts::text;
-use crate::uses::{Added, Most, adds, behind_place, filled, has_name, keeps, kept_by, text_of};
+use crate::uses::{
+    Added, Most, Swap, Taken, adds, behind_place, filled, has_name, has_part, kept_by, multiplies,
+    semicolon_at, swap_of, takes, text_of,
+};
 use cilk_findings::partings::{loop_round, parted_at, stands_in, statement_of};
 use cilk_findings::scene::Scene;
 use cilk_messages::reasons::cure_of as cure_of_number;
 use cilk_messages::sentence::{Part, Sentence, say};
+use cilk_messages::sites::head_kind;
 use cilk_messages::tokens::Tokens;
 use cilk_syntax::token::Kind;
 use cilk_types::event::{Cell, Event};
 use cilk_types::invocation::Invocation;
 use std::alloc::AllocError;
+
+// The most events of a swap.
+const NEAR: usize = 100;
 
 // What parts the two events of a race.
 #[derive(Clone, Copy)]
@@ -117,7 +124,7 @@ impl<'a> Site<'a, '_> {
         let Some(global) = self.scene.global(cell) else {
             let (_, name) = self.scene.variable(cell)?;
             let name = self.scene.word(name);
-            return Some(if self.scene.run.gives_result(self.pair.earlier) {
+            return Some(if self.is_spawned_result() {
                 self.of_result(name)
             } else {
                 self.of_variable(name, text("OWN"))
@@ -129,7 +136,7 @@ impl<'a> Site<'a, '_> {
             None if self.is_in_called() => self.of_variable(name, text("CALLED_GLOBAL")),
             None => self.of_variable(name, text("OWN_GLOBAL")),
             Some(length) if in_turns => self.of_turns(name, index, length),
-            Some(_) => self.of_calls(name, index),
+            Some(length) => self.of_calls(name, index, length),
         })
     }
 
@@ -139,6 +146,20 @@ impl<'a> Site<'a, '_> {
         let later = tokens.number_at(byte_of(&self.scene, self.pair.later));
         let earlier = tokens.number_at(byte_of(&self.scene, self.pair.earlier));
         [statement_of(tokens, later), statement_of(tokens, earlier)]
+    }
+
+    // Whether the earlier event takes the result of a spawned call.
+    fn is_spawned_result(&self) -> bool {
+        let scene = &self.scene;
+        let called = scene
+            .frame_of(self.pair.earlier)
+            .and_then(|frame| scene.frame(frame));
+        match called {
+            Some(note) => {
+                note.how == Invocation::Spawn && scene.run.gives_result(self.pair.earlier)
+            }
+            None => false,
+        }
     }
 
     // The result of a spawned call.
@@ -151,15 +172,25 @@ impl<'a> Site<'a, '_> {
 
     // A single variable.
     fn of_variable(&self, name: &'a [u8], own: &'static str) -> Way<'a> {
+        let in_turns = self.pair.is_in_turns(&self.scene);
+        if let (true, Some(set)) = (in_turns, self.own_at(name)) {
+            let words = match self.tokens.kind_back(set, 2) {
+                Some(Kind::For) => text("OWN_HEAD"),
+                _ => own,
+            };
+            return by_change(say(words).word(name).word(name).word(name));
+        }
         if let Some(array) = filled(self.tokens, name) {
             let filled = say(text("FILLED")).word(name).word(array);
             return by_change(filled.word(array));
         }
-        let in_turns = self.pair.is_in_turns(&self.scene);
+        let [later, earlier] = self.statements();
+        if multiplies(self.tokens, later, name) || multiplies(self.tokens, earlier, name) {
+            return by_change(say(text("PRODUCT")).word(name));
+        }
         if in_turns && self.is_running(name) {
             return by_change(say(text("RUNNING")).word(name));
         }
-        let [later, earlier] = self.statements();
         match (self.reduced(later, name), self.reduced(earlier, name)) {
             (Some(change), Some(_)) => return change,
             (Some(change), None) | (None, Some(change)) if in_turns => return change,
@@ -174,15 +205,59 @@ impl<'a> Site<'a, '_> {
         }
     }
 
-    // A reducer for what a statement adds up, or for the number that it keeps.
-    fn reduced(&self, first: usize, name: &'a [u8]) -> Option<Way<'a>> {
+    // Where a turn of the loop sets a variable, if it does so before it reads it.
+    fn own_at(&self, name: &[u8]) -> Option<usize> {
         let tokens = self.tokens;
-        if let Some(sum) = adds(tokens, first, name) {
-            return Some(by_both(self.declared(first, "add", name), updated(name, sum)));
+        let first = self.loop_token();
+        let mut set = None;
+        for number in first..tokens.count() {
+            if tokens.word(number) == name && stands_in(tokens, first, number) {
+                let right = number.saturating_add(2);
+                let is_set = matches!(tokens.kind_behind(number), Some(Kind::Assign))
+                    && !has_name(tokens, right, semicolon_at(tokens, right), name);
+                match set {
+                    None if is_set => set = Some(number),
+                    Some(_) if !is_set => return set,
+                    None => return None,
+                    _ => {}
+                }
+            }
         }
-        let Most { monoid, number } = keeps(tokens, first, name)?;
-        let compared = say(text("COMPARED")).word(name).word(number).word(name);
-        Some(by_both(self.declared(first, monoid, name), compared.word(name)))
+        None
+    }
+
+    // A reducer for what a statement makes of a variable.
+    fn reduced(&self, first: usize, name: &'a [u8]) -> Option<Way<'a>> {
+        let taken = self.counted(takes(self.tokens, first, name)?)?;
+        let said = updated(taken.words, name, taken.added).word(taken.again);
+        Some(by_both(self.declared(first, taken.monoid, name), said))
+    }
+
+    // How a reducer takes the first or last number: of turns it keeps which one that is.
+    fn counted(&self, taken: Taken<'a>) -> Option<Taken<'a>> {
+        let in_turns = self.pair.is_in_turns(&self.scene);
+        let (variable, _, _) = self.turns();
+        let number = taken.added.amount;
+        let added = Added {
+            amount: variable,
+            ..taken.added
+        };
+        match taken.words {
+            "ONCE" | "LAST" if in_turns && !self.is_in_called() => Some(if number == variable {
+                taken
+            } else {
+                Taken {
+                    words: "TURN",
+                    added,
+                    again: number,
+                    ..taken
+                }
+            }),
+            "LAST" => None,
+            "ONCE" if has_part(number, b"[") => None,
+            "FLAG" if !in_turns && !self.is_beside_call() => None,
+            _ => Some(taken),
+        }
     }
 
     // Where a reducer in place of a variable is declared.
@@ -214,27 +289,18 @@ impl<'a> Site<'a, '_> {
     }
 
     // Whether turns of the loop read a variable elsewhere than where they change it.
-    fn is_running(&self, name: &[u8]) -> bool {
+    fn is_running(&self, name: &'a [u8]) -> bool {
         let first = self.loop_token();
         for number in first..self.tokens.count() {
             if self.tokens.word(number) == name && stands_in(self.tokens, first, number) {
                 let start = statement_of(self.tokens, number);
                 let is_first = start == number || number == start.saturating_add(1);
-                if !is_first
-                    && adds(self.tokens, start, name).is_none()
-                    && keeps(self.tokens, start, name).is_none()
-                {
-                    return self.changes(name);
+                if !is_first && takes(self.tokens, start, name).is_none() {
+                    return true;
                 }
             }
         }
         false
-    }
-
-    // Whether a statement of the race adds to the variable.
-    fn changes(&self, name: &[u8]) -> bool {
-        let [later, earlier] = self.statements();
-        adds(self.tokens, later, name).is_some() || adds(self.tokens, earlier, name).is_some()
     }
 
     // The token of the loop whose turns race.
@@ -256,15 +322,10 @@ impl<'a> Site<'a, '_> {
     fn of_turns(&self, name: &'a [u8], index: usize, length: usize) -> Way<'a> {
         let tokens = self.tokens;
         let [later, earlier] = self.statements();
-        let written = match self.writes() {
-            (true, false) => earlier,
-            _ => later,
-        };
-        let at = behind_mark(tokens, written);
-        let behind = behind_place(tokens, at).saturating_sub(1);
+        let (at, behind) = self.written();
         let inner = at.saturating_add(2);
         let position = text_of(tokens, inner, behind);
-        let (variable, turns) = self.turns();
+        let (variable, _, turns) = self.turns();
         let total = length.saturating_mul(turns);
         if let (Some(sum), Some(_)) = (adds(tokens, later, name), adds(tokens, earlier, name)) {
             return if self.is_single() {
@@ -274,6 +335,9 @@ impl<'a> Site<'a, '_> {
                 let rows = rows.word(position).word(name).word(position);
                 by_both(rows, say(text("ROWS_ADDED")))
             };
+        }
+        if let Some(way) = self.swapped(name) {
+            return way;
         }
         if self.is_asked(name, text_of(tokens, at, behind.saturating_add(1))) {
             return by_change(say(text("CLAIMED")).word(name));
@@ -294,24 +358,103 @@ impl<'a> Site<'a, '_> {
         })
     }
 
-    // Whether the later event is in a function that a turn calls.
-    fn is_in_called(&self) -> bool {
-        self.function_frame(self.pair.second) != self.function_frame(self.pair.common)
+    // The name of the written array, and the bracket that ends its index.
+    fn written(&self) -> (usize, usize) {
+        let [later, earlier] = self.statements();
+        let written = match self.writes() {
+            (true, false) => earlier,
+            _ => later,
+        };
+        let at = behind_mark(self.tokens, written);
+        (at, behind_place(self.tokens, at).saturating_sub(1))
     }
 
-    // Whether an `if` asks what this element of an array is.
-    fn is_asked(&self, name: &[u8], place: &[u8]) -> bool {
-        for number in 0..self.tokens.count() {
-            let named = number.saturating_add(2);
-            if matches!(self.tokens.kind(number), Some(Kind::If))
-                && self.tokens.word(named) == name
-            {
-                let behind = behind_place(self.tokens, named);
-                if matches!(self.tokens.kind(behind), Some(Kind::Equal))
-                    && text_of(self.tokens, named, behind) == place
-                {
-                    return true;
+    // Two turns that swap the same two elements.
+    fn swapped(&self, name: &'a [u8]) -> Option<Way<'a>> {
+        let tokens = self.tokens;
+        let [later, earlier] = self.statements();
+        let swap = swap_of(tokens, later, name)?;
+        let (one, other) = self.cells_of(swap, self.pair.earlier)?;
+        let pair = self.cells_of(swap, self.pair.later)?;
+        if swap_of(tokens, earlier, name)?.one != swap.one
+            || pair != (one, other) && pair != (other, one)
+        {
+            return None;
+        }
+        let (variable, low, high) = self.turns();
+        let at = if self.is_in_called() {
+            tokens.number_at(self.scene.invoked_at(self.function_frame(self.pair.second)))
+        } else {
+            swap.one
+        };
+        let bound = match loop_round(tokens, at) {
+            Some(inner) if inner > self.loop_token() => {
+                let named = inner.saturating_add(match tokens.kind(inner.saturating_add(2)) {
+                    Some(Kind::Int) => 3,
+                    _ => 2,
+                });
+                say(text("SWAPPED_INNER"))
+                    .word(tokens.word(named))
+                    .word(variable)
+            }
+            _ => say(text("SWAPPED_HALF"))
+                .word(variable)
+                .count(low.saturating_add(high) / 2),
+        };
+        Some(by_both(say(text("SWAPPED")).word(name), bound))
+    }
+
+    // The two elements that a swap writes, of which an event accesses one.
+    fn cells_of(&self, swap: Swap, index: usize) -> Option<(usize, usize)> {
+        for second in index..index.saturating_add(NEAR) {
+            if let Some(other) = self.written_at(swap.other, second) {
+                for back in 1..NEAR {
+                    if let Some(one) = self.written_at(swap.one, second.saturating_sub(back)) {
+                        return Some((one, other));
+                    }
                 }
+            }
+        }
+        None
+    }
+
+    // The cell that an event writes by a statement.
+    fn written_at(&self, statement: usize, index: usize) -> Option<usize> {
+        if !is_write(self.scene.run.event(index)) {
+            return None;
+        }
+        let at = self.tokens.number_at(byte_of(&self.scene, index));
+        if statement_of(self.tokens, at) == statement {
+            cell_at(&self.scene, index)
+        } else {
+            None
+        }
+    }
+
+    // Whether the later event is in a function that a turn calls.
+    fn is_in_called(&self) -> bool {
+        let second = if self.scene.run.gives_result(self.pair.later) {
+            self.scene.above(self.pair.second).unwrap_or(0)
+        } else {
+            self.pair.second
+        };
+        self.function_frame(second) != self.function_frame(self.pair.common)
+    }
+
+    // Whether an `if` compares this element of an array with a constant.
+    fn is_asked(&self, name: &[u8], place: &[u8]) -> bool {
+        let tokens = self.tokens;
+        for number in 0..tokens.count() {
+            let behind = behind_place(tokens, number);
+            let is_if = matches!(head_kind(tokens, number), Some(Kind::If));
+            if is_if && tokens.word(number) == name && text_of(tokens, number, behind) == place {
+                let is_not = matches!(tokens.kind_back(number, 1), Some(Kind::Not));
+                let compared = tokens.kind_behind(behind);
+                return match tokens.kind(behind) {
+                    Some(Kind::Equal) => true,
+                    Some(Kind::Less) => matches!(compared, Some(Kind::Number(_) | Kind::Minus)),
+                    _ => is_not,
+                };
             }
         }
         false
@@ -333,8 +476,8 @@ impl<'a> Site<'a, '_> {
         )
     }
 
-    // The variable of the loop whose turns race, and the number after that of its last turn.
-    fn turns(&self) -> (&'a [u8], usize) {
+    // The variable of the loop whose turns race, its first number, and that after its last one.
+    fn turns(&self) -> (&'a [u8], usize, usize) {
         let scene = &self.scene;
         let mut top = self.pair.common;
         for _level in 0..scene.run.replay.frames.len() {
@@ -346,9 +489,10 @@ impl<'a> Site<'a, '_> {
         match scene.frame(top) {
             Some(note) => (
                 scene.turn_variable(note.body),
+                usize::try_from(note.low).unwrap_or(0),
                 usize::try_from(note.high).unwrap_or(0),
             ),
-            None => (&[], 0),
+            None => (&[], 0, 0),
         }
     }
 
@@ -376,27 +520,47 @@ impl<'a> Site<'a, '_> {
     }
 
     // An element that a spawned call and what runs beside it share.
-    fn of_calls(&self, name: &'a [u8], index: usize) -> Way<'a> {
+    fn of_calls(&self, name: &'a [u8], index: usize, length: usize) -> Way<'a> {
+        let tokens = self.tokens;
+        let [later, earlier] = self.statements();
         let work = say(text("WORK")).word(name).word(name);
         if !self.is_beside_call() {
-            return if self.is_in_one_loop() && self.writes().1 {
-                by_either(work)
-            } else {
-                by_sync(say(""))
+            return match (self.is_in_one_loop(), self.writes().1) {
+                (true, true) => by_either(work),
+                (true, false) if !matches!(tokens.kind(later), Some(Kind::CilkSpawn)) => {
+                    by_sync(say(text("SECOND_LOOP")).word(name))
+                }
+                _ => by_sync(say("")),
             };
         }
+        if let (Some(sum), Some(_)) = (adds(tokens, later, name), adds(tokens, earlier, name)) {
+            return self.of_counts(name, sum, length);
+        }
+        let called = self.scene.function_of(self.pair.child);
+        let beside = self.scene.function_of(self.branch().unwrap_or(0));
+        if self.is_in_ranges(index) && called != beside {
+            return by_sync(say(text("ORDERED")).word(beside).word(called).word(name));
+        }
         by_either(if self.is_in_ranges(index) {
-            let called = self.scene.function_of(self.pair.child);
-            say(text("RANGES"))
-                .word(name)
-                .word(called)
-                .word(name)
-                .count(index)
+            let ranges = say(text("RANGES")).word(name).word(called);
+            ranges.word(name).count(index)
         } else if self.writes() == (true, false) {
             say(text("TABLE")).word(name)
         } else {
             work
         })
+    }
+
+    // Elements in which two calls add up.
+    fn of_counts(&self, name: &'a [u8], sum: Added<'a>, length: usize) -> Way<'a> {
+        if self.is_single() {
+            return single(name, sum);
+        }
+        let (at, behind) = self.written();
+        let position = text_of(self.tokens, at.saturating_add(2), behind);
+        let rows = say(text("CALL_ROWS")).count(length.saturating_mul(2));
+        let rows = rows.word(position).word(name).word(position);
+        by_change(rows.count(length))
     }
 
     // The child of the common frame that the later event is in.
@@ -461,6 +625,10 @@ impl<'a> Site<'a, '_> {
         let tokens = self.tokens;
         let reducer = tokens.number_at(byte_of(&self.scene, at));
         let name = tokens.word(reducer);
+        let monoid = match tokens.declaration_of(reducer) {
+            Some((declared, _)) => tokens.word(declared.saturating_sub(2)),
+            None => &[],
+        };
         if let Some(Most { monoid, number }) = kept_by(tokens, reducer) {
             let kept = say(text("KEPT")).with(Part::Text(monoid)).word(name);
             return by_change(kept.word(name).word(number));
@@ -468,10 +636,6 @@ impl<'a> Site<'a, '_> {
         let is_behind = at == self.pair.later && !self.pair.is_in_turns(&self.scene);
         if !is_behind && self.is_set(name) {
             let own = say(text("OWN_SUM")).word(name).word(name).word(name);
-            let monoid = match tokens.declaration_of(reducer) {
-                Some((declared, _)) => tokens.word(declared.saturating_sub(2)),
-                None => &[],
-            };
             let reducer = say(text("OWN_REDUCER")).word(monoid).word(name);
             return by_both(own.word(name).word(name), reducer);
         }
@@ -481,11 +645,24 @@ impl<'a> Site<'a, '_> {
         if is_behind {
             return by_sync(say(""));
         }
-        let read = say(text("IN_PARENT"))
-            .word(name)
-            .word(self.scene.function_of(self.pair.common));
-        let spawn = self.scene.place(self.scene.invoked_at(self.pair.child));
-        by_change(read.with(spawn))
+        let parent = self.scene.function_of(self.pair.common);
+        let read = if parent == self.scene.function_of(self.pair.child) {
+            say(text("IN_RECURSION"))
+                .word(parent)
+                .word(name)
+                .word(parent)
+        } else {
+            let spawn = self.scene.place(self.scene.invoked_at(self.pair.child));
+            say(text("IN_PARENT")).word(name).word(parent).with(spawn)
+        };
+        by_both(
+            read,
+            say(if monoid == b"add".as_slice() {
+                text("OWN_PART")
+            } else {
+                ""
+            }),
+        )
     }
 
     // Whether the text sets a reducer with this name.
@@ -513,12 +690,12 @@ fn is_write(event: Option<Event>) -> bool {
 fn single<'a>(array: &'a [u8], sum: Added<'a>) -> Way<'a> {
     let name = b"all".as_slice();
     let declared = say(text("SINGLE")).with(Part::Text("add")).word(name);
-    by_both(declared.word(array), updated(name, sum))
+    by_both(declared.word(array), updated("UPDATED", name, sum))
 }
 
 // How a reducer is updated and read.
-fn updated<'a>(name: &'a [u8], sum: Added<'a>) -> Sentence<'a> {
-    let updated = say(text("UPDATED")).word(name).with(Part::Text(sum.open));
+fn updated<'a>(words: &str, name: &'a [u8], sum: Added<'a>) -> Sentence<'a> {
+    let updated = say(text(words)).word(name).with(Part::Text(sum.open));
     let updated = updated.word(sum.amount).with(Part::Text(sum.close));
     updated.word(name)
 }

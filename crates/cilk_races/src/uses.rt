@@ -1,8 +1,8 @@
-//! How a statement of a text uses a variable or element: it adds to it, or keeps the greater or
-//! lesser of two numbers in it.
+//! How a statement of a text uses a variable or element: it adds to it, keeps a number in it, sets
+//! it as a flag, or swaps it with another one.
 
-use cilk_findings::partings::behind_head;
-use cilk_messages::sites::{closed_head, head_of};
+use cilk_findings::partings::{behind_head, stands_in, statement_of};
+use cilk_messages::sites::head_of;
 use cilk_messages::tokens::Tokens;
 use cilk_syntax::token::Kind;
 
@@ -19,6 +19,30 @@ pub struct Added<'a> {
 pub struct Most<'a> {
     pub monoid: &'static str,
     pub number: &'a [u8],
+}
+
+/// How a reducer takes what a statement makes of a variable: the name of the words that say so, and
+/// the part of a condition that goes away, or the variable again.
+#[derive(Clone, Copy)]
+pub struct Taken<'a> {
+    pub monoid: &'static str,
+    pub words: &'static str,
+    pub added: Added<'a>,
+    pub again: &'a [u8],
+}
+
+/// The two statements by which two elements of an array swap their numbers.
+#[derive(Clone, Copy)]
+pub struct Swap {
+    pub one: usize,
+    pub other: usize,
+}
+
+// A range of tokens.
+#[derive(Clone, Copy)]
+struct Side {
+    from: usize,
+    upto: usize,
 }
 
 /// Returns the text from a token up to, but without, another one.
@@ -81,8 +105,8 @@ pub fn adds<'a>(tokens: &Tokens<'a>, first: usize, name: &[u8]) -> Option<Added<
     let rest = behind.saturating_add(1);
     let end = semicolon_at(tokens, rest);
     match tokens.kind(if is_ahead { first } else { behind }) {
-        Some(Kind::Increment) => Some(plain(b"1")),
-        Some(Kind::Decrement) => Some(plain(b"-1")),
+        Some(Kind::Increment) => Some(bare(b"1")),
+        Some(Kind::Decrement) => Some(bare(b"-1")),
         Some(Kind::PlusAssign) => without(tokens, rest, end, name),
         Some(Kind::MinusAssign) => Some(Added {
             open: "-(",
@@ -96,22 +120,44 @@ pub fn adds<'a>(tokens: &Tokens<'a>, first: usize, name: &[u8]) -> Option<Added<
 
 // What `PLACE = PLACE + ..` or `PLACE = .. + PLACE` adds. The right side begins at a token.
 fn assigned<'a>(tokens: &Tokens<'a>, named: usize, right: usize, name: &[u8]) -> Option<Added<'a>> {
+    let (mark, side) = joined(tokens, named, right)?;
+    match tokens.kind(mark) {
+        Some(Kind::Plus) => without(tokens, side.from, side.upto, name),
+        _ => None,
+    }
+}
+
+// The operator, and what it joins with the place, of `PLACE = PLACE OPERATOR ..` or of
+// `PLACE = .. OPERATOR PLACE`. The right side begins at a token.
+fn joined(tokens: &Tokens<'_>, named: usize, right: usize) -> Option<(usize, Side)> {
     let place = text_of(tokens, named, right.saturating_sub(1));
     let again = behind_place(tokens, right);
-    let end = semicolon_at(tokens, right);
-    let last = end.saturating_sub(2);
-    if text_of(tokens, right, again) == place && matches!(tokens.kind(again), Some(Kind::Plus)) {
-        return without(tokens, again.saturating_add(1), end, name);
+    let upto = semicolon_at(tokens, right);
+    let last = upto.saturating_sub(2);
+    if text_of(tokens, right, again) == place {
+        let from = again.saturating_add(1);
+        return Some((again, Side { from, upto }));
     }
-    if tokens.word(end.saturating_sub(1)) == place
-        && matches!(tokens.kind(last), Some(Kind::Plus))
-    {
-        return without(tokens, right, last, name);
+    if tokens.word(upto.saturating_sub(1)) == place {
+        let from = right;
+        return Some((last, Side { from, upto: last }));
     }
     None
 }
 
-fn plain(amount: &'static [u8]) -> Added<'static> {
+/// Returns whether the statement at a token multiplies a variable.
+pub fn multiplies(tokens: &Tokens<'_>, first: usize, name: &[u8]) -> bool {
+    let mark = match tokens.kind_behind(first) {
+        Some(Kind::Assign) => match joined(tokens, first, first.saturating_add(2)) {
+            Some((mark, _)) => mark,
+            None => first,
+        },
+        _ => first.saturating_add(1),
+    };
+    tokens.word(first) == name && matches!(tokens.kind(mark), Some(Kind::Star | Kind::StarAssign))
+}
+
+fn bare(amount: &[u8]) -> Added<'_> {
     Added {
         open: "",
         amount,
@@ -124,41 +170,276 @@ fn without<'a>(tokens: &Tokens<'a>, from: usize, end: usize, name: &[u8]) -> Opt
     if has_name(tokens, from, end, name) {
         return None;
     }
-    Some(Added {
-        open: "",
-        amount: text_of(tokens, from, end),
-        close: "",
-    })
+    Some(bare(text_of(tokens, from, end)))
 }
 
-/// Returns what an `if` keeps in a variable: the `if` compares the variable and then assigns it. It
-/// is the statement at a token, or around the assignment at that token.
-pub fn keeps<'a>(tokens: &Tokens<'a>, first: usize, name: &[u8]) -> Option<Most<'a>> {
-    let start = match tokens.kind(first) {
-        Some(Kind::If) => body_of(tokens, first),
-        _ => first,
+/// Returns how a reducer takes what the statement at a token makes of a variable. The statement may
+/// be the `if` around an assignment.
+pub fn takes<'a>(tokens: &Tokens<'a>, first: usize, name: &'a [u8]) -> Option<Taken<'a>> {
+    if let Some(added) = adds(tokens, first, name) {
+        return Some(by_reducer("add", "UPDATED", added, name));
+    }
+    let start = assignment_of(tokens, first, name)?;
+    let right = start.saturating_add(2);
+    let side = Side {
+        from: right,
+        upto: semicolon_at(tokens, right),
     };
-    if tokens.word(start) != name || !matches!(tokens.kind_behind(start), Some(Kind::Assign)) {
+    if let Some((mark, side)) = joined(tokens, start, right) {
+        let monoid = match tokens.kind(mark) {
+            Some(Kind::And) => "min",
+            Some(Kind::Or) => "max",
+            _ => return None,
+        };
+        return Some(by_reducer(monoid, "FLAG", truth(tokens, side), name));
+    }
+    if let Some(most) = called(tokens, side, name) {
+        return Some(most);
+    }
+    if has_name(tokens, right, side.upto, name) {
         return None;
     }
-    let outer = match tokens.kind_back(start, 1) {
-        Some(Kind::OpenBrace) => start.saturating_sub(1),
-        _ => start,
-    };
-    let head = closed_head(tokens, outer)?;
-    if !matches!(tokens.kind(head), Some(Kind::If)) {
-        return None;
+    if let Some(asked) = asked_at(tokens, start, name) {
+        return if has_else(tokens, asked, start) {
+            None
+        } else {
+            compared(tokens, asked, side)
+        };
     }
-    let number = start.saturating_add(2);
-    let number = text_of(tokens, number, semicolon_at(tokens, number));
-    for compared in head..outer {
-        if tokens.word(compared) == name {
-            let ahead = tokens.kind_back(compared, 1);
-            let monoid = monoid_of(ahead, tokens.kind_behind(compared))?;
-            return Some(Most { monoid, number });
+    if let Some(flag) = flag(tokens, side, name) {
+        return Some(flag);
+    }
+    let amount = bare(text_of(tokens, right, side.upto));
+    Some(by_reducer("max", "LAST", amount, name))
+}
+
+fn by_reducer<'a>(
+    monoid: &'static str,
+    words: &'static str,
+    added: Added<'a>,
+    again: &'a [u8],
+) -> Taken<'a> {
+    Taken {
+        monoid,
+        words,
+        added,
+        again,
+    }
+}
+
+// The name in an assignment to it: the statement at a token, or the first one in that `if`.
+fn assignment_of(tokens: &Tokens<'_>, first: usize, name: &[u8]) -> Option<usize> {
+    let is_if = matches!(tokens.kind(first), Some(Kind::If));
+    for number in first..tokens.count() {
+        if tokens.word(number) == name && matches!(tokens.kind_behind(number), Some(Kind::Assign)) {
+            let is_here = number == first || is_if && stands_in(tokens, first, number);
+            return if is_here { Some(number) } else { None };
         }
     }
     None
+}
+
+// A number that is used as true or false, as 0 or 1.
+fn truth<'a>(tokens: &Tokens<'a>, side: Side) -> Added<'a> {
+    let amount = text_of(tokens, side.from, side.upto);
+    for number in side.from..side.upto {
+        if let Some(
+            Kind::Not
+            | Kind::Less
+            | Kind::Greater
+            | Kind::LessEqual
+            | Kind::GreaterEqual
+            | Kind::Equal
+            | Kind::NotEqual,
+        ) = tokens.kind(number)
+        {
+            return bare(amount);
+        }
+    }
+    Added {
+        open: "!!(",
+        amount,
+        close: ")",
+    }
+}
+
+// The other argument of a call of a function for the greater or lesser of two numbers.
+fn called<'a>(tokens: &Tokens<'a>, side: Side, name: &'a [u8]) -> Option<Taken<'a>> {
+    let monoid = if has_part(tokens.word(side.from), b"max") {
+        "max"
+    } else if has_part(tokens.word(side.from), b"min") {
+        "min"
+    } else {
+        return None;
+    };
+    let first = side.from.saturating_add(2);
+    let close = side.upto.saturating_sub(1);
+    let last = close.saturating_sub(1);
+    let amount = if tokens.word(first) == name {
+        text_of(tokens, first.saturating_add(2), close)
+    } else if tokens.word(last) == name {
+        text_of(tokens, first, last.saturating_sub(1))
+    } else {
+        return None;
+    };
+    Some(by_reducer(monoid, "MOST", bare(amount), name))
+}
+
+/// Returns whether a word or a text has a part.
+pub fn has_part(word: &[u8], part: &[u8]) -> bool {
+    for at in 0..word.len() {
+        if let Some(found) = word.get(at..at.saturating_add(part.len()))
+            && found == part
+        {
+            return true;
+        }
+    }
+    false
+}
+
+// The name in the condition of the nearest `if` around an assignment to it that asks for it.
+fn asked_at(tokens: &Tokens<'_>, start: usize, name: &[u8]) -> Option<usize> {
+    let mut found = None;
+    for head in 0..start {
+        if matches!(tokens.kind(head), Some(Kind::If)) && stands_in(tokens, head, start) {
+            for number in head..behind_head(tokens, head) {
+                if tokens.word(number) == name {
+                    found = Some(number);
+                }
+            }
+        }
+    }
+    found
+}
+
+fn has_else(tokens: &Tokens<'_>, from: usize, upto: usize) -> bool {
+    for number in from..upto {
+        if let Some(Kind::Else) = tokens.kind(number) {
+            return true;
+        }
+    }
+    false
+}
+
+// What an `if` keeps that compares a variable at a token and sets it to a number: the greatest or
+// least where it is that number, otherwise the first.
+fn compared<'a>(tokens: &Tokens<'a>, asked: usize, number: Side) -> Option<Taken<'a>> {
+    let name = tokens.word(asked);
+    let ahead = tokens.kind_back(asked, 1);
+    let behind = tokens.kind_behind(asked);
+    let side = match monoid_of(None, behind) {
+        None if !matches!(behind, Some(Kind::Equal)) => ahead_of(tokens, asked.saturating_sub(1)),
+        _ => behind_of(tokens, asked.saturating_add(2)),
+    };
+    let is_equal = matches!(ahead, Some(Kind::Not | Kind::Equal))
+        || matches!(behind, Some(Kind::Equal));
+    let amount = bare(text_of(tokens, number.from, number.upto));
+    if is_same(tokens, side, number) || !is_equal && !is_constant(tokens, side) {
+        return Some(by_reducer(monoid_of(ahead, behind)?, "COMPARED", amount, name));
+    }
+    if let Some(flag) = flag(tokens, number, name) {
+        return Some(Taken {
+            words: "ONCE_FLAG",
+            ..flag
+        });
+    }
+    let upto = side.upto.max(asked.saturating_add(1));
+    let asked = text_of(tokens, side.from.min(asked), upto);
+    Some(by_reducer("min", "ONCE", amount, asked))
+}
+
+// A constant that a statement sets: the least where it is false, otherwise the greatest.
+fn flag<'a>(tokens: &Tokens<'a>, number: Side, name: &'a [u8]) -> Option<Taken<'a>> {
+    if !is_constant(tokens, number) {
+        return None;
+    }
+    let amount = bare(text_of(tokens, number.from, number.upto));
+    let monoid = match tokens.kind(number.from) {
+        Some(Kind::Number(0) | Kind::Minus) => "min",
+        _ => "max",
+    };
+    Some(by_reducer(monoid, "FLAG", amount, name))
+}
+
+fn is_constant(tokens: &Tokens<'_>, side: Side) -> bool {
+    let from = match tokens.kind(side.from) {
+        Some(Kind::Minus) => side.from.saturating_add(1),
+        _ => side.from,
+    };
+    matches!(tokens.kind(from), Some(Kind::Number(_))) && from.saturating_add(1) == side.upto
+}
+
+// Whether two ranges have the same words.
+fn is_same(tokens: &Tokens<'_>, one: Side, other: Side) -> bool {
+    for number in one.from..one.upto {
+        let at = number.saturating_sub(one.from);
+        if tokens.word(number) != tokens.word(other.from.saturating_add(at)) {
+            return false;
+        }
+    }
+    one.upto.saturating_sub(one.from) == other.upto.saturating_sub(other.from)
+}
+
+// The part of a condition from a token on, up to its end, or to `&&` or `||`.
+fn behind_of(tokens: &Tokens<'_>, from: usize) -> Side {
+    let mut depth: usize = 0;
+    for upto in from..tokens.count() {
+        match tokens.kind(upto) {
+            Some(Kind::Open | Kind::OpenBracket) => depth = depth.saturating_add(1),
+            Some(Kind::Close | Kind::And | Kind::Or) if depth == 0 => return Side { from, upto },
+            Some(Kind::Close | Kind::CloseBracket) => depth = depth.saturating_sub(1),
+            _ => {}
+        }
+    }
+    Side { from, upto: from }
+}
+
+// The part of a condition ahead of a token.
+fn ahead_of(tokens: &Tokens<'_>, upto: usize) -> Side {
+    let mut depth: usize = 0;
+    let mut from = upto;
+    for back in 1..upto {
+        match tokens.kind_back(upto, back) {
+            Some(Kind::Close | Kind::CloseBracket) => depth = depth.saturating_add(1),
+            Some(Kind::Open | Kind::And | Kind::Or) if depth == 0 => break,
+            Some(Kind::Open | Kind::OpenBracket) => depth = depth.saturating_sub(1),
+            _ => {}
+        }
+        from = upto.saturating_sub(back);
+    }
+    Side { from, upto }
+}
+
+/// Returns the swap of two elements of an array that a statement belongs to: `t = a[i];`,
+/// `a[i] = a[j];` and `a[j] = t;`.
+pub fn swap_of(tokens: &Tokens<'_>, statement: usize, name: &[u8]) -> Option<Swap> {
+    for one in 0..tokens.count() {
+        if let Some(other) = swap_at(tokens, one, name) {
+            let kept = statement_of(tokens, one.saturating_sub(1));
+            if statement == kept || statement == one || statement == other {
+                return Some(Swap { one, other });
+            }
+        }
+    }
+    None
+}
+
+// The second write of a swap whose first one begins at a token.
+fn swap_at(tokens: &Tokens<'_>, one: usize, name: &[u8]) -> Option<usize> {
+    if tokens.word(one) != name {
+        return None;
+    }
+    let mark = behind_place(tokens, one);
+    let right = mark.saturating_add(1);
+    let end = behind_place(tokens, right);
+    let other = end.saturating_add(1);
+    let set = behind_place(tokens, other);
+    let is_swap = matches!(tokens.kind(mark), Some(Kind::Assign))
+        && matches!(tokens.kind(end), Some(Kind::Semicolon))
+        && matches!(tokens.kind(set), Some(Kind::Assign))
+        && tokens.word(right) == name
+        && text_of(tokens, right, end) == text_of(tokens, other, set);
+    if is_swap { Some(other) } else { None }
 }
 
 // The first token of the first statement after the condition of an `if`.
