@@ -6,6 +6,7 @@ use cilk_tool::serve;
 use std::alloc::Global;
 use std::sync::Wait;
 use std::thread::Threads;
+use std::time::Clock;
 
 // The certificate of its run is longer than one part of a file.
 const FIB: &str =
@@ -13,7 +14,7 @@ const FIB: &str =
     = fib(n - 2); cilk_sync; return x + y; } int main() { int r; r = fib(10); return r; }";
 
 // Makes a call whose reads of the certificate's file fail after `parts` parts.
-fn served<H: Threads + Wait + Sync>(
+fn served<H: Threads + Wait + Clock + Sync>(
     rt: &H,
     alloc: Global,
     words: &[&str],
@@ -42,7 +43,7 @@ fn served<H: Threads + Wait + Sync>(
 }
 
 // The number of parts of a right certificate that a check by helpers reads.
-fn parts_read<H: Threads + Wait + Sync>(
+fn parts_read<H: Threads + Wait + Clock + Sync>(
     rt: &H,
     alloc: Global,
     certificate: &[u8],
@@ -58,7 +59,7 @@ fn parts_read<H: Threads + Wait + Sync>(
 }
 
 // Whether a check by two helpers says that the certificate can't be read after some parts.
-fn is_unread<H: Threads + Wait + Sync>(
+fn is_unread<H: Threads + Wait + Clock + Sync>(
     rt: &H,
     alloc: Global,
     certificate: &[u8],

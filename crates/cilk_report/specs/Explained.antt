@@ -1,9 +1,10 @@
 -- The replies of `serve_explained` to command lines that `serve` doesn't have, and its
 -- explanations.
-use Rattle.std.specs.Prelude.{◌≡◌, ◌⊎◌, ◌<◌, ◌&&◌, ◌||◌, ℕ, Bool, true, false, not, List, [], ◌∷◌, length, filter, Option, Some, None, codes}
+use Rattle.std.specs.Prelude.{◌≡◌, ◌⊎◌, ◌<◌, ◌&&◌, ◌||◌, ℕ, Bool, true, false, not, List, [], ◌∷◌, length, filter, cond, Option, Some, None, codes}
 use Rattle.std.specs.Str.{bytes_eq}
 use Rattle.std.specs.Io.KnownBytes.{Appends}
 use Rattle.cilk_findings.specs.declared.totals.Totals.{Totals}
+use Rattle.cilk_syntax.specs.Lexing.{all_digits}
 use Rattle.cilk_commands.specs.Files.{Failures}
 use Rattle.cilk_commands.specs.Replies.{BadTrace, Ended, NoMemory, Refused, Reply, Text, line, status_of}
 use Rattle.cilk_commands.specs.Serving.{Answers, RunReply, Serves, ShowsError, WordsFail, world}
@@ -37,9 +38,34 @@ IsReadAgain (Some (Judge trace sites)) (Refused number places) = Unit {0}
 IsReadAgain (Some (Judge trace sites)) (BadTrace number at) = Unit {0}
 IsReadAgain _ _ = ⊥
 
--- the words without each `--explain`
+-- a word of a command adds a text: `--explain`, `--trace` of `play`, `--stats` of `threads`
+abbrev pub marks : Text → Text → Bool
+marks command word =
+    is_flag word || ((bytes_eq command (codes "play") && bytes_eq word (codes "--trace"))
+    || (bytes_eq command (codes "threads") && bytes_eq word (codes "--stats")))
+
+-- these words of a command without each of those
+abbrev pub unmarked : Text → List Text → List Text
+unmarked command words = filter (λ w. not (marks command w)) words
+
+-- the word `--why` of `settle`, with a number behind it
+abbrev pub is_why : Text → Text → List Text → Bool
+is_why command word [] = false
+is_why command word (number ∷ words) = bytes_eq command (codes "settle") && (bytes_eq word (codes "--why") && all_digits number)
+
+-- these words of a command without the first `--why` and its number
+abbrev pub without_why : Text → List Text → List Text
+without_why command [] = []
+without_why command (word ∷ words) = cond (is_why command word words) (behind_first words) (word ∷ without_why command words)
+
+-- the first word, or an empty one
+abbrev pub first_word : List Text → Text
+first_word [] = []
+first_word (word ∷ words) = word
+
+-- the words without those that add a text
 abbrev pub unflagged : List Text → List Text
-unflagged words = filter (λ w. not (is_flag w)) words
+unflagged words = unmarked (first_word words) (without_why (first_word words) words)
 
 -- a word that requests help
 abbrev pub is_help : Text → Bool
@@ -161,7 +187,7 @@ is_schedule (word ∷ words) = bytes_eq word (codes "schedule") && not (asks_hel
 
 -- the words of the check for which a schedule is requested: `check`, then the words after the first
 abbrev pub words_of_check : List Text → List Text
-words_of_check words = codes "check" ∷ unflagged (behind_first words)
+words_of_check words = codes "check" ∷ unmarked (codes "schedule") (behind_first words)
 
 -- the refusal of a certificate
 abbrev pub IsRefusal : Reply → Type 0
@@ -188,8 +214,8 @@ pub data ServesExplained (words : List Text) (files : Text → Option Text) (inp
   -- the reply of `serve`, then a text
   Settling : explains_itself (order_in words) ≡ true → ServesThenExplains words files input failed failed' status out out' err err'
       → ServesExplained words files input failed failed' status out out' err err'
-  -- the words aren't a command line of `serve` and have `--explain` among them: the reply to the
-  -- others, then a text
+  -- the words aren't a command line of `serve` and have some among them that add a text: the reply
+  -- to the others, then a text
   Explained : order_in words ≡ None → length (unflagged words) < length words
       → ServesThenExplains (unflagged words) files input failed failed' status out out' err err'
       → ServesExplained words files input failed failed' status out out' err err'

@@ -19,10 +19,12 @@ use Rattle.cilk_report.specs.declared.settling.Form.TheVariants.{Full, Json, Sho
 
 -- ---- the words
 
--- the first word is `settle`, more follows than one request for help, and no word is `--explain`
+-- the first word is `settle`, more follows than one request for help, and no word is `--explain` or
+-- `--why`
 abbrev pub is_settling : List Text → Bool
 is_settling [] = false
-is_settling (word ∷ words) = bytes_eq word (codes "settle") && (not (is_help words) && not (asks (codes "--explain") (word ∷ words)))
+is_settling (word ∷ words) =
+    bytes_eq word (codes "settle") && (not (is_help words) && (not (asks (codes "--explain") (word ∷ words)) && not (asks (codes "--why") (word ∷ words))))
 
 -- what words name: programs, the file of their input and the form of the replies; and whether the
 -- next word has to name the input

@@ -3,6 +3,7 @@
 ghost use Rattle.cilk_commands.specs.Replies.{failure_view};
 ghost use Rattle.cilk_commands.specs.Serving.{WordsFail};
 
+use crate::asks;
 use cilk_commands::reply::Failure;
 use std::alloc::{AllocError, Global};
 
@@ -52,6 +53,7 @@ Options of settle:
   --short, --json
                   a line for each program: its name and the first line of the answer, or a JSON object with its name, the
                   status and the whole answer
+  --why LINE      after `settled`, say on standard error what orders the accesses of this line with those of others
 
 Options of judge:
   --sites FILE    after a refusal, say on standard error at which files, lines and functions the accesses are, by the
@@ -66,11 +68,11 @@ Options of measure:
 Option of check:
   --helpers N     share the work among N threads, 1 to 16: the same answer, sooner where frames compute long
 
-Option of play and threads:
+Options of play and threads:
   --workers N     the number of workers, 1 to 64; 2 without this option
-
-Option of threads:
-  --on FILE       run on threads with the numbers of FILE in place of those of --input; the answer is `refused 502`
+  --trace         of play: say on standard error what each worker does: its strands, steals, waits and ends
+  --stats         of threads: say on standard error how many strands each worker began, and how many by a steal
+  --on FILE       of threads: run with the numbers of FILE in place of those of --input; the answer is `refused 502`
                   if the program departs from the certified run on them
 
 Status:
@@ -128,13 +130,11 @@ const FOOT: &str = "  \
 hint: `cilk --help` describes all commands, statuses and limits
 ";
 
-const WORKERS: &str = "  --workers N     the number of workers, 1 to 64; 2 without this option\n";
-
 const SETTLE: Page = Page {
     head: "\
 Run programs serially, and tell of each whether it races: if not, no schedule changes what it leaves
 
-Usage: cilk settle PROGRAM.. [--input FILE] [--short | --json]
+Usage: cilk settle PROGRAM.. [--input FILE] [--short | --json | --why LINE]
 
 The answer is one of
   settled         and the lines that `run` shows: every parallel run on this input that ends leaves the same
@@ -149,6 +149,8 @@ greatest of theirs; no memory, or a write that fails, ends the call.
     options: "  \
   --short         a line for each program: its name and the first line of the answer
   --json          a line for each program: a JSON object with its name, the status and the whole answer
+  --why LINE      for one program: after `settled`, say on standard error what orders the accesses of this line with
+                  those of other strands
   --explain       changes nothing here; only for one program
 ",
 };
@@ -189,13 +191,15 @@ const THREADS: Page = Page {
     head: "\
 Check as `check` does; if that accepts, run the program on threads, by work stealing
 
-Usage: cilk threads PROGRAM CERTIFICATE [--workers N] [--input FILE] [--on FILE] [--explain]
+Usage: cilk threads PROGRAM CERTIFICATE [--workers N] [--input FILE] [--on FILE] [--stats] [--explain]
 ",
     argument: CERTIFICATE,
     options: "  \
   --workers N     the number of workers, 1 to 64; 2 without this option
   --on FILE       run on threads with the numbers of FILE in place of those of --input; the answer is `refused 502`
                   if the program departs from the certified run on them
+  --stats         say on standard error how many strands each worker began, how many of these were continuations that it
+                  stole, and how many seconds the run took
 ",
 };
 
@@ -203,10 +207,14 @@ const PLAY: Page = Page {
     head: "\
 Run a program in parallel, step by step, by the orders of a script to its workers
 
-Usage: cilk play PROGRAM SCRIPT [--workers N] [--input FILE] [--explain]
+Usage: cilk play PROGRAM SCRIPT [--workers N] [--input FILE] [--trace] [--explain]
 ",
     argument: SCRIPT,
-    options: WORKERS,
+    options: "  \
+  --workers N     the number of workers, 1 to 64; 2 without this option
+  --trace         say on standard error what each worker does, in up to 200 lines: its strands, with their lines and the
+                  events of the serial run, its steals, waits and ends
+",
 };
 
 const SCHEDULE: Page = Page {
@@ -304,6 +312,7 @@ pub fn help_on(alloc: Global, command: &str) -> Result<String, AllocError> {
 pub fn advice(alloc: Global, words: &[&str]) -> Result<String, AllocError> {
     match words {
         [first, ..] if first.starts_with("-") || *first == "help" => format!(in alloc; "\n{HELP}"),
+        ["settle", ..] if asks(words, "--why") => String::from_str(alloc, NO_LINE),
         [first, ..] if is_command(first) => format!(in alloc;
             "\nhint: `cilk help {first}` describes `{first}` and its options\n"
         ),
@@ -321,6 +330,10 @@ pub fn advice(alloc: Global, words: &[&str]) -> Result<String, AllocError> {
         _ => String::from_str(alloc, "\nhint: `cilk --help` lists the commands\n"),
     }
 }
+
+// The hint for `--why` without a line.
+const NO_LINE: &str =
+    "\nhint: `--why` takes one program and the number of a line in it: `cilk settle prog.c --why 12`\n";
 
 fn is_command(word: &str) -> bool {
     page_of(word).is_some() || word == "judge" || word == "explain"

@@ -18,7 +18,8 @@ use cilk_trace_text::reader::TraceReader;
 use std::alloc::{AllocError, Global};
 
 const APART: &str =
-    "hint: put a `cilk_sync` between the spawn and the later access, give each strand memory of its own, or let a reducer take what they add up\n";
+    "hint: put a `cilk_sync` between the spawn and the later access; where both are in turns of one `cilk_for`, \
+    or have to run in parallel, give each memory of its own, or let a reducer take what they add up\n";
 
 const VIEWED: &str =
     "hint: set a reducer and read it before the first spawn, or after the `cilk_sync`\n";
@@ -181,7 +182,7 @@ impl<'a> Writer<'a> {
         self.push_access(": note: earlier in the serial run ", first)?;
         if let Some(CallLines { site, first, .. }) = parted {
             self.push_place(site, first)?;
-            self.push(": note: the call with the earlier access is spawned")?;
+            self.push(": note: the call or turn with the earlier access is spawned")?;
             self.push_site(site)?;
         }
         self.push_lines(first, second, parted)?;
@@ -217,11 +218,13 @@ impl<'a> Writer<'a> {
             ..
         } = second;
         let lines = format!(in self.alloc;
-            "in the trace: the earlier one is line {p}, in frame {one}, the later one line {q}, in frame {other}"
+            "in the trace: the earlier one is trace line {p}, in frame {one}, the later one trace line {q}, in frame {other}"
         )?;
         self.push(lines.as_str())?;
         if let Some(CallLines { first, last, .. }) = parted {
-            let call = format!(in self.alloc; "; the call is from line {first} to line {last}")?;
+            let call = format!(in self.alloc;
+                "; the call is from trace line {first} to trace line {last}"
+            )?;
             self.push(call.as_str())?;
         }
         self.push("\n")

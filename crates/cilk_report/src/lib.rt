@@ -9,7 +9,8 @@
 //! needed (`cilk_findings`, `cilk_races`). [`KeptFiles`] therefore keeps the texts as they were
 //! read, and the first bytes of a certificate. So the explanation is about the texts that were
 //! judged. A trace isn't kept, since it may be larger than memory: its file is read again. A command
-//! line of `serve` without an explanation keeps no copies.
+//! line of `serve` without an explanation keeps no copies. `--trace` of `play` adds what each worker
+//! does, and `--why LINE` of `settle` what orders the accesses of a line.
 //!
 //! `measure` prints work, span and parallelism of a run (Frigo, Leiserson and Randall 1998), then a
 //! table by function and loop, or a picture. `schedule` prints a script for `play` that shows a
@@ -39,12 +40,15 @@ mod accesses;
 mod again;
 mod certificate;
 mod critical;
+mod deeds;
 mod explaining;
+mod extras;
 mod flags;
 mod help;
 mod judging;
 mod kept;
 mod numbered;
+mod orders;
 mod rows;
 mod scheduling;
 mod serving;
@@ -54,12 +58,15 @@ mod speed_up;
 mod table;
 mod text;
 mod totals;
+mod tracing;
 mod wanted;
+mod why;
 mod words;
 
 pub use explaining::{of_answer, of_failure};
 pub use flags::unflagged;
 pub use kept::{CaseTexts, Keeps, Kept, KeptFiles};
+pub use rows::push_cells;
 pub use serving::{follow, serve_explained};
 pub use text::{NoText, text_of};
 pub use totals::totals_of;

@@ -9,7 +9,7 @@ ghost use Rattle.cilk_commands.specs.declared.streams.TheConstants.{MAX_READ};
 ghost use Rattle.cilk_messages.specs.Words.{texts};
 
 use crate::explaining::{of_answer, of_failure, race_of, texts_of};
-use crate::flags::unflagged;
+use crate::flags::unmarked;
 use crate::help::usage_of_schedule;
 use crate::serving::{follow, tell_text};
 use crate::{Keeps, Kept, asks, behind_first, is_help};
@@ -36,7 +36,7 @@ pub fn is_schedule(words: &[&str]) -> bool
 fn check_words<'a>(alloc: Global, words: &[&'a str]) -> Result<Vec<&'a str>, AllocError>
     ensures { IfOk result (λ plain. texts plain.items ≡ words_of_check (texts words.now)) }
 {
-    let mut plain = unflagged(alloc, behind_first(words))?;
+    let mut plain = unmarked(alloc, "schedule", behind_first(words))?;
     plain.insert(0, "check")?;
     Ok(plain)
 }

@@ -11,8 +11,9 @@ ghost use Rattle.cilk_commands.specs.declared.streams.TheConstants.{MAX_READ};
 ghost use Rattle.cilk_messages.specs.Words.{order_in, order_view, origin_view, texts};
 
 use crate::about::{About, answer_about};
-use crate::explaining::{of_answer, of_failure};
-use crate::flags::{explains_itself, unflagged};
+use crate::explaining::of_failure;
+use crate::extras::{behind_answer, behind_failure};
+use crate::flags::{Extras, explains_itself, extras_of, unflagged};
 use crate::help::{EXPLAIN, advice};
 use crate::judging::{Judged, of_trace_failure, of_trace_race};
 use crate::scheduling::{is_schedule, serve_schedule};
@@ -68,7 +69,7 @@ pub fn serve_explained<F: Keeps, R: Read, O: Write, E: Write>(
     match read(alloc, words) {
         Ok(order) if explains_itself(&order) => {
             files.keep();
-            serve_flagged(alloc, words, files, input, out, err)
+            serve_flagged(alloc, words, extras_of(words), files, input, out, err)
         }
         Ok(order) => match carry_out(alloc, order, files, input) {
             Ok(answer) => show(alloc, &answer, out, err).status,
@@ -181,7 +182,8 @@ fn serve_unscheduled<F: Keeps, R: Read, O: Write, E: Write>(
         Ok(About::Wrong(text)) => complain(alloc, &Failure::Words(text), err).status,
         Ok(About::Other) => match unflagged(alloc, words) {
             Ok(plain) if plain.len() < words.len() => {
-                serve_flagged(alloc, plain.as_slice(), files, input, out, err)
+                let extras = extras_of(words);
+                serve_flagged(alloc, plain.as_slice(), extras, files, input, out, err)
             }
             Ok(_) => complain(alloc, &refusal(alloc, words, usage), err).status,
             Err(_) => complain(alloc, &Failure::Memory, err).status,
@@ -210,11 +212,12 @@ fn advised(alloc: Global, words: &[&str], usage: String) -> Result<String, Alloc
     Ok(text)
 }
 
-/// Serves a command line as `serve` does, then explains what was shown.
+/// Serves a command line as `serve` does, then adds what else is requested.
 #[tactic(auto, using(cilk_commands::proofs::Reading::takes_same))]
 fn serve_flagged<F: Keeps, R: Read, O: Write, E: Write>(
     alloc: Global,
     words: &[&str],
+    extras: Extras,
     files: &mut F,
     input: &mut R,
     out: &mut O,
@@ -229,11 +232,11 @@ fn serve_flagged<F: Keeps, R: Read, O: Write, E: Write>(
         Ok(order) => match carry_out(alloc, order, files, input) {
             Ok(answer) => {
                 let served = show(alloc, &answer, out, err);
-                follow(served, answered(alloc, &order, &answer, files), err)
+                follow(served, answered(alloc, &order, &answer, extras, files), err)
             }
             Err(failure) => {
                 let served = complain(alloc, &failure, err);
-                follow(served, failed(alloc, &order, &failure, files), err)
+                follow(served, failed(alloc, &order, &failure, extras, files), err)
             }
         },
         Err(WordsFault::Usage(usage)) => complain(alloc, &refusal(alloc, words, usage), err).status,
@@ -241,11 +244,12 @@ fn serve_flagged<F: Keeps, R: Read, O: Write, E: Write>(
     }
 }
 
-/// Returns the explanation of an answer. A trace with a race is read again for it.
+/// Returns the text that follows an answer. A trace with a race is read again for it.
 fn answered<F: Keeps>(
     alloc: Global,
     order: &Order<'_>,
     answer: &Answer,
+    extras: Extras,
     files: &mut F,
 ) -> Result<String, CaseFault>
     ensures { (IsReadAgain (Some (order_view order.now)) (answer_view answer.now) → ⊥) → F.failed files.new ≡ F.failed files.old }
@@ -270,15 +274,16 @@ fn answered<F: Keeps>(
         | Order::Certify { .. }
         | Order::Check { .. }
         | Order::Play { .. }
-        | Order::Settle { .. } => of_answer(alloc, order, answer, files.kept()),
+        | Order::Settle { .. } => behind_answer(alloc, order, answer, extras, files.kept()),
     }
 }
 
-/// Returns the explanation of a failure. A malformed trace is read again for it.
+/// Returns the text that follows a failure. A malformed trace is read again for it.
 fn failed<F: Keeps>(
     alloc: Global,
     order: &Order<'_>,
     failure: &Failure<'_>,
+    extras: Extras,
     files: &mut F,
 ) -> Result<String, CaseFault>
     ensures { (IsReadAgain (Some (order_view order.now)) (failure_view failure.now) → ⊥) → F.failed files.new ≡ F.failed files.old }
@@ -289,7 +294,7 @@ fn failed<F: Keeps>(
         | Order::Certify { .. }
         | Order::Check { .. }
         | Order::Play { .. }
-        | Order::Settle { .. } => of_failure(alloc, order, failure, files.kept()),
+        | Order::Settle { .. } => behind_failure(alloc, order, failure, extras, files.kept()),
     }
 }
 

@@ -82,13 +82,16 @@ impl<'a> Batch<'a> {
 }
 
 /// Returns whether the first word is `settle`, with more than one request for help behind it and no
-/// `--explain`.
+/// `--explain` or `--why`.
 pub fn is_settling(words: &[&str]) -> bool
     ensures { result ≡ is_settling (texts words.now) }
 {
     match words {
         [first, behind @ ..] => {
-            *first == "settle" && !is_help(behind) && !asks(words, "--explain")
+            *first == "settle"
+                && !is_help(behind)
+                && !asks(words, "--explain")
+                && !asks(words, "--why")
         }
         [] => false,
     }

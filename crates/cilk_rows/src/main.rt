@@ -38,6 +38,7 @@ use std::io;
 use std::process::ExitCode;
 use std::sync::Wait;
 use std::thread::Threads;
+use std::time::Clock;
 
 /// The reply to a call.
 #[derive(Drop)]
@@ -48,7 +49,7 @@ struct Shown {
 }
 
 /// Serves words over files. The file `stdin` is the standard input.
-fn served<H: Threads + Wait + Sync>(
+fn served<H: Threads + Wait + Clock + Sync>(
     rt: &HostRuntime,
     handle: &H,
     words: &str,
@@ -72,7 +73,7 @@ fn served<H: Threads + Wait + Sync>(
 }
 
 /// Makes the file of a case's own call, if it has one: the standard output of that call.
-fn make<H: Threads + Wait + Sync>(
+fn make<H: Threads + Wait + Clock + Sync>(
     rt: &HostRuntime,
     handle: &H,
     case: &mut Case,
@@ -104,7 +105,7 @@ fn print_difference(
 }
 
 /// Returns whether a case shows its expected reply; prints the differences.
-fn is_passed<H: Threads + Wait + Sync>(
+fn is_passed<H: Threads + Wait + Clock + Sync>(
     rt: &HostRuntime,
     handle: &H,
     name: &str,
@@ -128,7 +129,7 @@ fn is_passed<H: Threads + Wait + Sync>(
 }
 
 /// Serves each case, prints the counts, and returns how many fail.
-fn run_all<H: Threads + Wait + Sync>(rt: &HostRuntime, handle: &H) -> io::Result<u64> {
+fn run_all<H: Threads + Wait + Clock + Sync>(rt: &HostRuntime, handle: &H) -> io::Result<u64> {
     let names = text_of(rt, "cases")?;
     let (mut passed, mut failed) = (0u64, 0u64);
     for name in names.as_str().lines() {

@@ -38,6 +38,7 @@ mod explaining;
 mod helping;
 mod running;
 mod serving;
+mod stats;
 pub mod words;
 
 pub use cilk_commands::files::{FileFault, Files};

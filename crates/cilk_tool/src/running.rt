@@ -29,7 +29,7 @@ use cilk_threads::threads::run_threads;
 use cilk_types::event::Pos;
 use cilk_types::input::Input;
 use cilk_types::outcome::Outcome;
-use cilk_workers::gate::Open;
+use cilk_workers::gate::Gate;
 use std::alloc::Global;
 use std::io::Read;
 use std::sync::Wait;
@@ -101,20 +101,22 @@ fn ended<'a>(alloc: Global, accepted: &Accepted, outcome: Outcome) -> Result<End
     }))
 }
 
-/// Runs an accepted program by `workers` workers on these numbers.
-fn run<'a, H: Threads + Wait + Sync>(
+/// Runs an accepted program by `workers` workers on these numbers. The gate is called as each
+/// strand begins.
+fn run<'a, H: Threads + Wait + Sync, G: Gate + Sync>(
     rt: &H,
     alloc: Global,
     accepted: &Accepted,
     numbers: &Input,
     workers: u32,
+    gate: &G,
 ) -> Result<Ending, Failure<'a>>
     ensures answer { IfOk result (λ e. RunShows accepted.now (meant accepted.now.program) numbers.now workers (ending_view e)) }
     ensures failure { IfErr result (λ e. RunShows accepted.now (meant accepted.now.program) numbers.now workers (failure_view e)) }
 {
     let plan = plan(alloc, accepted)?;
     plan.laws();
-    match run_threads(rt, alloc, &plan, numbers, workers, &Open) {
+    match run_threads(rt, alloc, &plan, numbers, workers, gate) {
         Ok(outcome) => ended(alloc, accepted, outcome),
         Err(ThreadFault::Departs(at)) => Ok(Ending::Departed(at)),
         Err(ThreadFault::Workers) => Ok(Ending::Workers),
@@ -123,12 +125,13 @@ fn run<'a, H: Threads + Wait + Sync>(
 }
 
 /// Runs an accepted program by `workers` workers, on its own input or on that of a file.
-fn accepted_run<'a, H: Threads + Wait + Sync, F: Files>(
+fn accepted_run<'a, H: Threads + Wait + Sync, G: Gate + Sync, F: Files>(
     rt: &H,
     alloc: Global,
     accepted: &Accepted,
     on: Option<&'a str>,
     workers: u32,
+    gate: &G,
     files: &mut F,
 ) -> Result<Ending, Failure<'a>>
     requires { (F.failed files.old).count < 18446744073709551615 }
@@ -138,21 +141,22 @@ fn accepted_run<'a, H: Threads + Wait + Sync, F: Files>(
         (option_map (λ p. p.now) on.entry) workers accepted.now (meant accepted.now.program) (failure_view e)) }
 {
     match on {
-        None => run(rt, alloc, accepted, accepted.input(), workers),
+        None => run(rt, alloc, accepted, accepted.input(), workers, gate),
         Some(path) => {
             let numbers = numbers(alloc, path, files)?;
-            run(rt, alloc, accepted, &numbers, workers)
+            run(rt, alloc, accepted, &numbers, workers, gate)
         }
     }
 }
 
 /// Checks the certificate of a program's run, and runs the program if it is accepted.
-fn judged<'a, H: Threads + Wait + Sync, F: Files>(
+fn judged<'a, H: Threads + Wait + Sync, G: Gate + Sync, F: Files>(
     rt: &H,
     alloc: Global,
     program: Program,
     input: Input,
     order: &Order<'a>,
+    gate: &G,
     files: &mut F,
 ) -> Result<Ending, Failure<'a>>
     requires { (F.failed files.old).count < 18446744073709551615 }
@@ -164,19 +168,20 @@ fn judged<'a, H: Threads + Wait + Sync, F: Files>(
     let other = order.on.unwrap_or(order.certificate);
     match checked(alloc, program, input, order.certificate, other, files)? {
         Verdict::Accepted(accepted) => {
-            accepted_run(rt, alloc, &accepted, order.on, order.workers, files)
+            accepted_run(rt, alloc, &accepted, order.on, order.workers, gate, files)
         }
         Verdict::Refused(answer) => Ok(Ending::Answer(answer)),
     }
 }
 
 /// Carries out an order of `threads`. The program is read and judged first, then its input, then
-/// the certificate, then the input of `--on`.
+/// the certificate, then the input of `--on`. The gate is called as each strand of a run begins.
 #[tactic(auto, using(cilk_commands::proofs::Reading::takes_same))]
-pub fn carry_out<'a, H: Threads + Wait + Sync, F: Files, R: Read>(
+pub fn carry_out<'a, H: Threads + Wait + Sync, G: Gate + Sync, F: Files, R: Read>(
     rt: &H,
     alloc: Global,
     order: &Order<'a>,
+    gate: &G,
     files: &mut F,
     reader: &mut R,
 ) -> Result<Ending, Failure<'a>>
@@ -194,5 +199,5 @@ pub fn carry_out<'a, H: Threads + Wait + Sync, F: Files, R: Read>(
         files,
         reader,
     )?;
-    judged(rt, alloc, program, input, order, files)
+    judged(rt, alloc, program, input, order, gate, files)
 }

@@ -13,20 +13,22 @@ ghost use Rattle.cilk_tool.specs.Words.{order_in};
 
 use crate::check_serving::serve_check;
 use crate::check_words::is_helped;
-use crate::explaining::{of_ending, of_fault};
 use crate::running::{Ending, carry_out};
+use crate::stats::{Tally, Watch};
 use crate::words::read;
 use cilk_commands::reply::{Failure, REFUSED, WRONG};
 use cilk_commands::streams::send;
 use cilk_commands::{Served, complain, show, tell};
 use cilk_messages::words::WordsFault;
-use cilk_report::{Keeps, follow, is_help, serve_explained, unflagged};
+use cilk_report::{Keeps, asks, follow, is_help, serve_explained, unflagged};
 use cilk_types::event::Pos;
+use cilk_workers::gate::Open;
 use itoa::Buffer;
 use std::alloc::{AllocError, Global};
 use std::io::{Read, Write};
 use std::sync::Wait;
 use std::thread::Threads;
+use std::time::Clock;
 
 /// The refusal for a number of workers that isn't 1 to 64.
 pub const NO_POOL: u32 = 501;
@@ -42,7 +44,7 @@ const HINT: &str = "\nhint: `cilk help threads` describes `threads` and its opti
 /// helpers on threads. Both wait for their threads. Other command lines are served by
 /// [`cilk_report::serve_explained`].
 #[tactic(auto, using(cilk_commands::proofs::Reading::takes_same))]
-pub fn serve<H: Threads + Wait + Sync, F: Keeps, R: Read, O: Write, E: Write>(
+pub fn serve<H: Threads + Wait + Clock + Sync, F: Keeps, R: Read, O: Write, E: Write>(
     rt: &H,
     alloc: Global,
     words: &[&str],
@@ -77,7 +79,7 @@ fn is_threads(words: &[&str]) -> bool
 
 /// Serves `threads`.
 #[tactic(auto, using(cilk_commands::proofs::Reading::takes_same))]
-fn serve_threads<H: Threads + Wait + Sync, F: Keeps, R: Read, O: Write, E: Write>(
+fn serve_threads<H: Threads + Wait + Clock + Sync, F: Keeps, R: Read, O: Write, E: Write>(
     rt: &H,
     alloc: Global,
     words: &[&str],
@@ -95,7 +97,7 @@ fn serve_threads<H: Threads + Wait + Sync, F: Keeps, R: Read, O: Write, E: Write
     ensures most { TakesAtMost MAX_READ (R.remaining input.old) (R.remaining input.new) }
 {
     match read(alloc, words) {
-        Ok(order) => match carry_out(rt, alloc, &order, files, input) {
+        Ok(order) => match carry_out(rt, alloc, &order, &Open, files, input) {
             Ok(ending) => show_ending(alloc, &ending, out, err).status,
             Err(failure) => complain(alloc, &failure, err).status,
         },
@@ -107,10 +109,10 @@ fn serve_threads<H: Threads + Wait + Sync, F: Keeps, R: Read, O: Write, E: Write
     }
 }
 
-/// Serves a command line that can't be read as it is. If `--explain` is among the words, the others
-/// are served.
+/// Serves a command line that can't be read as it is. If `--explain` or `--stats` is among the words,
+/// the others are served.
 #[tactic(auto, using(cilk_commands::proofs::Reading::takes_same))]
-fn serve_unread<H: Threads + Wait + Sync, F: Keeps, R: Read, O: Write, E: Write>(
+fn serve_unread<H: Threads + Wait + Clock + Sync, F: Keeps, R: Read, O: Write, E: Write>(
     rt: &H,
     alloc: Global,
     words: &[&str],
@@ -131,19 +133,46 @@ fn serve_unread<H: Threads + Wait + Sync, F: Keeps, R: Read, O: Write, E: Write>
 {
     match unflagged(alloc, words) {
         Ok(plain) if plain.len() < words.len() => {
-            serve_flagged(rt, alloc, plain.as_slice(), files, input, out, err)
+            serve_flagged(rt, alloc, words, plain.as_slice(), files, input, out, err)
         }
         Ok(_) => complain(alloc, &advised(usage), err).status,
         Err(_) => complain(alloc, &Failure::Memory, err).status,
     }
 }
 
-/// Serves `threads`, then explains what was shown.
+/// Serves `threads` by the words without those that add a text, then adds it.
 #[tactic(auto, using(cilk_commands::proofs::Reading::takes_same))]
-fn serve_flagged<H: Threads + Wait + Sync, F: Keeps, R: Read, O: Write, E: Write>(
+fn serve_flagged<H: Threads + Wait + Clock + Sync, F: Keeps, R: Read, O: Write, E: Write>(
     rt: &H,
     alloc: Global,
     words: &[&str],
+    plain: &[&str],
+    files: &mut F,
+    input: &mut R,
+    out: &mut O,
+    err: &mut E,
+) -> u8
+    requires { (F.failed files.old).count < 18446744073709551615 }
+    ensures shown { ThreadsThenExplains (texts plain.now) (F.holds files.old) (R.remaining input.old) (F.failed files.old) (F.failed files.new)
+        result (O.contents out.old) (O.contents out.new) (E.contents err.old) (E.contents err.new) }
+    ensures most { TakesAtMost MAX_READ (R.remaining input.old) (R.remaining input.new) }
+{
+    if !asks(words, "--stats") {
+        return serve_watched(rt, alloc, plain, &Open, files, input, out, err);
+    }
+    match Tally::new(rt, alloc, asks(words, "--explain")) {
+        Ok(tally) => serve_watched(rt, alloc, plain, &tally, files, input, out, err),
+        Err(_) => complain(alloc, &Failure::Memory, err).status,
+    }
+}
+
+/// Serves `threads`, then adds what is known of the run.
+#[tactic(auto, using(cilk_commands::proofs::Reading::takes_same))]
+fn serve_watched<H: Threads + Wait + Sync, W: Watch, F: Keeps, R: Read, O: Write, E: Write>(
+    rt: &H,
+    alloc: Global,
+    words: &[&str],
+    watch: &W,
     files: &mut F,
     input: &mut R,
     out: &mut O,
@@ -155,14 +184,22 @@ fn serve_flagged<H: Threads + Wait + Sync, F: Keeps, R: Read, O: Write, E: Write
     ensures most { TakesAtMost MAX_READ (R.remaining input.old) (R.remaining input.new) }
 {
     match read(alloc, words) {
-        Ok(order) => match carry_out(rt, alloc, &order, files, input) {
+        Ok(order) => match carry_out(rt, alloc, &order, watch, files, input) {
             Ok(ending) => {
                 let served = show_ending(alloc, &ending, out, err);
-                follow(served, of_ending(alloc, &order, &ending, files.kept()), err)
+                follow(
+                    served,
+                    watch.behind_ending(alloc, &order, &ending, files.kept()),
+                    err,
+                )
             }
             Err(failure) => {
                 let served = complain(alloc, &failure, err);
-                follow(served, of_fault(alloc, &order, &failure, files.kept()), err)
+                follow(
+                    served,
+                    watch.behind_fault(alloc, &order, &failure, files.kept()),
+                    err,
+                )
             }
         },
         Err(WordsFault::Usage(usage)) => complain(alloc, &advised(usage), err).status,

@@ -1,6 +1,6 @@
 use Rattle.std.proofs.Common.{◌≡◌, ◌<◌, ◌≤◌, List, ap, length, rules, subst, sym, ◌∙◌}
 use Rattle.std.proofs.lemmas.Bool.{true≢false}
-use Rattle.cilk_report.proofs.Plain.{as_many, fewer, plain_texts}
+use Rattle.cilk_report.proofs.Plain.{as_many, fewer}
 use Rattle.cilk_report.proofs.Replies.{refused, silence, starved}
 use Rattle.cilk_report.specs.Explained.{About, Explained, Served, ServesThenExplains, explains_itself, unflagged}
 use Rattle.cilk_commands.specs.Replies.{Text}
@@ -27,7 +27,7 @@ returns-in-Ok-Wrong-clause-explained g c =
 pub returns-in-Ok-clause-served : goal.returns-in-Ok-clause-served
 returns-in-Ok-clause-served g c =
     let same : texts c.as_slice.result.now ≡ unflagged (texts c.args.words.now) =
-    ap texts (c.as_slice.ensures.value ∙ c.in-Ok.ensures) ∙ plain_texts c.args.words.now in
+    ap texts c.as_slice.ensures.value ∙ c.in-Ok.ensures in
     let less : length c.as_slice.result.now < length c.args.words.now = search rules in
     Explained c.requires.other (fewer _ _ same less)
     (subst (λ (ws : List Text). ServesThenExplains ws (g.F.Files.holds c.args.files.now) (g.R.Read.remaining c.args.input.now)
@@ -37,7 +37,7 @@ returns-in-Ok-clause-served g c =
 pub returns-in-Ok-clause-explained : goal.returns-in-Ok-clause-explained
 returns-in-Ok-clause-explained g c = λ _ _.
     let same : texts c.as_slice.result.now ≡ unflagged (texts c.args.words.now) =
-    ap texts (c.as_slice.ensures.value ∙ c.in-Ok.ensures) ∙ plain_texts c.args.words.now in
+    ap texts c.as_slice.ensures.value ∙ c.in-Ok.ensures in
     subst (λ (ws : List Text). ServesThenExplains ws (g.F.Files.holds c.args.files.now) (g.R.Read.remaining c.args.input.now)
     (g.F.Files.failed c.args.files.now) (g.F.Files.failed c.serve_flagged.new.files) c.serve_flagged.result (g.O.Write.contents c.args.out.now) (g.O.Write.contents c.serve_flagged.new.out)
     (g.E.Write.contents c.args.err.now) (g.E.Write.contents c.serve_flagged.new.err)) same c.serve_flagged.ensures.shown
@@ -49,7 +49,7 @@ returns-in-Ok-2-clause-served g c =
 pub returns-in-Ok-2-clause-explained : goal.returns-in-Ok-2-clause-explained
 returns-in-Ok-2-clause-explained g c = λ _ less.
     let same : texts c.in-Ok-2.field-0.items ≡ unflagged (texts c.args.words.now) =
-    ap texts c.in-Ok-2.ensures ∙ plain_texts c.args.words.now in
+    c.in-Ok-2.ensures in
     let many : length c.args.words.now ≤ length c.in-Ok-2.field-0.items = search rules in
     absurd (as_many _ _ same many less)
 

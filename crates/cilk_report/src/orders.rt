@@ -1,0 +1,157 @@
+//! What puts two events of a run in order, in words.
+
+use cilk_findings::scene::Scene;
+use cilk_messages::place::locate;
+use cilk_messages::sentence::{Sentence, say};
+use cilk_types::event::Event;
+use cilk_types::invocation::Invocation;
+use std::alloc::AllocError;
+
+/// Adds what puts two events in order, the earlier first: the sync that waits for a child around the
+/// earlier one, or the order of the text.
+pub fn push_order(
+    scene: &Scene<'_>,
+    report: &mut String,
+    earlier: usize,
+    later: usize,
+) -> Result<(), AllocError> {
+    let first = scene.frame_of(earlier).unwrap_or(0);
+    let second = scene.frame_of(later).unwrap_or(0);
+    let common = scene.common(first, second);
+    match spawned_below(scene, common, first) {
+        Some(child) => {
+            let order = waited_for(scene, common, child, later);
+            scene.push(report, &order)
+        }
+        None => {
+            if first == common && second == common {
+                let same = say("`{}` makes the two one after the other");
+                return scene.push(report, &same.word(scene.function_of(common)));
+            }
+            scene.push(report, &ahead(scene, common, earlier))?;
+            scene.push(report, &invoked(scene, common, later))
+        }
+    }
+}
+
+/// Returns whether a sync puts two events in order, the earlier first.
+pub fn is_synced(scene: &Scene<'_>, earlier: usize, later: usize) -> bool {
+    let first = scene.frame_of(earlier).unwrap_or(0);
+    let second = scene.frame_of(later).unwrap_or(0);
+    spawned_below(scene, scene.common(first, second), first).is_some()
+}
+
+// The outermost spawned frame around a frame, below another one.
+fn spawned_below(scene: &Scene<'_>, common: usize, frame: usize) -> Option<usize> {
+    let mut found = None;
+    let mut at = frame;
+    for _level in 0..scene.run.replay.frames.len() {
+        if at == common {
+            break;
+        }
+        let note = scene.frame(at)?;
+        if note.how == Invocation::Spawn {
+            found = Some(at);
+        }
+        at = note.parent;
+    }
+    found
+}
+
+// The sync that waits for a spawned child before a later event.
+fn waited_for<'a>(scene: &Scene<'a>, common: usize, child: usize, later: usize) -> Sentence<'a> {
+    let parent = scene.above(child).unwrap_or(0);
+    let spawn = scene.invoked_at(child);
+    if scene.is_of_loop(child) {
+        return say("the `cilk_for` on line {} waits for its turns before line {}")
+            .count(line(scene, spawn))
+            .count(line_of(scene, later));
+    }
+    let sync = sync_behind(scene, parent, child);
+    let at = sync.and_then(|index| scene.run.replay.place(&scene.case.map, index));
+    match at {
+        Some(at) if is_sync_word(scene, at) => {
+            say("the `cilk_sync` on line {} waits for the child spawned on line {}")
+                .count(line(scene, at))
+                .count(line(scene, spawn))
+        }
+        Some(at) if scene.is_of_loop(parent) => {
+            say("each turn of the `cilk_for` on line {} waits for its children at its end").count(
+                line(scene, at),
+            )
+        }
+        Some(at) => {
+            say("`{}` waits for its children at its end (line {})")
+                .word(scene.function_of(parent))
+                .count(line(scene, at))
+        }
+        None => say("the child spawned on line {} ends first").count(line(scene, spawn)),
+    }
+}
+
+// The first sync of a frame behind a child.
+fn sync_behind(scene: &Scene<'_>, parent: usize, child: usize) -> Option<usize> {
+    let ended = scene.frame(child)?.ended?;
+    let events = scene.run.trace.as_slice().iter().enumerate();
+    for (index, event) in events.skip(ended) {
+        if matches!(event, Event::Sync) && scene.frame_of(index) == Some(parent) {
+            return Some(index);
+        }
+    }
+    None
+}
+
+fn is_sync_word(scene: &Scene<'_>, at: usize) -> bool {
+    match scene.case.text.get(at..) {
+        Some(text) => text.starts_with(b"cilk_sync"),
+        None => false,
+    }
+}
+
+// An earlier event in a frame, or in a child that it called.
+fn ahead<'a>(scene: &Scene<'a>, common: usize, earlier: usize) -> Sentence<'a> {
+    let frame = scene.frame_of(earlier).unwrap_or(0);
+    match scene.child_of(common, frame) {
+        Some(child) if frame != common => {
+            let words = if scene.is_of_loop(child) {
+                "the `cilk_for` on line {} ends before "
+            } else {
+                "the call on line {} returns before "
+            };
+            say(words).count(line(scene, scene.invoked_at(child)))
+        }
+        _ => say("line {} comes before ").count(line_of(scene, earlier)),
+    }
+}
+
+// A later event in a frame, or the invocation of the child that it is in.
+fn invoked<'a>(scene: &Scene<'a>, common: usize, later: usize) -> Sentence<'a> {
+    let frame = scene.frame_of(later).unwrap_or(0);
+    let child = match scene.child_of(common, frame) {
+        Some(child) if frame != common => child,
+        _ => return say("line {}").count(line_of(scene, later)),
+    };
+    let is_spawned = match scene.frame(child) {
+        Some(note) => note.how == Invocation::Spawn,
+        None => false,
+    };
+    let words = if scene.is_of_loop(child) {
+        "the `cilk_for` on line {}"
+    } else if is_spawned {
+        "the spawn on line {}"
+    } else {
+        "the call on line {}"
+    };
+    say(words).count(line(scene, scene.invoked_at(child)))
+}
+
+// The line of a byte.
+fn line(scene: &Scene<'_>, at: usize) -> usize {
+    locate(scene.case.text, at).line
+}
+
+// The line of an event.
+fn line_of(scene: &Scene<'_>, index: usize) -> usize {
+    let at = scene.run.replay.place(&scene.case.map, index);
+    line(scene, at.unwrap_or(0))
+}

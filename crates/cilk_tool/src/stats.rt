@@ -1,0 +1,289 @@
+//! The statistics of a run by workers: the table of `threads --stats`.
+
+use crate::explaining::{of_ending, of_fault};
+use crate::running::Ending;
+use crate::words::Order;
+use cilk_commands::reply::{Answer, Failure};
+use cilk_findings::fault::CaseFault;
+use cilk_findings::runs::Run;
+use cilk_messages::words::Origin;
+use cilk_report::{CaseTexts, Kept, push_cells};
+use cilk_shared::yard::Segment;
+use cilk_types::event::{Event, StrandNo};
+use cilk_workers::gate::{Gate, Open};
+use std::alloc::{AllocError, Global};
+use std::sync::atomic::{AtomicU32, AtomicU64, Ordering};
+use std::time::{Clock, Instant};
+
+// The most strands of a run: each has an event.
+const STRANDS: u32 = 1_000_000;
+
+/// A gate that knows something of the run when it has ended.
+pub trait Watch: Gate + Sync {
+    /// Returns the text that follows an ending.
+    fn behind_ending(
+        &self,
+        alloc: Global,
+        order: &Order<'_>,
+        ending: &Ending,
+        kept: &Kept,
+    ) -> Result<String, CaseFault>;
+
+    /// Returns the text that follows a failure.
+    fn behind_fault(
+        &self,
+        alloc: Global,
+        order: &Order<'_>,
+        failure: &Failure<'_>,
+        kept: &Kept,
+    ) -> Result<String, CaseFault>;
+}
+
+/// Without statistics, the reply is explained.
+impl Watch for Open {
+    fn behind_ending(
+        &self,
+        alloc: Global,
+        order: &Order<'_>,
+        ending: &Ending,
+        kept: &Kept,
+    ) -> Result<String, CaseFault> {
+        of_ending(alloc, order, ending, kept)
+    }
+
+    fn behind_fault(
+        &self,
+        alloc: Global,
+        order: &Order<'_>,
+        failure: &Failure<'_>,
+        kept: &Kept,
+    ) -> Result<String, CaseFault> {
+        of_fault(alloc, order, failure, kept)
+    }
+}
+
+/// Notes which worker begins each strand, and when the first strand begins.
+#[derive(Drop)]
+pub struct Tally<'a, H> {
+    clock: &'a H,
+    start: Option<Instant>,
+    explains: bool,
+    // The microseconds from the start until the run begins.
+    begun: AtomicU64,
+    // By strands: the number of the worker, from 1; 0 for none.
+    workers: Vec<AtomicU32>,
+}
+
+impl<'a, H: Clock> Tally<'a, H> {
+    /// Begins a tally.
+    pub fn new(clock: &'a H, alloc: Global, explains: bool) -> Result<Self, AllocError> {
+        let mut workers = Vec::new(alloc);
+        for _ in 0..STRANDS {
+            workers.push(AtomicU32::new(0))?;
+        }
+        Ok(Tally {
+            clock,
+            start: Instant::now(clock).ok(),
+            explains,
+            begun: AtomicU64::new(0),
+            workers,
+        })
+    }
+
+    // The microseconds since the start, if the clock can be read.
+    fn micros(&self) -> Option<u64> {
+        let start = self.start?;
+        let passed = start.elapsed(self.clock).ok()?;
+        let seconds = passed.as_secs().saturating_mul(1_000_000);
+        Some(seconds.saturating_add(u64::from(passed.subsec_micros())))
+    }
+
+    // The worker that began a strand, from 1; 0 for none.
+    fn worker_of(&self, strand: usize) -> usize {
+        match strand
+            .checked_sub(1)
+            .and_then(|place| self.workers.get(place))
+        {
+            Some(worker) => worker.load(Ordering::SeqCst) as usize,
+            None => 0,
+        }
+    }
+}
+
+impl<H: Clock> Gate for Tally<'_, H> {
+    fn at(&self, worker: u32, strand: StrandNo, _segment: &Segment) {
+        if strand == 1 {
+            self.begun
+                .store(self.micros().unwrap_or(0), Ordering::SeqCst);
+        }
+        if let Some(place) = self.workers.get(strand.saturating_sub(1) as usize) {
+            place.store(worker, Ordering::SeqCst);
+        }
+    }
+}
+
+impl<H: Clock + Sync> Watch for Tally<'_, H> {
+    fn behind_ending(
+        &self,
+        alloc: Global,
+        order: &Order<'_>,
+        ending: &Ending,
+        kept: &Kept,
+    ) -> Result<String, CaseFault> {
+        let ended = self.micros();
+        let mut text = if self.explains {
+            of_ending(alloc, order, ending, kept)?
+        } else {
+            String::new(alloc)
+        };
+        if matches!(ending, Ending::Answer(Answer::Outcome { .. })) {
+            self.push_table(alloc, &mut text, order, kept)?;
+            self.push_seconds(alloc, &mut text, ended)?;
+        }
+        Ok(text)
+    }
+
+    fn behind_fault(
+        &self,
+        alloc: Global,
+        order: &Order<'_>,
+        failure: &Failure<'_>,
+        kept: &Kept,
+    ) -> Result<String, CaseFault> {
+        if self.explains {
+            of_fault(alloc, order, failure, kept)
+        } else {
+            Ok(String::new(alloc))
+        }
+    }
+}
+
+/// The strands that a worker began, and how many of these were stolen continuations.
+#[derive(Clone, Copy)]
+struct Count {
+    strands: usize,
+    stolen: usize,
+}
+
+const NOTHING: Count = Count {
+    strands: 0,
+    stolen: 0,
+};
+
+impl<H: Clock> Tally<'_, H> {
+    // A row for each worker, and one for all. `kept` has the program and its input.
+    fn push_table(
+        &self,
+        alloc: Global,
+        text: &mut String,
+        order: &Order<'_>,
+        kept: &Kept,
+    ) -> Result<(), CaseFault> {
+        let Some(texts) = CaseTexts::of(Origin::File(order.program), order.input, kept)? else {
+            return Err(CaseFault::Unfit);
+        };
+        let case = texts.case(alloc)?;
+        let run = Run::of(&case)?;
+        let mut counts = Vec::new(alloc);
+        counts.resize((order.workers as usize).saturating_add(1), NOTHING)?;
+        let mut spawns = Vec::new(alloc);
+        self.count(&run, &mut counts, &mut spawns)?;
+        push_counts(alloc, text, counts.as_slice())?;
+        Ok(())
+    }
+
+    // Counts the strands of a run by their workers; in the first place all of them. `spawns` has the
+    // strand of each spawn whose child is open, and 0 for a call.
+    fn count(
+        &self,
+        run: &Run,
+        counts: &mut Vec<Count>,
+        spawns: &mut Vec<usize>,
+    ) -> Result<(), AllocError> {
+        let mut strand: usize = 0;
+        for event in run.trace.as_slice() {
+            let spawn = match event {
+                Event::Spawn { .. } => {
+                    spawns.push(strand)?;
+                    continue;
+                }
+                Event::Call { .. } => {
+                    spawns.push(0)?;
+                    continue;
+                }
+                Event::Resume { .. } => spawns.pop().unwrap_or(0),
+                Event::Begin { .. } | Event::Sync => 0,
+                _ => continue,
+            };
+            strand = strand.saturating_add(1);
+            let worker = self.worker_of(strand);
+            let is_stolen = spawn > 0 && self.worker_of(spawn) != worker;
+            raise(counts, worker, is_stolen);
+            if worker > 0 {
+                raise(counts, 0, is_stolen);
+            }
+        }
+        Ok(())
+    }
+
+    // The seconds from the run's begin to its end.
+    fn push_seconds(
+        &self,
+        alloc: Global,
+        text: &mut String,
+        ended: Option<u64>,
+    ) -> Result<(), AllocError> {
+        let Some(ended) = ended else {
+            return Ok(());
+        };
+        let passed = ended.saturating_sub(self.begun.load(Ordering::SeqCst));
+        let seconds = passed / 1_000_000;
+        let rest = 1_000_000 + passed % 1_000_000;
+        let rest = format!(in alloc; "{rest}")?;
+        let rest = rest.as_str().strip_prefix("1").unwrap_or("");
+        write!(text, "seconds {seconds}.{rest}\n")
+    }
+}
+
+fn raise(counts: &mut Vec<Count>, worker: usize, is_stolen: bool) {
+    if let Some(count) = counts.get_mut(worker) {
+        count.strands = count.strands.saturating_add(1);
+        if is_stolen {
+            count.stolen = count.stolen.saturating_add(1);
+        }
+    }
+}
+
+fn push_counts(alloc: Global, text: &mut String, counts: &[Count]) -> Result<(), AllocError> {
+    push_cells(text, "worker", &["strands", "stolen"], WIDTH, false)?;
+    let [all, workers @ ..] = counts else {
+        return Ok(());
+    };
+    for (number, count) in workers.iter().enumerate() {
+        let number = number.saturating_add(1);
+        let name = format!(in alloc; "{number}")?;
+        push_count(alloc, text, name.as_str(), count)?;
+    }
+    push_count(alloc, text, "all", all)
+}
+
+// The width of the first column.
+const WIDTH: usize = 6;
+
+fn push_count(
+    alloc: Global,
+    text: &mut String,
+    name: &str,
+    count: &Count,
+) -> Result<(), AllocError> {
+    let Count { strands, stolen } = *count;
+    let strands = format!(in alloc; "{strands}")?;
+    let stolen = format!(in alloc; "{stolen}")?;
+    push_cells(
+        text,
+        name,
+        &[strands.as_str(), stolen.as_str()],
+        WIDTH,
+        false,
+    )
+}
