@@ -1,0 +1,5 @@
+int main() {
+    int n;
+    n = __cilkrts_get_nworkers();
+    return n;
+}
