@@ -5,13 +5,13 @@ _cilk() {
         1:*) words="explain settle run certify check threads play schedule measure judge help --help --version" files= ;;
         2:help:*) words="explain settle run certify check threads play schedule measure judge" files= ;;
         *:--input | *:--on | *:--sites) ;;
-        *:--workers | *:--helpers | *:explain:*) files= ;;
-        *:settle:*) words="--input --short --json --help" ;;
+        *:--workers | *:--helpers | *:--why | *:explain:*) files= ;;
+        *:settle:*) words="--input --short --json --why --help" ;;
         *:run:*) words="--input --explain --help" ;;
         *:certify:*) words="--input --explain --help" ;;
         *:check:*) words="--input --helpers --explain --help" ;;
-        *:threads:*) words="--workers --input --on --explain --help" ;;
-        *:play:*) words="--workers --input --explain --help" ;;
+        *:threads:*) words="--workers --input --on --stats --explain --help" ;;
+        *:play:*) words="--workers --input --trace --explain --help" ;;
         *:schedule:*) words="--input --explain --help" ;;
         *:measure:*) words="--input --csv --svg --dot --explain --help" ;;
         *:judge:*) words="--sites --explain --help" ;;

@@ -6,13 +6,13 @@ _cilk() {
         2:*) compadd -- explain settle run certify check threads play schedule measure judge help --help --version; return ;;
         3:help:*) compadd -- explain settle run certify check threads play schedule measure judge; return ;;
         *:--input | *:--on | *:--sites) _files; return ;;
-        *:--workers | *:--helpers | *:explain:*) return ;;
-        *:settle:*) words_of="--input --short --json --help" ;;
+        *:--workers | *:--helpers | *:--why | *:explain:*) return ;;
+        *:settle:*) words_of="--input --short --json --why --help" ;;
         *:run:*) words_of="--input --explain --help" ;;
         *:certify:*) words_of="--input --explain --help" ;;
         *:check:*) words_of="--input --helpers --explain --help" ;;
-        *:threads:*) words_of="--workers --input --on --explain --help" ;;
-        *:play:*) words_of="--workers --input --explain --help" ;;
+        *:threads:*) words_of="--workers --input --on --stats --explain --help" ;;
+        *:play:*) words_of="--workers --input --trace --explain --help" ;;
         *:schedule:*) words_of="--input --explain --help" ;;
         *:measure:*) words_of="--input --csv --svg --dot --explain --help" ;;
         *:judge:*) words_of="--sites --explain --help" ;;
