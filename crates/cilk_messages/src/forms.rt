@@ -119,14 +119,23 @@ fn of_words(site: &Site<'_, '_>) -> Option<&'static str> {
     }
     let ahead = tokens.word_back(number, 1);
     let of_ahead = if site.fits("0 (") {
-        word_of_c(ahead)
+        undeclared(site, ahead)
     } else {
         other_word(ahead)
     };
     match (of_ahead, closed_head(tokens, number)) {
         (Some(cure), _) => Some(cure),
-        (None, Some(named)) => word_of_c(tokens.word(named)),
+        (None, Some(named)) => undeclared(site, tokens.word(named)),
         (None, None) => other_word(tokens.word(named?)),
+    }
+}
+
+// A word of C that the text doesn't declare.
+fn undeclared<'a>(site: &Site<'_, 'a>, word: &'a [u8]) -> Option<&'static str> {
+    if site.is_own(word) {
+        None
+    } else {
+        word_of_c(word)
     }
 }
 

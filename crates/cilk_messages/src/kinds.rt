@@ -4,7 +4,7 @@ use crate::around::{byte_at, word_after};
 
 // How a file of each kind begins, and what to do with it.
 const KINDS: &str = "\
-cilktrace-bin => this is a trace in the binary form: `recorder/trace2text FILE` makes text of it, which `cilk judge TRACE` reads
+cilktrace-bin => this is a trace in the binary form: `cilk judge TRACE` reads it
 cilktrace  => this is a trace: `cilk judge TRACE` reads it
 cilksites  => this is a table of sites: `cilk judge TRACE --sites FILE` reads it
 cilkcert  => this is a certificate: `cilk check PROGRAM CERTIFICATE` reads it, after the text of the program

@@ -223,7 +223,7 @@ impl<'t, 'a> Site<'t, 'a> {
     }
 
     // Whether the text may declare a word as a name of its own.
-    fn is_own(&self, word: &'a [u8]) -> bool {
+    pub fn is_own(&self, word: &'a [u8]) -> bool {
         self.own.binary_search(&word).is_ok()
     }
 

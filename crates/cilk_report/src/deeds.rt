@@ -361,7 +361,7 @@ impl<'a> Deeds<'a> {
         }
         if self.more > 0 {
             self.scene
-                .push(report, &say("and {} more\n").count(self.more))?;
+                .push(report, &say("and {} more lines\n").count(self.more))?;
         }
         Ok(())
     }
@@ -392,12 +392,8 @@ impl<'a> Deeds<'a> {
                 self.with_line(" waits at the sync of line {}", " waits at a sync", at)
             }
             Deed::Stops(number, at) => {
-                self.with_line(
-                    " stops behind line {} by fault {}",
-                    " stops by fault {}",
-                    at,
-                )
-                .count(number as usize)
+                self.with_line(" stops at line {} by fault {}", " stops by fault {}", at)
+                    .count(number as usize)
             }
             Deed::Ends(twin) => return self.push_end(report, twin),
         };
@@ -440,6 +436,9 @@ impl<'a> Deeds<'a> {
             return report.push_str(" ends a child");
         };
         report.push_str(" ends ")?;
+        if self.scene.halves(frame) {
+            report.push_str("some turns of ")?;
+        }
         self.scene.push_frame(report, frame)?;
         if frame == 0 || self.scene.is_of_loop(frame) {
             return Ok(());

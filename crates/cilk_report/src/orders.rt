@@ -63,7 +63,12 @@ fn waited_for<'a>(scene: &Scene<'a>, common: usize, child: usize, later: usize) 
     let parent = scene.above(child).unwrap_or(0);
     let spawn = scene.invoked_at(child);
     if scene.is_of_loop(child) {
-        return say("the `cilk_for` on line {} waits for its turns before line {}")
+        let words = if is_in_loop_of(scene, child, later) {
+            "an earlier run of the `cilk_for` on line {} has ended, with all its turns"
+        } else {
+            "the `cilk_for` on line {} waits for its turns before line {}"
+        };
+        return say(words)
             .count(line(scene, spawn))
             .count(line_of(scene, later));
     }
@@ -87,6 +92,24 @@ fn waited_for<'a>(scene: &Scene<'a>, common: usize, child: usize, later: usize) 
         }
         None => say("the child spawned on line {} ends first").count(line(scene, spawn)),
     }
+}
+
+// Whether an event is in a turn of the loop that a frame is of, in this run of the loop or another.
+fn is_in_loop_of(scene: &Scene<'_>, child: usize, event: usize) -> bool {
+    let Some(body) = scene.frame(child).map(|note| note.body) else {
+        return false;
+    };
+    let mut at = scene.frame_of(event);
+    for _level in 0..scene.run.replay.frames.len() {
+        let Some(note) = at.and_then(|frame| scene.frame(frame)) else {
+            return false;
+        };
+        if note.body == body {
+            return true;
+        }
+        at = scene.above(at.unwrap_or(0));
+    }
+    false
 }
 
 // The first sync of a frame behind a child.
@@ -150,8 +173,11 @@ fn line(scene: &Scene<'_>, at: usize) -> usize {
     locate(scene.case.text, at).line
 }
 
-// The line of an event.
+// The line of an event. That of a child's result is the line that invokes the child.
 fn line_of(scene: &Scene<'_>, index: usize) -> usize {
-    let at = scene.run.replay.place(&scene.case.map, index);
+    let at = match scene.frame_of(index) {
+        Some(frame) if scene.run.gives_result(index) => Some(scene.invoked_at(frame)),
+        _ => scene.run.replay.place(&scene.case.map, index),
+    };
     line(scene, at.unwrap_or(0))
 }
