@@ -1,14 +1,11 @@
 -- The last values of global reducers.
 --
 -- - `finals_next`, `finals_same`: one more value; for other views with the same values.
-use Rattle.std.proofs.Common.{◌≡◌, ℕ, suc, ◌+◌, ◌<◌, ◌&&◌, cond, List, [], ◌∷◌, ◌++◌, length, take, get_or, Option, None, refl, sym, ap, ◌∙◌, arith, length-take}
+use Rattle.std.proofs.Common.{◌≡◌, ℕ, suc, ◌+◌, ◌<◌, List, [], ◌∷◌, ◌++◌, length, take, get_or, refl, sym, ap, ◌∙◌, arith, length-take}
 use Rattle.std.proofs.lemmas.List.{take_more}
-use Rattle.cilk_types.specs.declared.event.Instance.{Instance}
 use Rattle.cilk_types.specs.declared.outcome.Final.{Final}
 use Rattle.cilk_monoid.specs.declared.kind.MonoidKind.{MonoidKind}
-use Rattle.cilk_monoid.specs.Kinds.{final_of, same_kind}
-use Rattle.cilk_monoid.specs.Ranges.{same_instance}
-use Rattle.cilk_monoid.specs.Values.{ViewValue}
+use Rattle.cilk_monoid.specs.Kinds.{final_of}
 use Rattle.cilk_hypermap.specs.Hypermap.{value_in}
 use Rattle.cilk_hypermap.specs.declared.hypermap.Hypermap.{Hypermap}
 use Rattle.cilk_program.specs.SerialRun.{global_reducer}

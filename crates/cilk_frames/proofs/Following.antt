@@ -63,6 +63,11 @@ loop_begins code inputs c0 answer left0 fits = record {
       (h.0, heard c0.owed answer code inputs c0 h.0 answers l _ fits h.1 ∙ ap (λ n. Reaches (b (word_in answer ∷ answers) n)) e);
 }
 
+-- the same, of an equal cursor and as many ticks
+pub loop_still : (code : CodeView) (inputs : List ℤ) (c0 : CursorView) (answer : Answer) (left0 : ℕ) (c c' : CursorView) (left left' : ℕ) → c' ≡ c → left' ≡ left → Loop code inputs c0 answer left0 c left → Loop code inputs c0 answer left0 c' left'
+loop_still code inputs c0 answer left0 c c' left left' cursor ticks loop =
+    subst (λ n. Loop code inputs c0 answer left0 c' n) (sym ticks) (subst (λ (c : CursorView). Loop code inputs c0 answer left0 c left) (sym cursor) loop)
+
 -- a run that reaches a request begins with a move
 moves : (m : Setting) (n place : ℕ) (stack : List ℤ) (held : ℤ) (answers : List ℤ) (left : ℕ) (k : OpenAsk) → exec m n place stack held answers left ≡ Reaches k → (n' : ℕ) × (going m.room (move m (slice_get m.code.instrs place) place stack held left) answers (exec m n') ≡ Reaches k)
 moves m zero place stack held answers left k h = cc
@@ -101,7 +106,7 @@ module _ (code : CodeView) (inputs : List ℤ) (c0 : CursorView) (answer : Answe
       subst (λ x. (n : ℕ) × (going c.room (with_left x l) answers (then_on n) ≡ Reaches (b (word_in answer ∷ answers) (l + (left0 - left_of x))))) is
       (n.0, ap (λ x. going c.room x answers (then_on n.0)) (sym (s.same left l on')) ∙ n.1 ∙ ap (λ k. Reaches (b (word_in answer ∷ answers) k)) e)
 
-  less_on : (x : Move) → here left ≡ x → left_of x ≤ left
+  pub less_on : (x : Move) → here left ≡ x → left_of x ≤ left
   less_on x is = subst (λ x. left_of x ≤ left) is ((straight m c.place c.stack c.held (slice_get code.instrs c.place)).less left)
 
   owes_on : (x : Move) → here left ≡ x → OwesAnswer x

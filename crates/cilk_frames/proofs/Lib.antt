@@ -1,3 +1,4 @@
+pub mod Applied
 pub mod Asking
 pub mod Effort
 pub mod Finals
@@ -5,4 +6,5 @@ pub mod Following
 pub mod Given
 pub mod Links
 pub mod Middle
+pub mod Popped
 pub mod Straight

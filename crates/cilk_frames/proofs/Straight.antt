@@ -87,6 +87,22 @@ tick_same g f (suc l) l' h = let e : l' + (suc l - left_of (g l)) ≡ suc l' = o
 straight_ticked : (g : ℕ → Move) → Flat g → Straight (λ l. ticked l g)
 straight_ticked g f = record { owes = tick_owes g f; less = tick_less g f; same = tick_same g f }
 
+-- a tick, and then what may use more of them
+then_owes : (g : ℕ → Move) → Straight g → (l : ℕ) → OwesAnswer (ticked l g)
+then_owes g s zero = λ h. h
+then_owes g s (suc l) = s.owes l
+
+then_less : (g : ℕ → Move) → Straight g → (l : ℕ) → left_of (ticked l g) ≤ l
+then_less g s zero = omega arith
+then_less g s (suc l) = omega (arith, s.less l)
+
+then_same : (g : ℕ → Move) → Straight g → (l l' : ℕ) → IsOnward (ticked l g) → ticked (l' + (l - left_of (ticked l g))) g ≡ with_left (ticked l g) l'
+then_same g s zero l' h = absurd h
+then_same g s (suc l) l' h = let e : l' + (suc l - left_of (g l)) ≡ suc (l' + (l - left_of (g l))) = omega (arith, s.less l) in ap (λ n. ticked n g) e ∙ s.same l l' h
+
+straight_then : (g : ℕ → Move) → Straight g → Straight (λ l. ticked l g)
+straight_then g s = record { owes = then_owes g s; less = then_less g s; same = then_same g s }
+
 straight_stuck : Straight (λ l. Stuck)
 straight_stuck = record { owes = λ l. tt; less = λ l. omega arith; same = λ l l' h. absurd h }
 
@@ -175,6 +191,12 @@ module _ (m : Setting) (place : ℕ) (stack : List ℤ) (held : ℤ) where
       straight_two stack (λ x y rest l. or_stops DivisionByZero (apply op x y) l (λ v. ticked l (Goes (place + 1) (v ∷ rest) held)))
       (λ x y rest. straight_check DivisionByZero (apply op x y) (λ v l. ticked l (Goes (place + 1) (v ∷ rest) held)) (λ v. straight_then_goes (place + 1) (v ∷ rest) held))
 
+  straight_apply_number : (op : _) (n : _) → Straight (move m (Some (instrs.ApplyNumber op n)) place stack held)
+  straight_apply_number op n =
+      straight_top stack (λ x rest l. ticked l (λ l. or_stops DivisionByZero (apply op x n) l (λ v. ticked l (Goes (place + 2) (v ∷ rest) held))))
+      (λ x rest. straight_then (λ l. or_stops DivisionByZero (apply op x n) l (λ v. ticked l (Goes (place + 2) (v ∷ rest) held)))
+      (straight_check DivisionByZero (apply op x n) (λ v l. ticked l (Goes (place + 2) (v ∷ rest) held)) (λ v. straight_then_goes (place + 2) (v ∷ rest) held)))
+
   straight_input : Straight (move m (Some instrs.Input) place stack held)
   straight_input =
       straight_top stack (λ x rest l. or_stops InputOutside (input_at m.inputs x) l (λ v. ticked l (Goes (place + 1) (v ∷ rest) held)))
@@ -222,6 +244,7 @@ module _ (m : Setting) (place : ℕ) (stack : List ℤ) (held : ℤ) where
   straight (Some instrs.Negate) = straight_change (λ v. word_of (neg_ℤ v))
   straight (Some instrs.Not) = straight_change (λ v. truth_of (is_zero v))
   straight (Some (instrs.Apply op)) = straight_apply op
+  straight (Some (instrs.ApplyNumber op n)) = straight_apply_number op n
   straight (Some instrs.Truth) = straight_change truth
   straight (Some (instrs.Value r)) = straight_then_waits (asks.Value r) Word (place + 1) stack held refl
   straight (Some instrs.Input) = straight_input
@@ -245,6 +268,9 @@ module _ (m : Setting) (place : ℕ) (stack : List ℤ) (held : ℤ) where
   straight (Some (instrs.SkipUnlessOne n)) = straight_skip_unless_one n
   straight (Some (instrs.Jump n)) = straight_goes (place + 1 + n) stack held
   straight (Some (instrs.JumpBack n)) = straight_goes (place - n) stack held
+  straight (Some (instrs.JumpBackUnlessZero n)) =
+      straight_top stack (λ v rest l. if is_zero v then Goes (place + 1) rest held l else Goes (place - n) rest held l)
+      (λ v rest. straight_if (is_zero v) (Goes (place + 1) rest held) (Goes (place - n) rest held) (straight_goes (place + 1) rest held) (straight_goes (place - n) rest held))
   straight (Some instrs.SetResult) = straight_top stack (λ v rest. Goes (place + 1) rest v) (λ v rest. straight_goes (place + 1) rest v)
   straight (Some instrs.Sync) = straight_none stack (Waits asks.Sync Nothing (place + 1) [] held) (straight_waits asks.Sync Nothing (place + 1) [] held refl)
   straight (Some instrs.GiveResult) =

@@ -1,5 +1,5 @@
 -- The outcome of a run, given its cells and views.
-use Rattle.std.specs.Prelude.{◌≡◌, ◌&&◌, ℕ, suc, false, cond, ℤ, List, [], ◌∷◌, length, take, Option, Some, None}
+use Rattle.std.specs.Prelude.{◌≡◌, ℕ, suc, false, ℤ, List, [], ◌∷◌, length, take, Option, Some, None}
 use Rattle.std.specs.Option.{option_map}
 use Rattle.cilk_types.specs.declared.event.Instance.{Instance}
 use Rattle.cilk_types.specs.declared.outcome.Final.{Final}
@@ -7,9 +7,8 @@ use Rattle.cilk_types.specs.declared.outcome.Final.TheVariants as finals
 use Rattle.cilk_types.specs.declared.outcome.Outcome.{Outcome}
 use Rattle.cilk_monoid.specs.declared.kind.MonoidKind.{MonoidKind}
 use Rattle.cilk_monoid.specs.declared.kind.MonoidKind.TheVariants.{Append}
-use Rattle.cilk_monoid.specs.Kinds.{final_of, same_kind}
+use Rattle.cilk_monoid.specs.Kinds.{final_of}
 use Rattle.cilk_monoid.specs.Ranges.{same_instance}
-use Rattle.cilk_monoid.specs.Values.{ViewValue}
 use Rattle.cilk_hypermap.specs.Hypermap.{view_in, value_in}
 use Rattle.cilk_hypermap.specs.Views.{output}
 use Rattle.cilk_hypermap.specs.declared.hypermap.Hypermap.{Hypermap}

@@ -1,6 +1,5 @@
 -- The meaning of one executed instruction.
 use Rattle.std.specs.Prelude.{◌≡◌, ℕ, suc, ◌+◌, ◌-◌, ◌*◌, ◌<◌, Bool, true, false, if◌then◌else◌, ℤ, List, [], ◌∷◌, length, slice_get}
-use Rattle.cilk_program.specs.declared.ask.Ask.{Ask}
 use Rattle.cilk_lower.specs.declared.code.Instr.{Instr}
 use Rattle.cilk_lower.specs.declared.code.Owed.{Owed}
 use Rattle.cilk_lower.specs.declared.code.Owed.TheVariants.{Nothing, Word}
@@ -10,6 +9,7 @@ use Rattle.cilk_frames.specs.declared.cursor.Answer.{Answer}
 use Rattle.cilk_frames.specs.declared.cursor.Answer.TheVariants.{Done, Value}
 use Rattle.cilk_frames.specs.declared.moves.Moved.{Moved}
 use Rattle.cilk_frames.specs.declared.moves.Moved.TheVariants as did
+use Rattle.cilk_frames.specs.AskSlot.{in_full}
 use Rattle.cilk_frames.specs.Cursor.{CursorView}
 use Rattle.cilk_frames.specs.Following.{setting_at}
 
@@ -21,17 +21,17 @@ move_at code inputs c left = move (setting_at inputs code c) (slice_get code.ins
 abbrev pub invoking : CodeView → ℕ → CursorView → ℕ → Move
 invoking code number c left = on_some (slice_get code.sites number) (λ s. on_words s.words [] c.stack (λ words rest. on_none rest (Waits (invoked s words) c.owed c.place [] c.held left)))
 
--- the machine's move that an executed instruction and its request represent
-abbrev pub moved : CodeView → Moved → Ask → CursorView → ℕ → Move
-moved code did.Goes k c left = Goes c.place c.stack c.held left
-moved code did.Waits k c left = Waits k c.owed c.place c.stack c.held left
-moved code did.Stops k c left = Stops k left
-moved code (did.Invokes number) k c left = invoking code number c left
+-- the machine's move that an executed instruction represents
+abbrev pub moved : CodeView → Moved → CursorView → ℕ → Move
+moved code did.Goes c left = Goes c.place c.stack c.held left
+moved code (did.Waits b) c left = Waits (in_full b) c.owed c.place c.stack c.held left
+moved code (did.Stops b) c left = Stops (in_full b) left
+moved code (did.Invokes number) c left = invoking code number c left
 
 abbrev pub IsGoing : Moved → Type 0
 IsGoing did.Goes = Unit {0}
-IsGoing did.Waits = ⊥
-IsGoing did.Stops = ⊥
+IsGoing (did.Waits b) = ⊥
+IsGoing (did.Stops b) = ⊥
 IsGoing (did.Invokes number) = ⊥
 
 abbrev pub TakesTick : ℕ → Bool → ℕ → Type 0

@@ -56,6 +56,20 @@ impl Cursor {
         Cursor::first(alloc, code.entry(&Callee::Root), &[], None, false)
     }
 
+    /// Returns a cursor of no frame, for the time in which a frame's own is elsewhere. Allocates
+    /// nothing.
+    #[inline(always)]
+    pub fn idle(alloc: Global) -> Cursor {
+        Cursor {
+            part: None,
+            takes: false,
+            place: 0,
+            owed: Owed::Nothing,
+            operands: Operands::empty(alloc),
+            held: 0,
+        }
+    }
+
     /// Returns the frame that an invocation requests, before it begins. Allocates room for its
     /// words and operands.
     pub fn new(alloc: Global, code: &Code, ask: &Ask) -> Result<Cursor, AllocError>
@@ -115,6 +129,7 @@ impl Cursor {
     }
 
     /// Returns the place of the next instruction.
+    #[inline(always)]
     pub fn place(&self) -> usize
         ensures { result ≡ self.now.place }
     {
@@ -128,6 +143,7 @@ impl Cursor {
     }
 
     // The frame's result so far.
+    #[inline(always)]
     pub(crate) fn held(&self) -> i64
         ensures { result ≡ self.now.held }
     {
@@ -135,6 +151,7 @@ impl Cursor {
     }
 
     // A word that the frame was given.
+    #[inline(always)]
     pub(crate) fn word(&self, number: usize) -> i64
         requires { slice_get self.now.given.words number ≢ None }
         ensures { slice_get self.now.given.words number ≡ Some result }
@@ -143,6 +160,7 @@ impl Cursor {
     }
 
     // The turns of a loop that the frame runs.
+    #[inline(always)]
     pub(crate) fn part(&self) -> LoopPart
         requires { self.now.given.part ≢ None }
         ensures { self.now.given.part ≡ Some result }
@@ -151,14 +169,16 @@ impl Cursor {
     }
 
     // Whether the caller takes the frame's result.
+    #[inline(always)]
     pub(crate) fn gives_result(&self) -> bool
         ensures { result ≡ self.now.given.takes }
     {
         self.takes
     }
 
-    // Takes an answer, and pushes its value if it has one.
-    pub(crate) fn receive(&mut self, answer: Answer)
+    /// Takes an answer, and pushes its value if it has one.
+    #[inline(always)]
+    pub fn receive(&mut self, answer: Answer)
         requires fits { Fits self.old.owed answer }
         requires room { HasRoom self.old }
         ensures { self.new ≡ told self.old answer }
@@ -169,6 +189,7 @@ impl Cursor {
         }
     }
 
+    #[inline(always)]
     pub(crate) fn push(&mut self, word: i64)
         requires { length self.old.stack < self.old.room }
         ensures { self.new ≡ record self.old { stack = word ∷ self.old.stack } }
@@ -176,10 +197,12 @@ impl Cursor {
         self.operands.push(word);
     }
 
+    #[inline(always)]
     pub(crate) fn pop(&mut self) -> i64
         requires { self.old.stack ≢ [] }
         ensures stack { self.old.stack ≡ result ∷ self.new.stack }
         ensures place { self.new.place ≡ self.old.place }
+        ensures owed { self.new.owed ≡ self.old.owed }
         ensures room { self.new.room ≡ self.old.room }
         ensures given { self.new.given ≡ self.old.given }
         ensures held { self.new.held ≡ self.old.held }
@@ -204,12 +227,14 @@ impl Cursor {
 
     // For the proof only: the stack is empty, because any operand would leave the machine stuck.
     #[tactic(auto, using(crate::proofs::Given::none_there))]
+    #[inline(always)]
     pub(crate) fn no_operand_waits(&self)
         requires { (x : ℤ) (rest : List ℤ) → self.now.stack ≢ (x ∷ rest) }
         ensures { self.now.stack ≡ [] }
     {}
 
     // Keeps a word as the frame's result.
+    #[inline(always)]
     pub(crate) fn hold(&mut self, word: i64)
         ensures { self.new ≡ record self.old { held = word } }
     {
@@ -217,6 +242,7 @@ impl Cursor {
     }
 
     // Continues after skipping `count` instructions.
+    #[inline(always)]
     pub(crate) fn skip(&mut self, count: usize)
         requires { self.old.place + 1 + count < 2 ^ 64 }
         ensures { self.new ≡ record self.old { place = self.old.place + 1 + count } }
@@ -225,6 +251,7 @@ impl Cursor {
     }
 
     // Continues with the next instruction.
+    #[inline(always)]
     pub(crate) fn next(&mut self)
         requires { self.old.place + 1 < 2 ^ 64 }
         ensures { self.new ≡ record self.old { place = self.old.place + 1 } }
@@ -233,6 +260,7 @@ impl Cursor {
     }
 
     // Continues after skipping the next instruction.
+    #[inline(always)]
     pub(crate) fn pass_next(&mut self)
         requires { self.old.place + 2 < 2 ^ 64 }
         ensures { self.new ≡ record self.old { place = self.old.place + 2 } }
@@ -241,6 +269,7 @@ impl Cursor {
     }
 
     // Goes back `count` instructions.
+    #[inline(always)]
     pub(crate) fn go_back(&mut self, count: usize)
         requires { count ≤ self.old.place }
         ensures { self.new ≡ record self.old { place = self.old.place - count } }
@@ -249,6 +278,7 @@ impl Cursor {
     }
 
     // Continues with the next instruction once the answer has come.
+    #[inline(always)]
     pub(crate) fn wait(&mut self, owed: Owed)
         requires { self.old.place + 1 < 2 ^ 64 }
         ensures { self.new ≡ record self.old { place = self.old.place + 1; owed = owed } }

@@ -41,7 +41,7 @@ pub mod beginnings;
 pub mod call_stack;
 pub mod cursor;
 pub mod halves;
-mod moves;
+pub mod moves;
 pub mod operands;
 mod operators;
 pub mod outcome;

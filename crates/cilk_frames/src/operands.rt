@@ -52,7 +52,18 @@ impl Operands {
         })
     }
 
+    /// Returns operands without room. Allocates nothing.
+    #[inline(always)]
+    pub fn empty(alloc: Global) -> Operands {
+        Operands {
+            items: Vec::new(alloc),
+            given: 0,
+            start: 0,
+        }
+    }
+
     /// Returns a given word.
+    #[inline(always)]
     pub fn word(&self, number: usize) -> i64
         requires { slice_get self.now.words number ≢ None }
         ensures { slice_get self.now.words number ≡ Some result }
@@ -62,6 +73,7 @@ impl Operands {
     }
 
     /// Pushes a word.
+    #[inline(always)]
     pub fn push(&mut self, word: i64)
         requires { length self.old.stack < self.old.room }
         ensures { self.new ≡ record self.old { stack = word ∷ self.old.stack } }
@@ -71,6 +83,7 @@ impl Operands {
     }
 
     /// Pops a word.
+    #[inline(always)]
     pub fn pop(&mut self) -> i64
         requires { self.old.stack ≢ [] }
         ensures stack { self.old.stack ≡ result ∷ self.new.stack }

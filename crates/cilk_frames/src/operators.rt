@@ -9,6 +9,7 @@ use cilk_types::compound::Compound;
 use cilk_types::word;
 
 /// Returns the value of an operator, or none for a division by 0.
+#[inline]
 pub fn apply(operator: Operator, x: i64, y: i64) -> Option<i64>
     ensures { result ≡ apply operator x y }
 {
@@ -28,6 +29,7 @@ pub fn apply(operator: Operator, x: i64, y: i64) -> Option<i64>
 }
 
 /// Returns the value of `+=`, `-=` or `*=`.
+#[inline]
 pub fn change(operator: Compound, x: i64, y: i64) -> i64
     ensures { result ≡ change operator x y }
 {
@@ -39,6 +41,7 @@ pub fn change(operator: Compound, x: i64, y: i64) -> i64
 }
 
 /// Returns 1 for true, 0 for false.
+#[inline]
 pub fn truth_of(holds: bool) -> i64
     ensures { result ≡ truth_of holds }
 {
@@ -46,6 +49,7 @@ pub fn truth_of(holds: bool) -> i64
 }
 
 /// Returns 0 for 0, else 1.
+#[inline]
 pub fn truth(word: i64) -> i64
     ensures { result ≡ truth word }
 {
@@ -53,6 +57,7 @@ pub fn truth(word: i64) -> i64
 }
 
 /// Returns 1 for 0, else 0.
+#[inline]
 pub fn negation(word: i64) -> i64
     ensures { result ≡ truth_of (is_zero word) }
 {
@@ -60,6 +65,7 @@ pub fn negation(word: i64) -> i64
 }
 
 /// Returns the element of an array at an index, or none outside the array.
+#[inline]
 pub fn element(array: Array, index: i64) -> Option<Place>
     requires { array.first + array.length ≤ 2 ^ 32 }
     ensures { result ≡ element array index }

@@ -1,9 +1,9 @@
 //! Runs a frame from one request to the next.
 
-ghost use Rattle.std.specs.Prelude.{◌≡◌, ◌≢◌, ◌<◌, ℕ, ℤ, List};
+ghost use Rattle.std.specs.Prelude.{◌≡◌, ◌≢◌, ◌<◌, ℕ, ℤ, List, true, false};
 ghost use Rattle.cilk_program.specs.Syntax.{Source};
 ghost use Rattle.cilk_program.specs.declared.ask.Callee.{Callee};
-ghost use Rattle.cilk_lower.specs.Machine.{Stuck, Waits};
+ghost use Rattle.cilk_lower.specs.Machine.{Goes, Stuck, Waits};
 ghost use Rattle.cilk_frames.specs.Following.{Fits, GoesOn, Runs, Stands, Steps};
 ghost use Rattle.cilk_frames.specs.Moving.{IsGoing, effort, invoking, move_at, moved};
 
@@ -11,8 +11,8 @@ use crate::asked::AskSlot;
 use crate::cursor::{Answer, Cursor};
 use crate::halves::{first_half, has_one, second_half};
 use crate::moves::{
-    Moved, call_loop, fetch_element, give, give_checked, give_result, invoke_turns, load,
-    load_element, put, skip_if, stop, store, store_element, tick, wait,
+    Moved, apply_number, call_loop, fetch_element, give, give_checked, give_result, invoke_turns,
+    load, load_element, put, skip_if, stop, store, store_element, tick, wait,
 };
 use crate::operators::{apply, change, negation, truth};
 use crate::small_ask::SmallAsk;
@@ -79,46 +79,129 @@ fn go_on(
     cursor.receive(answer);
     let instrs = code.instrs();
     'each: loop {
-        match exec_instr(code, instrs, input, cursor, left, asked) {
+        if exec_plain(code, instrs, cursor, left) {
+            continue 'each;
+        }
+        match exec_instr(code, instrs, input, cursor, left) {
             Moved::Goes => {}
-            Moved::Waits => return,
-            Moved::Stops => return,
+            Moved::Waits(ask) => return asked.put(ask),
+            Moved::Stops(ask) => return asked.put(ask),
             Moved::Invokes(number) => return invoke(code, cursor, number, asked),
         }
     }
 }
 
-// Executes one instruction.
+/// Executes one instruction if it makes no request, is a common one, and has the tick that it uses.
+/// Returns false otherwise, and changes nothing. `instrs` are those of the code.
 #[inline(always)]
-#[tactic(auto, using(crate::proofs::Effort::effort_back))]
-fn exec_instr(
+#[tactic(auto, using(crate::proofs::Effort::effort_back, crate::proofs::Effort::effort_again))]
+pub fn exec_plain(code: &Code, instrs: &[Instr], cursor: &mut Cursor, left: &mut u32) -> bool
+    requires instrs { instrs.now ≡ code.now.instrs }
+    requires moves { (inputs : List ℤ) × (move_at code.now inputs cursor.old left.old ≢ Stuck) }
+    ensures moves { (inputs : List ℤ) → result ≡ true → move_at code.now inputs cursor.old left.old ≡ Goes cursor.new.place cursor.new.stack cursor.new.held left.new }
+    ensures room { cursor.new.room ≡ cursor.old.room }
+    ensures given { cursor.new.given ≡ cursor.old.given }
+    ensures falls { result ≡ true → effort code.now.instrs cursor.new.place left.new < effort code.now.instrs cursor.old.place left.old }
+    ensures stays { result ≡ false → (cursor.new ≡ cursor.old) × (left.new ≡ left.old) }
+{
+    match code.at(instrs, cursor.place()) {
+        Instr::Tick if *left > 0 => {
+            *left -= 1;
+            cursor.next();
+            true
+        }
+        Instr::Push(word) if *left > 0 => {
+            *left -= 1;
+            cursor.push(*word);
+            cursor.next();
+            true
+        }
+        Instr::Apply(operator) if *left > 0 => {
+            let y = cursor.pop();
+            let x = cursor.pop();
+            match apply(*operator, x, y) {
+                Some(word) => {
+                    *left -= 1;
+                    cursor.push(word);
+                    cursor.next();
+                    true
+                }
+                None => {
+                    cursor.push(x);
+                    cursor.push(y);
+                    false
+                }
+            }
+        }
+        Instr::JumpIfZero(count) => {
+            if cursor.pop() == 0 {
+                cursor.skip(*count);
+            } else {
+                cursor.next();
+            }
+            true
+        }
+        Instr::ApplyNumber(operator, number) if *left > 1 => {
+            let x = cursor.pop();
+            match apply(*operator, x, *number) {
+                Some(word) => {
+                    *left -= 2;
+                    cursor.push(word);
+                    cursor.pass_next();
+                    true
+                }
+                None => {
+                    cursor.push(x);
+                    false
+                }
+            }
+        }
+        Instr::JumpBack(count) => {
+            cursor.go_back(*count);
+            true
+        }
+        Instr::JumpBackUnlessZero(count) => {
+            if cursor.pop() == 0 {
+                cursor.next();
+            } else {
+                cursor.go_back(*count);
+            }
+            true
+        }
+        _ => false,
+    }
+}
+
+/// Executes one instruction. `instrs` are those of the code.
+#[inline(always)]
+#[tactic(auto, using(crate::proofs::Effort::effort_back, crate::proofs::Effort::effort_again))]
+pub fn exec_instr(
     code: &Code,
     instrs: &[Instr],
     input: &Input,
     cursor: &mut Cursor,
     left: &mut u32,
-    asked: &mut AskSlot,
 ) -> Moved
     requires instrs { instrs.now ≡ code.now.instrs }
     requires moves { move_at code.now input.now cursor.old left.old ≢ Stuck }
-    ensures moves { move_at code.now input.now cursor.old left.old ≡ moved code.now result asked.new cursor.new left.new }
+    ensures moves { move_at code.now input.now cursor.old left.old ≡ moved code.now result cursor.new left.new }
     ensures room { cursor.new.room ≡ cursor.old.room }
     ensures given { cursor.new.given ≡ cursor.old.given }
     ensures falls { IsGoing result → effort code.now.instrs cursor.new.place left.new < effort code.now.instrs cursor.old.place left.old }
 {
     match code.at(instrs, cursor.place()) {
-        Instr::Tick => tick(cursor, left, asked),
-        Instr::Push(word) => give(cursor, *word, left, asked),
-        Instr::Load(place) => load(cursor, SmallAsk::Read(*place), left, asked),
-        Instr::LoadElement(array) => load_element(cursor, *array, left, asked),
-        Instr::LoadUncounted(place) => wait(cursor, SmallAsk::Read(*place), Owed::Word, asked),
-        Instr::FetchElement(array) => fetch_element(cursor, *array, asked),
+        Instr::Tick => tick(cursor, left),
+        Instr::Push(word) => give(cursor, *word, left),
+        Instr::Load(place) => load(cursor, SmallAsk::Read(*place), left),
+        Instr::LoadElement(array) => load_element(cursor, *array, left),
+        Instr::LoadUncounted(place) => wait(cursor, SmallAsk::Read(*place), Owed::Word),
+        Instr::FetchElement(array) => fetch_element(cursor, *array),
         Instr::Store(place) => {
             let word = cursor.pop();
-            store(cursor, *place, word, asked)
+            store(cursor, *place, word)
         }
-        Instr::StoreElement(array) => store_element(cursor, *array, asked),
-        Instr::Zero(number) => store(cursor, Place::Local(0, *number), 0, asked),
+        Instr::StoreElement(array) => store_element(cursor, *array),
+        Instr::Zero(number) => store(cursor, Place::Local(0, *number), 0),
         Instr::Combine(operator) => {
             let y = cursor.pop();
             let x = cursor.pop();
@@ -130,70 +213,66 @@ fn exec_instr(
         }
         Instr::Negate => {
             let x = cursor.pop();
-            give(cursor, word::neg(x), left, asked)
+            give(cursor, word::neg(x), left)
         }
         Instr::Not => {
             let x = cursor.pop();
-            give(cursor, negation(x), left, asked)
+            give(cursor, negation(x), left)
         }
         Instr::Apply(operator) => {
             let y = cursor.pop();
             let x = cursor.pop();
             let word = apply(*operator, x, y);
-            give_checked(cursor, word, Fault::DivisionByZero, left, asked)
+            give_checked(cursor, word, Fault::DivisionByZero, left)
         }
+        Instr::ApplyNumber(operator, number) => apply_number(cursor, *operator, *number, left),
         Instr::Truth => {
             let x = cursor.pop();
-            give(cursor, truth(x), left, asked)
+            give(cursor, truth(x), left)
         }
-        Instr::Value(reducer) => load(cursor, SmallAsk::Value(*reducer), left, asked),
+        Instr::Value(reducer) => load(cursor, SmallAsk::Value(*reducer), left),
         Instr::Input => {
             let x = cursor.pop();
-            give_checked(cursor, input.at(x), Fault::InputOutside, left, asked)
+            give_checked(cursor, input.at(x), Fault::InputOutside, left)
         }
-        Instr::InputCount => give(cursor, input.count(), left, asked),
+        Instr::InputCount => give(cursor, input.count(), left),
         Instr::Print => {
             let word = cursor.pop();
-            wait(cursor, SmallAsk::Print(word), Owed::Nothing, asked)
+            wait(cursor, SmallAsk::Print(word), Owed::Nothing)
         }
-        Instr::Create(reducer) => wait(cursor, SmallAsk::Create(*reducer), Owed::Nothing, asked),
+        Instr::Create(reducer) => wait(cursor, SmallAsk::Create(*reducer), Owed::Nothing),
         Instr::Update(reducer) => {
             let word = cursor.pop();
-            wait(
-                cursor,
-                SmallAsk::Update(*reducer, word),
-                Owed::Nothing,
-                asked,
-            )
+            wait(cursor, SmallAsk::Update(*reducer, word), Owed::Nothing)
         }
         Instr::Set(reducer) => {
             let word = cursor.pop();
-            wait(cursor, SmallAsk::Set(*reducer, word), Owed::Nothing, asked)
+            wait(cursor, SmallAsk::Set(*reducer, word), Owed::Nothing)
         }
         Instr::Word(number) => {
             let word = cursor.word(*number as usize);
-            store(cursor, Place::Local(0, *number), word, asked)
+            store(cursor, Place::Local(0, *number), word)
         }
         Instr::Turn => {
             let turn = cursor.part().low;
-            store(cursor, Place::Local(0, 0), turn, asked)
+            store(cursor, Place::Local(0, 0), turn)
         }
         Instr::Invoke(number) => {
             cursor.wait(Owed::Nothing);
             Moved::Invokes(*number)
         }
-        Instr::CallLoop(number) => call_loop(cursor, *number, asked),
+        Instr::CallLoop(number) => call_loop(cursor, *number),
         Instr::SpawnHalf => {
             cursor.no_operand_waits();
             let half = first_half(cursor.part());
-            invoke_turns(cursor, Invocation::Spawn, half, asked)
+            invoke_turns(cursor, Invocation::Spawn, half)
         }
         Instr::CallHalf => {
             cursor.no_operand_waits();
             let half = second_half(cursor.part());
-            invoke_turns(cursor, Invocation::Call, half, asked)
+            invoke_turns(cursor, Invocation::Call, half)
         }
-        Instr::Resume => wait(cursor, SmallAsk::Resume, Owed::Nothing, asked),
+        Instr::Resume => wait(cursor, SmallAsk::Resume, Owed::Nothing),
         Instr::JumpIfZero(count) => {
             let word = cursor.pop();
             skip_if(cursor, word == 0, *count)
@@ -207,6 +286,15 @@ fn exec_instr(
             cursor.go_back(*count);
             Moved::Goes
         }
+        Instr::JumpBackUnlessZero(count) => {
+            let word = cursor.pop();
+            if word == 0 {
+                cursor.next();
+            } else {
+                cursor.go_back(*count);
+            }
+            Moved::Goes
+        }
         Instr::SetResult => {
             let word = cursor.pop();
             cursor.hold(word);
@@ -215,16 +303,16 @@ fn exec_instr(
         }
         Instr::Sync => {
             cursor.no_operand_waits();
-            wait(cursor, SmallAsk::Sync, Owed::Nothing, asked)
+            wait(cursor, SmallAsk::Sync, Owed::Nothing)
         }
-        Instr::GiveResult => give_result(cursor, asked),
-        Instr::End => stop(SmallAsk::End(cursor.held()), asked),
+        Instr::GiveResult => give_result(cursor),
+        Instr::End => stop(SmallAsk::End(cursor.held())),
     }
 }
 
-// Stores the invocation of a call site's function, and pops its words.
+/// Stores the invocation of a call site's function, and pops its words.
 #[tactic(auto, using(crate::proofs::Given::words_there))]
-fn invoke(code: &Code, cursor: &mut Cursor, number: usize, asked: &mut AskSlot)
+pub fn invoke(code: &Code, cursor: &mut Cursor, number: usize, asked: &mut AskSlot)
     requires { (left : ℕ) × (invoking code.now number cursor.old left ≢ Stuck) }
     ensures moves { (left : ℕ) → invoking code.now number cursor.old left ≡ Waits asked.new cursor.new.owed cursor.new.place cursor.new.stack cursor.new.held left }
     ensures room { cursor.new.room ≡ cursor.old.room }

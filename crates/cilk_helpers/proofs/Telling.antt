@@ -29,7 +29,7 @@ use Rattle.cilk_serial.specs.declared.state.State.{State}
 use Rattle.cilk_serial.specs.Going.{IsAllowed}
 use Rattle.cilk_serial.specs.Scoped.{Activation, Frames, IsOnTop, IsThere, kinds_of, own_of, waiting}
 use Rattle.cilk_serial.specs.States.{Answers, Shows}
-use Rattle.cilk_serial.proofs.Driving.{allowed_inner, going_seen, going_there}
+use Rattle.cilk_serial.proofs.Driving.{going_seen, going_there, inner_full}
 use Rattle.cilk_serial.specs.SoFar.{BeginsNext}
 use Rattle.cilk_serial.proofs.Homes.{on_top, waiting_more}
 use Rattle.cilk_serial.proofs.SoFar.{begins_next}
@@ -119,7 +119,7 @@ tells_inner code p inputs t s' answer rest' taken x room inner answers took =
       few = re.few;
     } in
     let inner' : IsInner r.ask = subst IsInner (sym x.ask) inner in
-    let allowed : IsAllowed p r.state r.ask = λ m h. allowed_inner p m r.ask inner' (room m (subst (λ (s : State). Shows s m) x.state h)) in
+    let allowed : IsAllowed p r.state r.ask = λ m h. inner_full p m r.ask inner' ∙ (room m (subst (λ (s : State). Shows s m) x.state h)) in
     let is : IsTaken r.left t.frames.top.cursor.left n taken.left = subst (λ (l : ℕ). IsTaken l t.frames.top.cursor.left n taken.left) (sym x.left) took.is in
     let law = runs_are_retold code p inputs in
     let went = law.inner r s' t.frames.top.cursor.left n took.notes (held_below t.frames) taken.left own allowed inner' told is in

@@ -26,7 +26,7 @@ use cilk_serial::answer::{Told, answer};
 use cilk_serial::callee::{function_cells, turn_cells};
 use cilk_serial::frames::retire;
 use cilk_serial::refusal::crowded;
-use cilk_serial::state::State;
+use cilk_serial::state::{Refused, State};
 use cilk_types::event::{Cell, Event};
 use cilk_types::invocation::Invocation;
 use cilk_types::limits::MAX_TICKS;
@@ -131,6 +131,7 @@ impl Retelling {
             Told::Turns(how, part) => Ok(Gone::Turns(how, part)),
             Told::Ends(result) => Ok(Gone::Ends(result)),
             Told::Stops(_) => Ok(Gone::Departs),
+            Told::Full => Ok(Gone::Departs),
         }
     }
 
@@ -142,7 +143,11 @@ impl Retelling {
         ensures { (code : CodeView) (inputs : List ℤ) → Tells code (source program.now) inputs self.old
             → IfOk result (λ parting. Parts code (source program.now) inputs self.old value parting self.new) }
     {
-        self.state.make(Event::End)?;
+        match self.state.make(Event::End) {
+            Ok(_) => {}
+            Err(Refused::Full) => return Ok(Parting::Leaves),
+            Err(Refused::Memory) => return Err(AllocError),
+        }
         retire(program, &mut self.state, &self.frames.top);
         if !self.frames.pop() {
             return Ok(Parting::WasLast);

@@ -1,6 +1,6 @@
 //! Retells a whole run.
 
-ghost use Rattle.std.specs.Prelude.{◌≡◌, [], All, IfOk, IfSome};
+ghost use Rattle.std.specs.Prelude.{◌≡◌, [], false, All, IfOk, IfSome};
 ghost use Rattle.cilk_lower.specs.Behaves.{Behaves};
 ghost use Rattle.cilk_lower.specs.Layout.{LaysOut};
 ghost use Rattle.cilk_program.specs.Sources.{source};
@@ -20,7 +20,7 @@ use cilk_lower::code::Code;
 use cilk_program::ask::{Callee, LoopPart};
 use cilk_program::program::Program;
 use cilk_serial::outcome::outcome;
-use cilk_serial::refusal::is_full;
+use cilk_serial::state::State;
 use cilk_types::input::Input;
 use cilk_types::invocation::Invocation;
 use cilk_types::limits::MAX_EVENTS;
@@ -154,6 +154,13 @@ fn end(
         Parting::WasLast => Ok(Step::Ends(value)),
         Parting::Leaves => Ok(Step::Departs),
     }
+}
+
+// Whether the run has as many events as it may have.
+fn is_full(state: &State) -> bool
+    ensures { result ≡ false → HasRoom state.now }
+{
+    state.events.len() >= MAX_EVENTS as usize
 }
 
 // Makes the next event.

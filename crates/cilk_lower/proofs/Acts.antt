@@ -89,31 +89,35 @@ module _ (m : Setting) where
         let same : pc + length (cs ++ cp) ≡ p3 = omega arith in
         let behind = subst (λ n. HasAt m.code.instrs n (jump ∷ [])) same (has_back m.code.instrs pc (cs ++ cp) _ has) in
         let there : p3 - length (cs ++ cp) ≡ pc = omega arith in
-        forever_act m pc pc p2 p3 _ (length (cs ++ cp)) (condition m.inputs None) body step
+        forever_act m pc p2 p3 _ (condition m.inputs None) body step
         (bodies pc (has_front m.code.instrs pc cs cp turn)) takes (steps p2 (has_back m.code.instrs pc cs cp turn)) keeps
-        behind.0 there refl (λ a l. refl) (suc left) answers left (omega arith)
+        (length (cs ++ cp)) behind.0 there (λ a l. refl) (suc left) answers left (omega arith)
     for_acts (Some e) pc answers left fits has =
         let ce = expr_code e in
         let p1 = pc + length ce in
         let p2 = p1 + 1 + length cs in
         let p3 = p2 + length cp in
-        let n = length (cs ++ cp) + 1 in
-        let d = length ce + 1 + length (cs ++ cp) in
-        let jump = instrs.JumpBack d in
-        let rest = has_back m.code.instrs pc ce (instrs.JumpIfZero n ∷ ((cs ++ cp) ++ jump ∷ [])) has in
-        let turn = has_front m.code.instrs (p1 + 1) (cs ++ cp) (jump ∷ []) rest.1 in
+        let p4 = p3 + length ce in
+        let n = length (cs ++ cp) + length ce in
+        let last = instrs.JumpBackUnlessZero n ∷ [] in
+        let rest = instrs.JumpIfZero (n + 1) ∷ ((cs ++ cp) ++ (ce ++ last)) in
+        let first = has_back m.code.instrs pc ce rest has in
+        let turn = has_front m.code.instrs (p1 + 1) (cs ++ cp) (ce ++ last) first.1 in
         let l1 = length-append cs cp in
         let same : p1 + 1 + length (cs ++ cp) ≡ p3 = omega arith in
-        let behind = subst (λ n. HasAt m.code.instrs n (jump ∷ [])) same (has_back m.code.instrs (p1 + 1) (cs ++ cp) (jump ∷ []) rest.1) in
-        let there : p3 - d ≡ pc = omega arith in
+        let again = subst (λ n. HasAt m.code.instrs n (ce ++ last)) same (has_back m.code.instrs (p1 + 1) (cs ++ cp) (ce ++ last) first.1) in
+        let behind = has_back m.code.instrs p3 ce last again in
+        let there : p1 + 1 ≡ p4 - n = omega arith in
+        let leaves : p4 + 1 ≡ p1 + 1 + (n + 1) = omega arith in
         let room_e : 0 + depth e ≤ m.room = omega arith in
-        let len : p1 + 1 + n ≡ pc + length (ce ++ (instrs.JumpIfZero n ∷ ((cs ++ cp) ++ jump ∷ []))) = omega (arith, length-append ce (instrs.JumpIfZero n ∷ ((cs ++ cp) ++ jump ∷ [])), length-append (cs ++ cp) (jump ∷ [])) in
+        let len : p4 + 1 ≡ pc + length (ce ++ rest) = omega (arith, length-append ce rest, length-append (cs ++ cp) (ce ++ last), length-append ce last) in
         subst (λ n. Acts m pc [] [] answers left n (turns (suc left) (value m.inputs e) body step answers left)) len
-        (turns_act m pc (p1 + 1) p2 p3 (p1 + 1 + n) d (value m.inputs e) body step
+        (turns_act m (p1 + 1) p2 p3 (p4 + 1) (value m.inputs e) body step
         (bodies (p1 + 1) (has_front m.code.instrs (p1 + 1) cs cp turn)) takes (steps p2 (has_back m.code.instrs (p1 + 1) cs cp turn)) keeps
-        behind.0 there p1 n refl refl
-        (λ a l. expr_does m e pc [] a l room_e (has_front m.code.instrs pc ce _ has)) (λ a l. takes_keeps l _ (value_takes m.inputs e a l)) rest.0
-        (suc left) answers left (omega arith))
+        pc p1 p4 (n + 1) n (λ a l. takes_keeps l _ (value_takes m.inputs e a l))
+        (λ a l. expr_does m e pc [] a l room_e (has_front m.code.instrs pc ce _ has)) first.0 refl leaves
+        (λ a l. expr_does m e p3 [] a l room_e (has_front m.code.instrs p3 ce _ again)) behind.0 there refl
+        left answers left (omega arith))
 
   mutual
     pub acts : (s : Statement) (k pc : ℕ) (answers : List ℤ) (left : ℕ) → deepest s ≤ m.room → HasAt m.code.instrs pc (stmt_code k s) → HasAt m.code.sites k (stmt_sites s) → Acts m pc [] [] answers left (pc + length (stmt_code k s)) (does m.inputs s answers left)

@@ -1,15 +1,16 @@
 -- The arrays that the code of a well-named body names have numbers for all their cells.
-use Rattle.std.proofs.Common.{◌≡◌, ℕ, zero, suc, ◌+◌, ◌^◌, ◌≤◌, Bool, true, false, ◌&&◌, IsTrue, List, [], ◌∷◌, ◌++◌, length, Some, None, refl, subst, arith}
+use Rattle.std.proofs.Common.{◌≡◌, ℕ, ℤ, zero, suc, ◌+◌, ◌^◌, ◌≤◌, Bool, true, false, ◌&&◌, IsTrue, List, [], ◌∷◌, ◌++◌, length, Option, Some, None, refl, subst, arith}
 use Rattle.std.specs.Prelude.{slice_get, nat_lt, not}
 use Rattle.cilk_monoid.specs.declared.kind.MonoidKind.{MonoidKind}
 use Rattle.cilk_program.specs.declared.program.Body.{Body}
 use Rattle.cilk_program.specs.declared.syntax.Array.{Array}
+use Rattle.cilk_program.specs.declared.syntax.Operator.{Operator}
 use Rattle.cilk_program.specs.declared.syntax.ReducerPlace.{ReducerPlace}
 use Rattle.cilk_program.specs.declared.syntax.ReducerPlace.TheVariants as reducers
 use Rattle.cilk_program.specs.Syntax.{Expression, Number, Variable, Element, Negate, Not, Binary, And, Or, Value, Input, InputCount, Target, ToVariable, ToElement, Invoke, Declaration, Zero, Opening, Invoking, Statement, Empty, Block, Declare, Assign, Change, Step, Invokes, Sync, If, IfElse, For, ParallelFor, Print, Update, Set, Return, Statements, Nothing, Then, Function, Loop, Source}
 use Rattle.cilk_program.specs.WellNamed.{at_most, array_is_there, expression_is_named, all_are_named, target_is_named, invoke_is_named, declaration_is_named, declarations_are_named, statement_is_named, row_is_named}
 use Rattle.cilk_lower.specs.declared.code.Instr.{Instr}
-use Rattle.cilk_lower.specs.Code.{ArrayFits, ArraysFit, expr_code, exprs_code, index_code, fetch, store, invoke_code, declaration_code, declaration_sites, declarations_code, stmt_code, stmt_sites, all_code, all_sites, words_code, creates_code, function_code, loop_code}
+use Rattle.cilk_lower.specs.Code.{ArrayFits, ArraysFit, literal, right_code, expr_code, exprs_code, index_code, fetch, store, invoke_code, declaration_code, declaration_sites, declarations_code, stmt_code, stmt_sites, all_code, all_sites, words_code, creates_code, function_code, loop_code}
 
 -- at a place
 pub fits_there : (code : List Instr) (place : ℕ) (i : Instr) → ArraysFit code → slice_get code place ≡ Some i → ArrayFits i
@@ -45,13 +46,17 @@ module _ (p : Source) (b : Body) (few : length p.openings ≤ 1000000) where
   array_fits : (a : Array) → IsTrue (array_is_there p b a) → a.first + a.length ≤ 2 ^ 32
   array_fits a h = let l = limited (a.first + a.length) (length p.openings) h in omega (arith, few)
 
+  right_fits : (op : Operator) (o : Option ℤ) (code : List Instr) → ArraysFit code → ArraysFit (right_code op o code)
+  right_fits op (Some n) code h = (tt, tt)
+  right_fits op None code h = h
+
   expr_fits : (e : Expression) → IsTrue (expression_is_named p b e) → ArraysFit (expr_code e)
   expr_fits (Number n) h = (tt, tt)
   expr_fits (Variable x) h = (tt, tt)
   expr_fits (Element a e) h = let n = both _ _ h in both_fit (expr_code e) _ (expr_fits e n.1) (array_fits a n.0, tt)
   expr_fits (Negate e) h = both_fit (expr_code e) _ (expr_fits e h) (tt, tt)
   expr_fits (Not e) h = both_fit (expr_code e) _ (expr_fits e h) (tt, tt)
-  expr_fits (Binary op x y) h = let n = both _ _ h in both_fit (expr_code x) _ (expr_fits x n.0) (both_fit (expr_code y) _ (expr_fits y n.1) (tt, tt))
+  expr_fits (Binary op x y) h = let n = both _ _ h in both_fit (expr_code x) _ (expr_fits x n.0) (both_fit (right_code op (literal y) (expr_code y)) _ (right_fits op (literal y) (expr_code y) (expr_fits y n.1)) (tt, tt))
   expr_fits (And x y) h = let n = both _ _ h in both_fit (expr_code x) _ (expr_fits x n.0) (tt, both_fit (expr_code y) _ (expr_fits y n.1) (tt, (tt, (tt, tt))))
   expr_fits (Or x y) h = let n = both _ _ h in both_fit (expr_code x) _ (expr_fits x n.0) (tt, (tt, (tt, both_fit (expr_code y) _ (expr_fits y n.1) (tt, tt))))
   expr_fits (Value r) h = (tt, tt)
@@ -112,7 +117,7 @@ module _ (p : Source) (b : Body) (few : length p.openings ≤ 1000000) where
     stmt_fits (For row (Some e) step s) k h =
         let n = both _ _ h in let m = both _ _ n.0 in let l = both _ _ m.0 in
         let k1 = k + length (all_sites row) in
-        (tt, both_fit (all_code k row) _ (all_fit row k l.0) (both_fit (expr_code e) _ (expr_fits e l.1) (tt, both_fit (stmt_code k1 s ++ all_code (k1 + length (stmt_sites s)) step) _ (both_fit (stmt_code k1 s) _ (stmt_fits s k1 n.1) (all_fit step (k1 + length (stmt_sites s)) m.1)) (tt, tt))))
+        (tt, both_fit (all_code k row) _ (all_fit row k l.0) (both_fit (expr_code e) _ (expr_fits e l.1) (tt, both_fit (stmt_code k1 s ++ all_code (k1 + length (stmt_sites s)) step) _ (both_fit (stmt_code k1 s) _ (stmt_fits s k1 n.1) (all_fit step (k1 + length (stmt_sites s)) m.1)) (both_fit (expr_code e) _ (expr_fits e l.1) (tt, tt)))))
     stmt_fits (ParallelFor x y n) k h =
         let m = both _ _ h in let l = both _ _ m.0 in
         (tt, both_fit (expr_code x) _ (expr_fits x l.0) (both_fit (expr_code y) _ (expr_fits y l.1) (tt, (tt, tt))))

@@ -1,5 +1,5 @@
 -- The operand stack is empty where a strand ends, instruction by instruction: `is_clear`.
-use Rattle.std.proofs.Common.{ℕ, zero, suc, ◌+◌, ℤ, Bool, true, false, List, [], ◌∷◌, length, Option, Some, None, refl, if◌then◌else◌}
+use Rattle.std.proofs.Common.{ℕ, zero, suc, ◌+◌, ◌-◌, ℤ, Bool, true, false, List, [], ◌∷◌, length, Option, Some, None, refl, if◌then◌else◌}
 use Rattle.std.specs.Prelude.{nat_lt, neg_ℤ, int_lt, ◌+ℤ◌, slice_get}
 use Rattle.cilk_types.specs.Input.{input_at, input_count}
 use Rattle.cilk_types.specs.Word.{word_of}
@@ -93,6 +93,10 @@ module _ (m : Setting) (place : ℕ) (stack : List ℤ) (held : ℤ) (left : ℕ
   is_clear (Some (instrs.Apply op)) =
       clear_two stack (λ x y rest. or_stops DivisionByZero (apply op x y) left (λ v. ticked left (Goes (place + 1) (v ∷ rest) held)))
       (λ x y rest. clear_check DivisionByZero (apply op x y) left (λ v. ticked left (Goes (place + 1) (v ∷ rest) held)) (λ v. clear_ticked left (Goes (place + 1) (v ∷ rest) held) (λ l. tt)))
+  is_clear (Some (instrs.ApplyNumber op n)) =
+      clear_top stack (λ x rest. ticked left (λ l. or_stops DivisionByZero (apply op x n) l (λ v. ticked l (Goes (place + 2) (v ∷ rest) held))))
+      (λ x rest. clear_ticked left (λ l. or_stops DivisionByZero (apply op x n) l (λ v. ticked l (Goes (place + 2) (v ∷ rest) held)))
+      (λ l. clear_check DivisionByZero (apply op x n) l (λ v. ticked l (Goes (place + 2) (v ∷ rest) held)) (λ v. clear_ticked l (Goes (place + 2) (v ∷ rest) held) (λ l. tt))))
   is_clear (Some instrs.Truth) = clear_change truth
   is_clear (Some (instrs.Value r)) = clear_ticked left (Waits (asks.Value r) Word (place + 1) stack held) (λ l e. absurd e)
   is_clear (Some instrs.Input) =
@@ -124,6 +128,9 @@ module _ (m : Setting) (place : ℕ) (stack : List ℤ) (held : ℤ) (left : ℕ
       (λ p. clear_if (has_one p) (Goes (place + 1) stack held left) (Goes (place + 1 + n) stack held left) tt tt)
   is_clear (Some (instrs.Jump n)) = tt
   is_clear (Some (instrs.JumpBack n)) = tt
+  is_clear (Some (instrs.JumpBackUnlessZero n)) =
+      clear_top stack (λ v rest. if is_zero v then Goes (place + 1) rest held left else Goes (place - n) rest held left)
+      (λ v rest. clear_if (is_zero v) (Goes (place + 1) rest held left) (Goes (place - n) rest held left) tt tt)
   is_clear (Some instrs.SetResult) = clear_top stack (λ v rest. Goes (place + 1) rest v left) (λ v rest. tt)
   is_clear (Some instrs.Sync) = clear_none stack (Waits asks.Sync Nothing (place + 1) [] held left) (λ e. refl)
   is_clear (Some instrs.GiveResult) =

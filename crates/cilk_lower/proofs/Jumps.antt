@@ -1,16 +1,18 @@
 -- The jumps of a body land within its code, and jumps back land at an instruction that uses a tick.
-use Rattle.std.proofs.Common.{◌≡◌, inl, inr, ℕ, zero, suc, ◌+◌, ◌-◌, ◌≤◌, true, pos, List, [], ◌∷◌, ◌++◌, length, Option, Some, None, refl, sym, ap, ◌∙◌, subst, arith, length-append}
+use Rattle.std.proofs.Common.{◌≡◌, inl, inr, ℕ, ℤ, zero, suc, ◌+◌, ◌-◌, ◌≤◌, true, pos, List, [], ◌∷◌, ◌++◌, length, Option, Some, None, refl, sym, ap, ◌∙◌, subst, arith, length-append}
 use Rattle.std.specs.Prelude.{slice_get}
 use Rattle.cilk_monoid.specs.declared.kind.MonoidKind.{MonoidKind}
+use Rattle.cilk_program.specs.declared.syntax.Operator.{Operator}
 use Rattle.cilk_program.specs.declared.syntax.ReducerPlace.{ReducerPlace}
 use Rattle.cilk_program.specs.declared.syntax.ReducerPlace.TheVariants as reducers
 use Rattle.cilk_program.specs.declared.syntax.Place.TheVariants as places
 use Rattle.cilk_program.specs.Syntax.{Expression, Number, Variable, Element, Negate, Not, Binary, And, Or, Value, Input, InputCount, Target, ToVariable, ToElement, Invoke, Declaration, Zero, Opening, Invoking, Statement, Empty, Block, Declare, Assign, Change, Step, Invokes, Sync, If, IfElse, For, ParallelFor, Print, Update, Set, Return, Statements, Nothing, Then, Function, Loop}
 use Rattle.cilk_lower.specs.declared.code.Instr.{Instr}
 use Rattle.cilk_lower.specs.declared.code.Instr.TheVariants as instrs
-use Rattle.cilk_lower.specs.Code.{expr_code, exprs_code, index_code, fetch, store, invoke_code, declaration_code, declarations_code, declaration_sites, turns_code, ends, stmt_code, stmt_sites, all_code, all_sites, words_code, creates_code, function_code, halves_code, loop_code, ticks, Lands, JumpsLand}
+use Rattle.cilk_lower.specs.Code.{literal, right_code, expr_code, exprs_code, index_code, fetch, store, invoke_code, declaration_code, declarations_code, declaration_sites, turns_code, ends, stmt_code, stmt_sites, all_code, all_sites, words_code, creates_code, function_code, halves_code, loop_code, ticks, Lands, JumpsLand}
 use Rattle.cilk_lower.specs.Bodies.{HasAt}
 use Rattle.cilk_lower.proofs.Places.{has_front, has_back, has_rest, get_more, get_split}
+use Rattle.cilk_lower.proofs.Values.{right_long}
 
 -- these instructions land, from this place on
 abbrev AllLand : List Instr → ℕ → List Instr → Type 0
@@ -27,21 +29,7 @@ lands_at code pc (x ∷ is) (suc k) i h at =
     let e : pc + 1 + k ≡ pc + suc k = omega arith in
     subst (λ n. Lands code n i) e (lands_at code (pc + 1) is k i h.1 at)
 
--- an expression begins with an instruction that uses a tick
-first_ticks : (code : List Instr) (e : Expression) (pc : ℕ) → HasAt code pc (expr_code e) → ticks (slice_get code pc) ≡ true
-first_ticks code (Number n) pc has = ap ticks has.0
-first_ticks code (Variable x) pc has = ap ticks has.0
-first_ticks code (Element a e) pc has = first_ticks code e pc (has_front code pc (expr_code e) _ has)
-first_ticks code (Negate a) pc has = first_ticks code a pc (has_front code pc (expr_code a) _ has)
-first_ticks code (Not a) pc has = first_ticks code a pc (has_front code pc (expr_code a) _ has)
-first_ticks code (Binary op a b) pc has = first_ticks code a pc (has_front code pc (expr_code a) _ has)
-first_ticks code (And a b) pc has = first_ticks code a pc (has_front code pc (expr_code a) _ has)
-first_ticks code (Or a b) pc has = first_ticks code a pc (has_front code pc (expr_code a) _ has)
-first_ticks code (Value r) pc has = ap ticks has.0
-first_ticks code (Input a) pc has = first_ticks code a pc (has_front code pc (expr_code a) _ has)
-first_ticks code InputCount pc has = ap ticks has.0
-
--- and so does a statement
+-- a statement begins with an instruction that uses a tick
 begins : (code : List Instr) (k : ℕ) (s : Statement) (pc : ℕ) → HasAt code pc (stmt_code k s) → ticks (slice_get code pc) ≡ true
 begins code k Empty pc has = ap ticks has.0
 begins code k (Block row) pc has = ap ticks has.0
@@ -65,6 +53,11 @@ module _ (code : List Instr) where
   both_land pc [] b h k = let e : pc + 0 ≡ pc = omega arith in subst (λ n. AllLand code n b) e k
   both_land pc (x ∷ a) b h k = let e : pc + length (x ∷ a) ≡ pc + 1 + length a = omega arith in (h.0, both_land (pc + 1) a b h.1 (subst (λ n. AllLand code n b) e k))
 
+  -- an operator's right operand, before its `Apply`
+  right_lands : (op : Operator) (o : Option ℤ) (pc : ℕ) (is : List Instr) → pc + length (right_code op o is) + 1 ≤ length code → AllLand code pc is → AllLand code pc (right_code op o is)
+  right_lands op (Some n) pc is fits h = (omega arith, tt)
+  right_lands op None pc is fits h = h
+
   expr_lands : (e : Expression) (pc : ℕ) → pc + length (expr_code e) ≤ length code → AllLand code pc (expr_code e)
   expr_lands (Number n) pc fits = (tt, tt)
   expr_lands (Variable x) pc fits = (tt, tt)
@@ -75,9 +68,12 @@ module _ (code : List Instr) where
   expr_lands (Input a) pc fits = let l = length-append (expr_code a) (instrs.Input ∷ []) in both_land pc (expr_code a) _ (expr_lands a pc (omega arith)) (tt, tt)
   expr_lands InputCount pc fits = (tt, tt)
   expr_lands (Binary op a b) pc fits =
-      let l1 = length-append (expr_code a) (expr_code b ++ instrs.Apply op ∷ []) in
-      let l2 = length-append (expr_code b) (instrs.Apply op ∷ []) in
-      both_land pc (expr_code a) _ (expr_lands a pc (omega arith)) (both_land (pc + length (expr_code a)) (expr_code b) _ (expr_lands b (pc + length (expr_code a)) (omega arith)) (tt, tt))
+      let cb = right_code op (literal b) (expr_code b) in
+      let p1 = pc + length (expr_code a) in
+      let l1 = length-append (expr_code a) (cb ++ instrs.Apply op ∷ []) in
+      let l2 = length-append cb (instrs.Apply op ∷ []) in
+      let l3 = right_long op b in
+      both_land pc (expr_code a) _ (expr_lands a pc (omega arith)) (both_land p1 cb _ (right_lands op (literal b) p1 (expr_code b) (omega arith) (expr_lands b p1 (omega arith))) (tt, tt))
   expr_lands (And a b) pc fits =
       let ca = expr_code a in let cb = expr_code b in
       let post = instrs.Truth ∷ (instrs.Jump 1 ∷ (instrs.Push (pos 0) ∷ [])) in
@@ -145,18 +141,21 @@ module _ (code : List Instr) where
   turns_land (Some e) turn pc has fits first lands =
       let ce = expr_code e in
       let p1 = pc + length ce in
-      let d = length ce + 1 + length turn in
-      let rest = instrs.JumpIfZero (length turn + 1) ∷ (turn ++ instrs.JumpBack d ∷ []) in
-      let behind = has_back code pc ce rest has in
+      let p2 = p1 + 1 + length turn in
+      let n = length turn + length ce in
+      let last = instrs.JumpBackUnlessZero n ∷ [] in
+      let rest = instrs.JumpIfZero (n + 1) ∷ (turn ++ (ce ++ last)) in
+      let front = has_front code (p1 + 1) turn _ (has_back code pc ce rest has).1 in
       let l1 = length-append ce rest in
-      let l2 = length-append turn (instrs.JumpBack d ∷ []) in
-      let there : pc ≡ p1 + 1 + length turn - d = omega arith in
-      let back : d ≤ p1 + 1 + length turn = omega arith in
-      let jump : p1 + 1 + (length turn + 1) ≤ length code = omega arith in
+      let l2 = length-append turn (ce ++ last) in
+      let l3 = length-append ce last in
+      let there : p1 + 1 ≡ p2 + length ce - n = omega arith in
+      let back : n ≤ p2 + length ce = omega arith in
+      let jump : p1 + 1 + (n + 1) ≤ length code = omega arith in
       value_lands e pc rest fits (
         jump,
-        both_land (p1 + 1) turn _ (lands (p1 + 1) (has_front code (p1 + 1) turn _ behind.1) (omega arith))
-            ((back, subst (λ n. ticks (slice_get code n) ≡ true) there (first_ticks code e pc (has_front code pc ce _ has))), tt),
+        both_land (p1 + 1) turn _ (lands (p1 + 1) front (omega arith))
+            (value_lands e p2 last (omega arith) ((back, subst (λ n. ticks (slice_get code n) ≡ true) there (first (p1 + 1) front)), tt)),
       )
 
   mutual
@@ -255,16 +254,18 @@ module _ (code : List Instr) where
       (jump, (tt, both_land p2 cb _ (all_land l.body k p2 (has_front code p2 cb _ has.1.1) (omega arith)) (tt, (tt, (tt, (tt, (tt, (tt, (tt, (tt, (tt, (tt, tt))))))))))))
 
 -- more code after it changes nothing
+ticks_more : (code more : List Instr) (place : ℕ) (o : Option Instr) → slice_get code place ≡ o → ticks o ≡ true → ticks (slice_get (code ++ more) place) ≡ true
+ticks_more code more place None e h = cc
+ticks_more code more place (Some j) e h = ap ticks (get_more code more place j e) ∙ h
+
 lands_more : (code more : List Instr) (place : ℕ) (i : Instr) → Lands code place i → Lands (code ++ more) place i
+lands_more code more place (instrs.ApplyNumber op n) h = omega (arith, h, length-append code more)
 lands_more code more place (instrs.CallLoop n) h = omega (arith, h, length-append code more)
 lands_more code more place (instrs.JumpIfZero n) h = omega (arith, h, length-append code more)
 lands_more code more place (instrs.SkipUnlessOne n) h = omega (arith, h, length-append code more)
 lands_more code more place (instrs.Jump n) h = omega (arith, h, length-append code more)
-lands_more code more place (instrs.JumpBack n) h = (h.0, ticks_more (slice_get code (place - n)) refl h.1)
-  where
-    ticks_more : (o : Option Instr) → slice_get code (place - n) ≡ o → ticks o ≡ true → ticks (slice_get (code ++ more) (place - n)) ≡ true
-    ticks_more None e h = cc
-    ticks_more (Some j) e h = ap ticks (get_more code more (place - n) j e) ∙ h
+lands_more code more place (instrs.JumpBack n) h = (h.0, ticks_more code more (place - n) (slice_get code (place - n)) refl h.1)
+lands_more code more place (instrs.JumpBackUnlessZero n) h = (h.0, ticks_more code more (place - n) (slice_get code (place - n)) refl h.1)
 lands_more code more place _ h = tt
 
 both_jump : (code more : List Instr) → JumpsLand code → AllLand (code ++ more) (length code) more → JumpsLand (code ++ more)

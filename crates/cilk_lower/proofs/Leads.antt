@@ -1,5 +1,5 @@
 -- Stretches of code, one after another. A frame has 0 as its result until a `return`.
-use Rattle.std.proofs.Common.{◌≡◌, ℕ, zero, suc, ◌+◌, ◌<◌, ◌≤◌, ℤ, pos, Bool, true, false, List, [], ◌∷◌, length, Option, Some, None, refl, ap, ◌∙◌, arith, if◌then◌else◌}
+use Rattle.std.proofs.Common.{◌≡◌, ℕ, zero, suc, ◌+◌, ◌-◌, ◌<◌, ◌≤◌, ℤ, pos, Bool, true, false, List, [], ◌∷◌, length, Option, Some, None, refl, ap, ◌∙◌, arith, if◌then◌else◌}
 use Rattle.std.specs.Prelude.{slice_get, nat_lt}
 use Rattle.std.proofs.lemmas.Bool.{lt-ltb}
 use Rattle.cilk_types.specs.declared.fault.Fault.{Fault}
@@ -95,6 +95,17 @@ module _ (m : Setting) where
   checked_does pc from stack answers left i f None h e = comes_one pc from answers left i _ _ h e
   checked_does pc from stack answers left i f (Some v) h e = ticked_does pc from stack answers left i v h e
 
+  -- one that also pushes a number, for another tick, and then checks its operands
+  pub pushed_does : (pc pc' : ℕ) (from stack answers : List ℤ) (left : ℕ) (i : Instr) (n : ℤ) (f : Fault) (o : ℤ → Option ℤ) → Stands m pc i → moves m i pc from left ≡ ticked left (λ left. or_stops f (o n) left (λ v. ticked left (Goes pc' (v ∷ stack) (pos 0)))) →
+      Does m pc from stack answers left pc' (tick_gives n answers left >>= λ n answers left. or_fault f (o n) answers left >>= tick_gives)
+  pushed_does pc pc' from stack answers zero i n f o h e = comes_one pc from answers zero i _ _ h e
+  pushed_does pc pc' from stack answers (suc left) i n f o h e = applied (o n) left e
+    where
+      applied : (r : Option ℤ) (l : ℕ) → moves m i pc from (suc left) ≡ or_stops f r l (λ v. ticked l (Goes pc' (v ∷ stack) (pos 0))) → Does m pc from stack answers (suc left) pc' (or_fault f r answers l >>= tick_gives)
+      applied None l e = comes_one pc from answers (suc left) i _ _ h e
+      applied (Some v) zero e = comes_one pc from answers (suc left) i _ _ h e
+      applied (Some v) (suc l) e = leads_one pc from answers (suc left) i _ _ _ h e
+
   -- one that requests a value after its tick
   pub asked_does : (pc : ℕ) (from stack answers : List ℤ) (left : ℕ) (i : Instr) (k : Ask) → Stands m pc i → moves m i pc from left ≡ ticked left (Waits k Word (pc + 1) stack (pos 0)) → length stack < m.room → Does m pc from stack answers left (pc + 1) (tick answers left >>= λ _. ask k)
   asked_does pc from stack answers zero i k h e fits = comes_one pc from answers zero i _ _ h e
@@ -145,6 +156,14 @@ module _ (m : Setting) where
   choose_does true pc n pc' v stack answers left x y e at rx ry = then_does pc (pc + 1 + n) pc' stack (v ∷ stack) stack answers answers left left y (skips true pc n v stack answers left e at) ry
   choose_does false pc n pc' v stack answers left x y e at rx ry = then_does pc (pc + 1) pc' stack (v ∷ stack) stack answers answers left left x (skips false pc n v stack answers left e at) rx
 
+  backs : (t : Bool) (pc n : ℕ) (v : ℤ) (stack answers : List ℤ) (left : ℕ) → is_zero v ≡ t → Stands m pc (instrs.JumpBackUnlessZero n) → Leads m pc (v ∷ stack) answers left (if t then pc + 1 else pc - n) stack answers left
+  backs true pc n v stack answers left e at = leads_one pc (v ∷ stack) answers left (instrs.JumpBackUnlessZero n) _ _ _ at (ap (λ t. if t then Goes (pc + 1) stack (pos 0) left else Goes (pc - n) stack (pos 0) left) e)
+  backs false pc n v stack answers left e at = leads_one pc (v ∷ stack) answers left (instrs.JumpBackUnlessZero n) _ _ _ at (ap (λ t. if t then Goes (pc + 1) stack (pos 0) left else Goes (pc - n) stack (pos 0) left) e)
+
   pub choose_acts : (t : Bool) (pc n pc' : ℕ) (v : ℤ) (stack answers : List ℤ) (left : ℕ) (x y : Got Flow) → is_zero v ≡ t → Stands m pc (instrs.JumpIfZero n) → Acts m (pc + 1) stack stack answers left pc' x → Acts m (pc + 1 + n) stack stack answers left pc' y → Acts m pc (v ∷ stack) stack answers left pc' (if t then y else x)
   choose_acts true pc n pc' v stack answers left x y e at rx ry = then_acts pc (pc + 1 + n) pc' stack (v ∷ stack) stack answers answers left left y (skips true pc n v stack answers left e at) ry
   choose_acts false pc n pc' v stack answers left x y e at rx ry = then_acts pc (pc + 1) pc' stack (v ∷ stack) stack answers answers left left x (skips false pc n v stack answers left e at) rx
+
+  pub back_acts : (t : Bool) (pc n pc' : ℕ) (v : ℤ) (stack answers : List ℤ) (left : ℕ) (x y : Got Flow) → is_zero v ≡ t → Stands m pc (instrs.JumpBackUnlessZero n) → Acts m (pc - n) stack stack answers left pc' x → Acts m (pc + 1) stack stack answers left pc' y → Acts m pc (v ∷ stack) stack answers left pc' (if t then y else x)
+  back_acts true pc n pc' v stack answers left x y e at rx ry = then_acts pc (pc + 1) pc' stack (v ∷ stack) stack answers answers left left y (backs true pc n v stack answers left e at) ry
+  back_acts false pc n pc' v stack answers left x y e at rx ry = then_acts pc (pc - n) pc' stack (v ∷ stack) stack answers answers left left x (backs false pc n v stack answers left e at) rx

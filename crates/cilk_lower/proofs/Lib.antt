@@ -11,6 +11,7 @@ pub mod Lands
 pub mod Leads
 pub mod Lists
 pub mod Named
+pub mod Numbers
 pub mod Once
 pub mod Patch
 pub mod Places

@@ -5,9 +5,9 @@ use Rattle.std.specs.Prelude.{slice_set}
 use Rattle.std.proofs.Math.Seq.{set-append_seam}
 use Rattle.std.proofs.lemmas.List.{set-append_left}
 use Rattle.cilk_lower.specs.declared.code.Instr.{Instr}
-use Rattle.cilk_lower.specs.declared.code.Instr.TheVariants.{Tick, Push, Truth, JumpIfZero, Jump, JumpBack, SkipUnlessOne, Turn}
+use Rattle.cilk_lower.specs.declared.code.Instr.TheVariants.{Tick, Push, Truth, JumpIfZero, Jump, JumpBack, JumpBackUnlessZero, SkipUnlessOne, Turn}
 use Rattle.cilk_program.specs.Syntax.{Expression}
-use Rattle.cilk_lower.specs.Turns.{test_code, exit_of, exits, turned}
+use Rattle.cilk_lower.specs.Turns.{test_code, turned}
 use Rattle.cilk_lower.proofs.Lists.{append_none}
 use Rattle.cilk_lower.specs.Code.{expr_code, turns_code, ends, halves_code, if_code, if_else_code, and_code, or_code}
 
@@ -107,42 +107,52 @@ or_ends c0 c1 c2 n low e1 e2 =
     e2 ∙ ap (λ k. slice_set c1 n (Jump k)) far ∙ ap (λ l. slice_set l n j) e1 ∙ set-append_left c0 (Truth ∷ []) n j low
 
 -- the turns of a `for`: their condition, then a turn, then back
-pub patch_turns : (test : Option Expression) (base turn c1 c2 c3 : List Instr) → c1 ≡ base ++ test_code test → c2 ≡ c1 ++ turn → c3 ≡ turned (length base) (exit_of (length base) test) c2 → c3 ≡ base ++ turns_code test turn
+pub patch_turns : (test : Option Expression) (base turn c1 c2 c3 : List Instr) → c1 ≡ base ++ test_code test → c2 ≡ c1 ++ turn → c3 ≡ turned test (length c1) c2 → c3 ≡ base ++ turns_code test turn
 patch_turns None base turn c1 c2 c3 e1 e2 e3 =
-    let k2 : c2 ≡ base ++ turn = e2 ∙ ap (λ l. l ++ turn) (e1 ∙ append_none base) in
-    let far : length c2 - length base ≡ length turn = omega (arith, ap length k2, length-append base turn) in
+    let k1 : c1 ≡ base = e1 ∙ append_none base in
+    let k2 : c2 ≡ base ++ turn = e2 ∙ ap (λ l. l ++ turn) k1 in
+    let far : length c2 - length c1 ≡ length turn = omega (arith, ap length e2, length-append c1 turn) in
     e3 ∙ ap (λ d. c2 ++ JumpBack d ∷ []) far ∙ ap (λ l. l ++ JumpBack (length turn) ∷ []) k2 ∙ append_assoc base turn (JumpBack (length turn) ∷ [])
 patch_turns (Some e) base turn c1 c2 c3 e1 e2 e3 =
     let ce = expr_code e in
     let front = base ++ ce in
-    let n = length base + length ce in
-    let d = JumpBack (length ce + 1 + length turn) in
-    let i = JumpIfZero (length turn + 1) in
-    let lf = length-append base ce in
+    let n = length c1 - 1 in
+    let d = JumpBackUnlessZero (length turn + length ce) in
+    let i = JumpIfZero (length turn + length ce + 1) in
+    let behind = turn ++ (ce ++ d ∷ []) in
+    let all = (c2 ++ ce) ++ d ∷ [] in
     let k1 : c1 ≡ front ++ JumpIfZero 0 ∷ [] = e1 ∙ sym (append_assoc base ce (JumpIfZero 0 ∷ [])) in
     let k2 : c2 ≡ front ++ JumpIfZero 0 ∷ turn = e2 ∙ ap (λ l. l ++ turn) k1 ∙ append_assoc front (JumpIfZero 0 ∷ []) turn in
-    let l2 = ap length k2 ∙ length-append front (JumpIfZero 0 ∷ turn) in
-    let far : length c2 - length base ≡ length ce + 1 + length turn = omega arith in
-    let at : n ≡ length front = omega arith in
-    let k3 : c2 ++ d ∷ [] ≡ front ++ JumpIfZero 0 ∷ (turn ++ d ∷ []) = ap (λ l. l ++ d ∷ []) k2 ∙ append_assoc front (JumpIfZero 0 ∷ turn) (d ∷ []) in
-    e3 ∙ ap (λ k. exits (Some n) (c2 ++ JumpBack k ∷ [])) far
-    ∙ test_passes (c2 ++ d ∷ []) front (turn ++ d ∷ []) (JumpIfZero 0) n k3 at
-    ∙ ap (λ k. front ++ JumpIfZero k ∷ (turn ++ d ∷ [])) (one_more turn d)
-    ∙ append_assoc base ce (i ∷ (turn ++ d ∷ []))
+    let at : n ≡ length front = omega (arith, ap length k1, length-append front (JumpIfZero 0 ∷ [])) in
+    let far : length (c2 ++ ce) - length c1 ≡ length turn + length ce = omega (arith, length-append c2 ce, ap length e2, length-append c1 turn) in
+    let flat : ((front ++ JumpIfZero 0 ∷ turn) ++ ce) ++ d ∷ [] ≡ front ++ JumpIfZero 0 ∷ behind = simp append_assoc in
+    let k3 : all ≡ front ++ JumpIfZero 0 ∷ behind = ap (λ l. (l ++ ce) ++ d ∷ []) k2 ∙ flat in
+    let long : length behind ≡ length turn + length ce + 1 = omega (arith, length-append turn (ce ++ d ∷ []), length-append ce (d ∷ [])) in
+    e3 ∙ ap (λ k. let back = (c2 ++ ce) ++ JumpBackUnlessZero k ∷ [] in slice_set back n (JumpIfZero (length back - n - 1))) far
+    ∙ test_passes all front behind (JumpIfZero 0) n k3 at
+    ∙ ap (λ k. front ++ JumpIfZero k ∷ behind) long
+    ∙ append_assoc base ce (i ∷ behind)
 
-pub patch_for : (test : Option Expression) (base row cs cp c1 c2 c3 c4 c5 c6 : List Instr) (start : ℕ) (exit : Option ℕ) → c1 ≡ base ++ Tick ∷ [] → c2 ≡ c1 ++ row → start ≡ length c2 → c3 ≡ c2 ++ test_code test → exit ≡ exit_of (length c2) test → c4 ≡ c3 ++ cs → c5 ≡ c4 ++ cp → c6 ≡ turned start exit c5 →
+pub patch_for : (test : Option Expression) (base row cs cp c1 c2 c3 c4 c5 c6 : List Instr) (start : ℕ) → c1 ≡ base ++ Tick ∷ [] → c2 ≡ c1 ++ row → c3 ≡ c2 ++ test_code test → start ≡ length c3 → c4 ≡ c3 ++ cs → c5 ≡ c4 ++ cp → c6 ≡ turned test start c5 →
     c6 ≡ base ++ (Tick ∷ (row ++ turns_code test (cs ++ cp)))
-patch_for test base row cs cp c1 c2 c3 c4 c5 c6 start exit e1 e2 m e3 out e4 e5 e6 =
+patch_for test base row cs cp c1 c2 c3 c4 c5 c6 start e1 e2 e3 m e4 e5 e6 =
     let turn : c5 ≡ c3 ++ (cs ++ cp) = e5 ∙ ap (λ l. l ++ cp) e4 ∙ append_assoc c3 cs cp in
-    let end : c6 ≡ turned (length c2) (exit_of (length c2) test) c5 = e6 ∙ ap (λ n. turned n exit c5) m ∙ ap (λ o. turned (length c2) o c5) out in
+    let end : c6 ≡ turned test (length c3) c5 = e6 ∙ ap (λ n. turned test n c5) m in
     let loop = turns_code test (cs ++ cp) in
     patch_turns test c2 (cs ++ cp) c3 c5 c6 e3 turn end
     ∙ ap (λ l. l ++ loop) (e2 ∙ ap (λ l. l ++ row) e1 ∙ append_assoc base (Tick ∷ []) row)
     ∙ append_assoc base (Tick ∷ row) loop
 
-pub turn_starts : (test cs cp c2 c3 c4 c5 : List Instr) → c3 ≡ c2 ++ test → c4 ≡ c3 ++ cs → c5 ≡ c4 ++ cp → 0 < length cs → length c2 < length c5
-turn_starts test cs cp c2 c3 c4 c5 e3 e4 e5 some =
+-- the tick of a `for` is before its body
+pub turn_follows : (base row test c1 c2 c3 : List Instr) → c1 ≡ base ++ Tick ∷ [] → c2 ≡ c1 ++ row → c3 ≡ c2 ++ test → 0 < length c3
+turn_follows base row test c1 c2 c3 e1 e2 e3 =
+    let l1 = ap length e1 ∙ length-append base (Tick ∷ []) in
+    let l2 = ap length e2 ∙ length-append c1 row in
     let l3 = ap length e3 ∙ length-append c2 test in
+    omega arith
+
+pub turn_starts : (cs cp c3 c4 c5 : List Instr) → c4 ≡ c3 ++ cs → c5 ≡ c4 ++ cp → 0 < length cs → length c3 < length c5
+turn_starts cs cp c3 c4 c5 e4 e5 some =
     let l4 = ap length e4 ∙ length-append c3 cs in
     let l5 = ap length e5 ∙ length-append c4 cp in
     omega arith

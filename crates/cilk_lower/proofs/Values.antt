@@ -1,10 +1,11 @@
 -- The machine makes the requests of the expression that its instructions were made from, and pushes
 -- its value.
-use Rattle.std.proofs.Common.{◌≡◌, ℕ, suc, ◌+◌, ◌<◌, ◌≤◌, ℤ, pos, neg_ℤ, List, [], ◌∷◌, ◌++◌, length, Option, Some, None, refl, ap, subst, arith, length-append}
+use Rattle.std.proofs.Common.{◌≡◌, ℕ, suc, ◌+◌, ◌<◌, ◌≤◌, ℤ, pos, neg_ℤ, List, [], ◌∷◌, ◌++◌, length, Option, Some, None, refl, sym, ap, subst, arith, length-append}
 use Rattle.cilk_types.specs.Input.{input_at, input_count}
 use Rattle.cilk_types.specs.Word.{word_of}
 use Rattle.cilk_types.specs.declared.fault.Fault.TheVariants.{DivisionByZero, IndexOutside, InputOutside}
 use Rattle.cilk_program.specs.declared.syntax.Array.{Array}
+use Rattle.cilk_program.specs.declared.syntax.Operator.{Operator}
 use Rattle.cilk_program.specs.declared.syntax.Place.{Place}
 use Rattle.cilk_program.specs.declared.ask.Ask.TheVariants as asks
 use Rattle.cilk_program.specs.Syntax.{Expression, Number, Variable, Element, Negate, Not, Binary, And, Or, Value, Input, InputCount, element}
@@ -12,11 +13,11 @@ use Rattle.cilk_program.specs.Operators.{is_zero, truth, truth_of, apply}
 use Rattle.cilk_program.specs.Behaviour.{Got, ◌>>=◌, tick, ask, tick_gives, or_fault, chosen, value}
 use Rattle.cilk_lower.specs.declared.code.Instr.{Instr}
 use Rattle.cilk_lower.specs.declared.code.Instr.TheVariants as instrs
-use Rattle.cilk_lower.specs.Code.{expr_code, and_code, or_code}
+use Rattle.cilk_lower.specs.Code.{literal, right_code, expr_code, and_code, or_code}
 use Rattle.cilk_lower.specs.declared.code.Owed.TheVariants.{Word}
 use Rattle.cilk_lower.specs.Machine.{Setting, Waits, ticked, or_stops}
 use Rattle.cilk_lower.specs.Rooms.{depth}
-use Rattle.cilk_lower.proofs.Leads.{Stands, Does, within, comes_one, asked_does, ticked_does, checked_does, value_does, jump_does, choose_does}
+use Rattle.cilk_lower.proofs.Leads.{Stands, Does, within, comes_one, asked_does, ticked_does, checked_does, pushed_does, value_does, jump_does, choose_does}
 use Rattle.cilk_lower.specs.Bodies.{HasAt}
 use Rattle.cilk_lower.proofs.Places.{has_front, has_back}
 
@@ -33,6 +34,33 @@ depth_some (Value r) = omega arith
 depth_some (Input e) = depth_some e
 depth_some InputCount = omega arith
 
+-- a number takes the place of its `Push`
+pub right_long : (op : Operator) (e : Expression) → length (right_code op (literal e) (expr_code e)) ≡ length (expr_code e)
+right_long op (Number n) = refl
+right_long op (Variable x) = refl
+right_long op (Element a e) = refl
+right_long op (Negate e) = refl
+right_long op (Not e) = refl
+right_long op (Binary o a b) = refl
+right_long op (And a b) = refl
+right_long op (Or a b) = refl
+right_long op (Value r) = refl
+right_long op (Input e) = refl
+right_long op InputCount = refl
+
+is_number : (e : Expression) (n : ℤ) → literal e ≡ Some n → e ≡ Number n
+is_number (Number k) n h = cc
+is_number (Variable x) n h = cc
+is_number (Element a e) n h = cc
+is_number (Negate e) n h = cc
+is_number (Not e) n h = cc
+is_number (Binary op a b) n h = cc
+is_number (And a b) n h = cc
+is_number (Or a b) n h = cc
+is_number (Value r) n h = cc
+is_number (Input e) n h = cc
+is_number InputCount n h = cc
+
 -- an operand needs at least one instruction
 pub depth_short : (e : Expression) → depth e ≤ length (expr_code e)
 depth_short (Number n) = omega arith
@@ -41,8 +69,9 @@ depth_short (Element a e) = omega (arith, depth_short e, length-append (expr_cod
 depth_short (Negate e) = omega (arith, depth_short e, length-append (expr_code e) (instrs.Negate ∷ []))
 depth_short (Not e) = omega (arith, depth_short e, length-append (expr_code e) (instrs.Not ∷ []))
 depth_short (Binary op a b) =
-    let l = length-append (expr_code a) (expr_code b ++ instrs.Apply op ∷ []) in
-    omega (arith, depth_short a, depth_short b, length-append (expr_code b) (instrs.Apply op ∷ []))
+    let cb = right_code op (literal b) (expr_code b) in
+    let l = length-append (expr_code a) (cb ++ instrs.Apply op ∷ []) in
+    omega (arith, depth_short a, depth_short b, right_long op b, length-append cb (instrs.Apply op ∷ []))
 depth_short (And a b) =
     let post = instrs.Truth ∷ (instrs.Jump 1 ∷ (instrs.Push (pos 0) ∷ [])) in
     let l = length-append (expr_code a) (instrs.JumpIfZero (length (expr_code b) + 2) ∷ (expr_code b ++ post)) in
@@ -53,6 +82,10 @@ depth_short (Or a b) =
 depth_short (Value r) = omega arith
 depth_short (Input e) = omega (arith, depth_short e, length-append (expr_code e) (instrs.Input ∷ []))
 depth_short InputCount = omega arith
+
+-- the value of an operator's operands
+abbrev applied : Operator → ℤ → ℤ → List ℤ → ℕ → Got ℤ
+applied op x y answers left = or_fault DivisionByZero (apply op x y) answers left >>= tick_gives
 
 module _ (m : Setting) where
   push_does : (n : ℤ) (pc : ℕ) (stack answers : List ℤ) (left : ℕ) → length stack < m.room → Stands m pc (instrs.Push n) → Does m pc stack stack answers left (pc + 1) (tick_gives n answers left)
@@ -75,6 +108,23 @@ module _ (m : Setting) where
       let len : pc + length ce + 1 ≡ pc + length (ce ++ i ∷ []) = omega (arith, length-append ce (i ∷ [])) in
       subst (λ n. Does m pc stack stack answers left n (value m.inputs e answers left >>= h)) len
       (value_does m pc (pc + length ce) (pc + length ce + 1) stack stack answers left (value m.inputs e answers left) h r (λ v a l. s v a l at))
+
+  -- an operator with its right operand, above the left one
+  right_does : (op : Operator) (f : Expression) (o : Option ℤ) (x : ℤ) (pc : ℕ) (stack answers : List ℤ) (left : ℕ) → literal f ≡ o →
+      (HasAt m.code.instrs pc (expr_code f) → Does m pc (x ∷ stack) (x ∷ stack) answers left (pc + length (expr_code f)) (value m.inputs f answers left)) →
+      HasAt m.code.instrs pc (right_code op o (expr_code f) ++ instrs.Apply op ∷ []) →
+      Does m pc (x ∷ stack) stack answers left (pc + length (right_code op o (expr_code f) ++ instrs.Apply op ∷ [])) (value m.inputs f answers left >>= applied op x)
+  right_does op f (Some n) x pc stack answers left e r has =
+      subst (λ f. Does m pc (x ∷ stack) stack answers left (pc + 2) (value m.inputs f answers left >>= applied op x)) (sym (is_number f n e))
+      (pushed_does m pc (pc + 2) (x ∷ stack) stack answers left (instrs.ApplyNumber op n) n DivisionByZero (apply op x) has.0 refl)
+  right_does op f None x pc stack answers left e r has =
+      let cf = expr_code f in
+      let p = pc + length cf in
+      let at = (has_back m.code.instrs pc cf (instrs.Apply op ∷ []) has).0 in
+      let len : p + 1 ≡ pc + length (cf ++ instrs.Apply op ∷ []) = omega (arith, length-append cf (instrs.Apply op ∷ [])) in
+      subst (λ n. Does m pc (x ∷ stack) stack answers left n (value m.inputs f answers left >>= applied op x)) len
+      (value_does m pc p (p + 1) (x ∷ stack) stack answers left (value m.inputs f answers left) (applied op x) (r (has_front m.code.instrs pc cf _ has))
+      (λ y a l. checked_does m p (y ∷ x ∷ stack) stack a l (instrs.Apply op) DivisionByZero (apply op x y) at refl))
 
   pub expr_does : (e : Expression) (pc : ℕ) (stack answers : List ℤ) (left : ℕ) → length stack + depth e ≤ m.room → HasAt m.code.instrs pc (expr_code e) → Does m pc stack stack answers left (pc + length (expr_code e)) (value m.inputs e answers left)
   expr_does (Number n) pc stack answers left fits has = push_does n pc stack answers left (omega arith) has.0
@@ -99,18 +149,16 @@ module _ (m : Setting) where
       ticked_does m pc stack stack answers left instrs.InputCount (input_count m.inputs) has.0 (within (length stack) m.room _ _ (omega arith))
   expr_does (Binary op e f) pc stack answers left fits has =
       let ca = expr_code e in let cb = expr_code f in
+      let right = right_code op (literal f) cb ++ instrs.Apply op ∷ [] in
       let p1 = pc + length ca in
-      let p2 = p1 + length cb in
-      let behind = has_back m.code.instrs pc ca (cb ++ instrs.Apply op ∷ []) has in
-      let at = (has_back m.code.instrs p1 cb (instrs.Apply op ∷ []) behind).0 in
+      let p3 = p1 + length right in
+      let behind = has_back m.code.instrs pc ca right has in
       let room_a : length stack + depth e ≤ m.room = omega arith in
       let room_b : suc (length stack) + depth f ≤ m.room = omega arith in
-      let len : p2 + 1 ≡ pc + length (ca ++ (cb ++ instrs.Apply op ∷ [])) = omega (arith, length-append ca (cb ++ instrs.Apply op ∷ []), length-append cb (instrs.Apply op ∷ [])) in
-      let applied : ℤ → ℤ → List ℤ → ℕ → Got ℤ = λ x y a l. or_fault DivisionByZero (apply op x y) a l >>= tick_gives in
+      let len : p3 ≡ pc + length (ca ++ right) = omega (arith, length-append ca right) in
       subst (λ n. Does m pc stack stack answers left n (value m.inputs (Binary op e f) answers left)) len
-      (value_does m pc p1 (p2 + 1) stack stack answers left (value m.inputs e answers left) (λ x a l. value m.inputs f a l >>= applied x) (expr_does e pc stack answers left room_a (has_front m.code.instrs pc ca _ has))
-      (λ x a l. value_does m p1 p2 (p2 + 1) (x ∷ stack) stack a l (value m.inputs f a l) (applied x) (expr_does f p1 (x ∷ stack) a l room_b (has_front m.code.instrs p1 cb _ behind))
-      (λ y a l. checked_does m p2 (y ∷ x ∷ stack) stack a l (instrs.Apply op) DivisionByZero (apply op x y) at refl)))
+      (value_does m pc p1 p3 stack stack answers left (value m.inputs e answers left) (λ x a l. value m.inputs f a l >>= applied op x) (expr_does e pc stack answers left room_a (has_front m.code.instrs pc ca _ has))
+      (λ x a l. right_does op f (literal f) x p1 stack a l refl (λ at. expr_does f p1 (x ∷ stack) a l room_b at) behind))
   expr_does (And e f) pc stack answers left fits has =
       let ca = expr_code e in let cb = expr_code f in
       let post = instrs.Truth ∷ (instrs.Jump 1 ∷ (instrs.Push (pos 0) ∷ [])) in

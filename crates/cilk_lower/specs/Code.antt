@@ -1,8 +1,9 @@
 -- The code of statements and bodies.
-use Rattle.std.specs.Prelude.{◌≡◌, ◌+◌, ◌-◌, ◌^◌, ◌≤◌, ℕ, zero, suc, pos, Bool, true, false, IsTrue, List, [], ◌∷◌, ◌++◌, length, Option, Some, None, slice_get, unwrap_or}
+use Rattle.std.specs.Prelude.{◌≡◌, ◌+◌, ◌-◌, ◌^◌, ◌≤◌, ℕ, zero, suc, pos, Bool, true, false, IsTrue, List, [], ◌∷◌, ◌++◌, length, Option, Some, None, slice_get, unwrap_or, ℤ}
 use Rattle.cilk_monoid.specs.declared.kind.MonoidKind.{MonoidKind}
 use Rattle.cilk_program.specs.declared.ask.Callee.{Callee}
 use Rattle.cilk_program.specs.declared.ask.Callee.TheVariants as callees
+use Rattle.cilk_program.specs.declared.syntax.Operator.{Operator}
 use Rattle.cilk_program.specs.declared.syntax.Place.TheVariants as places
 use Rattle.cilk_program.specs.declared.syntax.ReducerPlace.{ReducerPlace}
 use Rattle.cilk_program.specs.declared.syntax.ReducerPlace.TheVariants as reducers
@@ -35,13 +36,33 @@ and_code a b = a ++ (instrs.JumpIfZero (length b + 2) ∷ (b ++ (instrs.Truth �
 abbrev pub or_code : List Instr → List Instr → List Instr
 or_code a b = a ++ (instrs.JumpIfZero 2 ∷ (instrs.Push (pos 1) ∷ (instrs.Jump (length b + 1) ∷ (b ++ instrs.Truth ∷ []))))
 
+-- the number, if the expression is one
+abbrev pub literal : Expression → Option ℤ
+literal (Number n) = Some n
+literal (Variable x) = None
+literal (Element a e) = None
+literal (Negate e) = None
+literal (Not e) = None
+literal (Binary op a b) = None
+literal (And a b) = None
+literal (Or a b) = None
+literal (Value r) = None
+literal (Input e) = None
+literal InputCount = None
+
+-- The code of an operator's right operand. A number is pushed and applied at once, and the `Apply`
+-- that follows is skipped.
+abbrev pub right_code : Operator → Option ℤ → List Instr → List Instr
+right_code op (Some n) code = instrs.ApplyNumber op n ∷ []
+right_code op None code = code
+
 abbrev pub expr_code : Expression → List Instr
 expr_code (Number n) = instrs.Push n ∷ []
 expr_code (Variable x) = instrs.Load x ∷ []
 expr_code (Element a e) = expr_code e ++ instrs.LoadElement a ∷ []
 expr_code (Negate e) = expr_code e ++ instrs.Negate ∷ []
 expr_code (Not e) = expr_code e ++ instrs.Not ∷ []
-expr_code (Binary op a b) = expr_code a ++ (expr_code b ++ instrs.Apply op ∷ [])
+expr_code (Binary op a b) = expr_code a ++ (right_code op (literal b) (expr_code b) ++ instrs.Apply op ∷ [])
 expr_code (And a b) = and_code (expr_code a) (expr_code b)
 expr_code (Or a b) = or_code (expr_code a) (expr_code b)
 expr_code (Value r) = instrs.Value r ∷ []
@@ -125,10 +146,11 @@ if_code test a = test ++ (instrs.JumpIfZero (length a) ∷ a)
 abbrev pub if_else_code : List Instr → List Instr → List Instr → List Instr
 if_else_code test a b = test ++ (instrs.JumpIfZero (length a + 1) ∷ (a ++ (instrs.Jump (length b) ∷ b)))
 
--- a loop with a condition; a turn is the body and the step
+-- A loop with a condition. A turn is the body and the step, and then the condition again, which goes
+-- back to the body.
 abbrev pub while_code : List Instr → List Instr → List Instr
 while_code test turn =
-    test ++ (instrs.JumpIfZero (length turn + 1) ∷ (turn ++ instrs.JumpBack (length test + 1 + length turn) ∷ []))
+    test ++ (instrs.JumpIfZero (length turn + length test + 1) ∷ (turn ++ (test ++ instrs.JumpBackUnlessZero (length turn + length test) ∷ [])))
 
 -- a loop without a condition
 abbrev pub forever_code : List Instr → List Instr
@@ -209,6 +231,7 @@ ticks (Some (instrs.AddNumber n)) = false
 ticks (Some instrs.Negate) = true
 ticks (Some instrs.Not) = true
 ticks (Some (instrs.Apply op)) = true
+ticks (Some (instrs.ApplyNumber op n)) = true
 ticks (Some instrs.Truth) = true
 ticks (Some (instrs.Value r)) = true
 ticks (Some instrs.Input) = true
@@ -228,6 +251,7 @@ ticks (Some (instrs.JumpIfZero n)) = false
 ticks (Some (instrs.SkipUnlessOne n)) = false
 ticks (Some (instrs.Jump n)) = false
 ticks (Some (instrs.JumpBack n)) = false
+ticks (Some (instrs.JumpBackUnlessZero n)) = false
 ticks (Some instrs.SetResult) = false
 ticks (Some instrs.Sync) = false
 ticks (Some instrs.GiveResult) = false
@@ -235,11 +259,13 @@ ticks (Some instrs.End) = false
 
 -- A jump stays within the code, and a jump back leads to an instruction that uses a tick.
 abbrev pub Lands : List Instr → ℕ → Instr → Type 0
+Lands code place (instrs.ApplyNumber op n) = place + 2 ≤ length code
 Lands code place (instrs.CallLoop n) = place + 2 ≤ length code
 Lands code place (instrs.JumpIfZero n) = place + 1 + n ≤ length code
 Lands code place (instrs.SkipUnlessOne n) = place + 1 + n ≤ length code
 Lands code place (instrs.Jump n) = place + 1 + n ≤ length code
 Lands code place (instrs.JumpBack n) = (n ≤ place) × IsTrue (ticks (slice_get code (place - n)))
+Lands code place (instrs.JumpBackUnlessZero n) = (n ≤ place) × IsTrue (ticks (slice_get code (place - n)))
 Lands code place _ = Unit {0}
 
 abbrev pub JumpsLand : List Instr → Type 0

@@ -123,6 +123,8 @@ module _ (m : Setting) where
   move (Some instrs.Not) place stack held left = on_top stack (λ v rest. ticked left (Goes (place + 1) (truth_of (is_zero v) ∷ rest) held))
   move (Some (instrs.Apply op)) place stack held left =
       on_two stack (λ x y rest. or_stops DivisionByZero (apply op x y) left (λ v. ticked left (Goes (place + 1) (v ∷ rest) held)))
+  move (Some (instrs.ApplyNumber op n)) place stack held left =
+      on_top stack (λ x rest. ticked left (λ left. or_stops DivisionByZero (apply op x n) left (λ v. ticked left (Goes (place + 2) (v ∷ rest) held))))
   move (Some instrs.Truth) place stack held left = on_top stack (λ v rest. ticked left (Goes (place + 1) (truth v ∷ rest) held))
   move (Some (instrs.Value r)) place stack held left = ticked left (Waits (asks.Value r) Word (place + 1) stack held)
   move (Some instrs.Input) place stack held left =
@@ -154,6 +156,8 @@ module _ (m : Setting) where
       on_some m.given.part (λ l. if has_one l then Goes (place + 1) stack held left else Goes (place + 1 + n) stack held left)
   move (Some (instrs.Jump n)) place stack held left = Goes (place + 1 + n) stack held left
   move (Some (instrs.JumpBack n)) place stack held left = Goes (place - n) stack held left
+  move (Some (instrs.JumpBackUnlessZero n)) place stack held left =
+      on_top stack (λ v rest. if is_zero v then Goes (place + 1) rest held left else Goes (place - n) rest held left)
   move (Some instrs.SetResult) place stack held left = on_top stack (λ v rest. Goes (place + 1) rest v left)
   move (Some instrs.Sync) place stack held left = on_none stack (Waits asks.Sync Nothing (place + 1) [] held left)
   move (Some instrs.GiveResult) place stack held left =

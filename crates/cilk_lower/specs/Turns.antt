@@ -1,5 +1,5 @@
 -- The code of a `for` while it is emitted.
-use Rattle.std.specs.Prelude.{◌+◌, ◌-◌, ℕ, List, [], ◌∷◌, ◌++◌, length, Option, Some, None, slice_set}
+use Rattle.std.specs.Prelude.{◌-◌, ℕ, List, [], ◌∷◌, ◌++◌, length, Option, Some, None, slice_set}
 use Rattle.cilk_program.specs.Syntax.{Expression}
 use Rattle.cilk_lower.specs.declared.code.Instr.{Instr}
 use Rattle.cilk_lower.specs.declared.code.Instr.TheVariants as instrs
@@ -10,16 +10,11 @@ abbrev pub test_code : Option Expression → List Instr
 test_code None = []
 test_code (Some e) = expr_code e ++ instrs.JumpIfZero 0 ∷ []
 
--- the place of that jump, if the condition begins at n
-abbrev pub exit_of : ℕ → Option Expression → Option ℕ
-exit_of n None = None
-exit_of n (Some e) = Some (n + length (expr_code e))
+-- the condition again, and a jump back to the body
+abbrev pub again : Expression → ℕ → List Instr → List Instr
+again e start code = (code ++ expr_code e) ++ instrs.JumpBackUnlessZero (length (code ++ expr_code e) - start) ∷ []
 
--- patches the jump, which then skips all code after it
-abbrev pub exits : Option ℕ → List Instr → List Instr
-exits None code = code
-exits (Some n) code = slice_set code n (instrs.JumpIfZero (length code - n - 1))
-
--- ends a turn with a jump back to its start
-abbrev pub turned : ℕ → Option ℕ → List Instr → List Instr
-turned start exit code = exits exit (code ++ instrs.JumpBack (length code - start) ∷ [])
+-- Ends a turn whose body begins at `start`. The jump before the body then skips all code after it.
+abbrev pub turned : Option Expression → ℕ → List Instr → List Instr
+turned None start code = code ++ instrs.JumpBack (length code - start) ∷ []
+turned (Some e) start code = slice_set (again e start code) (start - 1) (instrs.JumpIfZero (length (again e start code) - (start - 1) - 1))

@@ -13,8 +13,8 @@ use cilk_types::invocation::Invocation;
 use std::marker::Model;
 
 /// An instruction. It makes at most one request. It uses one tick if it is `Tick`, `Push`, `Load`,
-/// `LoadElement`, `Negate`, `Not`, `Apply`, `Truth`, `Value`, `Input` or `InputCount`, and none
-/// otherwise. A forward jump gives the number of instructions that it skips.
+/// `LoadElement`, `Negate`, `Not`, `Apply`, `Truth`, `Value`, `Input` or `InputCount`, two if it is
+/// `ApplyNumber`, and none otherwise. A forward jump gives the number of instructions that it skips.
 #[derive(Clone, Copy)]
 pub enum Instr {
     /// Begins a statement.
@@ -45,6 +45,8 @@ pub enum Instr {
     Not,
     /// Applies an operator to the two topmost values. The right operand is on top.
     Apply(Operator),
+    /// Does what a `Push` of a number and the `Apply` that follows do, and continues after it.
+    ApplyNumber(Operator, i64),
     /// Replaces the top by 0 if it is 0, else by 1.
     Truth,
     /// Pushes the number of a reducer's view.
@@ -84,6 +86,8 @@ pub enum Instr {
     Jump(usize),
     /// Goes back n instructions.
     JumpBack(usize),
+    /// Pops a value, and goes back n instructions unless it is 0.
+    JumpBackUnlessZero(usize),
     /// Pops a value, and keeps it as the frame's result.
     SetResult,
     /// Waits for the children that the frame spawned.

@@ -11,12 +11,11 @@ use crate::bodies::{put_own, put_words};
 use crate::code::{EntryPoint, Instr, Site};
 use crate::expressions::{emit_value, emit_values};
 use crate::put::{
-    begin, begin_else, end_turn, pass, pass_if_zero, pass_unless_one, put, put_ends, put_halves,
-    put_jump,
+    begin, begin_else, pass, pass_if_zero, pass_unless_one, put, put_ends, put_halves, put_jump,
 };
 use crate::simple::{
     emit_assign, emit_change, emit_choice, emit_last, emit_parallel, emit_return, emit_step,
-    emit_sync, emit_test,
+    emit_sync, emit_test, end_turn,
 };
 use cilk_program::given::References;
 use cilk_program::program::{Function, Loop};
@@ -124,11 +123,11 @@ impl Emitter {
             Stmt::For(beginning, test, step, body) => {
                 begin(&mut self.instrs)?;
                 self.emit_all(beginning)?;
+                emit_test(&mut self.instrs, &mut self.room, test)?;
                 let start = self.instrs.len();
-                let exit = emit_test(&mut self.instrs, &mut self.room, test)?;
                 self.emit_stmt(body)?;
                 self.emit_all(step)?;
-                end_turn(&mut self.instrs, start, exit)?;
+                end_turn(&mut self.instrs, &mut self.room, test, start)?;
                 Ok(())
             }
             Stmt::ParallelFor(a, b, n) => emit_parallel(&mut self.instrs, &mut self.room, a, b, *n),

@@ -2,13 +2,13 @@
 
 ghost use Rattle.std.specs.Prelude.{◌≡◌, ◌+◌, ◌<◌, ◌^◌, max, map, [], ◌∷◌, ◌++◌, length, IfOk, OnOk};
 ghost use Rattle.cilk_lower.specs.declared.code.Instr.{Instr};
-ghost use Rattle.cilk_lower.specs.Code.{expr_code, exprs_code};
+ghost use Rattle.cilk_lower.specs.Code.{expr_code, exprs_code, literal, right_code};
 ghost use Rattle.cilk_lower.specs.Rooms.{depth, depths};
 ghost use Rattle.cilk_program.specs.Programs.{expression};
 
 use crate::code::Instr;
 use crate::put::{begin, begin_or, end_and, end_or, put, put_jump, put_operand};
-use cilk_program::syntax::Expr;
+use cilk_program::syntax::{Expr, Operator};
 use std::alloc::AllocError;
 
 /// Emits a statement's tick and its expression.
@@ -72,7 +72,7 @@ fn emit_expr(code: &mut Vec<Instr>, e: &Expr) -> Result<usize, AllocError>
         Expr::Input(e) => emit_unary(code, e, Instr::Input),
         Expr::Binary(operator, a, b) => {
             let left = emit_expr(code, a)?;
-            let right = emit_expr(code, b)?;
+            let right = emit_right(code, *operator, b)?;
             put(code, Instr::Apply(*operator))?;
             Ok(left.max(right + 1))
         }
@@ -90,6 +90,28 @@ fn emit_expr(code: &mut Vec<Instr>, e: &Expr) -> Result<usize, AllocError>
             end_or(code, jump)?;
             Ok(left.max(right))
         }
+    }
+}
+
+// Emits the right operand of an operator. A number is pushed and applied at once.
+#[cycle(expressions)]
+fn emit_right(code: &mut Vec<Instr>, operator: Operator, e: &Expr) -> Result<usize, AllocError>
+    ensures code { let right = expression e.now in OnOk result (code.new.items ≡ code.old.items ++ right_code operator (literal right) (expr_code right)) }
+    ensures depth { IfOk result (λ d. d ≡ depth (expression e.now)) }
+{
+    match number_of(e) {
+        Some(n) => put_operand(code, Instr::ApplyNumber(operator, n)),
+        None => emit_expr(code, e),
+    }
+}
+
+// The number, if the expression is one.
+fn number_of(e: &Expr) -> Option<i64>
+    ensures { result ≡ literal (expression e.now) }
+{
+    match e {
+        Expr::Number(n) => Some(n.value),
+        _ => None,
     }
 }
 

@@ -1,10 +1,11 @@
 //! Laws of the machine, each the contract of an empty function.
 
-ghost use Rattle.std.specs.Prelude.{◌≡◌, ℕ, ℤ, List, Option};
-ghost use Rattle.cilk_lower.specs.Machine.{exec, move, Reaches, Setting};
+ghost use Rattle.std.specs.Prelude.{◌≡◌, ◌<◌, ◌∷◌, ℕ, ℤ, List, Option, Some, length};
+ghost use Rattle.cilk_lower.specs.Machine.{exec, going, move, Next, Reaches, Setting};
 ghost use Rattle.cilk_lower.specs.Strands.{IsClear};
 ghost use Rattle.cilk_lower.specs.declared.code.Instr.{Instr};
 ghost use Rattle.cilk_program.specs.Behaviour.{OpenAsk};
+ghost use Rattle.cilk_program.specs.declared.syntax.Operator.{Operator};
 
 /// The machine reaches at most one request, whatever the bound on its instructions. So code has at
 /// most one behaviour.
@@ -22,4 +23,15 @@ pub fn machine_asks_once()
 pub fn no_operand_waits()
     ensures { (m : Setting) (i : Option Instr) (place : ℕ) (stack : List ℤ) (held : ℤ) (left : ℕ) →
         IsClear (move m i place stack held left) }
+{}
+
+/// An `ApplyNumber` does what a `Push` of the number and then an `Apply` do, whatever the ticks left
+/// and whatever comes next.
+#[tactic(auto, using(crate::proofs::Numbers::as_two))]
+pub fn number_is_applied_at_once()
+    ensures { (m : Setting) (op : Operator) (n x : ℤ) (place : ℕ) (stack : List ℤ) (held : ℤ) (answers : List ℤ) (next : Next) (left : ℕ) →
+        length (x ∷ stack) < m.room →
+        going m.room (move m (Some (Instr.Push n)) place (x ∷ stack) held left) answers
+        (λ place stack held answers left. going m.room (move m (Some (Instr.Apply op)) place stack held left) answers next)
+        ≡ going m.room (move m (Some (Instr.ApplyNumber op n)) place (x ∷ stack) held left) answers next }
 {}

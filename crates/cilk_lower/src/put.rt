@@ -3,10 +3,9 @@
 //! A forward jump is first written with distance 0, and patched when the instructions that it skips
 //! have been appended.
 
-ghost use Rattle.std.specs.Prelude.{◌≡◌, ◌+◌, ◌-◌, ◌<◌, pos, [], ◌∷◌, ◌++◌, length, IfOk, IfSome, OnOk, slice_set};
+ghost use Rattle.std.specs.Prelude.{◌≡◌, ◌+◌, ◌-◌, ◌<◌, pos, [], ◌∷◌, ◌++◌, length, IfOk, OnOk, slice_set};
 ghost use Rattle.cilk_lower.specs.declared.code.Instr.{Instr};
 ghost use Rattle.cilk_lower.specs.Code.{ends, halves_code};
-ghost use Rattle.cilk_lower.specs.Turns.{turned};
 
 use crate::code::Instr;
 use cilk_monoid::kind::MonoidKind;
@@ -99,27 +98,22 @@ pub fn begin_else(code: &mut Vec<Instr>, skip: usize) -> Result<usize, AllocErro
     Ok(jump)
 }
 
-/// Appends the jump from the end of a turn back to its start. Patches the test at `exit`, if there
-/// is one, which leaves the loop.
-pub fn end_turn(code: &mut Vec<Instr>, start: usize, exit: Option<usize>) -> Result<(), AllocError>
-    requires start { start < length code.old.items }
-    requires exit { IfSome exit (λ n. n < length code.old.items) }
-    ensures { OnOk result (code.new.items ≡ turned start exit code.old.items) }
-{
-    go_back(code, start)?;
-    if let Some(place) = exit {
-        pass_if_zero(code, place);
-    }
-    Ok(())
-}
-
 /// Appends a jump back to a place.
-fn go_back(code: &mut Vec<Instr>, start: usize) -> Result<(), AllocError>
+pub fn go_back(code: &mut Vec<Instr>, start: usize) -> Result<(), AllocError>
     requires { start < length code.old.items }
     ensures { OnOk result (code.new.items ≡ code.old.items ++ Instr.JumpBack (length code.old.items - start) ∷ []) }
 {
     let end = code.len();
     put(code, Instr::JumpBack(end - start))
+}
+
+/// Appends a jump back to a place unless the value on top is 0.
+pub fn go_back_unless_zero(code: &mut Vec<Instr>, start: usize) -> Result<(), AllocError>
+    requires { start < length code.old.items }
+    ensures { OnOk result (code.new.items ≡ code.old.items ++ Instr.JumpBackUnlessZero (length code.old.items - start) ∷ []) }
+{
+    let end = code.len();
+    put(code, Instr::JumpBackUnlessZero(end - start))
 }
 
 /// Patches the test at a place, which then skips all instructions after it.

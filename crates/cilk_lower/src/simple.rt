@@ -1,15 +1,15 @@
 //! Emits the statements that contain no other statement.
 
-ghost use Rattle.std.specs.Prelude.{◌≡◌, ◌+◌, max, [], ◌∷◌, ◌++◌, length, IfOk, OnOk};
+ghost use Rattle.std.specs.Prelude.{◌≡◌, ◌+◌, ◌<◌, max, [], ◌∷◌, ◌++◌, length, IfOk, OnOk};
 ghost use Rattle.cilk_lower.specs.declared.code.Instr.{Instr};
 ghost use Rattle.cilk_lower.specs.Code.{expr_code, fetch, index_code, return_code, store};
 ghost use Rattle.cilk_lower.specs.Rooms.{depth, index_depth, indices, optional_depth};
-ghost use Rattle.cilk_lower.specs.Turns.{exit_of, test_code};
+ghost use Rattle.cilk_lower.specs.Turns.{test_code, turned};
 ghost use Rattle.cilk_program.specs.Programs.{expression, optional, target};
 
 use crate::code::Instr;
 use crate::expressions::{emit_above, emit_begun, emit_value};
-use crate::put::{begin, put, put_ends, put_jump};
+use crate::put::{begin, go_back, go_back_unless_zero, pass_if_zero, put, put_ends, put_jump};
 use cilk_program::syntax::{Expr, Target};
 use cilk_types::compound::Compound;
 use std::alloc::AllocError;
@@ -43,24 +43,46 @@ pub fn emit_choice(
     put_jump(code, Instr::JumpIfZero(0))
 }
 
-/// Emits the condition of a `for`, if there is one, with a conditional jump, and returns the jump's
-/// place. The jump's distance is set later.
+/// Emits the condition of a `for`, if there is one, with a conditional jump. The jump's distance is
+/// set later.
 pub fn emit_test(
     code: &mut Vec<Instr>,
     room: &mut usize,
     test: &Option<Expr>,
-) -> Result<Option<usize>, AllocError>
+) -> Result<(), AllocError>
     ensures code { OnOk result (code.new.items ≡ code.old.items ++ test_code (optional test.now)) }
-    ensures exit { IfOk result (λ exit. exit ≡ exit_of (length code.old.items) (optional test.now)) }
     ensures room { OnOk result (room.new ≡ max room.old (optional_depth (optional test.now))) }
 {
     match test {
         Some(e) => {
             emit_value(code, room, e)?;
-            let exit = put_jump(code, Instr::JumpIfZero(0))?;
-            Ok(Some(exit))
+            put(code, Instr::JumpIfZero(0))
         }
-        None => Ok(None),
+        None => Ok(()),
+    }
+}
+
+/// Emits the end of a turn whose body begins at `start`: the condition of a `for` again, if there is
+/// one, and a jump back. Patches the jump before the body, which leaves the loop.
+pub fn end_turn(
+    code: &mut Vec<Instr>,
+    room: &mut usize,
+    test: &Option<Expr>,
+    start: usize,
+) -> Result<(), AllocError>
+    requires first { 0 < start }
+    requires start { start < length code.old.items }
+    ensures code { OnOk result (code.new.items ≡ turned (optional test.now) start code.old.items) }
+    ensures room { OnOk result (room.new ≡ max room.old (optional_depth (optional test.now))) }
+{
+    match test {
+        Some(e) => {
+            emit_value(code, room, e)?;
+            go_back_unless_zero(code, start)?;
+            pass_if_zero(code, start - 1);
+            Ok(())
+        }
+        None => go_back(code, start),
     }
 }
 

@@ -1,5 +1,5 @@
 -- The answer to a frame, from the effect on the store.
-use Rattle.std.proofs.Common.{◌≡◌, ℤ, pos, Result, Ok, Err, IfOk, MatchResult, OnOk, sym, ap, ◌∙◌, subst}
+use Rattle.std.proofs.Common.{◌≡◌, ℤ, pos, Result, Ok, Err, IfOk, OnOk, refl, sym, ap, ◌∙◌, subst}
 use Rattle.cilk_types.specs.declared.event.Event.{Event}
 use Rattle.cilk_types.specs.declared.event.Instance.{Instance}
 use Rattle.cilk_program.specs.declared.ask.Ask.{Ask}
@@ -12,9 +12,11 @@ use Rattle.cilk_frames.specs.declared.cursor.Answer.TheVariants.{Done, Value}
 use Rattle.cilk_frames.specs.AskSlot.{in_full}
 use Rattle.cilk_frames.specs.Following.{Fits, owed_for, word_in}
 use Rattle.cilk_serial.specs.declared.answer.Told.{Told}
-use Rattle.cilk_serial.specs.declared.answer.Told.TheVariants.{Goes}
+use Rattle.cilk_serial.specs.declared.answer.Told.TheVariants.{Goes, Turns, Ends, Stops, Full}
+use Rattle.cilk_serial.specs.declared.state.Refused.{Refused}
+use Rattle.cilk_serial.specs.declared.state.Refused.TheVariants as refuseds
 use Rattle.cilk_serial.specs.declared.state.State.{State}
-use Rattle.cilk_serial.specs.States.{EventMade, Makes, Answers, Tells}
+use Rattle.cilk_serial.specs.States.{EventMade, Makes, Answers, Fills, Passes, Tells}
 
 module _ (p : Source) (fr : Frame) (s s' : State) (k : Ask) (word : Memory → ℤ) (event : Memory → Event) (store : Memory → Store Instance)
     (words : (m : Memory) → word m ≡ answer_to fr m k) (events : (m : Memory) → event m ≡ event_of fr m k) (stores : (m : Memory) → store m ≡ stored p fr m k) where
@@ -40,7 +42,17 @@ module _ (p : Source) (fr : Frame) (s s' : State) (k : Ask) (word : Memory → �
   tells_word (Err e) fits value makes = tt
 
 -- the frame continues with the answer of its store
-pub told : {E : Type 0} (p : Source) (fr : Frame) (s s' : State) (b : SmallAsk) (k : Ask) (r : Result Answer E) (r' : Result Told E) → k ≡ in_full b → IsInner k → MatchResult r (λ a. r' ≡ Ok (Goes a)) (λ e. r' ≡ Err e) → IfOk r (λ a. Answers p fr s s' k a)
+pub told : {E : Type 0} (p : Source) (fr : Frame) (s s' : State) (b : SmallAsk) (k : Ask) (r : Result Answer Refused) (r' : Result Told E) → k ≡ in_full b → IsInner k → Passes r r' → Fills r s.events.items s s' → IfOk r (λ a. Answers p fr s s' k a)
     → IfOk r' (λ t. Tells p fr s s' (in_full b) t)
-told {E} p fr s s' b k (Ok a) r' same inner is h = subst (λ (k : Ask). IfOk r' (λ t. Tells p fr s s' k t)) same (subst (λ (x : Result Told E). IfOk x (λ t. Tells p fr s s' k t)) (sym is) (inner, h))
-told {E} p fr s s' b k (Err e) r' same inner is h = subst (λ (x : Result Told E). IfOk x (λ t. Tells p fr s s' (in_full b) t)) (sym is) tt
+told {E} p fr s s' b k (Ok a) r' same inner is room h = subst (λ (k : Ask). IfOk r' (λ t. Tells p fr s s' k t)) same (subst (λ (x : Result Told E). IfOk x (λ t. Tells p fr s s' k t)) (sym is) (inner, room, h))
+told {E} p fr s s' b k (Err refuseds.Full) r' same inner is room h = subst (λ (k : Ask). IfOk r' (λ t. Tells p fr s s' k t)) same (subst (λ (x : Result Told E). IfOk x (λ t. Tells p fr s s' k t)) (sym is) (room.0, inner, room.1))
+told {E} p fr s s' b k (Err refuseds.Memory) (Ok t) same inner is room h = cc
+told {E} p fr s s' b k (Err refuseds.Memory) (Err e) same inner is room h = tt
+
+-- a request after which the frame doesn't continue at once changes nothing
+pub unchanged : (p : Source) (fr : Frame) (s s' : State) (k : Ask) (t : Told) → ((a : Answer) → t ≡ Goes a → ⊥) → Tells p fr s s' k t → s' ≡ s
+unchanged p fr s s' k (Goes a) other h = absurd (other a refl)
+unchanged p fr s s' k (Turns how part) other h = h.0
+unchanged p fr s s' k (Ends v) other h = h.0
+unchanged p fr s s' k (Stops f) other h = h.0
+unchanged p fr s s' k Full other h = h.0

@@ -1,6 +1,6 @@
 -- A run in progress, from one event to the next.
-use Rattle.std.proofs.Common.{◌≡◌, ◌⊎◌, inl, inr, ⊎_elim, ℕ, suc, ◌+◌, ◌-◌, ◌<◌, ◌≤◌, nat_eq, nat_lt, ℤ, pos, if◌then◌else◌, List, [], ◌∷◌, ◌++◌, length, reverse, get_or, Some, None, refl, sym, ap, ◌∙◌, subst, arith, length-append, append_assoc, append-nil}
-use Rattle.std.proofs.lemmas.Bool.{cases_Bool, ltb-true, ltb-false}
+use Rattle.std.proofs.Common.{◌≡◌, ◌⊎◌, inl, inr, ⊎_elim, ℕ, suc, ◌+◌, ◌-◌, ◌<◌, ◌≤◌, nat_eq, nat_lt, ℤ, pos, if◌then◌else◌, List, [], ◌∷◌, ◌++◌, length, reverse, get_or, Option, Some, None, refl, sym, ap, ◌∙◌, subst, arith, length-append, append_assoc, append-nil}
+use Rattle.std.proofs.lemmas.Bool.{cases_Bool, eq-eqb, ltb-true, ltb-false, ne_eqb}
 use Rattle.std.proofs.lemmas.Option.{unwrap_or-slice_get}
 use Rattle.std.specs.Prelude.{IsTrue}
 use Rattle.cilk_types.specs.declared.event.Event.{Event}
@@ -110,7 +110,7 @@ inner_has (asks.Result v) h = tt
 inner_has (asks.End v) h = absurd h
 inner_has (asks.Fault f) h = absurd h
 
-cursor_moves : (p : Source) (a : Activation) (c : CursorView) (fr : Frame) (parents : List Parent) → Scoped p a fr parents → Scoped p (record a { cursor = c }) fr parents
+pub cursor_moves : (p : Source) (a : Activation) (c : CursorView) (fr : Frame) (parents : List Parent) → Scoped p a fr parents → Scoped p (record a { cursor = c }) fr parents
 cursor_moves p a c fr parents s = record {
   number = s.number;
   outer = s.outer;
@@ -453,21 +453,44 @@ pub crowd_refuses : (p : Source) (s : State) (k : Ask) (how : Invocation) (calle
 crowd_refuses p s k how callee n f is cells some m h = subst (λ k. Some f ≡ refused p m k) (sym is) (some p callee m cells h)
 
 -- a request after which the frame continues at once needs only room for an event
-pub allowed_inner : (p : Source) (m : Memory) (k : Ask) → IsInner k → full m ≡ None → refused p m k ≡ None
-allowed_inner p m asks.Begin h room = room
-allowed_inner p m (asks.Read x) h room = room
-allowed_inner p m (asks.Write x v) h room = room
-allowed_inner p m (asks.Create r) h room = room
-allowed_inner p m (asks.Update r v) h room = room
-allowed_inner p m (asks.Set r v) h room = room
-allowed_inner p m (asks.Value r) h room = room
-allowed_inner p m (asks.Print v) h room = room
-allowed_inner p m (asks.Invoke how callee) h room = absurd h
-allowed_inner p m asks.Resume h room = room
-allowed_inner p m asks.Sync h room = room
-allowed_inner p m (asks.Result v) h room = room
-allowed_inner p m (asks.End v) h room = absurd h
-allowed_inner p m (asks.Fault f) h room = absurd h
+pub inner_full : (p : Source) (m : Memory) (k : Ask) → IsInner k → refused p m k ≡ full m
+inner_full p m asks.Begin h = refl
+inner_full p m (asks.Read x) h = refl
+inner_full p m (asks.Write x v) h = refl
+inner_full p m (asks.Create r) h = refl
+inner_full p m (asks.Update r v) h = refl
+inner_full p m (asks.Set r v) h = refl
+inner_full p m (asks.Value r) h = refl
+inner_full p m (asks.Print v) h = refl
+inner_full p m (asks.Invoke how callee) h = absurd h
+inner_full p m asks.Resume h = refl
+inner_full p m asks.Sync h = refl
+inner_full p m (asks.Result v) h = refl
+inner_full p m (asks.End v) h = absurd h
+inner_full p m (asks.Fault f) h = absurd h
+
+abbrev event_left : ℕ → Option Fault
+event_left n = if nat_eq n 0 then Some TooManyEvents else None
+
+some_left : (n : ℕ) → 0 < n → event_left n ≡ None
+some_left n h = ap (λ b. if b then Some TooManyEvents else None) (ne_eqb n 0 (λ e. absurd (omega (arith, h, e))))
+
+-- one more event may be made, if there is room
+pub not_full : (s : State) (m : Memory) → Shows s m → length s.events.items < MAX_EVENTS → full m ≡ None
+not_full s m h room = let left = h.room in some_left m.room (omega (arith, left, room))
+
+pub is_full : (s : State) (m : Memory) → Shows s m → MAX_EVENTS ≤ length s.events.items → full m ≡ Some TooManyEvents
+is_full s m h many =
+    let left = h.room in
+    let none : m.room ≡ 0 = omega (arith, left, many) in
+    ap (λ b. if b then Some TooManyEvents else None) (eq-eqb m.room 0 none)
+
+pub allowed : (p : Source) (s : State) (k : Ask) → ((m : Memory) → refused p m k ≡ full m) → length s.events.items < MAX_EVENTS → IsAllowed p s k
+allowed p s k only room m h = only m ∙ not_full s m h room
+
+-- a full trace stops the run by a fault
+pub stops_full : (code : CodeView) (p : Source) (inputs : List ℤ) (r : Running) → IsTrue (is_well_named p) → (g : Going code p inputs r) → ((m : Memory) → refused p m r.ask ≡ full m) → MAX_EVENTS ≤ length r.state.events.items → StopsAfter p inputs r.state.events.items TooManyEvents
+stops_full code p inputs r well g only many = stops code p inputs r TooManyEvents well g (λ m h. sym (only m ∙ is_full r.state m h many))
 
 -- the same state, renamed
 pub ended_as : (p : Source) (inputs : List ℤ) (s s' : State) (v w : ℤ) → s' ≡ s → w ≡ v → HasEnded p inputs s v → HasEnded p inputs s' w

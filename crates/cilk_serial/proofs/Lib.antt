@@ -1,4 +1,5 @@
 pub mod Answering
+pub mod Between
 pub mod Beginnings
 pub mod Driving
 pub mod Endings

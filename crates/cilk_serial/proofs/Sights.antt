@@ -1,21 +1,16 @@
 -- Everything that a frame of a well-named program names exists.
-use Rattle.std.proofs.Common.{◌≡◌, inl, inr, ℕ, zero, suc, ◌+◌, ◌<◌, ◌≤◌, ℤ, Bool, true, IsTrue, if◌then◌else◌, List, [], ◌∷◌, length, slice_get, unwrap_or, Option, Some, None, refl, sym, ap, ◌∙◌, subst, arith}
-use Rattle.std.proofs.lemmas.Bool.{and_parts, false≢true, cases_lt}
-use Rattle.std.proofs.lemmas.Option.{slice_get_past}
-use Rattle.cilk_monoid.specs.declared.kind.MonoidKind.{MonoidKind}
+use Rattle.std.proofs.Common.{◌≡◌, inl, inr, ℕ, suc, ◌+◌, ◌<◌, ◌≤◌, ℤ, Bool, IsTrue, if◌then◌else◌, List, [], ◌∷◌, length, Option, Some, None, refl, sym, ap, ◌∙◌, subst, arith}
+use Rattle.std.proofs.lemmas.Bool.{and_parts}
 use Rattle.cilk_program.specs.declared.ask.Ask.{Ask}
 use Rattle.cilk_program.specs.declared.ask.Ask.TheVariants as asks
 use Rattle.cilk_program.specs.declared.ask.Callee.{Callee}
 use Rattle.cilk_program.specs.declared.ask.Callee.TheVariants as callees
 use Rattle.cilk_program.specs.declared.program.Body.{Body}
-use Rattle.cilk_program.specs.declared.program.Body.TheVariants as bodies
 use Rattle.cilk_types.specs.declared.invocation.Invocation.{Invocation}
 use Rattle.cilk_program.specs.declared.syntax.Place.{Place}
 use Rattle.cilk_program.specs.declared.syntax.Reducer.{Reducer}
-use Rattle.cilk_program.specs.declared.syntax.ReducerPlace.{ReducerPlace}
-use Rattle.cilk_program.specs.declared.syntax.ReducerPlace.TheVariants as reducers
-use Rattle.cilk_program.specs.Syntax.{Source, Function, idle, function_at, main_of, loop_at}
-use Rattle.cilk_program.specs.WellNamed.{Level, function_level, loop_level, levels, levels_of, has_own, has_given, reducer_is_there, reducers_are_there, result_is_there, is_well_named}
+use Rattle.cilk_program.specs.Syntax.{Source, function_at, main_of, loop_at}
+use Rattle.cilk_program.specs.WellNamed.{reducer_is_there, reducers_are_there, result_is_there, is_well_named}
 use Rattle.cilk_program.specs.Inside.{body_of, is_whole, CalleeIsFit, CalleeIsThere, AskIsThere}
 use Rattle.cilk_program.specs.Behaviour.{OpenAsk, asks_for, frame_asks}
 use Rattle.cilk_program.specs.SerialRun.{Frame, Memory, itself, global_reducer, cells_of, home_of, next_frame, root_frame}
@@ -24,7 +19,7 @@ use Rattle.cilk_program.proofs.Naming.{SourceIsNamed, well_named_parts}
 use Rattle.cilk_program.proofs.Asked.{asks_there}
 use Rattle.cilk_program.proofs.Smallness.{reducer_small}
 use Rattle.cilk_program.proofs.Visible.{can_invoke, frame_more, root_sees as root_sees_all, called_sees, part_sees}
-use Rattle.cilk_serial.specs.Scoped.{Below, Any, Sees, AreSmall, ResultFits, MayBegin, IsThere, IsBegunRightly, number_in}
+use Rattle.cilk_serial.specs.Scoped.{Below, Any, Sees, AreSmall, ResultFits, MayBegin, IsThere, IsBegunRightly}
 use Rattle.cilk_serial.proofs.Beginnings.{creates}
 
 -- ---- cells

@@ -13,7 +13,8 @@ use Rattle.cilk_lower.specs.Behaves.{Behaves}
 use Rattle.cilk_lower.specs.Code.{CodeView}
 use Rattle.cilk_lower.specs.declared.code.Owed.TheVariants.{Nothing}
 use Rattle.cilk_frames.specs.Following.{Asking, Stands}
-use Rattle.cilk_serial.specs.Scoped.{Activation}
+use Rattle.cilk_frames.specs.Cursor.{CursorView}
+use Rattle.cilk_serial.specs.Scoped.{Activation, Frames}
 use Rattle.cilk_serial.specs.declared.running.Halt.{Halt}
 use Rattle.cilk_serial.specs.declared.running.Halt.TheVariants as halts
 use Rattle.cilk_serial.specs.declared.running.Running.{Running}
@@ -123,3 +124,11 @@ abbrev pub Keeps : CodeView → Source → List ℤ → Running → Stage → Ty
 Keeps code p inputs r stages.Going = Going code p inputs r
 Keeps code p inputs r (stages.Ended v) = HasEnded p inputs r.state v
 Keeps code p inputs r stages.Failed = Unit {0}
+
+-- the frames with another cursor of the running one
+abbrev pub with_cursor : Frames → CursorView → Frames
+with_cursor frames c = record frames { top = record frames.top { cursor = c } }
+
+-- the run with this state and these frames, whose running one has this cursor and makes this request
+abbrev pub run_of : State → Frames → CursorView → Ask → ℕ → Running
+run_of state frames c k left = record { state = state; frames = with_cursor frames c; ask = k; left = left }

@@ -1,5 +1,5 @@
 -- The memory that the code's store, counters and events represent.
-use Rattle.std.specs.Prelude.{◌≡◌, ℕ, suc, ◌+◌, ◌-◌, false, ℤ, pos, [], ◌∷◌, ◌++◌, length, slice_index_or}
+use Rattle.std.specs.Prelude.{◌≡◌, ℕ, suc, ◌+◌, ◌-◌, ◌<◌, ◌≤◌, false, ℤ, pos, [], ◌∷◌, ◌++◌, length, slice_index_or, Result, Ok, Err, IsErr, List}
 use Rattle.cilk_types.specs.declared.event.Event.{Event}
 use Rattle.cilk_types.specs.declared.event.Instance.{Instance}
 use Rattle.cilk_types.specs.declared.limits.TheConstants.{MAX_EVENTS}
@@ -18,6 +18,9 @@ use Rattle.cilk_frames.specs.declared.cursor.Answer.{Answer}
 use Rattle.cilk_frames.specs.Following.{Fits, owed_for, word_in}
 use Rattle.cilk_serial.specs.declared.answer.Told.{Told}
 use Rattle.cilk_serial.specs.declared.answer.Told.TheVariants.{Goes, Turns, Ends, Stops}
+use Rattle.cilk_serial.specs.declared.answer.Told.TheVariants as tolds
+use Rattle.cilk_serial.specs.declared.state.Refused.{Refused}
+use Rattle.cilk_serial.specs.declared.state.Refused.TheVariants as refuseds
 use Rattle.cilk_serial.specs.declared.state.State.{State}
 
 -- A state represents a memory. Cells that no frame has yet are 0, and an absent view counts as the
@@ -44,9 +47,22 @@ pub record Answers (p : Source) (fr : Frame) (s s' : State) (k : Ask) (a : Answe
   pub fits : Fits (owed_for k) a
   pub makes : Makes s s' (λ m. answer_to fr m k) (word_in a) (λ m. event_of fr m k) (λ m. stored p fr m k)
 
+-- whether there was room for one more event after these; where there wasn't, nothing has changed
+abbrev pub Fills : {A V : Type 0} → Result A Refused → List Event → V → V → Type 0
+Fills (Ok a) es v v' = length es < MAX_EVENTS
+Fills (Err refuseds.Full) es v v' = (v' ≡ v) × (MAX_EVENTS ≤ length es)
+Fills (Err refuseds.Memory) es v v' = Unit {0}
+
+-- an answer as the effect of a request
+abbrev pub Passes : {E : Type 0} → Result Answer Refused → Result Told E → Type 0
+Passes (Ok a) r = r ≡ Ok (Goes a)
+Passes (Err refuseds.Full) r = r ≡ Ok tolds.Full
+Passes (Err refuseds.Memory) r = IsErr r
+
 -- The effect of a request. The state changes only if the frame continues at once.
 abbrev pub Tells : Source → Frame → State → State → Ask → Told → Type 0
-Tells p fr s s' k (Goes a) = IsInner k × Answers p fr s s' k a
+Tells p fr s s' k (Goes a) = IsInner k × (length s.events.items < MAX_EVENTS) × Answers p fr s s' k a
+Tells p fr s s' k tolds.Full = (s' ≡ s) × IsInner k × (MAX_EVENTS ≤ length s.events.items)
 Tells p fr s s' k (Turns how part) = (s' ≡ s) × (k ≡ Invoke how (Loop part))
 Tells p fr s s' k (Ends v) = (s' ≡ s) × (k ≡ End v)
 Tells p fr s s' k (Stops f) = (s' ≡ s) × (k ≡ Fault f)

@@ -1,15 +1,14 @@
 // The answer to a frame's request.
 
-ghost use Rattle.std.specs.Prelude.{◌≡◌, ◌≤◌, length, Ok, Err, IfOk, MatchResult};
+ghost use Rattle.std.specs.Prelude.{◌≤◌, length, IfOk};
 ghost use Rattle.cilk_types.specs.declared.limits.TheConstants.{MAX_CELLS};
 ghost use Rattle.cilk_program.specs.Syntax.{Source};
 ghost use Rattle.cilk_program.specs.SerialRun.{Frame};
 ghost use Rattle.cilk_frames.specs.AskSlot.{in_full};
 ghost use Rattle.cilk_serial.specs.Scoped.{IsOnTop, IsThere};
-ghost use Rattle.cilk_serial.specs.States.{Tells};
-ghost use Rattle.cilk_serial.specs.declared.answer.Told.TheVariants.{Goes};
+ghost use Rattle.cilk_serial.specs.States.{Passes, Tells};
 
-use crate::state::State;
+use crate::state::{Refused, State};
 use cilk_frames::call_stack::CallStack;
 use cilk_frames::cursor::Answer;
 use cilk_frames::small_ask::SmallAsk;
@@ -19,7 +18,7 @@ use cilk_types::fault::Fault;
 use cilk_types::invocation::Invocation;
 use std::alloc::{AllocError, Global};
 
-/// The effect of a request, if there is room for one more event.
+/// The effect of a request.
 #[derive(Clone, Copy)]
 pub enum Told {
     /// Its event was made, and the frame continues with this answer.
@@ -30,6 +29,8 @@ pub enum Told {
     Ends(i64),
     /// The frame stops by a fault.
     Stops(Fault),
+    /// There is no room for one more event, which the frame would make.
+    Full,
 }
 
 /// Makes the event of a request of the running frame, if the frame continues at once. Changes
@@ -83,11 +84,12 @@ pub fn answer<C>(
 }
 
 #[inline(always)]
-fn goes(answer: Result<Answer, AllocError>) -> Result<Told, AllocError>
-    ensures { MatchResult answer (λ a. result ≡ Ok (Goes a)) (λ e. result ≡ Err e) }
+fn goes(answer: Result<Answer, Refused>) -> Result<Told, AllocError>
+    ensures { Passes answer result }
 {
     match answer {
         Ok(answer) => Ok(Told::Goes(answer)),
-        Err(error) => Err(error),
+        Err(Refused::Full) => Ok(Told::Full),
+        Err(Refused::Memory) => Err(AllocError),
     }
 }

@@ -5,22 +5,10 @@ ghost use Rattle.cilk_program.specs.Syntax.{function_at, loop_at};
 ghost use Rattle.cilk_program.specs.Sources.{source};
 ghost use Rattle.cilk_program.specs.SerialRun.{cells_of};
 ghost use Rattle.cilk_program.specs.declared.ask.Callee.TheVariants.{Loop};
-ghost use Rattle.cilk_frames.specs.Following.{child_of};
 
-use cilk_frames::asked::AskSlot;
 use cilk_frames::halves::has_one;
-use cilk_program::ask::{Ask, Callee, LoopPart};
+use cilk_program::ask::LoopPart;
 use cilk_program::program::Program;
-
-/// Returns the callee of an invocation; none for other requests.
-pub fn callee_asked(ask: &AskSlot) -> Option<Callee>
-    ensures { result ≡ child_of ask.now }
-{
-    match ask.in_full() {
-        Ask::Invoke(_, callee) => Some(callee),
-        _ => None,
-    }
-}
 
 /// Returns the number of cells of a function's frame.
 pub fn function_cells(program: &Program, function: u32) -> u32

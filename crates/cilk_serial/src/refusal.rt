@@ -4,33 +4,20 @@ ghost use Rattle.std.specs.Prelude.{◌≡◌, None, Some, true, false};
 ghost use Rattle.cilk_types.specs.declared.fault.Fault.TheVariants.{TooManyEvents};
 ghost use Rattle.cilk_program.specs.Syntax.{Source};
 ghost use Rattle.cilk_program.specs.declared.ask.Callee.{Callee};
-ghost use Rattle.cilk_program.specs.SerialRun.{Memory, cells_of, crowded, full, refused};
+ghost use Rattle.cilk_program.specs.SerialRun.{Memory, cells_of, crowded, full};
 ghost use Rattle.cilk_serial.specs.States.{Shows};
 
 use crate::state::State;
-use cilk_frames::asked::AskSlot;
-use cilk_program::ask::Ask;
 use cilk_types::fault::Fault;
 use cilk_types::limits::{MAX_CELLS, MAX_EVENTS, MAX_FRAMES};
 
-/// Returns whether the run has as many events as it may have.
+// Returns whether the run has as many events as it may have.
 #[inline(always)]
-pub fn is_full(state: &State) -> bool
+fn is_full(state: &State) -> bool
     ensures full { result ≡ true → (m : Memory) → Shows state.now m → full m ≡ Some TooManyEvents }
     ensures room { result ≡ false → (m : Memory) → Shows state.now m → full m ≡ None }
 {
     state.events.len() >= MAX_EVENTS as usize
-}
-
-/// Returns the fault that replaces a request's event when no more events may be made.
-#[cold]
-pub fn fault_when_full(ask: &AskSlot) -> Fault
-    ensures { (p : Source) (m : Memory) → full m ≡ Some TooManyEvents → refused p m ask.now ≡ Some result }
-{
-    match ask.in_full() {
-        Ask::Fault(fault) => fault,
-        _ => Fault::TooManyEvents,
-    }
 }
 
 /// Returns the fault that replaces one more frame with `cells` cells, if any.

@@ -6,20 +6,21 @@ ghost use Rattle.cilk_program.specs.Sources.{source};
 ghost use Rattle.cilk_program.specs.declared.ask.Ask.TheVariants.{End, Invoke};
 ghost use Rattle.cilk_program.specs.declared.ask.Callee.TheVariants as callees;
 ghost use Rattle.cilk_lower.specs.Behaves.{Behaves};
-ghost use Rattle.cilk_frames.specs.AskSlot.{IsFunctionCall};
-ghost use Rattle.cilk_serial.specs.Going.{Going, Halts, HasBegun, IsAllowed, IsLater, Progresses};
+ghost use Rattle.cilk_frames.specs.AskSlot.{IsFunctionCall, in_full};
+ghost use Rattle.cilk_serial.specs.Going.{Going, Halts, HasBegun, IsLater, Progresses, run_of};
 
 use crate::answer::{Told, answer};
 use crate::callee::{function_cells, turn_cells};
 use crate::frames::{function, retire, root, turns};
-use crate::refusal::{crowded, fault_when_full, is_full};
-use crate::state::State;
+use crate::refusal::crowded;
+use crate::state::{Refused, State};
 use cilk_frames::activation::Activation;
 use cilk_frames::asked::AskSlot;
 use cilk_frames::call_stack::CallStack;
 use cilk_frames::cursor::{Answer, Cursor};
+use cilk_frames::moves::Moved;
 use cilk_frames::small_ask::SmallAsk;
-use cilk_frames::stepping::step_into;
+use cilk_frames::stepping::{exec_instr, exec_plain, invoke, step_into};
 use cilk_hypermap::hypermap::Hypermap;
 use cilk_lower::code::Code;
 use cilk_program::ask::LoopPart;
@@ -30,6 +31,7 @@ use cilk_types::input::Input;
 use cilk_types::invocation::Invocation;
 use cilk_types::limits::MAX_TICKS;
 use std::alloc::{AllocError, Global};
+use std::mem;
 
 /// The store, the frames, the request of the running frame, and the ticks left.
 #[derive(Drop)]
@@ -97,9 +99,6 @@ impl Running {
         requires { Going code.now (source program.now) input.now self.old }
         ensures { IfOk result (λ step. Progresses code.now (source program.now) input.now self.old step self.new) }
     {
-        if is_full(&self.state) {
-            return Ok(Step::Stops(fault_when_full(&self.ask)));
-        }
         let Some(ask) = self.ask.small_ask() else {
             let step = self.invoke_function(alloc, program, code)?;
             return Ok(step);
@@ -125,7 +124,77 @@ impl Running {
                 Ok(step)
             }
             Told::Stops(fault) => Ok(Step::Stops(fault)),
+            Told::Full => Ok(Step::Stops(Fault::TooManyEvents)),
         }
+    }
+
+    // Makes more events of the running frame, up to its next invocation, its end or a fault.
+    //
+    // Each request is answered in the arm of its instruction, and the cursor is a local value, so
+    // that the place and the operands' top stay in registers.
+    fn run_on(
+        &mut self,
+        alloc: Global,
+        program: &Program,
+        code: &Code,
+        input: &Input,
+    ) -> Result<(), AllocError>
+        requires { Going code.now (source program.now) input.now self.old }
+        ensures going { OnOk result (Going code.now (source program.now) input.now self.new) }
+        ensures later { OnOk result (IsLater self.old.state self.new.state) }
+    {
+        let Some(ask) = self.ask.small_ask() else {
+            return Ok(());
+        };
+        let Told::Goes(told) = answer(alloc, &mut self.state, &self.frames, ask)? else {
+            return Ok(());
+        };
+        let mut cursor = mem::replace(&mut self.frames.top.cursor, Cursor::idle(alloc));
+        let mut left = self.left;
+        cursor.receive(told);
+        let instrs = code.instrs();
+        'each: loop {
+            if exec_plain(code, instrs, &mut cursor, &mut left) {
+                continue 'each;
+            }
+            match exec_instr(code, instrs, input, &mut cursor, &mut left) {
+                Moved::Goes => {}
+                Moved::Waits(ask) => match answer(alloc, &mut self.state, &self.frames, &ask) {
+                    Ok(effect) => match effect {
+                        Told::Goes(told) => cursor.receive(told),
+                        _ => return Ok(self.pause(cursor, left, ask)),
+                    },
+                    Err(error) => {
+                        self.put_back(cursor, left);
+                        return Err(error);
+                    }
+                },
+                Moved::Stops(ask) => return Ok(self.pause(cursor, left, ask)),
+                Moved::Invokes(number) => {
+                    self.put_back(cursor, left);
+                    invoke(code, &mut self.frames.top.cursor, number, &mut self.ask);
+                    return Ok(());
+                }
+            }
+        }
+    }
+
+    // Puts the running frame's cursor back, with the ticks that are left.
+    #[inline(always)]
+    fn put_back(&mut self, cursor: Cursor, left: u32)
+        ensures { self.new ≡ run_of self.old.state self.old.frames cursor self.old.ask left }
+    {
+        self.frames.top.cursor = cursor;
+        self.left = left;
+    }
+
+    // Puts the running frame's cursor back, with its next request.
+    #[inline(always)]
+    fn pause(&mut self, cursor: Cursor, left: u32, ask: SmallAsk)
+        ensures { self.new ≡ run_of self.old.state self.old.frames cursor (in_full ask) left }
+    {
+        self.ask.put(ask);
+        self.put_back(cursor, left);
     }
 
     /// Makes all remaining events, up to the end or a fault.
@@ -141,6 +210,7 @@ impl Running {
         ensures later { OnOk result (IsLater self.old.state self.new.state) }
     {
         'each: loop {
+            self.run_on(alloc, program, code, input)?;
             match self.step(alloc, program, code, input)? {
                 Step::Made => {}
                 Step::Last(result) => return Ok(Halt::Ended(result)),
@@ -245,11 +315,14 @@ impl Running {
         value: i64,
     ) -> Result<Step, AllocError>
         requires going { Going code.now (source program.now) input.now self.old }
-        requires allowed { IsAllowed (source program.now) self.old.state self.old.ask }
         requires ends { self.old.ask ≡ End value }
         ensures { IfOk result (λ step. Progresses code.now (source program.now) input.now self.old step self.new) }
     {
-        self.state.make(Event::End)?;
+        match self.state.make(Event::End) {
+            Ok(_) => {}
+            Err(Refused::Full) => return Ok(Step::Stops(Fault::TooManyEvents)),
+            Err(Refused::Memory) => return Err(AllocError),
+        }
         retire(program, &mut self.state, &self.frames.top);
         let goes_on = self.frames.pop();
         if !goes_on {

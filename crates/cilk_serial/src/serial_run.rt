@@ -7,7 +7,6 @@ ghost use Rattle.cilk_serial.specs.Ran.{Ran};
 ghost use Rattle.cilk_serial.specs.SoFar.{BeginsNext, Comes, IsIntact, IsOver, IsSoFar, MakesRest};
 ghost use Rattle.cilk_serial.specs.declared.serial_run.Stage.TheVariants.{Going, Ended, Failed};
 
-use crate::callee::callee_asked;
 use crate::outcome::outcome;
 use crate::running::{Halt, Running, Step};
 use cilk_frames::operands::LastOperands;
@@ -192,7 +191,7 @@ impl<'a> SerialRun<'a> {
         ensures { IsIntact self.now.stage → BeginsNext (source self.now.program) self.now.inputs self.now.events result }
     {
         match self.stage {
-            Stage::Going => callee_asked(&self.running.ask),
+            Stage::Going => self.running.ask.callee(),
             Stage::Ended(_) => None,
             Stage::Failed => None,
         }

@@ -1,6 +1,6 @@
 // The store, the counters and the events of a run in progress.
 
-ghost use Rattle.std.specs.Prelude.{◌≡◌, ◌<◌, ℤ, List, pos, [], ◌∷◌, ◌++◌, length, slice_index_or, IfOk, OnOk};
+ghost use Rattle.std.specs.Prelude.{◌≡◌, ◌<◌, ℤ, List, pos, [], ◌∷◌, ◌++◌, length, slice_index_or, vec_capacity, vec_len, IfOk, OnOk};
 ghost use Rattle.cilk_types.specs.declared.event.Event.{Event};
 ghost use Rattle.cilk_types.specs.declared.event.Event.TheVariants as events;
 ghost use Rattle.cilk_types.specs.declared.limits.TheConstants.{MAX_FRAMES};
@@ -9,14 +9,34 @@ ghost use Rattle.cilk_program.specs.Store.{clear, number_at, print, put, set, up
 ghost use Rattle.cilk_program.specs.SerialRun.{Memory};
 ghost use Rattle.cilk_frames.specs.Following.{word_in};
 ghost use Rattle.cilk_frames.specs.declared.cursor.Answer.TheVariants as answers;
-ghost use Rattle.cilk_serial.specs.States.{Begins, Extends, Makes, Retires};
+ghost use Rattle.cilk_serial.specs.States.{Begins, Extends, Fills, Makes, Retires};
 
 use cilk_frames::cursor::Answer;
 use cilk_hypermap::hypermap::Hypermap;
 use cilk_monoid::kind::MonoidKind;
 use cilk_types::event::{Cell, Event, FrameNo, Instance};
 use cilk_types::invocation::Invocation;
+use cilk_types::limits::MAX_EVENTS;
 use std::alloc::{AllocError, Global};
+
+/// The reason why an event isn't made.
+#[derive(Clone, Copy)]
+pub enum Refused {
+    /// The run has as many events as it may have. Nothing has changed.
+    Full,
+    /// Memory was refused.
+    Memory,
+}
+
+impl From<AllocError> for Refused {
+    ghost use Rattle.cilk_serial.specs.declared.state.Refused.TheVariants as refuseds;
+
+    ghost from_gives = { λ _ e. e ≡ refuseds.Memory };
+
+    fn from(_error: AllocError) -> Refused {
+        Refused::Memory
+    }
+}
 
 /// The cells of all frames, the reducers' views, the printed numbers and the events so far.
 /// `frames` counts the frames that have begun.
@@ -40,9 +60,10 @@ impl State {
 
     /// Makes an event without effect on the store.
     #[inline(always)]
-    pub fn make(&mut self, event: Event) -> Result<Answer, AllocError>
+    pub fn make(&mut self, event: Event) -> Result<Answer, Refused>
         ensures done { IfOk result (λ a. a ≡ answers.Done) }
         ensures makes { OnOk result (Makes self.old self.new (λ m. pos 0) (pos 0) (λ m. event) (λ m. m.store)) }
+        ensures room { Fills result self.old.events.items self.old self.new }
     {
         add_event(&mut self.events, event)?;
         Ok(Answer::Done)
@@ -50,10 +71,11 @@ impl State {
 
     /// Reads a cell.
     #[inline(always)]
-    pub fn read(&mut self, cell: Cell) -> Result<Answer, AllocError>
+    pub fn read(&mut self, cell: Cell) -> Result<Answer, Refused>
         requires { cell < length self.old.cells.items }
         ensures value { IfOk result (λ a. a ≡ answers.Value (word_in a)) }
         ensures makes { IfOk result (λ a. Makes self.old self.new (λ m. m.store.cells cell) (word_in a) (λ m. events.Read cell (m.store.cells cell)) (λ m. m.store)) }
+        ensures room { Fills result self.old.events.items self.old self.new }
     {
         let cells = self.cells.as_slice();
         let value = value_at(cells, cell);
@@ -63,10 +85,11 @@ impl State {
 
     /// Writes a cell.
     #[inline(always)]
-    pub fn write(&mut self, cell: Cell, value: i64) -> Result<Answer, AllocError>
+    pub fn write(&mut self, cell: Cell, value: i64) -> Result<Answer, Refused>
         requires { cell < length self.old.cells.items }
         ensures done { IfOk result (λ a. a ≡ answers.Done) }
         ensures makes { OnOk result (Makes self.old self.new (λ m. pos 0) (pos 0) (λ m. events.Write cell value) (λ m. put cell value m.store)) }
+        ensures room { Fills result self.old.events.items self.old self.new }
     {
         add_event(&mut self.events, Event::Write { cell, value })?;
         self.cells[cell as usize] = value;
@@ -80,9 +103,10 @@ impl State {
         alloc: Global,
         instance: Instance,
         kind: MonoidKind,
-    ) -> Result<Answer, AllocError>
+    ) -> Result<Answer, Refused>
         ensures done { IfOk result (λ a. a ≡ answers.Done) }
         ensures makes { OnOk result (Makes self.old self.new (λ m. pos 0) (pos 0) (λ m. events.Create instance) (λ m. clear same_instance kind instance m.store)) }
+        ensures room { Fills result self.old.events.items self.old self.new }
     {
         add_event(&mut self.events, Event::Create { instance })?;
         self.views.create(alloc, instance, kind)?;
@@ -97,9 +121,10 @@ impl State {
         instance: Instance,
         kind: MonoidKind,
         value: i64,
-    ) -> Result<Answer, AllocError>
+    ) -> Result<Answer, Refused>
         ensures done { IfOk result (λ a. a ≡ answers.Done) }
         ensures makes { OnOk result (Makes self.old self.new (λ m. pos 0) (pos 0) (λ m. events.Update instance value) (λ m. update same_instance kind instance value m.store)) }
+        ensures room { Fills result self.old.events.items self.old self.new }
     {
         add_event(&mut self.events, Event::Update { instance, value })?;
         self.views.update(alloc, instance, kind, value)?;
@@ -114,9 +139,10 @@ impl State {
         instance: Instance,
         kind: MonoidKind,
         value: i64,
-    ) -> Result<Answer, AllocError>
+    ) -> Result<Answer, Refused>
         ensures done { IfOk result (λ a. a ≡ answers.Done) }
         ensures makes { OnOk result (Makes self.old self.new (λ m. pos 0) (pos 0) (λ m. events.Set instance value) (λ m. set same_instance kind instance value m.store)) }
+        ensures room { Fills result self.old.events.items self.old self.new }
     {
         add_event(&mut self.events, Event::Set { instance, value })?;
         self.views.set(alloc, instance, kind, value)?;
@@ -130,24 +156,29 @@ impl State {
         alloc: Global,
         instance: Instance,
         kind: MonoidKind,
-    ) -> Result<Answer, AllocError>
+    ) -> Result<Answer, Refused>
         ensures value { IfOk result (λ a. a ≡ answers.Value (word_in a)) }
         ensures makes { IfOk result (λ a. Makes self.old self.new (λ m. number_at kind instance m.store) (word_in a) (λ m. events.Value instance (number_at kind instance m.store)) (λ m. m.store)) }
+        ensures room { Fills result self.old.events.items self.old self.new }
     {
+        make_room(&mut self.events)?;
         let value = self.views.value(alloc, instance, kind)?;
-        add_event(&mut self.events, Event::Value { instance, value })?;
+        self.events.push_reserved(Event::Value { instance, value });
         Ok(Answer::Value(value))
     }
 
     /// Prints a number.
     #[inline(always)]
-    pub fn print(&mut self, value: i64) -> Result<Answer, AllocError>
+    pub fn print(&mut self, value: i64) -> Result<Answer, Refused>
         ensures done { IfOk result (λ a. a ≡ answers.Done) }
         ensures makes { OnOk result (Makes self.old self.new (λ m. pos 0) (pos 0) (λ m. events.Print value) (λ m. print value m.store)) }
+        ensures room { Fills result self.old.events.items self.old self.new }
     {
-        self.output.push(value)?;
         add_event(&mut self.events, Event::Print { value })?;
-        Ok(Answer::Done)
+        match self.output.push(value) {
+            Ok(()) => Ok(Answer::Done),
+            Err(_) => Err(Refused::Memory),
+        }
     }
 
     /// Retires a reducer, and drops its view.
@@ -169,7 +200,7 @@ impl State {
             Invocation::Call => Event::Call { child },
             Invocation::Spawn => Event::Spawn { child },
         };
-        add_event(&mut self.events, event)?;
+        self.events.push(event)?;
         self.extend(cells)
     }
 
@@ -186,13 +217,28 @@ impl State {
 
 // Appends an event. Most events find room, so this is inlined.
 #[inline(always)]
-fn add_event(events: &mut Vec<Event>, event: Event) -> Result<(), AllocError>
-    ensures { OnOk result (events.new.items ≡ events.old.items ++ event ∷ []) }
+fn add_event(events: &mut Vec<Event>, event: Event) -> Result<(), Refused>
+    ensures items { OnOk result (events.new.items ≡ events.old.items ++ event ∷ []) }
+    ensures room { Fills result events.old.items events.old events.new }
 {
+    make_room(events)?;
+    events.push_reserved(event);
+    Ok(())
+}
+
+// Makes room for one more event.
+#[inline(always)]
+fn make_room(events: &mut Vec<Event>) -> Result<(), Refused>
+    ensures items { events.new.items ≡ events.old.items }
+    ensures reserved { OnOk result (vec_len events.new < vec_capacity events.new) }
+    ensures room { Fills result events.old.items events.old events.new }
+{
+    if events.len() >= MAX_EVENTS as usize {
+        return Err(Refused::Full);
+    }
     if events.len() >= events.capacity() {
         events.reserve(1)?;
     }
-    events.push_reserved(event);
     Ok(())
 }
 

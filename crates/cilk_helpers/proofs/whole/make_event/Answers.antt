@@ -37,7 +37,7 @@ end-requires-clause-room c =
     let t = c.args.run.now in
     let prog = c.args.program.now in
     let h = subst (λ (g : Gone). Comes c.args.code.now (source prog) c.args.input.now t g c.go_on.new.self) c.in-Ends.is (c.in_ok-go_on.ensures c.args.code.now (source prog) c.args.input.now prog.well_named c.requires.tells) in
-    subst (λ (u : Retelling). HasRoom u.state) (sym h.0) (c.is_full.ensures.room c.if-is_full.false)
+    subst (λ (u : Retelling). HasRoom u.state) (sym h.0) (c.is_full.ensures c.if-is_full.false)
 
 pub end-requires-clause-tells : goal.end-requires-clause-tells
 end-requires-clause-tells c =

@@ -1,16 +1,17 @@
 use Rattle.std.proofs.Common.{◌++◌, length, ap, ◌∙◌, sym, arith, length-append}
 use Rattle.cilk_program.specs.Programs.{expression}
-use Rattle.cilk_lower.specs.Code.{expr_code, and_code, or_code}
+use Rattle.cilk_lower.specs.Code.{literal, right_code, expr_code, and_code, or_code}
 use Rattle.cilk_lower.proofs.Patch.{patch_and, patch_or}
-use Rattle.cilk_lower.proofs.Values.{depth_short}
+use Rattle.cilk_lower.proofs.Values.{depth_short, right_long}
 use Rattle.cilk_lower.proofs.expressions.+expressions.Goals as goal
 
 -- the operands are fewer than the instructions, which fit in memory
 pub emit_expr-overflow_add-right : goal.emit_expr-overflow_add-right
 emit_expr-overflow_add-right t c =
     let b = expression c.deref-in-Binary-2.result.now in
-    let code = ap length c.in_ok-right-in-Binary.ensures.code in
-    omega (arith, code, length-append c.emit_expr.new.code.items (expr_code b), depth_short b, c.in_ok-right-in-Binary.ensures.depth, c.emit_expr-in-Binary.new.code.small)
+    let right = right_code c.in-Binary.operator (literal b) (expr_code b) in
+    let code = ap length {y = c.emit_expr.new.code.items ++ right} c.in_ok-right-in-Binary.ensures.code in
+    omega (arith, code, length-append c.emit_expr.new.code.items right, right_long c.in-Binary.operator b, depth_short b, c.in_ok-right-in-Binary.ensures.depth, c.emit_right.new.code.small)
 
 pub emit_expr-returns-in_ok-end_and-in-And-clause-code : goal.emit_expr-returns-in_ok-end_and-in-And-clause-code
 emit_expr-returns-in_ok-end_and-in-And-clause-code t c =

@@ -48,7 +48,7 @@ pub returns-in-Read : goal.returns-in-Read
 returns-in-Read g c = λ p fr on.
     let same = c.cell.ensures fr.scope on.scope in
     let k = asks.Read c.in-Read.place in
-    told p fr c.args.state.now c.read.new.self c.args.ask.now k c.read.result c.goes-in-Read.result (sym (ap in_full c.in-Read.is)) tt c.goes-in-Read.ensures
+    told p fr c.args.state.now c.read.new.self c.args.ask.now k c.read.result c.goes-in-Read.result (sym (ap in_full c.in-Read.is)) tt c.goes-in-Read.ensures c.read.ensures.room
     (tells_word p fr c.args.state.now c.read.new.self k (λ m. m.store.cells c.cell.result) (λ m. events.Read c.cell.result (m.store.cells c.cell.result)) (λ m. m.store)
     (λ m. ap m.store.cells same) (λ m. ap (λ n. events.Read n (m.store.cells n)) same) (λ m. refl) c.read.result (λ v. tt) c.read.ensures.value c.read.ensures.makes)
 
@@ -59,7 +59,7 @@ returns-in-Write g c = λ p fr on.
     let fits : SFits w64 v = search rules in
     let word = to_z-of_z w64 v fits in
     let k = asks.Write c.in-Write.place v in
-    told p fr c.args.state.now c.write.new.self c.args.ask.now k c.write.result c.goes-in-Write.result (sym (ap in_full c.in-Write.is)) tt c.goes-in-Write.ensures
+    told p fr c.args.state.now c.write.new.self c.args.ask.now k c.write.result c.goes-in-Write.result (sym (ap in_full c.in-Write.is)) tt c.goes-in-Write.ensures c.write.ensures.room
     (tells_nothing p fr c.args.state.now c.write.new.self k (λ m. pos 0) (λ m. events.Write c.cell-in-Write.result (to_z w64 (of_z w64 v))) (λ m. put c.cell-in-Write.result (to_z w64 (of_z w64 v)) m.store)
     (λ m. refl) (λ m. ap (λ n. events.Write n (to_z w64 (of_z w64 v))) same ∙ ap (events.Write (cell_at fr c.in-Write.place)) word)
     (λ m. ap (λ n. put n (to_z w64 (of_z w64 v)) m.store) same ∙ ap (λ x. put (cell_at fr c.in-Write.place) x m.store) word) c.write.result tt c.write.ensures.done c.write.ensures.makes)
@@ -69,7 +69,7 @@ returns-in-Create g c = λ p fr on.
     let same = c.reducer-instance.ensures fr.scope on.scope in
     let r = c.in-Create.reducer in
     let k = asks.Create r in
-    told p fr c.args.state.now c.create.new.self c.args.ask.now k c.create.result c.goes-in-Create.result (sym (ap in_full c.in-Create.is)) tt c.goes-in-Create.ensures
+    told p fr c.args.state.now c.create.new.self c.args.ask.now k c.create.result c.goes-in-Create.result (sym (ap in_full c.in-Create.is)) tt c.goes-in-Create.ensures c.create.ensures.room
     (tells_nothing p fr c.args.state.now c.create.new.self k (λ m. pos 0) (λ m. events.Create c.reducer-instance.result) (λ m. clear same_instance r.kind c.reducer-instance.result m.store)
     (λ m. refl) (λ m. ap events.Create same) (λ m. ap (λ i. clear same_instance r.kind i m.store) same) c.create.result tt c.create.ensures.done c.create.ensures.makes)
 
@@ -82,7 +82,7 @@ returns-in-Update g c = λ p fr on.
     let fits : SFits w64 v = search rules in
     let word = to_z-of_z w64 v fits in
     let k = asks.Update r v in
-    told p fr c.args.state.now c.update.new.self c.args.ask.now k c.update.result c.goes-in-Update.result (sym (ap in_full c.in-Update.is)) tt c.goes-in-Update.ensures
+    told p fr c.args.state.now c.update.new.self c.args.ask.now k c.update.result c.goes-in-Update.result (sym (ap in_full c.in-Update.is)) tt c.goes-in-Update.ensures c.update.ensures.room
     (tells_nothing p fr c.args.state.now c.update.new.self k (λ m. pos 0) (λ m. events.Update i (to_z w64 (of_z w64 v))) (λ m. update same_instance r.kind i (to_z w64 (of_z w64 v)) m.store)
     (λ m. refl) (λ m. ap (λ i. events.Update i (to_z w64 (of_z w64 v))) same ∙ ap (events.Update (reducer_at fr r)) word)
     (λ m. ap (λ i. update same_instance r.kind i (to_z w64 (of_z w64 v)) m.store) same ∙ ap (λ x. update same_instance r.kind (reducer_at fr r) x m.store) word) c.update.result tt c.update.ensures.done c.update.ensures.makes)
@@ -96,7 +96,7 @@ returns-in-Set g c = λ p fr on.
     let fits : SFits w64 v = search rules in
     let word = to_z-of_z w64 v fits in
     let k = asks.Set r v in
-    told p fr c.args.state.now c.set.new.self c.args.ask.now k c.set.result c.goes-in-Set.result (sym (ap in_full c.in-Set.is)) tt c.goes-in-Set.ensures
+    told p fr c.args.state.now c.set.new.self c.args.ask.now k c.set.result c.goes-in-Set.result (sym (ap in_full c.in-Set.is)) tt c.goes-in-Set.ensures c.set.ensures.room
     (tells_nothing p fr c.args.state.now c.set.new.self k (λ m. pos 0) (λ m. events.Set i (to_z w64 (of_z w64 v))) (λ m. set same_instance r.kind i (to_z w64 (of_z w64 v)) m.store)
     (λ m. refl) (λ m. ap (λ i. events.Set i (to_z w64 (of_z w64 v))) same ∙ ap (events.Set (reducer_at fr r)) word)
     (λ m. ap (λ i. set same_instance r.kind i (to_z w64 (of_z w64 v)) m.store) same ∙ ap (λ x. set same_instance r.kind (reducer_at fr r) x m.store) word) c.set.result tt c.set.ensures.done c.set.ensures.makes)
@@ -107,7 +107,7 @@ returns-in-Value g c = λ p fr on.
     let same = c.reducer-instance-in-Value.ensures fr.scope on.scope in
     let r = c.in-Value.reducer in
     let k = asks.Value r in
-    told p fr c.args.state.now c.value.new.self c.args.ask.now k c.value.result c.goes-in-Value.result (sym (ap in_full c.in-Value.is)) tt c.goes-in-Value.ensures
+    told p fr c.args.state.now c.value.new.self c.args.ask.now k c.value.result c.goes-in-Value.result (sym (ap in_full c.in-Value.is)) tt c.goes-in-Value.ensures c.value.ensures.room
     (tells_word p fr c.args.state.now c.value.new.self k (λ m. number_at r.kind i m.store) (λ m. events.Value i (number_at r.kind i m.store)) (λ m. m.store)
     (λ m. ap (λ i. number_at r.kind i m.store) same) (λ m. ap (λ i. events.Value i (number_at r.kind i m.store)) same) (λ m. refl) c.value.result (λ v. tt) c.value.ensures.value c.value.ensures.makes)
 

@@ -13,10 +13,10 @@ returns-then-not-pop c = λ code inputs x.
     let t = c.args.self.now in
     let s' = c.retire.new.state in
     let g = x.retold.going in
-    let made = (c.in_ok-make.ensures.makes g.memory (subst (λ (s : State). Shows s g.memory) x.state g.shows)).1 in
+    let made = (c.in-Ok.ensures.makes g.memory (subst (λ (s : State). Shows s g.memory) x.state g.shows)).1 in
     let closes : Closes p t s' = record {
       events = c.retire.ensures.events ∙ made.events;
-      cleared = λ m h. c.retire.ensures.shows (with_store m m.store) (c.in_ok-make.ensures.makes m h).1.shows;
+      cleared = λ m h. c.retire.ensures.shows (with_store m m.store) (c.in-Ok.ensures.makes m h).1.shows;
     } in
     tells_last code p inputs t (record { state = s'; frames = c.pop.new.self; asked = t.asked; left = t.left }) c.args.value x c.requires.room c.requires.ends closes (c.pop.ensures.none c.if-not-pop.true).0
 
@@ -26,10 +26,10 @@ returns c = λ code inputs x.
     let t = c.args.self.now in
     let s' = c.retire.new.state in
     let g = x.retold.going in
-    let made = (c.in_ok-make.ensures.makes g.memory (subst (λ (s : State). Shows s g.memory) x.state g.shows)).1 in
+    let made = (c.in-Ok.ensures.makes g.memory (subst (λ (s : State). Shows s g.memory) x.state g.shows)).1 in
     let closes : Closes p t s' = record {
       events = c.retire.ensures.events ∙ made.events;
-      cleared = λ m h. c.retire.ensures.shows (with_store m m.store) (c.in_ok-make.ensures.makes m h).1.shows;
+      cleared = λ m h. c.retire.ensures.shows (with_store m m.store) (c.in-Ok.ensures.makes m h).1.shows;
     } in
     let took = c.in-Some.ensures in
     tells_return code p inputs t s' c.args.value c.pop.new.self c.take.new.self c.in-Some.taken x c.requires.room c.requires.ends closes (c.pop.ensures.some c.if-not-pop.false)

@@ -31,7 +31,7 @@ returns-in-Some c = λ code p inputs well tells.
     let took = c.in-Some.ensures in
     let inner = told_as p there.frame t.state c.answer.new.state (ask_in t.asked) (in_full c.args.small_ask) c.in_ok-told.field-0 (Goes c.in-Goes.told) c.requires.asked c.in-Goes.is (c.in_ok-told.ensures p there.frame there.on_top) in
     tells_inner code p inputs t c.answer.new.state c.in-Goes.told c.take.new.self c.in-Some.taken tells c.requires.room inner.0
-    (λ fr on. let h = told_as p fr t.state c.answer.new.state (ask_in t.asked) (in_full c.args.small_ask) c.in_ok-told.field-0 (Goes c.in-Goes.told) c.requires.asked c.in-Goes.is (c.in_ok-told.ensures p fr on) in h.1)
+    (λ fr on. let h = told_as p fr t.state c.answer.new.state (ask_in t.asked) (in_full c.args.small_ask) c.in_ok-told.field-0 (Goes c.in-Goes.told) c.requires.asked c.in-Goes.is (c.in_ok-told.ensures p fr on) in h.2)
     (record { note = took.0; notes = took.1; before = took.2; after = took.3; told = took.4; asks = took.5; is = took.6 })
 
 pub returns-in-Turns : goal.returns-in-Turns

@@ -8,7 +8,7 @@ use Rattle.cilk_lower.specs.Code.{SitesFit, declarations_sites, expr_code, if_co
 use Rattle.cilk_lower.specs.Rooms.{deepest, deepest_of_all}
 use Rattle.cilk_lower.specs.Turns.{test_code}
 use Rattle.cilk_lower.proofs.Named.{front_fits, back_fits}
-use Rattle.cilk_lower.proofs.Patch.{patch_if, patch_if_else, patch_for, turn_starts}
+use Rattle.cilk_lower.proofs.Patch.{patch_if, patch_if_else, patch_for, turn_follows, turn_starts}
 use Rattle.cilk_lower.proofs.Rows.{block_is, for_is, row_fits, code_more, sites_more, room_more, row_code, meant, block_code, else_code, three_sites, for_code, stmt_some}
 use Rattle.cilk_lower.proofs.emitter.Emitter.+statements.Goals as goal
 
@@ -89,13 +89,17 @@ emit_stmt-emit_all-requires-in-For-2 t c =
     let fits : SitesFit (row ++ (body ++ step)) = subst (λ s. SitesFit (stmt_sites s)) (ap statement a.is ∙ for_is a.beginning a.step a.test a.body) c.requires in
     (search (rules, the_lemmas), subst (λ (row : List Stmt). SitesFit (all_sites (statements row))) (sym c.deref-in-For-3.ensures.value) (back_fits body step (back_fits row (body ++ step) fits)))
 
+pub emit_stmt-end_turn-requires-clause-first : goal.emit_stmt-end_turn-requires-clause-first
+emit_stmt-end_turn-requires-clause-first t c =
+    let follows = turn_follows c.args.self.now.instrs.items (all_code (length c.args.self.now.sites.items) (statements c.deref-in-For.result.now)) (test_code (optional c.in-For.test)) _ _ c.emit_test.new.code.items c.in_ok-begin-in-For.ensures c.in_ok-emit_all-in-For.ensures.code c.in_ok-emit_test-in-For.ensures.code in
+    omega (arith, follows, c.len-start.ensures, c.emit_test.new.code.ok.0)
+
 pub emit_stmt-end_turn-requires-clause-start : goal.emit_stmt-end_turn-requires-clause-start
 emit_stmt-end_turn-requires-clause-start t c =
-    let test = optional c.in-For.test in
     let s = statement c.deref-in-For-2.result.now in
     let sites = c.emit_all-in-For.new.self.sites.items in
-    let starts = turn_starts (test_code test) (stmt_code (length sites) s) (all_code (length c.emit_stmt-in-For.new.self.sites.items) (statements c.deref-in-For-3.result.now)) c.emit_all-in-For.new.self.instrs.items _ _ _ c.in_ok-exit-in-For.ensures.code c.in_ok-emit_stmt-in-For.ensures.code c.in_ok-emit_all-in-For-2.ensures.code (stmt_some (length sites) s) in
-    omega (arith, starts, c.len-start.ensures, c.emit_all-in-For.new.self.instrs.ok.0)
+    let starts = turn_starts (stmt_code (length sites) s) (all_code (length c.emit_stmt-in-For.new.self.sites.items) (statements c.deref-in-For-3.result.now)) c.emit_test.new.code.items _ _ c.in_ok-emit_stmt-in-For.ensures.code c.in_ok-emit_all-in-For-2.ensures.code (stmt_some (length sites) s) in
+    omega (arith, starts, c.len-start.ensures, c.emit_test.new.code.ok.0)
 
 pub emit_stmt-emit_declarations-requires : goal.emit_stmt-emit_declarations-requires
 emit_stmt-emit_declarations-requires t c =
@@ -160,7 +164,7 @@ emit_stmt-returns-in_ok-end_turn-in-For-clause-code t c =
     let test = optional c.in-For.test in
     let s1 = c.emit_all-in-For.new.self.sites.items in
     let s2 = c.emit_stmt-in-For.new.self.sites.items in
-    patch_for test base (all_code (length sites) (statements row)) (stmt_code (length s1) (statement body)) (all_code (length s2) (statements step)) _ _ _ _ _ _ _ _ c.in_ok-begin-in-For.ensures c.in_ok-emit_all-in-For.ensures.code (c.len-start.ensures ∙ c.emit_all-in-For.new.self.instrs.ok.0) c.in_ok-exit-in-For.ensures.code c.in_ok-exit-in-For.ensures.exit c.in_ok-emit_stmt-in-For.ensures.code c.in_ok-emit_all-in-For-2.ensures.code c.in_ok-end_turn-in-For.ensures
+    patch_for test base (all_code (length sites) (statements row)) (stmt_code (length s1) (statement body)) (all_code (length s2) (statements step)) _ _ _ _ _ _ _ c.in_ok-begin-in-For.ensures c.in_ok-emit_all-in-For.ensures.code c.in_ok-emit_test-in-For.ensures.code (c.len-start.ensures ∙ c.emit_test.new.code.ok.0) c.in_ok-emit_stmt-in-For.ensures.code c.in_ok-emit_all-in-For-2.ensures.code c.in_ok-end_turn-in-For.ensures.code
     ∙ ap (λ l. base ++ l) (for_code sites s1 s2 (statements row) (statements step) test (statement body) c.in_ok-emit_all-in-For.ensures.sites c.in_ok-emit_stmt-in-For.ensures.sites)
     ∙ ap (λ s. base ++ stmt_code (length sites) s) (sym (meant c.args.s.now c.in-For.beginning c.in-For.step c.in-For.test c.in-For.body row step body c.in-For.is c.deref-in-For.ensures.value c.deref-in-For-3.ensures.value c.deref-in-For-2.ensures))
 
@@ -179,4 +183,4 @@ emit_stmt-returns-in_ok-end_turn-in-For-clause-room t c =
     let body = c.deref-in-For-2.result.now in
     let step = c.deref-in-For-3.result.now in
     let room = ap deepest (meant c.args.s.now c.in-For.beginning c.in-For.step c.in-For.test c.in-For.body row step body c.in-For.is c.deref-in-For.ensures.value c.deref-in-For-3.ensures.value c.deref-in-For-2.ensures) in
-    omega (arith, room, c.in_ok-emit_all-in-For.ensures.room, c.in_ok-exit-in-For.ensures.room, c.in_ok-emit_stmt-in-For.ensures.room, c.in_ok-emit_all-in-For-2.ensures.room)
+    omega (arith, room, c.in_ok-emit_all-in-For.ensures.room, c.in_ok-emit_test-in-For.ensures.room, c.in_ok-emit_stmt-in-For.ensures.room, c.in_ok-emit_all-in-For-2.ensures.room, c.in_ok-end_turn-in-For.ensures.room)

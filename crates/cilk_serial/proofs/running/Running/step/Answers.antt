@@ -1,4 +1,4 @@
-use Rattle.std.proofs.Common.{length, refl, sym, ap, subst, ◌∙◌, w64, SFits, rules}
+use Rattle.std.proofs.Common.{length, sym, ap, subst, ◌∙◌, w64, SFits, rules}
 use Rattle.std.proofs.lemmas.Int.{to_z-of_z}
 use Rattle.cilk_program.specs.declared.ask.Ask.TheVariants.{End}
 use Rattle.cilk_program.specs.Sources.{source}
@@ -6,21 +6,13 @@ use Rattle.cilk_program.specs.SerialRun.{refused}
 use Rattle.cilk_frames.specs.AskSlot.{in_full}
 use Rattle.cilk_frames.proofs.Asking.{asking_fits}
 use Rattle.cilk_serial.specs.declared.answer.Told.TheVariants.{Goes, Turns, Ends, Stops}
+use Rattle.cilk_serial.specs.declared.answer.Told.TheVariants as tolds
 use Rattle.cilk_serial.specs.declared.state.State.{State}
 use Rattle.cilk_serial.specs.Going.{Going, Progresses}
 use Rattle.cilk_serial.specs.Scoped.{IsThere}
-use Rattle.cilk_serial.specs.States.{Shows}
-use Rattle.cilk_serial.proofs.Driving.{allowed_inner, answers, going_seen, going_there, inner_has, stops, told_as}
+use Rattle.cilk_serial.proofs.Driving.{allowed, answers, going_seen, going_there, inner_full, inner_has, stops, stops_full, told_as}
 use Rattle.cilk_serial.proofs.Homes.{on_top}
 use Rattle.cilk_serial.proofs.running.Running.step.Goals as goal
-
-pub returns-then-is_full : goal.returns-then-is_full
-returns-then-is_full c =
-    let p = c.args.program.now in (
-      refl,
-      stops c.args.code.now (source p) c.args.input.now c.args.self.now c.fault_when_full.result p.well_named c.requires
-          (λ m h. sym (c.fault_when_full.ensures (source p) m (c.is_full.ensures.full c.if-is_full.true m h))),
-    )
 
 pub returns-in_default : goal.returns-in_default
 returns-in_default c = c.in_ok-step.ensures c.args.input.now c.requires
@@ -47,7 +39,7 @@ step_into-requires-clause-fits c =
     let r = c.args.self.now in
     let g = c.requires in
     let told = told_as p g.frame r.state c.answer.new.state r.ask (in_full c.in-Some.ask.now) c.in_ok-told.field-0 (Goes c.in-Goes.told) c.in-Some.ensures c.in-Goes.is (c.in_ok-told.ensures p g.frame (on_top p r.frames g.frame g.parents (going_seen c.args.code.now p c.args.input.now r g))) in
-    let fits = told.1 in
+    let fits = told.2 in
     asking_fits c.args.code.now c.args.input.now p g.frame.callee r.frames.top.cursor g.history g.took r.ask r.left c.in-Goes.told g.asking (inner_has r.ask told.0) fits.fits
 
 pub returns-in-Goes : goal.returns-in-Goes
@@ -56,8 +48,8 @@ returns-in-Goes c =
     let r = c.args.self.now in
     let g = c.requires in
     let told = told_as p g.frame r.state c.answer.new.state r.ask (in_full c.in-Some.ask.now) c.in_ok-told.field-0 (Goes c.in-Goes.told) c.in-Some.ensures c.in-Goes.is (c.in_ok-told.ensures p g.frame (on_top p r.frames g.frame g.parents (going_seen c.args.code.now p c.args.input.now r g))) in
-    let made = told.1 in (
-      answers c.args.code.now p c.args.input.now r c.answer.new.state c.in-Goes.told c.step_into.new.cursor c.step_into.new.asked c.step_into.new.left g (λ m h. allowed_inner p m r.ask told.0 (c.is_full.ensures.room c.if-is_full.false m h)) told.0 made (c.step_into.ensures.stands p),
+    let made = told.2 in (
+      answers c.args.code.now p c.args.input.now r c.answer.new.state c.in-Goes.told c.step_into.new.cursor c.step_into.new.asked c.step_into.new.left g (allowed p r.state r.ask (λ m. inner_full p m r.ask told.0) told.1) told.0 made (c.step_into.ensures.stands p),
       (_, (made.makes g.memory g.shows).1.events),
     )
 
@@ -94,14 +86,6 @@ end-requires-clause-going c =
     let told = told_as p g.frame r.state c.answer.new.state r.ask (in_full c.in-Some.ask.now) c.in_ok-told.field-0 (Ends c.in-Ends.result) c.in-Some.ensures c.in-Ends.is (c.in_ok-told.ensures p g.frame (on_top p r.frames g.frame g.parents (going_seen c.args.code.now p c.args.input.now r g))) in
     subst (λ (s : State). Going c.args.code.now p c.args.input.now (record { state = s; frames = r.frames; ask = r.ask; left = r.left })) (sym told.0) g
 
-pub end-requires-clause-allowed : goal.end-requires-clause-allowed
-end-requires-clause-allowed c = λ m h.
-    let p = source c.args.program.now in
-    let r = c.args.self.now in
-    let g = c.requires in
-    let told = told_as p g.frame r.state c.answer.new.state r.ask (in_full c.in-Some.ask.now) c.in_ok-told.field-0 (Ends c.in-Ends.result) c.in-Some.ensures c.in-Ends.is (c.in_ok-told.ensures p g.frame (on_top p r.frames g.frame g.parents (going_seen c.args.code.now p c.args.input.now r g))) in
-    ap (λ k. refused p m k) told.1 ∙ c.is_full.ensures.room c.if-is_full.false m (subst (λ (s : State). Shows s m) told.0 h)
-
 pub end-requires-clause-ends : goal.end-requires-clause-ends
 end-requires-clause-ends c =
     let p = source c.args.program.now in
@@ -127,4 +111,14 @@ returns-in-Stops c =
     let told = told_as p g.frame r.state c.answer.new.state r.ask (in_full c.in-Some.ask.now) c.in_ok-told.field-0 (Stops c.in-Stops.fault) c.in-Some.ensures c.in-Stops.is (c.in_ok-told.ensures p g.frame (on_top p r.frames g.frame g.parents (going_seen c.args.code.now p c.args.input.now r g))) in (
       ap (λ (s : State). record { state = s; frames = r.frames; ask = r.ask; left = r.left }) told.0,
       stops c.args.code.now p c.args.input.now r c.in-Stops.fault c.args.program.now.well_named g (λ m h. sym (ap (λ k. refused p m k) told.1)),
+    )
+
+pub returns-in-Full : goal.returns-in-Full
+returns-in-Full c =
+    let p = source c.args.program.now in
+    let r = c.args.self.now in
+    let g = c.requires in
+    let told = told_as p g.frame r.state c.answer.new.state r.ask (in_full c.in-Some.ask.now) c.in_ok-told.field-0 tolds.Full c.in-Some.ensures c.in-Full.is (c.in_ok-told.ensures p g.frame (on_top p r.frames g.frame g.parents (going_seen c.args.code.now p c.args.input.now r g))) in (
+      ap (λ (s : State). record { state = s; frames = r.frames; ask = r.ask; left = r.left }) told.0,
+      stops_full c.args.code.now p c.args.input.now r c.args.program.now.well_named g (λ m. inner_full p m r.ask told.1) told.2,
     )

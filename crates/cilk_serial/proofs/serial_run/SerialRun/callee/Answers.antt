@@ -16,8 +16,8 @@ returns-in-Going c = λ intact.
     let r = c.self.inside in
     let p = source r.program.now in
     let going = subst (λ (s : Stage). Keeps r.code.now p r.input.now r.running s) c.in-Going.is c.self.invariant in
-    subst (BeginsNextIn c.callee_asked.result) c.self.view_is
-    (subst (λ (o : Option Callee). BeginsNext p r.input.now r.running.state.events.items o) (sym c.callee_asked.ensures) (begins_next r.code.now p r.input.now r.running going))
+    subst (BeginsNextIn c.callee.result) c.self.view_is
+    (subst (λ (o : Option Callee). BeginsNext p r.input.now r.running.state.events.items o) (sym c.callee.ensures) (begins_next r.code.now p r.input.now r.running going))
 
 pub returns-in-Ended : goal.returns-in-Ended
 returns-in-Ended c = λ intact.

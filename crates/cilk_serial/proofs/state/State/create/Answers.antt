@@ -9,4 +9,4 @@ pub returns-clause-makes : goal.returns-clause-makes
 returns-clause-makes c =
     let old = c.args.self.now in
     let new : State = record { cells = old.cells; views = c.create.new.self; output = old.output; events = c.add_event.new.events; frames = old.frames } in
-    λ m h. (refl, view_changes old new (events.Create c.args.instance) c.args.kind c.args.instance ((structure_of c.args.kind).unit) m h refl refl refl c.in_ok-add_event.ensures c.in_ok-create.ensures.ok)
+    λ m h. (refl, view_changes old new (events.Create c.args.instance) c.args.kind c.args.instance ((structure_of c.args.kind).unit) m h refl refl refl c.in_ok-add_event.ensures.items c.in_ok-create.ensures.ok)

@@ -13,5 +13,5 @@ returns-clause-makes c =
     λ m h. (
       refl,
       event_is old new (events.Set c.args.instance (to_z w64 (of_z w64 c.args.value))) (events.Set c.args.instance c.args.value) _ (ap (events.Set c.args.instance) same)
-          (sets old new (events.Set c.args.instance (to_z w64 (of_z w64 c.args.value))) c.args.kind c.args.instance (to_z w64 (of_z w64 c.args.value)) c.args.value m h refl refl refl c.in_ok-add_event.ensures same c.in_ok-set.ensures.ok),
+          (sets old new (events.Set c.args.instance (to_z w64 (of_z w64 c.args.value))) c.args.kind c.args.instance (to_z w64 (of_z w64 c.args.value)) c.args.value m h refl refl refl c.in_ok-add_event.ensures.items same c.in_ok-set.ensures.ok),
     )

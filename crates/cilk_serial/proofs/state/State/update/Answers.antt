@@ -13,5 +13,5 @@ returns-clause-makes c =
     λ m h. (
       refl,
       event_is old new (events.Update c.args.instance (to_z w64 (of_z w64 c.args.value))) (events.Update c.args.instance c.args.value) _ (ap (events.Update c.args.instance) same)
-          (updates old new (events.Update c.args.instance (to_z w64 (of_z w64 c.args.value))) c.args.kind c.args.instance (to_z w64 (of_z w64 c.args.value)) c.args.value m h refl refl refl c.in_ok-add_event.ensures same c.in_ok-update.ensures.ok),
+          (updates old new (events.Update c.args.instance (to_z w64 (of_z w64 c.args.value))) c.args.kind c.args.instance (to_z w64 (of_z w64 c.args.value)) c.args.value m h refl refl refl c.in_ok-add_event.ensures.items same c.in_ok-update.ensures.ok),
     )
