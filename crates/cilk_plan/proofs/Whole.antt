@@ -4,7 +4,7 @@ use Rattle.cilk_types.specs.declared.event.Event.{Event}
 use Rattle.cilk_tree.specs.declared.event_order.EventOrder.{EventOrder}
 use Rattle.cilk_tree.specs.Resumptions.{AreResumptions}
 use Rattle.cilk_checker.specs.Determinate.{AcceptedRun}
-use Rattle.cilk_plan.specs.Columns.{AreBlockEnds, AreBlocks, AreStrands}
+use Rattle.cilk_tree.specs.Columns.{AreBlockEnds, AreBlocks, AreStrands}
 use Rattle.cilk_plan.specs.Plans.{IsPlanOf, WholePlan}
 use Rattle.cilk_plan.proofs.Columns.{one_list}
 

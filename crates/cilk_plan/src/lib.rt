@@ -28,7 +28,6 @@
 #![tactic(auto)]
 
 pub mod laws;
-mod places;
 pub mod planning;
 pub mod program_plan;
 pub mod replay;

@@ -9,23 +9,22 @@ ghost use Rattle.cilk_tree.specs.Resumptions.{AreResumptions};
 ghost use Rattle.cilk_program.specs.Sources.{source};
 ghost use Rattle.cilk_tree.specs.Orders.{IsOrderly};
 ghost use Rattle.cilk_tree.specs.Kinds.{IsBehind};
-ghost use Rattle.cilk_plan.specs.Columns.{AreBlockEnds, AreBlocks, AreStrands};
+ghost use Rattle.cilk_tree.specs.Columns.{AreBlockEnds, AreBlocks, AreStrands};
 ghost use Rattle.cilk_plan.specs.Continuations.{SpawnsHaveContinuations};
 ghost use Rattle.cilk_plan.specs.Frames.{IsFrameOf};
 ghost use Rattle.cilk_plan.specs.Plans.{IsPlanOf};
 
 use crate::laws::plans_have_continuations;
-use crate::places::{blocks, strands};
 use crate::planning::events;
 use cilk_checker::accepted::Accepted;
 use cilk_checker::frames::PlannedFrame;
 use cilk_lower::code::Code;
 use cilk_lower::lower::lower;
 use cilk_program::program::Program;
-use cilk_tree::blocks::continuations;
+use cilk_tree::blocks::{PlanBlocks, blocks_of};
 use cilk_tree::kind::Asked;
 use cilk_tree::plan::Plan;
-use cilk_tree::plan_strands::starts;
+use cilk_tree::plan_strands::strands;
 use cilk_types::event::{FrameNo, Pos, StrandNo};
 use cilk_types::input::Input;
 use std::alloc::{AllocError, Global};
@@ -76,7 +75,7 @@ impl<'a> Model for ProgramPlan<'a> {
     ghost use Rattle.cilk_lower.specs.Rooms.{RoomsFit};
     ghost use Rattle.cilk_tree.specs.Resumptions.{AreResumptions};
     ghost use Rattle.cilk_program.specs.Sources.{source};
-    ghost use Rattle.cilk_plan.specs.Columns.{AreBlockEnds, AreBlocks, AreStrands};
+    ghost use Rattle.cilk_tree.specs.Columns.{AreBlockEnds, AreBlocks, AreStrands};
     ghost use Rattle.cilk_plan.specs.Plans.{IsPlanOf, WholePlan, whole_code};
 
     ghost Value = { WholePlan };
@@ -96,11 +95,14 @@ pub fn plan<'a>(alloc: Global, accepted: &'a Accepted) -> Result<ProgramPlan<'a>
     let program = accepted.program();
     let code = lower(alloc, program)?;
     let events = events(alloc, accepted)?;
-    let continuations = continuations(alloc, &events)?;
-    let (syncs, blocks) = blocks(alloc, &events, continuations.as_slice())?;
-    let starts = starts(alloc, accepted.trace())?;
-    let strands = strands(alloc, accepted.trace(), starts.as_slice())?;
-    let resumptions = events.resumptions(alloc)?;
+    plans_have_continuations();
+    events.laws();
+    let PlanBlocks {
+        syncs,
+        blocks,
+        resumptions,
+    } = blocks_of(alloc, &events)?;
+    let strands = strands(alloc, accepted.trace())?;
     Ok(ProgramPlan {
         program,
         input: accepted.input(),

@@ -5,7 +5,7 @@ use Rattle.cilk_tree.specs.Along.{IsAlong}
 use Rattle.cilk_tree.specs.declared.event_order.EventOrder.{EventOrder}
 use Rattle.cilk_tree.specs.Orders.{IsOrderly}
 use Rattle.cilk_tree.proofs.AlongPlans.{same_resume}
-use Rattle.cilk_plan.specs.Columns.{AreBlockEnds, AreBlocks, no_block}
+use Rattle.cilk_tree.specs.Columns.{AreBlockEnds, AreBlocks, no_block}
 use Rattle.cilk_plan.specs.Continuations.{SpawnsHaveContinuations}
 use Rattle.cilk_workers.specs.Shared.{HaveBlocks}
 

@@ -9,7 +9,7 @@ use Rattle.cilk_tree.specs.declared.kind.Kind.{Kind}
 use Rattle.cilk_tree.specs.declared.kind.Kind.TheVariants as kinds
 use Rattle.cilk_tree.specs.Kinds.{kind_of}
 use Rattle.cilk_tree.specs.PlanStrands.{AreFirsts, BeginsStrand}
-use Rattle.cilk_plan.specs.Columns.{AreStrands}
+use Rattle.cilk_tree.specs.Columns.{AreStrands}
 use Rattle.cilk_plan.proofs.Columns.{firsts_of}
 
 -- how many strands an event of this kind begins

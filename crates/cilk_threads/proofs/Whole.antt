@@ -22,7 +22,7 @@ use Rattle.cilk_determinacy.specs.Nested.{named}
 use Rattle.cilk_replay.specs.InputCourses as courses
 use Rattle.cilk_replay.specs.Frames.{course_on}
 use Rattle.cilk_replay.specs.EventOrders.{OwnEventOrder, IsPlannedRun}
-use Rattle.cilk_plan.specs.Columns.{AreBlockEnds}
+use Rattle.cilk_tree.specs.Columns.{AreBlockEnds}
 use Rattle.cilk_plan.specs.Plans.{WholePlan, IsPlanOf, IsEventOrderOn}
 use Rattle.cilk_plan.proofs.Columns.{ends_are_syncs}
 use Rattle.cilk_plan.proofs.Telling.{own_is_the_plan}

@@ -1,12 +1,15 @@
 pub mod AlongPlans
 pub mod Backward
+pub mod Begun
 pub mod Before
 pub mod Continuing
 pub mod Events
 pub mod Framed
 pub mod Lines
+pub mod Numbered
 pub mod Order
 pub mod Orderly
+pub mod Placing
 pub mod Passed
 pub mod Passing
 pub mod Places
@@ -15,7 +18,6 @@ pub mod Resuming
 pub mod Sources
 pub mod Spans
 pub mod Spelled
-pub mod Starts
 pub mod EventOrders
 pub mod EventOrderLines
 pub mod Strands

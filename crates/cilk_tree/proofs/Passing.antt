@@ -102,7 +102,7 @@ sync_at (e ∷ es) (suc i) is = sync_at es i is
 pub one_ahead : (es : List Event) (opening : List ℤ) → HasOneAhead (planned es opening)
 one_ahead es opening p not = one_in (map mark_of es) 1 [] [] [] (p - 1) (inl refl) (λ is. not (sync_at es (p - 1) is))
 
-gives_earliest : (es : List Event) → all_earliest es ≡ earliest_from (map mark_of es) 1 nothing
+pub gives_earliest : (es : List Event) → all_earliest es ≡ earliest_from (map mark_of es) 1 nothing
 gives_earliest es = passes (map mark_of es) 1 [] [] [] (inl refl)
 
 -- the state of the pass after n events, and its result for them

@@ -77,3 +77,8 @@ earliest_from (m ∷ ms) p k = given m k ∷ earliest_from ms (suc p) (met m p k
 -- for each event of a list
 abbrev pub all_earliest : List Event → List (Option ℕ)
 all_earliest events = map earliest (predecessors_in events)
+
+-- a position as a number: 0, which is no position, where there is none
+abbrev pub number_of : Option ℕ → ℕ
+number_of None = 0
+number_of (Some p) = p

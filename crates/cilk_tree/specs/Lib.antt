@@ -26,3 +26,5 @@ pub mod Values
 pub mod Word
 pub mod Worked
 pub mod WorkedPlan
+pub mod Columns
+pub mod Placing

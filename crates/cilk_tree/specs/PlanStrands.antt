@@ -1,5 +1,5 @@
 -- The first events of strands.
-use Rattle.std.specs.Prelude.{◌≡◌, ◌≢◌, ◌↔◌, ◌+◌, ◌<◌, ◌≤◌, ℕ, List, Some, slice_get, slice_index_or}
+use Rattle.std.specs.Prelude.{◌≡◌, ◌≢◌, ◌<◌, ◌≤◌, ℕ, List, slice_index_or}
 use Rattle.cilk_types.specs.declared.event.Event.{Event}
 use Rattle.cilk_tree.specs.Before.{IsPosition}
 use Rattle.cilk_tree.specs.Races.{strand_at}
@@ -9,10 +9,6 @@ pub record BeginsStrand (es : List Event) (strand p : ℕ) : Type 0 where
   pub place : IsPosition es p
   pub is : strand_at es p ≡ strand
   pub first : (q : ℕ) → 1 ≤ q → q < p → strand_at es q ≢ strand
-
--- for each strand, in the order of their numbers from 1, the position of its first event
-abbrev pub AreStarts : List Event → List ℕ → Type 0
-AreStarts es starts = (k p : ℕ) → (slice_get starts k ≡ Some p) ↔ BeginsStrand es (k + 1) p
 
 -- at each position the strand that begins there, or 0
 abbrev pub AreFirsts : List Event → List ℕ → Type 0

@@ -1,13 +1,12 @@
 //! The earliest immediate predecessor of each event of a run, found in one pass.
 
 ghost use Rattle.std.specs.Prelude.{◌≡◌, ◌+◌, ◌<◌, ◌^◌, length, IfOk};
-ghost use Rattle.cilk_tree.specs.Earliest.{all_earliest, ends_of, ahead_of, given, goes_on, met, nothing, returned, sooner, starts};
+ghost use Rattle.cilk_tree.specs.Earliest.{ends_of, ahead_of, given, goes_on, met, nothing, returned, sooner, starts};
 
 use crate::mark::Mark;
 use cilk_types::event::Pos;
 use cilk_types::invocation::Invocation;
 use cilk_types::stack::Stack;
-use cilk_types::trace::Trace;
 use std::alloc::{AllocError, Global};
 use std::marker::Model;
 
@@ -20,10 +19,10 @@ pub struct Parent {
     pub ends: Option<Pos>,
 }
 
-// The earliest predecessor of the next event, the earliest `end` that the current block awaits, and
-// the frames that wait.
+/// The earliest predecessor of the next event, the earliest `end` that the current block awaits, and
+/// the frames that wait.
 #[derive(Drop)]
-struct Pass {
+pub(crate) struct Pass {
     ahead: Option<Pos>,
     ends: Option<Pos>,
     waiting: Stack<Parent>,
@@ -38,7 +37,8 @@ impl Model for Pass {
 }
 
 impl Pass {
-    fn new(alloc: Global) -> Pass
+    /// Before the first event.
+    pub(crate) fn new(alloc: Global) -> Pass
         ensures { result ≡ nothing }
     {
         Pass {
@@ -48,8 +48,8 @@ impl Pass {
         }
     }
 
-    // Meets the event at a position and returns its earliest immediate predecessor.
-    fn meet(&mut self, mark: Mark, at: Pos) -> Result<Option<Pos>, AllocError>
+    /// Meets the event at a position and returns its earliest immediate predecessor.
+    pub(crate) fn meet(&mut self, mark: Mark, at: Pos) -> Result<Option<Pos>, AllocError>
         ensures earliest { IfOk result (λ first. first ≡ given mark self.old) }
         ensures met { IfOk result (λ _. self.new ≡ met mark at self.old) }
     {
@@ -108,18 +108,4 @@ fn earlier(first: Option<Pos>, second: Option<Pos>) -> Option<Pos>
         (Some(_), None) => first,
         (Some(a), Some(b)) => { if b < a { Some(b) } else { Some(a) } }
     }
-}
-
-/// Returns the earliest immediate predecessor of each event. Cost and memory: linear in the events.
-pub(crate) fn earliest(alloc: Global, trace: &Trace) -> Result<Vec<Option<Pos>>, AllocError>
-    ensures { IfOk result (λ v. v.items ≡ all_earliest trace.now) }
-{
-    let mut pass = Pass::new(alloc);
-    let mut column = Vec::with_capacity(alloc, trace.len())?;
-    for event in trace.as_slice() {
-        let at = column.len() as Pos + 1;
-        let first = pass.meet(Mark::of(event), at)?;
-        column.push(first)?;
-    }
-    Ok(column)
 }

@@ -1,12 +1,11 @@
 //! Kinds of events: events without their values.
 
-ghost use Rattle.std.specs.Prelude.{◌≡◌, All, map, FitsSigned, IfOk};
+ghost use Rattle.std.specs.Prelude.{◌≡◌, All, FitsSigned};
 ghost use Rattle.std.specs.Int.{w64};
 ghost use Rattle.cilk_tree.specs.Kinds.{kind_of, IsOfWords};
 
 use cilk_types::event::{Cell, Event, FrameNo, Instance};
 use cilk_types::trace::Trace;
-use std::alloc::{AllocError, Global};
 
 /// An event without its value.
 #[derive(Clone, Copy, PartialEq, Eq, Debug)]
@@ -54,17 +53,6 @@ pub fn without_value(event: &Event) -> Kind
         Event::Value { instance, value: _ } => Kind::Value { instance },
         Event::Print { value: _ } => Kind::Print,
     }
-}
-
-/// Returns the kinds of a trace's events, in order.
-pub(crate) fn kinds(alloc: Global, trace: &Trace) -> Result<Vec<Kind>, AllocError>
-    ensures { IfOk result (λ v. v.items ≡ map kind_of trace.now) }
-{
-    let mut kinds = Vec::with_capacity(alloc, trace.len())?;
-    for event in trace.as_slice() {
-        kinds.push(without_value(event))?;
-    }
-    Ok(kinds)
 }
 
 // The value that an event reads or writes fits a word.

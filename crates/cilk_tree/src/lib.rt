@@ -25,9 +25,9 @@
 //! |---|---|
 //! | [`building::tree_of`] | the tree of a trace, a [`tree::SpTree`] |
 //! | [`span::span`] | the span: the length of the longest chain of events |
-//! | [`plan_strands::starts`] | the position of each strand's first event |
+//! | [`plan_strands::strands`] | the strand that begins at each position |
 //! | [`plan::Plan::of`] | the plan of a run in which no two accesses race |
-//! | [`blocks::continuations`] | for each spawn its `resume` and the `sync` that ends its block |
+//! | [`blocks::blocks_of`] | the `sync`s that end blocks, each position's block, each spawn's `resume` |
 //!
 //! ```text
 //! let tree = tree_of(alloc, &trace)?;
@@ -40,6 +40,7 @@ pub mod along;
 pub mod blocks;
 pub mod building;
 pub mod earliest;
+mod event_columns;
 pub mod event_order;
 pub mod frames;
 pub mod kind;

@@ -1,6 +1,6 @@
 //! The plan of a run.
 
-ghost use Rattle.std.specs.Prelude.{◌≡◌, ◌↔◌, ℕ, ◌+◌, ◌<◌, ◌≤◌, ◌++◌, Option, Some, length, map, replicate, slice_set, IfOk, IfSome, IsTrue, MatchOption};
+ghost use Rattle.std.specs.Prelude.{◌≡◌, ◌↔◌, ℕ, ◌+◌, ◌<◌, ◌≤◌, ◌++◌, Option, Some, length, map, replicate, slice_index_or, slice_set, IfOk, IfSome, IsTrue, MatchOption};
 ghost use Rattle.cilk_types.specs.declared.limits.TheConstants.{MAX_EVENTS};
 ghost use Rattle.cilk_tree.specs.Before.{IsPosition};
 ghost use Rattle.cilk_tree.specs.Orders.{IsOrderly};
@@ -12,9 +12,8 @@ ghost use Rattle.cilk_tree.specs.Kinds.{kind_of_event, IsBehind};
 ghost use Rattle.cilk_tree.specs.Planned.{planned, HasOneAhead, HasPlan};
 ghost use Rattle.cilk_tree.specs.Resumptions.{AreResumptions};
 
-use crate::earliest::earliest;
-use crate::frames::frames;
-use crate::kind::{Asked, Kind, events_of_words, kinds, words};
+use crate::event_columns::{EventColumns, event_columns};
+use crate::kind::{Asked, Kind, events_of_words, words};
 use crate::opening::first_words;
 use cilk_types::event::{FrameNo, Pos};
 use cilk_types::trace::Trace;
@@ -22,14 +21,14 @@ use std::alloc::{AllocError, Global};
 use std::marker::Model;
 use std::snapshot::Snapshot;
 
-/// The plan of a run. It holds the kinds, frames and earliest predecessors of the run's events, and
-/// no value of any event. In contracts it is the run's event order.
+/// The plan of a run. It holds the kinds, frames and earliest predecessors of the run's events (0
+/// where there is none), and no value of any event. In contracts it is the run's event order.
 pub struct Plan {
     opening: Vec<i64>,
     words: Vec<u64>,
     kinds: Vec<Kind>,
     frames: Vec<FrameNo>,
-    earliest: Vec<Option<Pos>>,
+    earliest: Vec<Pos>,
     events: Snapshot<Trace>,
 }
 
@@ -55,7 +54,7 @@ impl Model for Plan {
     ghost use Rattle.cilk_tree.specs.declared.event_order.EventOrder.{EventOrder};
     ghost use Rattle.cilk_tree.specs.Orders.{IsOrderly};
     ghost use Rattle.cilk_tree.specs.Values.{HasValues};
-    ghost use Rattle.cilk_tree.specs.Earliest.{all_earliest};
+    ghost use Rattle.cilk_tree.specs.Earliest.{all_earliest, number_of};
     ghost use Rattle.cilk_tree.specs.Frames.{AreFrames};
     ghost use Rattle.cilk_tree.specs.Planned.{planned};
 
@@ -63,7 +62,7 @@ impl Model for Plan {
 
     ghost view = { λ p. planned p.events.value p.opening.items };
 
-    ghost invariant = { λ p. IsOrderly (planned p.events.value p.opening.items) × HasValues (planned p.events.value p.opening.items) × (p.kinds.items ≡ map kind_of p.events.value) × (length p.events.value ≤ MAX_EVENTS) × (p.earliest.items ≡ all_earliest p.events.value) × AreFrames p.events.value p.frames.items × (p.words.items ≡ map word p.opening.items ++ replicate (length p.events.value + 1) 0) };
+    ghost invariant = { λ p. IsOrderly (planned p.events.value p.opening.items) × HasValues (planned p.events.value p.opening.items) × (p.kinds.items ≡ map kind_of p.events.value) × (length p.events.value ≤ MAX_EVENTS) × (p.earliest.items ≡ map number_of (all_earliest p.events.value)) × AreFrames p.events.value p.frames.items × (p.words.items ≡ map word p.opening.items ++ replicate (length p.events.value + 1) 0) };
 }
 
 impl Plan {
@@ -77,9 +76,11 @@ impl Plan {
         words(opening.as_slice());
         events_of_words(trace);
         let words = first_words(alloc, opening.as_slice(), trace.len())?;
-        let kinds = kinds(alloc, trace)?;
-        let frames = frames(alloc, trace)?;
-        let earliest = earliest(alloc, trace)?;
+        let EventColumns {
+            kinds,
+            frames,
+            earliest,
+        } = event_columns(alloc, trace)?;
         Ok(Plan {
             opening,
             words,
@@ -112,10 +113,8 @@ impl Plan {
     pub fn earliest_before(&self, at: Pos) -> Option<Pos>
         ensures { result ≡ earliest_of (predecessors_of self.now at) }
     {
-        match self.earliest.get(at.saturating_sub(1) as usize) {
-            Some(first) => *first,
-            None => None,
-        }
+        let first = number_in(&self.earliest, at.saturating_sub(1) as usize);
+        if first == 0 { None } else { Some(first) }
     }
 
     /// Returns the spawn whose continuation is resumed at a position, if the event there is the
@@ -201,6 +200,16 @@ impl Plan {
         ensures ahead { HasOneAhead self.now }
     {
         let _cells = self.opening.len();
+    }
+}
+
+// Returns the number at a place, or 0 past the end.
+fn number_in(column: &Vec<Pos>, place: usize) -> Pos
+    ensures { result ≡ slice_index_or column.now.items place 0 }
+{
+    match column.get(place) {
+        Some(number) => *number,
+        None => 0,
     }
 }
 

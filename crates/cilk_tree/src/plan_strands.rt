@@ -1,25 +1,28 @@
-//! The first event of each strand of a run, found in one pass.
+//! The strands of a run by the positions at which they begin.
 
 ghost use Rattle.std.specs.Prelude.{IfOk};
-ghost use Rattle.cilk_tree.specs.PlanStrands.{AreStarts};
+ghost use Rattle.cilk_tree.specs.Columns.{AreStrands};
 
 use crate::mark::Mark;
-use cilk_types::event::Pos;
+use cilk_types::event::StrandNo;
 use cilk_types::trace::Trace;
 use std::alloc::{AllocError, Global};
 
-/// Returns the position of the first event of each strand, in the order of their numbers. Cost:
-/// linear in the events; memory: linear in the strands.
-pub fn starts(alloc: Global, trace: &Trace) -> Result<Vec<Pos>, AllocError>
-    ensures { IfOk result (λ starts. AreStarts trace.now starts.items) }
+/// Returns a column with the strand that begins at each position, or 0 if none does. Position 0 is
+/// never used. Cost and memory: linear in the events.
+pub fn strands(alloc: Global, trace: &Trace) -> Result<Vec<StrandNo>, AllocError>
+    ensures { IfOk result (λ v. AreStrands trace.now v.items) }
 {
-    let mut starts = Vec::new(alloc);
-    let mut at: Pos = 0;
+    let mut column = Vec::with_capacity(alloc, trace.len() + 1)?;
+    column.push_reserved(0);
+    let mut strand: StrandNo = 0;
     for event in trace.as_slice() {
-        at += 1;
         if Mark::of(event).strands() == 1 {
-            starts.push(at)?;
+            strand += 1;
+            column.push_reserved(strand);
+        } else {
+            column.push_reserved(0);
         }
     }
-    Ok(starts)
+    Ok(column)
 }
