@@ -1,7 +1,7 @@
 -- The pass that keeps the first reducer-read of each instance.
 use Rattle.std.proofs.Common.{◌≡◌, ◌≢◌, ℕ, ◌+◌, ◌-◌, ◌<◌, ◌≤◌, Bool, true, false, cond, List, length, get_or, Option, Some, None, unwrap_or, slice_get, refl, sym, ◌∙◌, ap, subst, arith, ◌⊎◌, inl, inr, ◌↔◌}
 use Rattle.std.proofs.lemmas.Bool.{cases_lt, cond-true, cond-false}
-use Rattle.std.proofs.lemmas.Option.{slice_get_past}
+use Rattle.std.proofs.lemmas.Option.{get_or_from_slice_get, slice_get_past, slice_get_within}
 use Rattle.cilk_types.specs.declared.event.Event.{Event}
 use Rattle.cilk_types.specs.declared.event.Event.TheVariants as events
 use Rattle.cilk_types.specs.declared.event.Instance.{Instance}
@@ -269,6 +269,19 @@ standing_last es classes n strand m s l t sp c p q r =
           subst (λ (o : Option Event). ReadsReducer o r.instance) z r.other)
       | inr u ↦ behind t es sp n m (s.passed t sp c) p q u r
     ]
+
+none_at : (es evs : List Event) → evs ≡ es → ((k : ℕ) (e : Event) → k < length evs → instance_read (get_or evs k e) ≡ None) → (k : ℕ) (d : Event) → slice_get es k ≡ Some d → instance_read d ≡ None
+none_at es evs q f k d e =
+    let l : k < length evs = let j = ap (λ (x : List Event). length x) q in let m = slice_get_within es k d e in omega (arith, j, m) in
+    subst (λ (x : Event). instance_read x ≡ None) (ap (λ (x : List Event). get_or x k d) q ∙ get_or_from_slice_get es k d d e) (f k d l)
+
+-- where no event is a reducer-read no pair races
+pub no_reads : (t : Tree) (es evs : List Event) → evs ≡ es → ((k : ℕ) (e : Event) → k < length evs → instance_read (get_or evs k e) ≡ None) → HasNoViewRace t es
+no_reads t es evs q f p r w = one (slice_get es (p - 1)) refl w.one
+  where
+    one : (o : Option Event) → slice_get es (p - 1) ≡ o → ReadsReducer o w.instance → ⊥
+    one None e h = h
+    one (Some d) e h = reads_nothing d w.instance (none_at es evs q f (p - 1) d e) h
 
 -- the strands of a run are those of its classes
 pub strands_classed : (es : List Event) (classes : List ℕ) (n strand : ℕ) → strand ≡ strand_at es (n + 1) → (strand ≡ 0) ⊎ (length classes < strand)

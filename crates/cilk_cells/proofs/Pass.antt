@@ -1,6 +1,6 @@
 -- The pass over a run's events.
-use Rattle.std.proofs.Common.{◌≡◌, ◌≢◌, ℕ, ◌+◌, ◌-◌, ◌<◌, ◌≤◌, List, length, get_or, replicate, Option, Some, None, slice_get, refl, sym, ◌∙◌, ap, subst, arith, ◌⊎◌, inl, inr}
-use Rattle.std.proofs.lemmas.Bool.{cases_lt, cases_order}
+use Rattle.std.proofs.Common.{◌≡◌, ◌≢◌, ℕ, ◌+◌, ◌-◌, ◌<◌, ◌≤◌, List, length, get_or, replicate, Option, Some, None, slice_get, slice_set, refl, sym, ◌∙◌, ap, subst, arith, ◌⊎◌, inl, inr}
+use Rattle.std.proofs.lemmas.Bool.{cases_lt, cases_order, le-ltb}
 use Rattle.std.proofs.lemmas.Option.{slice_get_past, slice_get-get_or}
 use Rattle.std.proofs.lemmas.List.{get_or-set_same, get_or-set_other, get_or-replicate, length-set, get_or_past, length-replicate, get_or_default}
 use Rattle.cilk_types.specs.declared.event.Event.{Event}
@@ -15,8 +15,9 @@ use Rattle.cilk_tree.specs.Races.{strand_at, Accesses, Writes, IsRace, IsFirstRa
 use Rattle.cilk_tree.proofs.Strands.{parallel_positions, strand_next, strand_zero, strand_held}
 use Rattle.cilk_tree.proofs.Order.{length-hebrews}
 use Rattle.cilk_cells.specs.declared.histories.Access.{Access}
-use Rattle.cilk_cells.specs.Keeping.{greater_of, racing_with, kept_after, accesses_after, writes_after, answer_at, Fits}
-use Rattle.cilk_cells.proofs.Greatest.{IsGreatest, skipped, joined, answered, found}
+use Rattle.cilk_cells.specs.declared.histories.Kept.{Kept}
+use Rattle.cilk_cells.specs.Keeping.{racing_with, after_read, after_write, kept_after, answer_at, no_access, untouched, Fits}
+use Rattle.cilk_cells.proofs.Greatest.{IsGreatest, greatest_nothing, skipped, joined, answered, found}
 
 -- the Hebrew number of an index's strand
 abbrev pub number : Tree → List Event → ℕ → ℕ
@@ -28,34 +29,40 @@ WritesAt es c k = Writes (slice_get es k) c
 abbrev pub AccessesAt : List Event → ℕ → ℕ → Type 0
 AccessesAt es c k = Accesses (slice_get es k) c
 
--- each cell has its greatest access among the first i events
-abbrev pub Keeps : (ℕ → ℕ → Type 0) → (ℕ → ℕ) → ℕ → List (Option Access) → Type 0
-Keeps P H i xs = (c : ℕ) → c < length xs → IsGreatest (P c) H i (get_or xs c None)
+-- what a cell keeps of some accesses is the greatest of them among the first i events
+abbrev pub Keeps : (Kept → Access) → (ℕ → ℕ → Type 0) → (ℕ → ℕ) → ℕ → List Kept → Type 0
+Keeps f P H i ks = (c : ℕ) → c < length ks → IsGreatest (P c) H i (f (get_or ks c untouched))
 
-get_or_nothing : (n c : ℕ) → get_or {A = Option Access} (replicate n None) c None ≡ None
+get_or_nothing : (n c : ℕ) → get_or (replicate n untouched) c untouched ≡ untouched
 get_or_nothing n c =
     elim (cases_lt c n) [
-      | inl l ↦ get_or-replicate n c None None l
-      | inr l ↦ get_or_past (replicate n None) c None (let k = length-replicate {A = Option Access} n None in omega (arith, k, l))
+      | inl l ↦ get_or-replicate n c untouched untouched l
+      | inr l ↦ get_or_past (replicate n untouched) c untouched (let k = length-replicate n untouched in omega (arith, k, l))
     ]
 
-keeps_nothing : (P : ℕ → ℕ → Type 0) (H : ℕ → ℕ) (n : ℕ) → Keeps P H 0 (replicate n None)
-keeps_nothing P H n c l = subst (λ (o : Option Access). IsGreatest (P c) H 0 o) (sym (get_or_nothing n c)) (λ k m p. omega (arith, m))
+keeps_nothing : (f : Kept → Access) (P : ℕ → ℕ → Type 0) (H : ℕ → ℕ) (n : ℕ) → f untouched ≡ no_access → Keeps f P H 0 (replicate n untouched)
+keeps_nothing f P H n e c l = subst (λ (a : Access). IsGreatest (P c) H 0 a) (sym (ap f (get_or_nothing n c) ∙ e)) (greatest_nothing (P c) H)
 
-keeps_on : (P : ℕ → ℕ → Type 0) (H : ℕ → ℕ) (i : ℕ) (xs : List (Option Access)) → Keeps P H i xs → ((c : ℕ) → P c i → ⊥) → Keeps P H (i + 1) xs
-keeps_on P H i xs g n c l = skipped (P c) H i (get_or xs c None) (g c l) (n c)
+keeps_on : (f : Kept → Access) (P : ℕ → ℕ → Type 0) (H : ℕ → ℕ) (i : ℕ) (ks : List Kept) → Keeps f P H i ks → ((c : ℕ) → P c i → ⊥) → Keeps f P H (i + 1) ks
+keeps_on f P H i ks g n c l = skipped (P c) H i (f (get_or ks c untouched)) (g c l) (n c)
 
-keeps_new : (P : ℕ → ℕ → Type 0) (H : ℕ → ℕ) (i : ℕ) (xs : List (Option Access)) (d : ℕ) (a : Access) → Keeps P H i xs → d < length xs
-    → a.at ≡ i + 1 → a.hebrew ≡ H i → P d i → ((c : ℕ) → c ≢ d → P c i → ⊥) → Keeps P H (i + 1) (kept_after d a xs)
-keeps_new P H i xs d a g fits e f p n c l =
-    let m : c < length xs = let k = length-set xs d (greater_of (get_or xs d None) a) in omega (arith, l, k) in
+-- one cell is kept anew
+keeps_new : (f : Kept → Access) (P : ℕ → ℕ → Type 0) (H : ℕ → ℕ) (i : ℕ) (ks : List Kept) (d : ℕ) (k : Kept) → Keeps f P H i ks → d < length ks
+    → IsGreatest (P d) H (i + 1) (f k) → ((c : ℕ) → c ≢ d → P c i → ⊥) → Keeps f P H (i + 1) (slice_set ks d k)
+keeps_new f P H i ks d k g fits now n c l =
+    let m : c < length ks = let j = length-set ks d k in omega (arith, l, j) in
     elim (cases_order c d) [
-      | inl same ↦ (let r : IsGreatest (P d) H (i + 1) (get_or (kept_after d a xs) d None) =
-          subst (λ (o : Option Access). IsGreatest (P d) H (i + 1) o) (sym (get_or-set_same xs d (greater_of (get_or xs d None) a) None fits)) (joined (P d) H i (get_or xs d None) a (g d fits) e f p) in
-          subst (λ (x : ℕ). IsGreatest (P x) H (i + 1) (get_or (kept_after d a xs) x None)) (sym same) r)
+      | inl same ↦ subst (λ (x : ℕ). IsGreatest (P x) H (i + 1) (f (get_or (slice_set ks d k) x untouched))) (sym same)
+          (subst (λ (x : Kept). IsGreatest (P d) H (i + 1) (f x)) (sym (get_or-set_same ks d k untouched fits)) now)
       | inr other ↦ (let ne : c ≢ d = λ q. elim other [ inl u ↦ omega (arith, u, q) | inr u ↦ omega (arith, u, q) ] in
-          subst (λ (o : Option Access). IsGreatest (P c) H (i + 1) o) (sym (get_or-set_other xs d c (greater_of (get_or xs d None) a) None ne)) (skipped (P c) H i (get_or xs c None) (g c m) (n c ne)))
+          subst (λ (x : Kept). IsGreatest (P c) H (i + 1) (f x)) (sym (get_or-set_other ks d c k untouched ne)) (skipped (P c) H i (f (get_or ks c untouched)) (g c m) (n c ne)))
     ]
+
+abbrev write_of : Kept → Access
+write_of k = k.write
+
+abbrev access_of : Kept → Access
+access_of k = k.access
 
 -- the accesses that may race with this event
 abbrev Rival : List Event → Event → ℕ → Type 0
@@ -63,21 +70,21 @@ Rival es (events.Read d v) k = WritesAt es d k
 Rival es (events.Write d v) k = AccessesAt es d k
 Rival es _ k = ⊥
 
-abbrev slot : Event → List (Option Access) → List (Option Access) → Option Access
-slot (events.Read d v) ws as' = get_or ws d None
-slot (events.Write d v) ws as' = get_or as' d None
-slot _ ws as' = None
+abbrev slot : Event → List Kept → Access
+slot (events.Read d v) ks = (get_or ks d untouched).write
+slot (events.Write d v) ks = (get_or ks d untouched).access
+slot _ ks = no_access
 
-answer_slot : (e : Event) (h : ℕ) (ws as' : List (Option Access)) → answer_at e h ws as' ≡ racing_with (slot e ws as') h
-answer_slot (events.Read d v) h ws as' = refl
-answer_slot (events.Write d v) h ws as' = refl
-answer_slot _ h ws as' = refl
+answer_slot : (e : Event) (h : ℕ) (ks : List Kept) → answer_at e h ks ≡ racing_with (slot e ks) h
+answer_slot (events.Read d v) h ks = refl
+answer_slot (events.Write d v) h ks = refl
+answer_slot _ h ks = sym (rw (le-ltb h 0 (omega arith)) refl)
 
-greatest_slot : (es : List Event) (H : ℕ → ℕ) (i : ℕ) (e : Event) (ws as' : List (Option Access)) → Keeps (WritesAt es) H i ws → Keeps (AccessesAt es) H i as'
-    → Fits (length ws) e → Fits (length as') e → IsGreatest (Rival es e) H i (slot e ws as')
-greatest_slot es H i (events.Read d v) ws as' g g' f f' = g d f
-greatest_slot es H i (events.Write d v) ws as' g g' f f' = g' d f'
-greatest_slot es H i _ ws as' g g' f f' = λ k l p. p
+greatest_slot : (es : List Event) (H : ℕ → ℕ) (i : ℕ) (e : Event) (ks : List Kept) → Keeps write_of (WritesAt es) H i ks → Keeps access_of (AccessesAt es) H i ks
+    → Fits (length ks) e → IsGreatest (Rival es e) H i (slot e ks)
+greatest_slot es H i (events.Read d v) ks g g' f = g d f
+greatest_slot es H i (events.Write d v) ks g g' f = g' d f
+greatest_slot es H i _ ks g g' f = record { one = λ l. absurd (let z : 1 ≤ 0 = l in omega (arith, z)); greatest = λ k l p. absurd p }
 
 writes_access : (o : Option Event) (c : ℕ) → Writes o c → Accesses o c
 writes_access (Some (events.Write d v)) c h = h
@@ -102,15 +109,15 @@ clashes es (events.Write d v) k r = record { cell = d; clash = inr (r, refl) }
 clashes es _ k r = absurd r
 
 -- The state of the pass after i events, where none of them ends a race.
-pub record Passed (t : Tree) (es : List Event) (i : ℕ) (ws as' : List (Option Access)) : Type 0 where
-  pub writes : Keeps (WritesAt es) (number t es) i ws
-  pub accesses : Keeps (AccessesAt es) (number t es) i as'
+pub record Passed (t : Tree) (es : List Event) (i : ℕ) (ks : List Kept) : Type 0 where
+  pub writes : Keeps write_of (WritesAt es) (number t es) i ks
+  pub accesses : Keeps access_of (AccessesAt es) (number t es) i ks
   pub none : (p q : ℕ) → q ≤ i → IsRace t es p q → ⊥
 
-pub passed_first : (t : Tree) (es : List Event) (n : ℕ) (ws as' : List (Option Access)) → ws ≡ replicate n None → as' ≡ replicate n None → Passed t es 0 ws as'
-passed_first t es n ws as' e f = record {
-  writes = rw e (keeps_nothing (WritesAt es) (number t es) n);
-  accesses = rw f (keeps_nothing (AccessesAt es) (number t es) n);
+pub passed_first : (t : Tree) (es : List Event) (n : ℕ) (ks : List Kept) → ks ≡ replicate n untouched → Passed t es 0 ks
+passed_first t es n ks e = record {
+  writes = rw e (keeps_nothing write_of (WritesAt es) (number t es) n refl);
+  accesses = rw e (keeps_nothing access_of (AccessesAt es) (number t es) n refl);
   none = λ p q l r. let x = r.first in let y = r.earlier in omega (arith, l, x, y);
 }
 
@@ -151,29 +158,35 @@ race_of s es sp i e h p m =
       parallel = (parallel_positions s es sp p (i + 1) x (omega (arith, y))).0 (omega (arith, u, v));
     }
 
-abbrev Kept_at : Tree → List Event → ℕ → Event → Access → List (Option Access) → List (Option Access) → Type 0
-Kept_at t es i e a ws as' =
-    Keeps (WritesAt es) (number t es) (i + 1) (writes_after e a ws) × Keeps (AccessesAt es) (number t es) (i + 1) (accesses_after e a as')
+abbrev Kept_at : Tree → List Event → ℕ → Event → Access → List Kept → Type 0
+Kept_at t es i e a ks =
+    Keeps write_of (WritesAt es) (number t es) (i + 1) (kept_after e a ks) × Keeps access_of (AccessesAt es) (number t es) (i + 1) (kept_after e a ks)
 
-kept_next : (t : Tree) (es : List Event) (i : ℕ) (e : Event) (a : Access) (ws as' : List (Option Access)) → slice_get es i ≡ Some e
-    → Keeps (WritesAt es) (number t es) i ws → Keeps (AccessesAt es) (number t es) i as' → Fits (length ws) e → Fits (length as') e
-    → a.at ≡ i + 1 → a.hebrew ≡ number t es i → Kept_at t es i e a ws as'
-kept_next t es i (events.Read d v) a ws as' h g g' f f' x y = (
-  keeps_on (WritesAt es) (number t es) i ws g (λ c p. rw h at p),
-  keeps_new (AccessesAt es) (number t es) i as' d a g' f' x y (subst (λ (o : Option Event). Accesses o d) (sym h) refl) (λ c n p. n (sym (rw h at p))),
-)
-kept_next t es i (events.Write d v) a ws as' h g g' f f' x y = (
-  keeps_new (WritesAt es) (number t es) i ws d a g f x y (subst (λ (o : Option Event). Writes o d) (sym h) refl) (λ c n p. n (sym (rw h at p))),
-  keeps_new (AccessesAt es) (number t es) i as' d a g' f' x y (subst (λ (o : Option Event). Accesses o d) (sym h) refl) (λ c n p. n (sym (rw h at p))),
-)
-kept_next t es i _ a ws as' h g g' f f' x y =
-    (keeps_on (WritesAt es) (number t es) i ws g (λ c p. rw h at p), keeps_on (AccessesAt es) (number t es) i as' g' (λ c p. rw h at p))
+kept_next : (t : Tree) (es : List Event) (i : ℕ) (e : Event) (a : Access) (ks : List Kept) → slice_get es i ≡ Some e
+    → Keeps write_of (WritesAt es) (number t es) i ks → Keeps access_of (AccessesAt es) (number t es) i ks → Fits (length ks) e
+    → a.at ≡ i + 1 → a.hebrew ≡ number t es i → Kept_at t es i e a ks
+kept_next t es i (events.Read d v) a ks h g g' f x y =
+    let k = get_or ks d untouched in (
+      keeps_new write_of (WritesAt es) (number t es) i ks d (after_read a k) g f
+          (skipped (WritesAt es d) (number t es) i k.write (g d f) (λ p. rw h at p)) (λ c n p. rw h at p),
+      keeps_new access_of (AccessesAt es) (number t es) i ks d (after_read a k) g' f
+          (joined (AccessesAt es d) (number t es) i k.access a (g' d f) x y (subst (λ (o : Option Event). Accesses o d) (sym h) refl)) (λ c n p. n (sym (rw h at p))),
+    )
+kept_next t es i (events.Write d v) a ks h g g' f x y =
+    let k = get_or ks d untouched in (
+      keeps_new write_of (WritesAt es) (number t es) i ks d (after_write a k) g f
+          (joined (WritesAt es d) (number t es) i k.write a (g d f) x y (subst (λ (o : Option Event). Writes o d) (sym h) refl)) (λ c n p. n (sym (rw h at p))),
+      keeps_new access_of (AccessesAt es) (number t es) i ks d (after_write a k) g' f
+          (joined (AccessesAt es d) (number t es) i k.access a (g' d f) x y (subst (λ (o : Option Event). Accesses o d) (sym h) refl)) (λ c n p. n (sym (rw h at p))),
+    )
+kept_next t es i _ a ks h g g' f x y =
+    (keeps_on write_of (WritesAt es) (number t es) i ks g (λ c p. rw h at p), keeps_on access_of (AccessesAt es) (number t es) i ks g' (λ c p. rw h at p))
 
-pub passed_next : (s : Shape) (es : List Event) → Spells s es → (i : ℕ) (e : Event) (a : Access) (ws as' : List (Option Access)) → slice_get es i ≡ Some e
-    → Passed (tree s) es i ws as' → Fits (length ws) e → Fits (length as') e → a.at ≡ i + 1 → a.hebrew ≡ number (tree s) es i
-    → None ≡ answer_at e a.hebrew ws as' → Passed (tree s) es (i + 1) (writes_after e a ws) (accesses_after e a as')
-passed_next s es sp i e a ws as' h w f f' x y n =
-    let k = kept_next (tree s) es i e a ws as' h w.writes w.accesses f f' x y in
+pub passed_next : (s : Shape) (es : List Event) → Spells s es → (i : ℕ) (e : Event) (a : Access) (ks : List Kept) → slice_get es i ≡ Some e
+    → Passed (tree s) es i ks → Fits (length ks) e → a.at ≡ i + 1 → a.hebrew ≡ number (tree s) es i
+    → None ≡ answer_at e a.hebrew ks → Passed (tree s) es (i + 1) (kept_after e a ks)
+passed_next s es sp i e a ks h w f x y n =
+    let k = kept_next (tree s) es i e a ks h w.writes w.accesses f x y in
     record {
       writes = k.0;
       accesses = k.1;
@@ -183,17 +196,17 @@ passed_next s es sp i e a ws as' h w f f' x y n =
             let r' = subst (λ (j : ℕ). IsRace (tree s) es p j) z r in
             let t = meets s es sp i e h p r' in
             let u = t.first in let v = t.earlier in let b = t.greater in
-            answered (Rival es e) (number (tree s) es) i (slot e ws as') a.hebrew (greatest_slot es (number (tree s) es) i e ws as' w.writes w.accesses f f')
-            (sym (answer_slot e a.hebrew ws as') ∙ sym n) (p - 1) (omega (arith, u, v)) t.has (omega (arith, b, y)))
+            answered (Rival es e) (number (tree s) es) i (slot e ks) a.hebrew (greatest_slot es (number (tree s) es) i e ks w.writes w.accesses f)
+            (sym (answer_slot e a.hebrew ks) ∙ sym n) (p - 1) (omega (arith, u, v)) t.has (omega (arith, b, y)))
       ];
     }
 
-pub passed_found : (s : Shape) (es : List Event) → Spells s es → (i : ℕ) (e : Event) (a : Access) (p : ℕ) (ws as' : List (Option Access)) → slice_get es i ≡ Some e
-    → Passed (tree s) es i ws as' → Fits (length ws) e → Fits (length as') e → a.at ≡ i + 1 → a.hebrew ≡ number (tree s) es i
-    → Some p ≡ answer_at e a.hebrew ws as' → IsFirstRace (tree s) es p (i + 1)
-passed_found s es sp i e a p ws as' h w f f' x y n =
-    let g = found (Rival es e) (number (tree s) es) i (slot e ws as') a.hebrew p (greatest_slot es (number (tree s) es) i e ws as' w.writes w.accesses f f')
-    (sym (answer_slot e a.hebrew ws as') ∙ sym n) in
+pub passed_found : (s : Shape) (es : List Event) → Spells s es → (i : ℕ) (e : Event) (a : Access) (p : ℕ) (ks : List Kept) → slice_get es i ≡ Some e
+    → Passed (tree s) es i ks → Fits (length ks) e → a.at ≡ i + 1 → a.hebrew ≡ number (tree s) es i
+    → Some p ≡ answer_at e a.hebrew ks → IsFirstRace (tree s) es p (i + 1)
+passed_found s es sp i e a p ks h w f x y n =
+    let g = found (Rival es e) (number (tree s) es) i (slot e ks) a.hebrew p (greatest_slot es (number (tree s) es) i e ks w.writes w.accesses f)
+    (sym (answer_slot e a.hebrew ks) ∙ sym n) in
     let b = g.greater in
     record {
       race = race_of s es sp i e h p (record { first = g.first; earlier = g.earlier; has = g.has; greater = omega (arith, b, y) });
@@ -227,73 +240,74 @@ fits_next es i n m x d g lt f a b k e l =
           subst (λ (y : ℕ). Fits m (get_or es y e)) (sym z) (subst (λ (y : Event). Fits m y) (get_or_default es i d e lt) (fits_more x m (get_or es i d) b f)))
     ]
 
--- the pass, whatever shape the events have
-pub record Standing (es : List Event) (labels : List ℕ) (i n : ℕ) (ws as' : List (Option Access)) : Type 0 where
+-- the pass, whatever shape the events have, with the number n of the current strand and its Hebrew number h
+pub record Standing (es : List Event) (labels : List ℕ) (i n h : ℕ) (ks : List Kept) : Type 0 where
   pub strand : n ≡ strand_at es i
   pub few : n ≤ i
-  pub writes_fit : (k : ℕ) (e : Event) → k < length es → Fits (length ws) (get_or es k e)
-  pub accesses_fit : (k : ℕ) (e : Event) → k < length es → Fits (length as') (get_or es k e)
-  pub passed : (s : Shape) → Spells s es → labels ≡ hebrews (tree s) 1 → Passed (tree s) es i ws as'
+  pub hebrew : 1 ≤ n → h ≡ get_or labels (n - 1) 0
+  pub fit : (k : ℕ) (e : Event) → k < length es → Fits (length ks) (get_or es k e)
+  pub passed : (s : Shape) → Spells s es → labels ≡ hebrews (tree s) 1 → Passed (tree s) es i ks
 
-pub standing_first : (es : List Event) (labels : List ℕ) (n m : ℕ) (evs : List Event) (ws as' : List (Option Access)) → n ≡ 0 → evs ≡ es
-    → ((k : ℕ) (e : Event) → k < length evs → Fits m (get_or evs k e)) → ws ≡ replicate m None → as' ≡ replicate m None → Standing es labels 0 n ws as'
-standing_first es labels n m evs ws as' z q f e e' = record {
+pub standing_first : (es : List Event) (labels : List ℕ) (n h m : ℕ) (evs : List Event) (ks : List Kept) → n ≡ 0 → evs ≡ es
+    → ((k : ℕ) (e : Event) → k < length evs → Fits m (get_or evs k e)) → ks ≡ replicate m untouched → Standing es labels 0 n h ks
+standing_first es labels n h m evs ks z q f e = record {
   strand = z ∙ sym (strand_zero es);
   few = omega (arith, z);
-  writes_fit = λ k d l. rw e (rw (length-replicate {A = Option Access} m None) (subst (λ (x : List Event). (k : ℕ) (d : Event) → k < length x → Fits m (get_or x k d)) q f k d l));
-  accesses_fit = λ k d l. rw e' (rw (length-replicate {A = Option Access} m None) (subst (λ (x : List Event). (k : ℕ) (d : Event) → k < length x → Fits m (get_or x k d)) q f k d l));
-  passed = λ s sp lb. passed_first (tree s) es m ws as' e e';
+  hebrew = λ l. omega (arith, l, z);
+  fit = λ k d l. rw e (rw (length-replicate m untouched) (subst (λ (x : List Event). (k : ℕ) (d : Event) → k < length x → Fits m (get_or x k d)) q f k d l));
+  passed = λ s sp lb. passed_first (tree s) es m ks e;
 }
 
-length-writes_after : (e : Event) (a : Access) (ws : List (Option Access)) → length (writes_after e a ws) ≡ length ws
-length-writes_after (events.Write d v) a ws = length-set ws d (greater_of (get_or ws d None) a)
-length-writes_after _ a ws = refl
-
-length-accesses_after : (e : Event) (a : Access) (ws : List (Option Access)) → length (accesses_after e a ws) ≡ length ws
-length-accesses_after (events.Read d v) a ws = length-set ws d (greater_of (get_or ws d None) a)
-length-accesses_after (events.Write d v) a ws = length-set ws d (greater_of (get_or ws d None) a)
-length-accesses_after _ a ws = refl
-
-number_here : (s : Shape) (es : List Event) (labels : List ℕ) (i n h : ℕ) → labels ≡ hebrews (tree s) 1 → n ≡ strand_at es (i + 1) → h ≡ get_or labels (n - 1) 0 → h ≡ number (tree s) es i
-number_here s es labels i n h lb z g = g ∙ (ap (λ (x : List ℕ). get_or x (n - 1) 0) lb ∙ ap (λ (x : ℕ). hebrew (tree s) x) z)
+length-kept_after : (e : Event) (a : Access) (ks : List Kept) → length (kept_after e a ks) ≡ length ks
+length-kept_after (events.Read d v) a ks = length-set ks d (after_read a (get_or ks d untouched))
+length-kept_after (events.Write d v) a ks = length-set ks d (after_write a (get_or ks d untouched))
+length-kept_after _ a ks = refl
 
 -- the current event, with its strand n' and its access a
 pub record Here (es : List Event) (labels : List ℕ) (i n' : ℕ) (e : Event) (a : Access) : Type 0 where
   pub event : slice_get es i ≡ Some e
   pub strand : n' ≡ strand_at es (i + 1)
   pub few : n' ≤ i + 1
-  pub hebrew : a.hebrew ≡ get_or labels (n' - 1) 0
+  pub hebrew : 1 ≤ n' → a.hebrew ≡ get_or labels (n' - 1) 0
   pub at : a.at ≡ i + 1
 
-pub standing_next : (es : List Event) (labels : List ℕ) (i n n' : ℕ) (e : Event) (a : Access) (ws as' ws'' as'' : List (Option Access))
-    → Standing es labels i n ws as' → Here es labels i n' e a → Fits (length ws) e → Fits (length as') e
-    → None ≡ answer_at e a.hebrew ws as' → ws'' ≡ writes_after e a ws → as'' ≡ accesses_after e a as' → Standing es labels (i + 1) n' ws'' as''
-standing_next es labels i n n' e a ws as' ws'' as'' s h f f' x y y' = record {
-  strand = h.strand;
-  few = h.few;
-  writes_fit = λ k d l. rw y (rw (length-writes_after e a ws) (s.writes_fit k d l));
-  accesses_fit = λ k d l. rw y' (rw (length-accesses_after e a as') (s.accesses_fit k d l));
-  passed = λ t sp lb. rw y (rw y' (passed_next t es sp i e a ws as' h.event (s.passed t sp lb) f f' h.at (number_here t es labels i n' a.hebrew lb h.strand h.hebrew) x));
+-- each event of a run is in a strand
+number_here : (s : Shape) (es : List Event) (labels : List ℕ) (i n' : ℕ) (e : Event) (a : Access) → Spells s es → labels ≡ hebrews (tree s) 1 → Here es labels i n' e a
+    → a.hebrew ≡ number (tree s) es i
+number_here s es labels i n' e a sp lb h =
+    let held = strand_held s es sp (i + 1) (omega arith) in
+    let z = h.strand in
+    h.hebrew (omega (arith, held, z)) ∙ (ap (λ (x : List ℕ). get_or x (n' - 1) 0) lb ∙ ap (λ (x : ℕ). hebrew (tree s) x) z)
+
+pub standing_next : (es : List Event) (labels : List ℕ) (i n h n' : ℕ) (e : Event) (a : Access) (ks ks' : List Kept)
+    → Standing es labels i n h ks → Here es labels i n' e a → Fits (length ks) e
+    → None ≡ answer_at e a.hebrew ks → ks' ≡ kept_after e a ks → Standing es labels (i + 1) n' a.hebrew ks'
+standing_next es labels i n h n' e a ks ks' s w f x y = record {
+  strand = w.strand;
+  few = w.few;
+  hebrew = w.hebrew;
+  fit = λ k d l. rw y (rw (length-kept_after e a ks) (s.fit k d l));
+  passed = λ t sp lb. rw y (passed_next t es sp i e a ks w.event (s.passed t sp lb) f w.at (number_here t es labels i n' e a sp lb w) x);
 }
 
-pub standing_found : (es : List Event) (labels : List ℕ) (i n n' p : ℕ) (e : Event) (a : Access) (ws as' : List (Option Access))
-    → Standing es labels i n ws as' → Here es labels i n' e a → Fits (length ws) e → Fits (length as') e
-    → Some p ≡ answer_at e a.hebrew ws as' → (t : Shape) → Spells t es → labels ≡ hebrews (tree t) 1 → IsFirstRace (tree t) es p a.at
-standing_found es labels i n n' p e a ws as' s h f f' x t sp lb =
-    subst (λ (k : ℕ). IsFirstRace (tree t) es p k) (sym h.at)
-    (passed_found t es sp i e a p ws as' h.event (s.passed t sp lb) f f' h.at (number_here t es labels i n' a.hebrew lb h.strand h.hebrew) x)
+pub standing_found : (es : List Event) (labels : List ℕ) (i n h n' p : ℕ) (e : Event) (a : Access) (ks : List Kept)
+    → Standing es labels i n h ks → Here es labels i n' e a → Fits (length ks) e
+    → Some p ≡ answer_at e a.hebrew ks → (t : Shape) → Spells t es → labels ≡ hebrews (tree t) 1 → IsFirstRace (tree t) es p a.at
+standing_found es labels i n h n' p e a ks s w f x t sp lb =
+    subst (λ (k : ℕ). IsFirstRace (tree t) es p k) (sym w.at)
+    (passed_found t es sp i e a p ks w.event (s.passed t sp lb) f w.at (number_here t es labels i n' e a sp lb w) x)
 
-no_access : {P Q : Type 0} → (P × ⊥) ⊎ (Q × ⊥) → ⊥
-no_access (inl x) = x.1
-no_access (inr x) = x.1
+neither : {P Q : Type 0} → (P × ⊥) ⊎ (Q × ⊥) → ⊥
+neither (inl x) = x.1
+neither (inr x) = x.1
 
 -- after the last event no pair races
-pub standing_last : (es : List Event) (labels : List ℕ) (i n : ℕ) (ws as' : List (Option Access)) → Standing es labels i n ws as' → length es ≤ i
+pub standing_last : (es : List Event) (labels : List ℕ) (i n h : ℕ) (ks : List Kept) → Standing es labels i n h ks → length es ≤ i
     → (t : Shape) → Spells t es → labels ≡ hebrews (tree t) 1 → HasNoRace (tree t) es
-standing_last es labels i n ws as' s l t sp lb p q r =
+standing_last es labels i n h ks s l t sp lb p q r =
     elim (cases_lt i q) [
       | inl m ↦ (let z : slice_get es (q - 1) ≡ None = slice_get_past es (q - 1) (omega (arith, l, m)) in
-          no_access (subst (λ (o : Option Event). (Writes (slice_get es (p - 1)) r.cell × Accesses o r.cell) ⊎ (Accesses (slice_get es (p - 1)) r.cell × Writes o r.cell)) z r.clash))
+          neither (subst (λ (o : Option Event). (Writes (slice_get es (p - 1)) r.cell × Accesses o r.cell) ⊎ (Accesses (slice_get es (p - 1)) r.cell × Writes o r.cell)) z r.clash))
       | inr m ↦ (s.passed t sp lb).none p q m r
     ]
 
@@ -323,15 +337,31 @@ here_strand es evs i n x d m q l z b c =
     let j = ap begun_by b in
     omega (arith, z, s, k, j, c)
 
-pub here : (es evs : List Event) (labels : List ℕ) (i n x h : ℕ) (d : Event) (m : Mark) → evs ≡ es → i < length evs → n ≡ strand_at es i → n ≤ i
-    → m ≡ mark_of (get_or evs i d) → x ≡ begun_by m → h ≡ get_or labels (n + x - 1) 0 → Here es labels i (n + x) (get_or evs i d) (record { hebrew = h; at = i + 1 })
-here es evs labels i n x h d m q l z few b c g = record {
-  event = here_event es evs i d q l;
-  strand = here_strand es evs i n x d m q l z b c;
-  few = let k = begun_once m in omega (arith, few, k, c);
-  hebrew = g;
-  at = refl;
-}
+-- the event begins a strand, whose Hebrew number is looked up
+pub here_begun : (es evs : List Event) (labels : List ℕ) (i n x n' h : ℕ) (d : Event) (m : Mark) → evs ≡ es → i < length evs → n ≡ strand_at es i → n ≤ i
+    → m ≡ mark_of (get_or evs i d) → x ≡ begun_by m → 0 < x → n' ≡ n + 1 → h ≡ get_or labels (n + 1 - 1) 0 → Here es labels i n' (get_or evs i d) (record { hebrew = h; at = i + 1 })
+here_begun es evs labels i n x n' h d m q l z few b c some y g =
+    let one : n' ≡ n + x = let k = begun_once m in omega (arith, k, c, some, y) in
+    record {
+      event = here_event es evs i d q l;
+      strand = one ∙ here_strand es evs i n x d m q l z b c;
+      few = omega (arith, few, y);
+      hebrew = λ _. g ∙ ap (λ (k : ℕ). get_or labels (k - 1) 0) (sym y);
+      at = refl;
+    }
+
+-- the event is in the strand of the one before
+pub here_on : (es evs : List Event) (labels : List ℕ) (i n x n' h h' : ℕ) (d : Event) (m : Mark) → evs ≡ es → i < length evs → n ≡ strand_at es i → n ≤ i
+    → m ≡ mark_of (get_or evs i d) → x ≡ begun_by m → x ≤ 0 → n' ≡ n → h' ≡ h → (1 ≤ n → h ≡ get_or labels (n - 1) 0) → Here es labels i n' (get_or evs i d) (record { hebrew = h'; at = i + 1 })
+here_on es evs labels i n x n' h h' d m q l z few b c none y e g =
+    let one : n' ≡ n + x = omega (arith, none, y) in
+    record {
+      event = here_event es evs i d q l;
+      strand = one ∙ here_strand es evs i n x d m q l z b c;
+      few = omega (arith, few, y);
+      hebrew = λ k. e ∙ (g (omega (arith, k, y)) ∙ ap (λ (j : ℕ). get_or labels (j - 1) 0) (sym y));
+      at = refl;
+    }
 
 pub fits_here : (n : ℕ) (es evs : List Event) (i : ℕ) (d : Event) → evs ≡ es → i < length evs → ((k : ℕ) (e : Event) → k < length es → Fits n (get_or es k e)) → Fits n (get_or evs i d)
 fits_here n es evs i d q l f = subst (λ (x : List Event). Fits n (get_or x i d)) (sym q) (f i d (let k = ap (λ (y : List Event). length y) q in omega (arith, l, k)))

@@ -1,21 +1,25 @@
 -- The accesses of each cell that a pass over a run's events keeps.
-use Rattle.std.specs.Prelude.{ℕ, ◌<◌, cond, nat_lt, nat_le, List, Option, Some, None, slice_index_or, slice_set}
+use Rattle.std.specs.Prelude.{ℕ, ◌<◌, cond, nat_lt, List, Option, Some, None, slice_index_or, slice_set}
 use Rattle.cilk_types.specs.declared.event.Event.{Event}
 use Rattle.cilk_types.specs.declared.event.Event.TheVariants.{Read, Write}
 use Rattle.cilk_cells.specs.declared.histories.Access.{Access}
+use Rattle.cilk_cells.specs.declared.histories.Kept.{Kept}
+
+-- no access, since Hebrew numbers count from 1
+abbrev pub no_access : Access
+no_access = record { hebrew = 0; at = 0 }
+
+-- what is kept of a cell before its first access
+abbrev pub untouched : Kept
+untouched = record { write = no_access; access = no_access }
 
 -- the kept access, or this one if its Hebrew number is greater
-abbrev pub greater_of : Option Access → Access → Option Access
-greater_of None a = Some a
-greater_of (Some b) a = cond (nat_le a.hebrew b.hebrew) (Some b) (Some a)
+abbrev pub greater_of : Access → Access → Access
+greater_of b a = cond (nat_lt b.hebrew a.hebrew) a b
 
 -- the position of the kept access if its Hebrew number is greater
-abbrev pub racing_with : Option Access → ℕ → Option ℕ
-racing_with None h = None
-racing_with (Some b) h = cond (nat_lt h b.hebrew) (Some b.at) None
-
-abbrev pub kept_after : ℕ → Access → List (Option Access) → List (Option Access)
-kept_after c a kept = slice_set kept c (greater_of (slice_index_or kept c None) a)
+abbrev pub racing_with : Access → ℕ → Option ℕ
+racing_with b h = cond (nat_lt h b.hebrew) (Some b.at) None
 
 -- the event's cell, if any, is below n
 abbrev pub Fits : ℕ → Event → Type 0
@@ -23,17 +27,20 @@ Fits n (Read c v) = c < n
 Fits n (Write c v) = c < n
 Fits n _ = Unit {0}
 
-abbrev pub accesses_after : Event → Access → List (Option Access) → List (Option Access)
-accesses_after (Read c v) a kept = kept_after c a kept
-accesses_after (Write c v) a kept = kept_after c a kept
-accesses_after _ a kept = kept
+-- what is kept of a cell after a read, and after a write
+abbrev pub after_read : Access → Kept → Kept
+after_read a k = record { write = k.write; access = greater_of k.access a }
 
-abbrev pub writes_after : Event → Access → List (Option Access) → List (Option Access)
-writes_after (Write c v) a kept = kept_after c a kept
-writes_after _ a kept = kept
+abbrev pub after_write : Access → Kept → Kept
+after_write a k = record { write = greater_of k.write a; access = greater_of k.access a }
+
+abbrev pub kept_after : Event → Access → List Kept → List Kept
+kept_after (Read c v) a ks = slice_set ks c (after_read a (slice_index_or ks c untouched))
+kept_after (Write c v) a ks = slice_set ks c (after_write a (slice_index_or ks c untouched))
+kept_after _ a ks = ks
 
 -- a read races with a write, a write with any access
-abbrev pub answer_at : Event → ℕ → List (Option Access) → List (Option Access) → Option ℕ
-answer_at (Read c v) h writes accesses = racing_with (slice_index_or writes c None) h
-answer_at (Write c v) h writes accesses = racing_with (slice_index_or accesses c None) h
-answer_at _ h writes accesses = None
+abbrev pub answer_at : Event → ℕ → List Kept → Option ℕ
+answer_at (Read c v) h ks = racing_with (slice_index_or ks c untouched).write h
+answer_at (Write c v) h ks = racing_with (slice_index_or ks c untouched).access h
+answer_at _ h ks = None

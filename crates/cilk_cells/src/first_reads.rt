@@ -1,6 +1,7 @@
 //! The first reducer-read of each reducer, as a pass over a run's events keeps it.
 
-ghost use Rattle.std.specs.Prelude.{◌≡◌, None, IfOk, OnOk};
+ghost use Rattle.std.specs.Prelude.{◌≡◌, ℕ, ◌<◌, None, IfOk, OnOk, false, length, slice_index_or};
+ghost use Rattle.cilk_types.specs.declared.event.Event.{Event};
 ghost use Rattle.cilk_types.specs.declared.event.Instance.{Instance};
 ghost use Rattle.cilk_cells.specs.Reads.{instance_read, read_at, first_of_all, KeepsAt};
 
@@ -51,8 +52,21 @@ impl FirstReads {
     }
 }
 
+/// Tells whether one of the events is a reducer-read.
+pub fn has_read(events: &[Event]) -> bool
+    ensures { result ≡ false → (k : ℕ) (e : Event) → k < length events.now → instance_read (slice_index_or events.now k e) ≡ None }
+{
+    for event in events {
+        if instance_of(event).is_some() {
+            return true;
+        }
+    }
+    false
+}
+
 /// Returns the instance that an event reads: a creation, a set and a value are reducer-reads. Other
 /// events give `None`.
+#[inline(always)]
 pub fn instance_of(event: &Event) -> Option<Instance>
     ensures { result ≡ instance_read event.now }
 {

@@ -1,59 +1,72 @@
 //! The accesses of each cell that a pass over a run's events keeps.
 
-ghost use Rattle.std.specs.Prelude.{◌≡◌, ◌≤◌, ◌+◌, ◌<◌, ℕ, length, slice_get, slice_index_or, slice_set, replicate, IfOk, IfSome, None};
+ghost use Rattle.std.specs.Prelude.{◌≡◌, ◌↔◌, ◌≤◌, ◌+◌, ◌<◌, ℕ, length, slice_get, slice_index_or, slice_set, replicate, IfNone, IfOk, IfSome};
 ghost use Rattle.cilk_types.specs.declared.event.Event.{Event};
-ghost use Rattle.cilk_cells.specs.Keeping.{greater_of, racing_with, accesses_after, writes_after, answer_at, Fits};
+ghost use Rattle.cilk_cells.specs.Keeping.{greater_of, racing_with, kept_after, answer_at, untouched, Fits};
 
 use cilk_types::event::{Cell, Event, Pos};
 use std::alloc::{AllocError, Global};
 
-/// An access of a cell: its strand's Hebrew number and its position.
+/// An access of a cell: its strand's Hebrew number and its position. Both count from 1.
 #[derive(Clone, Copy, PartialEq, Eq)]
 pub struct Access {
     pub hebrew: u32,
     pub at: Pos,
 }
 
-/// For each cell the write and the access of greatest Hebrew number; at equal numbers the earliest.
+impl Access {
+    /// No access.
+    pub const NONE: Access = Access { hebrew: 0, at: 0 };
+}
+
+/// The write and the access of a cell that have the greatest Hebrew number; at equal numbers the
+/// earliest.
+#[derive(Clone, Copy, PartialEq, Eq)]
+pub struct Kept {
+    pub write: Access,
+    pub access: Access,
+}
+
+/// The kept accesses of each cell.
 #[derive(Drop)]
 pub struct Histories {
-    pub writes: Vec<Option<Access>>,
-    pub accesses: Vec<Option<Access>>,
+    pub cells: Vec<Kept>,
 }
 
 impl Histories {
     /// Makes the histories of `cells` cells, with no access yet.
     pub fn new(alloc: Global, cells: usize) -> Result<Histories, AllocError>
-        ensures writes { IfOk result (λ h. h.writes.items ≡ replicate cells None) }
-        ensures accesses { IfOk result (λ h. h.accesses.items ≡ replicate cells None) }
+        ensures { IfOk result (λ h. h.cells.items ≡ replicate cells untouched) }
     {
-        let nothing: Option<Access> = None;
-        let mut writes = Vec::new(alloc);
-        writes.resize(cells, nothing)?;
-        let mut accesses = Vec::new(alloc);
-        accesses.resize(cells, nothing)?;
-        Ok(Histories { writes, accesses })
+        let nothing = Kept {
+            write: Access::NONE,
+            access: Access::NONE,
+        };
+        let mut kept = Vec::new(alloc);
+        kept.resize(cells, nothing)?;
+        Ok(Histories { cells: kept })
     }
 
     /// Records an event, and returns the position of the kept access that races with it, if there
     /// is one.
+    #[inline(always)]
     pub fn meet(&mut self, event: &Event, here: Access) -> Option<Pos>
-        requires writes { Fits (length self.old.writes.items) event.now }
-        requires accesses { Fits (length self.old.accesses.items) event.now }
-        ensures answer { result ≡ answer_at event.now here.hebrew self.old.writes.items self.old.accesses.items }
-        ensures writes { self.new.writes.items ≡ writes_after event.now here self.old.writes.items }
-        ensures accesses { self.new.accesses.items ≡ accesses_after event.now here self.old.accesses.items }
+        requires { Fits (length self.old.cells.items) event.now }
+        ensures answer { result ≡ answer_at event.now here.hebrew self.old.cells.items }
+        ensures kept { self.new.cells.items ≡ kept_after event.now here self.old.cells.items }
     {
         match *event {
             Event::Read { cell, .. } => {
-                let race = racing(self.writes.as_slice(), cell, here.hebrew);
-                keep(self.accesses.as_mut_slice(), cell, here);
+                let kept = &mut self.cells[cell as usize];
+                let race = racing(kept.write, here.hebrew);
+                keep(&mut kept.access, here);
                 race
             }
             Event::Write { cell, .. } => {
-                let race = racing(self.accesses.as_slice(), cell, here.hebrew);
-                keep(self.accesses.as_mut_slice(), cell, here);
-                keep(self.writes.as_mut_slice(), cell, here);
+                let kept = &mut self.cells[cell as usize];
+                let race = racing(kept.access, here.hebrew);
+                keep(&mut kept.write, here);
+                keep(&mut kept.access, here);
                 race
             }
             _ => None,
@@ -61,33 +74,24 @@ impl Histories {
     }
 }
 
-// Returns the position of the cell's kept access if its Hebrew number is greater than `hebrew`.
-fn racing(kept: &[Option<Access>], cell: Cell, hebrew: u32) -> Option<Pos>
-    requires { cell < length kept.now }
-    ensures { result ≡ racing_with (slice_index_or kept.now cell None) hebrew }
+// Returns the position of the kept access if its Hebrew number is greater than `hebrew`.
+#[inline(always)]
+fn racing(kept: Access, hebrew: u32) -> Option<Pos>
+    ensures { result ≡ racing_with kept hebrew }
 {
-    let access = kept[cell as usize];
-    match access {
-        Some(access) if hebrew < access.hebrew => Some(access.at),
-        _ => None,
+    if hebrew < kept.hebrew {
+        return Some(kept.at);
     }
+    None
 }
 
 // Keeps an access if its Hebrew number is greater than that of the kept one.
-fn keep(kept: &mut [Option<Access>], cell: Cell, here: Access)
-    requires { cell < length kept.old }
-    ensures { kept.new ≡ slice_set kept.old cell (greater_of (slice_index_or kept.old cell None) here) }
+#[inline(always)]
+fn keep(kept: &mut Access, here: Access)
+    ensures { kept.new ≡ greater_of kept.old here }
 {
-    let greater = greater(kept[cell as usize], here);
-    kept[cell as usize] = greater;
-}
-
-fn greater(kept: Option<Access>, here: Access) -> Option<Access>
-    ensures { result ≡ greater_of kept here }
-{
-    match kept {
-        Some(access) if here.hebrew <= access.hebrew => kept,
-        _ => Some(here),
+    if kept.hebrew < here.hebrew {
+        *kept = here;
     }
 }
 
@@ -98,21 +102,24 @@ pub fn cells_of(events: &[Event]) -> usize
 {
     let mut cells: usize = 0;
     for event in events {
-        let needed = cells_in(event);
-        if needed > cells {
-            cells = needed;
+        if let Some(cell) = cell_of(event) {
+            if cell as usize >= cells {
+                cells = cell as usize + 1;
+            }
         }
     }
     cells
 }
 
-fn cells_in(event: &Event) -> usize
-    ensures room { Fits result event.now }
-    ensures least { (n : ℕ) → Fits n event.now → result ≤ n }
+// Returns the cell that an event reads or writes.
+#[inline(always)]
+fn cell_of(event: &Event) -> Option<Cell>
+    ensures some { IfSome result (λ cell. (n : ℕ) → Fits n event.now ↔ (cell < n)) }
+    ensures none { IfNone result ((n : ℕ) → Fits n event.now) }
 {
     match *event {
-        Event::Read { cell, .. } => cell as usize + 1,
-        Event::Write { cell, .. } => cell as usize + 1,
-        _ => 0,
+        Event::Read { cell, .. } => Some(cell),
+        Event::Write { cell, .. } => Some(cell),
+        _ => None,
     }
 }

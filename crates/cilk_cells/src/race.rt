@@ -26,13 +26,17 @@ pub fn first_race(
     let events = trace.as_slice();
     let mut histories = Histories::new(alloc, cells_of(events))?;
     let mut strand: StrandNo = 0;
+    let mut hebrew: u32 = 0;
     for (index, event) in events.iter().enumerate() {
-        strand += Mark::of(event).strands();
-        if strand == 0 || strand > labels.count() {
-            return Ok(None);
+        if Mark::of(event).strands() > 0 {
+            strand += 1;
+            if strand > labels.count() {
+                return Ok(None);
+            }
+            hebrew = labels.hebrew(strand);
         }
         let here = Access {
-            hebrew: labels.hebrew(strand),
+            hebrew,
             at: index as Pos + 1,
         };
         if let Some(earlier) = histories.meet(event, here) {

@@ -6,7 +6,7 @@ ghost use Rattle.cilk_tree.specs.Tree.{tree};
 ghost use Rattle.cilk_peers.specs.Peers.{class_numbers};
 ghost use Rattle.cilk_peers.specs.ViewRaces.{HasNoViewRace, IsFirstViewRace};
 
-use crate::first_reads::{FirstReads, Read, instance_of};
+use crate::first_reads::{FirstReads, Read, has_read, instance_of};
 use cilk_peers::class::Classes;
 use cilk_tree::mark::Mark;
 use cilk_types::event::{Pos, StrandNo};
@@ -26,14 +26,17 @@ pub fn first_view_read(
     ensures { IfOk result (λ found. (s : Shape) → Spells s trace.now → classes.now ≡ class_numbers (tree s) 0 1 → MatchOption found (HasNoViewRace (tree s) trace.now) (λ pair. IsFirstViewRace (tree s) trace.now pair.0 pair.1)) }
 {
     let events = trace.as_slice();
+    if !has_read(events) {
+        return Ok(None);
+    }
     let mut firsts = FirstReads::new(alloc);
     let mut strand: StrandNo = 0;
     for (index, event) in events.iter().enumerate() {
         strand += Mark::of(event).strands();
-        if strand == 0 || strand > classes.count() {
-            return Ok(None);
-        }
         if let Some(instance) = instance_of(event) {
+            if strand == 0 || strand > classes.count() {
+                return Ok(None);
+            }
             let here = Read {
                 class: classes.class(strand),
                 at: index as Pos + 1,

@@ -11,5 +11,6 @@ pub mod Rooms
 pub mod Shown
 pub mod Spellings
 pub mod Texts
+pub mod Threes
 pub mod Wholes
 pub mod Written

@@ -6,7 +6,7 @@ ghost use Rattle.cilk_cert_text.specs.Lines.{spelled, reducer_words};
 ghost use Rattle.cilk_cert_text.specs.declared.line.Line.TheVariants as lines;
 ghost use Rattle.cilk_cert_text.specs.Writing.{behind_spaces};
 
-use crate::digits::put_digits;
+use crate::digits::put_number;
 use crate::line::{Entry, Line, Reducer, Version};
 
 /// Room for the longest line, which has 53 bytes with its LF.
@@ -43,7 +43,7 @@ fn number(room: &mut [u8], at: usize, n: u32) -> usize
     ensures short { result ≤ at + 11 }
 {
     let at = byte(room, at, b' ');
-    put_digits(room, at, u64::from(n))
+    put_number(room, at, u64::from(n))
 }
 
 /// Writes a space and a value, and returns where they end.
@@ -56,9 +56,9 @@ fn value(room: &mut [u8], at: usize, value: i64) -> usize
     let at = byte(room, at, b' ');
     if value < 0 {
         let at = byte(room, at, b'-');
-        return put_digits(room, at, value.unsigned_abs());
+        return put_number(room, at, value.unsigned_abs());
     }
-    put_digits(room, at, value.unsigned_abs())
+    put_number(room, at, value.unsigned_abs())
 }
 
 /// Writes a space and a reducer's name, and returns where they end.

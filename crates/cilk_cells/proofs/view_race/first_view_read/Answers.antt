@@ -1,8 +1,9 @@
 use Rattle.std.proofs.Common.{arith, ap, length, inl, inr, sym, subst, refl}
+use Rattle.cilk_tree.specs.Tree.{tree}
 use Rattle.cilk_cells.proofs.Pass.{here_event, here_strand, begun_once}
-use Rattle.cilk_cells.proofs.Firsts.{Standing, here, standing_first, standing_other, standing_read, standing_found, standing_last, strands_classed}
+use Rattle.cilk_cells.proofs.Firsts.{Standing, here, standing_first, standing_other, standing_read, standing_found, standing_last, strands_classed, no_reads}
 use Rattle.cilk_cells.proofs.view_race.first_view_read.Goals as goal
-use Rattle.cilk_cells.proofs.view_race.first_view_read.Goals.{then-strand-eq0-via-then-strand-eq0, then-strand-eq0-via-else-strand-eq0+then-strand-count, in-Some+in_ok-first+else-is_apart, in_default}
+use Rattle.cilk_cells.proofs.view_race.first_view_read.Goals.{then-strand-eq0-via-then-strand-eq0, then-strand-eq0-via-else-strand-eq0+then-strand-count, in-Some+else-strand-eq0+else-strand-count+in_ok-first+else-is_apart, in_default}
 
 pub loop-index-init : goal.loop-index-init
 loop-index-init c = standing_first _ _ _ _ refl c.new-firsts.ensures
@@ -11,7 +12,7 @@ pub loop-index-preserved : goal.loop-index-preserved
 loop-index-preserved c =
     let i = c.loop-index.invariant in
     elim c.match-instance_of.branch [
-      | in-Some+in_ok-first+else-is_apart w ↦ subst (Standing _ _ _ _) (sym w.firsts-is) (
+      | in-Some+else-strand-eq0+else-strand-count+in_ok-first+else-is_apart w ↦ subst (Standing _ _ _ _) (sym w.firsts-is) (
           standing_read _ _ _ _ _ _ _ _ _ _ w.meet.new.self i
           (here _ _ _ _ _ _ _ _ _ c.as_slice-events.ensures.events c.loop-index-test.true i.strand i.few c.of.ensures c.strands-strand.ensures w.class.ensures)
           w.in-Some.ensures w.in_ok-first.ensures.first w.in_ok-first.ensures.kept w.if-is_apart.false)
@@ -41,3 +42,6 @@ returns-then-strand-eq0 c = λ s sp k p q r.
 pub returns : goal.returns
 returns c = λ s sp k.
     standing_last _ _ _ _ _ c.loop-index.invariant (let j = ap (λ (x : _). length x) c.as_slice-events.ensures.events in let l = c.loop-index-test.false in omega (arith, j, l)) s sp k
+
+pub returns-then-not-has_read : goal.returns-then-not-has_read
+returns-then-not-has_read c = λ s sp k. no_reads (tree s) _ _ c.as_slice-events.ensures.events (c.has_read.ensures c.if-not-has_read.true)
