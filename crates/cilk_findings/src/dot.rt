@@ -1,7 +1,6 @@
 //! The series-parallel tree of a small run, as a graph.
 
 use crate::scene::Scene;
-use cilk_messages::place::locate;
 use cilk_messages::sentence::say;
 use cilk_tree::tree::{Node, SpTree};
 use std::alloc::AllocError;
@@ -131,6 +130,5 @@ fn function_at<'a>(scene: &Scene<'a>, event: usize) -> &'a [u8] {
 
 // The line of an event.
 fn line_of(scene: &Scene<'_>, event: usize) -> usize {
-    let at = scene.run.replay.place(&scene.case.map, event).unwrap_or(0);
-    locate(scene.case.text, at).line
+    scene.line(scene.run.replay.place(&scene.case.map, event).unwrap_or(0))
 }

@@ -6,7 +6,7 @@ use cilk_syntax::lexer::LexFault;
 use std::alloc::AllocError;
 
 /// The reason why a run can't be explained.
-#[derive(Clone, Copy, PartialEq, Eq, Debug)]
+#[derive(Clone, Copy)]
 pub enum CaseFault {
     Memory,
     /// The texts aren't a program and its input, or their run isn't the expected one: it has a

@@ -13,6 +13,7 @@
 //! | Call | Result |
 //! |---|---|
 //! | [`faults::of_fault`] | why and where a fault stops the run, and a hint |
+//! | [`further::push_further`] | a line for each two places of the text whose accesses race |
 //! | [`totals::measure`] | work, span, burdened span, frames and strands of the serial run |
 //! | [`critical::critical_path`] | the events of a longest chain |
 //! | [`shares::shares`] | the same for groups of frames, as those of one function |
@@ -42,6 +43,7 @@ pub mod drawing;
 mod expressions;
 pub mod fault;
 pub mod faults;
+pub mod further;
 pub mod items;
 pub mod map;
 pub mod partings;

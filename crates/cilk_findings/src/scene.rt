@@ -10,6 +10,7 @@ use cilk_messages::sentence::{Part, Sentence, say};
 use cilk_program::program::Body;
 use cilk_syntax::tree::Name;
 use cilk_types::event::{Event, Instance};
+use cilk_types::invocation::Invocation;
 use std::alloc::AllocError;
 
 /// A case and its run.
@@ -24,6 +25,19 @@ impl<'a> Scene<'a> {
     /// Returns `FILE:LINE:COLUMN` of a byte.
     pub fn place(&self, at: usize) -> Part<'a> {
         Part::Place(self.case.file, locate(self.case.text, at))
+    }
+
+    /// Returns the line of a byte.
+    pub fn line(&self, at: usize) -> usize {
+        locate(self.case.text, at).line
+    }
+
+    /// Returns the byte of an event. Of a child's result it is the place that invokes the child.
+    pub fn byte_of(&self, index: usize) -> usize {
+        match self.frame_of(index) {
+            Some(frame) if self.run.gives_result(index) => self.invoked_at(frame),
+            _ => self.run.replay.place(&self.case.map, index).unwrap_or(0),
+        }
     }
 
     /// Returns the byte of the text from which a step's instruction comes.
@@ -120,12 +134,12 @@ impl<'a> Scene<'a> {
         matches!(note.body, Body::Loop(_)) && note.high.saturating_sub(note.low) > 1
     }
 
-    /// Returns the nearest frame of a function around a frame, and the function's number.
-    pub fn function_at(&self, frame: usize) -> Option<(usize, u32)> {
-        Some(self.around(frame))
+    /// Returns whether a frame is a spawned child.
+    pub fn is_spawned(&self, frame: usize) -> bool {
+        self.note(frame).how == Invocation::Spawn
     }
 
-    /// Returns the same for a frame of the run.
+    /// Returns the nearest frame of a function around a frame, and the function's number.
     pub fn around(&self, frame: usize) -> (usize, u32) {
         let mut at = frame;
         for _level in 0..self.run.replay.frames.len() {
@@ -193,6 +207,15 @@ impl<'a> Scene<'a> {
         }
         let map: &BodyMap = self.case.map.body(self.note(frame).body)?;
         map.reducers.get(place.saturating_sub(globals)).copied()
+    }
+
+    /// Returns the cell that an event reads or writes, and whether it writes.
+    pub fn access(&self, index: usize) -> Option<(usize, bool)> {
+        match self.run.event(index)? {
+            Event::Read { cell, .. } => Some((cell as usize, false)),
+            Event::Write { cell, .. } => Some((cell as usize, true)),
+            _ => None,
+        }
     }
 
     /// Returns the variable, element or reducer that an event accesses, in words: none for other

@@ -9,7 +9,7 @@ use std::mem;
 /// Work is the number of events between the begin and the end of one of the frames, whichever frame
 /// makes them, each counted once. Span is the length of the longest chain of events from the begin
 /// to the end of one of the frames.
-#[derive(Clone, Copy, PartialEq, Eq)]
+#[derive(Clone, Copy)]
 pub struct Share {
     pub frames: u64,
     pub strands: u64,

@@ -34,23 +34,22 @@ impl Walker<'_> {
                 self.statement(second);
             }
             Stmt::While(test, body) => {
+                let condition = self.next.saturating_add(2);
                 let at = self.test(test);
                 self.statement(body);
+                self.again(condition, test);
                 self.put(at);
             }
             Stmt::For(beginning, test, step, body) => {
                 let at = self.head(beginning);
+                let condition = self.next;
                 self.turn_test(at, test);
-                // the step comes before the body in the text, and after it in the code
-                let first = self.next;
-                let spots = self.body.spots.len();
-                self.turn_step(step);
-                self.body.spots.truncate(spots);
+                let first = self.step_in_text(step);
                 self.statement(body);
-                let behind = self.next;
-                self.next = first;
-                self.turn_step(step);
-                self.next = behind;
+                self.step_in_code(first, step);
+                if let Some(test) = test {
+                    self.again(condition, test);
+                }
                 self.put(at);
             }
             Stmt::ParallelFor(bounds, body) => {
@@ -164,6 +163,32 @@ impl Walker<'_> {
             self.put(at);
         }
         self.take();
+    }
+
+    // The step comes before the body in the text, and after it in the code. Passes it, and returns
+    // its first token.
+    fn step_in_text(&mut self, step: &Option<Assignment>) -> usize {
+        let first = self.next;
+        let spots = self.body.spots.len();
+        self.turn_step(step);
+        self.body.spots.truncate(spots);
+        first
+    }
+
+    // Walks over a step that begins at an earlier token.
+    fn step_in_code(&mut self, first: usize, step: &Option<Assignment>) {
+        let behind = self.next;
+        self.next = first;
+        self.turn_step(step);
+        self.next = behind;
+    }
+
+    // Walks again over a condition that begins at an earlier token.
+    fn again(&mut self, first: usize, test: &Expr) {
+        let behind = self.next;
+        self.next = first;
+        self.expression(test);
+        self.next = behind;
     }
 
     // `STEP)`.

@@ -19,7 +19,7 @@ use std::alloc::{AllocError, Global};
 
 /// The work, the span and the burdened span of a run, in events, and its numbers of frames and
 /// strands.
-#[derive(Clone, Copy, PartialEq, Eq)]
+#[derive(Clone, Copy)]
 pub struct Totals {
     pub work: usize,
     pub span: u64,

@@ -22,8 +22,8 @@ pub fn own_words<'a>(alloc: Global, tokens: &Tokens<'a>) -> Result<Vec<&'a [u8]>
     Ok(own)
 }
 
-// Whether a token may be a name in its declaration, by the tokens on both sides.
-fn may_declare(site: &Site<'_, '_>) -> bool {
+/// Returns whether a token may be a name in its declaration, by the tokens on both sides.
+pub fn may_declare(site: &Site<'_, '_>) -> bool {
     match site.said(DECLARED) {
         Some("library") => library_word(site.word()).is_some(),
         Some("yes") => true,

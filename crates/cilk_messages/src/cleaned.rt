@@ -33,7 +33,10 @@ pub fn cleaned(
             first = piece.first;
         }
         cleaned.push(first.unwrap_or(*byte))?;
-        first = piece.blank();
+        first = match piece.first {
+            Some(_) => Some(b' '),
+            None => None,
+        };
     }
     Ok(cleaned)
 }
@@ -89,21 +92,13 @@ fn of_numeral(word: &[u8]) -> Option<&'static str> {
 #[derive(Clone, Copy)]
 struct Piece {
     end: usize,
-    // What stands for its first byte, if it is taken out.
+    // What stands for its first byte, if it is taken out. A blank stands for each other one.
     first: Option<u8>,
     // How many of its bytes are shown.
     shown: usize,
 }
 
 impl Piece {
-    // What stands for its other bytes, if it is taken out.
-    fn blank(&self) -> Option<u8> {
-        match self.first {
-            Some(_) => Some(b' '),
-            None => None,
-        }
-    }
-
     // A piece that stays.
     fn plain(end: usize) -> Piece {
         Piece {

@@ -1,6 +1,7 @@
 //! The line of a fault, with a mark below its place.
 
 use crate::place::{between, line_at};
+use crate::sentence::printed;
 use std::alloc::{AllocError, Global};
 use unicode_width::UnicodeWidthChar;
 
@@ -19,36 +20,26 @@ pub fn push_excerpt(
     let at = at.min(end);
     let from = cut_before(text, first, at);
     let upto = cut_behind(text, at, end);
-    let ahead = String::from_utf8_lossy(alloc, between(text, from, at))?;
+    let ahead = printed(alloc, between(text, from, at))?;
+    let rest = printed(alloc, between(text, at, upto).trim_ascii_end())?;
     report.push_str(ahead.as_str())?;
-    push_rest(alloc, report, between(text, at, upto))?;
+    report.push_str(rest.as_str())?;
+    report.push('\n')?;
     push_blanks(report, ahead.as_str())
-}
-
-// The rest of the line, without blanks at its end.
-fn push_rest(alloc: Global, report: &mut String, rest: &[u8]) -> Result<(), AllocError> {
-    let rest = String::from_utf8_lossy(alloc, rest)?;
-    report.push_str(rest.as_str().trim_end())?;
-    report.push('\n')
 }
 
 // The mark, after blanks as wide as a text. A tab remains a tab.
 fn push_blanks(report: &mut String, ahead: &str) -> Result<(), AllocError> {
     for symbol in ahead.chars() {
-        if symbol == '\t' {
-            report.push('\t')?;
-        } else {
-            push_spaces(report, symbol.width().unwrap_or(0))?;
+        let (blank, width) = match symbol {
+            '\t' => ('\t', 1),
+            _ => (' ', symbol.width().unwrap_or(0)),
+        };
+        for _column in 0..width {
+            report.push(blank)?;
         }
     }
     report.push_str("^\n")
-}
-
-fn push_spaces(report: &mut String, count: usize) -> Result<(), AllocError> {
-    for _column in 0..count {
-        report.push(' ')?;
-    }
-    Ok(())
 }
 
 // Where the shown part of a line begins: at its first byte, or at a character near enough.

@@ -1,13 +1,14 @@
 //! Hints for a token that the grammar doesn't allow at its place.
 
 use crate::around::is_among;
+use crate::certain::may_declare;
 use crate::hints::meant;
 use crate::place::between;
 use crate::report::Wanted;
 use crate::sentence::{Sentence, say};
 use crate::sentences::sentence;
 use crate::site::Site;
-use crate::sites::{cast_at, closed_head, head_of};
+use crate::sites::{cast_at, closed_head, head_near};
 use crate::spelling::{is_misspelt_reducer, misspelt_near};
 use crate::tokens::Tokens;
 use crate::unended::{missing_mark, unpaired};
@@ -40,7 +41,10 @@ pub fn no_form<'a>(
     if let Some(hint) = spawned_assignment(&site) {
         return Some(hint);
     }
-    let cure = of_declaration(&site).or_else(|| of_use(&site));
+    let cure = match of_declaration(&site) {
+        None => of_use(&site),
+        cure => cure,
+    };
     match cure {
         Some(cure) => Some(say(cure)),
         None => Some(say(unpaired(&site, wanted)?)),
@@ -108,7 +112,7 @@ fn of_words(site: &Site<'_, '_>) -> Option<&'static str> {
     if let Some(cure) = site.said(STATIC).or(other_word(site.word())) {
         return Some(cure);
     }
-    let named = closed_head(tokens, number).or_else(|| head_of(tokens, number));
+    let named = head_near(tokens, number);
     if site.fits("-1 sizeof") {
         return Some(size_of(tokens, number.saturating_sub(1)));
     }
@@ -119,24 +123,25 @@ fn of_words(site: &Site<'_, '_>) -> Option<&'static str> {
     }
     let ahead = tokens.word_back(number, 1);
     let of_ahead = if site.fits("0 (") {
-        undeclared(site, ahead)
+        undeclared(tokens, ahead)
     } else {
         other_word(ahead)
     };
     match (of_ahead, closed_head(tokens, number)) {
         (Some(cure), _) => Some(cure),
-        (None, Some(named)) => undeclared(site, tokens.word(named)),
+        (None, Some(named)) => undeclared(tokens, tokens.word(named)),
         (None, None) => other_word(tokens.word(named?)),
     }
 }
 
 // A word of C that the text doesn't declare.
-fn undeclared<'a>(site: &Site<'_, 'a>, word: &'a [u8]) -> Option<&'static str> {
-    if site.is_own(word) {
-        None
-    } else {
-        word_of_c(word)
+fn undeclared(tokens: &Tokens<'_>, word: &[u8]) -> Option<&'static str> {
+    for number in 0..tokens.count() {
+        if tokens.word(number) == word && may_declare(&Site::new(tokens, number)) {
+            return None;
+        }
     }
+    word_of_c(word)
 }
 
 const STATIC: &str = "0 static | local => STATIC\n-1 static | local => STATIC";

@@ -19,8 +19,7 @@ pub fn odd_byte(text: &[u8], at: usize) -> &'static str {
 /// Returns the advice for a word or mark that begins no token.
 pub fn no_token(text: &[u8], at: usize) -> Option<&'static str> {
     match byte_at(text, at) {
-        b'"' => Some(no_string(text, at)),
-        b'\'' => Some(no_character(text, at)),
+        b'"' | b'\'' => Some(no_quote(text, at)),
         b'#' => Some(no_directive(text, at)),
         b':' => Some(no_colon(text, at)),
         b'?' => Some(sentence("CHOICE")),
@@ -47,26 +46,20 @@ pub fn called(text: &[u8], at: usize) -> &[u8] {
     }
 }
 
-// The advice for a string: a read or a print.
-fn no_string(text: &[u8], at: usize) -> &'static str {
-    let is_line_end = text.get(at..).unwrap_or(&[]).starts_with(b"\"\\n\"");
+// The advice for a string, a read or a print, or for a character. A printed line end needs nothing.
+fn no_quote(text: &[u8], at: usize) -> &'static str {
+    let rest = text.get(at..).unwrap_or(&[]);
     let called = called(text, at);
-    if is_among("scanf", called) {
-        sentence("INPUT")
-    } else if is_line_end && is_among("printf puts print", called) {
+    if rest.starts_with(b"\"\\n\"") && is_among("printf puts print", called)
+        || rest.starts_with(b"'\\n'") && is_among("putchar print", called)
+    {
         sentence("LINE_END")
+    } else if rest.starts_with(b"'") {
+        "there are no characters: write their numbers"
+    } else if is_among("scanf", called) {
+        sentence("INPUT")
     } else {
         "there are no strings: `print(e);` writes a number on a line of its own"
-    }
-}
-
-// The advice for a character: its number. A printed line end needs nothing.
-fn no_character(text: &[u8], at: usize) -> &'static str {
-    let is_line_end = text.get(at..).unwrap_or(&[]).starts_with(b"'\\n'");
-    if is_line_end && is_among("putchar print", called(text, at)) {
-        sentence("LINE_END")
-    } else {
-        "there are no characters: write their numbers"
     }
 }
 

@@ -1,7 +1,7 @@
 //! Lines and columns of a text, as editors count them.
 
 /// A line and a column of a text, both from 1. Columns count characters of UTF-8.
-#[derive(Clone, Copy, PartialEq, Eq, Debug)]
+#[derive(Clone, Copy)]
 pub struct Location {
     pub line: usize,
     pub column: usize,

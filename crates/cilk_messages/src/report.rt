@@ -87,20 +87,15 @@ const CUT_TRACE: &str =
 /// Returns the text of `explain`: each number with its title.
 pub fn of_all(alloc: Global) -> Result<String, AllocError> {
     let mut text = String::new(alloc);
-    push_titles(alloc, &mut text)?;
-    Ok(text)
-}
-
-fn push_titles(alloc: Global, text: &mut String) -> Result<(), AllocError> {
     for entry in NUMBERS.split("\n\n") {
         if let Some((number, rest)) = entry.split_once(": ")
             && let Some((title, _)) = rest.split_once('\n')
         {
             let line = say("{}  {}\n").with(Part::Text(number));
-            line.with(Part::Text(title)).push(alloc, text)?;
+            line.with(Part::Text(title)).push(alloc, &mut text)?;
         }
     }
-    Ok(())
+    Ok(text)
 }
 
 /// Returns the message after the line of a fault of a text: its line and column, the source line

@@ -88,12 +88,34 @@ impl<'a> Sentence<'a> {
 fn push_part(alloc: Global, text: &mut String, part: Part<'_>) -> Result<(), AllocError> {
     match part {
         Part::Text(words) => text.push_str(words),
-        Part::Word(word) => text.push_str(String::from_utf8_lossy(alloc, word)?.as_str()),
+        Part::Word(word) => text.push_str(printed(alloc, word)?.as_str()),
         Part::Count(count) => write!(text, "{count}"),
         Part::Number(number) => write!(text, "{number}"),
         Part::Plural(1) => Ok(()),
         Part::Plural(_) => text.push('s'),
         Part::Place(file, Location { line, column }) => write!(text, "{file}:{line}:{column}"),
+    }
+}
+
+/// Returns bytes of a text as they are shown: a control character as `\x1b`, but a tab as it is, and
+/// the end of a line as a blank.
+pub fn printed(alloc: Global, bytes: &[u8]) -> Result<String, AllocError> {
+    let text = String::from_utf8_lossy(alloc, bytes)?;
+    let mut shown = String::new(alloc);
+    for symbol in text.as_str().chars() {
+        push_symbol(&mut shown, symbol)?;
+    }
+    Ok(shown)
+}
+
+fn push_symbol(text: &mut String, symbol: char) -> Result<(), AllocError> {
+    if symbol == '\t' || !symbol.is_control() {
+        text.push(symbol)
+    } else if symbol.is_whitespace() {
+        text.push(' ')
+    } else {
+        let code = symbol as u32;
+        write!(text, "\\x{code:02x}")
     }
 }
 

@@ -17,9 +17,8 @@
 use crate::around::{is_among, is_name};
 use crate::sentences::sentence;
 use crate::sites::{
-    begins, closed_head, enclosing, ends_behind, head_of, is_chained, is_global, is_in_brackets,
-    is_in_first_value, is_in_head_of_function, is_in_length, is_in_reducer, is_in_sum,
-    is_prototype, takes_memory,
+    begins, closed_head, enclosing, ends_behind, head_of, is_chained, is_function, is_global,
+    is_in_brackets, is_in_first_value, is_in_length, is_in_reducer, is_in_sum, takes_memory,
 };
 use crate::tokens::{Declared, Tokens};
 use crate::vocabulary::TYPE_WORDS;
@@ -195,11 +194,11 @@ impl<'t, 'a> Site<'t, 'a> {
             "second" => number > 0 && begins(tokens, number.saturating_sub(1)),
             "global" => is_global(tokens, number),
             "local" => !is_global(tokens, number),
-            "prototype" => is_prototype(tokens, number),
-            "parameter" => is_in_head_of_function(tokens, number),
+            "prototype" => is_function(tokens, closed_head(tokens, number)),
+            "parameter" => is_function(tokens, head_of(tokens, number)),
             "item" => {
                 is_global(tokens, number)
-                    && !is_in_head_of_function(tokens, number)
+                    && !is_function(tokens, head_of(tokens, number))
                     && begins(tokens, number)
             }
             "brackets" => is_in_brackets(tokens, number),
@@ -223,7 +222,7 @@ impl<'t, 'a> Site<'t, 'a> {
     }
 
     // Whether the text may declare a word as a name of its own.
-    pub fn is_own(&self, word: &'a [u8]) -> bool {
+    fn is_own(&self, word: &'a [u8]) -> bool {
         self.own.binary_search(&word).is_ok()
     }
 

@@ -40,17 +40,17 @@ pub fn closed_head(tokens: &Tokens<'_>, number: usize) -> Option<usize> {
     }
 }
 
-/// Returns whether a token is in the parameter list of a function's declaration.
-pub fn is_in_head_of_function(tokens: &Tokens<'_>, number: usize) -> bool {
-    match head_of(tokens, number) {
-        Some(named) => matches!(tokens.declared(named), Some(Declared::Function { .. })),
-        None => false,
+/// Returns the token before the parentheses that end just before a token, or else around it.
+pub fn head_near(tokens: &Tokens<'_>, number: usize) -> Option<usize> {
+    match closed_head(tokens, number) {
+        None => head_of(tokens, number),
+        named => named,
     }
 }
 
-/// Returns whether the head of a function ends before a token.
-pub fn is_prototype(tokens: &Tokens<'_>, number: usize) -> bool {
-    match closed_head(tokens, number) {
+/// Returns whether a token is a function's name in its declaration.
+pub fn is_function(tokens: &Tokens<'_>, named: Option<usize>) -> bool {
+    match named {
         Some(named) => matches!(tokens.declared(named), Some(Declared::Function { .. })),
         None => false,
     }

@@ -15,7 +15,7 @@ pub struct Tokens<'a> {
 }
 
 /// The kind that a name is declared as.
-#[derive(Clone, Copy, PartialEq, Eq)]
+#[derive(Clone, Copy)]
 pub enum Declared {
     Variable,
     Array,
@@ -165,11 +165,9 @@ impl<'a> Tokens<'a> {
         for place in first..self.count() {
             match self.kind(place) {
                 Some(Kind::Close) if depth == 0 => {
-                    return if self.is_empty_between(first, place) {
-                        0
-                    } else {
-                        parts
-                    };
+                    let is_void = matches!(self.kind(first), Some(Kind::Void));
+                    let is_empty = first == place || first.saturating_add(1) == place && is_void;
+                    return if is_empty { 0 } else { parts };
                 }
                 Some(Kind::Comma) if depth == 0 => parts = parts.saturating_add(1),
                 Some(Kind::Open | Kind::OpenBracket) => depth = depth.saturating_add(1),
@@ -178,12 +176,6 @@ impl<'a> Tokens<'a> {
             }
         }
         parts
-    }
-
-    // Whether the range is empty or only `void`.
-    fn is_empty_between(&self, first: usize, end: usize) -> bool {
-        first == end
-            || (first.saturating_add(1) == end && matches!(self.kind(first), Some(Kind::Void)))
     }
 
     /// Returns the declaration of a token's name: the last one before it whose block isn't closed

@@ -35,7 +35,7 @@ const SETTLE: &str = "Run a program serially, and tell whether any schedule can 
 const JUDGE: &str = "Tell whether a recorded run of a C or C++ program has a race";
 
 /// The origin of a program text.
-#[derive(Clone, Copy, PartialEq, Eq)]
+#[derive(Clone, Copy)]
 pub enum Origin<'a> {
     /// Standard input.
     Standard,

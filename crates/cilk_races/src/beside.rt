@@ -136,7 +136,7 @@ impl Beside {
     // An earlier event, if it is in a child in parallel with this one.
     fn change_at(&self, scene: &Scene<'_>, index: usize) -> Option<Change> {
         let Seat { is_above, side, .. } = self.seat(scene.frame_of(index)?)?;
-        if !is_above && self.is_beside(&scene.frame(side)?) {
+        if !is_above && self.is_beside(&scene.note(side)) {
             Some(Change {
                 at: index,
                 child: side,
@@ -154,7 +154,7 @@ impl Beside {
         for (index, event) in events.skip(self.upto) {
             let frame = scene.frame_of(index)?;
             match *event {
-                Event::End if self.is_spawned_above(scene, frame) => open = Some(frame),
+                Event::End if self.is_above(frame) && scene.is_spawned(frame) => open = Some(frame),
                 Event::End | Event::Sync
                     if open.and_then(|child| scene.above(child)) == Some(frame) => {
                     open = None;
@@ -166,14 +166,6 @@ impl Beside {
             }
         }
         None
-    }
-
-    // Whether the event is in a frame, and the frame is a spawned child.
-    fn is_spawned_above(&self, scene: &Scene<'_>, frame: usize) -> bool {
-        match scene.frame(frame) {
-            Some(note) => self.is_above(frame) && note.how == Invocation::Spawn,
-            None => false,
-        }
     }
 }
 

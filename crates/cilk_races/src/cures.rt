@@ -1,6 +1,6 @@
 //! The cure of a race: a change of the program, a place for a `cilk_sync`, or a choice of both.
 
-use crate::pair::{Pair, Race, byte_of, cell_at};
+use crate::pair::{Pair, Race};
 use crate::texts::text;
 use crate::uses::{
     Added, Most, Swap, Taken, adds, behind_place, filled, has_name, has_part, kept_by, multiplies,
@@ -113,8 +113,8 @@ struct Site<'a, 't> {
 
 impl<'a> Site<'a, '_> {
     fn way_of(&self, race: Race) -> Option<Way<'a>> {
-        match cell_at(&self.scene, race.later) {
-            Some(cell) => self.of_cell(cell),
+        match self.scene.access(race.later) {
+            Some((cell, _)) => self.of_cell(cell),
             None => Some(self.of_view(race.later)),
         }
     }
@@ -143,20 +143,16 @@ impl<'a> Site<'a, '_> {
     // The statements of both events, the later one first.
     fn statements(&self) -> [usize; 2] {
         let tokens = self.tokens;
-        let later = tokens.number_at(byte_of(&self.scene, self.pair.later));
-        let earlier = tokens.number_at(byte_of(&self.scene, self.pair.earlier));
+        let later = tokens.number_at(self.scene.byte_of(self.pair.later));
+        let earlier = tokens.number_at(self.scene.byte_of(self.pair.earlier));
         [statement_of(tokens, later), statement_of(tokens, earlier)]
     }
 
     // Whether the earlier event takes the result of a spawned call.
     fn is_spawned_result(&self) -> bool {
-        let scene = &self.scene;
-        let called = scene
-            .frame_of(self.pair.earlier)
-            .and_then(|frame| scene.frame(frame));
-        match called {
-            Some(note) => {
-                note.how == Invocation::Spawn && scene.run.gives_result(self.pair.earlier)
+        match self.scene.frame_of(self.pair.earlier) {
+            Some(frame) => {
+                self.scene.is_spawned(frame) && self.scene.run.gives_result(self.pair.earlier)
             }
             None => false,
         }
@@ -305,11 +301,9 @@ impl<'a> Site<'a, '_> {
 
     // The token of the loop whose turns race.
     fn loop_token(&self) -> usize {
-        let at = match self.scene.frame(self.pair.child) {
-            Some(note) => match self.scene.case.map.body(note.body) {
-                Some(map) => map.name.at,
-                None => 0,
-            },
+        let body = self.scene.note(self.pair.child).body;
+        let at = match self.scene.case.map.body(body) {
+            Some(map) => map.name.at,
             None => 0,
         };
         self.tokens.number_at(at)
@@ -383,7 +377,7 @@ impl<'a> Site<'a, '_> {
         }
         let (variable, low, high) = self.turns();
         let at = if self.is_in_called() {
-            tokens.number_at(self.scene.invoked_at(self.function_frame(self.pair.second)))
+            tokens.number_at(self.scene.invoked_at(self.scene.around(self.pair.second).0))
         } else {
             swap.one
         };
@@ -420,12 +414,10 @@ impl<'a> Site<'a, '_> {
 
     // The cell that an event writes by a statement.
     fn written_at(&self, statement: usize, index: usize) -> Option<usize> {
-        if !is_write(self.scene.run.event(index)) {
-            return None;
-        }
-        let at = self.tokens.number_at(byte_of(&self.scene, index));
-        if statement_of(self.tokens, at) == statement {
-            cell_at(&self.scene, index)
+        let (cell, writes) = self.scene.access(index)?;
+        let at = self.tokens.number_at(self.scene.byte_of(index));
+        if writes && statement_of(self.tokens, at) == statement {
+            Some(cell)
         } else {
             None
         }
@@ -438,7 +430,7 @@ impl<'a> Site<'a, '_> {
         } else {
             self.pair.second
         };
-        self.function_frame(second) != self.function_frame(self.pair.common)
+        self.scene.around(second).0 != self.scene.around(self.pair.common).0
     }
 
     // Whether an `if` compares this element of an array with a constant.
@@ -460,14 +452,6 @@ impl<'a> Site<'a, '_> {
         false
     }
 
-    // The nearest frame of a function around a frame.
-    fn function_frame(&self, frame: usize) -> usize {
-        match self.scene.function_at(frame) {
-            Some((around, _)) => around,
-            None => frame,
-        }
-    }
-
     // Whether the events are writes, the earlier one first.
     fn writes(&self) -> (bool, bool) {
         (
@@ -486,14 +470,12 @@ impl<'a> Site<'a, '_> {
                 _ => break,
             }
         }
-        match scene.frame(top) {
-            Some(note) => (
-                scene.turn_variable(note.body),
-                usize::try_from(note.low).unwrap_or(0),
-                usize::try_from(note.high).unwrap_or(0),
-            ),
-            None => (&[], 0, 0),
-        }
+        let note = scene.note(top);
+        (
+            scene.turn_variable(note.body),
+            usize::try_from(note.low).unwrap_or(0),
+            usize::try_from(note.high).unwrap_or(0),
+        )
     }
 
     // Whether the write of the race writes one element alone in all of the run.
@@ -506,11 +488,11 @@ impl<'a> Site<'a, '_> {
             (_, Some(Event::Write { cell, .. })) => (self.pair.later, cell),
             _ => return false,
         };
-        let at = byte_of(&self.scene, written);
+        let at = self.scene.byte_of(written);
         let events = self.scene.run.trace.as_slice();
         for (index, event) in events.iter().enumerate() {
             if is_write(Some(*event))
-                && byte_of(&self.scene, index) == at
+                && self.scene.byte_of(index) == at
                 && !is_write_of(event, cell)
             {
                 return false;
@@ -570,14 +552,12 @@ impl<'a> Site<'a, '_> {
 
     // Whether the later event is in another call of the spawned function, or in another spawn.
     fn is_beside_call(&self) -> bool {
-        match (
-            self.branch().and_then(|branch| self.scene.frame(branch)),
-            self.scene.frame(self.pair.child),
-        ) {
-            (Some(branch), Some(child)) => {
-                branch.body == child.body || branch.how == Invocation::Spawn
+        match self.branch() {
+            Some(branch) => {
+                self.scene.note(branch).body == self.scene.note(self.pair.child).body
+                    || self.scene.is_spawned(branch)
             }
-            _ => false,
+            None => false,
         }
     }
 
@@ -623,7 +603,7 @@ impl<'a> Site<'a, '_> {
     // A reducer that is read or set.
     fn of_view(&self, at: usize) -> Way<'a> {
         let tokens = self.tokens;
-        let reducer = tokens.number_at(byte_of(&self.scene, at));
+        let reducer = tokens.number_at(self.scene.byte_of(at));
         let name = tokens.word(reducer);
         let monoid = match tokens.declaration_of(reducer) {
             Some((declared, _)) => tokens.word(declared.saturating_sub(2)),

@@ -18,6 +18,9 @@
 //! serial run. The report says how the outcome differs and how many were tried, and has the script
 //! for `play`.
 //!
+//! Last come the further races, a line for each two places of the text, by the same labels of strands
+//! as the checker's.
+//!
 //! | Call | Result |
 //! |---|---|
 //! | [`races::of_race`] | the report on a race |

@@ -66,15 +66,6 @@ pub fn viewed_at(scene: &Scene<'_>, index: usize) -> Option<Instance> {
     }
 }
 
-/// Returns the cell that an event reads or writes.
-pub fn cell_at(scene: &Scene<'_>, index: usize) -> Option<usize> {
-    match scene.run.event(index)? {
-        Event::Read { cell, .. } => Some(cell as usize),
-        Event::Write { cell, .. } => Some(cell as usize),
-        _ => None,
-    }
-}
-
 fn of_events(scene: &Scene<'_>, earlier: usize, later: usize) -> Option<Pair> {
     let beside = scene.frame_of(earlier)?;
     let second = scene.frame_of(later)?;
@@ -129,37 +120,25 @@ impl Pair {
     pub fn leaving(&self, scene: &Scene<'_>) -> usize {
         match scene.child_of(self.common, self.second) {
             Some(child) => scene.invoked_at(child),
-            None => byte_of(scene, self.later),
+            None => scene.byte_of(self.later),
         }
     }
 
     /// Returns the frame of the turn of the common loop that a frame is in.
     pub fn turn_of(&self, scene: &Scene<'_>, frame: usize) -> usize {
-        let Some(common) = scene.frame(self.common) else {
-            return frame;
-        };
+        let body = scene.note(self.common).body;
         let mut at = frame;
         let mut turn = frame;
         for _level in 0..scene.run.replay.frames.len() {
-            let Some(note) = scene.frame(at) else {
-                break;
-            };
             if at == self.common {
                 break;
             }
-            if note.body == common.body && (at == frame || !scene.halves(at)) {
+            let note = scene.note(at);
+            if note.body == body && (at == frame || !scene.halves(at)) {
                 turn = at;
             }
             at = note.parent;
         }
         turn
     }
-}
-
-/// Returns the byte of an event. Of a child's result it is the place that invokes the child.
-pub fn byte_of(scene: &Scene<'_>, index: usize) -> usize {
-    if let (true, Some(frame)) = (scene.run.gives_result(index), scene.frame_of(index)) {
-        return scene.invoked_at(frame);
-    }
-    scene.run.replay.place(&scene.case.map, index).unwrap_or(0)
 }

@@ -1,10 +1,11 @@
 //! Reports on two accesses that race, or on a reducer's read that a schedule can change.
 
 use crate::cures::push_cure;
-use crate::pair::{Pair, Race, byte_of, cell_at, pair_of, viewed_at};
+use crate::pair::{Pair, Race, pair_of, viewed_at};
 use crate::schedules::search;
 use cilk_findings::case::Case;
 use cilk_findings::fault::CaseFault;
+use cilk_findings::further::push_further;
 use cilk_findings::runs::Run;
 use cilk_findings::scene::Scene;
 use cilk_messages::reasons::title_of;
@@ -13,8 +14,8 @@ use cilk_types::event::Event;
 use std::alloc::AllocError;
 
 /// Returns the report that follows the line of a race: both accesses, a hint, the paths from them
-/// up to the common frame, the spawn between them, and a schedule that was played. Events count
-/// from 1. Fails with [`CaseFault::Unfit`] where the run doesn't have both events.
+/// up to the common frame, the spawn between them, a schedule that was played, and the further races.
+/// Events count from 1. Fails with [`CaseFault::Unfit`] where the run doesn't have both events.
 pub fn of_race(
     case: &Case<'_>,
     number: u16,
@@ -57,9 +58,13 @@ fn push_race(scene: &Scene<'_>, report: &mut String, race: Race) -> Result<(), A
     push_cure(scene, report, race, &pair)?;
     report.push('\n')?;
     push_declared(scene, report, race)?;
-    match pair {
-        Some(pair) => push_pair(scene, report, &pair),
-        None => Ok(()),
+    if let Some(pair) = pair {
+        push_pair(scene, report, &pair)?;
+    }
+    if race.is_of_cell() {
+        push_further(scene, report, race.earlier, race.later)
+    } else {
+        Ok(())
     }
 }
 
@@ -74,15 +79,15 @@ fn push_events(
         Some(pair) => (pair.earlier, Some(pair.later)),
         None => (race.later, None),
     };
-    let head = say("{}: error {}: {}: ").with(scene.place(byte_of(scene, first)));
+    let head = say("{}: error {}: {}: ").with(scene.place(scene.byte_of(first)));
     let head = head.count(race.number as usize);
     scene.push(report, &head.with(Part::Text(title_of(race.number))))?;
     push_event(scene, report, first, pair)?;
-    scene.push_excerpt(report, byte_of(scene, first))?;
+    scene.push_excerpt(report, scene.byte_of(first))?;
     let Some(second) = second else {
         return Ok(());
     };
-    let at = byte_of(scene, second);
+    let at = scene.byte_of(second);
     scene.push(report, &say("{}: note: ").with(scene.place(at)))?;
     push_event(scene, report, second, pair)?;
     report.push_str("; nothing orders the two")?;
@@ -110,10 +115,7 @@ fn push_event(
         Some(pair) if pair.is_in_turns(scene) => {
             scene.push(report, &scene.turn(pair.turn_of(scene, frame)))
         }
-        _ => match scene.function_at(frame) {
-            Some((around, _)) => scene.push_frame(report, around),
-            None => Ok(()),
-        },
+        _ => scene.push_frame(report, scene.around(frame).0),
     }
 }
 
@@ -132,8 +134,8 @@ fn done_by(event: &Event) -> Sentence<'static> {
 
 // Where the variable, array or reducer is declared.
 fn push_declared(scene: &Scene<'_>, report: &mut String, race: Race) -> Result<(), AllocError> {
-    let name = match (cell_at(scene, race.later), viewed_at(scene, race.later)) {
-        (Some(cell), _) => match (scene.global(cell), scene.variable(cell)) {
+    let name = match (scene.access(race.later), viewed_at(scene, race.later)) {
+        (Some((cell, _)), _) => match (scene.global(cell), scene.variable(cell)) {
             (Some(global), _) => Some(global.name),
             (None, Some((_, name))) => Some(name),
             (None, None) => None,

@@ -8,7 +8,6 @@ use cilk_schedule::{PlayFault, play_steps};
 use cilk_script::script::{ScriptFault, Step, read};
 use cilk_serial::fault::RunFault;
 use cilk_serial::run::run;
-use cilk_types::invocation::Invocation;
 use cilk_types::outcome::{Final, Outcome};
 use std::alloc::AllocError;
 
@@ -204,10 +203,8 @@ fn played(
 
 // A schedule near the one that makes the later event first.
 fn schedule_of(scene: &Scene<'_>, pair: &Pair, near: usize, beyond: usize) -> Schedule {
-    let (begun, ended) = match scene.frame(pair.child) {
-        Some(note) => (note.begun, note.ended.unwrap_or(pair.later)),
-        None => (0, pair.later),
-    };
+    let child = scene.note(pair.child);
+    let (begun, ended) = (child.begun, child.ended.unwrap_or(pair.later));
     let made = pair.earlier.saturating_add(1).saturating_sub(near);
     let ahead = made.max(begun.saturating_add(1));
     let left = scene.run.trace.len().saturating_sub(pair.later);
@@ -230,10 +227,8 @@ fn spawns_above(scene: &Scene<'_>, frame: usize) -> usize {
         let Some(frame) = at else {
             break;
         };
-        if let Some(note) = scene.frame(frame) {
-            if note.how == Invocation::Spawn {
-                spawns = spawns.saturating_add(1);
-            }
+        if scene.is_spawned(frame) {
+            spawns = spawns.saturating_add(1);
         }
         at = scene.above(frame);
     }

@@ -84,9 +84,7 @@ module _ (words : List Text) (files : Text → Option Text) (input : Option Text
   pub unshown : (p : Origin) (i : Option Text) (t : Totals) (why : NoText) (f : Failure) (status status' : ℕ) (told : Bool) (o e m e' : Option Text)
       → measured_run words ≡ Some (p, i) → AreTotalsOf (world files input failed failed') p i t → IsAboutPictures words why → TellsWhy why (failure_view f)
       → Told f status told e m → Follows status' m e' → status' ≡ status → Measures words files input failed failed' status' o o e e'
-  unshown p i t reasons.TooLarge f status status' told o e m e' named totals drawn h shown behind same =
-      undrawn p i t f status status' told o e m e' named totals drawn h shown behind same
-  unshown p i t reasons.Unkept f status status' told o e m e' named totals drawn h shown behind same =
+  unshown p i t (reasons.Undrawn text) f status status' told o e m e' named totals drawn h shown behind same =
       undrawn p i t f status status' told o e m e' named totals drawn h shown behind same
   unshown p i t (reasons.Fault fault) f status status' told o e m e' named totals drawn h shown behind same =
       elim shown.1 [

@@ -39,11 +39,10 @@ IsMeasureText words t text = IsFalse (is_drawn words) → IsTable words t text
 
 -- why no text is shown: a picture is requested that isn't drawn, or there is no memory
 abbrev pub IsAboutPictures : List Text → NoText → Type 0
-IsAboutPictures words reasons.TooLarge = is_drawn words ≡ true
-IsAboutPictures words reasons.Unkept = is_drawn words ≡ true
+IsAboutPictures words (reasons.Undrawn text) = is_drawn words ≡ true
 IsAboutPictures words (reasons.Fault fault) = Unit {0}
 
 -- the reply that tells such a reason: an error about the words, or that there is no memory
 abbrev pub TellsWhy : NoText → Reply → Type 0
 TellsWhy (reasons.Fault fault) r = r ≡ NoMemory
-TellsWhy _ r = WordsFail r
+TellsWhy (reasons.Undrawn text) r = WordsFail r

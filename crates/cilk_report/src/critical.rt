@@ -6,6 +6,7 @@ use cilk_findings::critical::critical_path;
 use cilk_findings::replay::{FrameNote, StepNote};
 use cilk_findings::runs::Run;
 use cilk_messages::place::{Location, locate};
+use cilk_messages::sentence::printed;
 use cilk_program::program::Body;
 use cilk_types::invocation::Invocation;
 use std::alloc::{AllocError, Global};
@@ -216,7 +217,7 @@ const LINE: &str = "line";
 // The beginning of a line of the program's text, without blanks around it.
 fn push_line(case: &Case<'_>, text: &mut String, line: &Line) -> Result<(), AllocError> {
     let bytes = case.text.get(line.first..line.end).unwrap_or(&[]);
-    let shown = String::from_utf8_lossy(case.alloc, bytes)?;
+    let shown = printed(case.alloc, bytes)?;
     let mut count: usize = 0;
     for symbol in shown.as_str().trim().chars() {
         if count == SHOWN {

@@ -5,7 +5,6 @@
 //! same events. A frame that departs, as a race lets it, is shown by the number of its events.
 
 use cilk_findings::scene::Scene;
-use cilk_messages::place::locate;
 use cilk_messages::sentence::{Sentence, say};
 use cilk_schedule::{Choice, Told};
 use cilk_types::event::Event;
@@ -247,7 +246,7 @@ impl<'a> Deeds<'a> {
             twin,
             next: first,
         })?;
-        let ended = twin.and_then(|twin| self.scene.frame(twin)?.ended);
+        let ended = twin.and_then(|twin| self.scene.note(twin).ended);
         self.move_to(frame, ended.map(|index| index.saturating_add(1)));
         if is_spawned {
             let at = twin.map(|twin| self.scene.invoked_at(twin));
@@ -375,7 +374,7 @@ impl<'a> Deeds<'a> {
                 from,
                 upto,
             } => {
-                self.push_lines(report, strand, self.line(from), self.line(upto))?;
+                self.push_lines(report, strand, self.scene.line(from), self.scene.line(upto))?;
                 events_of(first.saturating_add(1), last.saturating_add(1))
             }
             Deed::Departs(count) => {
@@ -408,7 +407,7 @@ impl<'a> Deeds<'a> {
         at: Option<usize>,
     ) -> Sentence<'static> {
         match at {
-            Some(at) => say(words).count(self.line(at)),
+            Some(at) => say(words).count(self.scene.line(at)),
             None => say(without),
         }
     }
@@ -443,13 +442,9 @@ impl<'a> Deeds<'a> {
         if frame == 0 || self.scene.is_of_loop(frame) {
             return Ok(());
         }
-        let line = self.line(self.scene.invoked_at(frame));
+        let line = self.scene.line(self.scene.invoked_at(frame));
         self.scene
             .push(report, &say(", spawned on line {}").count(line))
-    }
-
-    fn line(&self, at: usize) -> usize {
-        locate(self.scene.case.text, at).line
     }
 }
 

@@ -1,10 +1,8 @@
 //! What puts two events of a run in order, in words.
 
 use cilk_findings::scene::Scene;
-use cilk_messages::place::locate;
 use cilk_messages::sentence::{Sentence, say};
 use cilk_types::event::Event;
-use cilk_types::invocation::Invocation;
 use std::alloc::AllocError;
 
 /// Adds what puts two events in order, the earlier first: the sync that waits for a child around the
@@ -49,11 +47,10 @@ fn spawned_below(scene: &Scene<'_>, common: usize, frame: usize) -> Option<usize
         if at == common {
             break;
         }
-        let note = scene.frame(at)?;
-        if note.how == Invocation::Spawn {
+        if scene.is_spawned(at) {
             found = Some(at);
         }
-        at = note.parent;
+        at = scene.note(at).parent;
     }
     found
 }
@@ -69,52 +66,49 @@ fn waited_for<'a>(scene: &Scene<'a>, common: usize, child: usize, later: usize) 
             "the `cilk_for` on line {} waits for its turns before line {}"
         };
         return say(words)
-            .count(line(scene, spawn))
-            .count(line_of(scene, later));
+            .count(scene.line(spawn))
+            .count(scene.line(scene.byte_of(later)));
     }
     let sync = sync_behind(scene, parent, child);
     let at = sync.and_then(|index| scene.run.replay.place(&scene.case.map, index));
     match at {
         Some(at) if is_sync_word(scene, at) => {
             say("the `cilk_sync` on line {} waits for the child spawned on line {}")
-                .count(line(scene, at))
-                .count(line(scene, spawn))
+                .count(scene.line(at))
+                .count(scene.line(spawn))
         }
         Some(at) if scene.is_of_loop(parent) => {
             say("each turn of the `cilk_for` on line {} waits for its children at its end").count(
-                line(scene, at),
+                scene.line(at),
             )
         }
         Some(at) => {
             say("`{}` waits for its children at its end (line {})")
                 .word(scene.function_of(parent))
-                .count(line(scene, at))
+                .count(scene.line(at))
         }
-        None => say("the child spawned on line {} ends first").count(line(scene, spawn)),
+        None => say("the child spawned on line {} ends first").count(scene.line(spawn)),
     }
 }
 
 // Whether an event is in a turn of the loop that a frame is of, in this run of the loop or another.
 fn is_in_loop_of(scene: &Scene<'_>, child: usize, event: usize) -> bool {
-    let Some(body) = scene.frame(child).map(|note| note.body) else {
-        return false;
-    };
     let mut at = scene.frame_of(event);
     for _level in 0..scene.run.replay.frames.len() {
-        let Some(note) = at.and_then(|frame| scene.frame(frame)) else {
+        let Some(frame) = at else {
             return false;
         };
-        if note.body == body {
+        if scene.note(frame).body == scene.note(child).body {
             return true;
         }
-        at = scene.above(at.unwrap_or(0));
+        at = scene.above(frame);
     }
     false
 }
 
 // The first sync of a frame behind a child.
 fn sync_behind(scene: &Scene<'_>, parent: usize, child: usize) -> Option<usize> {
-    let ended = scene.frame(child)?.ended?;
+    let ended = scene.note(child).ended?;
     let events = scene.run.trace.as_slice().iter().enumerate();
     for (index, event) in events.skip(ended) {
         if matches!(event, Event::Sync) && scene.frame_of(index) == Some(parent) {
@@ -141,9 +135,9 @@ fn ahead<'a>(scene: &Scene<'a>, common: usize, earlier: usize) -> Sentence<'a> {
             } else {
                 "the call on line {} returns before "
             };
-            say(words).count(line(scene, scene.invoked_at(child)))
+            say(words).count(scene.line(scene.invoked_at(child)))
         }
-        _ => say("line {} comes before ").count(line_of(scene, earlier)),
+        _ => say("line {} comes before ").count(scene.line(scene.byte_of(earlier))),
     }
 }
 
@@ -152,32 +146,14 @@ fn invoked<'a>(scene: &Scene<'a>, common: usize, later: usize) -> Sentence<'a> {
     let frame = scene.frame_of(later).unwrap_or(0);
     let child = match scene.child_of(common, frame) {
         Some(child) if frame != common => child,
-        _ => return say("line {}").count(line_of(scene, later)),
-    };
-    let is_spawned = match scene.frame(child) {
-        Some(note) => note.how == Invocation::Spawn,
-        None => false,
+        _ => return say("line {}").count(scene.line(scene.byte_of(later))),
     };
     let words = if scene.is_of_loop(child) {
         "the `cilk_for` on line {}"
-    } else if is_spawned {
+    } else if scene.is_spawned(child) {
         "the spawn on line {}"
     } else {
         "the call on line {}"
     };
-    say(words).count(line(scene, scene.invoked_at(child)))
-}
-
-// The line of a byte.
-fn line(scene: &Scene<'_>, at: usize) -> usize {
-    locate(scene.case.text, at).line
-}
-
-// The line of an event. That of a child's result is the line that invokes the child.
-fn line_of(scene: &Scene<'_>, index: usize) -> usize {
-    let at = match scene.frame_of(index) {
-        Some(frame) if scene.run.gives_result(index) => Some(scene.invoked_at(frame)),
-        _ => scene.run.replay.place(&scene.case.map, index),
-    };
-    line(scene, at.unwrap_or(0))
+    say(words).count(scene.line(scene.invoked_at(child)))
 }

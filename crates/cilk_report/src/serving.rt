@@ -185,7 +185,7 @@ fn serve_unscheduled<F: Keeps, R: Read, O: Write, E: Write>(
                 let extras = extras_of(words);
                 serve_flagged(alloc, plain.as_slice(), extras, files, input, out, err)
             }
-            Ok(_) => complain(alloc, &refusal(alloc, words, usage), err).status,
+            Ok(_) => complain(alloc, &refusal(alloc, words, false, usage), err).status,
             Err(_) => complain(alloc, &Failure::Memory, err).status,
         },
         Err(_) => complain(alloc, &Failure::Memory, err).status,
@@ -193,24 +193,33 @@ fn serve_unscheduled<F: Keeps, R: Read, O: Write, E: Write>(
 }
 
 /// Returns the failure for a command line that isn't valid: clap's text and a hint, or the help on
-/// `explain`, which clap doesn't know.
-fn refusal<'a>(alloc: Global, words: &[&str], usage: String) -> Failure<'a>
+/// `explain`, which clap doesn't know. `is_why` says whether `--why` and a line are left out here.
+fn refusal<'a>(alloc: Global, words: &[&str], is_why: bool, usage: String) -> Failure<'a>
     ensures { WordsFail (failure_view result) }
 {
-    match advised(alloc, words, usage) {
+    match advised(alloc, words, is_why, usage) {
         Ok(text) => Failure::Words(text),
         Err(_) => Failure::Memory,
     }
 }
 
-fn advised(alloc: Global, words: &[&str], usage: String) -> Result<String, AllocError> {
+fn advised(
+    alloc: Global,
+    words: &[&str],
+    is_why: bool,
+    usage: String,
+) -> Result<String, AllocError> {
     if matches!(words, ["explain", ..]) {
         return String::from_str(alloc, EXPLAIN);
     }
     let mut text = usage;
-    text.push_str(advice(alloc, words)?.as_str())?;
+    let asked = if is_why { WHY } else { words };
+    text.push_str(advice(alloc, asked)?.as_str())?;
     Ok(text)
 }
+
+// The words of a request for what orders the accesses of a line.
+const WHY: &[&str] = &["settle", "--why"];
 
 /// Serves a command line as `serve` does, then adds what else is requested.
 #[tactic(auto, using(cilk_commands::proofs::Reading::takes_same))]
@@ -239,7 +248,10 @@ fn serve_flagged<F: Keeps, R: Read, O: Write, E: Write>(
                 follow(served, failed(alloc, &order, &failure, extras, files), err)
             }
         },
-        Err(WordsFault::Usage(usage)) => complain(alloc, &refusal(alloc, words, usage), err).status,
+        Err(WordsFault::Usage(usage)) => {
+            let is_why = extras.why.is_some();
+            complain(alloc, &refusal(alloc, words, is_why, usage), err).status
+        }
         Err(WordsFault::Memory) => complain(alloc, &Failure::Memory, err).status,
     }
 }

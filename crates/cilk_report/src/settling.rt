@@ -24,7 +24,7 @@ use std::alloc::{AllocError, Global};
 use std::io::{Read, Write};
 
 /// The form of the replies to several programs.
-#[derive(Clone, Copy, PartialEq, Eq, Debug)]
+#[derive(Clone, Copy, PartialEq, Eq)]
 pub enum Form {
     /// Under a heading, with an explanation on standard error.
     Full,

@@ -17,12 +17,10 @@ use cilk_messages::words::Origin;
 use std::alloc::{AllocError, Global};
 
 /// The reason why nothing is shown of a run that ended.
-#[derive(Clone, Copy, PartialEq, Eq, Debug)]
+#[derive(Clone, Copy)]
 pub enum NoText {
-    /// The tree of the run has too many nodes to be drawn.
-    TooLarge,
-    /// A picture is derived from the program's text, and that of standard input isn't kept.
-    Unkept,
+    /// A picture is requested that isn't drawn, and why not.
+    Undrawn(&'static str),
     Fault(CaseFault),
 }
 
@@ -70,6 +68,9 @@ const TOO_LARGE: &str =
     "error: the run has too many strands to be drawn as a tree: more than 500 nodes\n\
     hint: measure a smaller input, or draw its steps: `cilk measure PROGRAM --svg`\n";
 
+const TWO_FORMS: &str = "error: one picture or table at a time: `--csv`, `--svg` or `--dot`\n\
+    hint: the profile over time: `cilk measure prog.c --svg > prog.svg`; the tree of strands: `cilk measure prog.c --dot > prog.dot`\n";
+
 const UNKEPT: &str = "error: a program from standard input isn't drawn\n\
     hint: put it into a file: `cilk measure prog.c --svg > prog.svg`\n";
 
@@ -77,10 +78,8 @@ const UNKEPT: &str = "error: a program from standard input isn't drawn\n\
 pub fn undrawn<'a>(alloc: Global, reason: NoText) -> Failure<'a>
     ensures { TellsWhy reason (failure_view result) }
 {
-    let text = match reason {
-        NoText::TooLarge => TOO_LARGE,
-        NoText::Unkept => UNKEPT,
-        NoText::Fault(_) => return Failure::Memory,
+    let NoText::Undrawn(text) = reason else {
+        return Failure::Memory;
     };
     match String::from_str(alloc, text) {
         Ok(text) => Failure::Words(text),
@@ -97,17 +96,21 @@ fn is_drawn(words: &[&str]) -> bool
 
 // The picture of the steps or of the tree.
 fn drawn(alloc: Global, words: &[&str], read: Option<CaseTexts<'_>>) -> Result<Vec<u8>, NoText> {
+    let is_steps = asks(words, "--svg");
+    if asks(words, "--csv") || is_steps && asks(words, "--dot") {
+        return Err(NoText::Undrawn(TWO_FORMS));
+    }
     let Some(read) = read else {
-        return Err(NoText::Unkept);
+        return Err(NoText::Undrawn(UNKEPT));
     };
     let case = read.case(alloc)?;
-    if asks(words, "--svg") {
+    if is_steps {
         let picture = profile_of(&case)?;
         return Ok(picture.as_bytes().to_vec(alloc)?);
     }
     match tree_of_run(&case)? {
         Some(picture) => Ok(picture.as_bytes().to_vec(alloc)?),
-        None => Err(NoText::TooLarge),
+        None => Err(NoText::Undrawn(TOO_LARGE)),
     }
 }
 

@@ -15,8 +15,7 @@ free (Err e) b b' P held same = tt
 
 -- any reason is one of a picture
 about : (words : List Text) (why : NoText) → is_drawn words ≡ true → IsAboutPictures words why
-about words reasons.TooLarge drawn = drawn
-about words reasons.Unkept drawn = drawn
+about words (reasons.Undrawn text) drawn = drawn
 about words (reasons.Fault fault) drawn = tt
 
 undrawn : {T : Type 0} (words : List Text) (x : Result T NoText) → is_drawn words ≡ true → IfErr x (IsAboutPictures words)

@@ -1,0 +1,4 @@
+int main() {
+  int x = 1; /* [31m  */ y = 2;
+  return x;
+}
