@@ -3,15 +3,19 @@ use Rattle.std.specs.Prelude.{◌≡◌, ℕ, ◌+◌, ◌-◌, ℤ, List, [], �
 use Rattle.cilk_types.specs.declared.event.Event.{Event}
 use Rattle.cilk_types.specs.declared.outcome.Outcome.{Outcome}
 use Rattle.cilk_program.specs.declared.ask.Callee.{Callee}
+use Rattle.cilk_program.specs.declared.ask.Callee.TheVariants as callees
+use Rattle.cilk_program.specs.declared.program.Body.TheVariants as bodies
 use Rattle.cilk_program.specs.Inside.{body_of}
 use Rattle.cilk_program.specs.Outcomes.{Leaves}
 use Rattle.cilk_program.specs.SerialRun.{Transcript, IsSerialRun, cells_of}
 use Rattle.cilk_program.specs.Syntax.{Source}
 use Rattle.cilk_program.specs.Numbering.{Block, frame_at}
-use Rattle.cilk_lower.specs.Layout.{cells_in}
+use Rattle.cilk_lower.specs.Layout.{cells_in, function_frame}
 use Rattle.cilk_lower.specs.declared.layout.Layout.{Layout}
 use Rattle.cilk_program.specs.Sources.{source}
 use Rattle.cilk_serial.specs.SoFar.{RunView, IsIntact, BeginsNext, callees_of}
+use Rattle.cilk_serial.specs.declared.serial_run.Target.{Target}
+use Rattle.cilk_serial.specs.declared.serial_run.Target.TheVariants as targets
 use Rattle.cilk_determinacy.specs.Numbers.{frame_runs}
 use Rattle.cilk_checker.specs.declared.frames.Own.{Own}
 use Rattle.cilk_checker.specs.declared.frames.PlannedFrame.{PlannedFrame}
@@ -37,6 +41,11 @@ AreFramesIn p inputs es o frames = (run : Transcript) → IsSerialRun p inputs r
 -- the body of a callee's frame, and how many cells it has
 abbrev pub own_of : Source → Layout → Callee → Own
 own_of p l c = record { body = body_of p c; cells = cells_in l c }
+
+-- the same of a callee without its arguments
+abbrev pub own_by : Layout → Target → Own
+own_by l (targets.Function n) = let f = function_frame l n in record { body = bodies.Function n; cells = f.cells }
+own_by l (targets.Loop part) = record { body = bodies.Loop part.number; cells = cells_in l (callees.Loop part) }
 
 -- the same for the frame that the run's next event begins, if it begins one
 pub record BeginsOwn (p : Source) (l : Layout) (v : RunView) (own : Option Own) : Type 0 where

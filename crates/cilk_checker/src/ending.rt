@@ -62,7 +62,7 @@ fn run_code(
         of_callee(program, layout, &Callee::Root),
     )?;
     'each: loop {
-        let next = of_next(&serial, program, layout);
+        let next = of_next(&serial, layout);
         match serial.next()? {
             Next::Made(_) => {
                 if let Some(own) = next {

@@ -3,12 +3,13 @@
 ghost use Rattle.std.specs.Prelude.{◌≡◌, ◌+◌, ◌<◌, ◌^◌, ◌∷◌, ◌++◌, [], IfOk, OnOk};
 ghost use Rattle.cilk_program.specs.Inside.{body_of};
 ghost use Rattle.cilk_program.specs.Sources.{source};
-ghost use Rattle.cilk_checker.specs.Frames.{BeginsOwn, FramesStandAtTheirNumbers, own_of};
+ghost use Rattle.cilk_program.specs.Syntax.{Source};
+ghost use Rattle.cilk_checker.specs.Frames.{BeginsOwn, FramesStandAtTheirNumbers, own_by, own_of};
 
 use cilk_lower::layout::Layout;
 use cilk_program::ask::Callee;
 use cilk_program::program::{Body, Program};
-use cilk_serial::serial_run::SerialRun;
+use cilk_serial::serial_run::{SerialRun, Target};
 use cilk_types::event::Cell;
 use std::alloc::AllocError;
 
@@ -40,12 +41,27 @@ pub fn of_callee(program: &Program, layout: &Layout, callee: &Callee) -> Own
 
 /// Returns the same for the frame that the run's next event begins, if it begins one. Must be
 /// called before that event is made.
-pub(crate) fn of_next(serial: &SerialRun, program: &Program, layout: &Layout) -> Option<Own>
-    ensures { BeginsOwn (source program.now) layout.now serial.now result }
+pub(crate) fn of_next(serial: &SerialRun, layout: &Layout) -> Option<Own>
+    ensures { (p : Source) → BeginsOwn p layout.now serial.now result }
 {
-    match serial.callee() {
-        Some(callee) => Some(of_callee(program, layout, &callee)),
+    match serial.target() {
+        Some(it) => Some(of_target(layout, &it)),
         None => None,
+    }
+}
+
+fn of_target(layout: &Layout, target: &Target) -> Own
+    ensures { result ≡ own_by layout.now target.now }
+{
+    match target {
+        Target::Function(number) => Own {
+            body: Body::Function(*number),
+            cells: layout.function_cells(*number),
+        },
+        Target::Loop(part) => Own {
+            body: Body::Loop(part.number),
+            cells: layout.part_cells(part),
+        },
     }
 }
 

@@ -10,6 +10,7 @@ use Rattle.cilk_types.specs.declared.fault.Fault.{Fault}
 use Rattle.cilk_types.specs.declared.outcome.Outcome.{Outcome}
 use Rattle.cilk_program.specs.declared.ask.Callee.{Callee}
 use Rattle.cilk_program.specs.declared.ask.Callee.TheVariants.{Root}
+use Rattle.cilk_program.specs.declared.ask.Callee.TheVariants as callee
 use Rattle.cilk_program.specs.declared.program.Program.{Program}
 use Rattle.cilk_program.specs.Sources.{source}
 use Rattle.cilk_program.specs.Syntax.{Source}
@@ -19,6 +20,8 @@ use Rattle.cilk_serial.specs.declared.serial_run.Next.{Next}
 use Rattle.cilk_serial.specs.declared.serial_run.Next.TheVariants as next
 use Rattle.cilk_serial.specs.declared.serial_run.Stage.{Stage}
 use Rattle.cilk_serial.specs.declared.serial_run.Stage.TheVariants as stages
+use Rattle.cilk_serial.specs.declared.serial_run.Target.{Target}
+use Rattle.cilk_serial.specs.declared.serial_run.Target.TheVariants as targets
 use Rattle.cilk_serial.specs.Ran.{Ran, StopsAfter}
 
 -- These events are a prefix of the events of the serial run, which ends by itself or by a fault.
@@ -123,3 +126,16 @@ pub record MakesRest (v : RunView) (fault : Option Fault) (v' : RunView) : Type 
   pub inputs : v'.inputs ≡ v.inputs
   pub later : (more : List Event) × (v'.events ≡ v.events ++ more)
   pub halts : HaltsHere v' fault
+
+-- the callee without its arguments
+abbrev pub IsTargetOf : Option Callee → Option Target → Type 0
+IsTargetOf None t = t ≡ None
+IsTargetOf (Some callee.Root) t = ⊥
+IsTargetOf (Some (callee.Function call)) t = t ≡ Some (targets.Function call.function)
+IsTargetOf (Some (callee.Loop part)) t = t ≡ Some (targets.Loop part)
+
+-- the run's next event begins a frame with this callee, or none
+pub record BeginsTarget (v : RunView) (t : Option Target) : Type 0 where
+  pub callee : Option Callee
+  pub is : IsTargetOf callee t
+  pub begins : IsIntact v.stage → BeginsNext (source v.program) v.inputs v.events callee

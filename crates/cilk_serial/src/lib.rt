@@ -14,6 +14,7 @@
 //! | [`run::run`] | the whole run: its outcome and trace, or a fault |
 //! | [`serial_run::SerialRun`] | the same run, one event at a time |
 //! | [`serial_run::Next`] | the next event, the end or a fault |
+//! | [`serial_run::Target`] | what the next event begins: a function's frame, or one of a loop's turns |
 //! | [`fault::RunFault`] | out of memory, or a fault and its position |
 //!
 //! ```text

@@ -4,14 +4,17 @@ ghost use Rattle.std.specs.Prelude.{◌≡◌, [], IfOk, IfSome, IsSome, OnOk, O
 ghost use Rattle.cilk_program.specs.Sources.{source};
 ghost use Rattle.cilk_lower.specs.Behaves.{Behaves};
 ghost use Rattle.cilk_serial.specs.Ran.{Ran};
-ghost use Rattle.cilk_serial.specs.SoFar.{BeginsNext, Comes, IsIntact, IsOver, IsSoFar, MakesRest};
+ghost use Rattle.cilk_serial.specs.SoFar.{BeginsNext, BeginsTarget, Comes, IsIntact, IsOver, IsSoFar, IsTargetOf, MakesRest};
+ghost use Rattle.cilk_frames.specs.Following.{child_of};
 ghost use Rattle.cilk_serial.specs.declared.serial_run.Stage.TheVariants.{Going, Ended, Failed};
 
 use crate::outcome::outcome;
 use crate::running::{Halt, Running, Step};
+use cilk_frames::asked::AskSlot;
 use cilk_frames::operands::LastOperands;
+use cilk_frames::small_ask::SmallAsk;
 use cilk_lower::code::Code;
-use cilk_program::ask::Callee;
+use cilk_program::ask::{Callee, LoopPart};
 use cilk_program::program::Program;
 use cilk_types::event::Event;
 use cilk_types::fault::Fault;
@@ -31,6 +34,13 @@ pub enum Next {
     Ended,
     /// This fault, in place of another event. No more events follow.
     Stops(Fault),
+}
+
+/// The callee of a frame, without its arguments: a function by its number, or turns of a loop.
+#[derive(Clone, Copy, Debug)]
+pub enum Target {
+    Function(u32),
+    Loop(LoopPart),
 }
 
 /// The progress of a run.
@@ -197,6 +207,17 @@ impl<'a> SerialRun<'a> {
         }
     }
 
+    /// Returns what [`SerialRun::callee`] does, without the callee's arguments.
+    pub fn target(&self) -> Option<Target>
+        ensures { BeginsTarget self.now result }
+    {
+        match self.stage {
+            Stage::Going => target_of(&self.running.ask),
+            Stage::Ended(_) => None,
+            Stage::Failed => None,
+        }
+    }
+
     /// Returns the place in the code of the instruction that the next event comes from, or of the one
     /// that can't be done. For messages: nothing is proved of it.
     pub fn place(&self) -> usize {
@@ -245,5 +266,19 @@ impl<'a> SerialRun<'a> {
             stage: _,
         } = self;
         Trace::new(running.into_state().events)
+    }
+}
+
+// The callee that a request invokes, if it invokes one, without its arguments.
+fn target_of(ask: &AskSlot) -> Option<Target>
+    ensures { IsTargetOf (child_of ask.now) result }
+{
+    match ask.small_ask() {
+        None => {
+            let (_, call) = ask.invocation();
+            Some(Target::Function(call.function))
+        }
+        Some(SmallAsk::Turns(_, part)) => Some(Target::Loop(*part)),
+        Some(_) => None,
     }
 }

@@ -61,6 +61,7 @@ impl Building {
     }
 
     // Closes the current strand: in series with the rest of its block, if there is one.
+    #[inline(always)]
     fn close_strand(&mut self) -> Result<(), AllocError>
         requires { self.old.strands + 1 < 2 ^ 32 }
         ensures { IfOk result (λ _. self.new ≡ strand_closed self.old) }
@@ -78,6 +79,7 @@ impl Building {
     }
 
     // Closes the current block: in series with the later blocks of its frame, if there are any.
+    #[inline(always)]
     fn close_block(&mut self) -> Result<(), AllocError>
         ensures { IfOk result (λ _. self.new ≡ block_closed self.old) }
     {
@@ -90,6 +92,7 @@ impl Building {
     }
 
     // Meets the event before those already met.
+    #[inline(always)]
     fn step(&mut self, mark: Mark) -> Result<(), AllocError>
         requires strands { self.old.strands + 1 < 2 ^ 32 }
         requires events { self.old.events + 1 < 2 ^ 32 }
@@ -136,6 +139,7 @@ impl Building {
     }
 
     // Returns to the outer frame.
+    #[inline(always)]
     fn leave(&mut self)
         ensures { self.new ≡ frame_closed self.old }
     {

@@ -24,7 +24,7 @@ each-init c =
 pub begin-requires-in-Some : goal.begin-requires-in-Some
 begin-requires-in-Some c =
     let made = made_by c.each.serial c.next.new.self c.in_ok-next.field-0 c.in-Made.field-0 c.in-Made.is c.in_ok-next.ensures.ok in
-    let begun = c.of_next-next.ensures in
+    let begun = c.of_next-next.ensures (source c.args.program.now) in
     let found = own_there (own_of (source c.args.program.now) c.layout-layout.result.now) begun.callee c.of_next-next.result c.in-Some.own begun.is c.in-Some.is in
     small_room c.args.program.now c.args.input.now c.each.serial c.next.new.self c.in-Made.field-0 made c.each.invariant.program c.each.invariant.inputs c.in_ok-next.ensures.intact.0
     begun.callee begun.begins c.each.frames.items c.each.cells c.each.invariant.noted found.0 found.1
@@ -39,7 +39,7 @@ pub each-preserved-in-Some : goal.each-preserved-in-Some
 each-preserved-in-Some c =
     let prog = c.args.program.now in
     let made = made_by c.each.serial c.next.new.self c.in_ok-next.field-0 c.in-Made.field-0 c.in-Made.is c.in_ok-next.ensures.ok in
-    let begun = c.of_next-next.ensures in
+    let begun = c.of_next-next.ensures (source c.args.program.now) in
     let found = own_there (own_of (source c.args.program.now) c.layout-layout.result.now) begun.callee c.of_next-next.result c.in-Some.own begun.is c.in-Some.is in
     record {
       program = made.program ∙ c.each.invariant.program;
@@ -55,7 +55,7 @@ each-preserved-in-Some c =
 pub each-preserved : goal.each-preserved
 each-preserved c =
     let made = made_by c.each.serial c.next.new.self c.in_ok-next.field-0 c.in-Made.field-0 c.in-Made.is c.in_ok-next.ensures.ok in
-    let begun = c.of_next-next.ensures in
+    let begun = c.of_next-next.ensures (source c.args.program.now) in
     let none = none_there (own_of (source c.args.program.now) c.layout-layout.result.now) begun.callee c.of_next-next.result begun.is c.in_default.is in
     record {
       program = made.program ∙ c.each.invariant.program;
