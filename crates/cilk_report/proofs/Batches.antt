@@ -36,7 +36,7 @@ settled files files' standard failed failed' reached program input (Ok a) unfail
 settled files files' standard failed failed' reached program input (Err e) unfailed same ok err =
     of_kept (λ fs f. SettleReply (world fs standard f reached) program input (failure_view e)) files files' failed failed' unfailed same err
 
--- the references behind the first
+-- the references after the first
 abbrev pub behind : List (Bor Text) → List (Bor Text)
 behind ws = take (length ws - 1) (drop 1 ws)
 

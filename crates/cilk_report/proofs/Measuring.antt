@@ -1,6 +1,6 @@
 -- The replies of `measure`.
 --
--- - `complains`: a reply is told on standard error alone;
+-- - `complains`: a reply is shown on standard error alone;
 -- - `fails`: there are no totals, and the reply says why;
 -- - `starved`: out of memory;
 -- - `unnamed`: the words name no run;
@@ -12,9 +12,10 @@ use Rattle.std.proofs.lemmas.Bool.{true≢false}
 use Rattle.std.specs.Prelude.{IsSome}
 use Rattle.cilk_report.specs.Words.{measured_run, run_of, words_of_run}
 use Rattle.cilk_report.specs.Explained.{Complains, Follows, IsNoOutcome, Measures, OutOfMemory, Undrawn, Unmeasured, Unnamed}
-use Rattle.cilk_report.specs.Measured.{AreTotalsOf, IsAboutPictures, TellsWhy, is_drawn}
-use Rattle.cilk_report.specs.declared.text.NoText.{NoText}
-use Rattle.cilk_report.specs.declared.text.NoText.TheVariants as reasons
+use Rattle.cilk_report.specs.Measured.{AreTotalsOf, TellsWhy}
+use Rattle.cilk_profile.specs.Measured.{IsAboutPictures, is_drawn}
+use Rattle.cilk_profile.specs.declared.text.NoText.{NoText}
+use Rattle.cilk_profile.specs.declared.text.NoText.TheVariants as reasons
 use Rattle.cilk_findings.specs.declared.totals.Totals.{Totals}
 use Rattle.cilk_commands.specs.Files.{Failures}
 use Rattle.cilk_commands.specs.Replies.{NoMemory, Reply, Text, failure_view, status_of}

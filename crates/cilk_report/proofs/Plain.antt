@@ -15,7 +15,8 @@ use Rattle.cilk_commands.specs.Replies.{Text}
 use Rattle.cilk_messages.specs.Words.{texts}
 use Rattle.cilk_report.specs.Explained.{is_flag, marks, unflagged, unmarked, without_why}
 use Rattle.cilk_report.specs.Settling.{is_settling}
-use Rattle.cilk_report.specs.Words.{asks, behind_first}
+use Rattle.cilk_profile.specs.Words.{asks}
+use Rattle.cilk_report.specs.Words.{behind_first}
 
 pub one_more : (plain : List (Bor Text)) (w : Bor Text) (words : List Text) → texts (plain ++ w ∷ []) ++ words ≡ texts plain ++ w.now ∷ words
 one_more [] w words = refl

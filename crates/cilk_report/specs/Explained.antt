@@ -11,7 +11,8 @@ use Rattle.cilk_commands.specs.Serving.{Answers, RunReply, Serves, ShowsError, W
 use Rattle.cilk_commands.specs.Streams.{AppendsFront, AppendsPart}
 use Rattle.cilk_commands.specs.declared.reply.TheConstants.{NO_MEMORY}
 use Rattle.cilk_messages.specs.Words.{Judge, Origin, Requested, Settle, order_in}
-use Rattle.cilk_report.specs.Measured.{AreTotalsOf, IsMeasureText, is_drawn}
+use Rattle.cilk_profile.specs.Measured.{IsMeasureText, is_drawn}
+use Rattle.cilk_report.specs.Measured.{AreTotalsOf}
 use Rattle.cilk_report.specs.Settling.{Batch, SettlesEach, batch_in, is_settling, state}
 use Rattle.cilk_report.specs.Words.{behind_first, is_help as asks_help, is_measure, is_option, measured_run}
 use Rattle.cilk_report.specs.declared.about.About.{About as AboutAnswer}
@@ -48,7 +49,7 @@ marks command word =
 abbrev pub unmarked : Text → List Text → List Text
 unmarked command words = filter (λ w. not (marks command w)) words
 
--- the word `--why` of `settle`, with a number behind it
+-- the word `--why` of `settle`, followed by a number
 abbrev pub is_why : Text → Text → List Text → Bool
 is_why command word [] = false
 is_why command word (number ∷ words) = bytes_eq command (codes "settle") && (bytes_eq word (codes "--why") && all_digits number)

@@ -1,5 +1,4 @@
 pub mod Explained
 pub mod Measured
 pub mod Settling
-pub mod Table
 pub mod Words

@@ -1,14 +1,11 @@
--- The output of `measure`.
-use Rattle.std.specs.Prelude.{◌≡◌, ℕ, ℤ, Bool, true, ◌||◌, IsFalse, List, ◌++◌, cond, Option, codes}
+-- What `measure` replies: the totals of a run, or why nothing is shown of it.
+use Rattle.std.specs.Prelude.{◌≡◌, ℤ, List, Option}
 use Rattle.cilk_types.specs.declared.event.Event.{Event}
 use Rattle.cilk_checker.specs.Judging.{Meant}
 use Rattle.cilk_findings.specs.Measures.{AreMeasures}
 use Rattle.cilk_findings.specs.declared.totals.Totals.{Totals}
-use Rattle.cilk_report.specs.Table.{totals_text}
-use Rattle.cilk_report.specs.Words.{asks}
-use Rattle.cilk_report.specs.declared.table.TheConstants.{BLANK, COMMA}
-use Rattle.cilk_report.specs.declared.text.NoText.{NoText}
-use Rattle.cilk_report.specs.declared.text.NoText.TheVariants as reasons
+use Rattle.cilk_profile.specs.declared.text.NoText.{NoText}
+use Rattle.cilk_profile.specs.declared.text.NoText.TheVariants as reasons
 use Rattle.cilk_commands.specs.Replies.{NoMemory, Reply, Text}
 use Rattle.cilk_commands.specs.Serving.{AreGiven, Surroundings, WordsFail}
 use Rattle.cilk_messages.specs.Words.{Origin}
@@ -21,28 +18,7 @@ pub record AreTotalsOf (w : Surroundings) (program : Origin) (input : Option Tex
   pub events : List Event
   pub measures : AreMeasures meant.source inputs t events
 
--- the separator before each number: a comma with `--csv`
-abbrev pub mark_in : List Text → ℕ
-mark_in words = cond (asks (codes "--csv") words) COMMA BLANK
-
--- a picture is requested in place of a table
-abbrev pub is_drawn : List Text → Bool
-is_drawn words = asks (codes "--svg") words || asks (codes "--dot") words
-
--- A table begins with the totals. Nothing is stated about the rest.
-abbrev pub IsTable : List Text → Totals → Text → Type 0
-IsTable words t text = (ticks : Option ℕ) × (rest : Text) × (text ≡ totals_text (mark_in words) t ticks ++ rest)
-
--- A table, unless a picture is requested. Nothing is stated about pictures.
-abbrev pub IsMeasureText : List Text → Totals → Text → Type 0
-IsMeasureText words t text = IsFalse (is_drawn words) → IsTable words t text
-
--- why no text is shown: a picture is requested that isn't drawn, or there is no memory
-abbrev pub IsAboutPictures : List Text → NoText → Type 0
-IsAboutPictures words (reasons.Undrawn text) = is_drawn words ≡ true
-IsAboutPictures words (reasons.Fault fault) = Unit {0}
-
--- the reply that tells such a reason: an error about the words, or that there is no memory
+-- the reply that tells why no text is shown: an error about the words, or that there is no memory
 abbrev pub TellsWhy : NoText → Reply → Type 0
 TellsWhy (reasons.Fault fault) r = r ≡ NoMemory
 TellsWhy (reasons.Undrawn text) r = WordsFail r

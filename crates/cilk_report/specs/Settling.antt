@@ -12,14 +12,15 @@ use Rattle.cilk_commands.specs.declared.reply.Answer.{Answer}
 use Rattle.cilk_commands.specs.declared.reply.Failure.{Failure}
 use Rattle.cilk_commands.specs.declared.reply.TheConstants.{NO_MEMORY, WRONG}
 use Rattle.cilk_messages.specs.Words.{texts}
-use Rattle.cilk_report.specs.Words.{asks, behind_first, is_help, is_option}
+use Rattle.cilk_profile.specs.Words.{asks}
+use Rattle.cilk_report.specs.Words.{behind_first, is_help, is_option}
 use Rattle.cilk_report.specs.declared.settling.Batch as code
 use Rattle.cilk_report.specs.declared.settling.Form.{Form}
 use Rattle.cilk_report.specs.declared.settling.Form.TheVariants.{Full, Json, Short}
 
 -- ---- the words
 
--- the first word is `settle`, more follows than one request for help, and no word is `--explain` or
+-- the first word is `settle`, the rest isn't just a request for help, and no word is `--explain` or
 -- `--why`
 abbrev pub is_settling : List Text → Bool
 is_settling [] = false
@@ -91,7 +92,7 @@ object_line program status reply =
     ∷ key (codes "reply") ∷ string reply ∷ end_object ∷ []))
 
 -- The texts for standard output and standard error that show a program's reply: the reply under a
--- heading, with some explanation behind its text for standard error; or one line.
+-- heading, with some explanation after its text for standard error; or one line.
 abbrev pub IsShown : Form → Text → Reply → Text → Text → Type 0
 IsShown Full program r out err =
     (error explanation : Text) × IsErrorText r error × (out ≡ heading program ++ out_text r) × (err ≡ error ++ explanation)

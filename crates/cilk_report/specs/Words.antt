@@ -20,11 +20,6 @@ abbrev pub is_option : Text → Bool
 is_option [] = false
 is_option (first ∷ bytes) = first == 45
 
--- this word is among the words
-abbrev pub asks : Text → List Text → Bool
-asks wanted [] = false
-asks wanted (word ∷ words) = bytes_eq word wanted || asks wanted words
-
 -- a word that selects the output of `measure`, or `--explain`
 abbrev pub is_form : Text → Bool
 is_form word =

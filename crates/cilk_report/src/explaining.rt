@@ -2,13 +2,13 @@
 
 use crate::certificate::line_of;
 use crate::wanted::{Expected, expected_at};
-use crate::{CaseTexts, Kept};
 use cilk_checker::refusal::Refusal;
 use cilk_commands::reply::{Answer, Failure};
 use cilk_findings::fault::CaseFault;
 use cilk_findings::faults::of_fault;
 use cilk_messages::report::{Finding, Wanted, of_line, of_script, of_text};
 use cilk_messages::words::{Order, Origin};
+use cilk_profile::{CaseTexts, Kept};
 use cilk_races::races::of_race;
 use cilk_types::event::Pos;
 use std::alloc::{AllocError, Global};

@@ -1,13 +1,11 @@
 //! The texts that follow a reply: its explanation, and what `--trace` and `--why` add.
 
-use crate::Kept;
 use crate::explaining::{of_answer, of_failure};
 use crate::flags::{Extras, explains_itself};
-use crate::tracing::push_trace;
-use crate::why::push_why;
 use cilk_commands::reply::{Answer, Failure};
 use cilk_findings::fault::CaseFault;
 use cilk_messages::words::Order;
+use cilk_profile::{Kept, push_trace, push_why};
 use std::alloc::Global;
 
 /// Returns the text that follows an answer.

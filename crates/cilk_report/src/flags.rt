@@ -5,8 +5,9 @@ ghost use Rattle.std.specs.Prelude.{◌≡◌, IfOk, Some};
 ghost use Rattle.cilk_report.specs.Explained.{explains_itself, first_word, is_flag, is_why, marks, unflagged, unmarked, without_why};
 ghost use Rattle.cilk_messages.specs.Words.{order_view, texts};
 
-use crate::{asks, behind_first};
+use crate::behind_first;
 use cilk_messages::words::Order;
+use cilk_profile::asks;
 use cilk_syntax::lexer::{all_digits, value_of};
 use std::alloc::{AllocError, Global};
 
@@ -27,7 +28,7 @@ pub fn extras_of(words: &[&str]) -> Extras {
     }
 }
 
-// The line behind `--why`.
+// The line after `--why`.
 fn line_in(words: &[&str]) -> Option<usize> {
     let mut is_next = false;
     for word in words {
@@ -59,7 +60,7 @@ fn marks(command: &str, word: &str) -> bool
         || (command == "threads" && word == "--stats")
 }
 
-/// Returns whether a word is `--why` of `settle`, and a number is behind it.
+/// Returns whether a word is `--why` of `settle`, followed by a number.
 fn is_why(command: &str, word: &str, behind: &[&str]) -> bool
     ensures { result ≡ is_why command.now word.now (texts behind.now) }
 {

@@ -3,8 +3,8 @@
 ghost use Rattle.cilk_commands.specs.Replies.{failure_view};
 ghost use Rattle.cilk_commands.specs.Serving.{WordsFail};
 
-use crate::asks;
 use cilk_commands::reply::Failure;
+use cilk_profile::asks;
 use std::alloc::{AllocError, Global};
 
 /// The text of `--version`.

@@ -9,21 +9,20 @@
 //! needed (`cilk_findings`, `cilk_races`). [`KeptFiles`] therefore keeps the texts as they were
 //! read, and the first bytes of a certificate. So the explanation is about the texts that were
 //! judged. A trace isn't kept, since it may be larger than memory: its file is read again. A command
-//! line of `serve` without an explanation keeps no copies. `--trace` of `play` adds what each worker
-//! does, and `--why LINE` of `settle` what orders the accesses of a line.
+//! line of `serve` without an explanation keeps no copies.
 //!
-//! `measure` prints work, span and parallelism of a run (Frigo, Leiserson and Randall 1998), then a
-//! table by function and loop, or a picture. `schedule` prints a script for `play` that shows a
-//! race. `settle` with several programs, `--short` or `--json` shows one reply after the other.
-//! `help`, `explain 103` and `--version` are about the tool itself.
+//! `measure` prints what a run costs; `--trace` of `play` adds what each worker does, and `--why
+//! LINE` of `settle` what orders the accesses of a line (`cilk_profile`). `schedule` prints a script
+//! for `play` that shows a race. `settle` with several programs, `--short` or `--json` shows one
+//! reply after the other. `help`, `explain 103` and `--version` are about the tool itself.
 //!
 //! | Call | Purpose |
 //! |---|---|
 //! | [`serve_explained`] | serves a command line and returns the exit status |
 //! | [`of_answer`], [`of_failure`] | the explanation of an answer or a failure |
 //! | [`follow`] | writes an explanation after what was shown |
-//! | [`totals_of`], [`text_of`] | the totals of a run, and the text or picture of `measure` |
-//! | [`KeptFiles`], [`Kept`], [`CaseTexts`] | files with copies of what was read |
+//! | [`totals_of`] | the totals of a run, which `measure` shows |
+//! | [`KeptFiles`] | files with copies of what was read |
 //!
 //! ```text
 //! program 103 at 61
@@ -39,8 +38,6 @@ mod about;
 mod accesses;
 mod again;
 mod certificate;
-mod critical;
-mod deeds;
 mod explaining;
 mod extras;
 mod flags;
@@ -48,26 +45,18 @@ mod help;
 mod judging;
 mod kept;
 mod numbered;
-mod orders;
-mod rows;
 mod scheduling;
 mod serving;
 mod settling;
 mod sites;
-mod speed_up;
-mod table;
-mod text;
 mod totals;
-mod tracing;
 mod wanted;
-mod why;
 mod words;
 
+pub use cilk_profile::{CaseTexts, Kept, asks, push_cells};
 pub use explaining::{of_answer, of_failure};
 pub use flags::unflagged;
-pub use kept::{CaseTexts, Keeps, Kept, KeptFiles};
-pub use rows::push_cells;
+pub use kept::{Keeps, KeptFiles};
 pub use serving::{follow, serve_explained};
-pub use text::{NoText, text_of};
 pub use totals::totals_of;
-pub use words::{asks, behind_first, is_help, is_measure, run_of, run_words, usage_of_measure};
+pub use words::{behind_first, is_help, is_measure, run_of, run_words, usage_of_measure};

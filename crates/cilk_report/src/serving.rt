@@ -18,15 +18,14 @@ use crate::help::{EXPLAIN, advice};
 use crate::judging::{Judged, of_trace_failure, of_trace_race};
 use crate::scheduling::{is_schedule, serve_schedule};
 use crate::settling::{is_settling, serve_settling};
-use crate::text::undrawn;
-use crate::{
-    Keeps, Kept, asks, is_measure, run_of, run_words, text_of, totals_of, usage_of_measure,
-};
+use crate::totals::undrawn;
+use crate::{Keeps, is_measure, run_of, run_words, totals_of, usage_of_measure};
 use cilk_commands::reply::{Answer, Failure, NO_MEMORY, WRONG};
 use cilk_commands::streams::send;
 use cilk_commands::{Served, carry_out, complain, show, tell};
 use cilk_findings::fault::CaseFault;
 use cilk_messages::words::{Order, Origin, WordsFault, read};
+use cilk_profile::{Kept, asks, text_of};
 use std::alloc::{AllocError, Global};
 use std::io::{Read, Write};
 

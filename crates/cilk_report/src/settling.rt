@@ -14,11 +14,12 @@ ghost use Rattle.cilk_report.specs.Settling.{Fails, IsShown, SettlesEach, Shows,
 use crate::about::is_option;
 use crate::explaining::{of_answer, of_failure};
 use crate::serving::missing;
-use crate::{Keeps, Kept, asks, behind_first, is_help};
+use crate::{Keeps, behind_first, is_help};
 use cilk_commands::reply::{Answer, Failure, NO_MEMORY, WRONG};
 use cilk_commands::streams::send;
 use cilk_commands::{complain, settle, tell};
 use cilk_messages::words::Order;
+use cilk_profile::{Kept, asks};
 use json::Writer;
 use std::alloc::{AllocError, Global};
 use std::io::{Read, Write};
@@ -81,7 +82,7 @@ impl<'a> Batch<'a> {
     }
 }
 
-/// Returns whether the first word is `settle`, with more than one request for help behind it and no
+/// Returns whether the first word is `settle`, the rest isn't just a request for help, and no word is
 /// `--explain` or `--why`.
 pub fn is_settling(words: &[&str]) -> bool
     ensures { result ≡ is_settling (texts words.now) }
@@ -97,7 +98,7 @@ pub fn is_settling(words: &[&str]) -> bool
     }
 }
 
-// What the words behind the first name.
+// What the words after the first name.
 fn batch_of<'a>(alloc: Global, words: &[&'a str]) -> Result<Option<Batch<'a>>, AllocError>
     ensures { IfOk result (λ named. option_map batch_view named ≡ batch_in (texts words.now)) }
 {
@@ -181,7 +182,7 @@ fn settle_each<F: Keeps, R: Read, O: Write, E: Write>(
     status
 }
 
-/// The status for one program, and whether the call goes on.
+/// The status for one program, and whether the call continues.
 #[derive(Clone, Copy)]
 struct Step {
     status: u8,

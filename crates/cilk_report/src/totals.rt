@@ -1,7 +1,7 @@
-//! From the files of a program and its input to the totals of its run.
+//! The totals of a run, from the files of a program and its input, or why nothing is shown of it.
 
 ghost use Rattle.std.specs.Prelude.{◌≡◌, ◌<◌, IfErr, IfOk, option_map};
-ghost use Rattle.cilk_report.specs.Measured.{AreTotalsOf};
+ghost use Rattle.cilk_report.specs.Measured.{AreTotalsOf, TellsWhy};
 ghost use Rattle.cilk_commands.specs.Replies.{failure_view};
 ghost use Rattle.cilk_commands.specs.Serving.{RunReply, world};
 ghost use Rattle.cilk_commands.specs.Streams.{TakesAtMost};
@@ -13,6 +13,7 @@ use cilk_commands::reply::Failure;
 use cilk_commands::{given, stopped};
 use cilk_findings::totals::{Totals, measure};
 use cilk_messages::words::Origin;
+use cilk_profile::NoText;
 use std::alloc::Global;
 use std::io::Read;
 
@@ -36,5 +37,18 @@ pub fn totals_of<'a, F: Files, R: Read>(
     match measure(alloc, &program, &numbers) {
         Ok((totals, _trace)) => Ok(totals),
         Err(fault) => Err(stopped(&fault)),
+    }
+}
+
+/// Returns the failure for a reason why nothing is shown.
+pub fn undrawn<'a>(alloc: Global, reason: NoText) -> Failure<'a>
+    ensures { TellsWhy reason (failure_view result) }
+{
+    let NoText::Undrawn(text) = reason else {
+        return Failure::Memory;
+    };
+    match String::from_str(alloc, text) {
+        Ok(text) => Failure::Words(text),
+        Err(_) => Failure::Memory,
     }
 }

@@ -1,7 +1,7 @@
 //! The command line of `measure`.
 
 ghost use Rattle.std.specs.Prelude.{◌≡◌, IfOk, Some, filter, not, option_map};
-ghost use Rattle.cilk_report.specs.Words.{asks, behind_first, is_form, is_help, is_measure, run_of, words_of_run};
+ghost use Rattle.cilk_report.specs.Words.{behind_first, is_form, is_help, is_measure, run_of, words_of_run};
 ghost use Rattle.cilk_commands.specs.Replies.{failure_view};
 ghost use Rattle.cilk_commands.specs.Serving.{WordsFail};
 ghost use Rattle.cilk_messages.specs.Words.{order_view, origin_view, texts};
@@ -43,20 +43,6 @@ pub fn is_measure(words: &[&str]) -> bool
         [first, behind @ ..] => *first == "measure" && !is_help(behind),
         [] => false,
     }
-}
-
-/// Returns whether a word is among the words.
-pub fn asks(words: &[&str], wanted: &str) -> bool
-    ensures { result ≡ asks wanted.now (texts words.now) }
-{
-    let mut rest = words;
-    'each: while let [first, behind @ ..] = rest {
-        if *first == wanted {
-            return true;
-        }
-        rest = behind;
-    }
-    false
 }
 
 /// Returns whether a word selects the output of `measure`, or is `--explain`.

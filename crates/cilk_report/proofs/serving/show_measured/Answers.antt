@@ -1,5 +1,5 @@
 use Rattle.std.proofs.Common.{refl, subst, sym}
-use Rattle.cilk_report.specs.Measured.{IsMeasureText}
+use Rattle.cilk_profile.specs.Measured.{IsMeasureText}
 use Rattle.cilk_report.proofs.Measuring.{fails, unshown}
 use Rattle.cilk_report.proofs.Replies.{silence}
 use Rattle.cilk_report.specs.Explained.{Measured}

@@ -106,7 +106,7 @@ fn is_in_loop_of(scene: &Scene<'_>, child: usize, event: usize) -> bool {
     false
 }
 
-// The first sync of a frame behind a child.
+// The first sync of a frame after a child.
 fn sync_behind(scene: &Scene<'_>, parent: usize, child: usize) -> Option<usize> {
     let ended = scene.note(child).ended?;
     let events = scene.run.trace.as_slice().iter().enumerate();

@@ -1,7 +1,7 @@
 //! The totals of a run as lines of text.
 
 ghost use Rattle.std.specs.Prelude.{◌≡◌, ◌++◌, IfOk, OnOk};
-ghost use Rattle.cilk_report.specs.Table.{burdened_name, decimal_point, hundredths, known_line, parallelism_line, total_line, totals_text};
+ghost use Rattle.cilk_profile.specs.Table.{burdened_name, decimal_point, hundredths, known_line, parallelism_line, total_line, totals_text};
 
 use cilk_findings::totals::Totals;
 use itoa::Buffer;

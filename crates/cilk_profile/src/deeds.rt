@@ -229,7 +229,7 @@ impl<'a> Deeds<'a> {
         }
     }
 
-    // Notes a child, with which the worker goes on.
+    // Notes a child, with which the worker continues.
     fn invoke(
         &mut self,
         worker: usize,
@@ -256,7 +256,7 @@ impl<'a> Deeds<'a> {
         Ok(())
     }
 
-    // Adds an offer behind those of the same worker.
+    // Adds an offer after those of the same worker.
     fn offer(&mut self, offer: Offer) -> Result<(), AllocError> {
         let mut behind: usize = 0;
         for other in self.offers.iter().rev() {
@@ -279,7 +279,7 @@ impl<'a> Deeds<'a> {
         self.add(worker, Deed::Steals(at))
     }
 
-    // Ends a frame. The worker goes on with its parent, whose continuation it no longer offers.
+    // Ends a frame. The worker continues its parent, whose continuation it no longer offers.
     fn end(&mut self, worker: usize, frame: usize) -> Result<(), AllocError> {
         let Some(seat) = self.seats.get(frame).copied() else {
             return Ok(());

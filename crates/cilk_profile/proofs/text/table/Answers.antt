@@ -1,6 +1,6 @@
 use Rattle.std.proofs.Common.{◌++◌, ap, ◌∙◌}
-use Rattle.cilk_report.specs.Table.{totals_text}
-use Rattle.cilk_report.proofs.text.table.Goals as goal
+use Rattle.cilk_profile.specs.Table.{totals_text}
+use Rattle.cilk_profile.proofs.text.table.Goals as goal
 
 pub returns : goal.returns
 returns c = (

@@ -1,7 +1,7 @@
 use Rattle.std.proofs.Common.{◌≡◌, length}
-use Rattle.cilk_report.specs.Words.{asks}
+use Rattle.cilk_profile.specs.Words.{asks}
 use Rattle.cilk_messages.specs.Words.{texts}
-use Rattle.cilk_report.proofs.words.asks.Given as goal
+use Rattle.cilk_profile.proofs.words.asks.Given as goal
 
 abbrev pub invariant-each : goal.invariant-each
 invariant-each l = asks l.wanted (texts l.rest) ≡ asks l.wanted (texts l.words)

@@ -1,6 +1,6 @@
 use Rattle.std.proofs.Common.{◌≡◌, ℕ, List, [], ◌∷◌, ◌++◌, ap, append_assoc, ◌∙◌}
-use Rattle.cilk_report.specs.Table.{decimal_point, hundredths}
-use Rattle.cilk_report.proofs.table.push_parallelism.Goals as goal
+use Rattle.cilk_profile.specs.Table.{decimal_point, hundredths}
+use Rattle.cilk_profile.proofs.table.push_parallelism.Goals as goal
 
 -- a text that grew by four pieces
 grown : (t x y z w a b d e : List ℕ) → a ≡ t ++ x → b ≡ a ++ y → d ≡ b ++ z → e ≡ d ++ w → e ≡ t ++ ((x ++ (y ++ z)) ++ w)

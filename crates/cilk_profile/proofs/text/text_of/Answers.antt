@@ -1,12 +1,12 @@
 use Rattle.std.proofs.Common.{◌≡◌, Bool, true, sym, ◌∙◌}
 use Rattle.std.proofs.lemmas.Bool.{true≢false}
 use Rattle.std.specs.Prelude.{IfErr, IfOk, IsFalse, List, Result, Ok, Err}
-use Rattle.cilk_commands.specs.Replies.{Text}
 use Rattle.cilk_messages.specs.Words.{texts}
-use Rattle.cilk_report.specs.Measured.{IsAboutPictures, is_drawn}
-use Rattle.cilk_report.specs.declared.text.NoText.{NoText}
-use Rattle.cilk_report.specs.declared.text.NoText.TheVariants as reasons
-use Rattle.cilk_report.proofs.text.text_of.Goals as goal
+use Rattle.cilk_profile.specs.Measured.{IsAboutPictures, is_drawn}
+use Rattle.cilk_profile.specs.Words.{Text}
+use Rattle.cilk_profile.specs.declared.text.NoText.{NoText}
+use Rattle.cilk_profile.specs.declared.text.NoText.TheVariants as reasons
+use Rattle.cilk_profile.proofs.text.text_of.Goals as goal
 
 -- nothing has to be shown of a picture
 free : {T E : Type 0} (x : Result T E) (b b' : Bool) (P : T → Type 0) → b ≡ true → b ≡ b' → IfOk x (λ v. IsFalse b' → P v)

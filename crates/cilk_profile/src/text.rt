@@ -1,15 +1,13 @@
 //! The text or picture that `measure` shows.
 
 ghost use Rattle.std.specs.Prelude.{◌≡◌, IfErr, IfOk};
-ghost use Rattle.cilk_report.specs.Measured.{IsAboutPictures, IsMeasureText, IsTable, TellsWhy, is_drawn, mark_in};
-ghost use Rattle.cilk_commands.specs.Replies.{failure_view};
+ghost use Rattle.cilk_profile.specs.Measured.{IsAboutPictures, IsMeasureText, IsTable, is_drawn, mark_in};
 ghost use Rattle.cilk_messages.specs.Words.{texts};
 
 use crate::kept::{CaseTexts, Kept};
 use crate::rows::{Details, details_of};
 use crate::table::{BLANK, COMMA, totals_text};
 use crate::words::asks;
-use cilk_commands::reply::Failure;
 use cilk_findings::drawing::{profile_of, tree_of_run};
 use cilk_findings::fault::CaseFault;
 use cilk_findings::totals::Totals;
@@ -73,19 +71,6 @@ const TWO_FORMS: &str = "error: one picture or table at a time: `--csv`, `--svg`
 
 const UNKEPT: &str = "error: a program from standard input isn't drawn\n\
     hint: put it into a file: `cilk measure prog.c --svg > prog.svg`\n";
-
-/// Returns the failure for a reason why nothing is shown.
-pub fn undrawn<'a>(alloc: Global, reason: NoText) -> Failure<'a>
-    ensures { TellsWhy reason (failure_view result) }
-{
-    let NoText::Undrawn(text) = reason else {
-        return Failure::Memory;
-    };
-    match String::from_str(alloc, text) {
-        Ok(text) => Failure::Words(text),
-        Err(_) => Failure::Memory,
-    }
-}
 
 /// Returns whether a picture is requested.
 fn is_drawn(words: &[&str]) -> bool

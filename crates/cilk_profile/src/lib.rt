@@ -1,0 +1,48 @@
+//! What a run did and what it cost, in words, tables and pictures.
+//!
+//! [`text_of`] is what `measure` shows of a run: its totals, a line for each function and loop, the
+//! spawns and lines on its critical path, and bounds of the speed-up by several workers; or a
+//! picture. [`push_why`] says what orders the accesses of a line with those of other strands: a
+//! sync, or the order of the text. [`push_trace`] says what each worker does by a script, strand by
+//! strand.
+//!
+//! All is derived from the texts of the program and its input, by one more serial run
+//! (`cilk_findings`), and a trace by a stepwise one too (`cilk_schedule`). [`Kept`] has these texts
+//! as they were read. It reads no files, writes no replies and explains no races, so its proof waits
+//! neither for `cilk_commands` nor for `cilk_races`.
+//!
+//! | Call | Result |
+//! |---|---|
+//! | [`text_of`] | the table or picture of `measure`, or why there is [`NoText`] |
+//! | [`push_why`] | what orders the accesses of a line |
+//! | [`push_trace`] | what each worker does by a script |
+//! | [`push_cells`] | a line of a table |
+//! | [`asks`] | whether a word is on a command line |
+//! | [`Kept`], [`CaseTexts`] | copies of what was read, and a program and its input among them |
+//!
+//! ```text
+//! worker 1: strand 1, lines 5 to 7 (events 1 to 4)
+//! worker 2 steals the continuation of line 7
+//! worker 2: strand 4, lines 7 to 8 (events 9 to 11)
+//! worker 2 waits at the sync of line 9
+//! ```
+#![tactic(auto)]
+
+mod critical;
+mod deeds;
+mod kept;
+mod orders;
+mod rows;
+mod speed_up;
+mod table;
+mod text;
+mod tracing;
+mod why;
+mod words;
+
+pub use kept::{CaseTexts, Kept};
+pub use rows::push_cells;
+pub use text::{NoText, text_of};
+pub use tracing::push_trace;
+pub use why::push_why;
+pub use words::asks;
