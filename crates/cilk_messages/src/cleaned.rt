@@ -210,7 +210,7 @@ fn numeral(text: &[u8], at: usize) -> Piece {
     }
 }
 
-// Each number with so many digits is one of the language.
+// Each number with this many digits is one of the language.
 const DIGITS: usize = 18;
 
 // The end of a number of C: with a point, letters, and a sign after the `e` of an exponent.

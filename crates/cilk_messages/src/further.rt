@@ -1,4 +1,4 @@
-//! What else a text has that the language has no form for, behind the hint for its first fault.
+//! What else a text has that the language has no form for, after the hint for its first fault.
 
 use crate::certain::{form_at, own_words};
 use crate::cleaned::cleaned;
@@ -24,7 +24,7 @@ struct Form {
     more: usize,
 }
 
-// Behind each text, and with no hint.
+// After each text, and with no hint.
 const NO_FORM: Form = Form {
     at: usize::MAX,
     length: 0,

@@ -5,8 +5,8 @@
 //! into a line and a column, the line of source with a mark below the place, the reason, and a hint
 //! if the mistake is a common one. Hints are found by looking at the tokens around the place. They
 //! know C, C++, Cilk Plus and OpenCilk, since most mistakes are constructs of those that this
-//! language lacks. Behind the hint come the other such constructs of the text, each at its first
-//! line, so that one call tells of all that their tokens alone give away.
+//! language lacks. After the hint come the other such constructs of the text, each at its first
+//! line, so that one call names all that their tokens alone give away.
 //!
 //! ```text
 //! fib.c:9:12: error 103: no text of the language continues like this

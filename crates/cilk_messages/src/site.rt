@@ -5,12 +5,12 @@
 //! with `^`. `@` stands for any name, `#` for any number, `$` for a name or a reserved word, `~` for
 //! what comes before an operand, and `?` for any token. Places are
 //!
-//! - `0`, `-1`, `+1` and so on: the token, the one before it, the one behind it;
+//! - `0`, `-1`, `+1` and so on: the token, the one before it, the one after it;
 //! - `in`: the token before the parentheses around it; `head`: the same, if these are the only
 //!   ones; `of`: the one before the parentheses that end just before it, and `of-1` the one before
 //!   that;
 //! - what a name is declared as, a variable, array, reducer, function or procedure (a `void`
-//!   function): `is` of the name here, `next` of the one behind it, `calls` of the one at `of`,
+//!   function): `is` of the name here, `next` of the one after it, `calls` of the one at `of`,
 //!   `declares` only if it is declared here, and `main` of the text's `main`;
 //! - a condition that holds, as `begins`, without words (`Site::holds`).
 
@@ -40,7 +40,7 @@ pub struct Site<'t, 'a> {
 pub struct Look {
     /// Whether the last form is a word.
     pub is_word: bool,
-    /// The token up to which nothing is told.
+    /// The token up to which nothing is shown.
     pub upto: usize,
     braces: usize,
     parentheses: usize,

@@ -7,7 +7,7 @@ use cilk_types::invocation::Invocation;
 use std::alloc::{AllocError, Global};
 
 /// A change of a reducer, and the spawned child that parts it from the event: the change or the
-/// event is in it, and the other one behind it.
+/// event is in it, and the other one after it.
 #[derive(Clone, Copy)]
 pub struct Change {
     pub at: usize,
@@ -146,7 +146,7 @@ impl Beside {
         }
     }
 
-    /// Returns the first change of a reducer after the event that is behind a spawned child in
+    /// Returns the first change of a reducer that comes after the event, after the spawned child in
     /// which the event is, and before the sync that waits for this child.
     pub fn changed(&self, scene: &Scene<'_>, instance: Instance) -> Option<Change> {
         let mut open: Option<usize> = None;

@@ -680,7 +680,7 @@ fn updated<'a>(words: &str, name: &'a [u8], sum: Added<'a>) -> Sentence<'a> {
     updated.word(name)
 }
 
-// The token behind `++` or `--`, if one of these stands at a token.
+// The token after `++` or `--`, if one of these stands at a token.
 fn behind_mark(tokens: &Tokens<'_>, number: usize) -> usize {
     match tokens.kind(number) {
         Some(Kind::Increment | Kind::Decrement) => number.saturating_add(1),

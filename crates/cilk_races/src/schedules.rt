@@ -14,16 +14,16 @@ use std::alloc::AllocError;
 // A run of more events is played by one schedule only.
 const SEARCHED: usize = 20_000;
 
-// The first worker makes no event of the child before the steal, or all up to so many before the
-// event behind the earlier access.
+// The events of the child that the first worker makes before the steal: none, or all up to this many
+// before the event after the earlier access.
 const NEAR: [usize; 6] = [usize::MAX, 1, 0, 2, 4, 8];
 
-// The second worker makes so many events behind the later access before the first one goes on.
+// The events that the second worker makes after the later access, before the first one continues.
 const BEYOND: [usize; 7] = [0, 1, 2, 4, 8, 16, usize::MAX];
 
 /// A schedule of two workers. The first makes `ahead` events, up to a spawn or into its child. The
 /// second steals the continuation at `place` and makes `behind` events. Then the first makes the
-/// `child` events that are left of the child, and both go on in turn.
+/// `child` events that are left of the child, and both continue in turn.
 #[derive(Clone, Copy)]
 struct Schedule {
     ahead: usize,

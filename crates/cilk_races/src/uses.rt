@@ -394,7 +394,7 @@ fn behind_of(tokens: &Tokens<'_>, from: usize) -> Side {
     Side { from, upto: from }
 }
 
-// The part of a condition ahead of a token.
+// The part of a condition before a token.
 fn ahead_of(tokens: &Tokens<'_>, upto: usize) -> Side {
     let mut depth: usize = 0;
     let mut from = upto;

@@ -16,7 +16,7 @@ UntakenIsOpen =
     (s : EventOrder) (t : State (Unit {0}) View) (k p : ℕ) → Kept s t → word_step s k ≡ spawn → word_step s p ≡ resume k
     → Done t.views k → (Done t.views p → ⊥) → slice_index t.words (cells s + k) ≡ 1
 
--- What the words tell of the steps that the seats have done. There is a word for each cell, then one
+-- What the words show of the steps that the seats have done. There is a word for each cell, then one
 -- for the run's end, then one for each position.
 pub record TellsWhatIsDone (s : EventOrder) (t : State (Unit {0}) View) : Type 0 where
   -- no position is in the ranges of two seats
