@@ -1,17 +1,16 @@
 """The gate of a commit: `rt ci`, or as much of it as the time holds.
 
 Where the whole gate surely fits, by the processor minutes in docs/GATE.md and by how fast this machine is now, this is
-`rt ci`. Where it may not, it goes in rounds, each an `rt ci` over what the rounds before have passed, which `rt` keeps:
-the first proves each crate from nothing and runs each test and program, with no edit that must be refused; the next ones try
-as many of the edits as the time holds: first those of the crates whose text, or the text of a crate below them, has changed
-since the commit in .ci/whole (the last one that passed the whole gate), and then a share of the others that moves on with
-each commit. On a machine so slow that not even the first round fits, the crates of tests that take longest wait for the next
-ones. A round that would go past DEADLINE is given up, and the one before it counts. It prints what it left out, and its last
-line is `N passed, M failed, K skipped`.
+`rt ci`. Where it may not, it is one `rt ci` over a copy that has each crate, but only as many of the edits that must be
+refused as the time holds: first those of the crates whose text, or the text of a crate below them, has changed since the
+commit in .ci/whole (the last one that passed the whole gate), and then a share of the others that moves on with each
+commit. On a machine so slow that not even the proofs fit, the crates of tests that take longest are left out. It prints
+what it left out, and its last line is `N passed, M failed, K skipped`.
 
 `.ci/run --plan [PROCESSORS]` prints what it would do at the table's speed, and does nothing.
 """
 
+import ctypes
 import os
 import re
 import shutil
@@ -23,12 +22,12 @@ import threading
 import time
 
 TOP = os.path.dirname(os.path.dirname(os.path.realpath(__file__)))
-LIMIT = 140.0  # minutes of wall time that the whole gate is to take at the most
-DEADLINE = 168.0  # minutes of wall time after which no round goes on
-AGAIN = 6.0  # minutes that each round takes for what it runs again, by the table's speed
+LIMIT = 135.0  # minutes of wall time that the gate is to take at the most
+DEADLINE = 168.0  # minutes of wall time after which it is given up
 MARGIN = 1.15  # how much longer a busy machine takes than the table says
 MINUTES_A_LINE = 0.001  # of the proof of a crate that the table doesn't know yet
 MEMORY = 2_500_000  # kilobytes of a process of the gate
+PROGRAM = "crates/cilk/out/cilk"
 SPEED_CRATE = "cilk_types"  # its proof from nothing tells how fast this machine is
 LAST_LINE = re.compile(r"^(\d+) passed, (\d+) failed$")
 
@@ -95,7 +94,8 @@ def times(named):
     for name in named:
         if name not in found:
             proof = lines_of(name) * MINUTES_A_LINE
-            found[name] = [proof, 0.0, proof + 0.5 * len(edits_of(name))]
+            count = len(edits_of(name))
+            found[name] = [proof, 0.0, proof + 0.5 * count if count else 0.0]
     return found
 
 
@@ -182,14 +182,12 @@ def in_turn(named):
     return [it for it in order if it in anew] + [it for it in order if it not in anew]
 
 
-def chosen_edits(order, cost, lanes, tried, minutes):
-    """The crates whose edits are tried: those that were, and as many more as so many minutes hold."""
-    chosen, work = set(tried), 0.0
-    for name in order:
-        edits = cost[name][2]
-        if name not in chosen and MARGIN * max((work + edits) / lanes, edits) <= minutes:
+def chosen_edits(named, cost, lanes):
+    """The crates whose edits are tried: as many as the time holds."""
+    chosen = set()
+    for name in in_turn(named):
+        if wall(named, cost, chosen | {name}, lanes) <= LIMIT:
             chosen.add(name)
-            work += edits
     return chosen
 
 
@@ -201,23 +199,13 @@ def without(named, left):
     return {name: below for name, below in named.items() if name not in left}
 
 
-def too_long(named, cost, lanes, minutes):
-    """The crates of tests, those that take longest first, without which the others' proofs and tests take no more than so many minutes."""
+def too_long(named, cost, lanes):
+    """The crates of tests, those that take longest first, without which the others' proofs and tests fit."""
     tests = sorted((it for it in named if it.endswith("_tests")), key=lambda it: -proofs_and_tests(cost, [it]))
     left = []
-    while tests and wall(without(named, left), cost, set(), lanes) > minutes:
+    while tests and wall(without(named, left), cost, set(), lanes) > LIMIT:
         left.append(tests.pop(0))
     return left
-
-
-def that_fit(left, cost, lanes, minutes):
-    """As many of these crates of tests as so many minutes hold, those that take least first."""
-    found = []
-    for name in sorted(left, key=lambda it: proofs_and_tests(cost, [it])):
-        more = found + [name]
-        if MARGIN * max(proofs_and_tests(cost, more) / lanes, proofs_and_tests(cost, [name])) <= minutes:
-            found = more
-    return found
 
 
 def whole_gate():
@@ -240,18 +228,25 @@ def copy_without(skipped, left, room):
     subprocess.run(["git", "init", "-q", room], check=False)
 
 
-def one_round(skipped, left, seconds):
-    """`rt ci` without these edits and these crates, for so many seconds at the most: its status and its last line, or None."""
+def end_with_parent():
+    """Has the kernel end this process when the one that started it is killed."""
+    ctypes.CDLL(None).prctl(1, signal.SIGTERM)
+
+
+def part_of_gate(skipped, left, seconds):
+    """`rt ci` without these edits and these crates, for so many seconds at the most: its status and its last line.
+
+    The program that it built becomes the one in crates/cilk/out, for the steps that try it.
+    """
     with tempfile.TemporaryDirectory(prefix="gate-") as room:
         copy_without(skipped, left, room)
         last, given_up = "", threading.Event()
-        gate = subprocess.Popen(
-            ["rt", "ci"], cwd=room, stdout=subprocess.PIPE, text=True, errors="replace", start_new_session=True
-        )
+        how = {"stdout": subprocess.PIPE, "text": True, "errors": "replace", "start_new_session": True}
+        gate = subprocess.Popen(["rt", "ci"], cwd=room, preexec_fn=end_with_parent, **how)
 
         def give_up():
             given_up.set()
-            os.killpg(gate.pid, signal.SIGTERM)
+            os.killpg(gate.pid, signal.SIGKILL)
 
         clock = threading.Timer(max(seconds, 1.0), give_up)
         clock.start()
@@ -261,51 +256,32 @@ def one_round(skipped, left, seconds):
                     print(last, flush=True)
                 last = line.rstrip("\n")
         clock.cancel()
-    return None if given_up.is_set() else (gate.returncode, last)
+        if given_up.is_set():
+            return 1, f"given up after {DEADLINE:.0f} minutes"
+        made = f"{room}/{PROGRAM}"
+        if not gate.returncode and os.access(made, os.X_OK):
+            os.makedirs(os.path.dirname(f"{TOP}/{PROGRAM}"), exist_ok=True)
+            shutil.copy(made, f"{TOP}/{PROGRAM}.new")
+            os.replace(f"{TOP}/{PROGRAM}.new", f"{TOP}/{PROGRAM}")
+    return gate.returncode, last
 
 
-def slowed(cost, slower):
-    return {name: [slower * it for it in three] for name, three in cost.items()}
-
-
-def rounds(named, cost, slower, lanes, started):
-    """The gate in rounds; its status. `slower` is how slow this machine was as it began."""
-    passed, first, tried, order = None, 0.0, set(), in_turn(named)
-    spent = (time.monotonic() - started) / 60
-    left = too_long(named, slowed(cost, slower), lanes, DEADLINE - spent)
-    while True:
-        spent = (time.monotonic() - started) / 60
-        if passed is not None:
-            slower = max(slower, first / max(wall(without(named, passed[2]), cost, set(), lanes), 1.0))
-            slow, minutes = slowed(cost, slower), DEADLINE - spent - AGAIN * slower
-            back = that_fit(left, slow, lanes, minutes)
-            minutes -= MARGIN * proofs_and_tests(slow, back) / lanes
-            chosen = chosen_edits(order, slow, lanes, tried, minutes)
-            if chosen == tried and not back:
-                break
-            left, tried = [it for it in left if it not in back], chosen
-        skipped = [it for it in order if it not in tried or it in left]
-        told = f", without {len(left)} crates of tests" if left else ""
-        print(f"{spent:.0f} minutes: a round with the edits of {len(tried)} of {len(order)} crates{told}", flush=True)
-        ended = one_round(skipped, left, (DEADLINE - spent) * 60)
-        if ended is None:
-            print("this round is given up for want of time", flush=True)
-            break
-        if ended[0] or not LAST_LINE.match(ended[1]):
-            print(ended[1] if LAST_LINE.match(ended[1]) else f"{ended[1]}\n0 passed, 1 failed")
-            return ended[0] or 1
-        if passed is None:
-            first = (time.monotonic() - started) / 60
-        passed = (ended[1], skipped, left)
-    if passed is None:
-        print("0 passed, 1 failed")
-        return 1
-    last, skipped, left = passed
+def part(named, cost, lanes, started):
+    """As much of the gate as the time holds; its status. `cost` is by how fast this machine is now."""
+    left = too_long(named, cost, lanes)
+    there = without(named, left)
+    chosen = chosen_edits(there, cost, lanes)
+    skipped = [it for it in named if it not in chosen and edits_of(it)]
     left_out = left + [f"{name}/{edit}" for name in skipped for edit in edits_of(name)]
+    print(f"the whole gate doesn't fit: {len(left_out)} edits and crates of tests are left out", flush=True)
+    status, last = part_of_gate(skipped, left, DEADLINE * 60 - (time.monotonic() - started))
+    if not LAST_LINE.match(last):
+        print(f"{last}\n0 passed, 1 failed")
+        return status or 1
     for it in left_out:
         print(f"left out: {it}", flush=True)
     print(f"{last}, {len(left_out)} skipped" if left_out else last)
-    return 0
+    return status
 
 
 def main(words):
@@ -326,9 +302,10 @@ def main(words):
     lanes = processors()
     slower = slowness(cost[SPEED_CRATE][0], lanes)
     print(f"{lanes} processors; this machine takes {slower:.1f} times as long as the table says", flush=True)
-    if slower * wall(named, cost, everything, lanes) <= LIMIT:
+    cost = {name: [slower * it for it in three] for name, three in cost.items()}
+    if wall(named, cost, everything, lanes) <= LIMIT:
         return whole_gate()
-    return rounds(named, cost, slower, lanes, started)
+    return part(named, cost, lanes, started)
 
 
 if __name__ == "__main__":
