@@ -38,8 +38,8 @@ CASES = f"{TOP}/tools/cases.py"
 BUILD_HELP = """./cilk build [--plan]
 
 Proves the program and all that it stands on, and builds it. It shows how many crates are proved, the minutes since it
-began, and about how many are left. Proofs are kept on this machine: after a stop, by Ctrl-C or otherwise, the next call
-continues from there. From then on ./cilk runs the proved program. The log is crates/cilk/out/build.log.
+began, and about how many are left. Where the kit keeps proofs (13f does, 13b doesn't), the next call after a stop, by
+Ctrl-C or otherwise, continues from there. Then ./cilk runs the proved program. The log is crates/cilk/out/build.log.
 
 --plan    shows how long that takes, and does nothing
 
@@ -269,7 +269,7 @@ def build():
         except SystemExit:
             if sys.stderr.isatty():
                 print(file=sys.stderr)
-            tell("stopped; the proofs so far are kept, and the next ./cilk build continues from there")
+            tell("stopped; where the kit keeps proofs, the next ./cilk build continues from there")
             raise
     if sys.stderr.isatty():
         print(file=sys.stderr)

@@ -19,6 +19,11 @@ import signal
 import subprocess
 import sys
 import threading
+import time
+
+sys.dont_write_bytecode = True
+
+import build_plan
 
 TOP = os.path.dirname(os.path.dirname(os.path.realpath(__file__)))
 PAGE = f"{TOP}/docs/GATE.md"
@@ -88,6 +93,19 @@ def write(found):
         file.write("\n".join(lines))
 
 
+def longest_chain(found):
+    """The crates of the longest chain of proofs, with tests and edits at its end, and its minutes."""
+    with open(f"{TOP}/crates.txt", encoding="utf-8") as listed:
+        named = build_plan.crates_of(listed.read())
+    nothing, chains = dict.fromkeys(KINDS, 0.0), {}
+    for name in (it for top in named for it in build_plan.needed(named, top)):
+        below = max((chains[it] for it in named[name]), default=(0.0, []))
+        chains[name] = (below[0] + found.get(name, nothing)["proof"], [*below[1], name])
+    whole = [(chains[it][0] + found.get(it, nothing)["tests"] + found.get(it, nothing)["edits"], it) for it in named]
+    minutes, last = max(whole)
+    return minutes, chains[last][1]
+
+
 def tell(seen, by, is_written):
     """Prints what was seen, and writes it where that is asked for."""
     found = minutes_in(seen, by)
@@ -95,6 +113,8 @@ def tell(seen, by, is_written):
         print(f"{crate:24}" + "".join(f"{shown(found[crate][kind]) if found[crate][kind] else '':>9}" for kind in KINDS))
     print(f"{'in all':24}" + "".join(f"{sum(times[kind] for times in found.values()):9.1f}" for kind in KINDS))
     print(f"the greatest process: {max((it[3] for it in seen.values()), default=0) / 1e9:.1f} GB")
+    minutes, chain = longest_chain(found)
+    print(f"the longest chain: {minutes:.1f} processor minutes, {' '.join(chain)}")
     if is_written:
         write(found)
 
@@ -114,10 +134,12 @@ def run(is_written):
     seen, ended = {}, threading.Event()
     watcher = threading.Thread(target=watched, args=(seen, ended))
     watcher.start()
+    began = time.monotonic()
     status = subprocess.run(["rt", "ci"], cwd=TOP, check=False).returncode
     ended.set()
     watcher.join()
     tell(seen, 1.0, is_written)
+    print(f"by the clock: {(time.monotonic() - began) / 60:.1f} minutes")
     return status
 
 

@@ -5,12 +5,12 @@
 //!
 //! | Module | Tests |
 //! |---|---|
-//! | [`reads`] | `check` with `--helpers` over a file that fails; words for which no file is read |
+//! | [`reads`] | `check` with `--helpers` over a file that fails; no file is read for wrong words, or twice to explain |
 //!
 //! The command that runs the tests ends a test after a minute.
 //!
 //! ```text
-//! let ended = served(rt, alloc, &words, certificate, 3);    // the fourth read fails
+//! let ended = served_parts(rt, alloc, &words, certificate, 3);    // the fourth read fails
 //! assert!(rt; ended.is(2, "", "cannot read certificate\n"));
 //! ```
 #![tactic(auto)]
