@@ -1,6 +1,6 @@
 //! Calls that no command makes.
 
-use crate::playing::{PRINTS, code_of, no_input};
+use crate::playing::{LIST, PRINTS, code_of, no_input};
 use cilk_cert_text::certificate::Certificate;
 use cilk_cert_text::read::{read, read_pieces};
 use cilk_cert_text::write::write;
@@ -9,10 +9,11 @@ use cilk_monoid::fold::fold_pieces;
 use cilk_monoid::list::Append;
 use cilk_monoid::monoid::Monoid;
 use cilk_monoid::view::ListView;
-use cilk_schedule::machine::play;
+use cilk_schedule::machine::{Machine, play};
 use cilk_schedule::naming::ShownEvent;
 use cilk_schedule::showing::Shown;
-use cilk_scheduler::choice::Choice;
+use cilk_scheduler::choice::{Choice, Stop, Told};
+use cilk_types::event::Event;
 use std::alloc::{AllocError, Global};
 use std::process::Abort;
 
@@ -93,9 +94,27 @@ const PRINTS_REVERSED: [(Choice, u32); 10] = [
     (Choice::Run(1), 9),
 ];
 
-fn choices(alloc: Global) -> Result<Vec<Choice>, AllocError> {
+// A list by a `cilk_for` of five turns, the last turn first.
+const TURNS_REVERSED: [(Choice, u32); 13] = [
+    (Choice::Run(1), 5),
+    (Choice::Steal(2, 0), 1),
+    (Choice::Run(2), 4),
+    (Choice::Steal(3, 0), 1),
+    (Choice::Run(3), 4),
+    (Choice::Steal(4, 0), 1),
+    (Choice::Run(4), 10),
+    (Choice::Run(3), 10),
+    (Choice::Run(2), 10),
+    (Choice::Run(1), 2),
+    (Choice::Steal(5, 0), 1),
+    (Choice::Run(5), 10),
+    (Choice::Run(1), 14),
+];
+
+fn choices(alloc: Global, script: &[(Choice, u32)]) -> Result<Vec<Choice>, AllocError> {
     let mut choices = Vec::new(alloc);
-    for (choice, count) in PRINTS_REVERSED {
+    for (choice, count) in script {
+        let (choice, count) = (*choice, *count);
         for _ in 0..count {
             choices.push(choice)?;
         }
@@ -136,10 +155,42 @@ fn is_played_in_order(alloc: Global, code: &Code, choices: &[Choice]) -> bool {
     }
 }
 
+// The numbers that are printed or put into a reducer, in the order in which these choices do it.
+fn numbers(alloc: Global, code: &Code, choices: &[Choice]) -> Result<Vec<i64>, Stop> {
+    let input = no_input(alloc);
+    let mut machine = Machine::new(alloc, code, &input, 5)?;
+    let mut numbers = Vec::new(alloc);
+    'choices: for choice in choices {
+        if let Told::Did(act) = machine.choose(alloc, *choice)? {
+            match act.event {
+                Event::Update { value, .. } | Event::Print { value } => numbers.push(value)?,
+                _ => {}
+            }
+        }
+    }
+    Ok(numbers)
+}
+
+fn are_made(alloc: Global, code: &Code, choices: &[Choice], wanted: &[i64]) -> bool {
+    match numbers(alloc, code, choices) {
+        Ok(made) => made.as_slice() == wanted,
+        Err(_) => false,
+    }
+}
+
 #[test]
 fn prints_in_reverse(rt: HostRuntime) -> Result<(), AllocError> {
-    let choices = choices(rt.alloc())?;
+    let choices = choices(rt.alloc(), &PRINTS_REVERSED)?;
     let code = code_of(&rt, rt.alloc(), PRINTS);
     assert!(rt; is_played_in_order(rt.alloc(), &code, choices.as_slice()));
+    assert!(rt; are_made(rt.alloc(), &code, choices.as_slice(), &[3, 2, 1]));
+    Ok(())
+}
+
+#[test]
+fn turns_in_reverse(rt: HostRuntime) -> Result<(), AllocError> {
+    let choices = choices(rt.alloc(), &TURNS_REVERSED)?;
+    let code = code_of(&rt, rt.alloc(), LIST);
+    assert!(rt; are_made(rt.alloc(), &code, choices.as_slice(), &[4, 3, 2, 1, 0]));
     Ok(())
 }

@@ -6,7 +6,7 @@
 //!
 //! | Module | Tests |
 //! |---|---|
-//! | `calls` | texts of certificates in memory, products of views, a run shown by its frames |
+//! | `calls` | texts of certificates in memory, products of views, runs shown by frames and by the order of events |
 //! | `settled`, `chance` | each program of `examples/` by 200 pseudo-random schedules |
 //! | `refused` | runs that may be out of memory at any allocation |
 //!
