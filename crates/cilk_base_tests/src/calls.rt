@@ -155,17 +155,24 @@ fn is_played_in_order(alloc: Global, code: &Code, choices: &[Choice]) -> bool {
     }
 }
 
+fn number_of(event: Event) -> Option<i64> {
+    match event {
+        Event::Update { value, .. } | Event::Print { value } => Some(value),
+        _ => None,
+    }
+}
+
 // The numbers that are printed or put into a reducer, in the order in which these choices do it.
 fn numbers(alloc: Global, code: &Code, choices: &[Choice]) -> Result<Vec<i64>, Stop> {
     let input = no_input(alloc);
     let mut machine = Machine::new(alloc, code, &input, 5)?;
     let mut numbers = Vec::new(alloc);
     'choices: for choice in choices {
-        if let Told::Did(act) = machine.choose(alloc, *choice)? {
-            match act.event {
-                Event::Update { value, .. } | Event::Print { value } => numbers.push(value)?,
-                _ => {}
-            }
+        if let Told::Did(act) = machine.choose(alloc, *choice)?
+            && let Some(number) = number_of(act.event)
+            && numbers.push(number).is_err()
+        {
+            return Err(Stop::Memory);
         }
     }
     Ok(numbers)
