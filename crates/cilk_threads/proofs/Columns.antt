@@ -1,28 +1,104 @@
--- The blocks of a plan, in an event order along it: `blocks_along`.
-use Rattle.std.proofs.Common.{◌≡◌, inr, ℕ, zero, suc, ◌<◌, List, [], ◌∷◌, Some, slice_get, slice_index_or, ap, arith}
-use Rattle.std.proofs.lemmas.Option.{slice_get_within}
+-- The columns of a plan are those of each event order along it: `columns_along`.
+use Rattle.std.proofs.Common.{◌≡◌, ℕ, ◌+◌, List, inl, inr, sym, ap, ◌∙◌}
+use Rattle.cilk_shared.proofs.Along.{frames_along}
 use Rattle.cilk_tree.specs.Along.{IsAlong}
+use Rattle.cilk_tree.specs.Blocks.{EndsBlockOf}
+use Rattle.cilk_tree.specs.Columns.{AreBlockEnds, AreBlocks, AreStrands, BlocksEnd, IsOfBlock, IsSpawnOf}
 use Rattle.cilk_tree.specs.declared.event_order.EventOrder.{EventOrder}
 use Rattle.cilk_tree.specs.Orders.{IsOrderly}
-use Rattle.cilk_tree.proofs.AlongPlans.{same_resume}
-use Rattle.cilk_tree.specs.Columns.{AreBlockEnds, AreBlocks, no_block}
+use Rattle.cilk_tree.specs.Word.{spawn, word_step}
+use Rattle.cilk_tree.proofs.AlongPlans.{along_orderly, many, same_resume}
 use Rattle.cilk_plan.specs.Continuations.{SpawnsHaveContinuations}
-use Rattle.cilk_workers.specs.Shared.{HaveBlocks}
+use Rattle.cilk_workers.specs.Shared.{AreColumns}
+use Rattle.cilk_threads.proofs.Placed.{sync_along}
+use Rattle.cilk_threads.proofs.Strands.{strands_along}
 
-known : (xs : List ℕ) (p d b : ℕ) → slice_index_or xs p d ≡ b → b < d → slice_get xs p ≡ Some b
-known [] zero d b is lt = absurd (omega (arith, is, lt))
-known [] (suc p) d b is lt = absurd (omega (arith, is, lt))
-known (x ∷ xs) zero d b is lt = ap Some is
-known (x ∷ xs) (suc p) d b is lt = known xs p d b is lt
+back : (plan s : EventOrder) → IsAlong plan s → IsAlong s plan
+back plan s along = record {
+  kinds = sym along.kinds;
+  preceding = sym along.preceding;
+  opening = sym along.opening;
+}
 
-pub blocks_along : (plan s : EventOrder) → IsAlong plan s → IsOrderly plan → SpawnsHaveContinuations plan → (syncs blocks : List ℕ) → AreBlockEnds plan syncs → AreBlocks plan syncs blocks → HaveBlocks s syncs blocks
-blocks_along plan s along order have syncs blocks ends are p k is =
-    let there = (same_resume plan s along p k).0 is in
-    let spawned = (order.resumed p k there).0 in
-    let h = have k spawned in
-    let c = h.continuation in
-    let ended = h.is.ends in
-    let b = (ends.all c.sync).0 (k, record { spawns = spawned; ends = ended }) in
-    let within = slice_get_within syncs b.0 c.sync b.1 in
-    let few = are.few in
-    (b.0, known blocks p no_block b.0 ((are.exact p b.0 c.sync b.1).1 (inr (k, there, ended))) (omega (arith, within, few)), within)
+-- ---- from one of two orders along each other to the other
+block_ends : (plan s : EventOrder) → IsAlong plan s → (k q : ℕ) → EndsBlockOf plan.events k q → EndsBlockOf s.events k q
+block_ends plan s along k q h =
+    let next = h.2 in
+    let at = next.syncs in (
+      h.0,
+      frames_along plan s along k h.0 h.1,
+      record {
+        later = next.later;
+        syncs = (sync_along s.events plan.events along.kinds q at.0, frames_along plan s along q h.0 at.1);
+        first = λ p low less is. next.first p low less (
+          sync_along plan.events s.events (sym along.kinds) p is.0,
+          frames_along s plan (back plan s along) p h.0 is.1,
+        );
+      },
+    )
+
+spawns : (plan s : EventOrder) → IsAlong plan s → IsOrderly plan → IsOrderly s → (k : ℕ) → word_step plan k ≡ spawn → word_step s k ≡ spawn
+spawns plan s along order order' k is =
+    let next = order.returns k is in
+    (order'.resumed next.0 k ((same_resume plan s along next.0 k).1 next.1)).0
+
+spawn_of : (plan s : EventOrder) → IsAlong plan s → IsOrderly plan → IsOrderly s → (q k : ℕ) → IsSpawnOf plan q k → IsSpawnOf s q k
+spawn_of plan s along order order' q k h = record {
+  spawns = spawns plan s along order order' k h.spawns;
+  ends = block_ends plan s along k q h.ends;
+}
+
+of_block : (plan s : EventOrder) → IsAlong plan s → (q p : ℕ) → IsOfBlock plan q p → IsOfBlock s q p
+of_block plan s along q p (inl same) = inl same
+of_block plan s along q p (inr (k, is, ends)) = inr (k, (same_resume plan s along p k).1 is, block_ends plan s along k q ends)
+
+-- ---- the columns
+module _ (plan s : EventOrder) (along : IsAlong plan s) (order : IsOrderly plan) where
+  orderly : IsOrderly s
+  orderly = along_orderly plan s order along
+
+  forth : (q k : ℕ) → IsSpawnOf plan q k → IsSpawnOf s q k
+  forth q k h = spawn_of plan s along order orderly q k h
+
+  hence : (q k : ℕ) → IsSpawnOf s q k → IsSpawnOf plan q k
+  hence q k h = spawn_of s plan (back plan s along) orderly order q k h
+
+  ends_along : (syncs : List ℕ) → AreBlockEnds plan syncs → AreBlockEnds s syncs
+  ends_along syncs are = record {
+    all = λ q. (
+      λ h. (are.all q).0 (h.0, hence q h.0 h.1),
+      λ h. (let spawned = (are.all q).1 h in (spawned.0, forth q spawned.0 spawned.1)),
+    );
+    once = are.once;
+    order = λ b b' q q' k' less is is' h. (
+        let earlier = are.order b b' q q' k' less is is' (hence q' k' h) in
+        (earlier.0, earlier.1, forth q earlier.0 earlier.2)
+        );
+  }
+
+  blocks_along : (syncs blocks : List ℕ) → AreBlocks plan syncs blocks → AreBlocks s syncs blocks
+  blocks_along syncs blocks are = record {
+    exact = λ p b q is. (
+        let h = are.exact p b q is in
+        (λ e. of_block plan s along q p (h.0 e), λ of. h.1 (of_block s plan (back plan s along) q p of))
+        );
+    others = are.others;
+    few = are.few;
+    places = are.places ∙ ap (λ (n : ℕ). n + 1) (sym (many plan s along));
+  }
+
+  all_end : SpawnsHaveContinuations plan → BlocksEnd s
+  all_end have k is =
+      let h = have k (spawns s plan (back plan s along) orderly order k is) in
+      let c = h.continuation in
+      let continues = h.is in
+      (c.sync, block_ends plan s along k c.sync continues.ends)
+
+  pub columns_along : SpawnsHaveContinuations plan → (syncs blocks strands : List ℕ) → AreBlockEnds plan syncs → AreBlocks plan syncs blocks → AreStrands plan.events strands
+      → AreColumns s syncs blocks strands
+  columns_along have syncs blocks strands ends are begin = (
+    ends_along syncs ends,
+    blocks_along syncs blocks are,
+    strands_along plan.events s.events (sym along.kinds) strands begin,
+    all_end have,
+  )

@@ -1,5 +1,5 @@
--- Events of the same kinds begin the same strands: `firsts_along`.
-use Rattle.std.proofs.Common.{◌≡◌, ℕ, zero, suc, ◌+◌, List, [], ◌∷◌, map, length, slice_index_or, refl, sym, ap, ap₂, ◌∙◌, arith}
+-- Events of the same kinds begin the same strands: `strands_along`.
+use Rattle.std.proofs.Common.{◌≡◌, ℕ, zero, suc, ◌+◌, List, [], ◌∷◌, map, length, refl, sym, ap, ap₂, ◌∙◌, arith}
 use Rattle.std.proofs.lemmas.List.{length-map}
 use Rattle.cilk_types.specs.declared.event.Event.{Event}
 use Rattle.cilk_types.specs.declared.event.Event.TheVariants as events
@@ -8,9 +8,8 @@ use Rattle.cilk_tree.specs.Marks.{mark_of, begun_by}
 use Rattle.cilk_tree.specs.declared.kind.Kind.{Kind}
 use Rattle.cilk_tree.specs.declared.kind.Kind.TheVariants as kinds
 use Rattle.cilk_tree.specs.Kinds.{kind_of}
-use Rattle.cilk_tree.specs.PlanStrands.{AreFirsts, BeginsStrand}
+use Rattle.cilk_tree.specs.PlanStrands.{BeginsStrand}
 use Rattle.cilk_tree.specs.Columns.{AreStrands}
-use Rattle.cilk_plan.proofs.Columns.{firsts_of}
 
 -- how many strands an event of this kind begins
 abbrev begun : Kind → ℕ
@@ -42,5 +41,7 @@ begins_along es fs same n p h = record {
   first = λ q low less e. h.first q low less (same_strand es fs same q ∙ e);
 }
 
-pub firsts_along : (es fs : List Event) → map kind_of es ≡ map kind_of fs → (strands : List ℕ) → AreStrands es strands → AreFirsts fs strands
-firsts_along es fs same strands h p some = begins_along es fs same (slice_index_or strands p 0) p (firsts_of es strands h p some)
+pub strands_along : (es fs : List Event) → map kind_of es ≡ map kind_of fs → (strands : List ℕ) → AreStrands es strands → AreStrands fs strands
+strands_along es fs same strands are p n some =
+    let h = are p n some in
+    (λ is. begins_along es fs same n p (h.0 is), λ begin. h.1 (begins_along fs es (sym same) n p begin))

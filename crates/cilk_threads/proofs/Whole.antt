@@ -1,16 +1,12 @@
--- The exit reason of a pool, for a program's plan: `syncs_along`, `whole_of`, `fault_of`. On its
--- own input it departs nowhere: `stays`.
+-- The exit reason of a pool, for a program's plan: `whole_of`, `fault_of`. On its own input it
+-- departs nowhere: `stays`.
 use Rattle.std.proofs.Common.{◌≡◌, ℕ, ℤ, List, reverse, sym, ap, ◌∙◌, subst}
-use Rattle.std.specs.Prelude.{All, Some}
 use Rattle.cilk_types.specs.declared.event.Event.{Event}
-use Rattle.cilk_types.specs.declared.event.Event.TheVariants.{Sync}
 use Rattle.cilk_program.specs.Sources.{source}
 use Rattle.cilk_program.specs.Syntax.{Source}
 use Rattle.cilk_tree.specs.declared.event_order.EventOrder.{EventOrder}
 use Rattle.cilk_tree.specs.Runs.{Departs, IsAsked}
-use Rattle.cilk_tree.specs.Word.{event}
 use Rattle.cilk_tree.specs.Before.{IsPosition}
-use Rattle.cilk_tree.specs.Along.{IsAlong}
 use Rattle.cilk_shared.specs.Values.{YardValue}
 use Rattle.cilk_shared.specs.Pieces.{PieceValue}
 use Rattle.cilk_shared.specs.declared.reducers.Reducers.{Reducers}
@@ -22,9 +18,7 @@ use Rattle.cilk_determinacy.specs.Nested.{named}
 use Rattle.cilk_replay.specs.InputCourses as courses
 use Rattle.cilk_replay.specs.Frames.{course_on}
 use Rattle.cilk_replay.specs.EventOrders.{OwnEventOrder, IsPlannedRun}
-use Rattle.cilk_tree.specs.Columns.{AreBlockEnds}
 use Rattle.cilk_plan.specs.Plans.{WholePlan, IsPlanOf, IsEventOrderOn}
-use Rattle.cilk_plan.proofs.Columns.{ends_are_syncs}
 use Rattle.cilk_plan.proofs.Telling.{own_is_the_plan}
 use Rattle.cilk_workers.specs.Shared.{SharedValue, shared_with}
 use Rattle.cilk_workers.specs.Turns.{HasEnded}
@@ -32,11 +26,6 @@ use Rattle.cilk_threads.specs.declared.run.ThreadFault.{ThreadFault}
 use Rattle.cilk_threads.specs.declared.run.ThreadFault.TheVariants as faults
 use Rattle.cilk_threads.specs.Faults.{IsTrueFault}
 use Rattle.cilk_threads.specs.Outcomes.{IsFaultOn, IsWholeOf, NamesNoPosition}
-use Rattle.cilk_threads.proofs.Placed.{sync_along}
-
--- a `sync` of the plan is one of each event order along it
-pub syncs_along : (plan s : EventOrder) → IsAlong plan s → (ats : List ℕ) → AreBlockEnds plan ats → All (λ at. event s at ≡ Some Sync) ats
-syncs_along plan s along ats h k d lt = sync_along s.events plan.events along.kinds _ (ends_are_syncs plan ats h k d lt)
 
 -- the whole run's piece is that of the yard's events
 pub whole_of : (y : YardValue) (r : Reducers) (c : ReplayValue) (p : Source) (own inputs : List ℤ) (s : SharedValue) (x : PieceValue) (v : ℤ)

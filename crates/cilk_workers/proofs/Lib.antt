@@ -1,5 +1,6 @@
 pub mod Begun
 pub mod BegunTurn
+pub mod BlocksAt
 pub mod Boxes
 pub mod Due
 pub mod Ending
@@ -7,7 +8,6 @@ pub mod Keys
 pub mod Merges
 pub mod Moves
 pub mod Numbered
-pub mod Numbers
 pub mod OfKind
 pub mod Planned
 pub mod RackKeys

@@ -1,6 +1,5 @@
 -- The view in contracts of the part of a run that its workers share.
-use Rattle.std.specs.Prelude.{◌≡◌, ◌≤◌, ◌<◌, ◌⊎◌, ℕ, List, length, All, Some, slice_get}
-use Rattle.cilk_types.specs.declared.event.Event.TheVariants.{Sync}
+use Rattle.std.specs.Prelude.{◌≡◌, ◌≤◌, ◌<◌, ◌⊎◌, ℕ, List, length, Some, slice_get}
 use Rattle.cilk_workers.specs.Rows.{RunValue, run_of}
 use Rattle.cilk_replay.specs.Replays.{ReplayValue}
 use Rattle.cilk_shared.specs.declared.reducers.Reducers.{Reducers}
@@ -11,8 +10,8 @@ use Rattle.cilk_tree.specs.declared.kind.Asked.TheVariants.{Next, Nothing}
 use Rattle.cilk_tree.specs.declared.kind.Kind.TheVariants as kinds
 use Rattle.cilk_shared.specs.Values.{YardValue}
 use Rattle.cilk_tree.specs.declared.event_order.EventOrder.{EventOrder}
-use Rattle.cilk_tree.specs.PlanStrands.{AreFirsts}
-use Rattle.cilk_tree.specs.Word.{event, resume, word_step}
+use Rattle.cilk_tree.specs.Columns.{AreBlockEnds, AreBlocks, AreStrands, BlocksEnd}
+use Rattle.cilk_tree.specs.Word.{event}
 
 -- a run of the program, and its replay
 pub record SharedValue : Type 0 where
@@ -30,18 +29,14 @@ event_order_in y = let r = y.run in r.event_order
 abbrev pub HasCells : EventOrder → Type 0
 HasCells s = (p c : ℕ) → (kind_of_event (event s p) ≡ Some (kinds.Read c)) ⊎ (kind_of_event (event s p) ≡ Some (kinds.Write c)) → c < length s.opening
 
--- the position has a block, one of those that end with these `sync`s
-abbrev pub HasBlock : List ℕ → List ℕ → ℕ → Type 0
-HasBlock syncs blocks p = (b : ℕ) × (slice_get blocks p ≡ Some b) × (b < length syncs)
-
--- the `resume` after each spawn has a block
-abbrev pub HaveBlocks : EventOrder → List ℕ → List ℕ → Type 0
-HaveBlocks s syncs blocks = (p k : ℕ) → word_step s p ≡ resume k → HasBlock syncs blocks p
-
--- the event at each of the first positions is a `sync`; a strand begins where the last list has its
--- number; and each `resume` after a spawn has its block
+-- the `sync` of each block, the block of each position and the strand that begins there, exactly;
+-- and the block of each spawn ends
 abbrev pub AreColumns : EventOrder → List ℕ → List ℕ → List ℕ → Type 0
-AreColumns s syncs blocks strands = All (λ at. event s at ≡ Some Sync) syncs × AreFirsts s.events strands × HaveBlocks s syncs blocks
+AreColumns s syncs blocks strands = AreBlockEnds s syncs × AreBlocks s syncs blocks × AreStrands s.events strands × BlocksEnd s
+
+-- the block that ends with the `sync` at q has the number b
+abbrev pub IsNumberOf : EventOrder → ℕ → ℕ → Type 0
+IsNumberOf s b q = (syncs : List ℕ) × AreBlockEnds s syncs × (slice_get syncs b ≡ Some q)
 
 -- the kind and the frame of the event at a position
 abbrev pub IsNext : EventOrder → ℕ → Asked → Type 0

@@ -1,6 +1,6 @@
 //! The part of a run that its workers share.
 
-ghost use Rattle.std.specs.Prelude.{◌≡◌, ◌↔◌, ◌<◌, ℕ, Some, length, IfSome, IsSome, IsTrue};
+ghost use Rattle.std.specs.Prelude.{◌≡◌, ◌↔◌, ◌≤◌, ℕ, Some, length, IfSome, IsSome, IsTrue};
 ghost use Rattle.cilk_types.specs.declared.event.Event.TheVariants.{Sync};
 ghost use Rattle.cilk_workers.specs.Rows.{yard_of};
 ghost use Rattle.cilk_replay.specs.Replays.{IsReplay};
@@ -8,11 +8,12 @@ ghost use Rattle.cilk_determinacy.specs.Words.{InputsAreWords};
 ghost use Rattle.cilk_shared.specs.Numbers.{HasNumbers};
 ghost use Rattle.cilk_shared.specs.Reducers.{HasFew};
 ghost use Rattle.cilk_tree.specs.Along.{IsAlong};
+ghost use Rattle.cilk_tree.specs.Columns.{IsOfBlock, IsSpawnOf};
 ghost use Rattle.cilk_tree.specs.Orders.{IsOrderly};
 ghost use Rattle.cilk_tree.specs.Values.{HasValues};
 ghost use Rattle.cilk_tree.specs.PlanStrands.{BeginsStrand};
 ghost use Rattle.cilk_tree.specs.Word.{event, resume, word_step};
-ghost use Rattle.cilk_workers.specs.Shared.{AreColumns, HasCells, IsNext, shared_with, event_order_in};
+ghost use Rattle.cilk_workers.specs.Shared.{AreColumns, HasCells, IsNext, IsNumberOf, shared_with, event_order_in};
 
 use crate::columns::{Block, Columns, block_in, strand_in, sync_in};
 use cilk_determinacy::words::inputs_are_words;
@@ -159,11 +160,16 @@ impl<'a> Shared<'a> {
         self.columns.syncs.len()
     }
 
-    /// Returns the block of a position, if it has one, as the `resume` after a spawn has.
+    /// Returns the block of a position, if it has one: the `resume` after a spawn has one, and the
+    /// `sync` that ends a block with spawns.
     pub fn block_at(&self, at: Pos) -> Option<Block>
-        ensures block { IfSome result (λ b. event (event_order_in self.now) b.sync ≡ Some Sync) }
+        ensures block { IfSome result (λ b. IsOfBlock (event_order_in self.now) b.sync at) }
+        ensures number { IfSome result (λ b. IsNumberOf (event_order_in self.now) b.number b.sync) }
+        ensures sync { IfSome result (λ b. event (event_order_in self.now) b.sync ≡ Some Sync) }
         ensures resumed { (k : ℕ) → word_step (event_order_in self.now) at ≡ resume k → IsSome result }
+        ensures ends { (k : ℕ) → IsSpawnOf (event_order_in self.now) at k → IsSome result }
     {
+        self.yard.laws();
         let syncs = self.columns.syncs;
         let number = block_in(self.columns.blocks, at, syncs.len())?;
         let sync = sync_in(syncs, number);
@@ -172,7 +178,7 @@ impl<'a> Shared<'a> {
 
     /// Returns the strand that begins at a position, or 0.
     pub fn strand_at(&self, at: Pos) -> StrandNo
-        ensures { 0 < result → (let s = event_order_in self.now in BeginsStrand s.events result at) }
+        ensures { (n : ℕ) → 1 ≤ n → (result ≡ n) ↔ (let s = event_order_in self.now in BeginsStrand s.events n at) }
     {
         strand_in(self.columns.strands, at)
     }

@@ -7,9 +7,7 @@ use Rattle.cilk_shared.specs.Settled.{AreSettled}
 use Rattle.cilk_workers.specs.Rows.{OfRun, run_of}
 use Rattle.cilk_workers.specs.Shared.{SharedValue}
 use Rattle.cilk_threads.proofs.Cells.{cells_along}
-use Rattle.cilk_threads.proofs.Columns.{blocks_along}
-use Rattle.cilk_threads.proofs.Strands.{firsts_along}
-use Rattle.cilk_threads.proofs.Whole.{syncs_along}
+use Rattle.cilk_threads.proofs.Columns.{columns_along}
 use Rattle.cilk_worker_tests.proofs.works.tried_on.Goals as goal
 
 pub new-shared-requires-clause-along : goal.new-shared-requires-clause-along
@@ -47,8 +45,5 @@ pub new-shared-requires-clause-columns : goal.new-shared-requires-clause-columns
 new-shared-requires-clause-columns g c =
     let plan = c.args.plan.now.event_order in
     let s = c.args.start.yard.now.event_order in
-    let along = c.requires.along in (
-      syncs_along plan s along c.syncs.result.now c.syncs.ensures,
-      firsts_along plan.events s.events (sym along.kinds) c.strands.result.now c.strands.ensures,
-      blocks_along plan s along c.laws.ensures.order c.laws.ensures.continuations c.syncs.result.now c.blocks-blocks.result.now c.syncs.ensures (c.blocks-blocks.ensures c.syncs.result.now c.syncs.ensures),
-    )
+    columns_along plan s c.requires.along c.laws.ensures.order c.laws.ensures.continuations c.syncs.result.now c.blocks-blocks.result.now c.strands.result.now c.syncs.ensures
+    (c.blocks-blocks.ensures c.syncs.result.now c.syncs.ensures) c.strands.ensures
