@@ -100,7 +100,7 @@ pub fn new_locked<N: Naming, R: Wait>(
 }
 
 /// Waits forever.
-pub fn never<R: Wait>(rt: &R)
+pub(crate) fn never<R: Wait>(rt: &R)
     ensures { false ≡ true }
 {
     let rest = Backoff::new();
