@@ -6,8 +6,9 @@ ghost use Rattle.cilk_workers.specs.Rows.{IsGood};
 ghost use Rattle.cilk_workers.specs.Shelves.{HasRoom, IsSameShelf, LiesOn};
 ghost use Rattle.cilk_replay.specs.Chains.{standing};
 ghost use Rattle.cilk_workers.specs.Locks.{IsShelf};
-ghost use Rattle.cilk_tree.specs.Word.{event};
-ghost use Rattle.cilk_workers.specs.Shared.{event_order_in};
+ghost use Rattle.cilk_tree.specs.Columns.{IsOfBlock};
+ghost use Rattle.cilk_tree.specs.Word.{event, resume, word_step};
+ghost use Rattle.cilk_workers.specs.Shared.{IsNumberOf, event_order_in};
 ghost use Rattle.cilk_workers.specs.Activities.{IsMet};
 ghost use Rattle.cilk_workers.specs.Keys.{AreKeys, IsFree};
 ghost use Rattle.cilk_workers.specs.WorkerContexts.{IsWorkerContext};
@@ -110,6 +111,7 @@ impl<'a, 'b, N: Naming, R: Wait, G: Gate> WorkerContext<'a, 'b, N, R, G> {
         requires context { IsWorkerContext N.run N.replay N.taken self.now }
         requires shelf { IsShelf N.run N.replay shelf.old }
         requires sync { event (event_order_in self.now.shared.now) sync ≡ Some Sync }
+        requires resumes { word_step (event_order_in self.now.shared.now) goes_on ≡ resume child }
         ensures { IsSameShelf shelf.old shelf.new }
     {
         let Ok(mut found) = self.taken_from(shelf, sync) else {
@@ -153,6 +155,7 @@ impl<'a, 'b, N: Naming, R: Wait, G: Gate> WorkerContext<'a, 'b, N, R, G> {
         requires context { IsWorkerContext N.run N.replay N.taken self.now }
         requires key { IsFree shelf_lock.now key.old }
         requires sync { event (event_order_in self.now.shared.now) sync ≡ Some Sync }
+        requires resumes { word_step (event_order_in self.now.shared.now) goes_on ≡ resume child }
         ensures { IsFree shelf_lock.now key.new }
     {
         let mut shelf = lock(self.rt, shelf_lock, key);
@@ -165,6 +168,8 @@ impl<'a, 'b, N: Naming, R: Wait, G: Gate> WorkerContext<'a, 'b, N, R, G> {
     pub fn arrive(&self, keys: &mut Vec<Key>, block: Block, arrival: Arrival) -> Met
         requires context { IsWorkerContext N.run N.replay N.taken self.now }
         requires keys { AreKeys self.now.locks.now.items keys.old.items }
+        requires number { IsNumberOf (event_order_in self.now.shared.now) block.number block.sync }
+        requires block { IsOfBlock (event_order_in self.now.shared.now) block.sync arrival.piece.upto }
         requires sync { event (event_order_in self.now.shared.now) block.sync ≡ Some Sync }
         requires good { IsGood self.now.shared.now.run arrival.piece }
         requires chain { IfSome arrival.chain (λ c. c ≡ standing self.now.shared.now.replay arrival.piece.upto) }
@@ -183,7 +188,10 @@ impl<'a, 'b, N: Naming, R: Wait, G: Gate> WorkerContext<'a, 'b, N, R, G> {
     pub fn record_steal(&self, keys: &mut Vec<Key>, block: Block, child: Pos, goes_on: Pos) -> bool
         requires context { IsWorkerContext N.run N.replay N.taken self.now }
         requires keys { AreKeys self.now.locks.now.items keys.old.items }
+        requires number { IsNumberOf (event_order_in self.now.shared.now) block.number block.sync }
+        requires block { IsOfBlock (event_order_in self.now.shared.now) block.sync goes_on }
         requires sync { event (event_order_in self.now.shared.now) block.sync ≡ Some Sync }
+        requires resumes { word_step (event_order_in self.now.shared.now) goes_on ≡ resume child }
         ensures { AreKeys self.now.locks.now.items keys.new.items }
     {
         let locks = self.locks;
