@@ -1,3 +1,4 @@
+pub mod Arrivals
 pub mod Begun
 pub mod BegunTurn
 pub mod BlocksAt

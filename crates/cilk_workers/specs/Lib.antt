@@ -1,4 +1,5 @@
 pub mod Answers
+pub mod Arrivals
 pub mod Asks
 pub mod BegunTurn
 pub mod Boxes

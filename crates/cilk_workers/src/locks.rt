@@ -1,15 +1,16 @@
 //! Steals and arrivals at the join boxes, each under the lock of its shelf.
 
-ghost use Rattle.std.specs.Prelude.{◌≡◌, ◌<◌, ◌≤◌, Some, IfOk, IfSome, OnOk};
+ghost use Rattle.std.specs.Prelude.{◌≡◌, ◌<◌, ◌≤◌, Some, IfOk, IfSome, IsTrue, OnOk};
 ghost use Rattle.cilk_types.specs.declared.event.Event.TheVariants.{Sync};
 ghost use Rattle.cilk_workers.specs.Rows.{IsGood};
-ghost use Rattle.cilk_workers.specs.Shelves.{HasRoom, IsSameShelf, LiesOn};
+ghost use Rattle.cilk_workers.specs.Shelves.{HasRoom, IsSameShelf, LiesOn, TakesOff};
 ghost use Rattle.cilk_replay.specs.Chains.{standing};
 ghost use Rattle.cilk_workers.specs.Locks.{IsShelf};
 ghost use Rattle.cilk_tree.specs.Columns.{IsOfBlock};
 ghost use Rattle.cilk_tree.specs.Word.{event, resume, word_step};
 ghost use Rattle.cilk_workers.specs.Shared.{IsNumberOf, event_order_in};
 ghost use Rattle.cilk_workers.specs.Activities.{IsMet};
+ghost use Rattle.cilk_workers.specs.Arrivals.{AnswersBy, HasArrived, Records};
 ghost use Rattle.cilk_workers.specs.Keys.{AreKeys, IsFree};
 ghost use Rattle.cilk_workers.specs.WorkerContexts.{IsWorkerContext};
 
@@ -62,6 +63,7 @@ impl<'a, 'b, N: Naming, R: Wait, G: Gate> WorkerContext<'a, 'b, N, R, G> {
         requires good { IsGood self.now.shared.now.run arrival.piece }
         requires chain { IfSome arrival.chain (λ c. c ≡ standing self.now.shared.now.replay arrival.piece.upto) }
         ensures met { IsMet self.now.shared.now result }
+        ensures answers { AnswersBy found.old arrival result found.new }
         ensures same { (found.new.rows.of ≡ found.old.rows.of) × (found.new.replay ≡ found.old.replay) × (found.new.sync ≡ found.old.sync) }
     {
         let Arrival { by, piece, chain } = arrival;
@@ -82,6 +84,7 @@ impl<'a, 'b, N: Naming, R: Wait, G: Gate> WorkerContext<'a, 'b, N, R, G> {
         requires sync { event (event_order_in self.now.shared.now) sync ≡ Some Sync }
         ensures shelf { IsSameShelf shelf.old shelf.new }
         ensures of { IfOk result (λ b. LiesOn shelf.old.of shelf.old.replay b) }
+        ensures taken { IfOk result (λ b. TakesOff shelf.old sync b shelf.new) }
         ensures room { OnOk result (HasRoom shelf.new) }
         ensures run { IfOk result (λ b. (b.rows.of ≡ self.now.shared.now.run) × (b.replay ≡ self.now.shared.now.replay)) }
     {
@@ -96,6 +99,7 @@ impl<'a, 'b, N: Naming, R: Wait, G: Gate> WorkerContext<'a, 'b, N, R, G> {
         requires good { IsGood self.now.shared.now.run arrival.piece }
         requires chain { IfSome arrival.chain (λ c. c ≡ standing self.now.shared.now.replay arrival.piece.upto) }
         ensures shelf { IsSameShelf shelf.old shelf.new }
+        ensures arrived { HasArrived shelf.old sync arrival result shelf.new }
         ensures met { IsMet self.now.shared.now result }
     {
         let Ok(mut found) = self.taken_from(shelf, sync) else {
@@ -112,7 +116,8 @@ impl<'a, 'b, N: Naming, R: Wait, G: Gate> WorkerContext<'a, 'b, N, R, G> {
         requires shelf { IsShelf N.run N.replay shelf.old }
         requires sync { event (event_order_in self.now.shared.now) sync ≡ Some Sync }
         requires resumes { word_step (event_order_in self.now.shared.now) goes_on ≡ resume child }
-        ensures { IsSameShelf shelf.old shelf.new }
+        ensures shelf { IsSameShelf shelf.old shelf.new }
+        ensures recorded { IsTrue result → Records shelf.old sync child goes_on shelf.new }
     {
         let Ok(mut found) = self.taken_from(shelf, sync) else {
             return false;

@@ -1,0 +1,30 @@
+-- A box that is taken off its shelf, changed, and put back: `arrives`; `records`, where that
+-- succeeds.
+use Rattle.std.proofs.Common.{◌≡◌, ℕ, Bool, true, false, sym, ◌∙◌, subst}
+use Rattle.std.specs.Prelude.{IsTrue, OnOk, Result, Ok, Err}
+use Rattle.std.specs.Result.{is_ok}
+use Rattle.cilk_workers.specs.Boxes.{BoxValue, stolen_at}
+use Rattle.cilk_workers.specs.Shelves.{PutsBack, ShelfValue, TakesOff}
+use Rattle.cilk_workers.specs.Arrivals.{AnswersBy, HasArrived, Records}
+use Rattle.cilk_workers.specs.declared.locks.Arrival.{Arrival}
+use Rattle.cilk_workers.specs.declared.locks.Met.{Met}
+use Rattle.cilk_workers.specs.declared.locks.Met.TheVariants as mets
+
+pub arrives : (s rest new : ShelfValue) (sync : ℕ) (a : Arrival) (found after : BoxValue) (met : Met) → TakesOff s sync found rest → AnswersBy found a met after → PutsBack rest after new
+    → HasArrived s sync a met new
+arrives s rest new sync a found after (mets.Passes w) off answers back = record { found = found; rest = rest; after = after; off = off; answers = answers; back = back }
+arrives s rest new sync a found after mets.Waits off answers back = record { found = found; rest = rest; after = after; off = off; answers = answers; back = back }
+arrives s rest new sync a found after mets.Stopped off answers back = tt
+
+if_ok : {T E : Type 0} (P : Type 0) (r : Result T E) (told : Bool) → told ≡ is_ok r → IsTrue told → OnOk r P → P
+if_ok P (Ok x) told is so h = h
+if_ok P (Err e) told is so h = absurd (let both : false ≡ true = sym is ∙ so in cc both)
+
+pub records : {T E : Type 0} (s rest new : ShelfValue) (sync k goes_on : ℕ) (found after : BoxValue) (r : Result T E) (told : Bool) → TakesOff s sync found rest
+    → OnOk r (after ≡ stolen_at found k goes_on) → told ≡ is_ok r → PutsBack rest after new → IsTrue told → Records s sync k goes_on new
+records s rest new sync k goes_on found after r told off stolen is back so = record {
+  found = found;
+  rest = rest;
+  off = off;
+  back = subst (λ (b : BoxValue). PutsBack rest b new) (if_ok (after ≡ stolen_at found k goes_on) r told is so stolen) back;
+}

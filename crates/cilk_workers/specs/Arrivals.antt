@@ -1,0 +1,37 @@
+-- Steals and arrivals at the boxes of a shelf.
+use Rattle.std.specs.Prelude.{◌≡◌, ℕ}
+use Rattle.cilk_workers.specs.Answers.{Answers}
+use Rattle.cilk_workers.specs.Boxes.{BoxValue, arrived_at, is_some, stolen_at}
+use Rattle.cilk_workers.specs.Shelves.{PutsBack, ShelfValue, TakesOff}
+use Rattle.cilk_workers.specs.declared.join.Boxed.TheVariants as boxes
+use Rattle.cilk_workers.specs.declared.locks.Arrival.{Arrival}
+use Rattle.cilk_workers.specs.declared.locks.Met.{Met}
+use Rattle.cilk_workers.specs.declared.locks.Met.TheVariants as mets
+
+-- In the box of the block, and in no other, it is recorded that the continuation of the spawn at k,
+-- which continues at a, is stolen.
+pub record Records (s : ShelfValue) (sync k a : ℕ) (new : ShelfValue) : Type 0 where
+  pub found : BoxValue
+  pub rest : ShelfValue
+  pub off : TakesOff s sync found rest
+  pub back : PutsBack rest (stolen_at found k a) new
+
+-- the outcome is the box's answer to the arrival; nothing changes if memory runs out
+abbrev pub AnswersBy : BoxValue → Arrival → Met → BoxValue → Type 0
+AnswersBy j a (mets.Passes w) new = Answers (arrived_at j a.by a.piece (is_some a.chain)) (boxes.Passes w.piece w.chain) new
+AnswersBy j a mets.Waits new = Answers (arrived_at j a.by a.piece (is_some a.chain)) boxes.Waits new
+AnswersBy j a mets.Stopped new = new ≡ j
+
+-- the arrival is in the box of the block, and in no other
+pub record Arrives (s : ShelfValue) (sync : ℕ) (a : Arrival) (met : Met) (new : ShelfValue) : Type 0 where
+  pub found : BoxValue
+  pub rest : ShelfValue
+  pub after : BoxValue
+  pub off : TakesOff s sync found rest
+  pub answers : AnswersBy found a met after
+  pub back : PutsBack rest after new
+
+-- The piece has arrived, unless memory ran out.
+abbrev pub HasArrived : ShelfValue → ℕ → Arrival → Met → ShelfValue → Type 0
+HasArrived s sync a mets.Stopped new = Unit {0}
+HasArrived s sync a met new = Arrives s sync a met new
