@@ -2,26 +2,27 @@
 --
 -- - `begun_after`, `frames_after`, `InOrder`: events that begin frames in the order of their
 --   numbers; `order_at`, `after_append`, `after_grows`: at an event, and for the parts of a list;
+--   `none_after`: for events that begin no frame;
 -- - `cells_after`, `CellsFit`, `fits_at`: the cells of frames that begin one after the other;
 -- - `run_in_order`, `run_fits`: the same for a serial run.
-use Rattle.std.proofs.Common.{◌≡◌, nat_eq, nat_lt, Bool, true, false, if◌then◌else◌, ℕ, zero, suc, ◌+◌, ◌≤◌, ℤ, List, [], ◌∷◌, ◌++◌, length, take, Option, Some, None, slice_get, refl, sym, ap, ◌∙◌, subst, arith, length-append}
+use Rattle.std.proofs.Common.{◌≡◌, nat_eq, nat_lt, Bool, true, false, if◌then◌else◌, ℕ, zero, suc, ◌+◌, ◌≤◌, ℤ, List, [], ◌∷◌, ◌++◌, length, take, All, Option, Some, None, slice_get, refl, sym, ap, ◌∙◌, subst, arith, length-append}
 use Rattle.std.proofs.lemmas.Bool.{ltb-false}
+use Rattle.std.proofs.lemmas.List.Elements.{All-head, All-tail}
 use Rattle.cilk_types.specs.declared.event.Event.{Event}
 use Rattle.cilk_types.specs.declared.event.Event.TheVariants as events
 use Rattle.cilk_types.specs.declared.fault.Fault.TheVariants.{TooManyEvents, TooManyFrames, TooManyCells}
 use Rattle.cilk_types.specs.declared.invocation.Invocation.{Invocation}
 use Rattle.cilk_types.specs.declared.invocation.Invocation.TheVariants.{Call, Spawn}
 use Rattle.cilk_types.specs.declared.limits.TheConstants.{MAX_CELLS, MAX_FRAMES}
-use Rattle.cilk_program.specs.declared.ask.Ask.{Ask}
-use Rattle.cilk_program.specs.declared.ask.Ask.TheVariants as asks
 use Rattle.cilk_program.specs.declared.ask.Callee.{Callee}
 use Rattle.cilk_program.specs.declared.ask.Callee.TheVariants.{Root}
 use Rattle.cilk_program.specs.Outcomes.{Conclusion}
-use Rattle.cilk_program.specs.SerialRun.{Transcript, stop, act, child, Memory, Frame, event_of, invocation, result_written, cells_of, crowded, IsInner, Ending, Serial, Made, Ended, Went, Broke, Refused, IsSerialRun}
+use Rattle.cilk_program.specs.SerialRun.{Transcript, stop, act, child, Memory, Frame, event_of, invocation, cells_of, crowded, Ending, Serial, Made, Ended, Went, Broke, Refused, IsSerialRun}
 use Rattle.cilk_program.specs.Syntax.{Source}
 use Rattle.cilk_program.specs.Numbering.{Counts, counts_of, entered, counts_after}
 use Rattle.cilk_program.proofs.Numbers.{serial_counts}
-use Rattle.cilk_serial.specs.SoFar.{begun_in}
+use Rattle.cilk_serial.specs.SoFar.{BeginsNoFrame, begun_in}
+use Rattle.cilk_serial.proofs.Driving.{inner_begins_no_frame}
 
 -- how many frames have begun after an event, given how many had begun before it
 abbrev pub begun_after : ℕ → Event → ℕ
@@ -110,25 +111,18 @@ counted_cells p (child how callee u r) n =
     counted_cells p r (counts_after p u (entered p callee n))
     ∙ (ap (λ (k : ℕ). cells_after p k (begun_in r)) (counted_cells p u (entered p callee n)) ∙ sym (cells_append p (n.cells + cells_of p callee) (begun_in u) (begun_in r)))
 
-inner_begins_none : (k : ℕ) (fr : Frame) (m : Memory) (ask : Ask) → IsInner ask → IsNext k (event_of fr m ask) × (begun_after k (event_of fr m ask) ≡ k)
-inner_begins_none k fr m asks.Begin h = (tt, refl)
-inner_begins_none k fr m (asks.Read x) h = (tt, refl)
-inner_begins_none k fr m (asks.Write x v) h = (tt, refl)
-inner_begins_none k fr m (asks.Create r) h = (tt, refl)
-inner_begins_none k fr m (asks.Update r v) h = (tt, refl)
-inner_begins_none k fr m (asks.Set r v) h = (tt, refl)
-inner_begins_none k fr m (asks.Value r) h = (tt, refl)
-inner_begins_none k fr m (asks.Print v) h = (tt, refl)
-inner_begins_none k fr m (asks.Invoke how callee) h = absurd h
-inner_begins_none k fr m asks.Resume h = (tt, refl)
-inner_begins_none k fr m asks.Sync h = (tt, refl)
-inner_begins_none k fr m (asks.Result v) h = written fr.result
-  where
-    written : (o : Option ℕ) → IsNext k (result_written o v) × (begun_after k (result_written o v) ≡ k)
-    written None = (tt, refl)
-    written (Some c) = (tt, refl)
-inner_begins_none k fr m (asks.End v) h = absurd h
-inner_begins_none k fr m (asks.Fault f) h = absurd h
+-- no frame begins with these events
+
+none_next : (k : ℕ) (e : Event) → BeginsNoFrame e → IsNext k e × (begun_after k e ≡ k)
+none_next k (events.Spawn n) h = absurd h
+none_next k (events.Call n) h = absurd h
+none_next k e h = (tt, refl)
+
+pub none_after : (k : ℕ) (es : List Event) → All BeginsNoFrame es → frames_after k es ≡ k
+none_after k [] h = refl
+none_after k (e ∷ es) h =
+    let here = none_next k e (All-head BeginsNoFrame e es h) in
+    ap (λ (j : ℕ). frames_after j es) here.1 ∙ none_after k es (All-tail BeginsNoFrame e es h)
 
 -- the events begin these frames, in the order of their numbers, after the first n
 pub record Begins (k : ℕ) (es : List Event) (cs : List Callee) : Type 0 where
@@ -166,7 +160,7 @@ both k j xs ys cs ds at a b =
 
 pub serial_begins : {p : Source} {inputs : List ℤ} {fr : Frame} {start : ℕ} {history : List ℤ} {m : Memory} {r : Transcript} {es : List Event} {end : Ending} → Serial p inputs fr start history m r es end
     → Begins m.frames es (begun_in r)
-serial_begins (Made {fr = fr} {m = m} {r = r} {es = es} k left q inner ok rest) = with_one m.frames (event_of fr m k) es (begun_in r) (inner_begins_none m.frames fr m k inner) (serial_begins rest)
+serial_begins (Made {fr = fr} {m = m} {r = r} {es = es} k left q inner ok rest) = with_one m.frames (event_of fr m k) es (begun_in r) (none_next m.frames (event_of fr m k) (inner_begins_no_frame fr m k inner)) (serial_begins rest)
 serial_begins (Ended v left q ok) = record { order = (tt, tt); all = omega arith }
 serial_begins {p = p} (Went {m = m} {u = u} {r = r} {es = es} {es' = es'} how callee left v left' m' q ok inner rest) =
     let after : m'.frames ≡ suc m.frames + length (begun_in u) = ap (λ (n : Counts). n.frames) (serial_counts inner) ∙ counted_frames p u (entered p callee (counts_of m)) in

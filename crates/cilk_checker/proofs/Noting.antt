@@ -3,9 +3,10 @@
 -- - `NotedSoFar`: the frames that the first events begin, and the count of cells; `noted_first`,
 --   `noted_all`: for no events and for all events;
 -- - `room`, `noted_some`, `noted_none`: one more event, which begins a frame or none;
--- - `noted_start`, `own_there`, `none_there`, `made_by`, `smaller`, `small_room`, `noted_more`,
---   `noted_same`, `noted_whole`: the same in the form that the loop over the run's events needs.
-use Rattle.std.proofs.Common.{◌≡◌, ℕ, zero, suc, ◌+◌, ◌-◌, ◌<◌, ◌≤◌, ℤ, List, [], ◌∷◌, ◌++◌, length, take, Option, Some, None, slice_get, option_map, refl, sym, ap, ◌∙◌, subst, arith, length-append}
+-- - `noted_start`, `own_there`, `none_there`, `made_by`, `small_room`, `noted_more`, `noted_same`,
+--   `noted_whole`: the same in the form that the loop over the run's events needs;
+-- - `Noted`, `noted_on`, `smaller`: the loop's invariant, and further events that begin no frame.
+use Rattle.std.proofs.Common.{◌≡◌, ℕ, zero, suc, ◌+◌, ◌-◌, ◌<◌, ◌≤◌, ℤ, List, [], ◌∷◌, ◌++◌, length, take, All, Option, Some, None, slice_get, option_map, refl, sym, ap, ◌∙◌, subst, arith, append_assoc, length-append}
 use Rattle.std.proofs.lemmas.List.{take_all}
 use Rattle.cilk_lower.specs.Layout.{LaysOut, cells_in}
 use Rattle.cilk_lower.specs.declared.layout.Layout.{Layout}
@@ -24,12 +25,12 @@ use Rattle.cilk_program.specs.Sources.{source}
 use Rattle.cilk_serial.specs.declared.serial_run.Next.{Next}
 use Rattle.cilk_serial.specs.declared.serial_run.Next.TheVariants as next
 use Rattle.cilk_serial.specs.Ran.{Ran}
-use Rattle.cilk_serial.specs.SoFar.{RunView, Comes, IsIntact, IsSoFar, EndsNext, MakesNext, BeginsNext, begun_in, callees_of, callee_at}
+use Rattle.cilk_serial.specs.SoFar.{RunView, RunsOn, Comes, IsIntact, IsSoFar, EndsNext, MakesNext, BeginsNext, BeginsNoFrame, begun_in, callees_of, callee_at}
 use Rattle.cilk_serial.proofs.SoFar.{is_short}
 use Rattle.cilk_checker.specs.declared.frames.Own.{Own}
 use Rattle.cilk_checker.specs.declared.frames.PlannedFrame.{PlannedFrame}
 use Rattle.cilk_checker.specs.Frames.{AreFramesIn, frame_begun, frames_from}
-use Rattle.cilk_checker.proofs.Beginning.{begun_after, frames_after, IsNext, order_at, after_append, after_grows, cells_after, cells_append, fits_at, run_in_order, run_fits}
+use Rattle.cilk_checker.proofs.Beginning.{begun_after, frames_after, IsNext, order_at, after_append, after_grows, none_after, cells_after, cells_append, fits_at, run_in_order, run_fits}
 
 -- the callees of the frames that these events begin, with the first frame
 abbrev pub begun_by : List Event → Transcript → List Callee
@@ -200,12 +201,40 @@ none_there f (Some d) found is none = absurd (let z : Some (f d) ≡ None = sym 
 pub made_by : (v v' : RunView) (n : Next) (e : Event) → n ≡ next.Made e → Comes v n v' → MakesNext v e v'
 made_by v v' n e is comes = subst (λ (m : Next). Comes v m v') is comes
 
-pub smaller : (v v' : RunView) (e : Event) → MakesNext v e v' → MAX_EVENTS - length v'.events < MAX_EVENTS - length v.events
-smaller v v' e makes =
+-- the run is that of this program on this input, and the frames begun so far are noted
+pub record Noted (prog : Program) (input : List ℤ) (v : RunView) (frames : List PlannedFrame) (cells : ℕ) : Type 0 where
+  pub program : v.program ≡ prog
+  pub inputs : v.inputs ≡ input
+  pub noted : NotedSoFar (source prog) input v.events frames cells
+
+-- further events, which begin no frame
+further : (p : Source) (inputs : List ℤ) (es more : List Event) → All BeginsNoFrame more → (frames : List PlannedFrame) (cells : ℕ) → NotedSoFar p inputs es frames cells → NotedSoFar p inputs (es ++ more) frames cells
+further p inputs es more none frames cells so_far = record {
+  noted = λ run rest c serial. so_far.noted run (more ++ rest) c (apart run rest c serial) ∙ ap (frames_from p (length p.openings)) (same run);
+  cells = λ run rest c serial. so_far.cells run (more ++ rest) c (apart run rest c serial) ∙ ap (cells_after p (length p.openings)) (same run);
+}
+  where
+    apart : (run : Transcript) (rest : List Event) (c : Conclusion) → IsSerialRun p inputs run ((es ++ more) ++ rest) c → IsSerialRun p inputs run (es ++ (more ++ rest)) c
+    apart run rest c serial = subst (λ (l : List Event). IsSerialRun p inputs run l c) (append_assoc es more rest) serial
+
+    same : (run : Transcript) → begun_by es run ≡ begun_by (es ++ more) run
+    same run = ap (λ (k : ℕ). take k (callees_of run)) (sym (after_append 1 es more ∙ none_after (frames_after 1 es) more none))
+
+pub noted_on : (prog : Program) (inputs : List ℤ) (v v' : RunView) (frames : List PlannedFrame) (cells : ℕ) → RunsOn v v' → Noted prog inputs v frames cells → Noted prog inputs v' frames cells
+noted_on prog inputs v v' frames cells on h = record {
+  program = on.program ∙ h.program;
+  inputs = on.inputs ∙ h.inputs;
+  noted = subst (λ (es : List Event). NotedSoFar (source prog) inputs es frames cells) (sym on.events) (further (source prog) inputs v.events on.more on.begins_none frames cells h.noted);
+}
+
+pub smaller : (v w v' : RunView) (e : Event) → RunsOn v w → MakesNext w e v' → MAX_EVENTS - length v'.events < MAX_EVENTS - length v.events
+smaller v w v' e on makes =
     let short = is_short _ _ _ makes.so_far in
+    let some = ap length on.events in
+    let first = length-append v.events on.more in
     let more = ap length makes.events in
-    let sum = length-append v.events (e ∷ []) in
-    omega (arith, short, more, sum)
+    let sum = length-append w.events (e ∷ []) in
+    omega (arith, short, some, first, more, sum)
 
 module _ (prog : Program) (inputs : List ℤ) (v v' : RunView) (e : Event) (makes : MakesNext v e v') (program : v.program ≡ prog) (of_inputs : v.inputs ≡ inputs) (intact : IsIntact v.stage)
     (callee : Option Callee) (begins : IsIntact v.stage → BeginsNext (source v.program) v.inputs v.events callee) (frames : List PlannedFrame) (cells : ℕ)

@@ -62,6 +62,7 @@ fn run_code(
         of_callee(program, layout, &Callee::Root),
     )?;
     'each: loop {
+        serial.run_on()?;
         let next = of_next(&serial, layout);
         match serial.next()? {
             Next::Made(_) => {

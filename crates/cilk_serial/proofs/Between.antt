@@ -1,5 +1,6 @@
 -- A run while its running frame is between two instructions.
 use Rattle.std.proofs.Common.{◌≡◌, ℕ, ◌+◌, ◌<◌, ◌≤◌, ℤ, List, [], ◌∷◌, ◌++◌, length, sym, ap, ◌∙◌, subst, arith, append_assoc, length-append}
+use Rattle.std.proofs.lemmas.List.Elements.{All-push}
 use Rattle.cilk_types.specs.declared.limits.TheConstants.{MAX_CELLS, MAX_EVENTS}
 use Rattle.cilk_program.specs.declared.ask.Ask.{Ask}
 use Rattle.cilk_program.specs.SerialRun.{IsInner, event_of}
@@ -12,13 +13,14 @@ use Rattle.cilk_frames.specs.Following.{Runs}
 use Rattle.cilk_frames.specs.Moving.{move_at, told}
 use Rattle.cilk_frames.proofs.Asking.{asking_fits}
 use Rattle.cilk_frames.proofs.Following.{Loop, loop_begins, loop_goes, loop_stops, loop_waits, stands_on}
-use Rattle.cilk_serial.specs.Going.{Going, IsAllowed, IsLater, run_of, with_cursor}
+use Rattle.cilk_serial.specs.Going.{AddsNoFrame, Going, IsAllowed, run_of, with_cursor}
 use Rattle.cilk_serial.specs.Scoped.{Frames, IsOnTop}
+use Rattle.cilk_serial.specs.SoFar.{BeginsNoFrame}
 use Rattle.cilk_serial.specs.States.{Answers, Tells}
 use Rattle.cilk_serial.specs.declared.answer.Told.TheVariants as tolds
 use Rattle.cilk_serial.specs.declared.running.Running.{Running}
 use Rattle.cilk_serial.specs.declared.state.State.{State}
-use Rattle.cilk_serial.proofs.Driving.{allowed, answers, cursor_moves, going_seen, inner_full, inner_has}
+use Rattle.cilk_serial.proofs.Driving.{allowed, answers, cursor_moves, going_seen, inner_begins_no_frame, inner_full, inner_has}
 use Rattle.cilk_serial.proofs.Homes.{on_top}
 
 -- The run before its last event, the answer to that event's request, and what the running frame has
@@ -102,10 +104,10 @@ few_cells code p inputs r g = let shows = g.shows in omega (arith, shows.cells, 
 pub record Stretch (code : CodeView) (p : Source) (inputs : List ℤ) (start state : State) (frames : Frames) (c : CursorView) (left : ℕ) : Type 0 where
   pub between : Between code p inputs state frames c left
   pub counted : length state.events.items ≤ MAX_EVENTS
-  pub later : IsLater start state
+  pub later : AddsNoFrame start state
 
 -- one more event, whose answer has come
-pub one_more_event : (code : CodeView) (p : Source) (inputs : List ℤ) (start : State) (r : Running) (state : State) (frames : Frames) (a : Answer) (c : CursorView) → IsLater start r.state → (g : Going code p inputs r) → Tells p g.frame r.state state r.ask (tolds.Goes a)
+pub one_more_event : (code : CodeView) (p : Source) (inputs : List ℤ) (start : State) (r : Running) (state : State) (frames : Frames) (a : Answer) (c : CursorView) → AddsNoFrame start r.state → (g : Going code p inputs r) → Tells p g.frame r.state state r.ask (tolds.Goes a)
     → c ≡ told r.frames.top.cursor a → with_cursor r.frames c ≡ with_cursor frames c → Stretch code p inputs start state frames c r.left × (length state.events.items ≡ length r.state.events.items + 1)
 one_more_event code p inputs start r state frames a c later g tells is same =
     let made = tells.2.makes g.memory g.shows in
@@ -116,7 +118,11 @@ one_more_event code p inputs start r state frames a c later g tells is same =
       record {
         between = subst (λ (c : CursorView). Between code p inputs state frames c r.left) (sym is) between;
         counted = omega (arith, count, tells.1);
-        later = (later.0 ++ e ∷ [], es ∙ ap (λ l. l ++ e ∷ []) later.1 ∙ append_assoc start.events.items later.0 (e ∷ []));
+        later = (
+          later.0 ++ e ∷ [],
+          es ∙ ap (λ l. l ++ e ∷ []) later.1 ∙ append_assoc start.events.items later.0 (e ∷ []),
+          All-push BeginsNoFrame later.0 e later.2 (inner_begins_no_frame g.frame g.memory r.ask tells.0),
+        );
       },
       omega (arith, count),
     )

@@ -21,7 +21,7 @@ use Rattle.cilk_program.specs.Behaviour.{asks_for, frame_asks}
 use Rattle.cilk_program.specs.Inside.{CalleeIsFit}
 use Rattle.cilk_program.specs.Store.{Store, clear, clear_all}
 use Rattle.cilk_program.specs.WellNamed.{is_well_named}
-use Rattle.cilk_program.specs.SerialRun.{Transcript, act, child, stop, Frame, Memory, Ending, Finished, Stopped, Serial, Made, Ended, Went, Broke, Refused, IsInner, answer_to, begun, before_root, cells_of, counted, crowded, event_of, first_place, full, invocation, next_frame, own_from, refused, root_frame, stored, with_store, IsSerialRun}
+use Rattle.cilk_program.specs.SerialRun.{Transcript, act, child, stop, Frame, Memory, Ending, Finished, Stopped, Serial, Made, Ended, Went, Broke, Refused, IsInner, answer_to, begun, before_root, cells_of, counted, crowded, event_of, first_place, full, invocation, next_frame, own_from, refused, result_written, root_frame, stored, with_store, IsSerialRun}
 use Rattle.cilk_lower.specs.Behaves.{Behaves}
 use Rattle.cilk_lower.specs.Code.{CodeView}
 use Rattle.cilk_program.specs.Outcomes.{StopsBy}
@@ -49,7 +49,7 @@ use Rattle.cilk_hypermap.proofs.Merges.{each_kind}
 use Rattle.cilk_serial.proofs.Homes.{waiting_more}
 use Rattle.cilk_serial.proofs.Sights.{asked, asked_there, asked_rightly, begins, child_sees, root_sees, sees_more}
 use Rattle.cilk_serial.specs.Scoped.{Parent, Scoped, AreScoped, Seen, IsThere, IsBegunRightly, kinds_of, own_of}
-use Rattle.cilk_serial.specs.SoFar.{begun_in}
+use Rattle.cilk_serial.specs.SoFar.{BeginsNoFrame, begun_in}
 use Rattle.cilk_serial.specs.States.{Shows, Answers, Begins, Extends, Tells}
 
 -- ---- the frames that wait
@@ -109,6 +109,27 @@ inner_has asks.Sync h = tt
 inner_has (asks.Result v) h = tt
 inner_has (asks.End v) h = absurd h
 inner_has (asks.Fault f) h = absurd h
+
+written_begins_no_frame : (o : Option ℕ) (v : ℤ) → BeginsNoFrame (result_written o v)
+written_begins_no_frame None v = tt
+written_begins_no_frame (Some c) v = tt
+
+-- no frame begins with the event of a request after which the frame continues at once
+pub inner_begins_no_frame : (fr : Frame) (m : Memory) (k : Ask) → IsInner k → BeginsNoFrame (event_of fr m k)
+inner_begins_no_frame fr m asks.Begin h = tt
+inner_begins_no_frame fr m (asks.Read x) h = tt
+inner_begins_no_frame fr m (asks.Write x v) h = tt
+inner_begins_no_frame fr m (asks.Create r) h = tt
+inner_begins_no_frame fr m (asks.Update r v) h = tt
+inner_begins_no_frame fr m (asks.Set r v) h = tt
+inner_begins_no_frame fr m (asks.Value r) h = tt
+inner_begins_no_frame fr m (asks.Print v) h = tt
+inner_begins_no_frame fr m (asks.Invoke how callee) h = absurd h
+inner_begins_no_frame fr m asks.Resume h = tt
+inner_begins_no_frame fr m asks.Sync h = tt
+inner_begins_no_frame fr m (asks.Result v) h = written_begins_no_frame fr.result v
+inner_begins_no_frame fr m (asks.End v) h = absurd h
+inner_begins_no_frame fr m (asks.Fault f) h = absurd h
 
 pub cursor_moves : (p : Source) (a : Activation) (c : CursorView) (fr : Frame) (parents : List Parent) → Scoped p a fr parents → Scoped p (record a { cursor = c }) fr parents
 cursor_moves p a c fr parents s = record {

@@ -1,5 +1,5 @@
 -- A serial run in progress: every completion of the rest completes the whole.
-use Rattle.std.specs.Prelude.{◌≡◌, ◌+◌, ◌≤◌, ℕ, suc, ℤ, pos, List, [], ◌∷◌, ◌++◌, length, None}
+use Rattle.std.specs.Prelude.{◌≡◌, ◌+◌, ◌≤◌, ℕ, suc, ℤ, pos, List, [], ◌∷◌, ◌++◌, length, All, None}
 use Rattle.cilk_types.specs.declared.event.Event.{Event}
 use Rattle.cilk_types.specs.declared.invocation.Invocation.{Invocation}
 use Rattle.cilk_types.specs.declared.limits.TheConstants.{MAX_CELLS, MAX_EVENTS, MAX_TICKS}
@@ -25,7 +25,7 @@ use Rattle.cilk_serial.specs.declared.serial_run.Stage.TheVariants as stages
 use Rattle.cilk_serial.specs.declared.state.State.{State}
 use Rattle.cilk_serial.specs.Ran.{StopsAfter}
 use Rattle.cilk_serial.specs.Scoped.{Parent, Scoped, Sees, waiting}
-use Rattle.cilk_serial.specs.SoFar.{begun_in}
+use Rattle.cilk_serial.specs.SoFar.{BeginsNoFrame, begun_in}
 use Rattle.cilk_serial.specs.States.{Begins, Shows}
 
 -- the root's frame had this run, with these events, these callees and this end
@@ -107,6 +107,10 @@ IsLonger s s' = (e : Event) × (s'.events.items ≡ s.events.items ++ e ∷ [])
 -- more events, or none
 abbrev pub IsLater : State → State → Type 0
 IsLater s s' = (more : List Event) × (s'.events.items ≡ s.events.items ++ more)
+
+-- more events, or none, and no frame begins with them
+abbrev pub AddsNoFrame : State → State → Type 0
+AddsNoFrame s s' = (more : List Event) × (s'.events.items ≡ s.events.items ++ more) × All BeginsNoFrame more
 
 -- the result of a step
 abbrev pub Progresses : CodeView → Source → List ℤ → Running → Step → Running → Type 0

@@ -1,5 +1,5 @@
 -- A serial run that is made one event at a time.
-use Rattle.std.specs.Prelude.{◌≡◌, ◌-◌, ℤ, List, [], ◌∷◌, ◌++◌, length, slice_get, Option, None, Some, refl}
+use Rattle.std.specs.Prelude.{◌≡◌, ◌-◌, ℤ, List, [], ◌∷◌, ◌++◌, length, slice_get, All, Option, None, Some, refl}
 use Rattle.std.specs.Coded.{Coded, code_by, coded×, coded_list, coded_ℤ}
 use Rattle.cilk_types.specs.contracts.event.Event as event
 use Rattle.cilk_program.specs.contracts.program.Program as program
@@ -56,6 +56,22 @@ callee_at callees (events.Update i v) = None
 callee_at callees (events.Set i v) = None
 callee_at callees (events.Value i v) = None
 callee_at callees (events.Print v) = None
+
+-- no frame begins with this event
+abbrev pub BeginsNoFrame : Event → Type 0
+BeginsNoFrame (events.Begin n) = Unit {0}
+BeginsNoFrame (events.Spawn n) = ⊥
+BeginsNoFrame (events.Call n) = ⊥
+BeginsNoFrame (events.Resume n) = Unit {0}
+BeginsNoFrame events.Sync = Unit {0}
+BeginsNoFrame events.End = Unit {0}
+BeginsNoFrame (events.Read c v) = Unit {0}
+BeginsNoFrame (events.Write c v) = Unit {0}
+BeginsNoFrame (events.Create i) = Unit {0}
+BeginsNoFrame (events.Update i v) = Unit {0}
+BeginsNoFrame (events.Set i v) = Unit {0}
+BeginsNoFrame (events.Value i v) = Unit {0}
+BeginsNoFrame (events.Print v) = Unit {0}
 
 -- in the serial run, the event after these begins a frame with this callee, or none
 abbrev pub BeginsNext : Source → List ℤ → List Event → Option Callee → Type 0
@@ -114,6 +130,15 @@ abbrev pub Comes : RunView → Next → RunView → Type 0
 Comes v (next.Made e) v' = MakesNext v e v'
 Comes v next.Ended v' = EndsNext v v'
 Comes v (next.Stops fault) v' = StopsNext v fault v'
+
+-- further events of the serial run are made, or none, and no frame begins with them
+pub record RunsOn (v v' : RunView) : Type 0 where
+  pub program : v'.program ≡ v.program
+  pub inputs : v'.inputs ≡ v.inputs
+  pub more : List Event
+  pub events : v'.events ≡ v.events ++ more
+  pub begins_none : All BeginsNoFrame more
+  pub so_far : IsSoFar (source v.program) v.inputs v'.events
 
 -- a run halts here: it has ended, or a fault stops it
 abbrev pub HaltsHere : RunView → Option Fault → Type 0

@@ -7,7 +7,7 @@ ghost use Rattle.cilk_program.specs.declared.ask.Ask.TheVariants.{End, Invoke};
 ghost use Rattle.cilk_program.specs.declared.ask.Callee.TheVariants as callees;
 ghost use Rattle.cilk_lower.specs.Behaves.{Behaves};
 ghost use Rattle.cilk_frames.specs.AskSlot.{IsFunctionCall, in_full};
-ghost use Rattle.cilk_serial.specs.Going.{Going, Halts, HasBegun, IsLater, Progresses, run_of};
+ghost use Rattle.cilk_serial.specs.Going.{AddsNoFrame, Going, Halts, HasBegun, IsLater, Progresses, run_of};
 
 use crate::answer::{Told, answer};
 use crate::callee::{function_cells, turn_cells};
@@ -128,11 +128,12 @@ impl Running {
         }
     }
 
-    // Makes more events of the running frame, up to its next invocation, its end or a fault.
-    //
-    // Each request is answered in the arm of its instruction, and the cursor is a local value, so
-    // that the place and the operands' top stay in registers.
-    fn run_on(
+    /// Makes more events of the running frame, up to its next invocation, its end or a fault.
+    ///
+    /// Each request is answered in the arm of its instruction, and the cursor is a local value, so
+    /// that the place and the operands' top stay in registers. Each caller takes another `COPY`, so
+    /// that the compiler makes the loop a part of each.
+    pub fn run_on<const COPY: bool>(
         &mut self,
         alloc: Global,
         program: &Program,
@@ -141,7 +142,7 @@ impl Running {
     ) -> Result<(), AllocError>
         requires { Going code.now (source program.now) input.now self.old }
         ensures going { OnOk result (Going code.now (source program.now) input.now self.new) }
-        ensures later { OnOk result (IsLater self.old.state self.new.state) }
+        ensures later { OnOk result (AddsNoFrame self.old.state self.new.state) }
     {
         let Some(ask) = self.ask.small_ask() else {
             return Ok(());
@@ -210,7 +211,7 @@ impl Running {
         ensures later { OnOk result (IsLater self.old.state self.new.state) }
     {
         'each: loop {
-            self.run_on(alloc, program, code, input)?;
+            self.run_on::<false>(alloc, program, code, input)?;
             match self.step(alloc, program, code, input)? {
                 Step::Made => {}
                 Step::Last(result) => return Ok(Halt::Ended(result)),

@@ -4,7 +4,7 @@ ghost use Rattle.std.specs.Prelude.{◌≡◌, [], IfOk, IfSome, IsSome, OnOk, O
 ghost use Rattle.cilk_program.specs.Sources.{source};
 ghost use Rattle.cilk_lower.specs.Behaves.{Behaves};
 ghost use Rattle.cilk_serial.specs.Ran.{Ran};
-ghost use Rattle.cilk_serial.specs.SoFar.{BeginsNext, BeginsTarget, Comes, IsIntact, IsOver, IsSoFar, IsTargetOf, MakesRest};
+ghost use Rattle.cilk_serial.specs.SoFar.{BeginsNext, BeginsTarget, Comes, IsIntact, IsOver, IsSoFar, IsTargetOf, MakesRest, RunsOn};
 ghost use Rattle.cilk_frames.specs.Following.{child_of};
 ghost use Rattle.cilk_serial.specs.declared.serial_run.Stage.TheVariants.{Going, Ended, Failed};
 
@@ -156,6 +156,29 @@ impl<'a> SerialRun<'a> {
                 Err(error)
             }
         }
+    }
+
+    /// Makes further events of the running frame, which begin no frame, or none: many at once are
+    /// made faster so than by [`SerialRun::next`]. If memory is refused, this call and each further
+    /// one fail. Cost: linear in the ticks.
+    pub fn run_on(&mut self) -> Result<(), AllocError>
+        ensures ok { OnOk result (RunsOn self.old self.new) }
+        ensures err { OnErr result (self.new.stage ≡ Failed) }
+        ensures intact { OnOk result (IsIntact self.old.stage × IsIntact self.new.stage) }
+    {
+        match self.stage {
+            Stage::Going => {}
+            Stage::Ended(_) => return Ok(()),
+            Stage::Failed => return Err(AllocError),
+        }
+        let Ok(()) = self
+            .running
+            .run_on::<true>(self.alloc, self.program, self.code, self.input)
+        else {
+            self.stage = Stage::Failed;
+            return Err(AllocError);
+        };
+        Ok(())
     }
 
     /// Makes all remaining events, and returns the fault that stopped the run, if any. Once the run

@@ -6,7 +6,7 @@ use Rattle.cilk_serial.proofs.Between.{Stretch}
 use Rattle.cilk_serial.proofs.running.Running.run_on.Given as goal
 
 abbrev pub invariant-each : goal.invariant-each
-invariant-each l = Stretch l.code (source l.program) l.input l.fn.self.state l.self.state l.self.frames l.cursor l.left
+invariant-each g l = Stretch l.code (source l.program) l.input l.fn.self.state l.self.state l.self.frames l.cursor l.left
 
 abbrev pub decreases-each : goal.decreases-each
-decreases-each l = (MAX_EVENTS - length l.self.state.events.items) * (length l.code.instrs + 2) + effort l.code.instrs l.cursor.place l.left
+decreases-each g l = (MAX_EVENTS - length l.self.state.events.items) * (length l.code.instrs + 2) + effort l.code.instrs l.cursor.place l.left

@@ -1,7 +1,7 @@
 use Rattle.std.proofs.Common.{None, refl, subst}
 use Rattle.cilk_program.specs.Sources.{source}
 use Rattle.cilk_frames.specs.Following.{child_of}
-use Rattle.cilk_serial.specs.SoFar.{BeginsNext, BeginsTarget, RunView}
+use Rattle.cilk_serial.specs.SoFar.{BeginsTarget, RunView}
 use Rattle.cilk_serial.specs.Going.{Keeps}
 use Rattle.cilk_serial.specs.declared.serial_run.Stage.{Stage}
 use Rattle.cilk_serial.proofs.SoFar.{begins_next, begins_none}
