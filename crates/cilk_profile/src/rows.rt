@@ -1,25 +1,18 @@
 //! The rows of `measure` by function and loop.
 
-use crate::critical::push_critical;
-use crate::speed_up::push_speed_ups;
 use cilk_findings::case::Case;
 use cilk_findings::fault::CaseFault;
-use cilk_findings::map::BodyMap;
 use cilk_findings::runs::Run;
+use cilk_findings::scene::Scene;
 use cilk_findings::shares::{Share, shares};
 use cilk_findings::totals::Totals;
 use cilk_messages::place::{Location, locate};
+use cilk_messages::sentence::{Sentence, say};
 use cilk_program::program::Body;
-use std::alloc::{AllocError, Global};
+use std::alloc::AllocError;
 
 // The heads of the columns of numbers.
 const HEADINGS: [&str; 5] = ["frames", "strands", "events", "work", "span"];
-
-#[derive(Drop)]
-struct Row {
-    name: String,
-    share: Share,
-}
 
 /// The measures of a run besides its totals.
 #[derive(Drop)]
@@ -33,6 +26,13 @@ pub struct Details {
     pub bodies: String,
 }
 
+/// A table of a run: with columns, or with commas.
+#[derive(Clone, Copy)]
+pub struct Table<'a> {
+    pub scene: Scene<'a>,
+    pub commas: bool,
+}
+
 /// Measures a case's run, for a table with columns or with commas. The run has to end without a
 /// fault; otherwise the error is [`CaseFault::Unfit`].
 pub fn details_of(case: &Case<'_>, totals: &Totals, commas: bool) -> Result<Details, CaseFault> {
@@ -41,99 +41,100 @@ pub fn details_of(case: &Case<'_>, totals: &Totals, commas: bool) -> Result<Deta
         return Err(CaseFault::Unfit);
     }
     let mut bodies = String::new(case.alloc);
-    push_rows(case, &run, &mut bodies, commas)?;
-    push_critical(case, &run, &mut bodies, commas)?;
-    push_speed_ups(case.alloc, &mut bodies, totals, commas)?;
+    let scene = Scene { case, run: &run };
+    push_details(Table { scene, commas }, totals, &mut bodies)?;
     Ok(Details {
         ticks: u64::from(run.replay.ticks),
         bodies,
     })
 }
 
-// The functions and loops that ran: functions first, each in the text's order.
-fn push_rows(
-    case: &Case<'_>,
-    run: &Run,
-    text: &mut String,
-    commas: bool,
-) -> Result<(), AllocError> {
-    let alloc = case.alloc;
-    let rows = rows_of(case, run)?;
-    let mut width: usize = 4;
-    for row in &rows {
-        width = width.max(row.name.len());
-    }
-    text.push('\n')?;
-    push_cells(text, "body", &HEADINGS, width, commas)?;
-    for row in &rows {
-        push_row(alloc, text, row, width, commas)?;
-    }
-    Ok(())
+fn push_details(table: Table<'_>, totals: &Totals, text: &mut String) -> Result<(), AllocError> {
+    table.push_rows(text)?;
+    table.push_critical(text)?;
+    table.push_speed_ups(totals, text)
 }
 
-fn push_row(
-    alloc: Global,
-    text: &mut String,
-    row: &Row,
-    width: usize,
-    commas: bool,
-) -> Result<(), AllocError> {
-    let Share {
-        frames,
-        strands,
-        events,
-        work,
-        span,
-    } = row.share;
-    let frames = format!(in alloc; "{frames}")?;
-    let strands = format!(in alloc; "{strands}")?;
-    let events = format!(in alloc; "{events}")?;
-    let work = format!(in alloc; "{work}")?;
-    let span = format!(in alloc; "{span}")?;
-    let cells = [
-        frames.as_str(),
-        strands.as_str(),
-        events.as_str(),
-        work.as_str(),
-        span.as_str(),
-    ];
-    push_cells(text, row.name.as_str(), &cells, width, commas)
-}
+impl Table<'_> {
+    // The functions and loops that ran: functions first, each in the text's order.
+    fn push_rows(&self, text: &mut String) -> Result<(), AllocError> {
+        let Scene { case, run } = self.scene;
+        let members = members_of(case, run)?;
+        let count = case
+            .map
+            .functions
+            .len()
+            .saturating_add(case.map.loops.len());
+        let shares = shares(case.alloc, &run.trace, members.as_slice(), count)?;
+        self.push_shares(text, shares.as_slice())
+    }
 
-// A row for each body that ran.
-fn rows_of(case: &Case<'_>, run: &Run) -> Result<Vec<Row>, AllocError> {
-    let functions = case.map.functions.len();
-    let shares = shares_of(case, run)?;
-    let mut rows: Vec<Row> = Vec::new(case.alloc);
-    for (number, share) in shares.iter().enumerate() {
-        let body = match number.checked_sub(functions) {
-            Some(number) => Body::Loop(u32::try_from(number).unwrap_or(0)),
-            None => Body::Function(u32::try_from(number).unwrap_or(0)),
-        };
-        if share.frames > 0 {
-            rows.push(Row {
-                name: title_of(case, body)?,
-                share: *share,
-            })?;
+    fn push_shares(&self, text: &mut String, shares: &[Share]) -> Result<(), AllocError> {
+        let mut width: usize = 4;
+        for (number, share) in shares.iter().enumerate() {
+            if share.frames > 0 {
+                width = width.max(self.length_of(&title_of(&self.scene, number))?);
+            }
+        }
+        text.push('\n')?;
+        push_cells(text, "body", &HEADINGS, width, self.commas)?;
+        for (number, share) in shares.iter().enumerate() {
+            if share.frames > 0 {
+                self.push_title(text, &title_of(&self.scene, number), width)?;
+                self.push_share(text, share)?;
+            }
+        }
+        Ok(())
+    }
+
+    fn push_share(&self, text: &mut String, share: &Share) -> Result<(), AllocError> {
+        let Share {
+            frames,
+            strands,
+            events,
+            work,
+            span,
+        } = *share;
+        for number in [frames, strands, events, work, span] {
+            self.push_number(text, number)?;
+        }
+        text.push('\n')
+    }
+
+    /// Returns the length of a title.
+    pub fn length_of(&self, title: &Sentence<'_>) -> Result<usize, AllocError> {
+        let mut text = String::new(self.scene.case.alloc);
+        self.scene.push(&mut text, title)?;
+        Ok(text.len())
+    }
+
+    /// Adds the first cell of a line, in a column of this width.
+    pub fn push_title(
+        &self,
+        text: &mut String,
+        title: &Sentence<'_>,
+        width: usize,
+    ) -> Result<(), AllocError> {
+        let end = text.len().saturating_add(width);
+        self.scene.push(text, title)?;
+        if self.commas {
+            return Ok(());
+        }
+        push_blanks(text, end.saturating_sub(text.len()))
+    }
+
+    /// Adds a cell with a number.
+    pub fn push_number(&self, text: &mut String, number: u64) -> Result<(), AllocError> {
+        if self.commas {
+            write!(text, ",{number}")
+        } else {
+            write!(text, " {number:>9}")
         }
     }
-    Ok(rows)
 }
 
 /// Adds a line of a table: a name, in a column of this width, and cells.
 pub fn push_cells(
-    text: &mut String,
-    name: &str,
-    cells: &[&str],
-    width: usize,
-    commas: bool,
-) -> Result<(), AllocError> {
-    push_front(text, name, cells, width, commas)?;
-    text.push('\n')
-}
-
-/// The same without the line's end.
-pub fn push_front(
     text: &mut String,
     name: &str,
     cells: &[&str],
@@ -152,45 +153,42 @@ pub fn push_front(
         }
         text.push_str(cell)?;
     }
-    Ok(())
+    text.push('\n')
 }
 
-/// Adds blanks.
-pub fn push_blanks(text: &mut String, count: usize) -> Result<(), AllocError> {
+fn push_blanks(text: &mut String, count: usize) -> Result<(), AllocError> {
     for _blank in 0..count {
         text.push(' ')?;
     }
     Ok(())
 }
 
-/// Returns a function's name, or `cilk_for` with its place.
-pub fn title_of(case: &Case<'_>, body: Body) -> Result<String, AllocError> {
-    let alloc = case.alloc;
-    let Some(BodyMap { name: head, .. }) = case.map.body(body) else {
-        return Ok(String::new(alloc));
+// The name of the function at a place, or `cilk_for` with where it stands.
+fn title_of<'a>(scene: &Scene<'a>, place: usize) -> Sentence<'a> {
+    let Some(number) = place.checked_sub(scene.case.map.functions.len()) else {
+        let function = Body::Function(u32::try_from(place).unwrap_or(0));
+        return say("{}").word(scene.body_name(function));
     };
-    let bytes = match case.text.get(head.at..head.end) {
-        Some(bytes) => bytes,
-        None => &[],
-    };
-    let name = String::from_utf8_lossy(alloc, bytes)?;
-    if let Body::Function(_) = body {
-        return Ok(name);
-    }
-    let Location { line, column } = locate(case.text, head.at);
-    let name = name.as_str();
-    format!(in alloc; "{name} at {line}:{column}")
+    let body = Body::Loop(u32::try_from(number).unwrap_or(0));
+    let at = scene.case.map.body(body).map_or(0, |map| map.name.at);
+    title_at(scene, body, at)
 }
 
-// The measures of each body: functions first, then loops.
-fn shares_of(case: &Case<'_>, run: &Run) -> Result<Vec<Share>, AllocError> {
+/// Returns the name of a body with a place.
+pub fn title_at<'a>(scene: &Scene<'a>, body: Body, at: usize) -> Sentence<'a> {
+    let Location { line, column } = locate(scene.case.text, at);
+    let name = say("{} at {}:{}").word(scene.body_name(body));
+    name.count(line).count(column)
+}
+
+// The body of each frame, by its place: functions first, then loops.
+fn members_of(case: &Case<'_>, run: &Run) -> Result<Vec<usize>, AllocError> {
     let functions = case.map.functions.len();
     let mut members: Vec<usize> = Vec::new(case.alloc);
     for note in &run.replay.frames {
         members.push(place_in(functions, note.body))?;
     }
-    let count = functions.saturating_add(case.map.loops.len());
-    shares(case.alloc, &run.trace, members.as_slice(), count)
+    Ok(members)
 }
 
 // The place of a body in that order.

@@ -1,44 +1,45 @@
 //! Bounds of the speed-up by several workers.
 
-use crate::rows::push_cells;
+use crate::rows::{Table, push_cells};
 use cilk_findings::totals::Totals;
-use std::alloc::{AllocError, Global};
+use cilk_messages::sentence::say;
+use std::alloc::AllocError;
 
 // The numbers of workers of the table.
-const WORKERS: [u64; 7] = [1, 2, 4, 8, 16, 32, 64];
-
-/// Adds a table of the speed-up by 1 to 64 workers: an estimate from the burdened span, and the most
-/// that work and span allow.
-pub fn push_speed_ups(
-    alloc: Global,
-    text: &mut String,
-    totals: &Totals,
-    commas: bool,
-) -> Result<(), AllocError> {
-    text.push('\n')?;
-    push_cells(text, HEAD, &["estimate", "at most"], HEAD.len(), commas)?;
-    for workers in WORKERS {
-        let name = format!(in alloc; "{workers}")?;
-        let estimate = point(alloc, totals.speed_up_estimate(workers))?;
-        let bound = point(alloc, totals.speed_up_bound(workers))?;
-        push_cells(
-            text,
-            name.as_str(),
-            &[estimate.as_str(), bound.as_str()],
-            HEAD.len(),
-            commas,
-        )?;
-    }
-    Ok(())
-}
+const WORKERS: [usize; 7] = [1, 2, 4, 8, 16, 32, 64];
 
 // The head of the first column.
 const HEAD: &str = "speed-up by workers";
 
-// A number of hundredths, with a point.
-fn point(alloc: Global, number: u64) -> Result<String, AllocError> {
-    let whole = number / 100;
-    let tenths = number / 10 % 10;
-    let last = number % 10;
-    format!(in alloc; "{whole}.{tenths}{last}")
+impl Table<'_> {
+    /// Adds a table of the speed-up by 1 to 64 workers: an estimate from the burdened span, and the
+    /// most that work and span allow.
+    pub fn push_speed_ups(&self, totals: &Totals, text: &mut String) -> Result<(), AllocError> {
+        text.push('\n')?;
+        push_cells(
+            text,
+            HEAD,
+            &["estimate", "at most"],
+            HEAD.len(),
+            self.commas,
+        )?;
+        for workers in WORKERS {
+            self.push_title(text, &say("{}").count(workers), HEAD.len())?;
+            self.push_point(text, totals.speed_up_estimate(workers as u64))?;
+            self.push_point(text, totals.speed_up_bound(workers as u64))?;
+            text.push('\n')?;
+        }
+        Ok(())
+    }
+
+    // Adds a number of hundredths, with a point.
+    fn push_point(&self, text: &mut String, number: u64) -> Result<(), AllocError> {
+        let whole = number / 100;
+        let rest = number % 100;
+        if self.commas {
+            write!(text, ",{whole}.{rest:02}")
+        } else {
+            write!(text, " {whole:>6}.{rest:02}")
+        }
+    }
 }

@@ -94,20 +94,31 @@ pub fn totals_text(
     ensures { IfOk result (λ text. text.items ≡ totals_text mark totals.now ticks) }
 {
     let mut text = Vec::new(alloc);
-    push_total(&mut text, b"events", mark, totals.work as u64)?;
-    push_known(&mut text, b"ticks", mark, ticks)?;
-    push_total(&mut text, b"frames", mark, totals.frames as u64)?;
-    push_total(&mut text, b"strands", mark, totals.strands as u64)?;
-    push_total(&mut text, b"work", mark, totals.work as u64)?;
-    push_total(&mut text, b"span", mark, totals.span)?;
-    push_parallelism(&mut text, b"parallelism", mark, totals.work, totals.span)?;
-    push_total(&mut text, BURDENED, mark, totals.burdened_span)?;
+    push_totals(&mut text, mark, totals, ticks)?;
+    Ok(text)
+}
+
+fn push_totals(
+    text: &mut Vec<u8>,
+    mark: u8,
+    totals: &Totals,
+    ticks: Option<u64>,
+) -> Result<(), AllocError>
+    ensures { OnOk result (text.new.items ≡ text.old.items ++ totals_text mark totals.now ticks) }
+{
+    push_total(text, b"events", mark, totals.work as u64)?;
+    push_known(text, b"ticks", mark, ticks)?;
+    push_total(text, b"frames", mark, totals.frames as u64)?;
+    push_total(text, b"strands", mark, totals.strands as u64)?;
+    push_total(text, b"work", mark, totals.work as u64)?;
+    push_total(text, b"span", mark, totals.span)?;
+    push_parallelism(text, b"parallelism", mark, totals.work, totals.span)?;
+    push_total(text, BURDENED, mark, totals.burdened_span)?;
     push_parallelism(
-        &mut text,
+        text,
         b"burdened parallelism",
         mark,
         totals.work,
         totals.burdened_span,
-    )?;
-    Ok(text)
+    )
 }

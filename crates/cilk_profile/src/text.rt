@@ -8,6 +8,7 @@ use crate::kept::{CaseTexts, Kept};
 use crate::rows::{Details, details_of};
 use crate::table::{BLANK, COMMA, totals_text};
 use crate::words::asks;
+use cilk_findings::case::Case;
 use cilk_findings::drawing::{profile_of, tree_of_run};
 use cilk_findings::fault::CaseFault;
 use cilk_findings::totals::Totals;
@@ -89,12 +90,15 @@ fn drawn(alloc: Global, words: &[&str], read: Option<CaseTexts<'_>>) -> Result<V
         return Err(NoText::Undrawn(UNKEPT));
     };
     let case = read.case(alloc)?;
+    picture_of(&case, is_steps)
+}
+
+fn picture_of(case: &Case<'_>, is_steps: bool) -> Result<Vec<u8>, NoText> {
     if is_steps {
-        let picture = profile_of(&case)?;
-        return Ok(picture.as_bytes().to_vec(alloc)?);
+        return Ok(profile_of(case)?.into_bytes());
     }
-    match tree_of_run(&case)? {
-        Some(picture) => Ok(picture.as_bytes().to_vec(alloc)?),
+    match tree_of_run(case)? {
+        Some(picture) => Ok(picture.into_bytes()),
         None => Err(NoText::Undrawn(TOO_LARGE)),
     }
 }

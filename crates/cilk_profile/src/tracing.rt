@@ -20,23 +20,13 @@ use std::alloc::{AllocError, Global};
 const ROUNDS: u32 = 4_000_000;
 
 /// The choices that are left: those of the script, and those of an `all` that is under way.
+#[derive(Drop)]
 struct Left<'a> {
     choices: Choices<'a>,
     workers: u32,
     // The turns and rounds that are left of an `all`, and the worker whose turn is the next.
     rounds: u32,
     worker: u32,
-}
-
-impl Drop for Left<'_> {
-    fn drop(self) {
-        let Left {
-            choices: _choices,
-            workers: _workers,
-            rounds: _rounds,
-            worker: _worker,
-        } = self;
-    }
 }
 
 impl Left<'_> {
@@ -102,27 +92,47 @@ fn push_steps(
     steps: &[Step],
 ) -> Result<(), CaseFault> {
     let run = Run::of(case)?;
-    let mut deeds = Deeds::new(case.alloc, Scene { case, run: &run }, workers)?;
+    push_run(report, Scene { case, run: &run }, workers, steps)?;
+    Ok(())
+}
+
+fn push_run(
+    report: &mut String,
+    scene: Scene<'_>,
+    workers: u32,
+    steps: &[Step],
+) -> Result<(), AllocError> {
+    let mut deeds = Deeds::new(scene.case.alloc, scene, workers)?;
     let mut left = Left {
         choices: Choices::new(steps),
         workers,
         rounds: 0,
         worker: 0,
     };
-    follow(case, &mut left, &mut deeds)?;
-    deeds.push(report)?;
-    Ok(())
+    follow(scene.case, &mut left, &mut deeds)?;
+    deeds.push(report)
 }
 
 // Makes the choices that are left, from the run's beginning, and notes what comes of them.
 fn follow(case: &Case<'_>, left: &mut Left<'_>, deeds: &mut Deeds<'_>) -> Result<(), AllocError> {
     let code = lower(case.alloc, &case.program)?;
     let mut machine = Machine::new(case.alloc, &code, &case.input, left.workers)?;
+    follow_on(case.alloc, &mut machine, left, deeds)
+}
+
+fn follow_on(
+    alloc: Global,
+    machine: &mut Machine<'_>,
+    left: &mut Left<'_>,
+    deeds: &mut Deeds<'_>,
+) -> Result<(), AllocError>
+    requires { IsUnstopped machine.old }
+{
     'choices: for _ in 0..u64::MAX {
-        let Some(choice) = left.next(&machine) else {
+        let Some(choice) = left.next(machine) else {
             break;
         };
-        match machine.choose(case.alloc, choice) {
+        match machine.choose(alloc, choice) {
             Ok(told) => deeds.note(choice, told)?,
             Err(Stop::At { fault, strand: _ }) => return deeds.stop(choice, fault.number()),
             Err(Stop::Memory) => return Err(AllocError),
