@@ -121,17 +121,21 @@ impl Accesses {
     // The path of the current frame: `r`, and the number of each frame on the way among its
     // parent's children.
     fn path(&self) -> Result<String, AllocError> {
-        let mut path = String::from_str(self.alloc, "r")?;
+        let mut path = String::new(self.alloc);
+        self.push_path(&mut path)?;
+        Ok(path)
+    }
+
+    fn push_path(&self, path: &mut String) -> Result<(), AllocError> {
+        path.push('r')?;
         for (depth, frame) in self.open.iter().enumerate() {
             if depth == SHOWN {
-                path.push_str("..")?;
-                break;
+                return path.push_str("..");
             }
             let ordinal = frame.ordinal;
-            let name = format!(in self.alloc; ".{ordinal}")?;
-            path.push_str(name.as_str())?;
+            write!(path, ".{ordinal}")?;
         }
-        Ok(path)
+        Ok(())
     }
 }
 

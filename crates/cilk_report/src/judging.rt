@@ -22,7 +22,8 @@ const APART: &str =
     or have to run in parallel, give each memory of its own, or let a reducer take what they add up\n";
 
 const VIEWED: &str =
-    "hint: set a reducer and read it before the first spawn, or after the `cilk_sync`\n";
+    "reason: not the same strands run in parallel to both, so the schedule decides which updates the view has\n\
+    hint: set a reducer and read it before the first spawn, or after the `cilk_sync`\n";
 
 const NO_TABLE: &str =
     "hint: `--sites FILE` gives the file, line and function of each site; a program made by `cilkrec` writes this FILE too, if it records with CILK_SITES=FILE\n";
@@ -31,6 +32,8 @@ const HEADER: &str = "the first line of a trace is `cilktrace 1`";
 
 const PROGRAM: &str =
     "the first line of a trace is `cilktrace 1`; a program in the language of this tool is judged by `cilk settle`, others by the trace of a run (`cilk help judge`)";
+
+const MALFORMED: &str = ": error 301: a trace can't have this line here\n";
 
 const BINARY_HEADER: &str = "cilktrace-bin 1";
 
@@ -78,181 +81,151 @@ pub fn of_trace_race<F: Keeps>(
     };
     let mut found = Accesses::new(alloc, earlier, later);
     seek(judged.trace, files, &mut found)?;
+    of_accesses(alloc, judged, refusal, &found, files)
+}
+
+fn of_accesses<F: Keeps>(
+    alloc: Global,
+    judged: Judged<'_>,
+    refusal: Refusal,
+    found: &Accesses,
+    files: &mut F,
+) -> Result<String, CaseFault> {
     let (Some(first), Some(second)) = (&found.first, &found.second) else {
         return Err(CaseFault::Unfit);
     };
-    let mut writer = Writer::new(alloc, judged, first, second, found.parted)?;
-    writer.read_sites(files)?;
-    match refusal {
-        Refusal::Race { .. } => writer.race(first, second, found.parted)?,
-        _ => writer.view_race(first, second)?,
-    }
-    writer.close()
+    let (one, other) = (site_of(first.line), site_of(second.line));
+    let call = found.parted.map_or(other, |call| call.site);
+    let mut sites = Sites::new(alloc, [one, other, call]);
+    let lacks = read_sites(judged, &mut sites, files)?;
+    let (title, parted, end) = match refusal {
+        Refusal::Race { .. } => (": error 311: a determinacy race: ", found.parted, APART),
+        _ => (": error 312: a view-read race: ", None, VIEWED),
+    };
+    let race = Accessed {
+        judged,
+        sites: &sites,
+        lacks,
+        title,
+        first,
+        second,
+        parted,
+        end,
+    };
+    Ok(race.explained(alloc)?)
 }
 
-/// An explanation of a race as it is written, and what the table of sites says.
-#[derive(Drop)]
-struct Writer<'a> {
-    alloc: Global,
+// Reads the table, and returns whether it can't be read. An explanation without one has the numbers
+// of sites.
+fn read_sites<F: Keeps>(
+    judged: Judged<'_>,
+    sites: &mut Sites,
+    files: &mut F,
+) -> Result<bool, CaseFault> {
+    let Some(path) = judged.sites else {
+        return Ok(false);
+    };
+    match seek(path, files, sites) {
+        Ok(()) => Ok(false),
+        Err(CaseFault::Unfit) => Ok(true),
+        Err(fault) => Err(fault),
+    }
+}
+
+/// Two accesses that race, the call that is parted from what follows its spawn, which makes the
+/// earlier one, and what the table of sites says.
+#[derive(Clone, Copy)]
+struct Accessed<'a> {
     judged: Judged<'a>,
-    sites: Sites,
+    sites: &'a Sites,
     // Whether there is a table that can't be read.
     lacks: bool,
-    report: String,
+    title: &'static str,
+    first: &'a Access,
+    second: &'a Access,
+    parted: Option<CallLines>,
+    end: &'static str,
 }
 
-impl<'a> Writer<'a> {
-    fn new(
-        alloc: Global,
-        judged: Judged<'a>,
-        first: &Access,
-        second: &Access,
-        parted: Option<CallLines>,
-    ) -> Result<Writer<'a>, AllocError> {
-        let mut wanted: Vec<u32> = Vec::new(alloc);
-        wanted.push(site_of(first.line))?;
-        wanted.push(site_of(second.line))?;
-        if let Some(call) = parted {
-            wanted.push(call.site)?;
-        }
-        Ok(Writer {
-            alloc,
-            judged,
-            sites: Sites::new(alloc, wanted),
-            lacks: false,
-            report: String::new(alloc),
-        })
+impl Accessed<'_> {
+    fn explained(&self, alloc: Global) -> Result<String, AllocError> {
+        let mut report = String::new(alloc);
+        self.push(&mut report)?;
+        Ok(report)
     }
 
-    // Reads the table. An explanation without one has the numbers of sites.
-    fn read_sites<F: Keeps>(&mut self, files: &mut F) -> Result<(), CaseFault> {
-        let Some(path) = self.judged.sites else {
-            return Ok(());
-        };
-        match seek(path, files, &mut self.sites) {
-            Err(CaseFault::Unfit) => {
-                self.lacks = true;
-                Ok(())
-            }
-            read => read,
+    fn push(&self, report: &mut String) -> Result<(), AllocError> {
+        self.push_access(report, self.title, self.second)?;
+        self.push_access(report, ": note: earlier in the serial run ", self.first)?;
+        if let Some(CallLines { site, first, .. }) = self.parted {
+            self.push_place(report, site, first)?;
+            report.push_str(": note: the call or turn with the earlier access is spawned")?;
+            self.push_site(report, site)?;
         }
+        self.push_lines(report)?;
+        report.push_str(self.end)?;
+        self.push_hint(report)
     }
 
-    fn push(&mut self, text: &str) -> Result<(), AllocError> {
-        self.report.push_str(text)
+    fn push_access(
+        &self,
+        report: &mut String,
+        title: &str,
+        access: &Access,
+    ) -> Result<(), AllocError> {
+        let site = site_of(access.line);
+        self.push_place(report, site, access.number)?;
+        report.push_str(title)?;
+        push_done(report, access.line)?;
+        self.push_site(report, site)
     }
 
     // Begins a line: the place of a site in the source, or that of a line in the trace.
-    fn push_place(&mut self, site: u32, number: u32) -> Result<(), AllocError> {
+    fn push_place(&self, report: &mut String, site: u32, number: u32) -> Result<(), AllocError> {
         let trace = self.judged.trace;
-        let place = match self.sites.of(site) {
-            Some((place, _)) => String::from_str(self.alloc, place)?,
-            None => format!(in self.alloc; "{trace}:{number}:1")?,
-        };
-        self.push(place.as_str())
+        match self.sites.of(site) {
+            Some((place, _)) => report.push_str(place),
+            None => write!(report, "{trace}:{number}:1"),
+        }
     }
 
     // Ends a line: the function of a site, or its number.
-    fn push_site(&mut self, site: u32) -> Result<(), AllocError> {
-        let end = match self.sites.of(site) {
-            Some((_, function)) => format!(in self.alloc; " here, in `{function}`\n")?,
-            None => format!(in self.alloc; " here, at site {site}\n")?,
-        };
-        self.push(end.as_str())
-    }
-
-    fn push_access(&mut self, title: &str, access: &Access) -> Result<(), AllocError> {
-        let site = site_of(access.line);
-        self.push_place(site, access.number)?;
-        self.push(title)?;
-        let done = done_by(self.alloc, access.line)?;
-        self.push(done.as_str())?;
-        self.push_site(site)
-    }
-
-    // Explains a race of accesses. The call that is parted from what follows its spawn makes the
-    // earlier one.
-    fn race(
-        &mut self,
-        first: &Access,
-        second: &Access,
-        parted: Option<CallLines>,
-    ) -> Result<(), AllocError> {
-        self.push_access(": error 311: a determinacy race: ", second)?;
-        self.push_access(": note: earlier in the serial run ", first)?;
-        if let Some(CallLines { site, first, .. }) = parted {
-            self.push_place(site, first)?;
-            self.push(": note: the call or turn with the earlier access is spawned")?;
-            self.push_site(site)?;
+    fn push_site(&self, report: &mut String, site: u32) -> Result<(), AllocError> {
+        match self.sites.of(site) {
+            Some((_, function)) => write!(report, " here, in `{function}`\n"),
+            None => write!(report, " here, at site {site}\n"),
         }
-        self.push_lines(first, second, parted)?;
-        self.push(APART)
-    }
-
-    // Explains a view-read race.
-    fn view_race(&mut self, first: &Access, second: &Access) -> Result<(), AllocError> {
-        self.push_access(": error 312: a view-read race: ", second)?;
-        self.push_access(": note: earlier in the serial run ", first)?;
-        self.push_lines(first, second, None)?;
-        self.push(
-            "reason: not the same strands run in parallel to both, so the schedule decides which updates the view has\n",
-        )?;
-        self.push(VIEWED)
     }
 
     // Writes where in the trace the accesses are, and the call.
-    fn push_lines(
-        &mut self,
-        first: &Access,
-        second: &Access,
-        parted: Option<CallLines>,
-    ) -> Result<(), AllocError> {
-        let Access {
-            number: p,
-            frame: one,
-            ..
-        } = first;
-        let Access {
-            number: q,
-            frame: other,
-            ..
-        } = second;
-        let lines = format!(in self.alloc;
+    fn push_lines(&self, report: &mut String) -> Result<(), AllocError> {
+        let (p, one) = (self.first.number, self.first.frame.as_str());
+        let (q, other) = (self.second.number, self.second.frame.as_str());
+        write!(
+            report,
             "in the trace: the earlier one is trace line {p}, in frame {one}, the later one trace line {q}, in frame {other}"
         )?;
-        self.push(lines.as_str())?;
-        if let Some(CallLines { first, last, .. }) = parted {
-            let call = format!(in self.alloc;
+        if let Some(CallLines { first, last, .. }) = self.parted {
+            write!(
+                report,
                 "; the call is from trace line {first} to trace line {last}"
             )?;
-            self.push(call.as_str())?;
         }
-        self.push("\n")
+        report.push('\n')
     }
 
-    fn close(self) -> Result<String, CaseFault> {
-        let Writer {
-            alloc,
-            judged,
-            sites,
-            lacks,
-            mut report,
-        } = self;
-        match judged.sites {
-            None => report.push_str(NO_TABLE)?,
-            Some(path) if lacks => {
-                let line = format!(in alloc; "hint: the table of sites `{path}` can't be read\n")?;
-                report.push_str(line.as_str())?;
+    fn push_hint(&self, report: &mut String) -> Result<(), AllocError> {
+        match self.judged.sites {
+            None => report.push_str(NO_TABLE),
+            Some(path) if self.lacks => {
+                write!(report, "hint: the table of sites `{path}` can't be read\n")
             }
-            Some(path) if sites.is_empty() => {
-                let line = format!(in alloc;
-                    "hint: the table of sites `{path}` has none of these sites: is it this trace's, of the same run?\n"
-                )?;
-                report.push_str(line.as_str())?;
-            }
-            Some(_) => {}
+            Some(path) if self.sites.is_empty() => write!(
+                report,
+                "hint: the table of sites `{path}` has none of these sites: is it this trace's, of the same run?\n"
+            ),
+            Some(_) => Ok(()),
         }
-        Ok(report)
     }
 }
 
@@ -270,26 +243,26 @@ fn site_of(line: Line) -> u32 {
     }
 }
 
-// The deed of a line, in words that `here` follows.
-fn done_by(alloc: Global, line: Line) -> Result<String, AllocError> {
+// Writes the deed of a line, in words that `here` follows.
+fn push_done(report: &mut String, line: Line) -> Result<(), AllocError> {
     match line {
-        Line::Read { cells, .. } => in_cells(alloc, cells, "read"),
-        Line::Write { cells, .. } => in_cells(alloc, cells, "written"),
-        Line::Create { reducer, .. } => format!(in alloc; "reducer {reducer} is created"),
+        Line::Read { cells, .. } => push_cells(report, cells, "read"),
+        Line::Write { cells, .. } => push_cells(report, cells, "written"),
+        Line::Create { reducer, .. } => write!(report, "reducer {reducer} is created"),
         Line::Value { reducer, .. } => {
-            format!(in alloc; "the view of reducer {reducer} is read or set")
+            write!(report, "the view of reducer {reducer} is read or set")
         }
-        _ => String::from_str(alloc, "something is done"),
+        _ => report.push_str("something is done"),
     }
 }
 
-fn in_cells(alloc: Global, cells: Cells, done: &str) -> Result<String, AllocError> {
+fn push_cells(report: &mut String, cells: Cells, done: &str) -> Result<(), AllocError> {
     let Cells { first, count } = cells;
     if count == 1 {
-        return format!(in alloc; "cell {first} is {done}");
+        return write!(report, "cell {first} is {done}");
     }
     let last = first.saturating_add(count.saturating_sub(1));
-    format!(in alloc; "cells {first} to {last} are {done}")
+    write!(report, "cells {first} to {last} are {done}")
 }
 
 /// Returns the explanation of a trace that isn't judged. It is read again for a malformed line.
@@ -321,22 +294,25 @@ fn of_malformed<F: Keeps>(
     number: u32,
     files: &mut F,
 ) -> Result<String, CaseFault> {
-    let title = format!(in alloc;
-        "{trace}:{number}:1: error 301: a trace can't have this line here\n"
-    )?;
-    let title = title.as_str();
-    if line_at(alloc, trace, 1, files)?.as_str() == BINARY_HEADER {
-        return Ok(format!(in alloc; "{title}{BINARY}")?);
+    if is_binary(alloc, trace, files)? {
+        return Ok(format!(in alloc; "{trace}:{number}:1{MALFORMED}{BINARY}")?);
     }
     let text = line_at(alloc, trace, number, files)?;
-    let text = text.as_str();
+    Ok(of_text(alloc, trace, number, text.as_str())?)
+}
+
+fn is_binary<F: Keeps>(alloc: Global, trace: &str, files: &mut F) -> Result<bool, CaseFault> {
+    Ok(line_at(alloc, trace, 1, files)?.as_str() == BINARY_HEADER)
+}
+
+fn of_text(alloc: Global, trace: &str, number: u32, text: &str) -> Result<String, AllocError> {
     let reason = match line_in(alloc, text) {
         _ if number == 1 && trace.ends_with(".c") => PROGRAM,
         _ if number == 1 => HEADER,
         None => NO_FORM,
         Some(line) => misplaced(line),
     };
-    Ok(format!(in alloc; "{title}{text}\n^\nreason: {reason}\n")?)
+    format!(in alloc; "{trace}:{number}:1{MALFORMED}{text}\n^\nreason: {reason}\n")
 }
 
 // The beginning of a line of a file.
@@ -354,10 +330,14 @@ fn line_at<F: Keeps>(
 // The line of the text form that this spells.
 fn line_in(alloc: Global, text: &str) -> Option<Line> {
     let text = format!(in alloc; "cilktrace 1\n{text}\n").ok()?;
-    let mut rest = text.as_bytes();
-    let mut found = None;
     let mut reader = TraceReader::new(alloc);
-    for _piece in 0..rest.len() {
+    first_line(&mut reader, text.as_bytes())
+}
+
+fn first_line(reader: &mut TraceReader, text: &[u8]) -> Option<Line> {
+    let mut rest = text;
+    let mut found = None;
+    for _piece in 0..text.len() {
         reader.reserve().ok()?;
         let (taken, line) = reader.next(rest).ok()?;
         rest = &rest[taken..];

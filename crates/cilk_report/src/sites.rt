@@ -22,14 +22,14 @@ struct Site {
 #[derive(Drop)]
 pub struct Sites {
     alloc: Global,
-    wanted: Vec<u32>,
+    wanted: [u32; 3],
     found: Vec<Site>,
     line: Vec<u8>,
 }
 
 impl Sites {
     /// Begins a search for sites of these numbers.
-    pub fn new(alloc: Global, wanted: Vec<u32>) -> Sites {
+    pub fn new(alloc: Global, wanted: [u32; 3]) -> Sites {
         Sites {
             alloc,
             wanted,
@@ -57,15 +57,7 @@ impl Sites {
     fn end_line(&mut self) -> Result<(), AllocError> {
         if let Some((number, rest)) = site_in(self.line.as_slice()) {
             if self.wanted.contains(&number) && !rest.starts_with(b"?:0 ") {
-                let end = end_of_place(rest);
-                let place = String::from_utf8_lossy(self.alloc, &rest[..end])?;
-                let behind = rest.get(end.saturating_add(1)..).unwrap_or(&[]);
-                let function = String::from_utf8_lossy(self.alloc, behind)?;
-                self.found.push(Site {
-                    number,
-                    place,
-                    function,
-                })?;
+                self.found.push(site_of(self.alloc, number, rest)?)?;
             }
         }
         self.line.truncate(0);
@@ -88,6 +80,17 @@ fn site_in(line: &[u8]) -> Option<(u32, &[u8])> {
         }
     }
     None
+}
+
+// The site of a number, by the rest of its line.
+fn site_of(alloc: Global, number: u32, rest: &[u8]) -> Result<Site, AllocError> {
+    let end = end_of_place(rest);
+    let behind = rest.get(end.saturating_add(1)..).unwrap_or(&[]);
+    Ok(Site {
+        number,
+        place: String::from_utf8_lossy(alloc, &rest[..end])?,
+        function: String::from_utf8_lossy(alloc, behind)?,
+    })
 }
 
 // The end of `FILE:LINE`: the first space after a colon and digits, since a file's name may have

@@ -59,21 +59,25 @@ pub fn expected_at(alloc: Global, text: &[u8], at: usize) -> Result<Expected, Al
         text: front.to_vec(alloc)?,
         at,
     };
+    tried(&mut trial)
+}
+
+fn tried(trial: &mut Trial) -> Result<Expected, AllocError> {
     let semicolon = trial.takes(";")?;
-    let listed = list(alloc, &mut trial, semicolon)?;
+    let mut listed: Vec<&'static str> = Vec::new(trial.alloc);
+    list(trial, &mut listed, semicolon)?;
     Ok(Expected {
-        words: joined(alloc, listed.as_slice())?,
+        words: joined(trial.alloc, listed.as_slice())?,
         semicolon,
     })
 }
 
 // The possible tokens: groups first, then single ones.
 fn list(
-    alloc: Global,
     trial: &mut Trial,
+    listed: &mut Vec<&'static str>,
     semicolon: bool,
-) -> Result<Vec<&'static str>, AllocError> {
-    let mut listed: Vec<&'static str> = Vec::new(alloc);
+) -> Result<(), AllocError> {
     let is_statement = trial.takes("while")?;
     let has_name = trial.takes("x")?;
     let has_number = trial.takes("0")?;
@@ -87,11 +91,11 @@ fn list(
     if semicolon && !is_statement {
         listed.push("`;`")?;
     }
-    push_tokens(trial, &mut listed, MARKS)?;
+    push_tokens(trial, listed, MARKS)?;
     if !is_statement && !has_number {
-        push_behind(trial, &mut listed)?;
+        push_behind(trial, listed)?;
     }
-    Ok(listed)
+    Ok(())
 }
 
 // The tokens that can follow a name or an expression, or that begin a declaration.
