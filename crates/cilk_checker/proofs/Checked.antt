@@ -20,7 +20,7 @@ use Rattle.cilk_tree.specs.Shape.{Shape, Spells}
 use Rattle.cilk_tree.specs.Tree.{tree}
 use Rattle.cilk_tree.specs.Races.{HasNoRace}
 use Rattle.cilk_peers.specs.ViewRaces.{HasNoViewRace}
-use Rattle.cilk_runs.specs.Traces.{shape_of}
+use Rattle.cilk_determinacy.specs.Traces.{shape_of}
 use Rattle.cilk_cert_text.specs.Certificates.{Contents}
 use Rattle.cilk_determinacy.specs.Events.{HasCreations}
 use Rattle.cilk_determinacy.specs.Nested.{named}

@@ -12,16 +12,16 @@ use Rattle.cilk_program.specs.Syntax.{Source}
 use Rattle.cilk_program.specs.SerialRun.{Transcript}
 use Rattle.cilk_tree.specs.Shape.{Shape}
 use Rattle.cilk_tree.specs.Tree.{tree}
-use Rattle.cilk_runs.specs.Runs.{Name, Cell, same_cell, Instance, Reads, Writes, Syncs, Ends, Passes, Deed, Does, Invokes, Run, stop, act, child}
-use Rattle.cilk_runs.specs.Machine.{Frames, State, deeds_at, put, effect}
-use Rattle.cilk_runs.specs.Cuts.{IsCut, below, made}
-use Rattle.cilk_runs.specs.Positions.{IsClosedBefore, made_at, unmade}
-use Rattle.cilk_runs.specs.Traces.{trace}
-use Rattle.cilk_runs.specs.Stretches.{Stretch, Held, Ahead, AreStretches, AreViewed, PiecesAreViews, covered, marks, view_along}
-use Rattle.cilk_runs.specs.Monoids.{unit_of}
-use Rattle.cilk_runs.specs.Reducers.{View, monoid_of}
-use Rattle.cilk_runs.specs.FrameEnvs.{FrameEnv}
-use Rattle.cilk_runs.specs.FrameEnvMachine.{opening_values}
+use Rattle.cilk_determinacy.specs.Runs.{Name, Cell, same_cell, Instance, Reads, Writes, Syncs, Ends, Passes, Deed, Does, Invokes, Run, stop, act, child}
+use Rattle.cilk_determinacy.specs.Machine.{Frames, State, deeds_at, put, effect}
+use Rattle.cilk_determinacy.specs.Cuts.{IsCut, below, made}
+use Rattle.cilk_determinacy.specs.CutPositions.{IsClosedBefore, made_at, unmade}
+use Rattle.cilk_determinacy.specs.Traces.{trace}
+use Rattle.cilk_determinacy.specs.Stretches.{Stretch, Held, Ahead, AreStretches, AreViewed, PiecesAreViews, covered, marks, view_along}
+use Rattle.cilk_determinacy.specs.Monoids.{unit_of}
+use Rattle.cilk_determinacy.specs.Reducers.{View, monoid_of}
+use Rattle.cilk_determinacy.specs.FrameEnvs.{FrameEnv}
+use Rattle.cilk_determinacy.specs.FrameEnvMachine.{opening_values}
 use Rattle.std.specs.Prelude.{IsTrue}
 use Rattle.cilk_program.specs.Outcomes.{Leaves}
 use Rattle.cilk_program.specs.Sources.{source}

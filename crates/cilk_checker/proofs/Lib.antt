@@ -1,5 +1,6 @@
 pub mod Beginning
 pub mod Checked
+pub mod ConsistentCuts
 pub mod Differences
 pub mod Expected
 pub mod FirstFound
@@ -11,7 +12,7 @@ pub mod Noting
 pub mod OneMeaning
 pub mod OneVerdict
 pub mod Pieces
+pub mod Settled
 pub mod Standing
 pub mod Taking
 pub mod Tallying
-pub mod ConsistentCuts

@@ -10,16 +10,16 @@ use Rattle.cilk_program.specs.Outcomes.{Leaves}
 use Rattle.cilk_program.specs.SerialRun.{Transcript, IsSerialRun}
 use Rattle.cilk_tree.specs.Shape.{Shape, Spells}
 use Rattle.cilk_tree.specs.Tree.{tree}
-use Rattle.cilk_runs.specs.Runs.{Name, Cell, same_cell, Instance, Reads, Writes, Syncs, Ends, Passes, Deed, Does, Invokes, Run, stop, act, child}
-use Rattle.cilk_runs.specs.Machine.{Frames, State, deeds_at}
-use Rattle.cilk_runs.specs.Positions.{IsClosedBefore}
-use Rattle.cilk_runs.specs.Traces.{trace, AreWritten}
-use Rattle.cilk_runs.specs.Stretches.{Stretch, Held, Ahead, covered, view_along}
-use Rattle.cilk_runs.specs.Monoids.{unit_of}
-use Rattle.cilk_runs.specs.Reducers.{View, monoid_of}
-use Rattle.cilk_runs.specs.FrameEnvs.{FrameEnv}
-use Rattle.cilk_runs.specs.FrameEnvMachine.{opening_values}
-use Rattle.cilk_runs.specs.Steps.{Reaches}
+use Rattle.cilk_determinacy.specs.Runs.{Name, Cell, same_cell, Instance, Reads, Writes, Syncs, Ends, Passes, Deed, Does, Invokes, Run, stop, act, child}
+use Rattle.cilk_determinacy.specs.Machine.{Frames, State, deeds_at}
+use Rattle.cilk_determinacy.specs.CutPositions.{IsClosedBefore}
+use Rattle.cilk_determinacy.specs.Traces.{trace, AreWritten}
+use Rattle.cilk_determinacy.specs.Stretches.{Stretch, Held, Ahead, covered, view_along}
+use Rattle.cilk_determinacy.specs.Monoids.{unit_of}
+use Rattle.cilk_determinacy.specs.Reducers.{View, monoid_of}
+use Rattle.cilk_determinacy.specs.FrameEnvs.{FrameEnv}
+use Rattle.cilk_determinacy.specs.FrameEnvMachine.{opening_values}
+use Rattle.cilk_determinacy.specs.Steps.{Reaches}
 use Rattle.cilk_determinacy.specs.Nested.{named}
 use Rattle.cilk_determinacy.specs.Numbers.{cell_number, instance_number}
 use Rattle.cilk_checker.specs.Determinate.{AcceptedRun}

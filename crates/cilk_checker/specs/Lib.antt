@@ -1,5 +1,6 @@
 pub mod Answers
 pub mod Columns
+pub mod ConsistentCuts
 pub mod Determinate
 pub mod Expected
 pub mod Firsts
@@ -11,8 +12,8 @@ pub mod OneVerdict
 pub mod Pulls
 pub mod Refusals
 pub mod Runs
+pub mod Settled
 pub mod Stops
 pub mod Tallies
 pub mod Texts
 pub mod Told
-pub mod ConsistentCuts

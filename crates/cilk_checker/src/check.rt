@@ -12,7 +12,7 @@ use crate::ending::{End, run_to_end};
 use crate::passes::{events_of, right_of};
 use crate::refusal::Unaccepted;
 use crate::source::Source;
-use cilk_determinacy::settle::serial_runs_settle;
+use cilk_determinacy::words::serial_runs_settle;
 use cilk_program::program::Program;
 use cilk_types::input::Input;
 use cilk_types::trace::Trace;

@@ -7,6 +7,9 @@ pub mod OneShown
 pub mod OneTraced
 pub mod Reading
 pub mod Replying
+pub mod TraceBeginnings
 pub mod TraceReplies
+pub mod TraceReread
+pub mod TraceSurveyed
 pub mod Workers
 pub mod Writing

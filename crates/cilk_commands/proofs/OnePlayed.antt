@@ -7,8 +7,8 @@ use Rattle.std.proofs.Common.{◌≡◌, ◌<◌, ℕ, ℤ, List, Option, Some, 
 use Rattle.std.specs.Prelude.{IsSome}
 use Rattle.cilk_types.specs.Fault as faults
 use Rattle.cilk_checker.specs.Judging.{Meant}
-use Rattle.cilk_script.proofs.OneScript.{script_is_one}
-use Rattle.cilk_script.specs.declared.script.Step.{Step}
+use Rattle.cilk_parser.proofs.OneScript.{script_is_one}
+use Rattle.cilk_parser.specs.declared.script.Step.{Step}
 use Rattle.cilk_schedule.proofs.OneEnd.{one_left, one_line, one_stop, left_or_past, left_or_stopped, stopped_or_past}
 use Rattle.cilk_commands.specs.Files.{Failures, IsHeld}
 use Rattle.cilk_commands.specs.OneReply.{IsOfTexts}

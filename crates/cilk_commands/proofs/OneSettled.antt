@@ -19,9 +19,10 @@ use Rattle.cilk_tree.specs.Races.{HasNoRace, IsFirstRace}
 use Rattle.cilk_tree.specs.Tree.{Tree, tree}
 use Rattle.cilk_tree.proofs.Spelled.{spells_one}
 use Rattle.cilk_peers.specs.ViewRaces.{HasNoViewRace, IsFirstViewRace}
-use Rattle.cilk_determinacy.specs.Settled.{IsFirstOf, IsSettled, RacesAt}
-use Rattle.cilk_determinacy.specs.declared.settle.FirstRace.{FirstRace}
-use Rattle.cilk_determinacy.specs.declared.settle.FirstRace.TheVariants.{Determinacy, ViewRead}
+use Rattle.cilk_determinacy.specs.Settled.{IsSettled}
+use Rattle.cilk_checker.specs.Settled.{IsFirstOf, RacesAt}
+use Rattle.cilk_checker.specs.declared.settle.FirstRace.{FirstRace}
+use Rattle.cilk_checker.specs.declared.settle.FirstRace.TheVariants.{Determinacy, ViewRead}
 use Rattle.cilk_checker.specs.Judging.{Meant}
 use Rattle.cilk_checker.specs.Numbers.{fields_of, number_of}
 use Rattle.cilk_checker.proofs.FirstFound.{one_race, one_view_race}

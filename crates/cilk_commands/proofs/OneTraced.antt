@@ -20,13 +20,13 @@ use Rattle.cilk_trace.specs.Reducers.{IsFirstTraceViewRace, ReadsView, retiremen
 use Rattle.cilk_trace.specs.Judging.{IsJudged, Says}
 use Rattle.cilk_trace.specs.Marks.{marks_of}
 use Rattle.cilk_trace.specs.Surveys.{IsTrace}
-use Rattle.cilk_trace_text.specs.declared.fault.TraceFault.{TraceFault}
-use Rattle.cilk_trace_text.specs.declared.fault.TraceFault.TheVariants.{Malformed, Truncated}
-use Rattle.cilk_trace_text.specs.Forms.{reading_of}
-use Rattle.cilk_trace_text.specs.Reading.{Reading}
-use Rattle.cilk_trace_text.specs.Texts.{IsTraceText}
-use Rattle.cilk_trace_text.proofs.Forms.{reads_traces}
-use Rattle.cilk_judge.specs.TraceTexts.{BeginsTrace, HasVerdict, IsMalformedAt, IsMisplacedAt, IsTruncatedAt}
+use Rattle.cilk_trace.specs.declared.fault.TraceFault.{TraceFault}
+use Rattle.cilk_trace.specs.declared.fault.TraceFault.TheVariants.{Malformed, Truncated}
+use Rattle.cilk_trace.specs.Forms.{reading_of}
+use Rattle.cilk_trace.specs.Reading.{Reading}
+use Rattle.cilk_trace.specs.Texts.{IsTraceText}
+use Rattle.cilk_trace.proofs.Forms.{reads_traces}
+use Rattle.cilk_commands.specs.TraceTexts.{BeginsTrace, HasVerdict, IsMalformedAt, IsMisplacedAt, IsTruncatedAt}
 use Rattle.cilk_commands.specs.Files.{Failures}
 use Rattle.cilk_commands.specs.OneReply.{IsOfTexts}
 use Rattle.cilk_commands.specs.Replies as replies

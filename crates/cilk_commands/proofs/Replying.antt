@@ -30,8 +30,8 @@ use Rattle.cilk_parser.specs.Inputs.{IsInput}
 use Rattle.cilk_checker.specs.Judging.{IsProgramText, Meant}
 use Rattle.cilk_commands.specs.Files.{Failures, IsHeld}
 use Rattle.cilk_commands.specs.Serving.{Answers, AreGiven, FileFails, GivesInput, GivesProgram, InputFileFails, InputRefused, InputUnread, IsOrNoMemory, Judged, JudgedReply, NoneGiven, ProgramRefused, ProgramUnread, Serves, Shows, ShowsError, Unjudged, Surroundings, world}
-use Rattle.cilk_script.specs.Scripts.{IsScript}
-use Rattle.cilk_script.specs.declared.script.Step.{Step}
+use Rattle.cilk_parser.specs.Scripts.{IsScript}
+use Rattle.cilk_parser.specs.declared.script.Step.{Step}
 use Rattle.cilk_commands.specs.Shown.{CheckShows, InputFails, PlayShows, ProgramFails, StepsShow, TextShows, play_fault_view}
 use Rattle.cilk_schedule.specs.Playing.{Ends, FailsAsSettled, IsFault}
 use Rattle.cilk_schedule.specs.declared.fault.PlayFault.{PlayFault}

@@ -14,10 +14,10 @@ use Rattle.cilk_trace.specs.Accesses.{AccessesCell, WritesCell}
 use Rattle.cilk_trace.specs.Judging.{IsJudged, Says}
 use Rattle.cilk_trace.specs.Reducers.{ReadsView}
 use Rattle.cilk_tree.specs.Tree.{Tree, tree}
-use Rattle.cilk_judge.specs.declared.fault.Unjudged.{Unjudged}
-use Rattle.cilk_judge.specs.declared.fault.Unjudged.TheVariants as faults
-use Rattle.cilk_judge.specs.Faults.{IsUnjudgedAgain, IsUnsurveyed}
-use Rattle.cilk_judge.specs.TraceTexts.{GivesText, HasVerdict}
+use Rattle.cilk_commands.specs.declared.trace_fault.Unjudged.{Unjudged}
+use Rattle.cilk_commands.specs.declared.trace_fault.Unjudged.TheVariants as faults
+use Rattle.cilk_commands.specs.TraceFaults.{IsUnjudgedAgain, IsUnsurveyed}
+use Rattle.cilk_commands.specs.TraceTexts.{GivesText, HasVerdict}
 use Rattle.cilk_commands.specs.Files.{Failures, HasFailed, IsUnfailed}
 use Rattle.cilk_commands.specs.Replies as replies
 use Rattle.cilk_commands.specs.Replies.{Reply, Text, answer_view, failure_view}

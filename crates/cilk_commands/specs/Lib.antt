@@ -5,4 +5,7 @@ pub mod Serving
 pub mod Shown
 pub mod Sources
 pub mod Streams
+pub mod TraceFaults
+pub mod TracePieces
+pub mod TraceTexts
 pub mod Traces

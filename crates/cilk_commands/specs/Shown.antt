@@ -22,11 +22,12 @@ use Rattle.cilk_checker.specs.Answers.{IsCertified, IsRefusedText}
 use Rattle.cilk_checker.specs.Numbers.{fields_of, number_of}
 use Rattle.cilk_checker.specs.declared.refusal.Refusal.{Refusal}
 use Rattle.cilk_checker.specs.declared.refusal.Refusal.TheVariants as refusals
-use Rattle.cilk_script.specs.Scripts.{IsNoScript, IsScript}
-use Rattle.cilk_script.specs.declared.script.Step.{Step}
-use Rattle.cilk_determinacy.specs.Settled.{IsSettled, RacesAt}
-use Rattle.cilk_determinacy.specs.declared.settle.FirstRace.{FirstRace}
-use Rattle.cilk_determinacy.specs.declared.settle.FirstRace.TheVariants.{Determinacy, ViewRead}
+use Rattle.cilk_parser.specs.Scripts.{IsNoScript, IsScript}
+use Rattle.cilk_parser.specs.declared.script.Step.{Step}
+use Rattle.cilk_determinacy.specs.Settled.{IsSettled}
+use Rattle.cilk_checker.specs.Settled.{RacesAt}
+use Rattle.cilk_checker.specs.declared.settle.FirstRace.{FirstRace}
+use Rattle.cilk_checker.specs.declared.settle.FirstRace.TheVariants.{Determinacy, ViewRead}
 use Rattle.cilk_schedule.specs.declared.fault.PlayFault.{PlayFault}
 use Rattle.cilk_schedule.specs.declared.fault.PlayFault.TheVariants as play_faults
 use Rattle.cilk_schedule.specs.Playing.{Ends, IsLeft, LeavesAsSettled, Passed, StopsBy}

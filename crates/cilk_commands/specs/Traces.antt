@@ -2,9 +2,9 @@
 use Rattle.std.specs.Prelude.{◌≡◌, ◌⊎◌, ℕ, ◌+◌, ◌<◌, ◌^◌, List, [], ◌∷◌, Option, None}
 use Rattle.cilk_trace.specs.declared.judge.Verdict.{Verdict}
 use Rattle.cilk_trace.specs.declared.judge.Verdict.TheVariants as verdicts
-use Rattle.cilk_judge.specs.declared.fault.Unjudged.{Unjudged}
-use Rattle.cilk_judge.specs.declared.fault.Unjudged.TheVariants as faults
-use Rattle.cilk_judge.specs.TraceTexts.{GivesText, HasVerdict, IsMalformedAt, IsTruncatedAt}
+use Rattle.cilk_commands.specs.declared.trace_fault.Unjudged.{Unjudged}
+use Rattle.cilk_commands.specs.declared.trace_fault.Unjudged.TheVariants as faults
+use Rattle.cilk_commands.specs.TraceTexts.{GivesText, HasVerdict, IsMalformedAt, IsTruncatedAt}
 use Rattle.cilk_commands.specs.Files.{Failures, HasFailed, IsUnfailed}
 use Rattle.cilk_commands.specs.Replies.{BadTrace, Changed, NoMemory, RaceFree, Refused, Reply, Text, Unreadable}
 

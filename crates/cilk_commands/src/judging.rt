@@ -4,14 +4,14 @@ ghost use Rattle.std.specs.Prelude.{◌≡◌, ◌<◌, IfOk, IfErr, OnOk};
 ghost use Rattle.cilk_commands.specs.Files.{IsUnfailed};
 ghost use Rattle.cilk_commands.specs.Replies.{answer_view, failure_view};
 ghost use Rattle.cilk_commands.specs.Traces.{IsNumbered, JudgeShows, unjudged_view, verdict_view};
-ghost use Rattle.cilk_judge.specs.TraceTexts.{GivesText, HasSurvey, HasVerdict};
+ghost use Rattle.cilk_commands.specs.TraceTexts.{GivesText, HasSurvey, HasVerdict};
 
 use crate::files::Files;
 use crate::parts::PartSource;
 use crate::reply::{Answer, Failure};
+use crate::trace_fault::Unjudged;
+use crate::trace_texts::{judge_text, survey_text};
 use cilk_checker::refusal::Refusal;
-use cilk_judge::fault::Unjudged;
-use cilk_judge::judging::{judge_text, survey_text};
 use cilk_trace::judge::Verdict;
 use cilk_trace::survey::Known;
 use std::alloc::Global;

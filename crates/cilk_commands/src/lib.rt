@@ -12,6 +12,7 @@
 //! | [`carry_out`] | the answer to one order, not yet shown |
 //! | [`given`] | a program and its input, read and judged |
 //! | [`settle`] | the answer to an order to settle a program |
+//! | [`trace_texts::judge`] | the verdict on the text of a trace, which is read twice |
 //! | [`disk::Disk`] | the files of the system |
 //! | [`parts::PartSource`] | a file as a source of a certificate's or a trace's text |
 //! | [`reply::Answer`], [`reply::Failure`] | the replies, with their texts and statuses |
@@ -43,6 +44,9 @@ pub mod reply;
 mod running;
 mod serving;
 pub mod streams;
+pub mod trace_fault;
+pub mod trace_pieces;
+pub mod trace_texts;
 
 pub use programs::{input, names, stopped};
 pub use running::{given, read_file, refused, settle};

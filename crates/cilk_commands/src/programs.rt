@@ -3,7 +3,7 @@
 ghost use Rattle.std.specs.Prelude.{◌≡◌, IfOk, IfErr, map};
 ghost use Rattle.cilk_checker.specs.Judging.{IsProgramText, meant};
 ghost use Rattle.cilk_commands.specs.Replies.{answer_view, failure_view};
-ghost use Rattle.cilk_script.specs.Scripts.{IsScript};
+ghost use Rattle.cilk_parser.specs.Scripts.{IsScript};
 ghost use Rattle.cilk_commands.specs.Shown.{CertifyShows, InputFails, ProgramFails, RunShows, SettleShows, ScriptFails, StepsShow, TextShows, play_fault_view, refusal_of, run_fault_view};
 ghost use Rattle.cilk_parser.specs.Inputs.{IsInput};
 
@@ -12,12 +12,12 @@ use cilk_cert_maker::make::make;
 use cilk_checker::fault::ProgramFault;
 use cilk_checker::judge;
 use cilk_checker::refusal::Refusal;
-use cilk_determinacy::settle::{FirstRace, Verdict, settle as settle_run};
+use cilk_checker::settle::{FirstRace, Verdict, settle as settle_run};
 use cilk_parser::fault::TextFault;
 use cilk_parser::input::parse_input;
+use cilk_parser::script::{ScriptFault, Step, read};
 use cilk_program::program::{GlobalReducer, Program};
 use cilk_schedule::{PlayFault, play_steps};
-use cilk_script::script::{ScriptFault, Step, read};
 use cilk_serial::fault::RunFault;
 use cilk_serial::run::run as run_serially;
 use cilk_types::input::Input;

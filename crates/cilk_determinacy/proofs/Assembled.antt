@@ -18,14 +18,14 @@ use Rattle.cilk_program.proofs.Existence.{serial_run_is_short}
 use Rattle.cilk_program.proofs.Numbers.{past_globals, serial_counts}
 use Rattle.cilk_program.proofs.Orderly.{runs_orderly}
 use Rattle.cilk_program.proofs.Remembered.{runs_small}
-use Rattle.cilk_runs.specs.Runs.{Cell, Global, Own, Instance, Run}
-use Rattle.cilk_runs.specs.Costs.{Total, TickTotal, EventTotal, FrameTotal, CellTotal, weight}
+use Rattle.cilk_determinacy.specs.Runs.{Cell, Global, Own, Instance, Run}
+use Rattle.cilk_determinacy.specs.Costs.{Total, TickTotal, EventTotal, FrameTotal, CellTotal, weight}
 use Rattle.cilk_monoid.specs.Laws.{IsLawful}
-use Rattle.cilk_runs.specs.Monoids.{IsValue, unit_of}
-use Rattle.cilk_runs.specs.Traces.{trace, begin_due, IsFramed}
-use Rattle.cilk_runs.specs.Reducers.{monoid_of}
-use Rattle.cilk_runs.specs.FrameEnvs.{FrameEnv, first_env}
-use Rattle.cilk_runs.specs.FrameEnvMachine.{used, limit, costs, opening_values}
+use Rattle.cilk_determinacy.specs.Monoids.{IsValue, unit_of}
+use Rattle.cilk_determinacy.specs.Traces.{trace, begin_due, IsFramed}
+use Rattle.cilk_determinacy.specs.Reducers.{monoid_of}
+use Rattle.cilk_determinacy.specs.FrameEnvs.{FrameEnv, first_env}
+use Rattle.cilk_determinacy.specs.FrameEnvMachine.{used, limit, costs, opening_values}
 use Rattle.cilk_determinacy.specs.Nested.{named}
 use Rattle.cilk_determinacy.specs.Theorem.{SetWords, IsSerial, IsCounted, CountsAsSerial}
 use Rattle.cilk_determinacy.proofs.Behaving.{run_holds}

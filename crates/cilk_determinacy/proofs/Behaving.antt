@@ -10,15 +10,15 @@ use Rattle.cilk_program.specs.Syntax.{Source}
 use Rattle.cilk_program.specs.Behaviour.{OpenAsk, asks_for, frame_asks}
 use Rattle.cilk_program.specs.SerialRun as serial
 use Rattle.cilk_program.specs.SerialRun.{Memory, Frame, answer_to, IsInner, Ending, Finished, Serial, Made, Ended, Went}
-use Rattle.cilk_runs.specs.Runs.{Ask, Invoke, Event as Happens, Ends, Deed, Does, Invokes, Run, stop, act, child, ask_of}
-use Rattle.cilk_runs.specs.Machine.{started}
-use Rattle.cilk_runs.specs.Costs.{TickTotal, weight}
-use Rattle.cilk_runs.specs.Serial.{Behaves}
-use Rattle.cilk_runs.specs.Theorem.{follows}
-use Rattle.cilk_runs.proofs.Started.{started_does, started_invokes}
-use Rattle.cilk_runs.specs.FrameEnvs.{FrameEnv, child_env}
-use Rattle.cilk_runs.specs.FrameEnvMachine.{retired_by, named_ask, answer_of, answers_of, is_end, has_ended, but_last, asked_after, next, taken, costs}
-use Rattle.cilk_runs.proofs.KeptFrameEnv.{but_last_more, answers_more, ended_more}
+use Rattle.cilk_determinacy.specs.Runs.{Ask, Invoke, Event as Happens, Ends, Deed, Does, Invokes, Run, stop, act, child, ask_of}
+use Rattle.cilk_determinacy.specs.Machine.{started}
+use Rattle.cilk_determinacy.specs.Costs.{TickTotal, weight}
+use Rattle.cilk_determinacy.specs.Serial.{Behaves}
+use Rattle.cilk_determinacy.specs.MachineTheorem.{follows}
+use Rattle.cilk_determinacy.proofs.Started.{started_does, started_invokes}
+use Rattle.cilk_determinacy.specs.FrameEnvs.{FrameEnv, child_env}
+use Rattle.cilk_determinacy.specs.FrameEnvMachine.{retired_by, named_ask, answer_of, answers_of, is_end, has_ended, but_last, asked_after, next, taken, costs}
+use Rattle.cilk_determinacy.proofs.Histories.{but_last_more, answers_more, ended_more}
 use Rattle.cilk_determinacy.specs.Nested.{named_event, named_from}
 use Rattle.cilk_program.proofs.Parts.{is_out}
 use Rattle.cilk_program.proofs.Ticking.{at_full, frame_further}

@@ -10,8 +10,8 @@ use Rattle.cilk_program.specs.Numbering.{Counts, counts_of, counts_after, unbegu
 use Rattle.cilk_program.proofs.Naming.{well_named_parts}
 use Rattle.cilk_program.specs.Visible.{CanInvoke}
 use Rattle.cilk_program.proofs.Visible.{none_given, root_sees, called_sees, part_sees}
-use Rattle.cilk_runs.specs.Runs.{Global, Own}
-use Rattle.cilk_runs.specs.FrameEnvs.{global_named, own_named, home_named, given_named, FrameEnv, first_env, child_env}
+use Rattle.cilk_determinacy.specs.Runs.{Global, Own}
+use Rattle.cilk_determinacy.specs.FrameEnvs.{global_named, own_named, home_named, given_named, FrameEnv, first_env, child_env}
 use Rattle.cilk_determinacy.specs.Numbers.{child_runs, frame_runs, IsHere, HasCell}
 use Rattle.cilk_determinacy.proofs.Numbers.{up_more}
 use Rattle.cilk_determinacy.proofs.Sights.{HasOne, Stands, Ahead, root_here, globals_here, own_here, tied_home, tied_outer, tied_to, tied_result}

@@ -3,14 +3,14 @@
 -- - `cuts_closed`: the law.
 use Rattle.std.proofs.Common.{ℤ, List, [], subst}
 use Rattle.cilk_program.specs.Syntax.{Source}
-use Rattle.cilk_runs.specs.Cuts.{below}
-use Rattle.cilk_runs.specs.Machine.{deeds_at}
-use Rattle.cilk_runs.specs.Positions.{IsClosedBefore}
-use Rattle.cilk_runs.specs.Traces.{shape_of}
-use Rattle.cilk_runs.proofs.Positions.{cuts_closed as closed_before}
+use Rattle.cilk_determinacy.specs.Cuts.{below}
+use Rattle.cilk_determinacy.specs.Machine.{deeds_at}
+use Rattle.cilk_determinacy.specs.CutPositions.{IsClosedBefore}
+use Rattle.cilk_determinacy.specs.Traces.{shape_of}
+use Rattle.cilk_determinacy.proofs.CutPositions.{cuts_closed as closed_before}
 use Rattle.cilk_tree.specs.Tree.{tree}
 use Rattle.cilk_tree.proofs.Spelled.{spells_one}
-use Rattle.cilk_runs.specs.FrameEnvs.{FrameEnv}
+use Rattle.cilk_determinacy.specs.FrameEnvs.{FrameEnv}
 use Rattle.cilk_determinacy.specs.Nested.{named}
 use Rattle.cilk_determinacy.specs.Numbers.{cell_number, instance_number}
 use Rattle.cilk_determinacy.specs.Positions.{made, CutsAreClosed}

@@ -10,23 +10,23 @@ use Rattle.cilk_program.specs.Syntax.{Source}
 use Rattle.cilk_program.specs.SerialRun as serial
 use Rattle.cilk_program.specs.SerialRun.{Memory, global_reducer, before_root, root_frame, begun, conclusion_of, Ending, Finished, Stopped, Serial}
 use Rattle.cilk_program.proofs.Roots.{ends_as_elided}
-use Rattle.cilk_runs.specs.Machine.{State, deeds_at, HasEnd}
-use Rattle.cilk_runs.specs.Monoids.{unit_of}
-use Rattle.cilk_runs.specs.Serial.{value_after}
-use Rattle.cilk_runs.specs.Views.{view_after}
-use Rattle.cilk_runs.specs.Traces.{trace, AreWritten}
-use Rattle.cilk_runs.specs.Theorem.{HasNoRaces, Agrees}
-use Rattle.cilk_runs.specs.Cuts.{below, IsFull}
-use Rattle.cilk_runs.proofs.Find.{full_deeds}
-use Rattle.cilk_runs.proofs.Kept.{opening_ok}
-use Rattle.cilk_runs.proofs.Theorem.{race_free_kept, race_free_agrees, race_free_determinate, follows_determined}
-use Rattle.cilk_runs.proofs.Spells.{events_spell}
-use Rattle.cilk_runs.specs.Reducers.{View, monoid_of}
-use Rattle.cilk_runs.specs.FrameEnvs.{FrameEnv, first_env}
-use Rattle.cilk_runs.specs.FrameEnvMachine.{next, costs, opening_values}
+use Rattle.cilk_determinacy.specs.Machine.{State, deeds_at, HasEnd}
+use Rattle.cilk_determinacy.specs.Monoids.{unit_of}
+use Rattle.cilk_determinacy.specs.Serial.{value_after}
+use Rattle.cilk_determinacy.specs.Views.{view_after}
+use Rattle.cilk_determinacy.specs.Traces.{trace, AreWritten}
+use Rattle.cilk_determinacy.specs.MachineTheorem.{HasNoRaces, Agrees}
+use Rattle.cilk_determinacy.specs.Cuts.{below, IsFull}
+use Rattle.cilk_determinacy.proofs.Find.{full_deeds}
+use Rattle.cilk_determinacy.proofs.Kept.{opening_ok}
+use Rattle.cilk_determinacy.proofs.MachineTheorem.{race_free_kept, race_free_agrees, race_free_determinate, follows_determined}
+use Rattle.cilk_determinacy.proofs.Spells.{events_spell}
+use Rattle.cilk_determinacy.specs.Reducers.{View, monoid_of}
+use Rattle.cilk_determinacy.specs.FrameEnvs.{FrameEnv, first_env}
+use Rattle.cilk_determinacy.specs.FrameEnvMachine.{next, costs, opening_values}
 use Rattle.cilk_determinacy.specs.Nested.{named}
 use Rattle.cilk_determinacy.specs.Theorem.{IsSerial, IsAsSerial, RunsFree, TicksAddUp, SerialRunsByNames, SerialRunsAreNumbered, OpensAsCut, StepsKeepCuts, CutsAreAsSerial, IsDeterminateProgram}
-use Rattle.cilk_runs.specs.Steps.{result_in, outcome_in, Next}
+use Rattle.cilk_determinacy.specs.Steps.{result_in, outcome_in, Next}
 use Rattle.cilk_determinacy.proofs.Assembled.{views_lawful, remembers, is_framed, is_serial}
 use Rattle.cilk_determinacy.proofs.Ending.{run_result, run_ends, same_outcome}
 use Rattle.cilk_determinacy.specs.Numbers.{cell_number, instance_number}

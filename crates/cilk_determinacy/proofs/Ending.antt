@@ -16,13 +16,13 @@ use Rattle.cilk_program.specs.WellNamed.{is_kind}
 use Rattle.cilk_program.specs.SerialRun as serial
 use Rattle.cilk_program.specs.SerialRun.{Memory, answer_to, global_reducer, IsInner, Ending, Finished, Serial, Made, Ended, Went}
 use Rattle.cilk_types.specs.declared.event.Instance as numbered
-use Rattle.cilk_runs.specs.Runs.{Cell, Global, Instance, Output, Does, Deed}
-use Rattle.cilk_runs.specs.Machine.{State, deeds_at, HasEnd}
-use Rattle.cilk_runs.specs.Serial.{own_deeds}
-use Rattle.cilk_runs.specs.Reducers.{View, value_of, elements_of}
-use Rattle.cilk_runs.specs.FrameEnvs.{FrameEnv, global_named}
+use Rattle.cilk_determinacy.specs.Runs.{Cell, Global, Instance, Output, Does, Deed}
+use Rattle.cilk_determinacy.specs.Machine.{State, deeds_at, HasEnd}
+use Rattle.cilk_determinacy.specs.Serial.{own_deeds}
+use Rattle.cilk_determinacy.specs.Reducers.{View, value_of, elements_of}
+use Rattle.cilk_determinacy.specs.FrameEnvs.{FrameEnv, global_named}
 use Rattle.cilk_determinacy.specs.Nested.{named_event, named_from}
-use Rattle.cilk_runs.specs.Steps.{result_in, finals_in, outcome_in}
+use Rattle.cilk_determinacy.specs.Steps.{result_in, finals_in, outcome_in}
 use Rattle.cilk_determinacy.specs.Numbers.{HasInstance}
 use Rattle.cilk_determinacy.proofs.Remembered.{view_at}
 use Rattle.cilk_determinacy.proofs.Sights.{global_tied, global_here}

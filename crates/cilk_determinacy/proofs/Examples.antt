@@ -17,8 +17,8 @@ use Rattle.cilk_tree.specs.Shape.{Shape, finish, act, sync, child, Spells}
 use Rattle.cilk_tree.specs.Tree.{tree}
 use Rattle.cilk_determinacy.specs.Theorem.{SetWords}
 use Rattle.cilk_determinacy.specs.Worked.{IsFree, AlwaysLeaves, got, GetIsFree, GetLeaves, lent_out, LentIsFree, LentLeaves, changed_to, ChangedIsFree, ChangedLeaves, called_again, AgainIsFree, AgainLeaves}
-use Rattle.cilk_runs.specs.Tested.{none, is_free_but, is_view_free}
-use Rattle.cilk_runs.proofs.Decided.{tests_tell}
+use Rattle.cilk_determinacy.specs.Tested.{none, is_free_but, is_view_free}
+use Rattle.cilk_determinacy.proofs.Decided.{tests_tell}
 use Rattle.cilk_determinacy.proofs.Determinate.{is_determinate}
 
 abbrev sets_nothing : List Event → Bool

@@ -19,7 +19,7 @@ use Rattle.cilk_program.specs.Numbering.{Counts, unbegun, entered, counts_after,
 use Rattle.cilk_program.proofs.Closings.{runs_begin, runs_resume}
 use Rattle.cilk_program.proofs.Numbers.{run_events}
 use Rattle.cilk_program.proofs.Remembered.{runs_small}
-use Rattle.cilk_runs.specs.Traces.{Due, begin_due, resume_due, neither_due}
+use Rattle.cilk_determinacy.specs.Traces.{Due, begin_due, resume_due, neither_due}
 use Rattle.cilk_determinacy.specs.Events.{frames_begun, count_from, FramesAreCounted}
 use Rattle.cilk_determinacy.proofs.Determinate.{ran}
 use Rattle.cilk_determinacy.proofs.Shapes.{IsProper, ProperAt, Stage, serial_proper}

@@ -25,21 +25,21 @@ use Rattle.cilk_program.specs.Closed.{IsNoResume}
 use Rattle.cilk_program.specs.Order.{opening_asks, Stage, Fresh, Due, Going, Resuming, Synced, Closing, opened, follows}
 use Rattle.cilk_program.proofs.Closings.{IsOpening, View as Comes, Begins, Opens, Goes, Calls, Spawns, Syncs, Resumes, Again, Gives, Ends, EndsThen, view, IsSound, opened_sound, opening_asks_open, plain_no_resume, opening_no_resume}
 use Rattle.cilk_program.proofs.Legal.{IsPlain, Rest, after, unless_fault, IsLegal, fresh_fine}
-use Rattle.cilk_runs.specs.Runs as runs
-use Rattle.cilk_runs.specs.Runs.{Name, same_name, Cell, same_cell, Instance, Ask, Deed, Does, Invokes}
-use Rattle.cilk_runs.specs.Costs.{Costs, Total, TickTotal, EventTotal, is_over, own_fault, fault_of}
-use Rattle.cilk_runs.specs.Machine.{Frame, Frames, State, started, deed_of, effect, begun, after_deed, IsAsking, Makes, Steals, Stops, Steps}
-use Rattle.cilk_runs.specs.Monoids.{numbers_of}
-use Rattle.cilk_runs.proofs.Basics.{same_name-refl}
-use Rattle.cilk_runs.proofs.Started.{started_invokes}
-use Rattle.cilk_runs.specs.Held.{HoldsViews, AskIsSound}
-use Rattle.cilk_runs.specs.FrameEnvMachine.{named_ask, answer_of, answers_of, is_end, has_ended, asked_after, next, costs, opening_values}
-use Rattle.cilk_runs.specs.Reducers.{View, value_of, kind_of, monoid_of}
-use Rattle.cilk_runs.specs.Steps.{Next, IsFirst, OneStep, Reaches}
-use Rattle.cilk_runs.specs.FrameEnvs.{FrameEnv, first_env, child_env, cell_seen, reducer_seen, result_cell}
-use Rattle.cilk_runs.proofs.Held.{HasView, views_kept}
-use Rattle.cilk_runs.proofs.KeptFrameEnv.{answers_more, ended_more}
-use Rattle.cilk_runs.proofs.FrameEnvViews.{are_multiplied}
+use Rattle.cilk_determinacy.specs.Runs as runs
+use Rattle.cilk_determinacy.specs.Runs.{Name, same_name, Cell, same_cell, Instance, Ask, Deed, Does, Invokes}
+use Rattle.cilk_determinacy.specs.Costs.{Costs, Total, TickTotal, EventTotal, is_over, own_fault, fault_of}
+use Rattle.cilk_determinacy.specs.Machine.{Frame, Frames, State, started, deed_of, effect, begun, after_deed, IsAsking, Makes, Steals, Stops, Steps}
+use Rattle.cilk_determinacy.specs.Monoids.{numbers_of}
+use Rattle.cilk_determinacy.proofs.Basics.{same_name-refl}
+use Rattle.cilk_determinacy.proofs.Started.{started_invokes}
+use Rattle.cilk_determinacy.specs.KeptViews.{HoldsViews, AskIsSound}
+use Rattle.cilk_determinacy.specs.FrameEnvMachine.{named_ask, answer_of, answers_of, is_end, has_ended, asked_after, next, costs, opening_values}
+use Rattle.cilk_determinacy.specs.Reducers.{View, value_of, kind_of, monoid_of}
+use Rattle.cilk_determinacy.specs.Steps.{Next, IsFirst, OneStep, Reaches}
+use Rattle.cilk_determinacy.specs.FrameEnvs.{FrameEnv, first_env, child_env, cell_seen, reducer_seen, result_cell}
+use Rattle.cilk_determinacy.proofs.KeptViews.{HasView, views_kept}
+use Rattle.cilk_determinacy.proofs.Histories.{answers_more, ended_more}
+use Rattle.cilk_determinacy.proofs.FrameEnvViews.{are_multiplied}
 use Rattle.cilk_determinacy.specs.Held.{LengthIsWord, LengthsAreWords, ViewsAreHeld}
 use Rattle.cilk_determinacy.specs.Lengths.{HasShortLists, ListsAreShort}
 use Rattle.cilk_determinacy.specs.Words.{AreWords, HasWords, InputsAreWords}

@@ -13,15 +13,15 @@ use Rattle.cilk_monoid.specs.declared.kind.MonoidKind.TheVariants.{Add, Least, G
 use Rattle.cilk_monoid.specs.Kinds.{structure_of, size_of, IsMember}
 use Rattle.cilk_monoid.specs.Values.{ViewValue, Number, Elements, Map}
 use Rattle.cilk_types.specs.Word.{IsWord}
-use Rattle.cilk_runs.specs.Runs.{Name, same_name, Cell, Instance, Output, same_instance, has_instance, Wish, Begin, Resume, Create, Update, Set, Value, Print, Ask, Read, Write, Invoke, Sync, End, Pass, Fail, Event, Reads, Writes, Syncs, Ends, Passes, Begins, Resumes, Deed, Does, Invokes}
-use Rattle.cilk_runs.specs.Machine.{Frame, Frames, deeds_at, started, mark_of, deed_of, begun, after_deed, block_view, own_view, with_view, after_views}
-use Rattle.cilk_runs.proofs.Basics.{same_name-refl, same_name-eq}
-use Rattle.cilk_runs.proofs.Started.{started_does, started_invokes}
-use Rattle.cilk_runs.specs.Held.{WishIsSound, AskIsSound}
-use Rattle.cilk_runs.specs.Reducers.{View, views_of, kind_of, monoid_of}
-use Rattle.cilk_runs.specs.FrameEnvViews.{IsViewOf}
-use Rattle.cilk_runs.specs.FrameEnvs.{FrameEnv}
-use Rattle.cilk_runs.proofs.FrameEnvViews.{are_multiplied}
+use Rattle.cilk_determinacy.specs.Runs.{Name, same_name, Cell, Instance, Output, same_instance, has_instance, Wish, Begin, Resume, Create, Update, Set, Value, Print, Ask, Read, Write, Invoke, Sync, End, Pass, Fail, Event, Reads, Writes, Syncs, Ends, Passes, Begins, Resumes, Deed, Does, Invokes}
+use Rattle.cilk_determinacy.specs.Machine.{Frame, Frames, deeds_at, started, mark_of, deed_of, begun, after_deed, block_view, own_view, with_view, after_views}
+use Rattle.cilk_determinacy.proofs.Basics.{same_name-refl, same_name-eq}
+use Rattle.cilk_determinacy.proofs.Started.{started_does, started_invokes}
+use Rattle.cilk_determinacy.specs.KeptViews.{WishIsSound, AskIsSound}
+use Rattle.cilk_determinacy.specs.Reducers.{View, views_of, kind_of, monoid_of}
+use Rattle.cilk_determinacy.specs.FrameEnvViews.{IsViewOf}
+use Rattle.cilk_determinacy.specs.FrameEnvs.{FrameEnv}
+use Rattle.cilk_determinacy.proofs.FrameEnvViews.{are_multiplied}
 use Rattle.cilk_determinacy.proofs.Wordy.{length_word}
 use Rattle.cilk_determinacy.proofs.Owed.{waiting, lies, onward, onward_does, onward_invokes, onward_settled, onward_waiting, lies_does, lies_sync, lies_invokes, lies_least, grown_most, same_lies, same_onward, under, under_self, under_child, under_least, way, under_way}
 

@@ -22,11 +22,11 @@ use Rattle.cilk_program.specs.SerialRun as serial
 use Rattle.cilk_program.specs.SerialRun.{Memory, Frame, cell_at, reducer_at, next_frame, answer_to, result_written, event_of, invocation, IsInner, Ending, Serial, Made, Ended, Went, Broke, Refused}
 use Rattle.cilk_program.specs.Numbering.{counts_of, counts_after, entered}
 use Rattle.cilk_program.proofs.Numbers.{serial_counts}
-use Rattle.cilk_runs.specs.Runs.{Cell, Global, Event, Reads, Writes, Syncs, Ends, Passes, Begins, Resumes, Creates, Updates, Sets, Values, Prints, Invokes, Run, stop, act, child}
-use Rattle.cilk_runs.specs.Traces.{trace, IsWrittenEvent, IsWritten, AreWritten}
+use Rattle.cilk_determinacy.specs.Runs.{Cell, Global, Event, Reads, Writes, Syncs, Ends, Passes, Begins, Resumes, Creates, Updates, Sets, Values, Prints, Invokes, Run, stop, act, child}
+use Rattle.cilk_determinacy.specs.Traces.{trace, IsWrittenEvent, IsWritten, AreWritten}
 use Rattle.cilk_determinacy.specs.Nested.{named_event, named_from}
 use Rattle.cilk_determinacy.specs.Numbers.{frame_number, cell_number, instance_number, start_event, numbered_event, numbered_events, IsHere, HasCell, EventIsHere, AreHere, EventsHaveNumbers}
-use Rattle.cilk_runs.specs.FrameEnvs.{FrameEnv, first_env, child_env, global_named, cell_seen, result_cell}
+use Rattle.cilk_determinacy.specs.FrameEnvs.{FrameEnv, first_env, child_env, global_named, cell_seen, result_cell}
 use Rattle.cilk_determinacy.proofs.Numbers.{frame_is}
 use Rattle.cilk_determinacy.proofs.Remembered.{written_both}
 use Rattle.cilk_determinacy.proofs.Sights.{IsNumbered, tied_cell, tied_reducer, Stands}

@@ -19,10 +19,10 @@ use Rattle.cilk_program.specs.WellNamed.{is_kind}
 use Rattle.cilk_program.specs.SerialRun.{Transcript}
 use Rattle.cilk_program.specs.Numbering.{Block, Apart, frame_at}
 use Rattle.cilk_program.proofs.Numbers.{one_name, past_globals}
-use Rattle.cilk_runs.specs.Runs.{Name, Cell, Global, Own, same_cell, Instance, Output, Reducer, same_instance}
-use Rattle.cilk_runs.proofs.Basics.{same_cell-refl, same_cell-eq, same_instance-refl, same_instance-eq}
+use Rattle.cilk_determinacy.specs.Runs.{Name, Cell, Global, Own, same_cell, Instance, Output, Reducer, same_instance}
+use Rattle.cilk_determinacy.proofs.Basics.{same_cell-refl, same_cell-eq, same_instance-refl, same_instance-eq}
 use Rattle.cilk_determinacy.specs.Numbers.{up, down, frame_runs, all_reducers, first_cell, number_of, frame_number, cell_number, instance_number, IsHere, HasCell, HasReducer, HasInstance, AreOneToOne}
-use Rattle.cilk_runs.specs.Reducers.{kind_of}
+use Rattle.cilk_determinacy.specs.Reducers.{kind_of}
 
 pub down_up : (path : List ℕ) → down (up path) ≡ path
 down_up [] = refl

@@ -3,14 +3,14 @@
 -- - `pieces_cover`: the law.
 use Rattle.std.proofs.Common.{ℤ, List}
 use Rattle.cilk_program.specs.Syntax.{Source}
-use Rattle.cilk_runs.specs.Runs.{Output}
-use Rattle.cilk_runs.proofs.Stretched.{are_stretches}
-use Rattle.cilk_runs.proofs.StretchViews.{are_views}
-use Rattle.cilk_runs.proofs.Theorem.{follows_determined}
-use Rattle.cilk_runs.specs.FrameEnvMachine.{next, costs, opening_values}
-use Rattle.cilk_runs.specs.Reducers.{monoid_of}
-use Rattle.cilk_runs.specs.Steps.{Next}
-use Rattle.cilk_runs.specs.FrameEnvs.{first_env}
+use Rattle.cilk_determinacy.specs.Runs.{Output}
+use Rattle.cilk_determinacy.proofs.Stretched.{are_stretches}
+use Rattle.cilk_determinacy.proofs.StretchViews.{are_views}
+use Rattle.cilk_determinacy.proofs.MachineTheorem.{follows_determined}
+use Rattle.cilk_determinacy.specs.FrameEnvMachine.{next, costs, opening_values}
+use Rattle.cilk_determinacy.specs.Reducers.{monoid_of}
+use Rattle.cilk_determinacy.specs.Steps.{Next}
+use Rattle.cilk_determinacy.specs.FrameEnvs.{first_env}
 use Rattle.cilk_determinacy.specs.Nested.{named}
 use Rattle.cilk_determinacy.specs.Pieces.{PiecesCover}
 use Rattle.cilk_determinacy.proofs.Assembled.{views_lawful}

@@ -32,14 +32,14 @@ use Rattle.cilk_program.specs.SerialRun.{Memory, Frame, global_reducer, reducer_
 use Rattle.cilk_program.specs.WellNamed.{is_well_named}
 use Rattle.cilk_program.specs.Numbering.{counts_of, counts_after, entered}
 use Rattle.cilk_program.proofs.Numbers.{serial_counts}
-use Rattle.cilk_runs.specs.Runs.{Instance, Event, Deed, Does, Invokes, Run, stop, act, child}
-use Rattle.cilk_runs.specs.Traces.{trace}
+use Rattle.cilk_determinacy.specs.Runs.{Instance, Event, Deed, Does, Invokes, Run, stop, act, child}
+use Rattle.cilk_determinacy.specs.Traces.{trace}
 use Rattle.cilk_monoid.proofs.SameKinds.{same_kind-eq}
-use Rattle.cilk_runs.specs.FrameEnvMachine.{retired_by, retired_from}
+use Rattle.cilk_determinacy.specs.FrameEnvMachine.{retired_by, retired_from}
 use Rattle.cilk_determinacy.specs.Nested.{named_event, named_from, named}
 use Rattle.cilk_determinacy.specs.ReducerEvents.{OfKind, only, view_over, of_instance, retired_all, of_event, reducer_events, finals_over, ValuesAreViewed, FinalsAreViewed}
-use Rattle.cilk_runs.specs.Reducers.{kind_of}
-use Rattle.cilk_runs.specs.FrameEnvs.{Reducers, FrameEnv, first_env, child_env, global_named, own_named}
+use Rattle.cilk_determinacy.specs.Reducers.{kind_of}
+use Rattle.cilk_determinacy.specs.FrameEnvs.{Reducers, FrameEnv, first_env, child_env, global_named, own_named}
 use Rattle.cilk_determinacy.specs.Numbers.{instance_number, HasInstance}
 use Rattle.cilk_determinacy.proofs.Determinate.{ran}
 use Rattle.cilk_determinacy.proofs.Sights.{IsNumbered, tied_reducer, own_tied, Stands}

@@ -22,15 +22,15 @@ use Rattle.cilk_program.specs.SerialRun as serial
 use Rattle.cilk_program.specs.SerialRun.{Memory, Frame, own_reducers, own_from, cell_at, reducer_at, next_frame, begun, counted, answer_to, put_result, result_written, stored, event_of, invocation, IsInner, Ending, Finished, Serial, Made, Ended, Went}
 use Rattle.cilk_program.specs.Numbering.{counts_of, counts_after, entered}
 use Rattle.cilk_program.proofs.Numbers.{serial_counts}
-use Rattle.cilk_runs.specs.Runs.{Cell, Global, Instance, Event, Reads, Writes, Syncs, Ends, Passes, Begins, Resumes, Creates, Updates, Sets, Values, Prints, Deed, Invokes, Run, stop, act, child}
-use Rattle.cilk_runs.specs.Machine.{put}
-use Rattle.cilk_runs.specs.Monoids.{on_view}
-use Rattle.cilk_runs.specs.Serial.{value_after, IsReadRight, IsSerial}
-use Rattle.cilk_runs.specs.Traces.{trace, IsWrittenEvent, IsWritten, AreWritten}
-use Rattle.cilk_runs.specs.Views.{view_after, IsViewRight, IsSerialViews}
-use Rattle.cilk_runs.specs.Reducers.{View, value_of, kind_of, monoid_of}
-use Rattle.cilk_runs.specs.FrameEnvs.{Reducers, own_named, global_named, FrameEnv, child_env, cell_seen, result_cell}
-use Rattle.cilk_runs.specs.FrameEnvMachine.{retired_by}
+use Rattle.cilk_determinacy.specs.Runs.{Cell, Global, Instance, Event, Reads, Writes, Syncs, Ends, Passes, Begins, Resumes, Creates, Updates, Sets, Values, Prints, Deed, Invokes, Run, stop, act, child}
+use Rattle.cilk_determinacy.specs.Machine.{put}
+use Rattle.cilk_determinacy.specs.Monoids.{on_view}
+use Rattle.cilk_determinacy.specs.Serial.{value_after, IsReadRight, IsSerial}
+use Rattle.cilk_determinacy.specs.Traces.{trace, IsWrittenEvent, IsWritten, AreWritten}
+use Rattle.cilk_determinacy.specs.Views.{view_after, IsViewRight, IsSerialViews}
+use Rattle.cilk_determinacy.specs.Reducers.{View, value_of, kind_of, monoid_of}
+use Rattle.cilk_determinacy.specs.FrameEnvs.{Reducers, own_named, global_named, FrameEnv, child_env, cell_seen, result_cell}
+use Rattle.cilk_determinacy.specs.FrameEnvMachine.{retired_by}
 use Rattle.cilk_determinacy.specs.Nested.{named_event, named_from}
 use Rattle.cilk_determinacy.specs.Theorem.{SetsWord, SetWords}
 use Rattle.cilk_determinacy.specs.Numbers.{cell_number, instance_number, HasCell, HasInstance}

@@ -14,11 +14,11 @@ use Rattle.cilk_program.specs.SerialRun as serial
 use Rattle.cilk_program.specs.Order.{writings, creations, opening_asks, Stage, Fresh, Due, Going, Resuming, Synced, Closing, opened, IsOwnAt, IsOrderly}
 use Rattle.cilk_program.proofs.Legal.{IsPlain}
 use Rattle.cilk_program.proofs.Closings.{IsOpening, IsSound, AreOpening, opening_asks_open, opened_sound, View, Begins as BeginsNow, Opens, Goes, Calls as CallsNow, Spawns as SpawnsNow, Syncs as SyncsNow, Resumes as ResumesNow, Again, Gives, Ends as EndsNow, EndsThen, view}
-use Rattle.cilk_runs.specs.Runs.{Instance, has_instance, same_instance}
-use Rattle.cilk_runs.specs.Views.{IsCreate, IsRetire, IsRetiredAtHome}
-use Rattle.cilk_runs.proofs.Basics.{same_instance-eq}
-use Rattle.cilk_runs.specs.FrameEnvs.{Reducers, own_named, FrameEnv, env_of, first_env, child_env, reducer_seen}
-use Rattle.cilk_runs.specs.FrameEnvMachine.{retired_from, retired_by}
+use Rattle.cilk_determinacy.specs.Runs.{Instance, has_instance, same_instance}
+use Rattle.cilk_determinacy.specs.Views.{IsCreate, IsRetire, IsRetiredAtHome}
+use Rattle.cilk_determinacy.proofs.Basics.{same_instance-eq}
+use Rattle.cilk_determinacy.specs.FrameEnvs.{Reducers, own_named, FrameEnv, env_of, first_env, child_env, reducer_seen}
+use Rattle.cilk_determinacy.specs.FrameEnvMachine.{retired_from, retired_by}
 use Rattle.cilk_determinacy.specs.Nested.{named_event, named_from, named}
 
 -- ---- ends retire what was created

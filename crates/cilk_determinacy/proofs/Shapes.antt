@@ -10,10 +10,10 @@ use Rattle.cilk_program.specs.SerialRun.{answer_to, IsInner, Ending, Finished, S
 use Rattle.cilk_program.specs.Closed as language
 use Rattle.cilk_types.specs.declared.invocation.Invocation.{Invocation}
 use Rattle.cilk_types.specs.declared.invocation.Invocation.TheVariants.{Call, Spawn}
-use Rattle.cilk_runs.specs.Runs.{Reads, Writes, Syncs, Ends, Passes, Begins, Resumes, Creates, Updates, Sets, Values, Prints, Run, stop, act, child}
-use Rattle.cilk_runs.specs.Serial.{SyncAhead, GoesOn, ComesAfter, IsClosed}
-use Rattle.cilk_runs.specs.Traces.{Due, begin_due, resume_due, neither_due, IsFramed}
-use Rattle.cilk_runs.specs.FrameEnvs.{FrameEnv, child_env}
+use Rattle.cilk_determinacy.specs.Runs.{Reads, Writes, Syncs, Ends, Passes, Begins, Resumes, Creates, Updates, Sets, Values, Prints, Run, stop, act, child}
+use Rattle.cilk_determinacy.specs.Serial.{SyncAhead, GoesOn, ComesAfter, IsClosed}
+use Rattle.cilk_determinacy.specs.Traces.{Due, begin_due, resume_due, neither_due, IsFramed}
+use Rattle.cilk_determinacy.specs.FrameEnvs.{FrameEnv, child_env}
 use Rattle.cilk_determinacy.specs.Nested.{named_from}
 
 -- ---- from the language's run

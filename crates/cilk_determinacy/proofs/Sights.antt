@@ -17,9 +17,9 @@ use Rattle.cilk_program.specs.WellNamed.{is_kind}
 use Rattle.cilk_program.specs.SerialRun.{Transcript, Frame, itself, global_reducer, own_reducers, first_place, home_of, outer_of, given_to, result_of}
 use Rattle.cilk_program.specs.Numbering.{Counts, unbegun, block_of, child_at, frame_at}
 use Rattle.cilk_program.specs.Visible.{GlobalsAreThere, FrameSees}
-use Rattle.cilk_runs.specs.Runs.{Name, Cell, Global}
-use Rattle.cilk_runs.specs.Reducers.{kind_of}
-use Rattle.cilk_runs.specs.FrameEnvs.{Reducers, Sight, global_named, before_own, own_named, home_named, outer_named, given_named, result_named, FrameEnv}
+use Rattle.cilk_determinacy.specs.Runs.{Name, Cell, Global}
+use Rattle.cilk_determinacy.specs.Reducers.{kind_of}
+use Rattle.cilk_determinacy.specs.FrameEnvs.{Reducers, Sight, global_named, before_own, own_named, home_named, outer_named, given_named, result_named, FrameEnv}
 use Rattle.cilk_determinacy.specs.Numbers.{up, child_runs, frame_runs, all_reducers, cell_number, instance_number, IsHere, HasCell, HasReducer, HasInstance}
 use Rattle.cilk_determinacy.proofs.Numbers.{cell_is, number_is}
 

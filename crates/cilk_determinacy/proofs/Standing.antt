@@ -13,7 +13,7 @@ use Rattle.cilk_program.specs.SerialRun.{Transcript, act, child, Memory, Frame, 
 use Rattle.cilk_program.specs.Numbering.{Counts, counts_of, counts_after, unbegun, entered}
 use Rattle.cilk_program.proofs.Asked.{asks_there}
 use Rattle.cilk_program.proofs.Visible.{can_invoke}
-use Rattle.cilk_runs.specs.FrameEnvs.{FrameEnv, first_env, child_env}
+use Rattle.cilk_determinacy.specs.FrameEnvs.{FrameEnv, first_env, child_env}
 use Rattle.cilk_determinacy.proofs.Sights.{Stands, Ahead}
 use Rattle.cilk_determinacy.proofs.Children.{root_ahead, child_ahead, past_ahead, root_stands, root_path, child_stands, child_path}
 

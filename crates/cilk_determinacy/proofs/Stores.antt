@@ -11,11 +11,11 @@ use Rattle.cilk_program.specs.Store.{Store, put, put_view, clear, clear_all, pri
 use Rattle.cilk_program.specs.Syntax.{Source}
 use Rattle.cilk_program.specs.WellNamed.{is_kind}
 use Rattle.cilk_program.specs.SerialRun.{Transcript}
-use Rattle.cilk_runs.specs.Runs.{Cell, same_cell, Instance, Output, Reducer, same_instance, has_instance}
-use Rattle.cilk_runs.proofs.Basics.{same_instance-eq}
-use Rattle.cilk_runs.specs.Reducers.{View, value_of, kind_of}
-use Rattle.cilk_runs.specs.FrameEnvs.{Reducers}
-use Rattle.cilk_runs.specs.FrameEnvMachine.{retired_from}
+use Rattle.cilk_determinacy.specs.Runs.{Cell, same_cell, Instance, Output, Reducer, same_instance, has_instance}
+use Rattle.cilk_determinacy.proofs.Basics.{same_instance-eq}
+use Rattle.cilk_determinacy.specs.Reducers.{View, value_of, kind_of}
+use Rattle.cilk_determinacy.specs.FrameEnvs.{Reducers}
+use Rattle.cilk_determinacy.specs.FrameEnvMachine.{retired_from}
 use Rattle.cilk_determinacy.specs.Numbers.{cell_number, instance_number, HasCell, HasInstance}
 use Rattle.cilk_determinacy.proofs.Numbers.{same_cells, same_instances}
 use Rattle.cilk_determinacy.proofs.Sights.{IsNumbered}

@@ -14,15 +14,15 @@ use Rattle.cilk_types.specs.declared.event.Event as numbers
 use Rattle.cilk_types.specs.declared.event.Instance as numbered
 use Rattle.cilk_program.specs.SerialRun as serial
 use Rattle.cilk_program.specs.Syntax.{Source}
-use Rattle.cilk_runs.specs.Runs.{Name, Cell, Instance, Event, Reads, Writes, Syncs, Ends, Passes, Begins, Resumes, Creates, Updates, Sets, Values, Prints, Deed, Invokes, Run, stop, act, child}
-use Rattle.cilk_runs.specs.Traces.{trace}
+use Rattle.cilk_determinacy.specs.Runs.{Name, Cell, Instance, Event, Reads, Writes, Syncs, Ends, Passes, Begins, Resumes, Creates, Updates, Sets, Values, Prints, Deed, Invokes, Run, stop, act, child}
+use Rattle.cilk_determinacy.specs.Traces.{trace}
 use Rattle.cilk_tree.specs.Marks.{mark_of, begun_by}
 use Rattle.cilk_tree.specs.Races.{strand_at}
-use Rattle.cilk_runs.specs.Traces.{Due, begin_due, resume_due, neither_due, IsFramed, IsWrittenEvent, IsWritten, AreWritten}
-use Rattle.cilk_runs.specs.FrameEnvs.{FrameEnv, first_env, child_env}
+use Rattle.cilk_determinacy.specs.Traces.{Due, begin_due, resume_due, neither_due, IsFramed, IsWrittenEvent, IsWritten, AreWritten}
+use Rattle.cilk_determinacy.specs.FrameEnvs.{FrameEnv, first_env, child_env}
 use Rattle.cilk_determinacy.specs.Nested.{named, named_from, named_event}
 use Rattle.cilk_determinacy.specs.Numbers.{cell_number, instance_number}
-use Rattle.cilk_runs.specs.Machine.{begins_strand}
+use Rattle.cilk_determinacy.specs.Machine.{begins_strand}
 use Rattle.cilk_determinacy.specs.StrandNames.{StrandName, strand, strands_from, strand_of_each, strand_names, StrandsHaveNames}
 use Rattle.cilk_determinacy.proofs.Determinate.{serial_numbered}
 

@@ -20,19 +20,19 @@ use Rattle.cilk_program.specs.SerialRun.{Frame, invocation, result_written}
 use Rattle.cilk_program.specs.Numbering.{Counts, unbegun, entered, counts_after, frame_of, events_of}
 use Rattle.cilk_program.proofs.Closings.{runs_begin, runs_resume, runs_end}
 use Rattle.cilk_program.proofs.Numbers.{run_events}
-use Rattle.cilk_runs.specs.Runs.{Reads, Writes, Syncs, Ends, Passes, Begins, Resumes, Creates, Updates, Sets, Values, Prints, Run, act, child}
-use Rattle.cilk_runs.specs.Serial.{SyncAhead}
+use Rattle.cilk_determinacy.specs.Runs.{Reads, Writes, Syncs, Ends, Passes, Begins, Resumes, Creates, Updates, Sets, Values, Prints, Run, act, child}
+use Rattle.cilk_determinacy.specs.Serial.{SyncAhead}
 use Rattle.cilk_tree.specs.declared.mark.Mark.{Mark}
 use Rattle.cilk_tree.specs.declared.mark.Mark.TheVariants as mark
 use Rattle.cilk_tree.specs.Marks.{mark_of}
 use Rattle.cilk_tree.specs.Reach as reach
 use Rattle.cilk_tree.specs.Shape.{Shape, marks, start_of, Spells}
 use Rattle.cilk_tree.proofs.Spelled.{spells_one}
-use Rattle.cilk_runs.specs.Traces.{Due, begin_due, resume_due, neither_due, IsFramed, shape_of}
-use Rattle.cilk_runs.proofs.Spells.{ahead}
+use Rattle.cilk_determinacy.specs.Traces.{Due, begin_due, resume_due, neither_due, IsFramed, shape_of}
+use Rattle.cilk_determinacy.proofs.Spells.{ahead}
 use Rattle.cilk_determinacy.specs.Nested.{named_from, named}
 use Rattle.cilk_determinacy.specs.Strands.{SpellOneShape}
-use Rattle.cilk_runs.specs.FrameEnvs.{FrameEnv, first_env, child_env}
+use Rattle.cilk_determinacy.specs.FrameEnvs.{FrameEnv, first_env, child_env}
 use Rattle.cilk_determinacy.proofs.Assembled.{is_framed}
 use Rattle.cilk_determinacy.proofs.Determinate.{ran}
 use Rattle.cilk_determinacy.proofs.Shapes.{IsProper, ProperAt, Stage, IsSynced, serial_proper, synced}

@@ -7,10 +7,10 @@ use Rattle.cilk_program.specs.SerialRun as serial
 use Rattle.cilk_program.specs.Created.{Among, Passes as Goes, deed_of, IsCreated, made_by, AreCreated}
 use Rattle.cilk_types.specs.declared.invocation.Invocation.{Invocation}
 use Rattle.cilk_types.specs.declared.invocation.Invocation.TheVariants.{Call, Spawn}
-use Rattle.cilk_runs.specs.Runs.{Instance, Output, Reducer, Event, Reads, Writes, Syncs, Ends, Passes, Begins, Resumes, Creates, Updates, Sets, Values, Prints, Deed, Invokes, Run, stop, act, child}
-use Rattle.cilk_runs.specs.Views.{HasEventWith, IsReducerRead, IsUpdate, IsCreatedFirst, IsCreated as IsCreatedOrUnread}
-use Rattle.cilk_runs.specs.Traces.{trace, IsWrittenEvent, IsWritten, AreWritten}
-use Rattle.cilk_runs.specs.FrameEnvs.{FrameEnv}
+use Rattle.cilk_determinacy.specs.Runs.{Instance, Output, Reducer, Event, Reads, Writes, Syncs, Ends, Passes, Begins, Resumes, Creates, Updates, Sets, Values, Prints, Deed, Invokes, Run, stop, act, child}
+use Rattle.cilk_determinacy.specs.Views.{HasEventWith, IsReducerRead, IsUpdate, IsCreatedFirst, IsCreated as IsCreatedOrUnread}
+use Rattle.cilk_determinacy.specs.Traces.{trace, IsWrittenEvent, IsWritten, AreWritten}
+use Rattle.cilk_determinacy.specs.FrameEnvs.{FrameEnv}
 use Rattle.cilk_determinacy.specs.Numbers.{cell_number, instance_number, HasInstance}
 use Rattle.cilk_determinacy.proofs.Numbers.{declared_one}
 use Rattle.cilk_determinacy.proofs.Remembered.{EventHas, RunHas}

@@ -5,11 +5,11 @@ use Rattle.cilk_program.specs.Syntax.{Source}
 use Rattle.cilk_program.specs.SerialRun as serial
 use Rattle.cilk_program.specs.SerialRun.{cells_of}
 use Rattle.cilk_program.specs.Numbering.{Counts, counts_after, entered}
-use Rattle.cilk_runs.specs.Runs.{Event, Reads, Writes, Syncs, Ends, Passes, Deed, Does, Invokes, Run, stop, act, child, ask_of}
-use Rattle.cilk_runs.specs.Costs.{EventTotal, FrameTotal, CellTotal, frame_cost, cells_of as cells_begun, weight}
-use Rattle.cilk_runs.specs.Traces.{trace, AreWritten}
-use Rattle.cilk_runs.specs.FrameEnvs.{FrameEnv, child_env}
-use Rattle.cilk_runs.specs.FrameEnvMachine.{costs}
+use Rattle.cilk_determinacy.specs.Runs.{Event, Reads, Writes, Syncs, Ends, Passes, Deed, Does, Invokes, Run, stop, act, child, ask_of}
+use Rattle.cilk_determinacy.specs.Costs.{EventTotal, FrameTotal, CellTotal, frame_cost, cells_of as cells_begun, weight}
+use Rattle.cilk_determinacy.specs.Traces.{trace, AreWritten}
+use Rattle.cilk_determinacy.specs.FrameEnvs.{FrameEnv, child_env}
+use Rattle.cilk_determinacy.specs.FrameEnvMachine.{costs}
 use Rattle.cilk_determinacy.specs.Nested.{named_event, named_from}
 
 no_frames : (W : Type 0) (e : Event) → frame_cost {W = W} (ask_of e) ≡ 0

@@ -4,12 +4,12 @@ use Rattle.std.specs.Prelude.{◌≡◌, ◌≤◌, ℤ, List, Some}
 use Rattle.cilk_types.specs.declared.limits.TheConstants.{MAX_EVENTS}
 use Rattle.cilk_monoid.specs.Kinds.{size_of}
 use Rattle.cilk_program.specs.Syntax.{Source}
-use Rattle.cilk_runs.specs.Costs.{EventTotal}
-use Rattle.cilk_runs.specs.Runs.{Name, Instance}
-use Rattle.cilk_runs.specs.Machine.{Frame, State}
-use Rattle.cilk_runs.specs.Reducers.{View, kind_of, value_of}
-use Rattle.cilk_runs.specs.Steps.{Reaches}
-use Rattle.cilk_runs.specs.FrameEnvs.{FrameEnv}
+use Rattle.cilk_determinacy.specs.Costs.{EventTotal}
+use Rattle.cilk_determinacy.specs.Runs.{Name, Instance}
+use Rattle.cilk_determinacy.specs.Machine.{Frame, State}
+use Rattle.cilk_determinacy.specs.Reducers.{View, kind_of, value_of}
+use Rattle.cilk_determinacy.specs.Steps.{Reaches}
+use Rattle.cilk_determinacy.specs.FrameEnvs.{FrameEnv}
 use Rattle.cilk_determinacy.specs.Held.{LengthsAreWords}
 use Rattle.cilk_determinacy.specs.Words.{HasWords, InputsAreWords}
 

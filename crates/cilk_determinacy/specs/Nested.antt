@@ -4,9 +4,9 @@ use Rattle.cilk_program.specs.declared.ask.Ask as language
 use Rattle.cilk_program.specs.declared.ask.Ask.TheVariants as asks
 use Rattle.cilk_program.specs.Syntax.{Source}
 use Rattle.cilk_program.specs.SerialRun as serial
-use Rattle.cilk_runs.specs.Runs.{Event, Reads, Writes, Syncs, Ends, Passes, Begins, Resumes, Creates, Updates, Sets, Values, Prints, Run, stop, act, child}
-use Rattle.cilk_runs.specs.FrameEnvs.{FrameEnv, first_env, child_env, cell_seen, reducer_seen, result_cell}
-use Rattle.cilk_runs.specs.FrameEnvMachine.{retired_by}
+use Rattle.cilk_determinacy.specs.Runs.{Event, Reads, Writes, Syncs, Ends, Passes, Begins, Resumes, Creates, Updates, Sets, Values, Prints, Run, stop, act, child}
+use Rattle.cilk_determinacy.specs.FrameEnvs.{FrameEnv, first_env, child_env, cell_seen, reducer_seen, result_cell}
+use Rattle.cilk_determinacy.specs.FrameEnvMachine.{retired_by}
 
 -- the event of an ask with this answer; a child's start and a fault are no events of this kind
 abbrev pub named_event : Source → FrameEnv → language.Ask → ℤ → Event

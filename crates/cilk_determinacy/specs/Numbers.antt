@@ -13,9 +13,9 @@ use Rattle.cilk_program.specs.WellNamed.{is_kind, is_well_named}
 use Rattle.cilk_program.specs.Numbering.{Block, frame_at}
 use Rattle.cilk_types.specs.declared.invocation.Invocation.{Invocation}
 use Rattle.cilk_types.specs.declared.invocation.Invocation.TheVariants.{Call, Spawn}
-use Rattle.cilk_runs.specs.Runs.{Name, Cell, Global, Own, Instance, Output, Reducer, Event, Reads, Writes, Syncs, Ends, Passes, Granted, Begins, Resumes, Creates, Updates, Sets, Values, Prints, Run, stop, act, child}
+use Rattle.cilk_determinacy.specs.Runs.{Name, Cell, Global, Own, Instance, Output, Reducer, Event, Reads, Writes, Syncs, Ends, Passes, Granted, Begins, Resumes, Creates, Updates, Sets, Values, Prints, Run, stop, act, child}
 use Rattle.cilk_determinacy.specs.Nested.{named}
-use Rattle.cilk_runs.specs.FrameEnvs.{FrameEnv}
+use Rattle.cilk_determinacy.specs.FrameEnvs.{FrameEnv}
 
 -- names count children from 1, paths count them from 0
 abbrev pub up : List ℕ → Name

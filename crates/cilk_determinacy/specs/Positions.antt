@@ -6,13 +6,13 @@ use Rattle.cilk_program.specs.Outcomes.{Leaves}
 use Rattle.cilk_program.specs.SerialRun as serial
 use Rattle.cilk_program.specs.Syntax.{Source}
 use Rattle.cilk_program.specs.WellNamed.{is_well_named}
-use Rattle.cilk_runs.specs.Cuts.{below}
-use Rattle.cilk_runs.specs.Machine.{State, deeds_at}
-use Rattle.cilk_runs.specs.Positions.{made_at, IsClosedBefore}
+use Rattle.cilk_determinacy.specs.Cuts.{below}
+use Rattle.cilk_determinacy.specs.Machine.{State, deeds_at}
+use Rattle.cilk_determinacy.specs.CutPositions.{made_at, IsClosedBefore}
 use Rattle.cilk_tree.specs.Shape.{Shape, Spells}
 use Rattle.cilk_tree.specs.Tree.{tree}
-use Rattle.cilk_runs.specs.Reducers.{View}
-use Rattle.cilk_runs.specs.FrameEnvs.{FrameEnv}
+use Rattle.cilk_determinacy.specs.Reducers.{View}
+use Rattle.cilk_determinacy.specs.FrameEnvs.{FrameEnv}
 use Rattle.cilk_determinacy.specs.Nested.{named}
 use Rattle.cilk_determinacy.specs.Theorem.{IsCut}
 

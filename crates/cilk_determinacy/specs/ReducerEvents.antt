@@ -14,13 +14,13 @@ use Rattle.cilk_program.specs.Syntax.{Source}
 use Rattle.cilk_program.specs.SerialRun as serial
 use Rattle.cilk_program.specs.SerialRun.{global_reducer}
 use Rattle.cilk_program.specs.WellNamed.{is_well_named}
-use Rattle.cilk_runs.specs.Runs.{Instance, Event, Reads, Writes, Syncs, Ends, Passes, Granted, Begins, Resumes, Creates, Updates, Sets, Values, Prints, Deed, Does, Invokes}
-use Rattle.cilk_runs.specs.Traces.{trace}
+use Rattle.cilk_determinacy.specs.Runs.{Instance, Event, Reads, Writes, Syncs, Ends, Passes, Granted, Begins, Resumes, Creates, Updates, Sets, Values, Prints, Deed, Does, Invokes}
+use Rattle.cilk_determinacy.specs.Traces.{trace}
 use Rattle.cilk_tree.specs.Races.{event_at}
 use Rattle.cilk_determinacy.specs.Nested.{named}
 use Rattle.cilk_determinacy.specs.Numbers.{instance_number, HasInstance}
-use Rattle.cilk_runs.specs.Reducers.{kind_of}
-use Rattle.cilk_runs.specs.FrameEnvs.{FrameEnv}
+use Rattle.cilk_determinacy.specs.Reducers.{kind_of}
+use Rattle.cilk_determinacy.specs.FrameEnvs.{FrameEnv}
 
 -- an event of a reducer with this monoid
 pub record OfKind : Type 0 where

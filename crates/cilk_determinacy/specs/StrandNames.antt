@@ -6,11 +6,11 @@ use Rattle.cilk_program.specs.Outcomes.{Leaves}
 use Rattle.cilk_program.specs.SerialRun as serial
 use Rattle.cilk_program.specs.Syntax.{Source}
 use Rattle.cilk_program.specs.WellNamed.{is_well_named}
-use Rattle.cilk_runs.specs.Machine.{begins_strand}
-use Rattle.cilk_runs.specs.Runs.{Name, Run, stop, act, child}
+use Rattle.cilk_determinacy.specs.Machine.{begins_strand}
+use Rattle.cilk_determinacy.specs.Runs.{Name, Run, stop, act, child}
 use Rattle.cilk_tree.specs.Before.{IsPosition}
 use Rattle.cilk_tree.specs.Races.{strand_at}
-use Rattle.cilk_runs.specs.FrameEnvs.{FrameEnv}
+use Rattle.cilk_determinacy.specs.FrameEnvs.{FrameEnv}
 use Rattle.cilk_determinacy.specs.Nested.{named}
 
 -- a strand's name: its frame's name, and its place among the frame's strands, from 1

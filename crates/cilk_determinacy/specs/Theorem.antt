@@ -16,16 +16,16 @@ use Rattle.cilk_program.specs.SerialRun as serial
 use Rattle.cilk_program.specs.Ticks.{IsWithin}
 use Rattle.cilk_tree.specs.Shape.{Spells}
 use Rattle.cilk_peers.specs.RaceFree.{IsRaceFree}
-use Rattle.cilk_runs.specs.Runs.{Name}
-use Rattle.cilk_runs.specs.Costs.{Total, TickTotal, EventTotal, FrameTotal, CellTotal, weight}
-use Rattle.cilk_runs.specs.Machine.{State, deeds_at, HasEnd}
-use Rattle.cilk_runs.specs.Cuts.{IsConsistent}
-use Rattle.cilk_runs.specs.Theorem.{IsNestedSerialRun, Agrees}
-use Rattle.cilk_runs.specs.Traces.{trace, begin_due, IsFramed, shape_of, AreWritten}
-use Rattle.cilk_runs.specs.Reducers.{View, monoid_of}
-use Rattle.cilk_runs.specs.FrameEnvs.{FrameEnv, first_env}
-use Rattle.cilk_runs.specs.FrameEnvMachine.{used, costs, opening_values}
-use Rattle.cilk_runs.specs.Steps.{Next, IsFirst, OneStep, Reaches, outcome_in}
+use Rattle.cilk_determinacy.specs.Runs.{Name}
+use Rattle.cilk_determinacy.specs.Costs.{Total, TickTotal, EventTotal, FrameTotal, CellTotal, weight}
+use Rattle.cilk_determinacy.specs.Machine.{State, deeds_at, HasEnd}
+use Rattle.cilk_determinacy.specs.Cuts.{IsConsistent}
+use Rattle.cilk_determinacy.specs.MachineTheorem.{IsNestedSerialRun, Agrees}
+use Rattle.cilk_determinacy.specs.Traces.{trace, begin_due, IsFramed, shape_of, AreWritten}
+use Rattle.cilk_determinacy.specs.Reducers.{View, monoid_of}
+use Rattle.cilk_determinacy.specs.FrameEnvs.{FrameEnv, first_env}
+use Rattle.cilk_determinacy.specs.FrameEnvMachine.{used, costs, opening_values}
+use Rattle.cilk_determinacy.specs.Steps.{Next, IsFirst, OneStep, Reaches, outcome_in}
 use Rattle.cilk_determinacy.specs.Nested.{named}
 use Rattle.cilk_determinacy.specs.Numbers.{cell_number, instance_number}
 
@@ -39,7 +39,7 @@ SetWords [] = Unit {0}
 SetWords (e ∷ es) = SetsWord e × SetWords es
 
 module _ (p : Source) (inputs : List ℤ) where
-  -- the serial run by names is one in the sense of `cilk_runs`
+  -- the serial run by names is one in the sense of `MachineTheorem`
   abbrev pub IsSerial : serial.Transcript → Type 0
   IsSerial r = IsNestedSerialRun FrameEnv View monoid_of (Next p inputs) (costs p inputs) (first_env p) (named p r) (opening_values p inputs)
 

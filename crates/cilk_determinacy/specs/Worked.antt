@@ -8,12 +8,12 @@ use Rattle.cilk_program.specs.Syntax.{Source}
 use Rattle.cilk_program.specs.SerialRun.{Transcript}
 use Rattle.cilk_program.specs.WorkedFrames.{get}
 use Rattle.cilk_program.specs.WorkedReducers.{changed, lent, again}
-use Rattle.cilk_runs.specs.Runs.{Name}
-use Rattle.cilk_runs.specs.Machine.{State, deeds_at, HasEnd}
-use Rattle.cilk_runs.specs.Reducers.{View}
-use Rattle.cilk_runs.specs.FrameEnvs.{FrameEnv}
+use Rattle.cilk_determinacy.specs.Runs.{Name}
+use Rattle.cilk_determinacy.specs.Machine.{State, deeds_at, HasEnd}
+use Rattle.cilk_determinacy.specs.Reducers.{View}
+use Rattle.cilk_determinacy.specs.FrameEnvs.{FrameEnv}
 use Rattle.cilk_determinacy.specs.Theorem.{RunsFree}
-use Rattle.cilk_runs.specs.Steps.{Reaches, outcome_in}
+use Rattle.cilk_determinacy.specs.Steps.{Reaches, outcome_in}
 
 -- the program's serial run has no race and this outcome
 abbrev pub IsFree : Source → List ℤ → Outcome → Type 0

@@ -21,9 +21,9 @@ pub fn words_make_words()
 {}
 
 /// The serial run of a well-named program that ends without a fault and sets reducers to words only
-/// is, by names and nested, a serial run in the sense of `cilk_runs`. Each frame makes the asks of
-/// its behaviour, reads and values are right, reducers are created before they are used and retired
-/// by the frames that created them, and no total exceeds its limit.
+/// is, by names and nested, a serial run in the sense of [`machine_laws`](crate::machine_laws). Each
+/// frame makes the asks of its behaviour, reads and values are right, reducers are created before
+/// they are used and retired by the frames that created them, and no total exceeds its limit.
 pub fn serial_run_by_names()
     ensures { (p : Source) (inputs : List ℤ) → SerialRunsByNames p inputs }
 {}

@@ -4,6 +4,7 @@
 //! input. Each function does nothing: its contract is the law.
 
 ghost use Rattle.cilk_program.specs.Sources.{source};
+ghost use Rattle.cilk_determinacy.specs.Settled.{SerialRunsSettle};
 ghost use Rattle.cilk_determinacy.specs.Words.{HasWords, InputsAreWords};
 
 use cilk_program::program::Program;
@@ -22,4 +23,13 @@ pub fn inputs_are_words(input: &Input)
 {
     input.are_words();
     let _count = input.count();
+}
+
+/// The theorem for a program and an input of the code, whose numbers are words and whose names are
+/// resolved. The only premises left are that the serial run ends without a fault and has no race.
+pub fn serial_runs_settle(program: &Program, input: &Input)
+    ensures { SerialRunsSettle (source program.now) input.now }
+{
+    programs_are_of_words(program);
+    inputs_are_words(input);
 }

@@ -3,9 +3,13 @@ pub mod Completes
 pub mod InputLaws
 pub mod Laws
 pub mod Lexical
+pub mod OneScript
 pub mod Parts
 pub mod Prefixes
 pub mod Reading
+pub mod ScriptGrammar
+pub mod ScriptSpellings
+pub mod Scripts
 pub mod Spelled
 pub mod Tokens
 pub mod Traces

@@ -1,6 +1,10 @@
 pub mod Answers
 pub mod Fronts
 pub mod Inputs
+pub mod OneScript
 pub mod Refused
+pub mod ScriptChoices
+pub mod ScriptGrammar
+pub mod Scripts
 pub mod Sources
 pub mod Texts

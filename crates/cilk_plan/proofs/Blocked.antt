@@ -27,10 +27,10 @@ use Rattle.cilk_tree.specs.Blocks.{SyncsAt, IsNextSync, EndsBlockOf}
 use Rattle.cilk_tree.specs.Frames.{IsInFrame, AreFrames}
 use Rattle.cilk_tree.proofs.Continuing.{one_frame}
 use Rattle.cilk_tree.proofs.Framed.{begins}
-use Rattle.cilk_runs.specs.Runs.{Name, Begins, Resumes, Creates, Updates, Sets, Values, Prints, Reads, Writes, Syncs, Ends, Passes, Run, stop, act, child}
-use Rattle.cilk_runs.specs.Runs as runs
-use Rattle.cilk_runs.specs.Serial.{SyncAhead}
-use Rattle.cilk_runs.specs.FrameEnvs.{FrameEnv, first_env}
+use Rattle.cilk_determinacy.specs.Runs.{Name, Begins, Resumes, Creates, Updates, Sets, Values, Prints, Reads, Writes, Syncs, Ends, Passes, Run, stop, act, child}
+use Rattle.cilk_determinacy.specs.Runs as runs
+use Rattle.cilk_determinacy.specs.Serial.{SyncAhead}
+use Rattle.cilk_determinacy.specs.FrameEnvs.{FrameEnv, first_env}
 use Rattle.cilk_determinacy.specs.Nested.{named}
 use Rattle.cilk_determinacy.specs.Numbers.{frame_number, numbered_event, numbered_events}
 use Rattle.cilk_determinacy.proofs.Numbered.{events_numbered}

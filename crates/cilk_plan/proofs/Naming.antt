@@ -21,10 +21,10 @@ use Rattle.cilk_program.specs.Syntax.{Source}
 use Rattle.cilk_program.specs.Numbering.{Counts, unbegun, entered, counts_after, Block, block_of, child_at, frame_at}
 use Rattle.cilk_program.proofs.Numbers.{cells_grow}
 use Rattle.cilk_program.proofs.Remembered.{runs_small}
-use Rattle.cilk_runs.specs.Runs as runs
-use Rattle.cilk_runs.specs.Runs.{Name, Run, Cell, Global, Own, Reads, Writes, Syncs, Ends, Passes, Begins, Resumes, Creates, Updates, Sets, Values, Prints}
+use Rattle.cilk_determinacy.specs.Runs as runs
+use Rattle.cilk_determinacy.specs.Runs.{Name, Run, Cell, Global, Own, Reads, Writes, Syncs, Ends, Passes, Begins, Resumes, Creates, Updates, Sets, Values, Prints}
 use Rattle.cilk_serial.specs.SoFar.{callees_of}
-use Rattle.cilk_runs.specs.FrameEnvs.{FrameEnv}
+use Rattle.cilk_determinacy.specs.FrameEnvs.{FrameEnv}
 use Rattle.cilk_determinacy.specs.Nested.{named}
 use Rattle.cilk_determinacy.specs.Numbers.{frame_number, cell_number, numbered_event, numbered_events, start_event, HasCell, EventIsHere, AreHere, AreNumbered}
 use Rattle.cilk_determinacy.proofs.Numbered.{events_numbered}

@@ -11,9 +11,9 @@ use cilk_findings::runs::Run;
 use cilk_findings::scene::Scene;
 use cilk_lower::lower::lower;
 use cilk_messages::words::Origin;
+use cilk_parser::script::{ScriptFault, Step, read};
+use cilk_parser::script_choices::{Choices, Next};
 use cilk_schedule::{Choice, Machine, Stop};
-use cilk_script::choices::{Choices, Next};
-use cilk_script::script::{ScriptFault, Step, read};
 use std::alloc::{AllocError, Global};
 
 /// The most rounds of one `all`.

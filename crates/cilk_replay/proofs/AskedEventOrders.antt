@@ -4,8 +4,8 @@ use Rattle.std.proofs.Common.{◌≡◌, ℕ, suc, ◌+◌, ◌-◌, ◌<◌, tr
 use Rattle.std.proofs.lemmas.List.{length-append, get_or_append_left, get_or-append-add}
 use Rattle.cilk_types.specs.declared.event.Event as numbers
 use Rattle.cilk_types.specs.declared.event.Instance as numbered
-use Rattle.cilk_runs.specs.Runs.{Cell, Instance, Deed}
-use Rattle.cilk_runs.specs.Traces.{trace, AreWritten}
+use Rattle.cilk_determinacy.specs.Runs.{Cell, Instance, Deed}
+use Rattle.cilk_determinacy.specs.Traces.{trace, AreWritten}
 use Rattle.cilk_tree.proofs.AlongPlans.{along_orderly, follows_all}
 use Rattle.cilk_tree.specs.Planned.{planned}
 use Rattle.cilk_replay.specs.InputCourses.{Course, stop, act, child, run_of, asked_in, IsAskedThroughout}

@@ -15,9 +15,9 @@ use Rattle.cilk_program.specs.Syntax.{Source}
 use Rattle.cilk_program.specs.WellNamed.{is_well_named}
 use Rattle.cilk_program.specs.Numbering.{Block, Counts, child_at, counts_after, counts_of, entered, frame_at, unbegun}
 use Rattle.cilk_program.proofs.Numbers.{serial_counts}
-use Rattle.cilk_runs.specs.Runs.{Name, Run, Deed, Does, Invokes}
-use Rattle.cilk_runs.specs.Runs as runs
-use Rattle.cilk_runs.specs.FrameEnvs.{FrameEnv, child_env}
+use Rattle.cilk_determinacy.specs.Runs.{Name, Run, Deed, Does, Invokes}
+use Rattle.cilk_determinacy.specs.Runs as runs
+use Rattle.cilk_determinacy.specs.FrameEnvs.{FrameEnv, child_env}
 use Rattle.cilk_determinacy.specs.Nested.{named_from}
 use Rattle.cilk_determinacy.specs.Numbers.{IsHere, child_runs, frame_number, frame_runs, start_event}
 use Rattle.cilk_determinacy.proofs.Sights.{Stands}

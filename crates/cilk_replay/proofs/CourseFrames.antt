@@ -4,12 +4,12 @@ use Rattle.cilk_program.specs.declared.program.Body.{Body}
 use Rattle.cilk_program.specs.declared.program.Body.TheVariants.{Function, Loop}
 use Rattle.cilk_program.specs.Inside.{body_of}
 use Rattle.cilk_program.specs.Syntax.{Source}
-use Rattle.cilk_runs.specs.Monoids.{unit_of}
-use Rattle.cilk_runs.specs.Runs.{Ask, Instance, Deed, Does, Ends}
-use Rattle.cilk_runs.proofs.Basics.{same_name-refl}
-use Rattle.cilk_runs.specs.FrameEnvMachine.{is_end, has_ended, next, opening_values}
-use Rattle.cilk_runs.specs.Reducers.{View, monoid_of}
-use Rattle.cilk_runs.specs.FrameEnvs.{FrameEnv, first_env}
+use Rattle.cilk_determinacy.specs.Monoids.{unit_of}
+use Rattle.cilk_determinacy.specs.Runs.{Ask, Instance, Deed, Does, Ends}
+use Rattle.cilk_determinacy.proofs.Basics.{same_name-refl}
+use Rattle.cilk_determinacy.specs.FrameEnvMachine.{is_end, has_ended, next, opening_values}
+use Rattle.cilk_determinacy.specs.Reducers.{View, monoid_of}
+use Rattle.cilk_determinacy.specs.FrameEnvs.{FrameEnv, first_env}
 use Rattle.cilk_replay.specs.InputCourses.{IsOverWithItsEnd}
 use Rattle.cilk_replay.specs.Frames.{same_body, same_frame, ProgramsHaveOneCourse, SerialRunsAreTheirCourses, AskedCoursesAreSerialRuns}
 use Rattle.cilk_replay.proofs.CourseRuns.{own_course, asked_is_serial}

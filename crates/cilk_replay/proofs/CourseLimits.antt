@@ -21,18 +21,18 @@ use Rattle.cilk_types.specs.declared.invocation.Invocation.TheVariants as invoca
 use Rattle.cilk_program.specs.Inside.{body_of}
 use Rattle.cilk_program.specs.SerialRun.{cells_of}
 use Rattle.cilk_program.specs.Syntax.{Source, function_at, loop_at}
-use Rattle.cilk_runs.specs.Costs.{EventTotal, FrameTotal, CellTotal, frame_cost, cells_of as cells_begun, weight}
-use Rattle.cilk_runs.specs.Machine.{put}
-use Rattle.cilk_runs.specs.Monoids.{on_view}
-use Rattle.cilk_runs.specs.Runs.{Cell, Instance, Ask, Write, Invoke, Begins, Resumes, Creates, Updates, Sets, Values, Prints, Event, Reads, Writes, Syncs, Ends, Passes, Deed, Does, Invokes, Run, ask_of}
-use Rattle.cilk_runs.specs.Runs as runs
-use Rattle.cilk_runs.specs.Serial.{value_after, Behaves}
-use Rattle.cilk_runs.specs.Theorem.{follows}
-use Rattle.cilk_runs.specs.Traces.{Due, begin_due, resume_due, neither_due, IsFramed}
-use Rattle.cilk_runs.specs.Views.{view_after}
-use Rattle.cilk_runs.specs.FrameEnvMachine.{named_ask, next, costs}
-use Rattle.cilk_runs.specs.Reducers.{View, monoid_of}
-use Rattle.cilk_runs.specs.FrameEnvs.{FrameEnv}
+use Rattle.cilk_determinacy.specs.Costs.{EventTotal, FrameTotal, CellTotal, frame_cost, cells_of as cells_begun, weight}
+use Rattle.cilk_determinacy.specs.Machine.{put}
+use Rattle.cilk_determinacy.specs.Monoids.{on_view}
+use Rattle.cilk_determinacy.specs.Runs.{Cell, Instance, Ask, Write, Invoke, Begins, Resumes, Creates, Updates, Sets, Values, Prints, Event, Reads, Writes, Syncs, Ends, Passes, Deed, Does, Invokes, Run, ask_of}
+use Rattle.cilk_determinacy.specs.Runs as runs
+use Rattle.cilk_determinacy.specs.Serial.{value_after, Behaves}
+use Rattle.cilk_determinacy.specs.MachineTheorem.{follows}
+use Rattle.cilk_determinacy.specs.Traces.{Due, begin_due, resume_due, neither_due, IsFramed}
+use Rattle.cilk_determinacy.specs.Views.{view_after}
+use Rattle.cilk_determinacy.specs.FrameEnvMachine.{named_ask, next, costs}
+use Rattle.cilk_determinacy.specs.Reducers.{View, monoid_of}
+use Rattle.cilk_determinacy.specs.FrameEnvs.{FrameEnv}
 use Rattle.cilk_replay.specs.InputCourses.{Course, stop, act, child, run_of, IsCourse}
 use Rattle.cilk_replay.specs.Frames.{same_body, same_frame}
 use Rattle.cilk_replay.proofs.OneRun.{invoked}

@@ -6,13 +6,13 @@ use Rattle.cilk_types.specs.declared.event.Instance as numbered
 use Rattle.cilk_types.specs.declared.invocation.Invocation.{Invocation}
 use Rattle.cilk_types.specs.declared.invocation.Invocation.TheVariants.{Call, Spawn}
 use Rattle.cilk_monoid.specs.Laws.{MonoidStructure}
-use Rattle.cilk_runs.specs.Runs.{Cell, Instance, Ask, Begins, Resumes, Creates, Updates, Sets, Values, Prints, Event, Reads, Writes, Syncs, Ends, Passes, Deed, Does, Invokes, Run}
-use Rattle.cilk_runs.specs.Runs as runs
-use Rattle.cilk_runs.specs.Machine.{put}
-use Rattle.cilk_runs.specs.Monoids.{on_view}
-use Rattle.cilk_runs.specs.Serial.{value_after}
-use Rattle.cilk_runs.specs.Traces.{trace, IsWrittenEvent, IsWritten, AreWritten}
-use Rattle.cilk_runs.specs.Views.{view_after}
+use Rattle.cilk_determinacy.specs.Runs.{Cell, Instance, Ask, Begins, Resumes, Creates, Updates, Sets, Values, Prints, Event, Reads, Writes, Syncs, Ends, Passes, Deed, Does, Invokes, Run}
+use Rattle.cilk_determinacy.specs.Runs as runs
+use Rattle.cilk_determinacy.specs.Machine.{put}
+use Rattle.cilk_determinacy.specs.Monoids.{on_view}
+use Rattle.cilk_determinacy.specs.Serial.{value_after}
+use Rattle.cilk_determinacy.specs.Traces.{trace, IsWrittenEvent, IsWritten, AreWritten}
+use Rattle.cilk_determinacy.specs.Views.{view_after}
 use Rattle.cilk_tree.specs.declared.kind.Kind.{Kind}
 use Rattle.cilk_tree.specs.Kinds.{kind_of}
 use Rattle.cilk_replay.specs.InputCourses.{Course, stop, act, child, run_of, IsLike, IsCourse}

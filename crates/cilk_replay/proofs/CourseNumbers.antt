@@ -18,17 +18,17 @@ use Rattle.cilk_program.specs.Syntax.{Source}
 use Rattle.cilk_program.specs.SerialRun as serial
 use Rattle.cilk_program.specs.SerialRun.{Transcript, cells_of}
 use Rattle.cilk_program.specs.Numbering.{Counts, Block, entered, counts_after, child_at, frame_at, unbegun}
-use Rattle.cilk_runs.specs.Machine.{put}
-use Rattle.cilk_runs.specs.Monoids.{on_view}
-use Rattle.cilk_runs.specs.Runs.{Name, Cell, Global, Own, Instance, Output, Reducer, Begins, Resumes, Creates, Updates, Sets, Values, Prints, Event, Reads, Writes, Syncs, Ends, Passes, Deed, Does, Invokes, Run}
-use Rattle.cilk_runs.specs.Runs as runs
-use Rattle.cilk_runs.specs.Serial.{value_after}
-use Rattle.cilk_runs.specs.Traces.{trace}
-use Rattle.cilk_runs.specs.Views.{view_after}
-use Rattle.cilk_runs.proofs.Basics.{same_name-eq}
-use Rattle.cilk_runs.specs.FrameEnvMachine.{next}
-use Rattle.cilk_runs.specs.Reducers.{View, monoid_of}
-use Rattle.cilk_runs.specs.FrameEnvs.{FrameEnv, child_env}
+use Rattle.cilk_determinacy.specs.Machine.{put}
+use Rattle.cilk_determinacy.specs.Monoids.{on_view}
+use Rattle.cilk_determinacy.specs.Runs.{Name, Cell, Global, Own, Instance, Output, Reducer, Begins, Resumes, Creates, Updates, Sets, Values, Prints, Event, Reads, Writes, Syncs, Ends, Passes, Deed, Does, Invokes, Run}
+use Rattle.cilk_determinacy.specs.Runs as runs
+use Rattle.cilk_determinacy.specs.Serial.{value_after}
+use Rattle.cilk_determinacy.specs.Traces.{trace}
+use Rattle.cilk_determinacy.specs.Views.{view_after}
+use Rattle.cilk_determinacy.proofs.Basics.{same_name-eq}
+use Rattle.cilk_determinacy.specs.FrameEnvMachine.{next}
+use Rattle.cilk_determinacy.specs.Reducers.{View, monoid_of}
+use Rattle.cilk_determinacy.specs.FrameEnvs.{FrameEnv, child_env}
 use Rattle.cilk_determinacy.specs.Nested.{named_from}
 use Rattle.cilk_determinacy.specs.Numbers.{down, number_of, first_cell, frame_number, cell_number, instance_number, start_event, numbered_event, numbered_events}
 use Rattle.cilk_determinacy.proofs.Numbered.{are_written}

@@ -2,14 +2,14 @@
 -- is a serial run: `asked_is_serial`.
 use Rattle.std.proofs.Common.{◌≡◌, ℤ, Bool, true, false, List, [], ◌∷◌, ◌++◌, Option, Some, None, refl, sym, ap, ◌∙◌, subst}
 use Rattle.cilk_monoid.specs.Laws.{MonoidStructure}
-use Rattle.cilk_runs.specs.Runs.{Cell, Instance, Ask, Granted, Begins, Resumes, Creates, Updates, Sets, Values, Prints, Event, Reads, Writes, Syncs, Ends, Passes, Deed, Does, Invokes, Run}
-use Rattle.cilk_runs.specs.Runs as runs
-use Rattle.cilk_runs.specs.Machine.{put}
-use Rattle.cilk_runs.specs.Monoids.{on_view}
-use Rattle.cilk_runs.specs.Serial.{value_after, IsSerial, Behaves}
-use Rattle.cilk_runs.specs.Traces.{Due, begin_due, resume_due, neither_due, IsFramed}
-use Rattle.cilk_runs.specs.Views.{view_after, IsSerialViews}
-use Rattle.cilk_runs.specs.Theorem.{follows}
+use Rattle.cilk_determinacy.specs.Runs.{Cell, Instance, Ask, Granted, Begins, Resumes, Creates, Updates, Sets, Values, Prints, Event, Reads, Writes, Syncs, Ends, Passes, Deed, Does, Invokes, Run}
+use Rattle.cilk_determinacy.specs.Runs as runs
+use Rattle.cilk_determinacy.specs.Machine.{put}
+use Rattle.cilk_determinacy.specs.Monoids.{on_view}
+use Rattle.cilk_determinacy.specs.Serial.{value_after, IsSerial, Behaves}
+use Rattle.cilk_determinacy.specs.Traces.{Due, begin_due, resume_due, neither_due, IsFramed}
+use Rattle.cilk_determinacy.specs.Views.{view_after, IsSerialViews}
+use Rattle.cilk_determinacy.specs.MachineTheorem.{follows}
 use Rattle.cilk_replay.specs.InputCourses.{Course, stop, act, child, run_of, all_asked, IsAskedThroughout, IsMarkLike, IsLike, IsMadeFor, IsCourse, OwnCourse, IsOverWithItsEnd, AskedCourseIsSerial}
 
 mark_like : (m : Granted) → IsMarkLike m m

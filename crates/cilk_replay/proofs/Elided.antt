@@ -17,16 +17,16 @@ use Rattle.cilk_program.specs.Syntax.{Source}
 use Rattle.cilk_program.specs.WellNamed.{is_kind}
 use Rattle.cilk_program.proofs.Remembered.{serial_right}
 use Rattle.cilk_program.proofs.Roots.{ends_as_elided}
-use Rattle.cilk_runs.specs.Costs.{TickTotal, whole}
-use Rattle.cilk_runs.specs.Monoids.{unit_of}
-use Rattle.cilk_runs.specs.Runs.{Cell, Global, Instance}
-use Rattle.cilk_runs.specs.Serial.{value_after}
-use Rattle.cilk_runs.specs.Traces.{trace}
-use Rattle.cilk_runs.specs.Views.{view_after}
-use Rattle.cilk_runs.specs.FrameEnvMachine.{costs, opening_values}
-use Rattle.cilk_runs.specs.Reducers.{View, monoid_of}
-use Rattle.cilk_runs.specs.Steps.{result_in, finals_in}
-use Rattle.cilk_runs.specs.FrameEnvs.{first_env, global_named}
+use Rattle.cilk_determinacy.specs.Costs.{TickTotal, whole}
+use Rattle.cilk_determinacy.specs.Monoids.{unit_of}
+use Rattle.cilk_determinacy.specs.Runs.{Cell, Global, Instance}
+use Rattle.cilk_determinacy.specs.Serial.{value_after}
+use Rattle.cilk_determinacy.specs.Traces.{trace}
+use Rattle.cilk_determinacy.specs.Views.{view_after}
+use Rattle.cilk_determinacy.specs.FrameEnvMachine.{costs, opening_values}
+use Rattle.cilk_determinacy.specs.Reducers.{View, monoid_of}
+use Rattle.cilk_determinacy.specs.Steps.{result_in, finals_in}
+use Rattle.cilk_determinacy.specs.FrameEnvs.{first_env, global_named}
 use Rattle.cilk_determinacy.specs.Nested.{named}
 use Rattle.cilk_determinacy.specs.Numbers.{cell_number, instance_number, HasInstance}
 use Rattle.cilk_determinacy.proofs.Remembered.{run_remembers, view_at}

@@ -21,13 +21,13 @@ use Rattle.cilk_tree.specs.Kinds.{IsOfWords}
 use Rattle.cilk_tree.specs.Passes.{predecessors_in}
 use Rattle.cilk_tree.specs.Planned.{planned}
 use Rattle.cilk_tree.specs.Planned as plans
-use Rattle.cilk_runs.specs.Monoids.{unit_of}
-use Rattle.cilk_runs.specs.Runs.{Cell, Global, Own, Instance, Begins, Resumes, Creates, Updates, Sets, Values, Prints, Event, Reads, Writes, Syncs, Ends, Passes, Deed, Does, Invokes, Run}
-use Rattle.cilk_runs.specs.Runs as runs
-use Rattle.cilk_runs.specs.Traces.{trace, begin_due, IsFramed, IsWritten, AreWritten}
-use Rattle.cilk_runs.specs.FrameEnvMachine.{next, opening_values}
-use Rattle.cilk_runs.specs.Reducers.{View, monoid_of}
-use Rattle.cilk_runs.specs.FrameEnvs.{FrameEnv, first_env}
+use Rattle.cilk_determinacy.specs.Monoids.{unit_of}
+use Rattle.cilk_determinacy.specs.Runs.{Cell, Global, Own, Instance, Begins, Resumes, Creates, Updates, Sets, Values, Prints, Event, Reads, Writes, Syncs, Ends, Passes, Deed, Does, Invokes, Run}
+use Rattle.cilk_determinacy.specs.Runs as runs
+use Rattle.cilk_determinacy.specs.Traces.{trace, begin_due, IsFramed, IsWritten, AreWritten}
+use Rattle.cilk_determinacy.specs.FrameEnvMachine.{next, opening_values}
+use Rattle.cilk_determinacy.specs.Reducers.{View, monoid_of}
+use Rattle.cilk_determinacy.specs.FrameEnvs.{FrameEnv, first_env}
 use Rattle.cilk_determinacy.specs.Nested.{named}
 use Rattle.cilk_determinacy.specs.Numbers.{cell_number, instance_number, HasCell, EventIsHere, AreHere}
 use Rattle.cilk_determinacy.specs.Theorem.{IsNumbered}

@@ -19,8 +19,8 @@ use Rattle.cilk_tree.specs.declared.kind.Kind.TheVariants as kinds
 use Rattle.cilk_program.specs.Outcomes.{Leaves}
 use Rattle.cilk_program.specs.SerialRun.{Transcript}
 use Rattle.cilk_program.specs.Numbering.{Block, block_of, frame_at, unbegun}
-use Rattle.cilk_runs.specs.Monoids.{unit_of}
-use Rattle.cilk_runs.specs.Reducers.{View, monoid_of}
+use Rattle.cilk_determinacy.specs.Monoids.{unit_of}
+use Rattle.cilk_determinacy.specs.Reducers.{View, monoid_of}
 use Rattle.cilk_determinacy.specs.Nested.{named}
 use Rattle.cilk_determinacy.proofs.Numbered.{events_numbered}
 use Rattle.cilk_determinacy.proofs.Numbers.{frame_is}
@@ -43,14 +43,14 @@ use Rattle.cilk_frames.specs.declared.cursor.Answer.TheVariants.{Done}
 use Rattle.cilk_frames.specs.Following.{Fits, HasAnswer, Runs, Stands, owed_for, word_in}
 use Rattle.cilk_tree.specs.Kinds.{kind_of}
 use Rattle.cilk_tree.specs.Planned.{planned}
-use Rattle.cilk_runs.specs.Runs.{Deed, Invokes}
-use Rattle.cilk_runs.specs.Machine.{started}
+use Rattle.cilk_determinacy.specs.Runs.{Deed, Invokes}
+use Rattle.cilk_determinacy.specs.Machine.{started}
 use Rattle.cilk_tree.specs.declared.event_order.EventOrder.{EventOrder}
 use Rattle.cilk_tree.specs.Runs.{IsAsked}
 use Rattle.cilk_tree.specs.Word.{event}
-use Rattle.cilk_runs.specs.FrameEnvMachine.{answer_of, answers_of, asked_after, has_ended, is_end, named_ask, next, opening_values}
-use Rattle.cilk_runs.specs.FrameEnvs.{FrameEnv, child_env, first_env}
-use Rattle.cilk_runs.proofs.KeptFrameEnv.{answers_more}
+use Rattle.cilk_determinacy.specs.FrameEnvMachine.{answer_of, answers_of, asked_after, has_ended, is_end, named_ask, next, opening_values}
+use Rattle.cilk_determinacy.specs.FrameEnvs.{FrameEnv, child_env, first_env}
+use Rattle.cilk_determinacy.proofs.Histories.{answers_more}
 use Rattle.cilk_determinacy.specs.Numbers.{AreNumbered, IsHere, cell_number, frame_number, instance_number, numbered_events}
 use Rattle.cilk_replay.specs.Frames.{course_on, same_body, same_frame}
 use Rattle.cilk_replay.specs.Points.{Point, points_on, IsPoint, IsTold, IsAskedBy, IsEventOf, IsLikeDeed, IsLater, IsFirst, IsReturn, AreTold, answer_in}

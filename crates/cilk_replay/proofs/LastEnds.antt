@@ -8,10 +8,10 @@ use Rattle.cilk_program.specs.Outcomes.{Leaves, outcome_of}
 use Rattle.cilk_program.specs.SerialRun.{Transcript, Memory, Frame, Ending, Finished, Stopped, Serial, Made, Ended, Went, Broke, Refused, answer_to, conclusion_of, global_reducer, IsSerialRun}
 use Rattle.cilk_program.specs.SerialRun as serial
 use Rattle.cilk_program.specs.Syntax.{Source}
-use Rattle.cilk_runs.specs.Runs.{Instance, Ends, Deed, Does, Invokes}
-use Rattle.cilk_runs.specs.Traces.{trace}
-use Rattle.cilk_runs.specs.Steps.{result_in}
-use Rattle.cilk_runs.specs.FrameEnvs.{FrameEnv, first_env, child_env}
+use Rattle.cilk_determinacy.specs.Runs.{Instance, Ends, Deed, Does, Invokes}
+use Rattle.cilk_determinacy.specs.Traces.{trace}
+use Rattle.cilk_determinacy.specs.Steps.{result_in}
+use Rattle.cilk_determinacy.specs.FrameEnvs.{FrameEnv, first_env, child_env}
 use Rattle.cilk_determinacy.specs.Nested.{named, named_event, named_from}
 
 -- the last deed is an end with this value

@@ -25,14 +25,14 @@ use Rattle.cilk_program.specs.Syntax.{Source}
 use Rattle.cilk_tree.specs.declared.kind.Kind.{Kind}
 use Rattle.cilk_tree.specs.Kinds.{kind_of, kind_of_event}
 use Rattle.cilk_program.specs.Numbering.{Block, frame_at}
-use Rattle.cilk_runs.specs.Machine.{started}
-use Rattle.cilk_runs.proofs.Basics.{same_name-refl}
-use Rattle.cilk_runs.specs.Runs.{Name, same_name, Cell, Instance, Ask, Write, Deed, Does, Invokes, Reads, Writes, Syncs, Ends, Passes, Begins, Resumes, Creates, Updates, Sets, Values, Prints}
-use Rattle.cilk_runs.specs.Traces.{IsWritten}
+use Rattle.cilk_determinacy.specs.Machine.{started}
+use Rattle.cilk_determinacy.proofs.Basics.{same_name-refl}
+use Rattle.cilk_determinacy.specs.Runs.{Name, same_name, Cell, Instance, Ask, Write, Deed, Does, Invokes, Reads, Writes, Syncs, Ends, Passes, Begins, Resumes, Creates, Updates, Sets, Values, Prints}
+use Rattle.cilk_determinacy.specs.Traces.{IsWritten}
 use Rattle.cilk_tree.specs.Runs.{IsAsked}
 use Rattle.cilk_tree.specs.Word.{event}
-use Rattle.cilk_runs.specs.FrameEnvMachine.{asked_after, has_ended, named_ask, next, retired_by}
-use Rattle.cilk_runs.specs.FrameEnvs.{FrameEnv, cell_seen, child_env, reducer_seen}
+use Rattle.cilk_determinacy.specs.FrameEnvMachine.{asked_after, has_ended, named_ask, next, retired_by}
+use Rattle.cilk_determinacy.specs.FrameEnvs.{FrameEnv, cell_seen, child_env, reducer_seen}
 use Rattle.cilk_determinacy.specs.Numbers.{HasCell, HasInstance, cell_number, frame_number, frame_runs, instance_number, start_event}
 use Rattle.cilk_determinacy.proofs.Numbers.{cells_one, frame_is, one_to_one}
 use Rattle.cilk_replay.specs.Frames.{same_body, same_frame}

@@ -15,15 +15,15 @@ use Rattle.cilk_monoid.specs.Laws.{MonoidStructure}
 use Rattle.cilk_program.specs.Inside.{body_of}
 use Rattle.cilk_program.specs.SerialRun.{Transcript}
 use Rattle.cilk_program.specs.Syntax.{Source}
-use Rattle.cilk_runs.specs.Machine.{put, started}
-use Rattle.cilk_runs.specs.Monoids.{on_view}
-use Rattle.cilk_runs.specs.Runs.{Name, same_name, Cell, Instance, Ask, Reads, Writes, Syncs, Ends, Passes, Begins, Resumes, Creates, Updates, Sets, Values, Prints, Deed, Does, Invokes, Run}
-use Rattle.cilk_runs.specs.Runs as runs
-use Rattle.cilk_runs.specs.Serial.{value_after}
-use Rattle.cilk_runs.specs.Views.{view_after}
-use Rattle.cilk_runs.proofs.Basics.{same_name-eq}
-use Rattle.cilk_runs.proofs.Started.{started_does, started_invokes}
-use Rattle.cilk_runs.specs.FrameEnvs.{FrameEnv}
+use Rattle.cilk_determinacy.specs.Machine.{put, started}
+use Rattle.cilk_determinacy.specs.Monoids.{on_view}
+use Rattle.cilk_determinacy.specs.Runs.{Name, same_name, Cell, Instance, Ask, Reads, Writes, Syncs, Ends, Passes, Begins, Resumes, Creates, Updates, Sets, Values, Prints, Deed, Does, Invokes, Run}
+use Rattle.cilk_determinacy.specs.Runs as runs
+use Rattle.cilk_determinacy.specs.Serial.{value_after}
+use Rattle.cilk_determinacy.specs.Views.{view_after}
+use Rattle.cilk_determinacy.proofs.Basics.{same_name-eq}
+use Rattle.cilk_determinacy.proofs.Started.{started_does, started_invokes}
+use Rattle.cilk_determinacy.specs.FrameEnvs.{FrameEnv}
 use Rattle.cilk_determinacy.specs.Numbers.{frame_number, start_event, numbered_event, numbered_events, IsHere, EventIsHere, AreHere}
 use Rattle.cilk_replay.specs.InputCourses.{Course, stop, act, child, run_of, asked_in, IsCourse}
 use Rattle.cilk_replay.specs.Frames.{same_body, same_frame}

@@ -31,20 +31,20 @@ use Rattle.cilk_program.specs.Ticks.{IsWithin}
 use Rattle.cilk_program.proofs.Existence.{serial_spends}
 use Rattle.cilk_program.proofs.Numbers.{serial_counts}
 use Rattle.cilk_program.proofs.Ticking.{at_full, frame_low, frame_further, not_out, runs_short}
-use Rattle.cilk_runs.specs.Costs.{TickTotal, FrameTotal, CellTotal, weight}
-use Rattle.cilk_runs.specs.Machine.{started, put}
-use Rattle.cilk_runs.specs.Monoids.{on_view}
-use Rattle.cilk_runs.specs.Runs.{Cell, Instance, Ask, Invoke, Event as Happens, Reads, Writes, Syncs, Ends, Passes, Deed, Does, Invokes, Run, stop, act, child, ask_of}
-use Rattle.cilk_runs.specs.Runs as runs
-use Rattle.cilk_runs.specs.Serial.{value_after, IsSerial, Behaves}
-use Rattle.cilk_runs.specs.Theorem.{follows}
-use Rattle.cilk_runs.specs.Traces.{trace}
-use Rattle.cilk_runs.specs.Views.{view_after, IsSerialViews}
-use Rattle.cilk_runs.proofs.Started.{started_does, started_invokes}
-use Rattle.cilk_runs.specs.FrameEnvMachine.{retired_by, named_ask, answer_of, answers_of, is_end, but_last, asked_after, next, taken, costs}
-use Rattle.cilk_runs.specs.Reducers.{View, monoid_of}
-use Rattle.cilk_runs.specs.FrameEnvs.{FrameEnv, child_env, reducer_seen}
-use Rattle.cilk_runs.proofs.KeptFrameEnv.{but_last_more, answers_more, ended_more}
+use Rattle.cilk_determinacy.specs.Costs.{TickTotal, FrameTotal, CellTotal, weight}
+use Rattle.cilk_determinacy.specs.Machine.{started, put}
+use Rattle.cilk_determinacy.specs.Monoids.{on_view}
+use Rattle.cilk_determinacy.specs.Runs.{Cell, Instance, Ask, Invoke, Event as Happens, Reads, Writes, Syncs, Ends, Passes, Deed, Does, Invokes, Run, stop, act, child, ask_of}
+use Rattle.cilk_determinacy.specs.Runs as runs
+use Rattle.cilk_determinacy.specs.Serial.{value_after, IsSerial, Behaves}
+use Rattle.cilk_determinacy.specs.MachineTheorem.{follows}
+use Rattle.cilk_determinacy.specs.Traces.{trace}
+use Rattle.cilk_determinacy.specs.Views.{view_after, IsSerialViews}
+use Rattle.cilk_determinacy.proofs.Started.{started_does, started_invokes}
+use Rattle.cilk_determinacy.specs.FrameEnvMachine.{retired_by, named_ask, answer_of, answers_of, is_end, but_last, asked_after, next, taken, costs}
+use Rattle.cilk_determinacy.specs.Reducers.{View, monoid_of}
+use Rattle.cilk_determinacy.specs.FrameEnvs.{FrameEnv, child_env, reducer_seen}
+use Rattle.cilk_determinacy.proofs.Histories.{but_last_more, answers_more, ended_more}
 use Rattle.cilk_determinacy.specs.Nested.{named_event, named_from}
 use Rattle.cilk_determinacy.specs.Numbers.{cell_number, instance_number}
 use Rattle.cilk_determinacy.specs.Theorem.{SetsWord, SetWords}

@@ -3,13 +3,13 @@ use Rattle.std.proofs.Common.{◌≡◌, ℤ, Bool, true, false, cond, List, [],
 use Rattle.cilk_types.specs.declared.invocation.Invocation.{Invocation}
 use Rattle.cilk_types.specs.declared.invocation.Invocation.TheVariants.{Call, Spawn}
 use Rattle.cilk_monoid.specs.Laws.{MonoidStructure}
-use Rattle.cilk_runs.specs.Runs.{Cell, same_cell, Instance, same_instance, Wish, Begin, Resume, Create, Update, Set, Value, Print, Ask, Read, Write, Invoke, Sync, End, Pass, Granted, Begins, Resumes, Creates, Updates, Sets, Values, Prints, Event, Reads, Writes, Syncs, Ends, Passes, Deed, Does, Invokes, Run, ask_of, wish_of}
-use Rattle.cilk_runs.specs.Runs as runs
-use Rattle.cilk_runs.specs.Machine.{put, mark_of}
-use Rattle.cilk_runs.specs.Monoids.{on_view, numbers_of}
-use Rattle.cilk_runs.specs.Serial.{value_after, IsReadRight}
-use Rattle.cilk_runs.specs.Views.{view_after, IsValueRight, IsViewRight}
-use Rattle.cilk_runs.proofs.Basics.{same_cell-refl, same_cell-eq, same_instance-refl, same_instance-eq}
+use Rattle.cilk_determinacy.specs.Runs.{Cell, same_cell, Instance, same_instance, Wish, Begin, Resume, Create, Update, Set, Value, Print, Ask, Read, Write, Invoke, Sync, End, Pass, Granted, Begins, Resumes, Creates, Updates, Sets, Values, Prints, Event, Reads, Writes, Syncs, Ends, Passes, Deed, Does, Invokes, Run, ask_of, wish_of}
+use Rattle.cilk_determinacy.specs.Runs as runs
+use Rattle.cilk_determinacy.specs.Machine.{put, mark_of}
+use Rattle.cilk_determinacy.specs.Monoids.{on_view, numbers_of}
+use Rattle.cilk_determinacy.specs.Serial.{value_after, IsReadRight}
+use Rattle.cilk_determinacy.specs.Views.{view_after, IsValueRight, IsViewRight}
+use Rattle.cilk_determinacy.proofs.Basics.{same_cell-refl, same_cell-eq, same_instance-refl, same_instance-eq}
 use Rattle.cilk_replay.specs.InputCourses.{Course, stop, act, child, run_of, IsMarkLike, IsLike, wishes_for, asks_for, made_by, starts_like, started_by, IsMadeFor, IsStartedFor, IsCourse, event_for, frame_for, course_of, CoursesAreOne}
 use Rattle.cilk_replay.proofs.CourseRuns.{like}
 

@@ -4,12 +4,12 @@ use Rattle.std.proofs.Common.{◌≡◌, ℤ, Bool, List, [], ◌∷◌, ◌++�
 use Rattle.cilk_types.specs.declared.invocation.Invocation.{Invocation}
 use Rattle.cilk_monoid.specs.Laws.{MonoidStructure}
 use Rattle.cilk_program.specs.Outcomes.{Leaves}
-use Rattle.cilk_runs.specs.Monoids.{on_view}
-use Rattle.cilk_runs.specs.Runs.{Cell, Instance, Ask, Invoke, Event, Reads, Writes, Syncs, Ends, Passes, Deed, Does, Invokes, Run, stop, act, child, ask_of}
-use Rattle.cilk_runs.specs.Machine.{put}
-use Rattle.cilk_runs.specs.Serial.{value_after, IsSerial, Behaves}
-use Rattle.cilk_runs.specs.Theorem.{follows}
-use Rattle.cilk_runs.specs.Views.{view_after, IsSerialViews}
+use Rattle.cilk_determinacy.specs.Monoids.{on_view}
+use Rattle.cilk_determinacy.specs.Runs.{Cell, Instance, Ask, Invoke, Event, Reads, Writes, Syncs, Ends, Passes, Deed, Does, Invokes, Run, stop, act, child, ask_of}
+use Rattle.cilk_determinacy.specs.Machine.{put}
+use Rattle.cilk_determinacy.specs.Serial.{value_after, IsSerial, Behaves}
+use Rattle.cilk_determinacy.specs.MachineTheorem.{follows}
+use Rattle.cilk_determinacy.specs.Views.{view_after, IsSerialViews}
 use Rattle.cilk_determinacy.proofs.Determinate.{serial_by_names}
 use Rattle.cilk_determinacy.proofs.Wordy.{set_words}
 use Rattle.cilk_replay.specs.InputCourses.{SerialRunsAreOne}

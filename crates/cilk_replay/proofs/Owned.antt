@@ -16,9 +16,9 @@ use Rattle.cilk_program.specs.Syntax.{Source}
 use Rattle.cilk_tree.specs.Races.{event_at}
 use Rattle.cilk_tree.specs.Frames.{Enters, IsInFrame, BeginsAFrame, AreFrames}
 use Rattle.cilk_tree.proofs.Framed.{SoFar, frames_first, frames_next, frames_all, begins}
-use Rattle.cilk_runs.specs.Runs.{Name, Begins, Resumes, Creates, Updates, Sets, Values, Prints, Reads, Writes, Syncs, Ends, Passes, Run, act, child}
-use Rattle.cilk_runs.specs.Traces.{Due, begin_due, resume_due, neither_due, IsFramed, shape_of}
-use Rattle.cilk_runs.specs.FrameEnvs.{FrameEnv}
+use Rattle.cilk_determinacy.specs.Runs.{Name, Begins, Resumes, Creates, Updates, Sets, Values, Prints, Reads, Writes, Syncs, Ends, Passes, Run, act, child}
+use Rattle.cilk_determinacy.specs.Traces.{Due, begin_due, resume_due, neither_due, IsFramed, shape_of}
+use Rattle.cilk_determinacy.specs.FrameEnvs.{FrameEnv}
 use Rattle.cilk_determinacy.specs.Nested.{named}
 use Rattle.cilk_determinacy.specs.Numbers.{frame_number, start_event, numbered_events}
 use Rattle.cilk_determinacy.proofs.Determinate.{serial_numbered}

@@ -23,11 +23,11 @@ use Rattle.cilk_program.specs.declared.syntax.ReducerPlace.TheVariants as reduce
 use Rattle.cilk_program.specs.Operators.{is_zero, truth, truth_of, apply, change}
 use Rattle.cilk_program.specs.Syntax.{Expression, Number, Variable, Element, Negate, Not, Binary, And, Or, Value, Input, InputCount, Target, ToVariable, ToElement, Invoke, Declaration, Zero, Opening, Invoking, Statement, Empty, Block, Declare, Assign, Change, Step, Invokes, Sync, If, IfElse, For, ParallelFor, Print, Update, Set, Return, Statements, Nothing, Then, Function, Source, function_at, main_of, loop_at, element, place_of}
 use Rattle.cilk_program.specs.Behaviour.{asks_for, Got, Gives, Asks, ◌>>=◌, tick, ask, tick_gives, or_fault, value, values, index_of, Flow, unless_returned, invokes, invokes_function, declares, all_declare, condition, turns, return_value, does, all_do, returned, gives_result, finishes, writes_words, creates, function_gives, middle, part, loop_gives, frame_gives, ended, frame_asks}
-use Rattle.cilk_runs.specs.Machine.{started}
-use Rattle.cilk_runs.specs.Runs as runs
-use Rattle.cilk_runs.specs.FrameEnvMachine.{answers_of, asked_after, has_ended, named_ask, next}
-use Rattle.cilk_runs.specs.FrameEnvs.{FrameEnv}
-use Rattle.cilk_runs.proofs.KeptFrameEnv.{answers_more, ended_more}
+use Rattle.cilk_determinacy.specs.Machine.{started}
+use Rattle.cilk_determinacy.specs.Runs as runs
+use Rattle.cilk_determinacy.specs.FrameEnvMachine.{answers_of, asked_after, has_ended, named_ask, next}
+use Rattle.cilk_determinacy.specs.FrameEnvs.{FrameEnv}
+use Rattle.cilk_determinacy.proofs.Histories.{answers_more, ended_more}
 use Rattle.cilk_replay.specs.InputResumes.{FramesResume}
 
 abbrev IsStart : Ask → Type 0

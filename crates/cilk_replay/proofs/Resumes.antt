@@ -14,16 +14,16 @@ use Rattle.cilk_tree.specs.Shape.{Shape}
 use Rattle.cilk_tree.specs.declared.kind.Kind.TheVariants as kinds
 use Rattle.cilk_tree.specs.Kinds.{kind_of}
 use Rattle.cilk_tree.proofs.Passed.{gives_predecessors}
-use Rattle.cilk_runs.specs.Runs.{Cell, Instance, Reads, Writes, Syncs, Ends, Passes, Begins, Resumes, Creates, Updates, Sets, Values, Prints, Deed, Does, Invokes, Invoke, Pass, Resume}
-use Rattle.cilk_runs.specs.Machine.{started}
-use Rattle.cilk_runs.specs.Traces.{IsWritten, shape_of}
+use Rattle.cilk_determinacy.specs.Runs.{Cell, Instance, Reads, Writes, Syncs, Ends, Passes, Begins, Resumes, Creates, Updates, Sets, Values, Prints, Deed, Does, Invokes, Invoke, Pass, Resume}
+use Rattle.cilk_determinacy.specs.Machine.{started}
+use Rattle.cilk_determinacy.specs.Traces.{IsWritten, shape_of}
 use Rattle.cilk_tree.specs.declared.event_order.EventOrder.{EventOrder}
 use Rattle.cilk_tree.specs.Orders.{IsEventOrderOf}
 use Rattle.cilk_tree.specs.Runs.{IsAsked, IsFollowed}
 use Rattle.cilk_tree.specs.Word.{event, predecessors_of, plain, resume, word_step, IsWord}
 use Rattle.cilk_tree.proofs.Events.{mark_at, resume_mark, spawn_of}
-use Rattle.cilk_runs.specs.FrameEnvMachine.{asked_after, next}
-use Rattle.cilk_runs.specs.FrameEnvs.{FrameEnv, child_env}
+use Rattle.cilk_determinacy.specs.FrameEnvMachine.{asked_after, next}
+use Rattle.cilk_determinacy.specs.FrameEnvs.{FrameEnv, child_env}
 use Rattle.cilk_determinacy.specs.Nested.{named}
 use Rattle.cilk_determinacy.specs.Numbers.{cell_number, instance_number}
 use Rattle.cilk_determinacy.proofs.Determinate.{serial_numbered}

@@ -19,12 +19,12 @@ use Rattle.cilk_tree.specs.Kinds.{kind_of}
 use Rattle.cilk_tree.specs.declared.kind.Kind.{Kind}
 use Rattle.cilk_tree.specs.declared.kind.Kind.TheVariants as kinds
 use Rattle.cilk_tree.specs.Passes.{Waiting, pass, predecessors_in}
-use Rattle.cilk_runs.specs.Runs.{Instance, Deed, Does, Invokes, Ends}
-use Rattle.cilk_runs.specs.Traces.{shape_of}
+use Rattle.cilk_determinacy.specs.Runs.{Instance, Deed, Does, Invokes, Ends}
+use Rattle.cilk_determinacy.specs.Traces.{shape_of}
 use Rattle.cilk_tree.specs.declared.event_order.EventOrder.{EventOrder}
 use Rattle.cilk_tree.specs.Word.{event, predecessors_of, word_step, resume, IsWord}
 use Rattle.cilk_tree.proofs.Events.{mark_at, resume_mark, spawn_of}
-use Rattle.cilk_runs.specs.FrameEnvs.{FrameEnv}
+use Rattle.cilk_determinacy.specs.FrameEnvs.{FrameEnv}
 use Rattle.cilk_determinacy.specs.Nested.{named}
 use Rattle.cilk_determinacy.proofs.Determinate.{serial_numbered}
 use Rattle.cilk_replay.specs.Points.{Point, IsLater, IsFirst, IsReturn}

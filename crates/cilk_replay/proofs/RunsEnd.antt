@@ -19,13 +19,13 @@ use Rattle.cilk_program.specs.Syntax.{Source}
 use Rattle.cilk_program.specs.WellNamed.{is_well_named}
 use Rattle.cilk_program.specs.SerialRun.{Transcript, Memory, global_reducer, before_root, root_frame, begun, Ending, Finished, Stopped, Serial, IsSerialRun}
 use Rattle.cilk_program.proofs.Uniqueness.{serial_run_exists}
-use Rattle.cilk_runs.specs.Costs.{Total, TickTotal, EventTotal, FrameTotal, CellTotal, whole}
-use Rattle.cilk_runs.specs.Monoids.{unit_of}
-use Rattle.cilk_runs.specs.Runs.{Run}
-use Rattle.cilk_runs.specs.Traces.{trace, begin_due}
-use Rattle.cilk_runs.specs.FrameEnvMachine.{next, opening_values, limit, costs}
-use Rattle.cilk_runs.specs.Reducers.{View, monoid_of}
-use Rattle.cilk_runs.specs.FrameEnvs.{FrameEnv, first_env}
+use Rattle.cilk_determinacy.specs.Costs.{Total, TickTotal, EventTotal, FrameTotal, CellTotal, whole}
+use Rattle.cilk_determinacy.specs.Monoids.{unit_of}
+use Rattle.cilk_determinacy.specs.Runs.{Run}
+use Rattle.cilk_determinacy.specs.Traces.{trace, begin_due}
+use Rattle.cilk_determinacy.specs.FrameEnvMachine.{next, opening_values, limit, costs}
+use Rattle.cilk_determinacy.specs.Reducers.{View, monoid_of}
+use Rattle.cilk_determinacy.specs.FrameEnvs.{FrameEnv, first_env}
 use Rattle.cilk_determinacy.specs.Nested.{named}
 use Rattle.cilk_determinacy.specs.Numbers.{cell_number, instance_number}
 use Rattle.cilk_determinacy.specs.Theorem.{IsSerial, SetWords}

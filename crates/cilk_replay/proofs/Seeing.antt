@@ -28,8 +28,8 @@ use Rattle.cilk_program.specs.Numbering.{Block, frame_at}
 use Rattle.cilk_program.specs.Visible.{CanInvoke, FrameSees, GlobalsAreThere}
 use Rattle.cilk_program.proofs.Naming.{well_named_parts}
 use Rattle.cilk_program.proofs.Visible.{root_sees as first_sees, called_sees, none_given, part_sees}
-use Rattle.cilk_runs.specs.Runs.{Name, Cell, Global, Own, Instance, Output}
-use Rattle.cilk_runs.specs.FrameEnvs.{FrameEnv, Reducers, Sight as Seen, before_own, child_env, first_env, given_named, global_named, home_named, outer_named, own_named, result_named, cell_seen, reducer_seen, result_cell}
+use Rattle.cilk_determinacy.specs.Runs.{Name, Cell, Global, Own, Instance, Output}
+use Rattle.cilk_determinacy.specs.FrameEnvs.{FrameEnv, Reducers, Sight as Seen, before_own, child_env, first_env, given_named, global_named, home_named, outer_named, own_named, result_named, cell_seen, reducer_seen, result_cell}
 use Rattle.cilk_determinacy.specs.Numbers.{up, down, instance_number, IsHere, HasInstance, HasReducer}
 use Rattle.cilk_determinacy.proofs.Numbers.{cell_is, down_up, number_is}
 use Rattle.cilk_determinacy.proofs.Sights.{global_here, own_here, root_here}

@@ -5,9 +5,9 @@ use Rattle.cilk_program.specs.declared.ask.Ask.TheVariants as asks
 use Rattle.cilk_program.specs.Syntax.{Source}
 use Rattle.cilk_frames.specs.Following.{HasAnswer}
 use Rattle.cilk_replay.specs.Points.{asked_for}
-use Rattle.cilk_runs.specs.Runs.{Ask, End, Instance, Deed, Does, Ends}
-use Rattle.cilk_runs.specs.FrameEnvMachine.{has_ended, is_end, named_ask}
-use Rattle.cilk_runs.specs.FrameEnvs.{FrameEnv}
+use Rattle.cilk_determinacy.specs.Runs.{Ask, End, Instance, Deed, Does, Ends}
+use Rattle.cilk_determinacy.specs.FrameEnvMachine.{has_ended, is_end, named_ask}
+use Rattle.cilk_determinacy.specs.FrameEnvs.{FrameEnv}
 
 pub ended_more : (past : List (Deed FrameEnv)) (d : Deed FrameEnv) → has_ended past ≡ false → is_end d ≡ false → has_ended (past ++ d ∷ []) ≡ false
 ended_more [] d h e = ap (λ (b : Bool). cond b true false) e

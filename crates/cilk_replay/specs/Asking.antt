@@ -16,8 +16,8 @@ use Rattle.cilk_frames.specs.Following.{HasAnswer, Stands, owed_for}
 use Rattle.cilk_tree.specs.declared.event_order.EventOrder.{EventOrder}
 use Rattle.cilk_tree.specs.Runs.{IsAsked}
 use Rattle.cilk_tree.specs.Word.{event, word_step, resume}
-use Rattle.cilk_runs.specs.FrameEnvMachine.{asked_after}
-use Rattle.cilk_runs.specs.FrameEnvs.{FrameEnv}
+use Rattle.cilk_determinacy.specs.FrameEnvMachine.{asked_after}
+use Rattle.cilk_determinacy.specs.FrameEnvs.{FrameEnv}
 use Rattle.cilk_replay.specs.Points.{Point, IsEventOf}
 use Rattle.cilk_replay.specs.declared.replay_frame.ReplayFrame.{ReplayFrame}
 use Rattle.cilk_replay.specs.Replays.{ReplayValue, IsOfProgram, setting_of, point_at}

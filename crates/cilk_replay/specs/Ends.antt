@@ -12,10 +12,10 @@ use Rattle.cilk_tree.specs.Planned.{planned}
 use Rattle.cilk_tree.specs.declared.event_order.EventOrder.{EventOrder}
 use Rattle.cilk_tree.specs.Orders.{IsOrderly}
 use Rattle.cilk_tree.specs.Values.{HasValue}
-use Rattle.cilk_runs.specs.Costs.{Total, TickTotal, whole}
-use Rattle.cilk_runs.specs.Runs.{Run}
-use Rattle.cilk_runs.specs.FrameEnvMachine.{limit, costs}
-use Rattle.cilk_runs.specs.FrameEnvs.{FrameEnv, first_env}
+use Rattle.cilk_determinacy.specs.Costs.{Total, TickTotal, whole}
+use Rattle.cilk_determinacy.specs.Runs.{Run}
+use Rattle.cilk_determinacy.specs.FrameEnvMachine.{limit, costs}
+use Rattle.cilk_determinacy.specs.FrameEnvs.{FrameEnv, first_env}
 use Rattle.cilk_determinacy.specs.Nested.{named}
 use Rattle.cilk_determinacy.specs.Words.{HasWords, InputsAreWords}
 use Rattle.cilk_replay.specs.InputCourses.{run_of}

@@ -4,11 +4,11 @@ use Rattle.cilk_program.specs.declared.program.Body.{Body}
 use Rattle.cilk_program.specs.declared.program.Body.TheVariants.{Function, Loop}
 use Rattle.cilk_program.specs.Inside.{body_of}
 use Rattle.cilk_program.specs.Syntax.{Source}
-use Rattle.cilk_runs.specs.Monoids.{unit_of}
-use Rattle.cilk_runs.specs.Runs.{Run, same_name}
-use Rattle.cilk_runs.specs.FrameEnvMachine.{next, opening_values}
-use Rattle.cilk_runs.specs.Reducers.{View, monoid_of}
-use Rattle.cilk_runs.specs.FrameEnvs.{FrameEnv, first_env}
+use Rattle.cilk_determinacy.specs.Monoids.{unit_of}
+use Rattle.cilk_determinacy.specs.Runs.{Run, same_name}
+use Rattle.cilk_determinacy.specs.FrameEnvMachine.{next, opening_values}
+use Rattle.cilk_determinacy.specs.Reducers.{View, monoid_of}
+use Rattle.cilk_determinacy.specs.FrameEnvs.{FrameEnv, first_env}
 use Rattle.cilk_replay.specs.InputCourses.{Course, run_of, all_asked, IsAskedThroughout, IsCourse, course_of, IsSerialRunFrom}
 
 abbrev pub same_body : Body → Body → Bool

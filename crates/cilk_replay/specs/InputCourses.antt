@@ -4,14 +4,14 @@ use Rattle.std.specs.Prelude.{◌≡◌, ℤ, Bool, true, false, cond, List, [],
 use Rattle.cilk_types.specs.declared.invocation.Invocation.{Invocation}
 use Rattle.cilk_types.specs.declared.invocation.Invocation.TheVariants.{Call, Spawn}
 use Rattle.cilk_monoid.specs.Laws.{MonoidStructure}
-use Rattle.cilk_runs.specs.Runs.{Cell, same_cell, Instance, same_instance, Wish, Begin, Resume, Create, Update, Set, Value, Print, Ask, Read, Write, Invoke, Sync, End, Pass, Granted, Begins, Resumes, Creates, Updates, Sets, Values, Prints, Event, Reads, Writes, Syncs, Ends, Passes, Deed, Does, Invokes, Run, ask_of}
-use Rattle.cilk_runs.specs.Runs as runs
-use Rattle.cilk_runs.specs.Machine.{put, mark_of}
-use Rattle.cilk_runs.specs.Monoids.{on_view, numbers_of}
-use Rattle.cilk_runs.specs.Serial.{value_after, IsReadRight, IsSerial, Behaves}
-use Rattle.cilk_runs.specs.Traces.{begin_due, IsFramed}
-use Rattle.cilk_runs.specs.Views.{view_after, IsViewRight, IsSerialViews}
-use Rattle.cilk_runs.specs.Theorem.{follows}
+use Rattle.cilk_determinacy.specs.Runs.{Cell, same_cell, Instance, same_instance, Wish, Begin, Resume, Create, Update, Set, Value, Print, Ask, Read, Write, Invoke, Sync, End, Pass, Granted, Begins, Resumes, Creates, Updates, Sets, Values, Prints, Event, Reads, Writes, Syncs, Ends, Passes, Deed, Does, Invokes, Run, ask_of}
+use Rattle.cilk_determinacy.specs.Runs as runs
+use Rattle.cilk_determinacy.specs.Machine.{put, mark_of}
+use Rattle.cilk_determinacy.specs.Monoids.{on_view, numbers_of}
+use Rattle.cilk_determinacy.specs.Serial.{value_after, IsReadRight, IsSerial, Behaves}
+use Rattle.cilk_determinacy.specs.Traces.{begin_due, IsFramed}
+use Rattle.cilk_determinacy.specs.Views.{view_after, IsViewRight, IsSerialViews}
+use Rattle.cilk_determinacy.specs.MachineTheorem.{follows}
 
 -- A run along a plan: each event, and whether its frame requests it.
 pub data Course (W : Type 0) : Type 0 where

@@ -5,9 +5,9 @@ use Rattle.cilk_program.specs.declared.ask.Ask.TheVariants as asks
 use Rattle.cilk_program.specs.declared.ask.Callee.{Callee}
 use Rattle.cilk_program.specs.Behaviour.{frame_asks}
 use Rattle.cilk_program.specs.Syntax.{Source}
-use Rattle.cilk_runs.specs.Runs.{Deed, Invokes, Invoke, Pass, Resume}
-use Rattle.cilk_runs.specs.FrameEnvMachine.{next}
-use Rattle.cilk_runs.specs.FrameEnvs.{FrameEnv}
+use Rattle.cilk_determinacy.specs.Runs.{Deed, Invokes, Invoke, Pass, Resume}
+use Rattle.cilk_determinacy.specs.FrameEnvMachine.{next}
+use Rattle.cilk_determinacy.specs.FrameEnvs.{FrameEnv}
 
 -- Right after a child, called or spawned, a frame requests the `resume`, whatever the answer. It
 -- uses no tick between the two, so no fault can come there.

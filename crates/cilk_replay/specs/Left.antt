@@ -6,16 +6,16 @@ use Rattle.cilk_program.specs.Elision.{IsElision}
 use Rattle.cilk_program.specs.Outcomes.{Leaves, cells_from}
 use Rattle.cilk_program.specs.Syntax.{Source}
 use Rattle.cilk_program.specs.WellNamed.{is_well_named}
-use Rattle.cilk_runs.specs.Costs.{EventTotal, FrameTotal, CellTotal, whole}
-use Rattle.cilk_runs.specs.Monoids.{unit_of}
-use Rattle.cilk_runs.specs.Runs.{Global, Passes, Prints, Deed, Does, Run}
-use Rattle.cilk_runs.specs.Serial.{value_after}
-use Rattle.cilk_runs.specs.Traces.{trace}
-use Rattle.cilk_runs.specs.Views.{view_after}
-use Rattle.cilk_runs.specs.FrameEnvMachine.{opening_values, costs}
-use Rattle.cilk_runs.specs.Reducers.{monoid_of}
-use Rattle.cilk_runs.specs.Steps.{finals_in, result_in}
-use Rattle.cilk_runs.specs.FrameEnvs.{FrameEnv, first_env}
+use Rattle.cilk_determinacy.specs.Costs.{EventTotal, FrameTotal, CellTotal, whole}
+use Rattle.cilk_determinacy.specs.Monoids.{unit_of}
+use Rattle.cilk_determinacy.specs.Runs.{Global, Passes, Prints, Deed, Does, Run}
+use Rattle.cilk_determinacy.specs.Serial.{value_after}
+use Rattle.cilk_determinacy.specs.Traces.{trace}
+use Rattle.cilk_determinacy.specs.Views.{view_after}
+use Rattle.cilk_determinacy.specs.FrameEnvMachine.{opening_values, costs}
+use Rattle.cilk_determinacy.specs.Reducers.{monoid_of}
+use Rattle.cilk_determinacy.specs.Steps.{finals_in, result_in}
+use Rattle.cilk_determinacy.specs.FrameEnvs.{FrameEnv, first_env}
 use Rattle.cilk_determinacy.specs.Words.{HasWords, InputsAreWords}
 use Rattle.cilk_replay.specs.Frames.{IsSerialRunOn}
 

@@ -4,9 +4,9 @@ use Rattle.cilk_types.specs.declared.event.Event as numbers
 use Rattle.cilk_types.specs.declared.event.Event.TheVariants as events
 use Rattle.cilk_types.specs.declared.event.Instance as numbered
 use Rattle.cilk_monoid.specs.Laws.{MonoidStructure}
-use Rattle.cilk_runs.specs.Runs.{Cell, Instance, Ask, Updates, Sets, Values, Prints, Reads, Writes, Passes, Deed, Does, Run}
+use Rattle.cilk_determinacy.specs.Runs.{Cell, Instance, Ask, Updates, Sets, Values, Prints, Reads, Writes, Passes, Deed, Does, Run}
 use Rattle.cilk_program.specs.Syntax.{Source}
-use Rattle.cilk_runs.specs.Traces.{trace, AreWritten}
+use Rattle.cilk_determinacy.specs.Traces.{trace, AreWritten}
 use Rattle.cilk_tree.specs.Before.{IsPosition}
 use Rattle.cilk_tree.specs.declared.event_order.EventOrder.{EventOrder}
 use Rattle.cilk_tree.specs.Orders.{IsOrderly}
@@ -14,7 +14,7 @@ use Rattle.cilk_tree.specs.Runs.{IsAsked}
 use Rattle.cilk_tree.specs.Along.{IsAlong, DepartsNowhere}
 use Rattle.cilk_tree.specs.Passes.{predecessors_in}
 use Rattle.cilk_tree.specs.Planned.{planned}
-use Rattle.cilk_runs.specs.FrameEnvs.{FrameEnv}
+use Rattle.cilk_determinacy.specs.FrameEnvs.{FrameEnv}
 use Rattle.cilk_replay.specs.InputCourses.{Course, run_of, asked_in, IsAskedThroughout, IsCourse}
 use Rattle.cilk_replay.specs.Frames.{IsSerialRunOn, IsCourseOn}
 

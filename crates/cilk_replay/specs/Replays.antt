@@ -17,7 +17,7 @@ use Rattle.cilk_tree.specs.Along.{IsAlong}
 use Rattle.cilk_tree.specs.Planned.{planned}
 use Rattle.cilk_shared.specs.Values.{YardValue}
 use Rattle.cilk_shared.specs.contracts.yard.Yard as yard
-use Rattle.cilk_runs.specs.FrameEnvs.{FrameEnv}
+use Rattle.cilk_determinacy.specs.FrameEnvs.{FrameEnv}
 use Rattle.cilk_replay.specs.Points.{Point, points_on}
 use Rattle.cilk_replay.specs.EventOrders.{event_order_on, IsPlannedRun}
 use Rattle.cilk_program.specs.Numbering.{Block, frame_at}

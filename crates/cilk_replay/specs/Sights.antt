@@ -12,8 +12,8 @@ use Rattle.cilk_program.specs.Syntax.{Source}
 use Rattle.cilk_monoid.specs.declared.kind.MonoidKind.{MonoidKind}
 use Rattle.cilk_program.specs.Numbering.{Block}
 use Rattle.cilk_program.specs.Visible.{FrameSees}
-use Rattle.cilk_runs.specs.Runs.{Cell, Global}
-use Rattle.cilk_runs.specs.FrameEnvs.{FrameEnv, Reducers, Sight as Seen, global_named, result_cell}
+use Rattle.cilk_determinacy.specs.Runs.{Cell, Global}
+use Rattle.cilk_determinacy.specs.FrameEnvs.{FrameEnv, Reducers, Sight as Seen, global_named, result_cell}
 use Rattle.cilk_determinacy.specs.Numbers.{cell_number, instance_number, HasCell, HasInstance}
 use Rattle.cilk_replay.specs.declared.plan_match.PlanMatch.{PlanMatch}
 use Rattle.cilk_replay.specs.declared.plan_match.PlanMatch.TheVariants as matches

@@ -8,9 +8,9 @@ use Rattle.cilk_program.specs.Inside.{CalleeIsFit}
 use Rattle.cilk_program.specs.SerialRun.{Transcript}
 use Rattle.cilk_lower.specs.declared.code.Owed.TheVariants.{Nothing}
 use Rattle.cilk_frames.specs.Following.{Stands}
-use Rattle.cilk_runs.specs.Runs.{Deed, Invokes}
-use Rattle.cilk_runs.specs.FrameEnvMachine.{answer_of, answers_of, has_ended}
-use Rattle.cilk_runs.specs.FrameEnvs.{FrameEnv}
+use Rattle.cilk_determinacy.specs.Runs.{Deed, Invokes}
+use Rattle.cilk_determinacy.specs.FrameEnvMachine.{answer_of, answers_of, has_ended}
+use Rattle.cilk_determinacy.specs.FrameEnvs.{FrameEnv}
 use Rattle.cilk_replay.specs.Points.{Point}
 use Rattle.cilk_replay.specs.declared.replay_frame.ReplayFrame.{ReplayFrame}
 use Rattle.cilk_replay.specs.Asking.{HasAsked}

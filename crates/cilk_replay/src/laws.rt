@@ -16,7 +16,7 @@ ghost use Rattle.cilk_replay.specs.InputResumes.{FramesResume};
 ghost use Rattle.cilk_replay.specs.EventOrders.{OwnEventOrder, EventOrdersAlongHaveValues};
 ghost use Rattle.cilk_replay.specs.Worked.{WorkedEventOrders};
 ghost use Rattle.cilk_monoid.specs.Laws.{MonoidStructure};
-ghost use Rattle.cilk_runs.specs.Runs.{Ask, Deed, Instance};
+ghost use Rattle.cilk_determinacy.specs.Runs.{Ask, Deed, Instance};
 
 /// On each input a plan's run has exactly one course, the one that `course_of` gives. In the place
 /// of each event of the plan it has the frame's own event, if the frame's next request is of that

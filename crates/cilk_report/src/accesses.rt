@@ -3,7 +3,7 @@
 use crate::again::Seeks;
 use cilk_findings::fault::CaseFault;
 use cilk_trace::line::Line;
-use cilk_trace_text::reader::TraceReader;
+use cilk_trace::reader::TraceReader;
 use std::alloc::{AllocError, Global};
 
 /// The most numbers of a frame's path that are shown.

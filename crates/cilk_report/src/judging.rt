@@ -14,7 +14,7 @@ use cilk_checker::refusal::Refusal;
 use cilk_commands::reply::Failure;
 use cilk_findings::fault::CaseFault;
 use cilk_trace::line::{Cells, Line};
-use cilk_trace_text::reader::TraceReader;
+use cilk_trace::reader::TraceReader;
 use std::alloc::{AllocError, Global};
 
 const APART: &str =

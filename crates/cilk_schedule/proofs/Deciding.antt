@@ -10,16 +10,16 @@ use Rattle.cilk_types.specs.declared.invocation.Invocation.TheVariants.{Spawn}
 use Rattle.cilk_monoid.specs.declared.kind.MonoidKind.TheVariants.{Append}
 use Rattle.cilk_program.specs.Outcomes.{cells_from}
 use Rattle.cilk_program.specs.Syntax.{Source}
-use Rattle.cilk_runs.specs.Costs.{Total, fault_of}
-use Rattle.cilk_runs.specs.Machine.{Frame, Frames, State, IsAsking, Makes, Steals, Steps, Stops, deeds_at, strand_of}
-use Rattle.cilk_runs.specs.Progress.{MayAsk}
-use Rattle.cilk_runs.specs.Runs.{Name, Global, Instance, Output, Ask, Sync, Invokes}
-use Rattle.cilk_runs.proofs.Basics.{snoc_one}
-use Rattle.cilk_runs.proofs.Progress.{progress}
-use Rattle.cilk_runs.specs.FrameEnvMachine.{costs, next}
-use Rattle.cilk_runs.specs.Reducers.{View, elements_of, monoid_of, value_of}
-use Rattle.cilk_runs.specs.Steps.{IsFirst, Next, OneStep, Reaches, finals_in, outcome_in, result_in}
-use Rattle.cilk_runs.specs.FrameEnvs.{FrameEnv}
+use Rattle.cilk_determinacy.specs.Costs.{Total, fault_of}
+use Rattle.cilk_determinacy.specs.Machine.{Frame, Frames, State, IsAsking, Makes, Steals, Steps, Stops, deeds_at, strand_of}
+use Rattle.cilk_determinacy.specs.Progress.{MayAsk}
+use Rattle.cilk_determinacy.specs.Runs.{Name, Global, Instance, Output, Ask, Sync, Invokes}
+use Rattle.cilk_determinacy.proofs.Basics.{snoc_one}
+use Rattle.cilk_determinacy.proofs.Progress.{progress}
+use Rattle.cilk_determinacy.specs.FrameEnvMachine.{costs, next}
+use Rattle.cilk_determinacy.specs.Reducers.{View, elements_of, monoid_of, value_of}
+use Rattle.cilk_determinacy.specs.Steps.{IsFirst, Next, OneStep, Reaches, finals_in, outcome_in, result_in}
+use Rattle.cilk_determinacy.specs.FrameEnvs.{FrameEnv}
 use Rattle.cilk_scheduler.specs.WorkerTables.{BlockIsOver, Chooses, Comes, WorkerTable, IsOver, IsSkipped, Settles, Skipped, Stands, StopsAt, Stole, Waited, all_offered, does, holds, idle, skips, steals, waits, withdrawn}
 use Rattle.cilk_scheduler.specs.WorkerTables as worker_tables
 use Rattle.cilk_scheduler.specs.Histories.{DidAsAsked}

@@ -12,17 +12,17 @@ use mathlib.Core.Path.{fun_ext}
 use Rattle.cilk_types.specs.declared.invocation.Invocation.{Invocation}
 use Rattle.cilk_monoid.specs.Laws.{MonoidStructure}
 use Rattle.cilk_program.specs.Syntax.{Source}
-use Rattle.cilk_runs.specs.Costs.{Total, cost}
-use Rattle.cilk_runs.specs.Machine.{Frame, Frames, State, HasEnd, Makes, Steals, after_deed, after_views, begun, block_view, deed_of, deeds_at, effect, joined_by, own_view, started, with_view}
-use Rattle.cilk_runs.specs.Monoids.{numbers_of, on_view, unit_of}
-use Rattle.cilk_runs.specs.Progress.{HasEnded, child_after}
-use Rattle.cilk_runs.specs.Runs.{Name, same_name, Cell, Instance, Ask, Read, Write, Invoke, Sync, End, Pass, Fail, Begin, Resume, Create, Update, Set, Value, Print, Event, Reads, Writes, Syncs, Ends, Passes, Begins, Resumes, Creates, Updates, Sets, Values, Prints, Deed, Does, Invokes}
-use Rattle.cilk_runs.proofs.Basics.{same_name-eq}
-use Rattle.cilk_runs.proofs.Started.{started_invokes}
-use Rattle.cilk_runs.specs.FrameEnvMachine.{costs, has_ended, next}
-use Rattle.cilk_runs.specs.Reducers.{View, monoid_of}
-use Rattle.cilk_runs.specs.Steps.{Next}
-use Rattle.cilk_runs.specs.FrameEnvs.{FrameEnv}
+use Rattle.cilk_determinacy.specs.Costs.{Total, cost}
+use Rattle.cilk_determinacy.specs.Machine.{Frame, Frames, State, HasEnd, Makes, Steals, after_deed, after_views, begun, block_view, deed_of, deeds_at, effect, joined_by, own_view, started, with_view}
+use Rattle.cilk_determinacy.specs.Monoids.{numbers_of, on_view, unit_of}
+use Rattle.cilk_determinacy.specs.Progress.{HasEnded, child_after}
+use Rattle.cilk_determinacy.specs.Runs.{Name, same_name, Cell, Instance, Ask, Read, Write, Invoke, Sync, End, Pass, Fail, Begin, Resume, Create, Update, Set, Value, Print, Event, Reads, Writes, Syncs, Ends, Passes, Begins, Resumes, Creates, Updates, Sets, Values, Prints, Deed, Does, Invokes}
+use Rattle.cilk_determinacy.proofs.Basics.{same_name-eq}
+use Rattle.cilk_determinacy.proofs.Started.{started_invokes}
+use Rattle.cilk_determinacy.specs.FrameEnvMachine.{costs, has_ended, next}
+use Rattle.cilk_determinacy.specs.Reducers.{View, monoid_of}
+use Rattle.cilk_determinacy.specs.Steps.{Next}
+use Rattle.cilk_determinacy.specs.FrameEnvs.{FrameEnv}
 use Rattle.cilk_scheduler.specs.Schedulers.{is_resuming}
 use Rattle.cilk_scheduler.specs.WorkerTables.{BlockIsOver, IsOver}
 use Rattle.cilk_scheduler.specs.Histories.{DidAsAsked}

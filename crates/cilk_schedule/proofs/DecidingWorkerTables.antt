@@ -4,10 +4,10 @@
 -- - `worker_table_once`: one worker table, in states that agree.
 use Rattle.std.proofs.Common.{◌≡◌, ℕ, suc, ℤ, true, false, true≢false, List, [], ◌∷◌, ◌++◌, refl, sym, ap, ◌∙◌, subst}
 use Rattle.cilk_types.specs.declared.invocation.Invocation.TheVariants.{Call, Spawn}
-use Rattle.cilk_runs.specs.Machine.{State, started}
-use Rattle.cilk_runs.specs.Runs.{Name, Instance, Ask, Read, Write, Invoke, Sync, End, Pass, Fail, Deed}
-use Rattle.cilk_runs.specs.Reducers.{View}
-use Rattle.cilk_runs.specs.FrameEnvs.{FrameEnv}
+use Rattle.cilk_determinacy.specs.Machine.{State, started}
+use Rattle.cilk_determinacy.specs.Runs.{Name, Instance, Ask, Read, Write, Invoke, Sync, End, Pass, Fail, Deed}
+use Rattle.cilk_determinacy.specs.Reducers.{View}
+use Rattle.cilk_determinacy.specs.FrameEnvs.{FrameEnv}
 use Rattle.cilk_scheduler.specs.WorkerTables.{BlockIsOver, WorkerTable, IsIn, Settles, calls, ends_all, goes_on, holds, idle, leaves, newest_of, passes, returns, spawns, without, withdrawn}
 use Rattle.cilk_scheduler.proofs.Thieves.{snoc_name}
 use Rattle.cilk_schedule.specs.Deciding.{Agree}

@@ -6,10 +6,10 @@
 use Rattle.std.proofs.Common.{◌≡◌, ◌<◌, ℕ, suc, nat_eq, eqb-true, Bool, true, false, cond, List, [], ◌∷◌, refl, sym, ap, ◌∙◌, arith}
 use Rattle.std.proofs.lemmas.Bool.{ne_eqb}
 use Rattle.cilk_types.specs.declared.invocation.Invocation.TheVariants.{Call, Spawn}
-use Rattle.cilk_runs.specs.Cuts.{joined_at, sync_bit}
-use Rattle.cilk_runs.specs.Runs.{Name, Granted, Begins, Resumes, Creates, Updates, Sets, Values, Prints, Deed, Does, Invokes, Reads, Writes, Syncs, Ends, Passes}
-use Rattle.cilk_runs.specs.Runs.{Event as Done}
-use Rattle.cilk_runs.specs.FrameEnvs.{FrameEnv}
+use Rattle.cilk_determinacy.specs.Cuts.{joined_at, sync_bit}
+use Rattle.cilk_determinacy.specs.Runs.{Name, Granted, Begins, Resumes, Creates, Updates, Sets, Values, Prints, Deed, Does, Invokes, Reads, Writes, Syncs, Ends, Passes}
+use Rattle.cilk_determinacy.specs.Runs.{Event as Done}
+use Rattle.cilk_determinacy.specs.FrameEnvs.{FrameEnv}
 use Rattle.cilk_schedule.specs.Showing.{AreShown, IsEventShown, IsMarkShown, has_sync, joins_child}
 use Rattle.cilk_schedule.specs.declared.naming.ShownEvent.{ShownEvent}
 

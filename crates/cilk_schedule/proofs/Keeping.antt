@@ -12,10 +12,10 @@ use Rattle.std.proofs.lemmas.Option.{slice_get-map}
 use Rattle.cilk_types.specs.declared.outcome.Outcome.{Outcome}
 use Rattle.cilk_program.specs.Syntax.{Source}
 use Rattle.cilk_lower.specs.Code.{CodeView}
-use Rattle.cilk_runs.specs.Machine.{State, Stop}
-use Rattle.cilk_runs.specs.Runs.{Name}
-use Rattle.cilk_runs.specs.Reducers.{View}
-use Rattle.cilk_runs.specs.FrameEnvs.{FrameEnv}
+use Rattle.cilk_determinacy.specs.Machine.{State, Stop}
+use Rattle.cilk_determinacy.specs.Runs.{Name}
+use Rattle.cilk_determinacy.specs.Reducers.{View}
+use Rattle.cilk_determinacy.specs.FrameEnvs.{FrameEnv}
 use Rattle.cilk_scheduler.specs.Schedulers.{hand_of}
 use Rattle.cilk_scheduler.specs.WorkerTables.{Chooses, WorkerTable, IsOver, StopsAt}
 use Rattle.cilk_scheduler.specs.Workers.{frame_in, held_by}

@@ -11,11 +11,11 @@ use Rattle.std.specs.Prelude.{IfSome}
 use Rattle.cilk_types.specs.declared.fault.Fault.{Fault}
 use Rattle.cilk_types.specs.declared.outcome.Outcome.{Outcome}
 use Rattle.cilk_program.specs.Syntax.{Source}
-use Rattle.cilk_runs.specs.Machine.{State, Stop}
-use Rattle.cilk_runs.specs.Runs.{Name}
-use Rattle.cilk_runs.specs.Reducers.{View}
-use Rattle.cilk_runs.specs.Steps.{Reaches}
-use Rattle.cilk_runs.specs.FrameEnvs.{FrameEnv}
+use Rattle.cilk_determinacy.specs.Machine.{State, Stop}
+use Rattle.cilk_determinacy.specs.Runs.{Name}
+use Rattle.cilk_determinacy.specs.Reducers.{View}
+use Rattle.cilk_determinacy.specs.Steps.{Reaches}
+use Rattle.cilk_determinacy.specs.FrameEnvs.{FrameEnv}
 use Rattle.cilk_scheduler.specs.WorkerTables.{WorkerTable, IsOver}
 use Rattle.cilk_scheduler.specs.Openings.{first_worker_table}
 use Rattle.cilk_determinacy.specs.Settled.{IsSettled}
@@ -23,7 +23,7 @@ use Rattle.cilk_schedule.specs.Deciding.{Agree}
 use Rattle.cilk_schedule.specs.Deciding as deciding
 use Rattle.cilk_schedule.specs.Played.{Leaves}
 use Rattle.cilk_schedule.proofs.Deciding.{choices_decide}
-use Rattle.cilk_script.specs.declared.script.Step.{Step}
+use Rattle.cilk_parser.specs.declared.script.Step.{Step}
 use Rattle.cilk_schedule.specs.Playing.{Chosen, Done, End, Ended, Ends, Enough, FailsAsSettled, Finished, IsFault, IsLeft, LeavesAsSettled, Passed, Passes, Plays, Round, SameEnd, ScriptsHaveOneEnd, Stopped, Stops, StopsBy, Task, Turns, tasks_of}
 use Rattle.cilk_schedule.specs.declared.fault.PlayFault.{PlayFault}
 use Rattle.cilk_schedule.specs.declared.fault.PlayFault.TheVariants as faults

@@ -5,7 +5,7 @@
 use Rattle.std.proofs.Common.{◌≡◌, ◌+◌, ◌<◌, ◌≤◌, ℕ, zero, suc, List, [], ◌∷◌, ◌++◌, reverse, slice_get, Some, sym, ap, ◌∙◌, append_assoc, arith}
 use Rattle.std.proofs.lemmas.List.{append-nil, reverse-append}
 use Rattle.cilk_frames.specs.declared.activation.Activation.{Activation}
-use Rattle.cilk_runs.specs.Runs.{Name}
+use Rattle.cilk_determinacy.specs.Runs.{Name}
 use Rattle.cilk_scheduler.specs.Numbered.{AreNamed}
 use Rattle.cilk_scheduler.specs.declared.frame_state.FrameState.{FrameState}
 

@@ -5,14 +5,14 @@ use Rattle.std.proofs.Common.{◌≡◌, ◌-◌, ℕ, ℤ, List, [], ◌∷◌,
 use Rattle.cilk_types.specs.declared.outcome.Outcome.{Outcome}
 use Rattle.cilk_program.specs.Syntax.{Source}
 use Rattle.cilk_lower.specs.Code.{CodeView}
-use Rattle.cilk_runs.specs.Steps.{IsFirst}
+use Rattle.cilk_determinacy.specs.Steps.{IsFirst}
 use Rattle.cilk_scheduler.specs.Openings.{first_worker_table}
 use Rattle.cilk_scheduler.specs.declared.scheduler.Scheduler.{Scheduler}
 use Rattle.cilk_schedule.specs.Reached.{HasOpened, HasReached}
 use Rattle.cilk_lower.specs.Behaves.{IsCodeOf}
 use Rattle.cilk_schedule.specs.declared.machine.Machine.{Machine}
 use Rattle.cilk_schedule.proofs.Played.{leaves_by, opened_at}
-use Rattle.cilk_script.specs.declared.script.Step.{Step}
+use Rattle.cilk_parser.specs.declared.script.Step.{Step}
 use Rattle.cilk_schedule.specs.Playing.{ComesToFault, Done, Ends, IsFault, IsLeft, Leads, Plays, tasks_of}
 use Rattle.cilk_schedule.specs.declared.fault.PlayFault.{PlayFault}
 use Rattle.cilk_schedule.proofs.Following.{fault_of, led, led_to_fault}

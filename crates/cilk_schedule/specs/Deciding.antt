@@ -1,11 +1,11 @@
 -- A choice is deterministic: its next state, its result, and how it stops the run.
 use Rattle.std.specs.Prelude.{◌≡◌, ℤ, List, Some, None}
 use Rattle.cilk_program.specs.Syntax.{Source}
-use Rattle.cilk_runs.specs.Machine.{Frame, State}
-use Rattle.cilk_runs.specs.Runs.{Name}
-use Rattle.cilk_runs.specs.Reducers.{View}
-use Rattle.cilk_runs.specs.Steps.{IsFirst, Reaches, outcome_in}
-use Rattle.cilk_runs.specs.FrameEnvs.{FrameEnv}
+use Rattle.cilk_determinacy.specs.Machine.{Frame, State}
+use Rattle.cilk_determinacy.specs.Runs.{Name}
+use Rattle.cilk_determinacy.specs.Reducers.{View}
+use Rattle.cilk_determinacy.specs.Steps.{IsFirst, Reaches, outcome_in}
+use Rattle.cilk_determinacy.specs.FrameEnvs.{FrameEnv}
 use Rattle.cilk_scheduler.specs.WorkerTables.{Chooses, Comes, WorkerTable, IsOver, StopsAt}
 use Rattle.cilk_scheduler.specs.declared.choice.Choice.{Choice}
 

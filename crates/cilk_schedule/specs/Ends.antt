@@ -10,10 +10,10 @@ use Rattle.cilk_frames.specs.declared.activation.Activation.{Activation}
 use Rattle.cilk_hypermap.specs.declared.hypermap.Hypermap.{Hypermap}
 use Rattle.cilk_join.specs.Joins.{MayArrive}
 use Rattle.cilk_join.specs.Waits.{shown}
-use Rattle.cilk_runs.specs.Machine.{State}
-use Rattle.cilk_runs.specs.Runs.{Name}
-use Rattle.cilk_runs.specs.Reducers.{View}
-use Rattle.cilk_runs.specs.FrameEnvs.{FrameEnv}
+use Rattle.cilk_determinacy.specs.Machine.{State}
+use Rattle.cilk_determinacy.specs.Runs.{Name}
+use Rattle.cilk_determinacy.specs.Reducers.{View}
+use Rattle.cilk_determinacy.specs.FrameEnvs.{FrameEnv}
 use Rattle.cilk_scheduler.specs.WorkerTables.{WorkerTable, Chooses, Did}
 use Rattle.cilk_scheduler.specs.EndParts.{Brings, Seeks}
 use Rattle.cilk_scheduler.specs.Ending.{RetiresOwn}

@@ -6,11 +6,11 @@ use Rattle.cilk_types.specs.declared.outcome.Outcome.{Outcome}
 use Rattle.cilk_program.specs.SerialRun.{Transcript}
 use Rattle.cilk_program.specs.Syntax.{Source}
 use Rattle.cilk_lower.specs.Code.{CodeView}
-use Rattle.cilk_runs.specs.Machine.{State, Stop}
-use Rattle.cilk_runs.specs.Runs.{Name}
-use Rattle.cilk_runs.specs.Reducers.{View}
-use Rattle.cilk_runs.specs.Steps.{IsFirst, outcome_in}
-use Rattle.cilk_runs.specs.FrameEnvs.{FrameEnv}
+use Rattle.cilk_determinacy.specs.Machine.{State, Stop}
+use Rattle.cilk_determinacy.specs.Runs.{Name}
+use Rattle.cilk_determinacy.specs.Reducers.{View}
+use Rattle.cilk_determinacy.specs.Steps.{IsFirst, outcome_in}
+use Rattle.cilk_determinacy.specs.FrameEnvs.{FrameEnv}
 use Rattle.cilk_scheduler.specs.WorkerTables.{Chooses, Comes, WorkerTable, IsOver, StopsAt}
 use Rattle.cilk_scheduler.specs.Openings.{first_worker_table}
 use Rattle.cilk_scheduler.specs.declared.scheduler.Scheduler.{Scheduler}
@@ -27,11 +27,11 @@ use Rattle.cilk_lower.specs.Behaves.{IsCodeOf}
 use Rattle.cilk_schedule.specs.declared.machine.Machine.{Machine}
 use Rattle.cilk_determinacy.specs.Settled.{AlwaysAsSerial, IsSettled}
 use Rattle.cilk_determinacy.specs.Theorem.{IsAsSerial}
-use Rattle.cilk_script.specs.Choices.{choices_within}
-use Rattle.cilk_script.specs.declared.choices.Next.{Next}
-use Rattle.cilk_script.specs.declared.choices.Next.TheVariants as nexts
-use Rattle.cilk_script.specs.declared.choices.TheConstants.{MAX_CHOICES}
-use Rattle.cilk_script.specs.declared.script.Step.{Step}
+use Rattle.cilk_parser.specs.ScriptChoices.{choices_within}
+use Rattle.cilk_parser.specs.declared.script_choices.Next.{Next}
+use Rattle.cilk_parser.specs.declared.script_choices.Next.TheVariants as nexts
+use Rattle.cilk_parser.specs.declared.script_choices.TheConstants.{MAX_CHOICES}
+use Rattle.cilk_parser.specs.declared.script.Step.{Step}
 use Rattle.cilk_schedule.specs.declared.fault.PlayFault.{PlayFault}
 use Rattle.cilk_schedule.specs.declared.fault.PlayFault.TheVariants as faults
 use Rattle.cilk_schedule.specs.declared.player.TheConstants.{MAX_ROUNDS}

@@ -10,13 +10,13 @@ use Rattle.cilk_types.specs.declared.invocation.Invocation.TheVariants.{Call, Sp
 use Rattle.cilk_types.specs.declared.outcome.Outcome.{Outcome}
 use Rattle.cilk_program.specs.Syntax.{Source}
 use Rattle.cilk_frames.specs.declared.activation.Activation.{Activation}
-use Rattle.cilk_runs.specs.Cuts.{joined_at, times}
-use Rattle.cilk_runs.specs.Machine.{Frame, State, HasEnd, deeds_at}
-use Rattle.cilk_runs.specs.Runs.{Name, Cell, Global, Own, Instance, Output, Reducer, Granted, Begins, Resumes, Creates, Updates, Sets, Values, Prints, Deed, Does, Invokes, Reads, Writes, Syncs, Ends, Passes}
-use Rattle.cilk_runs.specs.Runs.{Event as Done}
-use Rattle.cilk_runs.specs.Reducers.{View}
-use Rattle.cilk_runs.specs.Steps.{outcome_in}
-use Rattle.cilk_runs.specs.FrameEnvs.{FrameEnv}
+use Rattle.cilk_determinacy.specs.Cuts.{joined_at, times}
+use Rattle.cilk_determinacy.specs.Machine.{Frame, State, HasEnd, deeds_at}
+use Rattle.cilk_determinacy.specs.Runs.{Name, Cell, Global, Own, Instance, Output, Reducer, Granted, Begins, Resumes, Creates, Updates, Sets, Values, Prints, Deed, Does, Invokes, Reads, Writes, Syncs, Ends, Passes}
+use Rattle.cilk_determinacy.specs.Runs.{Event as Done}
+use Rattle.cilk_determinacy.specs.Reducers.{View}
+use Rattle.cilk_determinacy.specs.Steps.{outcome_in}
+use Rattle.cilk_determinacy.specs.FrameEnvs.{FrameEnv}
 use Rattle.cilk_lower.specs.Code.{CodeView}
 use Rattle.cilk_scheduler.specs.Schedulers.{Tells}
 use Rattle.cilk_scheduler.specs.Parents.{ChildrenAreNamed}

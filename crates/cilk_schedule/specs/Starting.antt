@@ -10,10 +10,10 @@ use Rattle.cilk_program.specs.declared.ask.Callee.{Callee}
 use Rattle.cilk_lower.specs.Code.{CodeView}
 use Rattle.cilk_lower.specs.Layout.{cells_in}
 use Rattle.cilk_frames.specs.declared.activation.Activation.{Activation}
-use Rattle.cilk_runs.specs.Machine.{State}
-use Rattle.cilk_runs.specs.Runs.{Name}
-use Rattle.cilk_runs.specs.Reducers.{View}
-use Rattle.cilk_runs.specs.FrameEnvs.{FrameEnv}
+use Rattle.cilk_determinacy.specs.Machine.{State}
+use Rattle.cilk_determinacy.specs.Runs.{Name}
+use Rattle.cilk_determinacy.specs.Reducers.{View}
+use Rattle.cilk_determinacy.specs.FrameEnvs.{FrameEnv}
 use Rattle.cilk_scheduler.specs.WorkerTables.{WorkerTable, Chooses, Did}
 use Rattle.cilk_scheduler.specs.Invocations.{ChildBegins, IsNoted}
 use Rattle.cilk_scheduler.specs.Invoking.{IsChild}

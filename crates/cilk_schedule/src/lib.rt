@@ -9,15 +9,15 @@
 //! the run stops for good. A thief begins with empty reducer views, and views are merged at the
 //! sync in serial order (Frigo, Halpern, Leiserson and Lewin-Berlin 2009).
 //!
-//! Each choice is at most one step of the free machine of `cilk_runs`, in which any frame that
-//! isn't waiting may make its next event at any moment. So what holds of each reachable state of
-//! that machine holds of the states here. A frame is known by its path: an ordinal for each frame
-//! from the first one's child down to it. The path is the same on every schedule.
+//! Each choice is at most one step of the free machine of `cilk_determinacy`, in which any frame
+//! that isn't waiting may make its next event at any moment. So what holds of each reachable state
+//! of that machine holds of the states here. A frame is known by its path: an ordinal for each
+//! frame from the first one's child down to it. The path is the same on every schedule.
 //!
 //! | Item | Use |
 //! |---|---|
 //! | [`play`] | Makes a list of choices and returns what the run shows. |
-//! | [`play_steps`] | Makes the choices of a script (`cilk_script`) and returns the outcome. |
+//! | [`play_steps`] | Makes the choices of a script (`cilk_parser`) and returns the outcome. |
 //! | [`machine::Machine::choose`] | Makes one choice. |
 //! | [`showing::Shown`] | The events of each frame, joined children and the outcome, by paths. |
 //! | [`laws`], [`play_laws`] | A list of choices, and a script, has at most one end. |

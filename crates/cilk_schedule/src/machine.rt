@@ -4,7 +4,7 @@
 ghost use Rattle.std.specs.Prelude.{◌≡◌, ◌≢◌, ◌⊎◌, ◌-◌, ◌<◌, ◌++◌, ◌∷◌, [], ℕ, suc, length, Err, None, Ok, Some, IfOk, IfErr, OnOk};
 ghost use Rattle.std.specs.Option.{is_some};
 ghost use Rattle.cilk_types.specs.declared.fault.Fault.{Fault};
-ghost use Rattle.cilk_runs.specs.Runs.{Name};
+ghost use Rattle.cilk_determinacy.specs.Runs.{Name};
 ghost use Rattle.cilk_scheduler.specs.Numbered.{AreNamed};
 ghost use Rattle.cilk_scheduler.specs.Workers.{held_by};
 ghost use Rattle.cilk_scheduler.specs.declared.choice.Stop.{Stop};

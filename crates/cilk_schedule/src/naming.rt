@@ -3,7 +3,7 @@
 
 ghost use Rattle.std.specs.Prelude.{◌≡◌, ◌<◌, ℕ, length, IfOk};
 ghost use Rattle.cilk_scheduler.specs.Numbered.{AreNamed};
-ghost use Rattle.cilk_runs.specs.Runs.{Name};
+ghost use Rattle.cilk_determinacy.specs.Runs.{Name};
 ghost use Rattle.cilk_schedule.specs.Showing.{IsCellOf, IsNamedAs, ordinal_of, reducer_of};
 
 use cilk_frames::activation::Activation;

@@ -4,12 +4,12 @@
 ghost use Rattle.std.specs.Prelude.{◌≡◌, ◌<◌, ◌++◌, ◌∷◌, [], ℕ, None, Some, cond, false, length, slice_get, IfOk, IfSome, MatchOption, OnOk};
 ghost use Rattle.std.specs.Option.{option_map};
 ghost use Rattle.cilk_program.specs.Syntax.{Source};
-ghost use Rattle.cilk_runs.specs.Cuts.{times};
-ghost use Rattle.cilk_runs.specs.Machine.{Frame, HasEnd, State, deeds_at};
-ghost use Rattle.cilk_runs.specs.Runs.{Name};
-ghost use Rattle.cilk_runs.specs.Reducers.{View};
-ghost use Rattle.cilk_runs.specs.Steps.{outcome_in};
-ghost use Rattle.cilk_runs.specs.FrameEnvs.{FrameEnv};
+ghost use Rattle.cilk_determinacy.specs.Cuts.{times};
+ghost use Rattle.cilk_determinacy.specs.Machine.{Frame, HasEnd, State, deeds_at};
+ghost use Rattle.cilk_determinacy.specs.Runs.{Name};
+ghost use Rattle.cilk_determinacy.specs.Reducers.{View};
+ghost use Rattle.cilk_determinacy.specs.Steps.{outcome_in};
+ghost use Rattle.cilk_determinacy.specs.FrameEnvs.{FrameEnv};
 ghost use Rattle.cilk_schedule.specs.Gathering.{AddsChild, AreGathered, Gathers, HaveLinks};
 ghost use Rattle.cilk_schedule.specs.Links.{links_in, links_of};
 ghost use Rattle.cilk_schedule.specs.Showing.{AreLinked, AreShown, ShowsScheduler, ShowsRun, joins_child};

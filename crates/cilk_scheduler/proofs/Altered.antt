@@ -8,7 +8,7 @@ use Rattle.std.proofs.Common.{◌≡◌, ◌⊎◌, inl, inr, ◌+◌, ◌<◌, 
 use Rattle.std.specs.Prelude.{remove}
 use Rattle.std.proofs.lemmas.List.{map-append}
 use Rattle.std.proofs.lemmas.List.Sums.{sum_by-cons}
-use Rattle.cilk_runs.specs.Runs.{Name, same_name}
+use Rattle.cilk_determinacy.specs.Runs.{Name, same_name}
 use Rattle.cilk_scheduler.specs.declared.frame_state.Worker.{Worker}
 use Rattle.cilk_scheduler.specs.Schedulers.{offers_of}
 use Rattle.cilk_scheduler.specs.WorkerTables.{all_offered, withdrawn, without}

@@ -16,13 +16,13 @@ use Rattle.cilk_join.specs.Joins.{JoinView, MayArrive}
 use Rattle.cilk_join.specs.Products.{Product}
 use Rattle.cilk_join.specs.Rows.{Stands, Wait, keys}
 use Rattle.cilk_join.specs.Waits.{shown}
-use Rattle.cilk_runs.specs.Machine.{Frame, State, deeds_at, started}
-use Rattle.cilk_runs.specs.Monoids.{unit_of}
-use Rattle.cilk_runs.specs.Progress.{HasNoSync, child_after}
-use Rattle.cilk_runs.specs.Runs.{Name, Output, Deed, Invokes}
-use Rattle.cilk_runs.specs.FrameEnvMachine.{has_ended}
-use Rattle.cilk_runs.specs.Reducers.{View, kind_of, monoid_of}
-use Rattle.cilk_runs.specs.FrameEnvs.{FrameEnv}
+use Rattle.cilk_determinacy.specs.Machine.{Frame, State, deeds_at, started}
+use Rattle.cilk_determinacy.specs.Monoids.{unit_of}
+use Rattle.cilk_determinacy.specs.Progress.{HasNoSync, child_after}
+use Rattle.cilk_determinacy.specs.Runs.{Name, Output, Deed, Invokes}
+use Rattle.cilk_determinacy.specs.FrameEnvMachine.{has_ended}
+use Rattle.cilk_determinacy.specs.Reducers.{View, kind_of, monoid_of}
+use Rattle.cilk_determinacy.specs.FrameEnvs.{FrameEnv}
 use Rattle.cilk_scheduler.specs.declared.scheduler.Scheduler.{Scheduler}
 use Rattle.cilk_scheduler.specs.declared.frame_state.FrameState.{FrameState}
 use Rattle.cilk_scheduler.specs.declared.frame_state.Status.{Status}

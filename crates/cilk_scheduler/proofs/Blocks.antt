@@ -10,12 +10,12 @@ use Rattle.cilk_monoid.specs.Kinds.{structure_of}
 use Rattle.cilk_monoid.specs.Laws.{MonoidStructure}
 use Rattle.cilk_monoid.specs.Values.{ViewValue}
 use Rattle.cilk_monoid.specs.declared.kind.MonoidKind.{MonoidKind}
-use Rattle.cilk_runs.specs.Machine.{block_view}
-use Rattle.cilk_runs.specs.Runs.{Reads, Writes, Syncs, Ends, Passes, Deed, Does, Invokes}
+use Rattle.cilk_determinacy.specs.Machine.{block_view}
+use Rattle.cilk_determinacy.specs.Runs.{Reads, Writes, Syncs, Ends, Passes, Deed, Does, Invokes}
 use Rattle.cilk_join.specs.Rows.{Wait, Row, row, wait, ahead, keys, Stands, or_unit, between, placed}
-use Rattle.cilk_runs.specs.Reducers.{View, views_of}
-use Rattle.cilk_runs.specs.FrameEnvViews.{IsViewOf}
-use Rattle.cilk_runs.proofs.FrameEnvViews.{are_multiplied}
+use Rattle.cilk_determinacy.specs.Reducers.{View, views_of}
+use Rattle.cilk_determinacy.specs.FrameEnvViews.{IsViewOf}
+use Rattle.cilk_determinacy.proofs.FrameEnvViews.{are_multiplied}
 use Rattle.cilk_scheduler.specs.Blocks.{stolen_in, IsRun, Lays, with_one, NotIn, Apart}
 
 -- the product of these pieces, after another

@@ -7,8 +7,8 @@ use Rattle.std.proofs.Common.{◌≡◌, inl, inr, ⊎_elim, ℕ, suc, Bool, tru
 use Rattle.cilk_types.specs.declared.invocation.Invocation.TheVariants.{Call, Spawn}
 use Rattle.cilk_types.specs.declared.invocation.Invocation.{Invocation}
 use Rattle.cilk_monoid.specs.Laws.{MonoidStructure}
-use Rattle.cilk_runs.specs.Runs.{Name, Event, Reads, Writes, Syncs, Ends, Passes, Deed, Does, Invokes}
-use Rattle.cilk_runs.specs.Machine.{started, block_view}
+use Rattle.cilk_determinacy.specs.Runs.{Name, Event, Reads, Writes, Syncs, Ends, Passes, Deed, Does, Invokes}
+use Rattle.cilk_determinacy.specs.Machine.{started, block_view}
 use Rattle.cilk_scheduler.specs.Schedulers.{is_resuming, carried, IsUsed}
 
 module _ {W : Type 0} where

@@ -8,11 +8,11 @@ use Rattle.cilk_program.specs.declared.ask.Ask.TheVariants as asks
 use Rattle.cilk_program.specs.Syntax.{Source}
 use Rattle.cilk_lower.specs.Code.{CodeView}
 use Rattle.cilk_frames.specs.declared.cursor.Answer.TheVariants.{Done, Value}
-use Rattle.cilk_runs.specs.Machine.{State}
-use Rattle.cilk_runs.specs.Runs.{Name, Cell, Own, same_cell, Reads, Writes, Does}
-use Rattle.cilk_runs.proofs.Basics.{same_cell-refl, same_cell-eq}
-use Rattle.cilk_runs.specs.Reducers.{View}
-use Rattle.cilk_runs.specs.FrameEnvs.{FrameEnv, cell_seen, result_cell}
+use Rattle.cilk_determinacy.specs.Machine.{State}
+use Rattle.cilk_determinacy.specs.Runs.{Name, Cell, Own, same_cell, Reads, Writes, Does}
+use Rattle.cilk_determinacy.proofs.Basics.{same_cell-refl, same_cell-eq}
+use Rattle.cilk_determinacy.specs.Reducers.{View}
+use Rattle.cilk_determinacy.specs.FrameEnvs.{FrameEnv, cell_seen, result_cell}
 use Rattle.cilk_scheduler.specs.declared.scheduler.Scheduler.{Scheduler}
 use Rattle.cilk_scheduler.specs.Acting.{ReadsAreShown, ResultsAreShown, WritesAreShown}
 use Rattle.cilk_scheduler.specs.Schedulers.{ShowsBy}

@@ -17,12 +17,12 @@ use Rattle.cilk_monoid.specs.Values.{ViewValue}
 use Rattle.cilk_monoid.specs.declared.kind.MonoidKind.{MonoidKind}
 use Rattle.cilk_join.specs.Products.{Product}
 use Rattle.cilk_join.specs.Rows.{Wait, wait}
-use Rattle.cilk_runs.specs.Machine.{HasEnd, started, strands}
-use Rattle.cilk_runs.specs.Runs.{Name, Reads, Writes, Syncs, Ends, Passes, Deed, Does, Invokes}
-use Rattle.cilk_runs.specs.Reducers.{View, views_of}
-use Rattle.cilk_runs.specs.FrameEnvViews.{IsViewOf}
-use Rattle.cilk_runs.specs.FrameEnvs.{FrameEnv}
-use Rattle.cilk_runs.proofs.FrameEnvViews.{are_multiplied}
+use Rattle.cilk_determinacy.specs.Machine.{HasEnd, started, strands}
+use Rattle.cilk_determinacy.specs.Runs.{Name, Reads, Writes, Syncs, Ends, Passes, Deed, Does, Invokes}
+use Rattle.cilk_determinacy.specs.Reducers.{View, views_of}
+use Rattle.cilk_determinacy.specs.FrameEnvViews.{IsViewOf}
+use Rattle.cilk_determinacy.specs.FrameEnvs.{FrameEnv}
+use Rattle.cilk_determinacy.proofs.FrameEnvViews.{are_multiplied}
 use Rattle.cilk_scheduler.specs.declared.frame_state.Status.TheVariants.{Calling, Offered, Waiting}
 use Rattle.cilk_scheduler.specs.declared.frame_state.Worker.{Worker}
 use Rattle.cilk_scheduler.specs.Blocks.{stolen_in, IsRun, Lays}

@@ -25,20 +25,20 @@ use Rattle.cilk_hypermap.specs.Hypermap.{view_in, value_in}
 use Rattle.cilk_hypermap.specs.declared.hypermap.Hypermap.{Hypermap}
 use Rattle.cilk_join.specs.Joins.{JoinView}
 use Rattle.cilk_join.specs.Waits.{shown}
-use Rattle.cilk_runs.specs.Cuts.{times, joined_at, spawn_bit, sync_bit}
-use Rattle.cilk_runs.specs.Costs.{Total, TickTotal, EventTotal, FrameTotal, CellTotal, cost}
-use Rattle.cilk_runs.specs.Machine.{Frame, State, HasEnd, Makes, after_deed, after_views, deed_of, deeds_at, effect, joined_by, started}
-use Rattle.cilk_runs.specs.Monoids.{numbers_of, unit_of}
-use Rattle.cilk_runs.specs.Progress.{BlockHasEnded, GoesOn, HasNext, child_after}
-use Rattle.cilk_runs.specs.Runs.{Name, same_name, Cell, Global, Own, Instance, Output, Reducer, has_instance, End, Pass, Resume, Sync, Reads, Writes, Syncs, Ends, Passes, Deed, Does, Invokes}
-use Rattle.cilk_runs.proofs.Basics.{same_name-refl, same_name-eq}
-use Rattle.cilk_runs.proofs.Started.{started_does}
-use Rattle.cilk_runs.specs.FrameEnvMachine.{costs, has_ended, next, retired_by, taken}
-use Rattle.cilk_runs.specs.Reducers.{View, kind_of, monoid_of}
-use Rattle.cilk_runs.specs.Steps.{Next, outcome_in}
-use Rattle.cilk_runs.specs.FrameEnvViews.{IsViewOf}
-use Rattle.cilk_runs.specs.FrameEnvs.{FrameEnv, global_named, own_named, reducer_seen}
-use Rattle.cilk_runs.proofs.KeptFrameEnv.{but_last_more, ended_more}
+use Rattle.cilk_determinacy.specs.Cuts.{times, joined_at, spawn_bit, sync_bit}
+use Rattle.cilk_determinacy.specs.Costs.{Total, TickTotal, EventTotal, FrameTotal, CellTotal, cost}
+use Rattle.cilk_determinacy.specs.Machine.{Frame, State, HasEnd, Makes, after_deed, after_views, deed_of, deeds_at, effect, joined_by, started}
+use Rattle.cilk_determinacy.specs.Monoids.{numbers_of, unit_of}
+use Rattle.cilk_determinacy.specs.Progress.{BlockHasEnded, GoesOn, HasNext, child_after}
+use Rattle.cilk_determinacy.specs.Runs.{Name, same_name, Cell, Global, Own, Instance, Output, Reducer, has_instance, End, Pass, Resume, Sync, Reads, Writes, Syncs, Ends, Passes, Deed, Does, Invokes}
+use Rattle.cilk_determinacy.proofs.Basics.{same_name-refl, same_name-eq}
+use Rattle.cilk_determinacy.proofs.Started.{started_does}
+use Rattle.cilk_determinacy.specs.FrameEnvMachine.{costs, has_ended, next, retired_by, taken}
+use Rattle.cilk_determinacy.specs.Reducers.{View, kind_of, monoid_of}
+use Rattle.cilk_determinacy.specs.Steps.{Next, outcome_in}
+use Rattle.cilk_determinacy.specs.FrameEnvViews.{IsViewOf}
+use Rattle.cilk_determinacy.specs.FrameEnvs.{FrameEnv, global_named, own_named, reducer_seen}
+use Rattle.cilk_determinacy.proofs.Histories.{but_last_more, ended_more}
 use Rattle.cilk_scheduler.specs.declared.scheduler.Scheduler.{Scheduler}
 use Rattle.cilk_scheduler.specs.declared.frame_state.JournalEntry.{JournalEntry}
 use Rattle.cilk_scheduler.specs.declared.frame_state.FrameState.{FrameState}

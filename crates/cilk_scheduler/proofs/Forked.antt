@@ -7,15 +7,15 @@ use Rattle.std.proofs.Common.{◌≡◌, Bool, true, false, true≢false, ℕ, s
 use Rattle.cilk_types.specs.declared.invocation.Invocation.{Invocation}
 use Rattle.cilk_program.specs.SerialRun.{cells_of}
 use Rattle.cilk_program.specs.Syntax.{Source}
-use Rattle.cilk_runs.specs.Cuts.{joined, joined_at}
-use Rattle.cilk_runs.specs.Machine.{Frame, State, HasEnd, after_deed, begun, deeds_at, started}
-use Rattle.cilk_runs.specs.Runs.{Name, same_name, Invokes}
-use Rattle.cilk_runs.proofs.Basics.{same_name-refl, same_name-eq}
-use Rattle.cilk_runs.proofs.Joins.{joined_step}
-use Rattle.cilk_runs.specs.FrameEnvMachine.{has_ended}
-use Rattle.cilk_runs.specs.Reducers.{View}
-use Rattle.cilk_runs.specs.FrameEnvs.{FrameEnv}
-use Rattle.cilk_runs.proofs.KeptFrameEnv.{ended_more}
+use Rattle.cilk_determinacy.specs.Cuts.{joined, joined_at}
+use Rattle.cilk_determinacy.specs.Machine.{Frame, State, HasEnd, after_deed, begun, deeds_at, started}
+use Rattle.cilk_determinacy.specs.Runs.{Name, same_name, Invokes}
+use Rattle.cilk_determinacy.proofs.Basics.{same_name-refl, same_name-eq}
+use Rattle.cilk_determinacy.proofs.Joins.{joined_step}
+use Rattle.cilk_determinacy.specs.FrameEnvMachine.{has_ended}
+use Rattle.cilk_determinacy.specs.Reducers.{View}
+use Rattle.cilk_determinacy.specs.FrameEnvs.{FrameEnv}
+use Rattle.cilk_determinacy.proofs.Histories.{ended_more}
 use Rattle.cilk_scheduler.specs.Numbered.{size_of}
 use Rattle.cilk_scheduler.proofs.Children.{end_child}
 use Rattle.cilk_scheduler.proofs.Onward.{longer, name_off}

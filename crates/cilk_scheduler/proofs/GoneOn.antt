@@ -9,16 +9,16 @@ use Rattle.std.proofs.Common.{◌≡◌, ◌⊎◌, inl, inr, ⊎_elim, ◌<◌,
 use Rattle.cilk_types.specs.declared.invocation.Invocation.{Invocation}
 use Rattle.cilk_types.specs.declared.invocation.Invocation.TheVariants.{Spawn}
 use Rattle.cilk_program.specs.Syntax.{Source}
-use Rattle.cilk_runs.specs.Machine.{Frame, Frames, State, Makes, Steals, Steps, after_deed, begun, deed_of, deeds_at, started}
-use Rattle.cilk_runs.specs.Monoids.{numbers_of}
-use Rattle.cilk_runs.specs.Progress.{AfterChild, AfterEvent, AfterSteal, AtBegin, GoesOn, HasEnded, child_after}
-use Rattle.cilk_runs.specs.Runs.{Name, same_name, Deed, Does, Invokes}
-use Rattle.cilk_runs.proofs.Basics.{nil_snoc, same_name-eq, snoc_one}
-use Rattle.cilk_runs.proofs.Progress.{progress}
-use Rattle.cilk_runs.specs.FrameEnvMachine.{costs, has_ended, is_end}
-use Rattle.cilk_runs.specs.Reducers.{View, monoid_of}
-use Rattle.cilk_runs.specs.Steps.{IsFirst, Next, OneStep}
-use Rattle.cilk_runs.specs.FrameEnvs.{FrameEnv, first_env}
+use Rattle.cilk_determinacy.specs.Machine.{Frame, Frames, State, Makes, Steals, Steps, after_deed, begun, deed_of, deeds_at, started}
+use Rattle.cilk_determinacy.specs.Monoids.{numbers_of}
+use Rattle.cilk_determinacy.specs.Progress.{AfterChild, AfterEvent, AfterSteal, AtBegin, GoesOn, HasEnded, child_after}
+use Rattle.cilk_determinacy.specs.Runs.{Name, same_name, Deed, Does, Invokes}
+use Rattle.cilk_determinacy.proofs.Basics.{nil_snoc, same_name-eq, snoc_one}
+use Rattle.cilk_determinacy.proofs.Progress.{progress}
+use Rattle.cilk_determinacy.specs.FrameEnvMachine.{costs, has_ended, is_end}
+use Rattle.cilk_determinacy.specs.Reducers.{View, monoid_of}
+use Rattle.cilk_determinacy.specs.Steps.{IsFirst, Next, OneStep}
+use Rattle.cilk_determinacy.specs.FrameEnvs.{FrameEnv, first_env}
 use Rattle.cilk_scheduler.specs.GoneOn.{FramesGoOnBehind, HaveGoneOn, WentOnBehind}
 use Rattle.cilk_scheduler.proofs.Choosing.{one_step}
 use Rattle.cilk_scheduler.proofs.Onward.{end_of, has_end}

@@ -5,10 +5,10 @@
 use Rattle.std.proofs.Common.{◌≡◌, ◌⊎◌, ⊎_elim, ◌+◌, ◌<◌, ◌≤◌, ℕ, suc, ℤ, pos, List, ◌++◌, length, replicate, slice_get, Some, sym, ap, ◌∙◌, subst, arith}
 use Rattle.cilk_program.specs.Syntax.{Source}
 use Rattle.cilk_frames.specs.declared.activation.Activation.{Activation}
-use Rattle.cilk_runs.specs.Machine.{State}
-use Rattle.cilk_runs.specs.Runs.{Name, Cell, Global, Own}
-use Rattle.cilk_runs.specs.Reducers.{View}
-use Rattle.cilk_runs.specs.FrameEnvs.{FrameEnv}
+use Rattle.cilk_determinacy.specs.Machine.{State}
+use Rattle.cilk_determinacy.specs.Runs.{Name, Cell, Global, Own}
+use Rattle.cilk_determinacy.specs.Reducers.{View}
+use Rattle.cilk_determinacy.specs.FrameEnvs.{FrameEnv}
 use Rattle.cilk_scheduler.specs.declared.frame_state.FrameState.{FrameState}
 use Rattle.cilk_scheduler.specs.Numbered.{IsAbsent, size_of, IsCell}
 use Rattle.cilk_scheduler.proofs.Children.{cells_length, first_part, replicate_at, second_part}

@@ -21,17 +21,17 @@ use Rattle.cilk_join.specs.Joins.{JoinView, arrived_at, passed as passed_block}
 use Rattle.cilk_join.specs.Products.{Product, product}
 use Rattle.cilk_join.specs.Rows.{Row, Stands, Wait, is_empty}
 use Rattle.cilk_join.specs.Waits.{shown}
-use Rattle.cilk_runs.specs.Machine.{Frame, State, HasEnd, Makes, block_view, deeds_at, started}
-use Rattle.cilk_runs.specs.Monoids.{unit_of}
-use Rattle.cilk_runs.specs.Progress.{AfterChild, AfterEvent, AfterSteal, AtBegin, GoesOn, HasEnded, HasNoSync, child_after}
-use Rattle.cilk_runs.specs.Runs.{Name, Instance, Output, End, Deed, Does, Invokes}
-use Rattle.cilk_runs.proofs.Basics.{nil_snoc, snoc_one}
-use Rattle.cilk_runs.proofs.Started.{started_invokes}
-use Rattle.cilk_runs.specs.FrameEnvMachine.{costs, has_ended}
-use Rattle.cilk_runs.specs.Reducers.{View, kind_of, monoid_of}
-use Rattle.cilk_runs.specs.Steps.{Next}
-use Rattle.cilk_runs.specs.FrameEnvViews.{IsViewOf}
-use Rattle.cilk_runs.specs.FrameEnvs.{FrameEnv}
+use Rattle.cilk_determinacy.specs.Machine.{Frame, State, HasEnd, Makes, block_view, deeds_at, started}
+use Rattle.cilk_determinacy.specs.Monoids.{unit_of}
+use Rattle.cilk_determinacy.specs.Progress.{AfterChild, AfterEvent, AfterSteal, AtBegin, GoesOn, HasEnded, HasNoSync, child_after}
+use Rattle.cilk_determinacy.specs.Runs.{Name, Instance, Output, End, Deed, Does, Invokes}
+use Rattle.cilk_determinacy.proofs.Basics.{nil_snoc, snoc_one}
+use Rattle.cilk_determinacy.proofs.Started.{started_invokes}
+use Rattle.cilk_determinacy.specs.FrameEnvMachine.{costs, has_ended}
+use Rattle.cilk_determinacy.specs.Reducers.{View, kind_of, monoid_of}
+use Rattle.cilk_determinacy.specs.Steps.{Next}
+use Rattle.cilk_determinacy.specs.FrameEnvViews.{IsViewOf}
+use Rattle.cilk_determinacy.specs.FrameEnvs.{FrameEnv}
 use Rattle.cilk_scheduler.specs.declared.scheduler.Scheduler.{Scheduler}
 use Rattle.cilk_scheduler.specs.declared.choice.Choice.TheVariants.{Run}
 use Rattle.cilk_scheduler.specs.declared.frame_state.Due.TheVariants as due

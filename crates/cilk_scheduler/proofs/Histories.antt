@@ -25,14 +25,14 @@ use Rattle.std.specs.Prelude.{pos, ◌-ℤ◌, if◌then◌else◌}
 use Rattle.std.specs.Ordering.{int_eq}
 use Rattle.cilk_program.specs.Order.{writings, creations, opening_asks, Stage, Fresh, Due, Going, Resuming, Synced, Closing, opened, goes_on, closes, follows}
 use Rattle.cilk_program.proofs.Legal.{Rest, after, unless_fault, IsLegal, fresh_fine}
-use Rattle.cilk_runs.specs.Machine.{Frame, Frames, State, started, deed_of, mark_of, begun, after_deed, Makes, Steps}
-use Rattle.cilk_runs.specs.Monoids.{numbers_of}
-use Rattle.cilk_runs.specs.Progress.{Answers}
-use Rattle.cilk_runs.specs.Runs.{Name, same_name, Cell, Instance, Ask, Read, Write, Invoke, Sync, End, Pass, Fail, Begin, Resume, Create, Update, Set, Value, Print, Event, Reads, Writes, Syncs, Ends, Passes, Deed, Does, Invokes, ask_of}
-use Rattle.cilk_runs.specs.FrameEnvMachine.{answer_of, answers_of, costs, has_ended, is_end, named_ask, next}
-use Rattle.cilk_runs.specs.Reducers.{View, monoid_of}
-use Rattle.cilk_runs.specs.Steps.{Next, IsFirst, OneStep}
-use Rattle.cilk_runs.specs.FrameEnvs.{FrameEnv, first_env}
+use Rattle.cilk_determinacy.specs.Machine.{Frame, Frames, State, started, deed_of, mark_of, begun, after_deed, Makes, Steps}
+use Rattle.cilk_determinacy.specs.Monoids.{numbers_of}
+use Rattle.cilk_determinacy.specs.Progress.{Answers}
+use Rattle.cilk_determinacy.specs.Runs.{Name, same_name, Cell, Instance, Ask, Read, Write, Invoke, Sync, End, Pass, Fail, Begin, Resume, Create, Update, Set, Value, Print, Event, Reads, Writes, Syncs, Ends, Passes, Deed, Does, Invokes, ask_of}
+use Rattle.cilk_determinacy.specs.FrameEnvMachine.{answer_of, answers_of, costs, has_ended, is_end, named_ask, next}
+use Rattle.cilk_determinacy.specs.Reducers.{View, monoid_of}
+use Rattle.cilk_determinacy.specs.Steps.{Next, IsFirst, OneStep}
+use Rattle.cilk_determinacy.specs.FrameEnvs.{FrameEnv, first_env}
 use Rattle.cilk_scheduler.specs.Schedulers.{is_resuming}
 use Rattle.cilk_scheduler.specs.Histories.{IsAnswered, AreAnswered, DidAsAsked, BeginsAndResumes, FramesDoAsAsked}
 use Rattle.cilk_scheduler.proofs.Carried.{resuming_event, resuming_child}

@@ -9,13 +9,13 @@ use Rattle.cilk_program.specs.declared.ask.Callee.{Callee}
 use Rattle.cilk_program.specs.Syntax.{Source}
 use Rattle.cilk_lower.specs.Behaves.{Behaves}
 use Rattle.cilk_lower.specs.Code.{CodeView}
-use Rattle.cilk_runs.specs.Machine.{Frame, State, Makes, after_deed, deed_of, deeds_at, started}
-use Rattle.cilk_runs.specs.Monoids.{numbers_of}
-use Rattle.cilk_runs.specs.Runs.{Name, Invoke, Invokes}
-use Rattle.cilk_runs.specs.FrameEnvMachine.{costs, next}
-use Rattle.cilk_runs.specs.Reducers.{View, monoid_of}
-use Rattle.cilk_runs.specs.Steps.{Next}
-use Rattle.cilk_runs.specs.FrameEnvs.{FrameEnv, child_env}
+use Rattle.cilk_determinacy.specs.Machine.{Frame, State, Makes, after_deed, deed_of, deeds_at, started}
+use Rattle.cilk_determinacy.specs.Monoids.{numbers_of}
+use Rattle.cilk_determinacy.specs.Runs.{Name, Invoke, Invokes}
+use Rattle.cilk_determinacy.specs.FrameEnvMachine.{costs, next}
+use Rattle.cilk_determinacy.specs.Reducers.{View, monoid_of}
+use Rattle.cilk_determinacy.specs.Steps.{Next}
+use Rattle.cilk_determinacy.specs.FrameEnvs.{FrameEnv, child_env}
 use Rattle.cilk_scheduler.specs.declared.scheduler.Scheduler.{Scheduler}
 use Rattle.cilk_scheduler.specs.declared.choice.Choice.TheVariants.{Run}
 use Rattle.cilk_scheduler.specs.Acting.{IsShown}

@@ -30,22 +30,22 @@ use Rattle.cilk_hypermap.specs.Hypermap.{value_in}
 use Rattle.cilk_join.specs.Joins.{JoinView}
 use Rattle.cilk_join.specs.Products.{Product}
 use Rattle.cilk_join.specs.Waits.{shown}
-use Rattle.cilk_runs.specs.Cuts.{times}
-use Rattle.cilk_runs.specs.Costs.{Total, TickTotal, EventTotal, FrameTotal, CellTotal, cost}
-use Rattle.cilk_runs.specs.Machine.{Frame, State, Makes, after_deed, after_views, begun, deed_of, deeds_at, effect, joined_by, started}
-use Rattle.cilk_runs.specs.Monoids.{numbers_of, unit_of}
-use Rattle.cilk_runs.specs.Progress.{BlockHasEnded}
-use Rattle.cilk_runs.specs.Runs.{Name, same_name, Cell, Own, Instance, Output, Reducer, Invoke, Deed, Invokes}
-use Rattle.cilk_runs.proofs.Basics.{same_name-refl, same_name-eq}
-use Rattle.cilk_runs.proofs.Started.{started_invokes}
-use Rattle.cilk_runs.specs.KeptFrameEnv.{IsTold}
-use Rattle.cilk_runs.specs.FrameEnvMachine.{costs, has_ended, next, taken}
-use Rattle.cilk_runs.specs.Reducers.{View, kind_of, monoid_of, views_of}
-use Rattle.cilk_runs.specs.Steps.{Next}
-use Rattle.cilk_runs.specs.FrameEnvViews.{IsViewOf}
-use Rattle.cilk_runs.specs.FrameEnvs.{FrameEnv, child_env}
-use Rattle.cilk_runs.proofs.KeptFrameEnv.{but_last_more, ended_more}
-use Rattle.cilk_runs.proofs.FrameEnvViews.{are_multiplied}
+use Rattle.cilk_determinacy.specs.Cuts.{times}
+use Rattle.cilk_determinacy.specs.Costs.{Total, TickTotal, EventTotal, FrameTotal, CellTotal, cost}
+use Rattle.cilk_determinacy.specs.Machine.{Frame, State, Makes, after_deed, after_views, begun, deed_of, deeds_at, effect, joined_by, started}
+use Rattle.cilk_determinacy.specs.Monoids.{numbers_of, unit_of}
+use Rattle.cilk_determinacy.specs.Progress.{BlockHasEnded}
+use Rattle.cilk_determinacy.specs.Runs.{Name, same_name, Cell, Own, Instance, Output, Reducer, Invoke, Deed, Invokes}
+use Rattle.cilk_determinacy.proofs.Basics.{same_name-refl, same_name-eq}
+use Rattle.cilk_determinacy.proofs.Started.{started_invokes}
+use Rattle.cilk_scheduler.specs.KeptCursors.{IsTold}
+use Rattle.cilk_determinacy.specs.FrameEnvMachine.{costs, has_ended, next, taken}
+use Rattle.cilk_determinacy.specs.Reducers.{View, kind_of, monoid_of, views_of}
+use Rattle.cilk_determinacy.specs.Steps.{Next}
+use Rattle.cilk_determinacy.specs.FrameEnvViews.{IsViewOf}
+use Rattle.cilk_determinacy.specs.FrameEnvs.{FrameEnv, child_env}
+use Rattle.cilk_determinacy.proofs.Histories.{but_last_more, ended_more}
+use Rattle.cilk_determinacy.proofs.FrameEnvViews.{are_multiplied}
 use Rattle.cilk_scheduler.specs.declared.scheduler.Scheduler.{Scheduler}
 use Rattle.cilk_scheduler.specs.declared.choice.Choice.TheVariants.{Run}
 use Rattle.cilk_scheduler.specs.declared.frame_state.Due.TheVariants as due

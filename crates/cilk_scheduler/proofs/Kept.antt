@@ -14,10 +14,10 @@ use Rattle.cilk_program.specs.Scopes.{Scope}
 use Rattle.cilk_program.specs.Syntax.{Source}
 use Rattle.cilk_frames.specs.Sight.{HasScope, LinksTo}
 use Rattle.cilk_frames.specs.declared.activation.Activation.{Activation}
-use Rattle.cilk_runs.specs.Runs.{Name, Cell, Global, Own, Instance, Output, Reducer, Granted, Begins, Resumes, Creates, Updates, Sets, Values, Prints, Deed, Does, Invokes, Reads, Writes, Syncs, Ends, Passes}
-use Rattle.cilk_runs.specs.Machine.{State}
-use Rattle.cilk_runs.specs.Reducers.{View}
-use Rattle.cilk_runs.specs.FrameEnvs.{FrameEnv}
+use Rattle.cilk_determinacy.specs.Runs.{Name, Cell, Global, Own, Instance, Output, Reducer, Granted, Begins, Resumes, Creates, Updates, Sets, Values, Prints, Deed, Does, Invokes, Reads, Writes, Syncs, Ends, Passes}
+use Rattle.cilk_determinacy.specs.Machine.{State}
+use Rattle.cilk_determinacy.specs.Reducers.{View}
+use Rattle.cilk_determinacy.specs.FrameEnvs.{FrameEnv}
 use Rattle.cilk_scheduler.specs.declared.frame_state.JournalEntry.{JournalEntry}
 use Rattle.cilk_scheduler.specs.declared.frame_state.FrameState.{FrameState}
 use Rattle.cilk_scheduler.specs.Events.{SeesAt}

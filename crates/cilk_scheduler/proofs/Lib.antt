@@ -19,9 +19,10 @@ pub mod Histories
 pub mod Invocations
 pub mod Invoked
 pub mod Kept
+pub mod KeptCursors
 pub mod Limits
-pub mod NewSchedulers
 pub mod NewNames
+pub mod NewSchedulers
 pub mod Nexts
 pub mod Noted
 pub mod Onward

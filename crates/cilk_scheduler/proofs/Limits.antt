@@ -7,13 +7,13 @@ use Rattle.cilk_types.specs.declared.limits.TheConstants.{MAX_CELLS}
 use Rattle.cilk_program.specs.Syntax.{Source, main_of}
 use Rattle.cilk_program.specs.WellNamed.{is_well_named}
 use Rattle.cilk_program.proofs.Naming.{well_named_parts}
-use Rattle.cilk_runs.specs.Costs.{Total, TickTotal, EventTotal, FrameTotal, CellTotal}
-use Rattle.cilk_runs.specs.Machine.{State, Makes, Steps}
-use Rattle.cilk_runs.specs.Runs.{Name}
-use Rattle.cilk_runs.specs.FrameEnvMachine.{costs, used}
-use Rattle.cilk_runs.specs.Reducers.{View, monoid_of}
-use Rattle.cilk_runs.specs.Steps.{Next, IsFirst, OneStep}
-use Rattle.cilk_runs.specs.FrameEnvs.{FrameEnv}
+use Rattle.cilk_determinacy.specs.Costs.{Total, TickTotal, EventTotal, FrameTotal, CellTotal}
+use Rattle.cilk_determinacy.specs.Machine.{State, Makes, Steps}
+use Rattle.cilk_determinacy.specs.Runs.{Name}
+use Rattle.cilk_determinacy.specs.FrameEnvMachine.{costs, used}
+use Rattle.cilk_determinacy.specs.Reducers.{View, monoid_of}
+use Rattle.cilk_determinacy.specs.Steps.{Next, IsFirst, OneStep}
+use Rattle.cilk_determinacy.specs.FrameEnvs.{FrameEnv}
 use Rattle.cilk_scheduler.specs.Histories.{AreWithin, TotalsStayWithin}
 use Rattle.cilk_scheduler.proofs.Within.{no_fault_then}
 

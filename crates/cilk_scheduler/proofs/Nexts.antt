@@ -7,12 +7,12 @@ use Rattle.cilk_program.specs.declared.ask.Ask as language
 use Rattle.cilk_program.specs.Syntax.{Source}
 use Rattle.cilk_lower.specs.Code.{CodeView}
 use Rattle.cilk_frames.specs.Cursor.{CursorView}
-use Rattle.cilk_runs.specs.Machine.{started}
-use Rattle.cilk_runs.specs.Runs.{Deed}
-use Rattle.cilk_runs.specs.KeptFrameEnv.{IsTold}
-use Rattle.cilk_runs.specs.FrameEnvMachine.{answers_of, has_ended, named_ask, next, taken}
-use Rattle.cilk_runs.specs.FrameEnvs.{FrameEnv}
-use Rattle.cilk_runs.proofs.KeptFrameEnv.{next_is_named}
+use Rattle.cilk_determinacy.specs.Machine.{started}
+use Rattle.cilk_determinacy.specs.Runs.{Deed}
+use Rattle.cilk_scheduler.specs.KeptCursors.{IsTold}
+use Rattle.cilk_determinacy.specs.FrameEnvMachine.{answers_of, has_ended, named_ask, next, taken}
+use Rattle.cilk_determinacy.specs.FrameEnvs.{FrameEnv}
+use Rattle.cilk_scheduler.proofs.KeptCursors.{next_is_named}
 use Rattle.cilk_scheduler.specs.declared.frame_state.Due.{Due}
 use Rattle.cilk_scheduler.specs.declared.frame_state.Due.TheVariants as due
 use Rattle.cilk_scheduler.specs.declared.frame_state.FrameState.{FrameState}

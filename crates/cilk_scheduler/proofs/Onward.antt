@@ -7,14 +7,14 @@
 use Rattle.std.proofs.Common.{◌≡◌, ⊎_elim, ℕ, Bool, true, false, true≢false, cond, ℤ, List, [], ◌∷◌, ◌++◌, Option, Some, None, refl, sym, ap, ◌∙◌}
 use Rattle.std.proofs.lemmas.Bool.{cases_Bool}
 use Rattle.cilk_program.specs.Syntax.{Source}
-use Rattle.cilk_runs.specs.Runs.{Name, same_name, Instance, Event, Reads, Writes, Syncs, Ends, Passes, Deed, Does, Invokes}
-use Rattle.cilk_runs.specs.Machine.{Frame, State, deeds_at, after_deed}
-use Rattle.cilk_runs.specs.Progress.{child_after, HasEnded, GoesOn, AtBegin, AfterEvent, AfterChild, AfterSteal, BlockHasEnded}
-use Rattle.cilk_runs.proofs.Basics.{same_name-refl, same_name-eq}
-use Rattle.cilk_runs.specs.FrameEnvMachine.{is_end, has_ended}
-use Rattle.cilk_runs.specs.Reducers.{View}
-use Rattle.cilk_runs.specs.FrameEnvs.{FrameEnv}
-use Rattle.cilk_runs.proofs.KeptFrameEnv.{ended_more}
+use Rattle.cilk_determinacy.specs.Runs.{Name, same_name, Instance, Event, Reads, Writes, Syncs, Ends, Passes, Deed, Does, Invokes}
+use Rattle.cilk_determinacy.specs.Machine.{Frame, State, deeds_at, after_deed}
+use Rattle.cilk_determinacy.specs.Progress.{child_after, HasEnded, GoesOn, AtBegin, AfterEvent, AfterChild, AfterSteal, BlockHasEnded}
+use Rattle.cilk_determinacy.proofs.Basics.{same_name-refl, same_name-eq}
+use Rattle.cilk_determinacy.specs.FrameEnvMachine.{is_end, has_ended}
+use Rattle.cilk_determinacy.specs.Reducers.{View}
+use Rattle.cilk_determinacy.specs.FrameEnvs.{FrameEnv}
+use Rattle.cilk_determinacy.proofs.Histories.{ended_more}
 use Rattle.cilk_scheduler.specs.Numbered.{size_of}
 
 pub name_off : (n m : Name) → (n ≡ m → ⊥) → same_name n m ≡ false

@@ -17,13 +17,13 @@ use Rattle.cilk_join.specs.Joins.{IsFresh, IsOpen, JoinView, arrived_at, has_awa
 use Rattle.cilk_join.specs.Products.{Product, nothing, times}
 use Rattle.cilk_join.specs.Rows.{Wait, is_empty, keys, placed}
 use Rattle.cilk_join.specs.Waits.{shown}
-use Rattle.cilk_runs.specs.Machine.{State, started}
-use Rattle.cilk_runs.specs.Monoids.{unit_of}
-use Rattle.cilk_runs.specs.Runs.{Name, Output, Deed, Invokes}
-use Rattle.cilk_runs.proofs.Started.{started_invokes}
-use Rattle.cilk_runs.specs.FrameEnvMachine.{has_ended}
-use Rattle.cilk_runs.specs.Reducers.{View, kind_of, monoid_of, views_of}
-use Rattle.cilk_runs.specs.FrameEnvs.{FrameEnv}
+use Rattle.cilk_determinacy.specs.Machine.{State, started}
+use Rattle.cilk_determinacy.specs.Monoids.{unit_of}
+use Rattle.cilk_determinacy.specs.Runs.{Name, Output, Deed, Invokes}
+use Rattle.cilk_determinacy.proofs.Started.{started_invokes}
+use Rattle.cilk_determinacy.specs.FrameEnvMachine.{has_ended}
+use Rattle.cilk_determinacy.specs.Reducers.{View, kind_of, monoid_of, views_of}
+use Rattle.cilk_determinacy.specs.FrameEnvs.{FrameEnv}
 use Rattle.cilk_scheduler.specs.declared.scheduler.Scheduler.{Scheduler}
 use Rattle.cilk_scheduler.specs.declared.frame_state.FrameState.{FrameState}
 use Rattle.cilk_scheduler.specs.declared.frame_state.Status.TheVariants.{Waiting}

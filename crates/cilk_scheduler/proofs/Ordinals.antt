@@ -6,15 +6,15 @@
 -- - `children_are_counted`: the law.
 use Rattle.std.proofs.Common.{◌≡◌, ⊎_elim, ◌<◌, ◌≤◌, ℕ, suc, Bool, true, false, cond, ℤ, List, [], ◌∷◌, ◌++◌, Option, Some, None, refl, sym, ap, ◌∙◌, subst, arith}
 use Rattle.cilk_program.specs.Syntax.{Source}
-use Rattle.cilk_runs.specs.Machine.{Frame, Frames, State, Makes, with_frame, after_deed, begun, deed_of, deeds_at, Steps, started}
-use Rattle.cilk_runs.specs.Monoids.{numbers_of}
-use Rattle.cilk_runs.specs.Runs.{Name, same_name, Deed, Does, Invokes}
-use Rattle.cilk_runs.proofs.Basics.{same_name-refl, same_name-eq}
-use Rattle.cilk_runs.proofs.Started.{started_does, started_invokes}
-use Rattle.cilk_runs.specs.FrameEnvMachine.{costs}
-use Rattle.cilk_runs.specs.Reducers.{View, monoid_of}
-use Rattle.cilk_runs.specs.Steps.{IsFirst, Next, OneStep}
-use Rattle.cilk_runs.specs.FrameEnvs.{FrameEnv}
+use Rattle.cilk_determinacy.specs.Machine.{Frame, Frames, State, Makes, with_frame, after_deed, begun, deed_of, deeds_at, Steps, started}
+use Rattle.cilk_determinacy.specs.Monoids.{numbers_of}
+use Rattle.cilk_determinacy.specs.Runs.{Name, same_name, Deed, Does, Invokes}
+use Rattle.cilk_determinacy.proofs.Basics.{same_name-refl, same_name-eq}
+use Rattle.cilk_determinacy.proofs.Started.{started_does, started_invokes}
+use Rattle.cilk_determinacy.specs.FrameEnvMachine.{costs}
+use Rattle.cilk_determinacy.specs.Reducers.{View, monoid_of}
+use Rattle.cilk_determinacy.specs.Steps.{IsFirst, Next, OneStep}
+use Rattle.cilk_determinacy.specs.FrameEnvs.{FrameEnv}
 use Rattle.cilk_scheduler.specs.Ordinals.{AreCounted, ChildrenAreCounted}
 use Rattle.cilk_scheduler.proofs.Onward.{longer, name_off}
 use Rattle.cilk_scheduler.proofs.Thieves.{snoc_name}

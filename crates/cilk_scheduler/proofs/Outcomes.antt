@@ -19,13 +19,13 @@ use Rattle.cilk_lower.specs.declared.layout.Layout.{Layout}
 use Rattle.cilk_hypermap.specs.Hypermap.{view_in, value_in}
 use Rattle.cilk_hypermap.specs.Views.{or_unit, output}
 use Rattle.cilk_hypermap.specs.declared.hypermap.Hypermap.{Hypermap}
-use Rattle.cilk_runs.specs.Machine.{State, deeds_at}
-use Rattle.cilk_runs.specs.Runs.{Global, Instance, Output}
-use Rattle.cilk_runs.specs.Reducers.{View, elements_of, value_of}
-use Rattle.cilk_runs.specs.Steps.{finals_in, outcome_in, result_in}
-use Rattle.cilk_runs.specs.FrameEnvViews.{IsViewOf}
-use Rattle.cilk_runs.specs.FrameEnvs.{FrameEnv, global_named}
-use Rattle.cilk_runs.proofs.FrameEnvViews.{are_multiplied}
+use Rattle.cilk_determinacy.specs.Machine.{State, deeds_at}
+use Rattle.cilk_determinacy.specs.Runs.{Global, Instance, Output}
+use Rattle.cilk_determinacy.specs.Reducers.{View, elements_of, value_of}
+use Rattle.cilk_determinacy.specs.Steps.{finals_in, outcome_in, result_in}
+use Rattle.cilk_determinacy.specs.FrameEnvViews.{IsViewOf}
+use Rattle.cilk_determinacy.specs.FrameEnvs.{FrameEnv, global_named}
+use Rattle.cilk_determinacy.proofs.FrameEnvViews.{are_multiplied}
 use Rattle.cilk_frames.specs.Leaving.{finals_of, numbers_in, outcome_of}
 
 globals_same : (n from : ℕ) (cells : List ℤ) (f : ℕ → ℤ) → ((q : ℕ) → q < n → slice_get cells q ≡ Some (f (from + q))) → take n cells ≡ cells_from from n f

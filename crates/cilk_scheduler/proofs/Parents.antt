@@ -13,17 +13,17 @@ use Rattle.cilk_program.specs.declared.ask.Ask as language
 use Rattle.cilk_program.specs.declared.ask.Ask.TheVariants as asks
 use Rattle.cilk_program.specs.declared.ask.Callee.{Callee}
 use Rattle.cilk_program.specs.Syntax.{Source}
-use Rattle.cilk_runs.specs.Machine.{Frame, Frames, State, Stop, Makes, Steals, Steps, after_deed, begun, deed_of, deeds_at, started}
-use Rattle.cilk_runs.specs.Monoids.{numbers_of}
-use Rattle.cilk_runs.specs.Progress.{Answers, AfterChild, AfterEvent, AfterSteal, AtBegin, GoesOn, HasEnded, HasNoSync, MayAsk, child_after}
-use Rattle.cilk_runs.specs.Runs.{Name, same_name, Cell, Instance, Ask, Read, Write, Invoke, Sync, End, Pass, Fail, Syncs, Deed, Does, Invokes}
-use Rattle.cilk_runs.proofs.Basics.{nil_snoc, same_name-refl, same_name-eq, snoc_one}
-use Rattle.cilk_runs.proofs.Progress.{progress}
-use Rattle.cilk_runs.specs.FrameEnvMachine.{asked_after, costs, has_ended, is_end, named_ask, next}
-use Rattle.cilk_runs.specs.Reducers.{View, monoid_of}
-use Rattle.cilk_runs.specs.Steps.{IsFirst, Next, OneStep}
-use Rattle.cilk_runs.specs.FrameEnvs.{FrameEnv, Sight, child_env, first_env, env_of}
-use Rattle.cilk_runs.proofs.KeptFrameEnv.{ended_more}
+use Rattle.cilk_determinacy.specs.Machine.{Frame, Frames, State, Stop, Makes, Steals, Steps, after_deed, begun, deed_of, deeds_at, started}
+use Rattle.cilk_determinacy.specs.Monoids.{numbers_of}
+use Rattle.cilk_determinacy.specs.Progress.{Answers, AfterChild, AfterEvent, AfterSteal, AtBegin, GoesOn, HasEnded, HasNoSync, MayAsk, child_after}
+use Rattle.cilk_determinacy.specs.Runs.{Name, same_name, Cell, Instance, Ask, Read, Write, Invoke, Sync, End, Pass, Fail, Syncs, Deed, Does, Invokes}
+use Rattle.cilk_determinacy.proofs.Basics.{nil_snoc, same_name-refl, same_name-eq, snoc_one}
+use Rattle.cilk_determinacy.proofs.Progress.{progress}
+use Rattle.cilk_determinacy.specs.FrameEnvMachine.{asked_after, costs, has_ended, is_end, named_ask, next}
+use Rattle.cilk_determinacy.specs.Reducers.{View, monoid_of}
+use Rattle.cilk_determinacy.specs.Steps.{IsFirst, Next, OneStep}
+use Rattle.cilk_determinacy.specs.FrameEnvs.{FrameEnv, Sight, child_env, first_env, env_of}
+use Rattle.cilk_determinacy.proofs.Histories.{ended_more}
 use Rattle.cilk_scheduler.specs.Histories.{AreAnswered, DidAsAsked, IsAnswered}
 use Rattle.cilk_scheduler.specs.Ordinals.{AreCounted}
 use Rattle.cilk_scheduler.specs.Parents.{AreStarted, ChildrenAreNamed, GoesBeside, NamesAreKept, OutliveChildren, ParentsOutlive}

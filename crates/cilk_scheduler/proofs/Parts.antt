@@ -16,13 +16,13 @@ use Rattle.cilk_hypermap.specs.declared.hypermap.Hypermap.{Hypermap}
 use Rattle.cilk_join.specs.Joins.{MayArrive, arrived_at, has_awaited, passes}
 use Rattle.cilk_join.specs.Products.{product}
 use Rattle.cilk_join.specs.Waits.{shown}
-use Rattle.cilk_runs.specs.Machine.{State, deeds_at, started}
-use Rattle.cilk_runs.specs.Runs.{Name, Ask, Pass, Resume, Sync, Deed}
-use Rattle.cilk_runs.proofs.Started.{started_invokes}
+use Rattle.cilk_determinacy.specs.Machine.{State, deeds_at, started}
+use Rattle.cilk_determinacy.specs.Runs.{Name, Ask, Pass, Resume, Sync, Deed}
+use Rattle.cilk_determinacy.proofs.Started.{started_invokes}
 use Rattle.cilk_types.specs.declared.invocation.Invocation.TheVariants.{Spawn}
-use Rattle.cilk_runs.specs.FrameEnvMachine.{next}
-use Rattle.cilk_runs.specs.Reducers.{View}
-use Rattle.cilk_runs.specs.FrameEnvs.{FrameEnv}
+use Rattle.cilk_determinacy.specs.FrameEnvMachine.{next}
+use Rattle.cilk_determinacy.specs.Reducers.{View}
+use Rattle.cilk_determinacy.specs.FrameEnvs.{FrameEnv}
 use Rattle.cilk_scheduler.specs.declared.scheduler.Scheduler.{Scheduler}
 use Rattle.cilk_scheduler.specs.declared.frame_state.FrameState.{FrameState}
 use Rattle.cilk_scheduler.specs.declared.frame_state.Status.TheVariants.{Held, Offered, Waiting}

@@ -8,13 +8,13 @@ use Rattle.std.proofs.Common.{◌≡◌, ◌<◌, ◌+◌, inl, inr, ℕ, zero, 
 use Rattle.cilk_types.specs.declared.invocation.Invocation.TheVariants.{Call, Spawn}
 use Rattle.cilk_monoid.specs.Values.{ViewValue}
 use Rattle.cilk_monoid.specs.declared.kind.MonoidKind.{MonoidKind}
-use Rattle.cilk_runs.specs.Cuts.{joined_at, spawn_bit, sync_bit}
-use Rattle.cilk_runs.specs.Machine.{HasEnd}
-use Rattle.cilk_runs.specs.Runs.{Event, Reads, Writes, Syncs, Ends, Passes, Deed, Does, Invokes}
+use Rattle.cilk_determinacy.specs.Cuts.{joined_at, spawn_bit, sync_bit}
+use Rattle.cilk_determinacy.specs.Machine.{HasEnd}
+use Rattle.cilk_determinacy.specs.Runs.{Event, Reads, Writes, Syncs, Ends, Passes, Deed, Does, Invokes}
 use Rattle.cilk_join.specs.Rows.{Wait}
-use Rattle.cilk_runs.specs.FrameEnvMachine.{is_end}
-use Rattle.cilk_runs.specs.Reducers.{View, views_of}
-use Rattle.cilk_runs.specs.FrameEnvs.{FrameEnv}
+use Rattle.cilk_determinacy.specs.FrameEnvMachine.{is_end}
+use Rattle.cilk_determinacy.specs.Reducers.{View, views_of}
+use Rattle.cilk_determinacy.specs.FrameEnvs.{FrameEnv}
 use Rattle.cilk_scheduler.specs.Blocks.{stolen_in, IsRun, Lays}
 use Rattle.cilk_scheduler.specs.Touching.{IsPlain}
 

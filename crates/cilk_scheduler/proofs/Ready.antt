@@ -23,13 +23,13 @@ use Rattle.cilk_lower.specs.Code.{CodeView}
 use Rattle.cilk_lower.specs.Layout.{LaysOut}
 use Rattle.cilk_hypermap.specs.Hypermap.{value_in}
 use Rattle.cilk_frames.specs.declared.activation.Activation.{Activation}
-use Rattle.cilk_runs.specs.Machine.{State, begins_strand, started, strands}
-use Rattle.cilk_runs.specs.Monoids.{unit_of}
-use Rattle.cilk_runs.specs.Runs.{Name, Global, Pass, Resume, Instance, Reducer, Event, Deed, Does, Invokes}
-use Rattle.cilk_runs.specs.FrameEnvMachine.{costs, named_ask}
-use Rattle.cilk_runs.specs.Reducers.{View, kind_of, monoid_of}
-use Rattle.cilk_runs.specs.FrameEnvViews.{IsViewOf}
-use Rattle.cilk_runs.specs.FrameEnvs.{FrameEnv, cell_seen, global_named, reducer_seen, result_cell}
+use Rattle.cilk_determinacy.specs.Machine.{State, begins_strand, started, strands}
+use Rattle.cilk_determinacy.specs.Monoids.{unit_of}
+use Rattle.cilk_determinacy.specs.Runs.{Name, Global, Pass, Resume, Instance, Reducer, Event, Deed, Does, Invokes}
+use Rattle.cilk_determinacy.specs.FrameEnvMachine.{costs, named_ask}
+use Rattle.cilk_determinacy.specs.Reducers.{View, kind_of, monoid_of}
+use Rattle.cilk_determinacy.specs.FrameEnvViews.{IsViewOf}
+use Rattle.cilk_determinacy.specs.FrameEnvs.{FrameEnv, cell_seen, global_named, reducer_seen, result_cell}
 use Rattle.cilk_scheduler.specs.declared.scheduler.Scheduler.{Scheduler}
 use Rattle.cilk_scheduler.specs.declared.frame_state.FrameState.{FrameState}
 use Rattle.cilk_scheduler.specs.Acting.{MeansCell, MeansReducer}

@@ -25,14 +25,14 @@ use Rattle.cilk_hypermap.specs.Hypermap.{ChangesIn, value_in}
 use Rattle.cilk_hypermap.specs.Views.{output}
 use Rattle.cilk_hypermap.specs.declared.hypermap.Hypermap.{Hypermap}
 use Rattle.cilk_frames.specs.declared.activation.Activation.{Activation}
-use Rattle.cilk_runs.specs.Machine.{State}
-use Rattle.cilk_runs.specs.Monoids.{unit_of}
-use Rattle.cilk_runs.specs.Runs.{Name, Instance, Output, Reducer, same_instance, Passes, Creates, Updates, Sets, Values, Prints, Does}
-use Rattle.cilk_runs.proofs.Basics.{same_instance-refl}
-use Rattle.cilk_runs.specs.Reducers.{View, kind_of, monoid_of}
-use Rattle.cilk_runs.specs.FrameEnvViews.{IsViewOf}
-use Rattle.cilk_runs.specs.FrameEnvs.{FrameEnv, reducer_seen}
-use Rattle.cilk_runs.proofs.FrameEnvViews.{are_multiplied}
+use Rattle.cilk_determinacy.specs.Machine.{State}
+use Rattle.cilk_determinacy.specs.Monoids.{unit_of}
+use Rattle.cilk_determinacy.specs.Runs.{Name, Instance, Output, Reducer, same_instance, Passes, Creates, Updates, Sets, Values, Prints, Does}
+use Rattle.cilk_determinacy.proofs.Basics.{same_instance-refl}
+use Rattle.cilk_determinacy.specs.Reducers.{View, kind_of, monoid_of}
+use Rattle.cilk_determinacy.specs.FrameEnvViews.{IsViewOf}
+use Rattle.cilk_determinacy.specs.FrameEnvs.{FrameEnv, reducer_seen}
+use Rattle.cilk_determinacy.proofs.FrameEnvViews.{are_multiplied}
 use Rattle.cilk_scheduler.specs.declared.scheduler.Scheduler.{Scheduler}
 use Rattle.cilk_scheduler.specs.declared.frame_state.FrameState.{FrameState}
 use Rattle.cilk_scheduler.specs.Acting.{CreatesAreShown, PrintsAreShown, SetsAreShown, UpdatesAreShown, ValuesAreShown}

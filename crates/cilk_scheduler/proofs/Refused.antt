@@ -11,9 +11,9 @@ use Rattle.cilk_program.specs.declared.ask.Ask.{Ask}
 use Rattle.cilk_program.specs.declared.ask.Ask.TheVariants as asks
 use Rattle.cilk_program.specs.Syntax.{Source}
 use Rattle.cilk_lower.specs.declared.layout.Layout.{Layout}
-use Rattle.cilk_runs.specs.Costs.{TickTotal, EventTotal, FrameTotal, CellTotal, fault_of}
-use Rattle.cilk_runs.specs.Machine.{started}
-use Rattle.cilk_runs.specs.FrameEnvMachine.{costs, named_ask}
+use Rattle.cilk_determinacy.specs.Costs.{TickTotal, EventTotal, FrameTotal, CellTotal, fault_of}
+use Rattle.cilk_determinacy.specs.Machine.{started}
+use Rattle.cilk_determinacy.specs.FrameEnvMachine.{costs, named_ask}
 use Rattle.cilk_scheduler.specs.Asking.{RefusalsAreFaults, refusal}
 
 nothing_begun : (frames cells : ℕ) → frames ≤ MAX_FRAMES → cells ≤ MAX_CELLS → cond (nat_lt MAX_FRAMES (frames + 0)) (Some TooManyFrames) (cond (nat_lt MAX_CELLS (cells + 0)) (Some TooManyCells) None) ≡ None

@@ -24,13 +24,13 @@ use Rattle.cilk_hypermap.specs.Hypermap.{view_in, value_in}
 use Rattle.cilk_hypermap.specs.Views.{or_unit}
 use Rattle.cilk_hypermap.specs.declared.hypermap.Hypermap.{Hypermap}
 use Rattle.cilk_frames.specs.declared.activation.Activation.{Activation}
-use Rattle.cilk_runs.specs.Runs.{Name, Instance, has_instance, same_instance}
-use Rattle.cilk_runs.proofs.Basics.{same_instance-refl, same_instance-eq}
-use Rattle.cilk_runs.specs.FrameEnvMachine.{retired_from}
-use Rattle.cilk_runs.specs.Reducers.{View, kind_of, monoid_of}
-use Rattle.cilk_runs.specs.FrameEnvViews.{IsViewOf}
-use Rattle.cilk_runs.specs.FrameEnvs.{Reducers}
-use Rattle.cilk_runs.proofs.FrameEnvViews.{are_multiplied}
+use Rattle.cilk_determinacy.specs.Runs.{Name, Instance, has_instance, same_instance}
+use Rattle.cilk_determinacy.proofs.Basics.{same_instance-refl, same_instance-eq}
+use Rattle.cilk_determinacy.specs.FrameEnvMachine.{retired_from}
+use Rattle.cilk_determinacy.specs.Reducers.{View, kind_of, monoid_of}
+use Rattle.cilk_determinacy.specs.FrameEnvViews.{IsViewOf}
+use Rattle.cilk_determinacy.specs.FrameEnvs.{Reducers}
+use Rattle.cilk_determinacy.proofs.FrameEnvViews.{are_multiplied}
 use Rattle.cilk_scheduler.specs.declared.frame_state.FrameState.{FrameState}
 use Rattle.cilk_scheduler.specs.Schedulers.{IsBare}
 use Rattle.cilk_scheduler.specs.Retired.{without_own}

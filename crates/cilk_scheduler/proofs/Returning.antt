@@ -17,16 +17,16 @@ use Rattle.cilk_program.specs.Syntax.{Source}
 use Rattle.cilk_lower.specs.Code.{CodeView}
 use Rattle.cilk_frames.specs.declared.activation.Activation.{Activation}
 use Rattle.cilk_hypermap.specs.Hypermap.{value_in}
-use Rattle.cilk_runs.specs.Machine.{Frame, State, HasEnd, Makes, deeds_at, started}
-use Rattle.cilk_runs.specs.Progress.{AfterChild, AfterEvent, AfterSteal, AtBegin, GoesOn, child_after}
-use Rattle.cilk_runs.specs.Runs.{Name, Instance, Reads, Writes, Syncs, Ends, Passes, Deed, Does, Invokes}
-use Rattle.cilk_runs.proofs.Basics.{nil_snoc, same_name-refl, snoc_one}
-use Rattle.cilk_runs.proofs.Started.{started_invokes}
-use Rattle.cilk_runs.specs.FrameEnvMachine.{costs, has_ended}
-use Rattle.cilk_runs.specs.Reducers.{View, kind_of, monoid_of}
-use Rattle.cilk_runs.specs.Steps.{Next}
-use Rattle.cilk_runs.specs.FrameEnvViews.{IsViewOf}
-use Rattle.cilk_runs.specs.FrameEnvs.{FrameEnv}
+use Rattle.cilk_determinacy.specs.Machine.{Frame, State, HasEnd, Makes, deeds_at, started}
+use Rattle.cilk_determinacy.specs.Progress.{AfterChild, AfterEvent, AfterSteal, AtBegin, GoesOn, child_after}
+use Rattle.cilk_determinacy.specs.Runs.{Name, Instance, Reads, Writes, Syncs, Ends, Passes, Deed, Does, Invokes}
+use Rattle.cilk_determinacy.proofs.Basics.{nil_snoc, same_name-refl, snoc_one}
+use Rattle.cilk_determinacy.proofs.Started.{started_invokes}
+use Rattle.cilk_determinacy.specs.FrameEnvMachine.{costs, has_ended}
+use Rattle.cilk_determinacy.specs.Reducers.{View, kind_of, monoid_of}
+use Rattle.cilk_determinacy.specs.Steps.{Next}
+use Rattle.cilk_determinacy.specs.FrameEnvViews.{IsViewOf}
+use Rattle.cilk_determinacy.specs.FrameEnvs.{FrameEnv}
 use Rattle.cilk_scheduler.specs.declared.scheduler.Scheduler.{Scheduler}
 use Rattle.cilk_scheduler.specs.declared.choice.Choice.TheVariants.{Run}
 use Rattle.cilk_scheduler.specs.declared.frame_state.Due.TheVariants as due

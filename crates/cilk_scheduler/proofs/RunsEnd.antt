@@ -11,13 +11,13 @@ use Rattle.cilk_program.specs.Syntax.{Source}
 use Rattle.cilk_lower.specs.Code.{CodeView}
 use Rattle.cilk_frames.specs.declared.activation.Activation.{Activation}
 use Rattle.cilk_hypermap.specs.Hypermap.{value_in}
-use Rattle.cilk_runs.specs.Machine.{State, HasEnd, Makes, deeds_at}
-use Rattle.cilk_runs.specs.Runs.{Name, Global, Instance, Output, Reads, Writes, Syncs, Ends, Passes, Deed, Does, Invokes}
-use Rattle.cilk_runs.specs.FrameEnvMachine.{costs, has_ended, retired_by}
-use Rattle.cilk_runs.specs.Reducers.{View, kind_of, monoid_of}
-use Rattle.cilk_runs.specs.Steps.{Next, outcome_in, result_in}
-use Rattle.cilk_runs.specs.FrameEnvViews.{IsViewOf}
-use Rattle.cilk_runs.specs.FrameEnvs.{FrameEnv, global_named}
+use Rattle.cilk_determinacy.specs.Machine.{State, HasEnd, Makes, deeds_at}
+use Rattle.cilk_determinacy.specs.Runs.{Name, Global, Instance, Output, Reads, Writes, Syncs, Ends, Passes, Deed, Does, Invokes}
+use Rattle.cilk_determinacy.specs.FrameEnvMachine.{costs, has_ended, retired_by}
+use Rattle.cilk_determinacy.specs.Reducers.{View, kind_of, monoid_of}
+use Rattle.cilk_determinacy.specs.Steps.{Next, outcome_in, result_in}
+use Rattle.cilk_determinacy.specs.FrameEnvViews.{IsViewOf}
+use Rattle.cilk_determinacy.specs.FrameEnvs.{FrameEnv, global_named}
 use Rattle.cilk_scheduler.specs.declared.scheduler.Scheduler.{Scheduler}
 use Rattle.cilk_scheduler.specs.declared.choice.Choice.TheVariants.{Run}
 use Rattle.cilk_scheduler.specs.declared.frame_state.FrameState.{FrameState}

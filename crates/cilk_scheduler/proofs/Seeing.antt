@@ -25,13 +25,13 @@ use Rattle.cilk_lower.specs.Code.{CodeView}
 use Rattle.cilk_frames.specs.Cursor.{CursorView}
 use Rattle.cilk_frames.specs.Following.{word_in}
 use Rattle.cilk_frames.specs.declared.activation.Activation.{Activation}
-use Rattle.cilk_runs.specs.Machine.{State}
-use Rattle.cilk_runs.specs.Runs.{Name, Cell, Global, Own, Instance, Reducer, same_instance, Deed}
-use Rattle.cilk_runs.proofs.Basics.{same_instance-eq}
-use Rattle.cilk_runs.specs.KeptFrameEnv.{IsTold}
-use Rattle.cilk_runs.specs.FrameEnvMachine.{answers_of}
-use Rattle.cilk_runs.specs.Reducers.{View}
-use Rattle.cilk_runs.specs.FrameEnvs.{FrameEnv, global_named}
+use Rattle.cilk_determinacy.specs.Machine.{State}
+use Rattle.cilk_determinacy.specs.Runs.{Name, Cell, Global, Own, Instance, Reducer, same_instance, Deed}
+use Rattle.cilk_determinacy.proofs.Basics.{same_instance-eq}
+use Rattle.cilk_scheduler.specs.KeptCursors.{IsTold}
+use Rattle.cilk_determinacy.specs.FrameEnvMachine.{answers_of}
+use Rattle.cilk_determinacy.specs.Reducers.{View}
+use Rattle.cilk_determinacy.specs.FrameEnvs.{FrameEnv, global_named}
 use Rattle.cilk_scheduler.specs.declared.scheduler.Scheduler.{Scheduler}
 use Rattle.cilk_scheduler.specs.declared.frame_state.Due.{Due}
 use Rattle.cilk_scheduler.specs.declared.frame_state.Due.TheVariants as due

@@ -17,12 +17,12 @@ use Rattle.cilk_program.specs.Syntax.{Source}
 use Rattle.cilk_program.specs.Order.{opening_asks, Stage, Fresh, Due, Going, Resuming, Synced, Closing, opened, goes_on, closes, follows}
 use Rattle.cilk_program.proofs.Closings.{IsOpening, IsSound, opened_sound, opening_asks_open}
 use Rattle.cilk_program.proofs.Legal.{Rest, after, unless_fault, IsLegal, fresh_fine}
-use Rattle.cilk_runs.specs.Machine.{started}
-use Rattle.cilk_runs.specs.Progress.{Answers, HasNoSync}
-use Rattle.cilk_runs.specs.Runs.{Instance, Ask, Read, Write, Invoke, Sync, End, Pass, Fail, Event, Reads, Writes, Syncs, Ends, Passes, Deed, Does, Invokes, ask_of}
-use Rattle.cilk_runs.specs.FrameEnvMachine.{answer_of, answers_of, has_ended, is_end, named_ask, next}
-use Rattle.cilk_runs.specs.FrameEnvs.{FrameEnv}
-use Rattle.cilk_runs.proofs.KeptFrameEnv.{ended_more}
+use Rattle.cilk_determinacy.specs.Machine.{started}
+use Rattle.cilk_determinacy.specs.Progress.{Answers, HasNoSync}
+use Rattle.cilk_determinacy.specs.Runs.{Instance, Ask, Read, Write, Invoke, Sync, End, Pass, Fail, Event, Reads, Writes, Syncs, Ends, Passes, Deed, Does, Invokes, ask_of}
+use Rattle.cilk_determinacy.specs.FrameEnvMachine.{answer_of, answers_of, has_ended, is_end, named_ask, next}
+use Rattle.cilk_determinacy.specs.FrameEnvs.{FrameEnv}
+use Rattle.cilk_determinacy.proofs.Histories.{ended_more}
 use Rattle.cilk_scheduler.specs.Histories.{AreAnswered}
 
 -- ---- children with no sync since

@@ -34,14 +34,14 @@ use Rattle.cilk_frames.specs.Cursor.{CursorView}
 use Rattle.cilk_frames.specs.Following.{word_in}
 use Rattle.cilk_frames.specs.Sight.{HasScope}
 use Rattle.cilk_frames.specs.declared.activation.Activation.{Activation}
-use Rattle.cilk_runs.specs.Machine.{Frame, State, after_deed, begun, started}
-use Rattle.cilk_runs.specs.Progress.{AtBegin}
-use Rattle.cilk_runs.specs.Runs.{Name, same_name, Cell, Global, Own, Instance, Output, Reducer, Deed, Invokes}
-use Rattle.cilk_runs.proofs.Basics.{same_name-refl, same_name-eq}
-use Rattle.cilk_runs.specs.KeptFrameEnv.{IsTold}
-use Rattle.cilk_runs.specs.FrameEnvMachine.{answers_of}
-use Rattle.cilk_runs.specs.Reducers.{View, kind_of}
-use Rattle.cilk_runs.specs.FrameEnvs.{FrameEnv, child_env, global_named, home_named, own_named}
+use Rattle.cilk_determinacy.specs.Machine.{Frame, State, after_deed, begun, started}
+use Rattle.cilk_determinacy.specs.Progress.{AtBegin}
+use Rattle.cilk_determinacy.specs.Runs.{Name, same_name, Cell, Global, Own, Instance, Output, Reducer, Deed, Invokes}
+use Rattle.cilk_determinacy.proofs.Basics.{same_name-refl, same_name-eq}
+use Rattle.cilk_scheduler.specs.KeptCursors.{IsTold}
+use Rattle.cilk_determinacy.specs.FrameEnvMachine.{answers_of}
+use Rattle.cilk_determinacy.specs.Reducers.{View, kind_of}
+use Rattle.cilk_determinacy.specs.FrameEnvs.{FrameEnv, child_env, global_named, home_named, own_named}
 use Rattle.cilk_scheduler.specs.declared.scheduler.Scheduler.{Scheduler}
 use Rattle.cilk_scheduler.specs.declared.frame_state.Due.{Due}
 use Rattle.cilk_scheduler.specs.declared.frame_state.Due.TheVariants as due

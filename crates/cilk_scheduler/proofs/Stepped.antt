@@ -22,20 +22,20 @@ use Rattle.cilk_frames.specs.declared.cursor.Answer.{Answer}
 use Rattle.cilk_frames.specs.declared.activation.Activation.{Activation}
 use Rattle.cilk_hypermap.specs.Hypermap.{value_in}
 use Rattle.cilk_hypermap.specs.declared.hypermap.Hypermap.{Hypermap}
-use Rattle.cilk_runs.specs.Costs.{Total, TickTotal, EventTotal, FrameTotal, CellTotal, cost, fault_of, frame_cost, cells_of}
-use Rattle.cilk_runs.specs.Machine.{Frame, State, started, strands, block_view, own_view, after_views, after_deed, deed_of, deeds_at, effect, joined_by, Makes}
-use Rattle.cilk_runs.specs.Monoids.{numbers_of, unit_of}
-use Rattle.cilk_runs.specs.Progress.{HasNext}
-use Rattle.cilk_runs.specs.Runs.{Name, same_name, Cell, Own, Instance, Reducer, Ask, Invoke, Sync, End, Event, Deed, Does}
-use Rattle.cilk_runs.proofs.Basics.{same_name-refl}
-use Rattle.cilk_runs.proofs.Progress.{progress}
-use Rattle.cilk_runs.specs.KeptFrameEnv.{IsTold}
-use Rattle.cilk_runs.specs.FrameEnvMachine.{answer_of, answers_of, costs, has_ended, named_ask, next, taken}
-use Rattle.cilk_runs.specs.Reducers.{View, kind_of, monoid_of}
-use Rattle.cilk_runs.specs.Steps.{Next}
-use Rattle.cilk_runs.specs.FrameEnvViews.{IsViewOf}
-use Rattle.cilk_runs.specs.FrameEnvs.{FrameEnv}
-use Rattle.cilk_runs.proofs.KeptFrameEnv.{next_is_named}
+use Rattle.cilk_determinacy.specs.Costs.{Total, TickTotal, EventTotal, FrameTotal, CellTotal, cost, fault_of, frame_cost, cells_of}
+use Rattle.cilk_determinacy.specs.Machine.{Frame, State, started, strands, block_view, own_view, after_views, after_deed, deed_of, deeds_at, effect, joined_by, Makes}
+use Rattle.cilk_determinacy.specs.Monoids.{numbers_of, unit_of}
+use Rattle.cilk_determinacy.specs.Progress.{HasNext}
+use Rattle.cilk_determinacy.specs.Runs.{Name, same_name, Cell, Own, Instance, Reducer, Ask, Invoke, Sync, End, Event, Deed, Does}
+use Rattle.cilk_determinacy.proofs.Basics.{same_name-refl}
+use Rattle.cilk_determinacy.proofs.Progress.{progress}
+use Rattle.cilk_scheduler.specs.KeptCursors.{IsTold}
+use Rattle.cilk_determinacy.specs.FrameEnvMachine.{answer_of, answers_of, costs, has_ended, named_ask, next, taken}
+use Rattle.cilk_determinacy.specs.Reducers.{View, kind_of, monoid_of}
+use Rattle.cilk_determinacy.specs.Steps.{Next}
+use Rattle.cilk_determinacy.specs.FrameEnvViews.{IsViewOf}
+use Rattle.cilk_determinacy.specs.FrameEnvs.{FrameEnv}
+use Rattle.cilk_scheduler.proofs.KeptCursors.{next_is_named}
 use Rattle.cilk_scheduler.specs.declared.scheduler.Scheduler.{Scheduler}
 use Rattle.cilk_scheduler.specs.declared.choice.Choice.TheVariants.{Run}
 use Rattle.cilk_scheduler.specs.declared.frame_state.Due.{Due}

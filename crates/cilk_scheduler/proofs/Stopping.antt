@@ -20,15 +20,15 @@ use Rattle.cilk_lower.specs.Code.{CodeView}
 use Rattle.cilk_lower.specs.Layout.{LaysOut}
 use Rattle.cilk_frames.specs.Cursor.{CursorView}
 use Rattle.cilk_frames.specs.declared.activation.Activation.{Activation}
-use Rattle.cilk_runs.specs.Costs.{Total, TickTotal, EventTotal, FrameTotal, CellTotal, cost, fault_of, is_over, own_fault}
-use Rattle.cilk_runs.specs.Machine.{Frame, IsAsking, State, Stop, Stops, deeds_at, started, strand_of}
-use Rattle.cilk_runs.specs.Progress.{BlockHasEnded, HasStop, MayAsk}
-use Rattle.cilk_runs.specs.Runs.{Ask, End, Fail, Invoke, Name, Pass, Read, Sync, Write, Deed}
-use Rattle.cilk_runs.proofs.Progress.{progress}
-use Rattle.cilk_runs.specs.FrameEnvMachine.{costs, named_ask, next, taken}
-use Rattle.cilk_runs.specs.Reducers.{View, monoid_of}
-use Rattle.cilk_runs.specs.Steps.{Next}
-use Rattle.cilk_runs.specs.FrameEnvs.{FrameEnv}
+use Rattle.cilk_determinacy.specs.Costs.{Total, TickTotal, EventTotal, FrameTotal, CellTotal, cost, fault_of, is_over, own_fault}
+use Rattle.cilk_determinacy.specs.Machine.{Frame, IsAsking, State, Stop, Stops, deeds_at, started, strand_of}
+use Rattle.cilk_determinacy.specs.Progress.{BlockHasEnded, HasStop, MayAsk}
+use Rattle.cilk_determinacy.specs.Runs.{Ask, End, Fail, Invoke, Name, Pass, Read, Sync, Write, Deed}
+use Rattle.cilk_determinacy.proofs.Progress.{progress}
+use Rattle.cilk_determinacy.specs.FrameEnvMachine.{costs, named_ask, next, taken}
+use Rattle.cilk_determinacy.specs.Reducers.{View, monoid_of}
+use Rattle.cilk_determinacy.specs.Steps.{Next}
+use Rattle.cilk_determinacy.specs.FrameEnvs.{FrameEnv}
 use Rattle.cilk_scheduler.specs.declared.scheduler.Scheduler.{Scheduler}
 use Rattle.cilk_scheduler.specs.declared.choice.Choice.{Choice}
 use Rattle.cilk_scheduler.specs.declared.choice.Choice.TheVariants.{Run, Steal}

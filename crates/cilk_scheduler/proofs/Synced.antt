@@ -28,18 +28,18 @@ use Rattle.cilk_join.specs.Joins.{JoinView, opening, arrived_at}
 use Rattle.cilk_join.specs.Products.{Product, product}
 use Rattle.cilk_join.specs.Rows.{Row, Stands, is_empty}
 use Rattle.cilk_join.specs.Waits.{shown}
-use Rattle.cilk_runs.specs.Costs.{Total, TickTotal, EventTotal, FrameTotal, CellTotal, cost, fault_of}
-use Rattle.cilk_runs.specs.Machine.{Frame, State, begins_strand, started, strands, block_view, after_views, after_deed, deed_of, deeds_at, effect, joined_by, Makes}
-use Rattle.cilk_runs.specs.Monoids.{numbers_of, unit_of}
-use Rattle.cilk_runs.specs.Progress.{BlockHasEnded, GoesOn, HasEnded, HasNext, HasNoSync, child_after}
-use Rattle.cilk_runs.specs.Runs.{Name, same_name, Cell, Own, Instance, Output, Reducer, Reads, Writes, Syncs, Ends, Passes, Ask, Invoke, Pass, Resume, Sync, End, Deed, Does, Invokes}
-use Rattle.cilk_runs.proofs.Basics.{same_name-refl}
-use Rattle.cilk_runs.proofs.Progress.{progress}
-use Rattle.cilk_runs.specs.FrameEnvMachine.{costs, has_ended, next, taken}
-use Rattle.cilk_runs.specs.Reducers.{View, kind_of, monoid_of, views_of}
-use Rattle.cilk_runs.specs.Steps.{Next}
-use Rattle.cilk_runs.specs.FrameEnvViews.{IsViewOf}
-use Rattle.cilk_runs.specs.FrameEnvs.{FrameEnv}
+use Rattle.cilk_determinacy.specs.Costs.{Total, TickTotal, EventTotal, FrameTotal, CellTotal, cost, fault_of}
+use Rattle.cilk_determinacy.specs.Machine.{Frame, State, begins_strand, started, strands, block_view, after_views, after_deed, deed_of, deeds_at, effect, joined_by, Makes}
+use Rattle.cilk_determinacy.specs.Monoids.{numbers_of, unit_of}
+use Rattle.cilk_determinacy.specs.Progress.{BlockHasEnded, GoesOn, HasEnded, HasNext, HasNoSync, child_after}
+use Rattle.cilk_determinacy.specs.Runs.{Name, same_name, Cell, Own, Instance, Output, Reducer, Reads, Writes, Syncs, Ends, Passes, Ask, Invoke, Pass, Resume, Sync, End, Deed, Does, Invokes}
+use Rattle.cilk_determinacy.proofs.Basics.{same_name-refl}
+use Rattle.cilk_determinacy.proofs.Progress.{progress}
+use Rattle.cilk_determinacy.specs.FrameEnvMachine.{costs, has_ended, next, taken}
+use Rattle.cilk_determinacy.specs.Reducers.{View, kind_of, monoid_of, views_of}
+use Rattle.cilk_determinacy.specs.Steps.{Next}
+use Rattle.cilk_determinacy.specs.FrameEnvViews.{IsViewOf}
+use Rattle.cilk_determinacy.specs.FrameEnvs.{FrameEnv}
 use Rattle.cilk_scheduler.specs.declared.scheduler.Scheduler.{Scheduler}
 use Rattle.cilk_scheduler.specs.declared.choice.Choice.TheVariants.{Run}
 use Rattle.cilk_scheduler.specs.declared.frame_state.Due.TheVariants as due

@@ -24,19 +24,19 @@ use Rattle.cilk_join.specs.Products.{Product}
 use Rattle.cilk_join.specs.Rows.{Wait, wait}
 use Rattle.cilk_join.specs.Waits.{shown}
 use Rattle.cilk_join.specs.declared.join.Join.{Join}
-use Rattle.cilk_runs.specs.Cuts.{times, joined_at}
-use Rattle.cilk_runs.specs.Costs.{TickTotal, EventTotal, FrameTotal, CellTotal}
-use Rattle.cilk_runs.specs.Machine.{Frame, State, HasEnd, Steals, deeds_at, started}
-use Rattle.cilk_runs.specs.Monoids.{unit_of}
-use Rattle.cilk_runs.specs.Progress.{AfterSteal, BlockHasEnded, child_after, HasThief}
-use Rattle.cilk_runs.specs.Runs.{Name, same_name, Cell, Global, Own, Instance, Output, Reducer, Deed, Invokes}
-use Rattle.cilk_runs.proofs.Basics.{same_name-refl, same_name-eq, snoc_one}
-use Rattle.cilk_runs.specs.FrameEnvMachine.{costs, has_ended}
-use Rattle.cilk_runs.specs.Reducers.{View, kind_of, monoid_of}
-use Rattle.cilk_runs.specs.Steps.{Next}
-use Rattle.cilk_runs.specs.FrameEnvViews.{IsViewOf}
-use Rattle.cilk_runs.specs.FrameEnvs.{FrameEnv}
-use Rattle.cilk_runs.proofs.FrameEnvViews.{are_multiplied}
+use Rattle.cilk_determinacy.specs.Cuts.{times, joined_at}
+use Rattle.cilk_determinacy.specs.Costs.{TickTotal, EventTotal, FrameTotal, CellTotal}
+use Rattle.cilk_determinacy.specs.Machine.{Frame, State, HasEnd, Steals, deeds_at, started}
+use Rattle.cilk_determinacy.specs.Monoids.{unit_of}
+use Rattle.cilk_determinacy.specs.Progress.{AfterSteal, BlockHasEnded, child_after, HasThief}
+use Rattle.cilk_determinacy.specs.Runs.{Name, same_name, Cell, Global, Own, Instance, Output, Reducer, Deed, Invokes}
+use Rattle.cilk_determinacy.proofs.Basics.{same_name-refl, same_name-eq, snoc_one}
+use Rattle.cilk_determinacy.specs.FrameEnvMachine.{costs, has_ended}
+use Rattle.cilk_determinacy.specs.Reducers.{View, kind_of, monoid_of}
+use Rattle.cilk_determinacy.specs.Steps.{Next}
+use Rattle.cilk_determinacy.specs.FrameEnvViews.{IsViewOf}
+use Rattle.cilk_determinacy.specs.FrameEnvs.{FrameEnv}
+use Rattle.cilk_determinacy.proofs.FrameEnvViews.{are_multiplied}
 use Rattle.cilk_scheduler.specs.declared.scheduler.Scheduler.{Scheduler}
 use Rattle.cilk_scheduler.specs.declared.choice.Choice.TheVariants.{Steal}
 use Rattle.cilk_scheduler.specs.declared.frame_state.JournalEntry.{JournalEntry}

@@ -22,19 +22,19 @@ use Rattle.cilk_frames.specs.declared.activation.Activation.{Activation}
 use Rattle.cilk_hypermap.specs.Hypermap.{value_in}
 use Rattle.cilk_join.specs.Joins.{JoinView}
 use Rattle.cilk_join.specs.Waits.{shown}
-use Rattle.cilk_runs.specs.Cuts.{below, times, joined_at, joined}
-use Rattle.cilk_runs.specs.Machine.{Frame, Frames, State, HasEnd, after_deed, deeds_at, joined_by, started}
-use Rattle.cilk_runs.specs.Monoids.{unit_of}
-use Rattle.cilk_runs.specs.Progress.{AfterEvent, BlockHasEnded}
-use Rattle.cilk_runs.specs.Runs.{Name, same_name, Cell, Global, Own, Instance, Output, Reducer, Event, Syncs, Sync, Deed, Does}
-use Rattle.cilk_runs.proofs.Basics.{same_name-refl, same_name-eq}
-use Rattle.cilk_runs.proofs.Joins.{joined_step, times-append}
-use Rattle.cilk_runs.proofs.Started.{started_does}
-use Rattle.cilk_runs.specs.FrameEnvMachine.{has_ended, is_end, taken}
-use Rattle.cilk_runs.specs.Reducers.{View, kind_of, monoid_of}
-use Rattle.cilk_runs.specs.FrameEnvViews.{IsViewOf}
-use Rattle.cilk_runs.specs.FrameEnvs.{FrameEnv}
-use Rattle.cilk_runs.proofs.KeptFrameEnv.{but_last_more, ended_more}
+use Rattle.cilk_determinacy.specs.Cuts.{below, times, joined_at, joined}
+use Rattle.cilk_determinacy.specs.Machine.{Frame, Frames, State, HasEnd, after_deed, deeds_at, joined_by, started}
+use Rattle.cilk_determinacy.specs.Monoids.{unit_of}
+use Rattle.cilk_determinacy.specs.Progress.{AfterEvent, BlockHasEnded}
+use Rattle.cilk_determinacy.specs.Runs.{Name, same_name, Cell, Global, Own, Instance, Output, Reducer, Event, Syncs, Sync, Deed, Does}
+use Rattle.cilk_determinacy.proofs.Basics.{same_name-refl, same_name-eq}
+use Rattle.cilk_determinacy.proofs.Joins.{joined_step, times-append}
+use Rattle.cilk_determinacy.proofs.Started.{started_does}
+use Rattle.cilk_determinacy.specs.FrameEnvMachine.{has_ended, is_end, taken}
+use Rattle.cilk_determinacy.specs.Reducers.{View, kind_of, monoid_of}
+use Rattle.cilk_determinacy.specs.FrameEnvViews.{IsViewOf}
+use Rattle.cilk_determinacy.specs.FrameEnvs.{FrameEnv}
+use Rattle.cilk_determinacy.proofs.Histories.{but_last_more, ended_more}
 use Rattle.cilk_scheduler.specs.declared.scheduler.Scheduler.{Scheduler}
 use Rattle.cilk_scheduler.specs.declared.frame_state.Due.TheVariants as due
 use Rattle.cilk_scheduler.specs.declared.frame_state.JournalEntry.{JournalEntry}

@@ -6,12 +6,12 @@
 use Rattle.std.proofs.Common.{◌≡◌, ◌⊎◌, inl, inr, ⊎_elim, ◌<◌, ◌≤◌, ℕ, zero, suc, nat_eq, eqb-true, Bool, true, false, true≢false, List, [], ◌∷◌, ◌++◌, Option, Some, None, refl, sym, ap, ◌∙◌, arith}
 use Rattle.cilk_types.specs.declared.invocation.Invocation.{Invocation}
 use Rattle.cilk_types.specs.declared.invocation.Invocation.TheVariants.{Spawn}
-use Rattle.cilk_runs.specs.Machine.{Frame, State, deeds_at, started}
-use Rattle.cilk_runs.specs.Progress.{HasNoSync, child_after}
-use Rattle.cilk_runs.specs.Runs.{Name, Syncs, Deed, Does, Invokes}
-use Rattle.cilk_runs.specs.FrameEnvMachine.{has_ended}
-use Rattle.cilk_runs.specs.Reducers.{View}
-use Rattle.cilk_runs.specs.FrameEnvs.{FrameEnv}
+use Rattle.cilk_determinacy.specs.Machine.{Frame, State, deeds_at, started}
+use Rattle.cilk_determinacy.specs.Progress.{HasNoSync, child_after}
+use Rattle.cilk_determinacy.specs.Runs.{Name, Syncs, Deed, Does, Invokes}
+use Rattle.cilk_determinacy.specs.FrameEnvMachine.{has_ended}
+use Rattle.cilk_determinacy.specs.Reducers.{View}
+use Rattle.cilk_determinacy.specs.FrameEnvs.{FrameEnv}
 use Rattle.cilk_scheduler.specs.Parents.{OutliveChildren}
 use Rattle.cilk_scheduler.proofs.Onward.{has_end}
 

@@ -19,10 +19,10 @@ use Rattle.cilk_hypermap.specs.Views.{or_unit}
 use Rattle.cilk_hypermap.specs.declared.hypermap.Hypermap.{Hypermap}
 use Rattle.cilk_hypermap.proofs.Merges.{each_kind}
 use Rattle.cilk_frames.specs.declared.activation.Activation.{Activation}
-use Rattle.cilk_runs.specs.Runs.{Name, Instance, Output, Reducer, same_instance}
-use Rattle.cilk_runs.proofs.Basics.{same_instance-refl, same_instance-eq}
-use Rattle.cilk_runs.specs.Reducers.{View, kind_of}
-use Rattle.cilk_runs.specs.FrameEnvViews.{IsViewOf}
+use Rattle.cilk_determinacy.specs.Runs.{Name, Instance, Output, Reducer, same_instance}
+use Rattle.cilk_determinacy.proofs.Basics.{same_instance-refl, same_instance-eq}
+use Rattle.cilk_determinacy.specs.Reducers.{View, kind_of}
+use Rattle.cilk_determinacy.specs.FrameEnvViews.{IsViewOf}
 use Rattle.cilk_program.specs.Syntax.{Source}
 use Rattle.cilk_scheduler.specs.declared.frame_state.FrameState.{FrameState}
 use Rattle.cilk_scheduler.specs.Numbered.{AreNamed, IsInstance}

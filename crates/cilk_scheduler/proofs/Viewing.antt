@@ -5,7 +5,7 @@
 -- - `viewing_at`, `viewing_own`: by a write at its place, and where its views are as they were.
 use Rattle.std.proofs.Common.{◌≡◌, ◌<◌, ◌⊎◌, inl, inr, ⊎_elim, ℕ, zero, suc, List, [], ◌∷◌, length, map, slice_get, slice_index_or, slice_set, Some, None, refl, sym, ap, arith}
 use Rattle.cilk_hypermap.specs.declared.hypermap.Hypermap.{Hypermap}
-use Rattle.cilk_runs.specs.Runs.{Name}
+use Rattle.cilk_determinacy.specs.Runs.{Name}
 use Rattle.cilk_scheduler.specs.declared.frame_state.Worker.{Worker}
 use Rattle.cilk_scheduler.specs.Schedulers.{hand_of, offers_of}
 use Rattle.cilk_scheduler.specs.Workers.{viewing}

@@ -26,14 +26,14 @@ use Rattle.cilk_join.specs.Rows as rows
 use Rattle.cilk_join.specs.Rows.{Wait, Row, row, wait, ahead, is_empty, Stands}
 use Rattle.cilk_join.specs.Waits.{shown}
 use Rattle.cilk_join.specs.declared.join.Join.{Join}
-use Rattle.cilk_runs.specs.Machine.{Frame, State, deeds_at, started}
-use Rattle.cilk_runs.specs.Monoids.{unit_of}
-use Rattle.cilk_runs.specs.Progress.{HasNoSync}
-use Rattle.cilk_runs.specs.Runs.{Name, Cell, Global, Own, Instance, Output, Reducer, Reads, Writes, Syncs, Ends, Passes, Deed, Does, Invokes}
-use Rattle.cilk_runs.specs.Reducers.{View, kind_of, monoid_of, views_of}
-use Rattle.cilk_runs.specs.FrameEnvViews.{IsViewOf}
-use Rattle.cilk_runs.specs.FrameEnvs.{FrameEnv}
-use Rattle.cilk_runs.proofs.FrameEnvViews.{are_multiplied}
+use Rattle.cilk_determinacy.specs.Machine.{Frame, State, deeds_at, started}
+use Rattle.cilk_determinacy.specs.Monoids.{unit_of}
+use Rattle.cilk_determinacy.specs.Progress.{HasNoSync}
+use Rattle.cilk_determinacy.specs.Runs.{Name, Cell, Global, Own, Instance, Output, Reducer, Reads, Writes, Syncs, Ends, Passes, Deed, Does, Invokes}
+use Rattle.cilk_determinacy.specs.Reducers.{View, kind_of, monoid_of, views_of}
+use Rattle.cilk_determinacy.specs.FrameEnvViews.{IsViewOf}
+use Rattle.cilk_determinacy.specs.FrameEnvs.{FrameEnv}
+use Rattle.cilk_determinacy.proofs.FrameEnvViews.{are_multiplied}
 use Rattle.cilk_scheduler.specs.declared.scheduler.Scheduler.{Scheduler}
 use Rattle.cilk_scheduler.specs.declared.choice.Choice.TheVariants.{Run}
 use Rattle.cilk_scheduler.specs.declared.frame_state.Due.TheVariants as due

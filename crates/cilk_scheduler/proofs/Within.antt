@@ -4,8 +4,8 @@
 use Rattle.std.proofs.Common.{◌≡◌, ◌+◌, ◌≤◌, ℕ, Bool, true, false, cond, List, Option, Some, None, refl}
 use Rattle.std.proofs.lemmas.Bool.{ltb-false}
 use Rattle.cilk_types.specs.declared.fault.Fault.{Fault}
-use Rattle.cilk_runs.specs.Costs.{Costs, Total, TickTotal, EventTotal, FrameTotal, CellTotal, cost, is_over, own_fault, fault_of}
-use Rattle.cilk_runs.specs.Runs.{Ask, Read, Write, Invoke, Sync, End, Pass, Fail, Deed}
+use Rattle.cilk_determinacy.specs.Costs.{Costs, Total, TickTotal, EventTotal, FrameTotal, CellTotal, cost, is_over, own_fault, fault_of}
+use Rattle.cilk_determinacy.specs.Runs.{Ask, Read, Write, Invoke, Sync, End, Pass, Fail, Deed}
 
 -- no fault here, so none there either
 off : (b : Bool) (x : Fault) (o : Option Fault) → cond b (Some x) o ≡ None → (b ≡ false) × (o ≡ None)

@@ -19,10 +19,10 @@ use Rattle.cilk_frames.specs.declared.cursor.Answer.TheVariants as answers
 use Rattle.cilk_hypermap.specs.Hypermap.{ChangesIn, value_in}
 use Rattle.cilk_hypermap.specs.Views.{output}
 use Rattle.cilk_hypermap.specs.declared.hypermap.Hypermap.{Hypermap}
-use Rattle.cilk_runs.specs.Machine.{State}
-use Rattle.cilk_runs.specs.Runs.{Name}
-use Rattle.cilk_runs.specs.Reducers.{View}
-use Rattle.cilk_runs.specs.FrameEnvs.{FrameEnv}
+use Rattle.cilk_determinacy.specs.Machine.{State}
+use Rattle.cilk_determinacy.specs.Runs.{Name}
+use Rattle.cilk_determinacy.specs.Reducers.{View}
+use Rattle.cilk_determinacy.specs.FrameEnvs.{FrameEnv}
 use Rattle.cilk_scheduler.specs.declared.scheduler.Scheduler.{Scheduler}
 use Rattle.cilk_scheduler.specs.Schedulers.{ShowsBy}
 use Rattle.cilk_scheduler.specs.WorkerTables.{WorkerTable}

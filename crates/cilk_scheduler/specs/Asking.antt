@@ -15,11 +15,11 @@ use Rattle.cilk_lower.specs.declared.layout.Layout.{Layout}
 use Rattle.cilk_frames.specs.Cursor.{CursorView}
 use Rattle.cilk_frames.specs.declared.cursor.Answer.{Answer}
 use Rattle.cilk_frames.specs.Following.{Fits, GoesOn, Runs, Stands, child_of}
-use Rattle.cilk_runs.specs.Costs.{Total, EventTotal, FrameTotal, CellTotal, TickTotal, fault_of}
-use Rattle.cilk_runs.specs.Machine.{started}
-use Rattle.cilk_runs.specs.Runs.{Deed}
-use Rattle.cilk_runs.specs.FrameEnvMachine.{costs, named_ask}
-use Rattle.cilk_runs.specs.FrameEnvs.{FrameEnv}
+use Rattle.cilk_determinacy.specs.Costs.{Total, EventTotal, FrameTotal, CellTotal, TickTotal, fault_of}
+use Rattle.cilk_determinacy.specs.Machine.{started}
+use Rattle.cilk_determinacy.specs.Runs.{Deed}
+use Rattle.cilk_determinacy.specs.FrameEnvMachine.{costs, named_ask}
+use Rattle.cilk_determinacy.specs.FrameEnvs.{FrameEnv}
 use Rattle.cilk_scheduler.specs.declared.frame_state.Due.{Due}
 use Rattle.cilk_scheduler.specs.declared.frame_state.Due.TheVariants as due
 use Rattle.cilk_scheduler.specs.declared.frame_state.FrameState.{FrameState}

@@ -5,11 +5,11 @@ use Rattle.cilk_types.specs.declared.invocation.Invocation.TheVariants.{Call, Sp
 use Rattle.cilk_monoid.specs.declared.kind.MonoidKind.{MonoidKind}
 use Rattle.cilk_monoid.specs.Kinds.{structure_of}
 use Rattle.cilk_monoid.specs.Values.{ViewValue}
-use Rattle.cilk_runs.specs.Machine.{block_view}
-use Rattle.cilk_runs.specs.Runs.{Reads, Writes, Syncs, Ends, Passes, Deed, Does, Invokes}
+use Rattle.cilk_determinacy.specs.Machine.{block_view}
+use Rattle.cilk_determinacy.specs.Runs.{Reads, Writes, Syncs, Ends, Passes, Deed, Does, Invokes}
 use Rattle.cilk_join.specs.Rows.{Wait, Stands, wait, or_unit, placed}
-use Rattle.cilk_runs.specs.Reducers.{View, views_of}
-use Rattle.cilk_runs.specs.FrameEnvViews.{IsViewOf}
+use Rattle.cilk_determinacy.specs.Reducers.{View, views_of}
+use Rattle.cilk_determinacy.specs.FrameEnvViews.{IsViewOf}
 
 -- the ordinals of the stolen children of the block that is open after the deeds, in ascending order
 abbrev pub stolen_in : {W : Type 0} → (ℕ → Bool) → ℕ → List ℕ → List (Deed W) → List ℕ

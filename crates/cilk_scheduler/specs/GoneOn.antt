@@ -2,12 +2,12 @@
 use Rattle.std.specs.Prelude.{◌≡◌, ◌⊎◌, true, ℤ, List, ◌∷◌, ◌++◌, Some, None}
 use Rattle.cilk_types.specs.declared.invocation.Invocation.TheVariants.{Spawn}
 use Rattle.cilk_program.specs.Syntax.{Source}
-use Rattle.cilk_runs.specs.Machine.{Frame, State, deeds_at}
-use Rattle.cilk_runs.specs.Progress.{GoesOn, HasEnded, child_after}
-use Rattle.cilk_runs.specs.Runs.{Name, Deed, Invokes}
-use Rattle.cilk_runs.specs.Reducers.{View}
-use Rattle.cilk_runs.specs.Steps.{IsFirst, OneStep, Reaches}
-use Rattle.cilk_runs.specs.FrameEnvs.{FrameEnv}
+use Rattle.cilk_determinacy.specs.Machine.{Frame, State, deeds_at}
+use Rattle.cilk_determinacy.specs.Progress.{GoesOn, HasEnded, child_after}
+use Rattle.cilk_determinacy.specs.Runs.{Name, Deed, Invokes}
+use Rattle.cilk_determinacy.specs.Reducers.{View}
+use Rattle.cilk_determinacy.specs.Steps.{IsFirst, OneStep, Reaches}
+use Rattle.cilk_determinacy.specs.FrameEnvs.{FrameEnv}
 use Rattle.cilk_scheduler.specs.declared.choice.Choice.{Choice}
 use Rattle.cilk_scheduler.specs.WorkerTables.{WorkerTable, Chooses, Comes}
 

@@ -4,14 +4,14 @@ use Rattle.std.specs.Prelude.{◌≡◌, ◌≤◌, true, IsTrue, ℤ, List, [],
 use Rattle.cilk_types.specs.declared.fault.Fault.{Fault}
 use Rattle.cilk_program.specs.Syntax.{Source}
 use Rattle.cilk_program.specs.WellNamed.{is_well_named}
-use Rattle.cilk_runs.specs.Costs.{Total}
-use Rattle.cilk_runs.specs.Machine.{Frame, State, Steps}
-use Rattle.cilk_runs.specs.Progress.{Answers}
-use Rattle.cilk_runs.specs.Runs.{Name, Ask, Pass, Fail, Begin, Resume, Deed}
-use Rattle.cilk_runs.specs.FrameEnvMachine.{costs, next}
-use Rattle.cilk_runs.specs.Reducers.{View, monoid_of}
-use Rattle.cilk_runs.specs.Steps.{Next, IsFirst, OneStep, Reaches}
-use Rattle.cilk_runs.specs.FrameEnvs.{FrameEnv}
+use Rattle.cilk_determinacy.specs.Costs.{Total}
+use Rattle.cilk_determinacy.specs.Machine.{Frame, State, Steps}
+use Rattle.cilk_determinacy.specs.Progress.{Answers}
+use Rattle.cilk_determinacy.specs.Runs.{Name, Ask, Pass, Fail, Begin, Resume, Deed}
+use Rattle.cilk_determinacy.specs.FrameEnvMachine.{costs, next}
+use Rattle.cilk_determinacy.specs.Reducers.{View, monoid_of}
+use Rattle.cilk_determinacy.specs.Steps.{Next, IsFirst, OneStep, Reaches}
+use Rattle.cilk_determinacy.specs.FrameEnvs.{FrameEnv}
 use Rattle.cilk_scheduler.specs.declared.choice.Choice.{Choice}
 use Rattle.cilk_scheduler.specs.Schedulers.{is_resuming}
 use Rattle.cilk_scheduler.specs.WorkerTables.{WorkerTable, Chooses, Comes}

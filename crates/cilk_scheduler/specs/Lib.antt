@@ -1,15 +1,15 @@
 pub mod Acting
 pub mod Asking
 pub mod Blocks
-pub mod Schedulers
-pub mod WorkerTables
 pub mod EndParts
 pub mod Ending
 pub mod Events
+pub mod FrameStates
 pub mod GoneOn
 pub mod Histories
 pub mod Invocations
 pub mod Invoking
+pub mod KeptCursors
 pub mod Noting
 pub mod Numbered
 pub mod OfferLists
@@ -18,7 +18,7 @@ pub mod Ordinals
 pub mod Parents
 pub mod Parts
 pub mod Retired
-pub mod FrameStates
+pub mod Schedulers
 pub mod Slots
 pub mod Starting
 pub mod Steps
@@ -28,4 +28,5 @@ pub mod Tallies
 pub mod Thieves
 pub mod Touching
 pub mod Waiting
+pub mod WorkerTables
 pub mod Workers

@@ -14,12 +14,12 @@ use Rattle.cilk_frames.specs.Following.{Stands}
 use Rattle.cilk_frames.specs.Sight.{HasScope}
 use Rattle.cilk_frames.specs.declared.activation.Activation.{Activation}
 use Rattle.cilk_hypermap.specs.Hypermap.{EachKind, view_in}
-use Rattle.cilk_runs.specs.Costs.{Total}
-use Rattle.cilk_runs.specs.Machine.{State}
-use Rattle.cilk_runs.specs.FrameEnvMachine.{limit, used}
-use Rattle.cilk_runs.specs.Reducers.{View}
-use Rattle.cilk_runs.specs.Steps.{IsFirst}
-use Rattle.cilk_runs.specs.FrameEnvs.{FrameEnv}
+use Rattle.cilk_determinacy.specs.Costs.{Total}
+use Rattle.cilk_determinacy.specs.Machine.{State}
+use Rattle.cilk_determinacy.specs.FrameEnvMachine.{limit, used}
+use Rattle.cilk_determinacy.specs.Reducers.{View}
+use Rattle.cilk_determinacy.specs.Steps.{IsFirst}
+use Rattle.cilk_determinacy.specs.FrameEnvs.{FrameEnv}
 use Rattle.cilk_scheduler.specs.declared.scheduler.Scheduler.{Scheduler}
 use Rattle.cilk_scheduler.specs.declared.frame_state.FrameState.{FrameState}
 use Rattle.cilk_scheduler.specs.declared.frame_state.Worker.{Worker}

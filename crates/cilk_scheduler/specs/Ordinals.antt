@@ -1,11 +1,11 @@
 -- The children of a frame are numbered from 1 on, in each reachable state.
 use Rattle.std.specs.Prelude.{◌≡◌, ◌<◌, ◌≤◌, ℕ, suc, ℤ, List, [], ◌∷◌, ◌++◌, Some, None}
 use Rattle.cilk_program.specs.Syntax.{Source}
-use Rattle.cilk_runs.specs.Machine.{Frame, Frames, State, deeds_at, started}
-use Rattle.cilk_runs.specs.Runs.{Name}
-use Rattle.cilk_runs.specs.Reducers.{View}
-use Rattle.cilk_runs.specs.Steps.{IsFirst, OneStep, Reaches}
-use Rattle.cilk_runs.specs.FrameEnvs.{FrameEnv}
+use Rattle.cilk_determinacy.specs.Machine.{Frame, Frames, State, deeds_at, started}
+use Rattle.cilk_determinacy.specs.Runs.{Name}
+use Rattle.cilk_determinacy.specs.Reducers.{View}
+use Rattle.cilk_determinacy.specs.Steps.{IsFirst, OneStep, Reaches}
+use Rattle.cilk_determinacy.specs.FrameEnvs.{FrameEnv}
 
 -- each child has an ordinal from 1 to the number of frames that its parent has started
 abbrev pub AreCounted : Frames FrameEnv → Type 0

@@ -4,13 +4,13 @@ use Rattle.std.specs.Prelude.{◌≡◌, ◌⊎◌, true, false, ℤ, List, [], 
 use Rattle.cilk_types.specs.declared.invocation.Invocation.{Invocation}
 use Rattle.cilk_types.specs.declared.invocation.Invocation.TheVariants.{Spawn}
 use Rattle.cilk_program.specs.Syntax.{Source}
-use Rattle.cilk_runs.specs.Machine.{Frame, State}
-use Rattle.cilk_runs.specs.Progress.{HasEnded, HasNoSync, child_after}
-use Rattle.cilk_runs.specs.Runs.{Name, Deed, Invokes}
-use Rattle.cilk_runs.specs.FrameEnvMachine.{has_ended}
-use Rattle.cilk_runs.specs.Reducers.{View}
-use Rattle.cilk_runs.specs.Steps.{IsFirst, OneStep, Reaches}
-use Rattle.cilk_runs.specs.FrameEnvs.{FrameEnv, Sight, env_of}
+use Rattle.cilk_determinacy.specs.Machine.{Frame, State}
+use Rattle.cilk_determinacy.specs.Progress.{HasEnded, HasNoSync, child_after}
+use Rattle.cilk_determinacy.specs.Runs.{Name, Deed, Invokes}
+use Rattle.cilk_determinacy.specs.FrameEnvMachine.{has_ended}
+use Rattle.cilk_determinacy.specs.Reducers.{View}
+use Rattle.cilk_determinacy.specs.Steps.{IsFirst, OneStep, Reaches}
+use Rattle.cilk_determinacy.specs.FrameEnvs.{FrameEnv, Sight, env_of}
 use Rattle.cilk_scheduler.specs.Histories.{DidAsAsked}
 use Rattle.cilk_scheduler.specs.Ordinals.{AreCounted}
 

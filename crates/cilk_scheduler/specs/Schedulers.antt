@@ -26,18 +26,18 @@ use Rattle.cilk_join.specs.Joins.{JoinView}
 use Rattle.cilk_join.specs.Products.{Product}
 use Rattle.cilk_join.specs.Rows.{Wait, wait}
 use Rattle.cilk_join.specs.Waits.{shown}
-use Rattle.cilk_runs.specs.Cuts.{times, joined_at}
-use Rattle.cilk_runs.specs.Runs.{Name, Cell, Own, Instance, Reducer, Sync, Deed, Does, Invokes}
-use Rattle.cilk_runs.specs.Costs.{TickTotal, EventTotal, FrameTotal, CellTotal}
-use Rattle.cilk_runs.specs.Machine.{Frame, State, HasEnd, deeds_at, started, strands, block_view}
-use Rattle.cilk_runs.specs.Monoids.{unit_of}
-use Rattle.cilk_runs.specs.Progress.{GoesOn}
-use Rattle.cilk_runs.specs.KeptFrameEnv.{IsTold}
-use Rattle.cilk_runs.specs.FrameEnvMachine.{answers_of, but_last, has_ended, named_ask, next, taken}
-use Rattle.cilk_runs.specs.Reducers.{View, kind_of, monoid_of}
-use Rattle.cilk_runs.specs.Steps.{outcome_in}
-use Rattle.cilk_runs.specs.FrameEnvViews.{IsViewOf}
-use Rattle.cilk_runs.specs.FrameEnvs.{FrameEnv}
+use Rattle.cilk_determinacy.specs.Cuts.{times, joined_at}
+use Rattle.cilk_determinacy.specs.Runs.{Name, Cell, Own, Instance, Reducer, Sync, Deed, Does, Invokes}
+use Rattle.cilk_determinacy.specs.Costs.{TickTotal, EventTotal, FrameTotal, CellTotal}
+use Rattle.cilk_determinacy.specs.Machine.{Frame, State, HasEnd, deeds_at, started, strands, block_view}
+use Rattle.cilk_determinacy.specs.Monoids.{unit_of}
+use Rattle.cilk_determinacy.specs.Progress.{GoesOn}
+use Rattle.cilk_scheduler.specs.KeptCursors.{IsTold}
+use Rattle.cilk_determinacy.specs.FrameEnvMachine.{answers_of, but_last, has_ended, named_ask, next, taken}
+use Rattle.cilk_determinacy.specs.Reducers.{View, kind_of, monoid_of}
+use Rattle.cilk_determinacy.specs.Steps.{outcome_in}
+use Rattle.cilk_determinacy.specs.FrameEnvViews.{IsViewOf}
+use Rattle.cilk_determinacy.specs.FrameEnvs.{FrameEnv}
 use Rattle.cilk_scheduler.specs.declared.scheduler.Scheduler.{Scheduler}
 use Rattle.cilk_scheduler.specs.declared.frame_state.Due.{Due}
 use Rattle.cilk_scheduler.specs.declared.frame_state.Due.TheVariants as due

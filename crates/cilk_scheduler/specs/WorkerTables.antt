@@ -3,13 +3,13 @@
 use Rattle.std.specs.Prelude.{◌≡◌, ◌⊎◌, ℕ, zero, suc, true, false, cond, ℤ, List, [], ◌∷◌, ◌++◌, set, slice_get, Option, Some, None}
 use Rattle.cilk_types.specs.declared.invocation.Invocation.TheVariants.{Call, Spawn}
 use Rattle.cilk_program.specs.Syntax.{Source}
-use Rattle.cilk_runs.specs.Runs.{Name, same_name, Instance, Ask, Invoke, Sync, End, Deed}
-use Rattle.cilk_runs.specs.Machine.{Frame, State, HasEnd, deeds_at, started, Makes, Steals, Stops}
-use Rattle.cilk_runs.specs.Progress.{BlockHasEnded, GoesOn}
-use Rattle.cilk_runs.specs.FrameEnvMachine.{costs}
-use Rattle.cilk_runs.specs.Reducers.{View, monoid_of}
-use Rattle.cilk_runs.specs.Steps.{Next}
-use Rattle.cilk_runs.specs.FrameEnvs.{FrameEnv}
+use Rattle.cilk_determinacy.specs.Runs.{Name, same_name, Instance, Ask, Invoke, Sync, End, Deed}
+use Rattle.cilk_determinacy.specs.Machine.{Frame, State, HasEnd, deeds_at, started, Makes, Steals, Stops}
+use Rattle.cilk_determinacy.specs.Progress.{BlockHasEnded, GoesOn}
+use Rattle.cilk_determinacy.specs.FrameEnvMachine.{costs}
+use Rattle.cilk_determinacy.specs.Reducers.{View, monoid_of}
+use Rattle.cilk_determinacy.specs.Steps.{Next}
+use Rattle.cilk_determinacy.specs.FrameEnvs.{FrameEnv}
 use Rattle.cilk_scheduler.specs.declared.choice.Choice.{Choice}
 use Rattle.cilk_scheduler.specs.declared.choice.Choice.TheVariants.{Run, Steal}
 

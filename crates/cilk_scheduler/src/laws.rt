@@ -5,7 +5,7 @@ ghost use Rattle.cilk_lower.specs.Code.{CodeView};
 ghost use Rattle.cilk_lower.specs.declared.layout.Layout.{Layout};
 ghost use Rattle.cilk_program.specs.Syntax.{Source};
 ghost use Rattle.cilk_monoid.specs.declared.kind.MonoidKind.{MonoidKind};
-ghost use Rattle.cilk_runs.specs.FrameEnvs.{FrameEnv};
+ghost use Rattle.cilk_determinacy.specs.FrameEnvs.{FrameEnv};
 ghost use Rattle.cilk_scheduler.specs.Asking.{RefusalsAreFaults};
 ghost use Rattle.cilk_scheduler.specs.Schedulers.{AsksAreNamed};
 ghost use Rattle.cilk_scheduler.specs.Steps.{BeginsAreShown, ResumesAreShown};

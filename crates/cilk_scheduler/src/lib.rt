@@ -15,6 +15,7 @@
 //! |---|---|
 //! | state | [`scheduler::Scheduler`], [`frame_state::FrameState`], [`frame_state::Worker`] |
 //! | next event of a frame | [`asking::go_on`], [`asking::refusal`] for the fault in its place |
+//! | that event by names | [`cursors::next_ask_is_named`], a law |
 //! | cells and reducers | [`cells::read`], [`cells::write`], the functions of [`reducers`] |
 //! | call and spawn | the functions of [`invoking`], [`beginning::begin`] |
 //! | steal | [`offers::locate`], [`stealing::await_last`] |
@@ -33,8 +34,8 @@
 //!
 //! `cilk_schedule` puts these calls together into whole choices. The laws, in [`laws`], [`acting`],
 //! [`noting`], [`orders`] and the `laws_of_..` modules, are contracts of empty functions. They
-//! relate the state to the free machine of `cilk_runs`, where any frame that isn't waiting may make
-//! its next event. The relation is `Shows` of `specs/Schedulers.antt`, and
+//! relate the state to the free machine of `cilk_determinacy`, where any frame that isn't waiting
+//! may make its next event. The relation is `Shows` of `specs/Schedulers.antt`, and
 //! `specs/WorkerTables.antt` has the rules of a choice by names that no schedule changes.
 #![tactic(auto)]
 
@@ -44,6 +45,7 @@ pub mod asking;
 pub mod beginning;
 pub mod cells;
 pub mod choice;
+pub mod cursors;
 pub mod ending;
 pub mod frame_state;
 pub mod frame_states;

@@ -7,8 +7,8 @@ use Rattle.cilk_tree.specs.Races.{HasNoRace}
 use Rattle.cilk_tree.specs.declared.event_order.EventOrder.{EventOrder}
 use Rattle.cilk_tree.specs.Values.{HasValues}
 use Rattle.cilk_tree.specs.Along.{IsAlong}
-use Rattle.cilk_runs.specs.Tested.{none}
-use Rattle.cilk_runs.proofs.Decided.{tests_tell}
+use Rattle.cilk_determinacy.specs.Tested.{none}
+use Rattle.cilk_determinacy.proofs.Decided.{tests_tell}
 use Rattle.cilk_thread_tests.specs.Others.{four, squares_on, squares_plan, three, turns_on, turns_plan, SquaresHavePlan, TurnsHavePlan}
 use Rattle.cilk_thread_tests.proofs.Checked.{right_reads, valued}
 

@@ -9,15 +9,15 @@ use Rattle.cilk_program.specs.SerialRun.{Transcript}
 use Rattle.cilk_program.specs.SerialRun as serial
 use Rattle.cilk_program.specs.Syntax.{Source}
 use Rattle.cilk_program.specs.Numbering.{Counts, Block, unbegun, entered, counts_after, block_of, child_at}
-use Rattle.cilk_runs.specs.Machine.{put}
-use Rattle.cilk_runs.specs.Monoids.{on_view, unit_of}
-use Rattle.cilk_runs.specs.Runs.{Cell, Instance, Deed, Does, Invokes, Run, same_name}
-use Rattle.cilk_runs.specs.Runs as runs
-use Rattle.cilk_runs.specs.Serial.{value_after}
-use Rattle.cilk_runs.specs.Views.{view_after}
-use Rattle.cilk_runs.specs.FrameEnvMachine.{next, opening_values}
-use Rattle.cilk_runs.specs.Reducers.{View, monoid_of}
-use Rattle.cilk_runs.specs.FrameEnvs.{FrameEnv, first_env, child_env}
+use Rattle.cilk_determinacy.specs.Machine.{put}
+use Rattle.cilk_determinacy.specs.Monoids.{on_view, unit_of}
+use Rattle.cilk_determinacy.specs.Runs.{Cell, Instance, Deed, Does, Invokes, Run, same_name}
+use Rattle.cilk_determinacy.specs.Runs as runs
+use Rattle.cilk_determinacy.specs.Serial.{value_after}
+use Rattle.cilk_determinacy.specs.Views.{view_after}
+use Rattle.cilk_determinacy.specs.FrameEnvMachine.{next, opening_values}
+use Rattle.cilk_determinacy.specs.Reducers.{View, monoid_of}
+use Rattle.cilk_determinacy.specs.FrameEnvs.{FrameEnv, first_env, child_env}
 use Rattle.cilk_determinacy.specs.Nested.{named, named_from}
 use Rattle.cilk_determinacy.specs.Numbers.{child_runs}
 use Rattle.cilk_replay.specs.InputCourses.{Course, stop, act, child, run_of, IsCourse}

@@ -25,16 +25,16 @@ use Rattle.cilk_program.specs.Answered.{prints}
 use Rattle.cilk_tree.specs.declared.event_order.EventOrder.{EventOrder}
 use Rattle.cilk_shared.specs.declared.reducers.Reducers.{Reducers}
 use Rattle.cilk_shared.specs.Reducers.{entered, kind_in, of_event}
-use Rattle.cilk_runs.specs.Monoids.{unit_of}
-use Rattle.cilk_runs.specs.Runs.{Global, Instance, Reads, Writes, Passes, Updates, Sets, Values, Prints, Deed, Does, Run}
-use Rattle.cilk_runs.specs.Serial.{value_after}
-use Rattle.cilk_runs.specs.Traces.{trace}
-use Rattle.cilk_runs.specs.Views.{view_after}
+use Rattle.cilk_determinacy.specs.Monoids.{unit_of}
+use Rattle.cilk_determinacy.specs.Runs.{Global, Instance, Reads, Writes, Passes, Updates, Sets, Values, Prints, Deed, Does, Run}
+use Rattle.cilk_determinacy.specs.Serial.{value_after}
+use Rattle.cilk_determinacy.specs.Traces.{trace}
+use Rattle.cilk_determinacy.specs.Views.{view_after}
 use Rattle.cilk_frames.specs.Leaving.{finals_of}
-use Rattle.cilk_runs.specs.FrameEnvMachine.{opening_values}
-use Rattle.cilk_runs.specs.Reducers.{View, kind_of, monoid_of, value_of}
-use Rattle.cilk_runs.specs.Steps.{finals_in, result_in}
-use Rattle.cilk_runs.specs.FrameEnvs.{FrameEnv, global_named}
+use Rattle.cilk_determinacy.specs.FrameEnvMachine.{opening_values}
+use Rattle.cilk_determinacy.specs.Reducers.{View, kind_of, monoid_of, value_of}
+use Rattle.cilk_determinacy.specs.Steps.{finals_in, result_in}
+use Rattle.cilk_determinacy.specs.FrameEnvs.{FrameEnv, global_named}
 use Rattle.cilk_determinacy.specs.Nested.{named}
 use Rattle.cilk_determinacy.specs.Numbers.{instance_number, HasInstance, numbered_events}
 use Rattle.cilk_determinacy.specs.Words.{InputsAreWords}

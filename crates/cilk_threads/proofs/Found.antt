@@ -26,9 +26,9 @@ use Rattle.cilk_peers.specs.Frames.{IsInner, IsFrame}
 use Rattle.cilk_tree.specs.Frames.{IsInFrame}
 use Rattle.cilk_shared.specs.Reducers.{frame_in}
 use Rattle.cilk_shared.proofs.Quiet.{in_frame}
-use Rattle.cilk_runs.specs.Runs.{Name, Reads, Writes, Syncs, Ends, Passes, Begins, Resumes, Creates, Updates, Sets, Values, Prints, Run, stop, act, child}
-use Rattle.cilk_runs.specs.Traces.{Due, begin_due, resume_due, neither_due, IsFramed, shape_of}
-use Rattle.cilk_runs.specs.FrameEnvs.{FrameEnv, first_env}
+use Rattle.cilk_determinacy.specs.Runs.{Name, Reads, Writes, Syncs, Ends, Passes, Begins, Resumes, Creates, Updates, Sets, Values, Prints, Run, stop, act, child}
+use Rattle.cilk_determinacy.specs.Traces.{Due, begin_due, resume_due, neither_due, IsFramed, shape_of}
+use Rattle.cilk_determinacy.specs.FrameEnvs.{FrameEnv, first_env}
 use Rattle.cilk_determinacy.specs.Nested.{named}
 use Rattle.cilk_determinacy.specs.Numbers.{frame_number, start_event, numbered_events}
 use Rattle.cilk_determinacy.specs.Theorem.{IsNumbered}

@@ -40,12 +40,12 @@ use Rattle.cilk_tree.specs.Word.{event}
 use Rattle.cilk_shared.specs.declared.reducers.FrameReducers.{FrameReducers}
 use Rattle.cilk_shared.specs.declared.reducers.Reducers.{Reducers}
 use Rattle.cilk_shared.specs.Reducers.{own, kind_in, ends_from, retired, entered, frame_behind, frame_in, of_event, events_from, events_over}
-use Rattle.cilk_runs.specs.Runs.{Name, Instance, Output, Reducer, Reads, Writes, Syncs, Ends, Passes, Begins, Resumes, Creates, Updates, Sets, Values, Prints, Run, stop, act, child}
-use Rattle.cilk_runs.specs.Runs as runs
-use Rattle.cilk_runs.specs.Traces.{trace, Due, begin_due, resume_due, neither_due, IsFramed}
-use Rattle.cilk_runs.specs.FrameEnvMachine.{retired_from, retired_by}
-use Rattle.cilk_runs.specs.Reducers.{kind_of}
-use Rattle.cilk_runs.specs.FrameEnvs.{FrameEnv, first_env, child_env, own_named, before_own}
+use Rattle.cilk_determinacy.specs.Runs.{Name, Instance, Output, Reducer, Reads, Writes, Syncs, Ends, Passes, Begins, Resumes, Creates, Updates, Sets, Values, Prints, Run, stop, act, child}
+use Rattle.cilk_determinacy.specs.Runs as runs
+use Rattle.cilk_determinacy.specs.Traces.{trace, Due, begin_due, resume_due, neither_due, IsFramed}
+use Rattle.cilk_determinacy.specs.FrameEnvMachine.{retired_from, retired_by}
+use Rattle.cilk_determinacy.specs.Reducers.{kind_of}
+use Rattle.cilk_determinacy.specs.FrameEnvs.{FrameEnv, first_env, child_env, own_named, before_own}
 use Rattle.cilk_determinacy.specs.Nested.{named, named_from}
 use Rattle.cilk_determinacy.specs.Numbers.{frame_number, instance_number, start_event, numbered_event, numbered_events, all_reducers, EventIsHere, AreHere, AreNumbered}
 use Rattle.cilk_determinacy.specs.ReducerEvents as reducer_events

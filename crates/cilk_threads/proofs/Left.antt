@@ -17,10 +17,10 @@ use Rattle.cilk_tree.specs.Runs.{Departs, IsAsked, IsFollowed}
 use Rattle.cilk_tree.specs.Along.{DepartsNowhere}
 use Rattle.cilk_tree.specs.Before.{IsPosition}
 use Rattle.cilk_shared.specs.declared.reducers.Reducers.{Reducers}
-use Rattle.cilk_runs.specs.Runs.{Run}
-use Rattle.cilk_runs.specs.Traces.{trace}
-use Rattle.cilk_runs.specs.Steps.{result_in}
-use Rattle.cilk_runs.specs.FrameEnvs.{FrameEnv}
+use Rattle.cilk_determinacy.specs.Runs.{Run}
+use Rattle.cilk_determinacy.specs.Traces.{trace}
+use Rattle.cilk_determinacy.specs.Steps.{result_in}
+use Rattle.cilk_determinacy.specs.FrameEnvs.{FrameEnv}
 use Rattle.cilk_determinacy.specs.Nested.{named}
 use Rattle.cilk_determinacy.specs.Words.{InputsAreWords}
 use Rattle.cilk_replay.specs.InputCourses.{run_of}

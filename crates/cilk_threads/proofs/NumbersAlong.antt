@@ -23,12 +23,12 @@ use Rattle.cilk_program.proofs.Uniqueness.{serial_run_is_one}
 use Rattle.cilk_tree.specs.declared.event_order.EventOrder.{EventOrder}
 use Rattle.cilk_shared.specs.declared.reducers.Reducers.{Reducers}
 use Rattle.cilk_shared.specs.Reducers.{kind_in}
-use Rattle.cilk_runs.specs.Monoids.{unit_of}
-use Rattle.cilk_runs.specs.Runs.{Cell, Global, Own, Run}
-use Rattle.cilk_runs.specs.Traces.{trace, begin_due}
-use Rattle.cilk_runs.specs.FrameEnvMachine.{next, opening_values}
-use Rattle.cilk_runs.specs.Reducers.{monoid_of}
-use Rattle.cilk_runs.specs.FrameEnvs.{FrameEnv, first_env, child_env}
+use Rattle.cilk_determinacy.specs.Monoids.{unit_of}
+use Rattle.cilk_determinacy.specs.Runs.{Cell, Global, Own, Run}
+use Rattle.cilk_determinacy.specs.Traces.{trace, begin_due}
+use Rattle.cilk_determinacy.specs.FrameEnvMachine.{next, opening_values}
+use Rattle.cilk_determinacy.specs.Reducers.{monoid_of}
+use Rattle.cilk_determinacy.specs.FrameEnvs.{FrameEnv, first_env, child_env}
 use Rattle.cilk_determinacy.specs.Nested.{named, named_from}
 use Rattle.cilk_determinacy.specs.Numbers.{cell_number, instance_number, numbered_events, AreNumbered}
 use Rattle.cilk_determinacy.specs.Theorem.{IsNumbered}

@@ -27,10 +27,10 @@ use Rattle.cilk_program.specs.Order.{writings, creations, opening_asks, Stage, F
 use Rattle.cilk_program.proofs.Asked.{asks_there}
 use Rattle.cilk_program.proofs.Orderly.{runs_orderly}
 use Rattle.cilk_program.proofs.Closings.{View, Begins as BeginsNow, Opens as OpensNow, Goes, Calls as CallsNow, Spawns as SpawnsNow, Syncs as SyncsNow, Resumes as ResumesNow, Again, Gives, Ends as EndsNow, EndsThen, view}
-use Rattle.cilk_runs.specs.Runs.{Name, Reducer, Event, Reads, Writes, Syncs, Ends, Passes, Begins, Resumes, Creates, Updates, Sets, Values, Prints, Run}
-use Rattle.cilk_runs.specs.Runs as runs
-use Rattle.cilk_runs.specs.Traces.{Due as DueNext, begin_due, resume_due, neither_due, IsFramed}
-use Rattle.cilk_runs.specs.FrameEnvs.{Sight, FrameEnv, env_of, first_env, child_env, reducer_seen}
+use Rattle.cilk_determinacy.specs.Runs.{Name, Reducer, Event, Reads, Writes, Syncs, Ends, Passes, Begins, Resumes, Creates, Updates, Sets, Values, Prints, Run}
+use Rattle.cilk_determinacy.specs.Runs as runs
+use Rattle.cilk_determinacy.specs.Traces.{Due as DueNext, begin_due, resume_due, neither_due, IsFramed}
+use Rattle.cilk_determinacy.specs.FrameEnvs.{Sight, FrameEnv, env_of, first_env, child_env, reducer_seen}
 use Rattle.cilk_determinacy.specs.Nested.{named_event, named_from, named}
 use Rattle.cilk_determinacy.specs.Numbers.{up, frame_runs, all_reducers, IsHere}
 use Rattle.cilk_determinacy.proofs.Determinate.{serial_numbered}

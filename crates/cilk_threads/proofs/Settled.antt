@@ -45,9 +45,9 @@ use Rattle.cilk_shared.specs.declared.reducers.FrameReducers.{FrameReducers}
 use Rattle.cilk_shared.specs.declared.reducers.Reducers.{Reducers}
 use Rattle.cilk_shared.specs.Reducers.{own, ends_from, retired, frame_in, of_event, events_at}
 use Rattle.cilk_shared.specs.Settled.{Settles}
-use Rattle.cilk_runs.specs.Runs.{Name, Reducer, Writes, Passes, Begins, Creates, Run}
-use Rattle.cilk_runs.specs.Runs as runs
-use Rattle.cilk_runs.specs.FrameEnvs.{FrameEnv, before_own}
+use Rattle.cilk_determinacy.specs.Runs.{Name, Reducer, Writes, Passes, Begins, Creates, Run}
+use Rattle.cilk_determinacy.specs.Runs as runs
+use Rattle.cilk_determinacy.specs.FrameEnvs.{FrameEnv, before_own}
 use Rattle.cilk_determinacy.specs.Nested.{named}
 use Rattle.cilk_determinacy.specs.Numbers.{frame_number, instance_number, start_event, numbered_event, numbered_events, all_reducers, EventIsHere, AreHere}
 use Rattle.cilk_determinacy.proofs.Creations.{have_creations}

@@ -47,7 +47,7 @@ use Rattle.cilk_shared.specs.declared.reducers.FrameReducers.{FrameReducers}
 use Rattle.cilk_shared.specs.declared.reducers.Reducers.{Reducers}
 use Rattle.cilk_shared.specs.Reducers.{own, frame_in, of_event, HasFew}
 use Rattle.cilk_shared.specs.Settled.{AreSettled}
-use Rattle.cilk_runs.specs.Runs.{Output, Reducer}
+use Rattle.cilk_determinacy.specs.Runs.{Output, Reducer}
 use Rattle.cilk_determinacy.specs.Numbers.{frame_number, all_reducers, child_runs}
 use Rattle.cilk_determinacy.proofs.Numbers.{frame_is}
 use Rattle.cilk_checker.specs.Determinate.{AcceptedRun, AreFramesOf, HasDeterminateRun}

@@ -34,17 +34,17 @@ use Rattle.cilk_program.specs.WellNamed.{is_kind, is_well_named}
 use Rattle.cilk_program.proofs.Asked.{asks_there}
 use Rattle.cilk_shared.specs.declared.reducers.Reducers.{Reducers}
 use Rattle.cilk_shared.specs.Reducers.{own, kind_in, ends_from, retired, entered}
-use Rattle.cilk_runs.specs.Runs.{Name, same_name, Instance, Output, Reducer, same_instance, has_instance, Ask, Invoke, End, Event, Reads, Writes, Syncs, Ends, Passes, Begins, Resumes, Creates, Updates, Sets, Values, Prints, Cell, Deed, Does, Invokes, Run}
-use Rattle.cilk_runs.specs.Runs as runs
-use Rattle.cilk_runs.specs.Machine.{started, put}
-use Rattle.cilk_runs.specs.Monoids.{on_view}
-use Rattle.cilk_runs.specs.Serial.{value_after}
-use Rattle.cilk_runs.specs.Traces.{trace, Due, begin_due, resume_due, neither_due, IsFramed}
-use Rattle.cilk_runs.specs.Views.{view_after, IsViewRight}
-use Rattle.cilk_runs.proofs.Basics.{same_name-eq, same_instance-refl, same_instance-eq}
-use Rattle.cilk_runs.specs.FrameEnvMachine.{named_ask, answers_of, has_ended, asked_after, next, retired_from, retired_by}
-use Rattle.cilk_runs.specs.Reducers.{View, value_of, kind_of, monoid_of}
-use Rattle.cilk_runs.specs.FrameEnvs.{FrameEnv, child_env, before_own}
+use Rattle.cilk_determinacy.specs.Runs.{Name, same_name, Instance, Output, Reducer, same_instance, has_instance, Ask, Invoke, End, Event, Reads, Writes, Syncs, Ends, Passes, Begins, Resumes, Creates, Updates, Sets, Values, Prints, Cell, Deed, Does, Invokes, Run}
+use Rattle.cilk_determinacy.specs.Runs as runs
+use Rattle.cilk_determinacy.specs.Machine.{started, put}
+use Rattle.cilk_determinacy.specs.Monoids.{on_view}
+use Rattle.cilk_determinacy.specs.Serial.{value_after}
+use Rattle.cilk_determinacy.specs.Traces.{trace, Due, begin_due, resume_due, neither_due, IsFramed}
+use Rattle.cilk_determinacy.specs.Views.{view_after, IsViewRight}
+use Rattle.cilk_determinacy.proofs.Basics.{same_name-eq, same_instance-refl, same_instance-eq}
+use Rattle.cilk_determinacy.specs.FrameEnvMachine.{named_ask, answers_of, has_ended, asked_after, next, retired_from, retired_by}
+use Rattle.cilk_determinacy.specs.Reducers.{View, value_of, kind_of, monoid_of}
+use Rattle.cilk_determinacy.specs.FrameEnvs.{FrameEnv, child_env, before_own}
 use Rattle.cilk_determinacy.specs.Numbers.{all_reducers, frame_number, instance_number, start_event, numbered_event, numbered_events, HasCell, HasInstance, EventIsHere, AreHere, cell_number}
 use Rattle.cilk_determinacy.proofs.Numbers.{one_to_one}
 use Rattle.cilk_replay.specs.InputCourses.{Course, stop, act, child, run_of, asked_in, IsLike, IsMadeFor, IsStartedFor, IsCourse}

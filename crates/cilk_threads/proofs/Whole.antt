@@ -12,8 +12,8 @@ use Rattle.cilk_shared.specs.Pieces.{PieceValue}
 use Rattle.cilk_shared.specs.declared.reducers.Reducers.{Reducers}
 use Rattle.cilk_replay.specs.Replays.{ReplayValue}
 use Rattle.cilk_checker.specs.Determinate.{AcceptedRun}
-use Rattle.cilk_runs.specs.Traces.{trace}
-use Rattle.cilk_runs.specs.Steps.{result_in}
+use Rattle.cilk_determinacy.specs.Traces.{trace}
+use Rattle.cilk_determinacy.specs.Steps.{result_in}
 use Rattle.cilk_determinacy.specs.Nested.{named}
 use Rattle.cilk_replay.specs.InputCourses as courses
 use Rattle.cilk_replay.specs.Frames.{course_on}

@@ -14,12 +14,12 @@ use Rattle.cilk_shared.specs.Values.{YardValue}
 use Rattle.cilk_shared.specs.Pieces.{PieceValue}
 use Rattle.cilk_shared.specs.declared.reducers.Reducers.{Reducers}
 use Rattle.cilk_workers.specs.Rows.{IsGood, run_of}
-use Rattle.cilk_runs.specs.Costs.{TickTotal, whole}
-use Rattle.cilk_runs.specs.Runs.{Run}
-use Rattle.cilk_runs.specs.Traces.{trace}
-use Rattle.cilk_runs.specs.FrameEnvMachine.{costs}
-use Rattle.cilk_runs.specs.Steps.{result_in}
-use Rattle.cilk_runs.specs.FrameEnvs.{FrameEnv, first_env}
+use Rattle.cilk_determinacy.specs.Costs.{TickTotal, whole}
+use Rattle.cilk_determinacy.specs.Runs.{Run}
+use Rattle.cilk_determinacy.specs.Traces.{trace}
+use Rattle.cilk_determinacy.specs.FrameEnvMachine.{costs}
+use Rattle.cilk_determinacy.specs.Steps.{result_in}
+use Rattle.cilk_determinacy.specs.FrameEnvs.{FrameEnv, first_env}
 use Rattle.cilk_determinacy.specs.Nested.{named}
 use Rattle.cilk_replay.specs.InputCourses as courses
 use Rattle.cilk_replay.specs.Frames.{course_on, IsSerialRunOn}

@@ -7,9 +7,9 @@ use Rattle.cilk_program.specs.Numbering.{Block, frame_at}
 use Rattle.cilk_shared.specs.declared.reducers.FrameReducers.{FrameReducers}
 use Rattle.cilk_shared.specs.declared.reducers.Reducers.{Reducers}
 use Rattle.cilk_shared.specs.Reducers.{own, kind_in}
-use Rattle.cilk_runs.specs.Runs.{Instance}
-use Rattle.cilk_runs.specs.Reducers.{kind_of}
-use Rattle.cilk_runs.specs.FrameEnvs.{before_own}
+use Rattle.cilk_determinacy.specs.Runs.{Instance}
+use Rattle.cilk_determinacy.specs.Reducers.{kind_of}
+use Rattle.cilk_determinacy.specs.FrameEnvs.{before_own}
 use Rattle.cilk_determinacy.specs.Numbers.{all_reducers, frame_runs, instance_number, HasInstance}
 
 -- the reducers of a frame that runs this: the root's frame creates the global ones before its own,

@@ -1,4 +1,4 @@
-//! Traces of Cilk programs: their lines, the series-parallel tree that they spell, and their races.
+//! Traces of Cilk programs: their text, the series-parallel tree that they spell, and their races.
 //!
 //! A trace lists what one serial run of a program did: where it spawned and synced, and which cells
 //! it read and wrote in between. `docs/TRACES.md` has its text and its meaning. A frame's kind is
@@ -7,11 +7,32 @@
 //!
 //! | Call | Use |
 //! |---|---|
+//! | [`reader::TraceReader`] | Reads a trace in pieces, cut anywhere, as lines; or the first fault. |
 //! | [`survey::Survey`] | The first reading: do frames nest, are reducers used while they are alive? |
 //! | [`survey::Known`] | What it leaves: marks, Hebrew numbers and peer classes of all strands. |
 //! | [`judge::Judge`] | The second reading: race-free, the first race, or the first view-read race. |
 //!
-//! Each is made of smaller passes:
+//! **The form.** The text form is lines of words: one space separates two words, and one LF ends
+//! each line.
+//!
+//! ```text
+//! trace  = "cilktrace 1" LF { line LF } "end" LF
+//! line   = "enter" SP SITE
+//!        | "spawned" | "called" | "sync"
+//!        | ("read" | "write") SP CELL SP COUNT SP SITE
+//!        | "clear" SP CELL SP COUNT
+//!        | ("create" | "update" | "value" | "retire") SP REDUCER SP SITE
+//! ```
+//!
+//! A number is below 2^32 and has no leading zeros. COUNT is 1 to 4,096, and CELL + COUNT at most
+//! 2^32. A line has at most 64 bytes, and there are fewer than 2^32 - 1 lines. A trace that begins
+//! with `cilktrace-bin 1` and LF is in the binary form, in which each event is some numbers in
+//! LEB128, and lines with cells name a kind that was declared before. A [`fault::TraceFault`] names
+//! the line, from 1, at which reading stops. A text is read without a fault exactly if it is a
+//! trace's ([`text_laws::reads_traces`]). Whether frames nest and reducers are alive is no matter of
+//! the form.
+//!
+//! **The readings** are made of smaller passes:
 //!
 //! - [`structure::Structure`] keeps the marks of the lines so far, and patches a frame's mark when
 //!   the frame ends.
@@ -26,6 +47,11 @@
 //! 16 a cell, and some 24 for each reducer that is alive.
 //!
 //! ```text
+//! let mut reader = TraceReader::new(alloc);
+//! reader.reserve()?;
+//! let (taken, line) = reader.next(piece)?;     // then continue with piece[taken..]
+//! reader.end()?;                               // after the last piece
+//!
 //! let mut survey = Survey::new(alloc)?;
 //! for line in &lines {
 //!     survey.meet(line)?;                      // Misplaced: the trace is malformed at this line
@@ -39,12 +65,22 @@
 //! ```
 #![tactic(auto)]
 
+mod binary;
 pub mod births;
+mod event;
+pub mod fault;
 pub mod histories;
 pub mod judge;
+mod keyword;
 pub mod laws;
 pub mod line;
+mod parse;
 pub mod pass;
+pub mod place;
+pub mod reader;
 pub mod structure;
 pub mod survey;
+mod text;
+pub mod text_laws;
 pub mod views;
+mod word;

@@ -16,19 +16,19 @@ use Rattle.cilk_program.specs.declared.ask.Ask.TheVariants as asks
 use Rattle.cilk_program.specs.Outcomes.{Leaves}
 use Rattle.cilk_program.specs.SerialRun.{Transcript}
 use Rattle.cilk_program.proofs.Uniqueness.{serial_run_is_one}
-use Rattle.cilk_runs.specs.Machine.{put, started}
-use Rattle.cilk_runs.specs.Monoids.{on_view, unit_of}
-use Rattle.cilk_runs.specs.Runs.{Cell, Instance, Ask, End, Ends, Deed, Does, Invokes, Run}
-use Rattle.cilk_runs.specs.Runs as runs
-use Rattle.cilk_runs.specs.Serial.{value_after}
-use Rattle.cilk_runs.specs.Traces.{trace}
-use Rattle.cilk_runs.specs.Views.{view_after}
+use Rattle.cilk_determinacy.specs.Machine.{put, started}
+use Rattle.cilk_determinacy.specs.Monoids.{on_view, unit_of}
+use Rattle.cilk_determinacy.specs.Runs.{Cell, Instance, Ask, End, Ends, Deed, Does, Invokes, Run}
+use Rattle.cilk_determinacy.specs.Runs as runs
+use Rattle.cilk_determinacy.specs.Serial.{value_after}
+use Rattle.cilk_determinacy.specs.Traces.{trace}
+use Rattle.cilk_determinacy.specs.Views.{view_after}
 use Rattle.cilk_tree.specs.declared.event_order.EventOrder.{EventOrder}
 use Rattle.cilk_tree.specs.Runs.{IsAsked}
-use Rattle.cilk_runs.specs.FrameEnvMachine.{asked_after, has_ended, named_ask, next, opening_values, retired_by}
-use Rattle.cilk_runs.specs.Reducers.{View, monoid_of}
-use Rattle.cilk_runs.specs.Steps.{result_in}
-use Rattle.cilk_runs.specs.FrameEnvs.{FrameEnv, first_env}
+use Rattle.cilk_determinacy.specs.FrameEnvMachine.{asked_after, has_ended, named_ask, next, opening_values, retired_by}
+use Rattle.cilk_determinacy.specs.Reducers.{View, monoid_of}
+use Rattle.cilk_determinacy.specs.Steps.{result_in}
+use Rattle.cilk_determinacy.specs.FrameEnvs.{FrameEnv, first_env}
 use Rattle.cilk_determinacy.specs.Nested.{named}
 use Rattle.cilk_replay.specs.InputCourses.{run_of, asked_in, course_of, event_for, frame_for}
 use Rattle.cilk_replay.specs.Frames.{same_frame, course_on}

@@ -14,7 +14,7 @@ use Rattle.cilk_program.specs.Sources.{source}
 use Rattle.cilk_program.specs.Syntax.{Source}
 use Rattle.cilk_tree.specs.Runs.{IsAsked}
 use Rattle.cilk_tree.specs.Word.{event}
-use Rattle.cilk_runs.specs.FrameEnvs.{FrameEnv}
+use Rattle.cilk_determinacy.specs.FrameEnvs.{FrameEnv}
 use Rattle.cilk_replay.specs.Points.{IsEventOf}
 use Rattle.cilk_replay.specs.Asking.{IsNextAsk}
 use Rattle.cilk_replay.specs.Replays.{ReplayValue, setting_of}

@@ -14,7 +14,7 @@ use Rattle.cilk_shared.specs.Pieces.{PieceValue, grown, segment_of}
 use Rattle.cilk_tree.specs.Kinds.{kind_of_event}
 use Rattle.cilk_tree.specs.declared.kind.Kind.{Kind}
 use Rattle.cilk_tree.specs.declared.kind.Kind.TheVariants as kinds
-use Rattle.cilk_runs.specs.Traces.{trace}
+use Rattle.cilk_determinacy.specs.Traces.{trace}
 use Rattle.cilk_shared.specs.Values.{MayPass}
 use Rattle.cilk_tree.specs.Runs.{Departs, IsAsked, IsFollowed}
 use Rattle.cilk_tree.specs.Word.{event, resume, word_step}
@@ -22,7 +22,7 @@ use Rattle.cilk_workers.specs.Shared.{SharedValue, event_order_in}
 use Rattle.cilk_workers.specs.declared.work.Work.{Work}
 use Rattle.cilk_workers.specs.declared.work.Turn.{Turn}
 use Rattle.cilk_workers.specs.declared.work.Turn.TheVariants.{Goes, Offers, Arrives, Ended, Finished, Departed, Stopped}
-use Rattle.cilk_runs.specs.Steps.{result_in}
+use Rattle.cilk_determinacy.specs.Steps.{result_in}
 
 -- good work: a piece of the run that is not empty, and a chain at its next event
 pub record Works (y : SharedValue) (w : Work) : Type 0 where

@@ -1,5 +1,5 @@
 use Rattle.std.proofs.Common.{ap₂, rules}
-use Rattle.cilk_judge.specs.TraceTexts.{GivesText, HasVerdict}
+use Rattle.cilk_commands.specs.TraceTexts.{GivesText, HasVerdict}
 use Rattle.cilk_commands.proofs.Kept.{fails, stays}
 use Rattle.cilk_commands.proofs.TraceReplies.{from_first, numbered, unjudged_shown, verdict_shown}
 use Rattle.cilk_commands.proofs.judging.judged.Goals as goal

@@ -1,5 +1,5 @@
 use Rattle.std.proofs.Common.{◌<◌, ℕ, length}
-use Rattle.cilk_runs.specs.Runs.{Name}
+use Rattle.cilk_determinacy.specs.Runs.{Name}
 use Rattle.cilk_scheduler.specs.Numbered.{AreNamed}
 use Rattle.cilk_schedule.proofs.Paths.{IsOnWay}
 use Rattle.cilk_schedule.proofs.naming.path.Given as goal

@@ -1,6 +1,6 @@
 use Rattle.std.proofs.Common.{◌∷◌, [], subst, sym}
 use Rattle.std.specs.Prelude.{map}
-use Rattle.cilk_script.specs.Choices.{choices_left}
+use Rattle.cilk_parser.specs.ScriptChoices.{choices_left}
 use Rattle.cilk_schedule.specs.Playing.{ComesToFault, Leads, task_of, tasks_of}
 use Rattle.cilk_schedule.proofs.Following.{handed}
 use Rattle.cilk_schedule.proofs.Keeping.{comes_ahead, comes_later, leads_ahead, leads_on, leads_same}

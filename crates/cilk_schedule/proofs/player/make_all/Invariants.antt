@@ -1,6 +1,6 @@
 use Rattle.std.proofs.Common.{length}
 use Rattle.std.specs.Prelude.{map}
-use Rattle.cilk_script.specs.Choices.{choices_left}
+use Rattle.cilk_parser.specs.ScriptChoices.{choices_left}
 use Rattle.cilk_schedule.specs.Played.{IsUnstopped}
 use Rattle.cilk_schedule.specs.Playing.{Leads, task_of, tasks_of}
 use Rattle.cilk_schedule.proofs.player.make_all.Given as goal

@@ -1,7 +1,7 @@
 use Rattle.std.proofs.Common.{cond, Option, sym, ap, ◌∙◌}
-use Rattle.cilk_runs.specs.Cuts.{joined_at, times}
-use Rattle.cilk_runs.specs.Machine.{Frame, deeds_at}
-use Rattle.cilk_runs.specs.FrameEnvs.{FrameEnv}
+use Rattle.cilk_determinacy.specs.Cuts.{joined_at, times}
+use Rattle.cilk_determinacy.specs.Machine.{Frame, deeds_at}
+use Rattle.cilk_determinacy.specs.FrameEnvs.{FrameEnv}
 use Rattle.cilk_scheduler.proofs.Thieves.{snoc_name}
 use Rattle.cilk_schedule.specs.Showing.{joins_child}
 use Rattle.cilk_schedule.proofs.Joined.{joins_shown}

@@ -1,6 +1,6 @@
 use Rattle.std.proofs.Common.{◌≡◌, ◌<◌, ℕ, length}
 use Rattle.std.specs.Prelude.{take}
-use Rattle.cilk_runs.specs.Runs.{Name}
+use Rattle.cilk_determinacy.specs.Runs.{Name}
 use Rattle.cilk_schedule.specs.Showing.{AreLinked}
 use Rattle.cilk_schedule.proofs.showing.Shown.place.Given as goal
 

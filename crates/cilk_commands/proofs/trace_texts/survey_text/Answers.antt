@@ -1,0 +1,52 @@
+use Rattle.std.proofs.Common.{ℕ, [], ◌∷◌, ◌++◌, ◌+◌, ◌≡◌, length, Option, refl, subst, ◌∙◌}
+use Rattle.std.specs.Prelude.{IfNone, IfSome}
+use Rattle.std.proofs.lemmas.Result.{err_from_is_err_and}
+use Rattle.cilk_trace.specs.Texts.{IsTraceText}
+use Rattle.cilk_commands.specs.declared.trace_pieces.Found.{Found}
+use Rattle.cilk_commands.specs.TraceFaults.{IsUnreadAfter}
+use Rattle.cilk_commands.specs.TracePieces.{IsReading}
+use Rattle.cilk_commands.specs.TraceTexts.{GivesText}
+use Rattle.cilk_commands.proofs.TraceSurveyed.{unsurveyed, misplaced_given, survey_given}
+use Rattle.cilk_commands.proofs.trace_texts.survey_text.Goals as goal
+
+pub lines-init : goal.lines-init
+lines-init g c = ([], c.new-pieces.ensures (g.S.Source.remaining c.args.source.now), c.in_ok-survey.ensures, refl, refl, refl)
+
+pub returns-in_err-found-clause-fault : goal.returns-in_err-found-clause-fault
+returns-in_err-found-clause-fault g c =
+    let i = c.lines.invariant in
+    let known = g.S.Source.remaining c.args.source.now in
+    let p = err_from_is_err_and c.from_residual-in_err-found.result c.from_residual-in_err-found.ensures.1 in
+    rw (p.1, p.2) (unsurveyed known i.0 c.lines.survey _ _ c.in_err-found.field-0.0 i.2
+    (subst (λ (n : ℕ). IsUnreadAfter known i.0 n (g.S.Source.failed c.next.new.source) c.in_err-found.field-0.0) i.3 (c.in_err-found.ensures.fault known i.0 i.1)))
+
+pub lines-preserved : goal.lines-preserved
+lines-preserved g c =
+    let i = c.lines.invariant in
+    let known = g.S.Source.remaining c.args.source.now in
+    let n = subst (λ (o : Option Found). IfSome o (λ f. IsReading known (g.S.Source.remaining c.next.new.source) (i.0 ++ f.line ∷ []) c.next.new.self × (f.number ≡ length i.0 + 2)))
+    c.in-Some.is (c.in_ok-found.ensures.line known i.0 i.1) in (
+      i.0 ++ c.in-Some.found.line ∷ [],
+      n.0,
+      c.in_ok-meet.ensures.fits c.in-Fits.is i.0 i.2,
+      c.in_ok-found.ensures.uncounted ∙ i.3,
+      c.next.ensures.lender ∙ i.4,
+      c.next.ensures.kept ∙ i.5,
+    )
+
+pub returns-in-Misplaced-clause-fault : goal.returns-in-Misplaced-clause-fault
+returns-in-Misplaced-clause-fault g c =
+    let i = c.lines.invariant in
+    let known = g.S.Source.remaining c.args.source.now in
+    let left = g.S.Source.remaining c.next.new.source in
+    let n = subst (λ (o : Option Found). IfSome o (λ f. IsReading known left (i.0 ++ f.line ∷ []) c.next.new.self × (f.number ≡ length i.0 + 2)))
+    c.in-Some.is (c.in_ok-found.ensures.line known i.0 i.1) in
+    misplaced_given known left i.0 c.in-Some.found.line c.next.new.self c.lines.survey c.in-Some.found.number n.0 n.1 i.2
+    (λ more t. c.in_ok-meet.ensures.misplaced c.in-Misplaced.is i.0 more i.2 t)
+
+pub returns-clause-known : goal.returns-clause-known
+returns-clause-known g c =
+    let i = c.lines.invariant in
+    let known = g.S.Source.remaining c.args.source.now in
+    let whole = subst (λ (o : Option Found). IfNone o (GivesText known (λ text. IsTraceText text i.0))) c.in_default.is (c.in_ok-found.ensures.whole known i.0 i.1) in
+    survey_given known i.0 c.lines.survey _ i.2 whole c.in_ok-known.ensures

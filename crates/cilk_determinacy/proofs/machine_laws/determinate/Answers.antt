@@ -1,0 +1,6 @@
+use Rattle.cilk_determinacy.specs.MachineTheorem.{follows}
+use Rattle.cilk_determinacy.proofs.MachineTheorem.{race_free_determinate, follows_determined}
+use Rattle.cilk_determinacy.proofs.machine_laws.determinate.Goals as goal
+
+pub returns : goal.returns
+returns types c = λ M next C w t opening law run free. race_free_determinate _ _ M (follows next) C law (follows_determined next) w t opening run free

@@ -1,9 +1,0 @@
-use Rattle.cilk_judge.proofs.Surveyed.{again_fault, found_line}
-use Rattle.cilk_judge.proofs.judging.next_again.Goals as goal
-
-pub returns-in-Ok-clause-line : goal.returns-in-Ok-clause-line
-returns-in-Ok-clause-line g c = λ known ls r. found_line known (g.S.Source.remaining c.next.new.source) ls c.next.new.self c.in-Ok.found (c.in-Ok.ensures.line known ls r)
-
-pub returns-in-Err-clause-fault : goal.returns-in-Err-clause-fault
-returns-in-Err-clause-fault g c = λ known text all ls t r.
-    rw c.again.ensures (again_fault known text all ls _ _ c.in-Err.fault t (c.in-Err.ensures.fault known ls r))

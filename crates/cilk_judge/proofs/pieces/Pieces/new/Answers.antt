@@ -1,6 +1,0 @@
-use Rattle.std.proofs.Common.{arith}
-use Rattle.cilk_judge.proofs.Reread.{begun}
-use Rattle.cilk_judge.proofs.pieces.Pieces.new.Goals as goal
-
-pub returns : goal.returns
-returns c = begun _ (omega arith) c.new.ensures.text c.new.ensures.fault c.new.ensures.returned

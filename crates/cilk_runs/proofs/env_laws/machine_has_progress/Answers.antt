@@ -1,9 +1,0 @@
-use Rattle.cilk_runs.proofs.Progress.{progress}
-use Rattle.cilk_runs.specs.FrameEnvMachine.{costs}
-use Rattle.cilk_runs.specs.Reducers.{View, monoid_of}
-use Rattle.cilk_runs.specs.Steps.{Next}
-use Rattle.cilk_runs.specs.FrameEnvs.{FrameEnv}
-use Rattle.cilk_runs.proofs.env_laws.machine_has_progress.Goals as goal
-
-pub returns : goal.returns
-returns c = λ p inputs. progress FrameEnv View monoid_of (Next p inputs) (costs p inputs)

@@ -1,5 +1,0 @@
-use Rattle.cilk_runs.proofs.FrameEnvViews.{are_multiplied}
-use Rattle.cilk_runs.proofs.env_laws.views_are_multiplied.Goals as goal
-
-pub returns : goal.returns
-returns c = are_multiplied

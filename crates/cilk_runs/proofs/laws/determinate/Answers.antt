@@ -1,6 +1,0 @@
-use Rattle.cilk_runs.specs.Theorem.{follows}
-use Rattle.cilk_runs.proofs.Theorem.{race_free_determinate, follows_determined}
-use Rattle.cilk_runs.proofs.laws.determinate.Goals as goal
-
-pub returns : goal.returns
-returns types c = λ M next C w t opening law run free. race_free_determinate _ _ M (follows next) C law (follows_determined next) w t opening run free

@@ -1,6 +1,0 @@
-use Rattle.cilk_runs.specs.Theorem.{follows}
-use Rattle.cilk_runs.proofs.Kept.{opening_ok}
-use Rattle.cilk_runs.proofs.laws.opening_is_consistent.Goals as goal
-
-pub returns : goal.returns
-returns types c = λ M next C w t opening s o. opening_ok _ _ M (follows next) C w t opening s o

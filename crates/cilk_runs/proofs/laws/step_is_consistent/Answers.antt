@@ -1,6 +1,0 @@
-use Rattle.cilk_runs.specs.Theorem.{follows}
-use Rattle.cilk_runs.proofs.Theorem.{race_free_kept, follows_determined}
-use Rattle.cilk_runs.proofs.laws.step_is_consistent.Goals as goal
-
-pub returns : goal.returns
-returns types c = λ M next C w t opening law run free. race_free_kept _ _ M (follows next) C law (follows_determined next) w t opening run free

@@ -1,7 +1,0 @@
-use Rattle.cilk_runs.specs.Theorem.{follows}
-use Rattle.cilk_runs.proofs.StretchViews.{are_views}
-use Rattle.cilk_runs.proofs.Theorem.{follows_determined}
-use Rattle.cilk_runs.proofs.stretches.pieces_are_views_of_stretches.Goals as goal
-
-pub returns : goal.returns
-returns types c = λ M next C w t opening law run free s ok. are_views M law (follows next) C w t opening (follows_determined next) run free s ok

@@ -1,4 +1,0 @@
-pub mod Scripts
-pub mod OneScript
-pub mod Spellings
-pub mod ScriptGrammar

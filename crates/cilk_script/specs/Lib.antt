@@ -1,4 +1,0 @@
-pub mod Choices
-pub mod Scripts
-pub mod OneScript
-pub mod ScriptGrammar

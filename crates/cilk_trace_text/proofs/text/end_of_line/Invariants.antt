@@ -1,6 +1,0 @@
-use Rattle.std.proofs.Common.{take}
-use Rattle.cilk_trace_text.specs.Reading.{HasNoLf}
-use Rattle.cilk_trace_text.proofs.text.end_of_line.Given as goal
-
-abbrev pub invariant-loop-at : goal.invariant-loop-at
-invariant-loop-at l = HasNoLf (take l.at l.piece)
