@@ -6,7 +6,9 @@ ghost use Rattle.cilk_program.specs.Behaviour.{middle};
 pub use cilk_lower::layout::has_one;
 use cilk_program::ask::LoopPart;
 
-/// Returns the first half of the turns, for a child of their frame.
+/// Returns the first half of the turns, for a child of their frame. Not inlined, since its
+/// arithmetic would be done at each entry of the loop over a frame's instructions.
+#[inline(never)]
 pub fn first_half(part: LoopPart) -> LoopPart
     ensures { result ≡ record { number = part.number; up = 1; low = part.low; high = middle part.low part.high } }
 {
@@ -18,7 +20,8 @@ pub fn first_half(part: LoopPart) -> LoopPart
     }
 }
 
-/// Returns the second half of the turns, for a child of their frame.
+/// Returns the second half of the turns, for a child of their frame. Not inlined, as the first.
+#[inline(never)]
 pub fn second_half(part: LoopPart) -> LoopPart
     ensures { result ≡ record { number = part.number; up = 1; low = middle part.low part.high; high = part.high } }
 {
