@@ -1,7 +1,7 @@
 """`rt ci`, and after it the steps below, whose counts are added to those of its last line.
 
 Each step runs the built program, where it is there and where what the step needs is; its own last line is
-`N passed, M failed`. A step that ends otherwise counts as one that failed. After an `rt ci` that failed no step is made.
+`N passed, M failed`. A step that ends otherwise counts as one that failed. After a failed `rt ci` no step is made.
 """
 
 import os
@@ -65,14 +65,14 @@ def main():
     status, last = shown(["rt", "ci"])
     counts = LAST_LINE.match(last)
     if status or not counts:
-        print(last)
+        print(last if counts else f"{last}\n0 passed, 1 failed")
         return status or 1
     passed, failed = int(counts[1]), int(counts[2])
     print(f"the gate: {last}", flush=True)
     for it in STEPS:
         more = step(*it)
         passed, failed = passed + more[0], failed + more[1]
-    print(f"{passed} passed, {failed} failed")
+    print(f"{passed} passed, {failed} failed{counts[3]}")
     return 1 if failed else 0
 
 

@@ -94,11 +94,11 @@ def write(found):
 
 
 def longest_chain(found):
-    """The crates of the longest chain of proofs, with tests and edits at its end, and its minutes."""
+    """The crates of the longest chain of proofs, with tests and edits at its end, and its minutes; without what `rt` had kept."""
     with open(f"{TOP}/crates.txt", encoding="utf-8") as listed:
         named = build_plan.crates_of(listed.read())
     nothing, chains = dict.fromkeys(KINDS, 0.0), {}
-    for name in (it for top in named for it in build_plan.needed(named, top)):
+    for name in named:
         below = max((chains[it] for it in named[name]), default=(0.0, []))
         chains[name] = (below[0] + found.get(name, nothing)["proof"], [*below[1], name])
     whole = [(chains[it][0] + found.get(it, nothing)["tests"] + found.get(it, nothing)["edits"], it) for it in named]
@@ -136,10 +136,11 @@ def run(is_written):
     watcher.start()
     began = time.monotonic()
     status = subprocess.run(["rt", "ci"], cwd=TOP, check=False).returncode
+    took = (time.monotonic() - began) / 60
     ended.set()
     watcher.join()
     tell(seen, 1.0, is_written)
-    print(f"by the clock: {(time.monotonic() - began) / 60:.1f} minutes")
+    print(f"by the clock: {took:.1f} minutes")
     return status
 
 

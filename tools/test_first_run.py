@@ -17,9 +17,8 @@ import unproved
 # What a build took that was watched: processor seconds of its dearest crates, with others by a law of its own (1.1 times
 # the table), on four processors, with other work beside it; 46 minutes by the clock.
 WATCHED = {
-    "cilk_findings": 742, "cilk_messages": 500, "cilk_commands": 398, "cilk_threads": 309, "cilk_names": 373,
-    "cilk_schedule": 280, "cilk_report": 253, "cilk_report": 132, "cilk_plan": 163, "cilk_checker": 218,
-    "cilk_tool": 210, "cilk_findings": 239, "cilk_schedule": 88,
+    "cilk_findings": 981, "cilk_messages": 500, "cilk_commands": 398, "cilk_threads": 309, "cilk_names": 373,
+    "cilk_schedule": 368, "cilk_report": 385, "cilk_plan": 163, "cilk_checker": 218, "cilk_tool": 210,
 }  # fmt: skip
 WATCHED_CLOCK = 46.1
 
@@ -110,7 +109,7 @@ class Replays(unittest.TestCase):
 
     def test_what_is_kept(self):
         chance, order = random.Random(7), list(self.named)
-        for count in (20, 40, 60):
+        for count in (10, 20, 30):
             kept = set(order[:count])
             took = {name: 2.0 * it * chance.uniform(0.8, 1.4) for name, it in self.minutes.items()}
             self.assert_within_a_third(self.replayed(took, 4, kept, kept, usual=2.1), after=0.25)

@@ -5,7 +5,7 @@
 //!
 //! | Module | Tests |
 //! |---|---|
-//! | [`reads`] | `check` with `--helpers` over a file that fails; no file is read for wrong words, or twice to explain |
+//! | [`reads`] | `check` with `--helpers` over a file that fails; no file read for wrong words, or twice to explain |
 //!
 //! The command that runs the tests ends a test after a minute.
 //!
