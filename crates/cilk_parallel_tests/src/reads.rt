@@ -1,5 +1,7 @@
 //! Reads of files by the commands that start threads, and a certificate whose file fails.
 
+ghost use Rattle.std.specs.Prelude.{◌≡◌};
+
 use cilk_report::KeptFiles;
 use cilk_served::served::{Broken, Ended, Folder};
 use cilk_tool::serve;
@@ -14,20 +16,37 @@ const FIB: &str =
     = fib(n - 2); cilk_sync; return x + y; } int main() { int r; r = fib(10); return r; }";
 
 // A race of two writes.
-const RACE: &str = "int x; int one() { x = 1; return 0; } int main() { int a; a = cilk_spawn one(); x = 2; cilk_sync; \
+const RACE: &str =
+    "int x; int one() { x = 1; return 0; } int main() { int a; a = cilk_spawn one(); x = 2; cilk_sync; \
     return x; }";
 
 // A division by zero.
 const FAULT: &str = "int main() { int a; a = 0; return 1 / a; }";
 
 // A program, a call, and the same call with an explanation.
-type Pair = (&'static str, &'static [&'static str], &'static [&'static str]);
+type Pair = (
+    &'static str,
+    &'static [&'static str],
+    &'static [&'static str],
+);
 
 const PAIRS: [Pair; 8] = [
     (FAULT, &["run", "program"], &["run", "program", "--explain"]),
-    (FAULT, &["certify", "program"], &["certify", "program", "--explain"]),
-    (RACE, &["settle", "program", "--short"], &["settle", "program"]),
-    (FAULT, &["settle", "program", "--short"], &["settle", "program"]),
+    (
+        FAULT,
+        &["certify", "program"],
+        &["certify", "program", "--explain"],
+    ),
+    (
+        RACE,
+        &["settle", "program", "--short"],
+        &["settle", "program"],
+    ),
+    (
+        FAULT,
+        &["settle", "program", "--short"],
+        &["settle", "program"],
+    ),
     (
         RACE,
         &["check", "program", "certificate"],
