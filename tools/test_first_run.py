@@ -115,7 +115,7 @@ class Replays(unittest.TestCase):
             self.assert_within_a_third(self.replayed(took, 4, kept, kept, usual=2.1), after=0.25)
 
     def test_what_was_kept_and_is_gone(self):
-        self.assert_within_a_third(self.replayed(self.minutes, presumed=self.named, usual=1.0)[1:])
+        self.assert_within_a_third(self.replayed(self.minutes, presumed=self.named, usual=1.0)[2:])
 
     def test_one_that_takes_far_longer(self):
         estimate = build_plan.Estimate(self.named, self.minutes, 4)
