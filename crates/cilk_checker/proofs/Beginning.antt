@@ -5,7 +5,7 @@
 --   `none_after`: for events that begin no frame;
 -- - `cells_after`, `CellsFit`, `fits_at`: the cells of frames that begin one after the other;
 -- - `run_in_order`, `run_fits`: the same for a serial run.
-use Rattle.std.proofs.Common.{◌≡◌, nat_eq, nat_lt, Bool, true, false, if◌then◌else◌, ℕ, zero, suc, ◌+◌, ◌≤◌, ℤ, List, [], ◌∷◌, ◌++◌, length, take, All, Option, Some, None, slice_get, refl, sym, ap, ◌∙◌, subst, arith, length-append}
+use Rattle.std.proofs.Common.{◌≡◌, nat_eq, nat_lt, Bool, true, false, if◌then◌else◌, ℕ, zero, suc, ◌+◌, ◌≤◌, ℤ, List, [], ◌∷◌, ◌++◌, length, take, All, Some, None, slice_get, refl, sym, ap, ◌∙◌, subst, arith, length-append}
 use Rattle.std.proofs.lemmas.Bool.{ltb-false}
 use Rattle.std.proofs.lemmas.List.Elements.{All-head, All-tail}
 use Rattle.cilk_types.specs.declared.event.Event.{Event}

@@ -1,6 +1,6 @@
 -- The tree of strands of a nested run with their events at its leaves, and freedom of races by
 -- names. It is the tree of the run's shape (layouts_agree in Spells), and the list of the run's
--- events has each of these races (Numbered). Lemmas use this form; no contract speaks of it.
+-- events has each of these races (NumberedRuns). Lemmas use this form; no contract speaks of it.
 --
 -- - `Layout`, `layout`: the tree; `are_beside`, `peer_at`: positions in parallel; `IsInhabited`:
 --   each child has an event;

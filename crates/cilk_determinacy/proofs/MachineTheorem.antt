@@ -10,7 +10,7 @@
 -- - `kept`, `agrees`, `determinate`: the same from the nested forms RaceFree and ViewFree, which
 --   `no_race` (Races) and `no_view_race` (Peers) give;
 -- - `room_at`, `never_stops` (Kept): the totals of one consistent state;
--- - `free_by_names` (Numbered): a list without races gives a nested run without races, by names;
+-- - `free_by_names` (NumberedRuns): a list without races gives a nested run without races, by names;
 -- - `tests_tell` (Decided): a list of events has no race if a test of each pair finds none.
 use Rattle.std.proofs.Common.{◌≡◌, ◌<◌, ◌≤◌, ℤ, List, [], Option, Some, sym, ◌∙◌, arith}
 use Rattle.cilk_determinacy.specs.Runs.{Cell, Instance, Ask, Deed, Run}

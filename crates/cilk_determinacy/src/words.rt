@@ -1,7 +1,8 @@
 //! The numbers of a program and of its input are words, which their types guarantee:
 //! [`Literal`](cilk_program::syntax::Literal) for a number in an expression, and
 //! [`WordList`](cilk_types::word_list::WordList) for the opening values of globals and for the
-//! input. Each function does nothing: its contract is the law.
+//! input. With these, the theorem holds of each program and input of the code. Each function does
+//! nothing: its contract is the law.
 
 ghost use Rattle.cilk_program.specs.Sources.{source};
 ghost use Rattle.cilk_determinacy.specs.Settled.{SerialRunsSettle};

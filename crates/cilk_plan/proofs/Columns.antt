@@ -1,22 +1,10 @@
--- The columns of a plan.
---
--- - `one_list`: the ends of blocks make one list; `ends_are_syncs`: they are `sync`s;
--- - `firsts_of`: each strand in the column begins at its position.
+-- The columns of a plan: `one_list`: the ends of blocks make one list.
 use Rattle.std.proofs.Common.{◌≡◌, ℕ, zero, suc, ◌+◌, ◌-◌, ◌<◌, List, [], ◌∷◌, get_or, Option, Some, None, slice_get, refl, sym, ap, ◌∙◌, subst, arith}
-use Rattle.std.specs.Prelude.{All}
 use Rattle.std.proofs.lemmas.Option.{slice_get_within, slice_get-get_or}
 use mathlib.Core.Logic.{dite}
 use native.Mathlib.Decide.{dec_lt}
-use Rattle.cilk_types.specs.declared.event.Event.{Event}
-use Rattle.cilk_types.specs.declared.event.Event.TheVariants as events
 use Rattle.cilk_tree.specs.declared.event_order.EventOrder.{EventOrder}
-use Rattle.cilk_tree.specs.Word.{event}
-use Rattle.cilk_tree.specs.Blocks.{EndsBlockOf}
-use Rattle.cilk_tree.specs.PlanStrands.{AreFirsts}
-use Rattle.cilk_tree.specs.Columns.{IsSpawnOf, AreBlockEnds, AreStrands}
-
-ends_sync : (s : EventOrder) (k q : ℕ) → EndsBlockOf s.events k q → event s q ≡ Some events.Sync
-ends_sync s k q h = let next = h.2 in let at = next.syncs in at.0
+use Rattle.cilk_tree.specs.Columns.{IsSpawnOf, AreBlockEnds}
 
 -- ---- one list
 
@@ -97,14 +85,3 @@ same_lists (x ∷ xs) (y ∷ ys) same =
 
 pub one_list : (s : EventOrder) (xs ys : List ℕ) → AreBlockEnds s xs → AreBlockEnds s ys → xs ≡ ys
 one_list s xs ys are are' = same_lists xs ys (λ i. same_entries s xs ys are are' (i + 1) i (omega arith))
-
-pub ends_are_syncs : (s : EventOrder) (syncs : List ℕ) → AreBlockEnds s syncs → All (λ at. event s at ≡ Some events.Sync) syncs
-ends_are_syncs s syncs are k d less =
-    let h = (are.all (get_or syncs k d)).1 (k, slice_get-get_or syncs k d less) in
-    let is = h.1 in
-    ends_sync s h.0 (get_or syncs k d) is.ends
-
--- ---- strands
-
-pub firsts_of : (es : List Event) (column : List ℕ) → AreStrands es column → AreFirsts es column
-firsts_of es column are p some = (are p (get_or column p 0) (omega (arith, some))).0 refl

@@ -13,6 +13,7 @@
 //! |---|---|
 //! | [`run::run`] | the whole run: its outcome and trace, or a fault |
 //! | [`serial_run::SerialRun`] | the same run, one event at a time |
+//! | [`serial_run::SerialRun::run_on`] | further events, up to the next one that begins a frame |
 //! | [`serial_run::Next`] | the next event, the end or a fault |
 //! | [`serial_run::Target`] | what the next event begins: a function's frame, or one of a loop's turns |
 //! | [`fault::RunFault`] | out of memory, or a fault and its position |

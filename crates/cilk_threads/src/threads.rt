@@ -27,7 +27,6 @@ use cilk_shared::piece::Piece;
 use cilk_shared::reducers::Reducers;
 use cilk_shared::yard::{Segment, Yard};
 use cilk_types::input::Input;
-use cilk_types::limits::MAX_INPUTS;
 use cilk_types::outcome::Outcome;
 use cilk_types::word_list::WordList;
 use cilk_workers::columns::Columns;
@@ -148,14 +147,11 @@ fn replay_on(
     replay(alloc, plan, yard, same)
 }
 
-// A copy of the input. No input has more than `MAX_INPUTS` numbers.
+// A copy of the input.
 fn copied(alloc: Global, input: &Input) -> Result<Input, AllocError>
     ensures { IfOk result (λ same. same ≡ input.now) }
 {
     let given = input.as_slice();
-    if given.len() > MAX_INPUTS {
-        return Err(AllocError);
-    }
     let mut numbers = WordList::new(alloc);
     'each: for number in given {
         numbers.push(*number)?;

@@ -1,5 +1,5 @@
 -- The first events of strands.
-use Rattle.std.specs.Prelude.{◌≡◌, ◌≢◌, ◌<◌, ◌≤◌, ℕ, List, slice_index_or}
+use Rattle.std.specs.Prelude.{◌≡◌, ◌≢◌, ◌<◌, ◌≤◌, ℕ, List}
 use Rattle.cilk_types.specs.declared.event.Event.{Event}
 use Rattle.cilk_tree.specs.Before.{IsPosition}
 use Rattle.cilk_tree.specs.Races.{strand_at}
@@ -9,7 +9,3 @@ pub record BeginsStrand (es : List Event) (strand p : ℕ) : Type 0 where
   pub place : IsPosition es p
   pub is : strand_at es p ≡ strand
   pub first : (q : ℕ) → 1 ≤ q → q < p → strand_at es q ≢ strand
-
--- at each position the strand that begins there, or 0
-abbrev pub AreFirsts : List Event → List ℕ → Type 0
-AreFirsts es strands = (p : ℕ) → 0 < slice_index_or strands p 0 → BeginsStrand es (slice_index_or strands p 0) p

@@ -50,8 +50,10 @@ impl Input {
         self.numbers.len() as i64
     }
 
+    /// Returns the numbers: no input has more than [`MAX_INPUTS`].
     pub fn as_slice(&self) -> &[i64]
-        ensures { result.now ≡ self.now }
+        ensures value { result.now ≡ self.now }
+        ensures few { length result.now ≤ MAX_INPUTS }
     {
         self.numbers.as_slice()
     }
