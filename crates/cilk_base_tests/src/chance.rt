@@ -120,7 +120,7 @@ pub fn as_serially(rt: &impl Abort, alloc: Global, text: &str, numbers: &str) ->
                     count = count.saturating_add(1);
                 }
             }
-            Err(stop) => panic!(rt; "{stop:?}: {text}"),
+            Err(_) => panic!(rt; "a play stopped: {text}"),
         }
     }
     count

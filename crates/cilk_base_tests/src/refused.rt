@@ -74,7 +74,7 @@ fn stops(rt: &impl Abort, alloc: Global, machine: &mut Machine<'_>) -> bool
     match rounds(alloc, machine, 2) {
         Ok(()) => false,
         Err(stop) => {
-            assert!(rt; stop == Stop::Memory);
+            assert!(rt; matches!(stop, Stop::Memory));
             stays_stopped(rt, alloc, machine);
             true
         }

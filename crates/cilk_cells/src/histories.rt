@@ -8,7 +8,7 @@ use cilk_types::event::{Cell, Event, Pos};
 use std::alloc::{AllocError, Global};
 
 /// An access of a cell: its strand's Hebrew number and its position. Both count from 1.
-#[derive(Clone, Copy, PartialEq, Eq)]
+#[derive(Clone, Copy)]
 pub struct Access {
     pub hebrew: u32,
     pub at: Pos,
@@ -21,7 +21,7 @@ impl Access {
 
 /// The write and the access of a cell that have the greatest Hebrew number; at equal numbers the
 /// earliest.
-#[derive(Clone, Copy, PartialEq, Eq)]
+#[derive(Clone, Copy)]
 pub struct Kept {
     pub write: Access,
     pub access: Access,

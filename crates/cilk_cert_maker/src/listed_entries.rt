@@ -15,7 +15,7 @@ use cilk_types::event::{Event, Instance, Pos};
 use std::alloc::{AllocError, Global};
 
 /// The reducers created so far, in order of creation.
-#[derive(Drop, Debug)]
+#[derive(Drop)]
 pub struct Creations {
     made: Vec<Instance>,
 }

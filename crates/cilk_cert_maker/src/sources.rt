@@ -8,7 +8,7 @@ use cilk_types::event::{Cell, Event, Pos};
 use std::alloc::{AllocError, Global};
 
 /// The position of the last write of each cell so far, 0 if there is none.
-#[derive(Drop, Debug)]
+#[derive(Drop)]
 pub struct LastWrites {
     pub positions: Vec<Pos>,
 }

@@ -11,7 +11,7 @@ use std::alloc::{AllocError, Global};
 use std::marker::Model;
 
 /// A frame that has begun and hasn't ended: its number, and how many calls and spawns it has made.
-#[derive(Clone, Copy, Debug)]
+#[derive(Clone, Copy)]
 pub struct Open {
     pub number: FrameNo,
     pub made: u32,

@@ -8,7 +8,6 @@ use std::marker::Model;
 /// A certificate within the limits of the format: at most 1,000,000 events, 65,536 frames and
 /// 1,000,000 strands, with reducers named as in its version. Frame `k` is at index `k - 1`, and so
 /// is strand `k`.
-#[derive(Debug)]
 pub struct Certificate {
     version: Version,
     frames: Vec<Frame>,

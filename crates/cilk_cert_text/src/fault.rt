@@ -7,7 +7,7 @@ use std::alloc::{AllocError, AllocFailed};
 use thiserror::Error;
 
 /// Why a text isn't read as a certificate.
-#[derive(Clone, Copy, PartialEq, Eq, Debug, Error)]
+#[derive(Clone, Copy, Debug, Error)]
 pub enum CertFault {
     /// This line, counted from 1, isn't one that may be there.
     #[error("malformed certificate at line {line}")]

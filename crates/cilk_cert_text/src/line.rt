@@ -3,14 +3,14 @@
 use cilk_types::event::{Cell, FrameNo, Instance, Pos, StrandNo};
 
 /// The version of the format. The versions differ in how an event names a reducer.
-#[derive(Clone, Copy, PartialEq, Eq, Debug)]
+#[derive(Clone, Copy)]
 pub enum Version {
     One,
     Two,
 }
 
 /// How an event names a reducer.
-#[derive(Clone, Copy, PartialEq, Eq, Debug)]
+#[derive(Clone, Copy)]
 pub enum Reducer {
     /// In version 1: a number, counted from 1 in the order of creation.
     Number(u32),
@@ -19,7 +19,7 @@ pub enum Reducer {
 }
 
 /// An event in a certificate: an event of the run, with the source of each read.
-#[derive(Clone, Copy, PartialEq, Eq, Debug)]
+#[derive(Clone, Copy)]
 pub enum Entry {
     Begin { frame: FrameNo },
     Spawn { child: FrameNo },
@@ -41,7 +41,7 @@ pub enum Entry {
 const _: () = prove!(std::mem::size_of::<Entry>() <= 40);
 
 /// The number of lines of each kind.
-#[derive(Clone, Copy, PartialEq, Eq, Debug)]
+#[derive(Clone, Copy)]
 pub struct Size {
     pub events: u32,
     pub frames: u32,
@@ -50,7 +50,7 @@ pub struct Size {
 
 /// The parent of a frame, and the number of its invocation in the parent, from 1. Both are 0 for the
 /// root.
-#[derive(Clone, Copy, PartialEq, Eq, Debug)]
+#[derive(Clone, Copy, PartialEq, Eq)]
 pub struct Frame {
     pub parent: FrameNo,
     pub ordinal: u32,
@@ -58,7 +58,7 @@ pub struct Frame {
 
 /// The frame of a strand, its Hebrew number (Feng and Leiserson 1997) and its peer class (Lee and
 /// Schardl 2015).
-#[derive(Clone, Copy, PartialEq, Eq, Debug)]
+#[derive(Clone, Copy)]
 pub struct Strand {
     pub frame: FrameNo,
     pub hebrew: u32,
@@ -66,7 +66,7 @@ pub struct Strand {
 }
 
 /// A line of a certificate.
-#[derive(Clone, Copy, PartialEq, Eq, Debug)]
+#[derive(Clone, Copy)]
 pub enum Line {
     Version(Version),
     Size(Size),
@@ -78,7 +78,7 @@ pub enum Line {
 }
 
 /// The form of a line after the size line.
-#[derive(Clone, Copy, PartialEq, Eq)]
+#[derive(Clone, Copy)]
 pub enum Form {
     /// The line of the frame with this number.
     Frame(FrameNo),
@@ -91,7 +91,7 @@ pub enum Form {
 }
 
 /// Lines of one kind that follow one another.
-#[derive(Clone, Copy, PartialEq, Eq, Debug)]
+#[derive(Clone, Copy)]
 pub enum Column {
     /// The lines of this many frames, from this number on.
     Frames { first: FrameNo, count: u32 },
@@ -102,7 +102,7 @@ pub enum Column {
 }
 
 /// The first word of an event's line.
-#[derive(Clone, Copy, PartialEq, Eq)]
+#[derive(Clone, Copy)]
 pub enum Keyword {
     Begin,
     Spawn,

@@ -6,7 +6,7 @@ use crate::line::{Column, Form, Line, Size, Version};
 use crate::parse;
 
 /// The lines due after the events.
-#[derive(Clone, Copy, Debug)]
+#[derive(Clone, Copy)]
 pub(crate) enum Tail {
     Result,
     End,
@@ -14,7 +14,7 @@ pub(crate) enum Tail {
 }
 
 /// The number of lines read after the size line.
-#[derive(Clone, Copy, Debug)]
+#[derive(Clone, Copy)]
 pub(crate) struct Progress {
     version: Version,
     size: Size,
@@ -31,7 +31,7 @@ pub(crate) struct Progress {
 }
 
 /// The place of a reader.
-#[derive(Clone, Copy, Debug)]
+#[derive(Clone, Copy)]
 pub(crate) enum ReaderPlace {
     Version,
     Size(Version),

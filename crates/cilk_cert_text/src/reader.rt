@@ -15,7 +15,7 @@ pub const MAX_LINE: usize = 96;
 
 /// Reads a certificate's text in pieces, cut anywhere, and returns its lines one by one. It doesn't
 /// allocate.
-#[derive(Drop, Debug)]
+#[derive(Drop)]
 pub struct LineReader {
     place: ReaderPlace,
     // The first `length` bytes are those of the current line so far.

@@ -19,7 +19,7 @@ use cilk_types::trace::Trace;
 use std::alloc::{AllocError, Global};
 
 /// How a serial run ends.
-#[derive(Drop, Debug)]
+#[derive(Drop)]
 pub enum End {
     /// Without a fault: its outcome, and its frames in the order of their numbers.
     Left(Outcome, Vec<PlannedFrame>),

@@ -15,7 +15,7 @@ use std::alloc::AllocError;
 
 /// The body of a frame, the number of its first cell, and how many cells it has. The cells have
 /// consecutive numbers.
-#[derive(Clone, Copy, Debug)]
+#[derive(Clone, Copy)]
 pub struct PlannedFrame {
     pub body: Body,
     pub first_cell: Cell,

@@ -257,7 +257,7 @@ fn hear(
 }
 
 /// The reason why the text wasn't read to its end.
-#[derive(Clone, Copy, PartialEq, Eq, Debug)]
+#[derive(Clone, Copy)]
 pub enum Stop {
     /// The text is no certificate, or memory ran out.
     Fault(CertFault),

@@ -62,7 +62,7 @@ pub enum Refusal {
 }
 
 /// The places that a refusal reports after its number.
-#[derive(Clone, Copy, PartialEq, Eq, Debug)]
+#[derive(Clone, Copy)]
 pub enum Fields {
     None,
     One(u64),

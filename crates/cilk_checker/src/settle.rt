@@ -33,7 +33,7 @@ use cilk_types::trace::Trace;
 use std::alloc::{AllocError, Global};
 
 /// The first race of a serial run, by two positions of it, counted from 1.
-#[derive(Clone, Copy, PartialEq, Eq, Debug)]
+#[derive(Clone, Copy)]
 pub enum FirstRace {
     /// The first determinacy race: two accesses of one cell.
     Determinacy { earlier: Pos, later: Pos },

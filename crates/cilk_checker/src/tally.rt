@@ -15,7 +15,7 @@ use cilk_types::event::Event;
 use std::alloc::{AllocError, Global};
 
 /// The first wrong item of each column so far, and the state for the next event.
-#[derive(Drop, Debug)]
+#[derive(Drop)]
 pub struct Tally {
     pub frames: First,
     pub owners: First,

@@ -8,7 +8,7 @@ use std::alloc::{AllocError, AllocFailed, Global};
 use thiserror::Error;
 
 /// The reason why a file or standard input wasn't read.
-#[derive(Clone, Copy, PartialEq, Eq, Debug, Error)]
+#[derive(Clone, Copy, Debug, Error)]
 pub enum FileFault {
     /// The file doesn't exist, can't be read, or is too large.
     #[error("cannot read")]

@@ -31,7 +31,7 @@ pub const NO_MEMORY: u8 = 5;
 pub const NO_MEMORY_LINE: &str = "no memory\n";
 
 /// An answer, which is shown on standard output.
-#[derive(Drop, Debug)]
+#[derive(Drop)]
 pub enum Answer {
     /// The outcome of a run, with the names of its global reducers in order of declaration.
     Outcome {

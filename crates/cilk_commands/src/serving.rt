@@ -85,7 +85,7 @@ fn answer<'a, F: Files, R: Read>(
 }
 
 /// The result of a call of the tool.
-#[derive(Clone, Copy, PartialEq, Eq, Debug)]
+#[derive(Clone, Copy)]
 pub struct Served {
     /// The status to end with.
     pub status: u8,

@@ -9,7 +9,7 @@ use std::alloc::AllocError;
 use thiserror::Error;
 
 /// Why a trace isn't judged.
-#[derive(Clone, Copy, PartialEq, Eq, Debug, Error)]
+#[derive(Clone, Copy, Debug, Error)]
 pub enum Unjudged {
     /// This line of the first reading, counted from 1, isn't one that may be there.
     #[error("malformed trace at line {line}")]

@@ -13,7 +13,7 @@ use std::alloc::{AllocError, Global};
 const PIECE: usize = 32_768;
 
 /// A line, with its number: the header is line 1.
-#[derive(Clone, Copy, Debug)]
+#[derive(Clone, Copy)]
 pub struct Found {
     pub number: u32,
     pub line: Line,

@@ -17,7 +17,7 @@ pub struct Operands {
 }
 
 /// The operand on top of a frame's stack, the one that was popped last, and the one popped before it.
-#[derive(Clone, Copy, Debug)]
+#[derive(Clone, Copy)]
 pub struct LastOperands {
     pub top: i64,
     pub popped: i64,

@@ -8,7 +8,7 @@ use cilk_types::limits::MAX_FRAMES;
 use std::alloc::{AllocError, Global};
 
 /// The hint about a frame.
-#[derive(Clone, Copy, Debug)]
+#[derive(Clone, Copy)]
 pub struct FrameHint {
     /// The index of its first word among those of all frames, and how many it has.
     pub first: u32,

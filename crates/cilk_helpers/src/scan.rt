@@ -3,7 +3,7 @@
 use cilk_types::word::{add, mul, neg};
 
 /// A line of a certificate, as far as the hints need it.
-#[derive(Clone, Copy, Debug)]
+#[derive(Clone, Copy)]
 pub enum LineHint {
     /// A frame begins.
     Begin,

@@ -15,7 +15,7 @@ use std::alloc::{AllocError, Global};
 /// `affine`: maps on words, composed so that the left one is applied first. The unit is the
 /// identity. An update with x is the map `y -> 10 * y + x`. The number is the map's value at 0. It
 /// doesn't commute.
-#[derive(Clone, Copy, PartialEq, Eq, Debug)]
+#[derive(Clone, Copy)]
 pub struct Affine;
 
 // The left map is applied first.

@@ -1,7 +1,7 @@
 //! The monoids that programs name.
 
 /// A monoid, by its name in a program.
-#[derive(Clone, Copy, PartialEq, Eq, Hash, Debug)]
+#[derive(Clone, Copy, PartialEq, Eq)]
 pub enum MonoidKind {
     /// `add`: the sum of words, which wraps.
     Add,

@@ -12,7 +12,7 @@ use std::alloc::{AllocError, Global};
 
 /// `append`: lists of words, concatenated. The unit is the empty list, and the number is the
 /// length.
-#[derive(Clone, Copy, PartialEq, Eq, Debug)]
+#[derive(Clone, Copy)]
 pub struct Append;
 
 impl Monoid for Append {

@@ -5,7 +5,6 @@ ghost use Rattle.cilk_monoid.specs.Laws.{MonoidStructure, IsLawful};
 ghost use Rattle.cilk_monoid.specs.Values.{ViewValue};
 
 use std::alloc::{AllocError, Global};
-use std::fmt::Debug;
 
 /// A monoid over the views of a reducer.
 ///
@@ -17,7 +16,7 @@ use std::fmt::Debug;
 /// keeps its value, and consumed views are returned.
 pub trait Monoid: Drop {
     /// A view, as a worker holds it during a run.
-    type View: Drop + Debug;
+    type View: Drop;
 
     // The monoid of the views' values.
     ghost structure: { MonoidStructure ViewValue };

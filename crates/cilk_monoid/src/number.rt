@@ -12,7 +12,7 @@ use cilk_types::word;
 use std::alloc::{AllocError, Global};
 
 /// `add`: the sum of two words, which wraps. The unit is 0.
-#[derive(Clone, Copy, PartialEq, Eq, Debug)]
+#[derive(Clone, Copy)]
 pub struct Add;
 
 impl Monoid for Add {
@@ -67,7 +67,7 @@ impl Monoid for Add {
 }
 
 /// `min`: the lesser of two words. The unit is the greatest word.
-#[derive(Clone, Copy, PartialEq, Eq, Debug)]
+#[derive(Clone, Copy)]
 pub struct Least;
 
 impl Monoid for Least {
@@ -122,7 +122,7 @@ impl Monoid for Least {
 }
 
 /// `max`: the greater of two words. The unit is the least word.
-#[derive(Clone, Copy, PartialEq, Eq, Debug)]
+#[derive(Clone, Copy)]
 pub struct Greatest;
 
 impl Monoid for Greatest {

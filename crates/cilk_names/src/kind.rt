@@ -6,7 +6,7 @@ ghost use Rattle.cilk_names.specs.Faults.{number_of, earlier, is_before};
 use thiserror::Error;
 
 /// The kind of a fault.
-#[derive(Clone, Copy, PartialEq, Eq, Debug, Error)]
+#[derive(Clone, Copy, Debug, Error)]
 pub enum NameErrorKind {
     #[error("an unknown name")]
     Unknown,
@@ -48,7 +48,7 @@ impl NameErrorKind {
 }
 
 /// A fault of a name: its kind, and the byte of the text where it is, from 0.
-#[derive(Clone, Copy, PartialEq, Eq)]
+#[derive(Clone, Copy)]
 pub struct Misnaming {
     pub number: NameErrorKind,
     pub place: usize,

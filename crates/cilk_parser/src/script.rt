@@ -35,7 +35,7 @@ pub const MAX_NUMBER: u64 = 1_000_000;
 pub const MAX_SCRIPT: usize = 1_048_576;
 
 /// The order of a line. Workers count from 1, continuations from 0.
-#[derive(Clone, Copy, PartialEq, Eq, Debug)]
+#[derive(Clone, Copy)]
 pub enum LineOrder {
     /// The worker continues its frame, `count` times.
     Run { worker: u32, count: u32 },
@@ -46,14 +46,14 @@ pub enum LineOrder {
 }
 
 /// An order with its line number, from 1.
-#[derive(Clone, Copy, PartialEq, Eq, Debug)]
+#[derive(Clone, Copy)]
 pub struct Step {
     pub line: usize,
     pub order: LineOrder,
 }
 
 /// Why a text couldn't be read as a script.
-#[derive(Clone, Copy, PartialEq, Eq, Debug)]
+#[derive(Clone, Copy)]
 pub enum ScriptFault {
     /// The first line, from 1, that has no valid form or exceeds [`MAX_SCRIPT`].
     Line(usize),

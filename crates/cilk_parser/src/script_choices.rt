@@ -9,7 +9,7 @@ use crate::script::{LineOrder, Step};
 pub const MAX_CHOICES: u32 = 16_000_000;
 
 /// The next choice of a script. Workers count from 1, continuations from 0.
-#[derive(Clone, Copy, PartialEq, Eq, Debug)]
+#[derive(Clone, Copy)]
 pub enum Next {
     /// The worker continues its frame.
     Run(u32),
@@ -22,7 +22,7 @@ pub enum Next {
 }
 
 /// The remaining choices of a script. It borrows the steps and allocates nothing.
-#[derive(Drop, Debug)]
+#[derive(Drop)]
 pub struct Choices<'a> {
     steps: &'a [Step],
     // The worker of the current `run`, and the number of its remaining choices.

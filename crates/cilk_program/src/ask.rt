@@ -18,7 +18,7 @@ pub struct FunctionCall {
 /// The turns of a loop from `low` up to, but not including, `high`. `number` is the loop's index,
 /// and `up` the number of static links from the requesting frame to the frame that contains the
 /// loop.
-#[derive(Clone, Copy, Debug)]
+#[derive(Clone, Copy)]
 pub struct LoopPart {
     pub number: u32,
     pub up: u32,

@@ -23,7 +23,7 @@ pub struct Function {
 }
 
 /// The function or loop whose body directly contains a loop.
-#[derive(Clone, Copy, PartialEq, Eq, Debug)]
+#[derive(Clone, Copy, PartialEq, Eq)]
 pub enum Body {
     Function(u32),
     Loop(u32),

@@ -7,7 +7,7 @@ use cilk_types::compound::Compound;
 use cilk_types::invocation::Invocation;
 
 /// A binary operator that evaluates both operands.
-#[derive(Clone, Copy, PartialEq, Eq)]
+#[derive(Clone, Copy)]
 pub enum Operator {
     Add,
     Subtract,
@@ -23,7 +23,7 @@ pub enum Operator {
 }
 
 /// The place of a variable, as a frame sees it.
-#[derive(Clone, Copy, PartialEq, Eq, Debug)]
+#[derive(Clone, Copy, PartialEq, Eq)]
 pub enum Place {
     /// A global cell, counted from 0 in order of declaration.
     Global(u32),
@@ -33,14 +33,14 @@ pub enum Place {
 }
 
 /// A global array: its first cell and its length.
-#[derive(Clone, Copy, PartialEq, Eq)]
+#[derive(Clone, Copy)]
 pub struct Array {
     pub first: u32,
     pub length: u32,
 }
 
 /// The place of a reducer, as a frame sees it.
-#[derive(Clone, Copy, PartialEq, Eq, Debug)]
+#[derive(Clone, Copy, PartialEq, Eq)]
 pub enum ReducerPlace {
     /// A global reducer, counted from 0 in order of declaration.
     Global(u32),
@@ -53,14 +53,14 @@ pub enum ReducerPlace {
 }
 
 /// A reducer and its monoid.
-#[derive(Clone, Copy, PartialEq, Eq, Debug)]
+#[derive(Clone, Copy, PartialEq, Eq)]
 pub struct Reducer {
     pub place: ReducerPlace,
     pub kind: MonoidKind,
 }
 
 /// A number literal. Its type guarantees that it is a word.
-#[derive(Clone, Copy, PartialEq, Eq, Debug)]
+#[derive(Clone, Copy)]
 pub struct Literal {
     pub value: i64,
     ghost word: { IsWord value },

@@ -1,7 +1,7 @@
 //! The result of comparing a request with the plan's next event.
 
 /// Whether the current frame requests the plan's next event.
-#[derive(Clone, Copy, PartialEq, Eq)]
+#[derive(Clone, Copy)]
 pub enum PlanMatch {
     /// It does.
     Follows,

@@ -25,7 +25,7 @@ use std::alloc::{AllocError, Global};
 use std::io::{Read, Write};
 
 /// The form of the replies to several programs.
-#[derive(Clone, Copy, PartialEq, Eq)]
+#[derive(Clone, Copy)]
 pub enum Form {
     /// Under a heading, with an explanation on standard error.
     Full,

@@ -13,7 +13,7 @@ use std::alloc::{AllocError, Global};
 
 /// A global cell by its number; or a frame's cell by the place of the frame and its own place
 /// there, from 0.
-#[derive(Clone, Copy, PartialEq, Eq, Debug)]
+#[derive(Clone, Copy, PartialEq, Eq)]
 pub enum CellName {
     Global(u32),
     Own { frame: usize, place: u32 },
@@ -21,14 +21,14 @@ pub enum CellName {
 
 /// The ordered output; or a reducer by the place of the frame that created it and its own place
 /// there, from 0.
-#[derive(Clone, Copy, PartialEq, Eq, Debug)]
+#[derive(Clone, Copy, PartialEq, Eq)]
 pub enum ReducerName {
     Output,
     Own { frame: usize, place: u32 },
 }
 
 /// An event of a frame. A child is known by its ordinal among its parent's children, from 1.
-#[derive(Clone, Copy, PartialEq, Eq, Debug)]
+#[derive(Clone, Copy, PartialEq, Eq)]
 pub enum ShownEvent {
     Begin,
     Spawn { ordinal: u32 },

@@ -25,7 +25,7 @@ use std::alloc::{AllocError, Global};
 
 /// A frame's link: the place of its parent among all frames, and its ordinal there, from 1. The
 /// first frame has 0 for both.
-#[derive(Clone, Copy, PartialEq, Eq)]
+#[derive(Clone, Copy)]
 pub struct Link {
     pub parent: u32,
     pub ordinal: u32,

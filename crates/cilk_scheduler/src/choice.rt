@@ -8,7 +8,7 @@ use cilk_types::fault::Fault;
 use std::alloc::{AllocError, AllocFailed};
 
 /// A scheduling choice. Workers count from 1.
-#[derive(Clone, Copy, PartialEq, Eq, Debug)]
+#[derive(Clone, Copy)]
 pub enum Choice {
     /// The worker continues with the frame that it holds.
     Run(u32),
@@ -19,14 +19,14 @@ pub enum Choice {
 
 /// An event of a frame. Frames are numbered from 1 as this run begins them, so the number depends
 /// on the schedule.
-#[derive(Clone, Copy, PartialEq, Eq, Debug)]
+#[derive(Clone, Copy)]
 pub struct Act {
     pub frame: FrameNo,
     pub event: Event,
 }
 
 /// The result of a choice.
-#[derive(Clone, Copy, PartialEq, Eq, Debug)]
+#[derive(Clone, Copy)]
 pub enum Told {
     /// The worker's frame made its next event.
     Did(Act),
@@ -40,14 +40,14 @@ pub enum Told {
 }
 
 /// A strand, by its frame's number in this run and its own place among the frame's strands, from 1.
-#[derive(Clone, Copy, PartialEq, Eq, Debug)]
+#[derive(Clone, Copy)]
 pub struct Strand {
     pub frame: FrameNo,
     pub number: u32,
 }
 
 /// The reason why a run stopped for good.
-#[derive(Clone, Copy, PartialEq, Eq, Debug)]
+#[derive(Clone, Copy)]
 pub enum Stop {
     /// Out of memory.
     Memory,

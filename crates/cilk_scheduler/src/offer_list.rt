@@ -15,7 +15,7 @@ use std::marker::Model;
 /// whose offers are still open. So [`Offers::get`] costs the logarithm of the greatest number of
 /// slots so far. [`Offers::push`] and [`Offers::remove`] cost the same, amortized. The newest
 /// slot's offer is open.
-#[derive(Drop, Debug)]
+#[derive(Drop)]
 pub struct Offers {
     slots: Vec<Slot>,
     tally: Tally,
@@ -34,7 +34,7 @@ impl Model for Offers {
 }
 
 // An offer: the index of the frame, that of its newest child, and whether it is still open.
-#[derive(Clone, Copy, Debug)]
+#[derive(Clone, Copy)]
 struct Slot {
     frame: u32,
     child: u32,

@@ -7,7 +7,7 @@ use std::marker::Model;
 
 /// A list of numbers with a tree of sums over it. Finding a number by its prefix sum, raising one
 /// and lowering one costs the logarithm of their count.
-#[derive(Drop, Debug)]
+#[derive(Drop)]
 pub struct Tally {
     // Node 1 is the sum of all, and node `i` the sum of the nodes `2i` and `2i + 1`. The numbers
     // are the nodes from `count` on.

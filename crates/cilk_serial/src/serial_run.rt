@@ -26,7 +26,7 @@ use std::alloc::{AllocError, Global};
 use std::marker::Model;
 
 /// The next step of a run.
-#[derive(Clone, Copy, Debug)]
+#[derive(Clone, Copy)]
 pub enum Next {
     /// This event, which has just been made.
     Made(Event),
@@ -37,7 +37,7 @@ pub enum Next {
 }
 
 /// The callee of a frame, without its arguments: a function by its number, or turns of a loop.
-#[derive(Clone, Copy, Debug)]
+#[derive(Clone, Copy)]
 pub enum Target {
     Function(u32),
     Loop(LoopPart),

@@ -6,7 +6,7 @@ use cilk_types::event::Pos;
 use std::marker::Model;
 
 /// Whether the thread has taken the continuation.
-#[derive(Drop, Debug)]
+#[derive(Drop)]
 pub enum Taken {
     /// It has. Its segment continues there.
     Yes,
@@ -17,7 +17,7 @@ pub enum Taken {
 
 /// A refusal to give the continuation of the spawn at a ticket. Only [`crate::yard::Yard::take`]
 /// makes one, so who has one has asked for that continuation. Contracts see the ticket.
-#[derive(Drop, Debug)]
+#[derive(Drop)]
 pub struct Denied {
     ticket: Pos,
 }

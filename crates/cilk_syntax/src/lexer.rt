@@ -22,7 +22,7 @@ use thiserror::Error;
 
 /// A class of bytes. `Word` holds letters, digits and `_`; `Line` all bytes but LF; `Inline` the
 /// blanks but LF; `Solid` all bytes but space, tab, LF and CR.
-#[derive(Clone, Copy, Debug)]
+#[derive(Clone, Copy)]
 pub enum Class {
     Word,
     Line,

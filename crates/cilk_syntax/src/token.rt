@@ -1,7 +1,7 @@
 //! The tokens of a program text.
 
 /// The kind of a token: a number, a name, a reserved word or a mark.
-#[derive(Clone, Copy, Debug)]
+#[derive(Clone, Copy)]
 pub enum Kind {
     Number(i64),
     Name,

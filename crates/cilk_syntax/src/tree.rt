@@ -57,7 +57,7 @@ use cilk_types::invocation::Invocation;
 use cilk_types::word::neg;
 
 /// A name: the bytes `at..end` of the text.
-#[derive(Clone, Copy, Debug)]
+#[derive(Clone, Copy)]
 pub struct Name {
     pub at: usize,
     pub end: usize,
@@ -71,7 +71,7 @@ pub enum UnaryOperator {
 }
 
 /// A binary operator.
-#[derive(Clone, Copy, Debug)]
+#[derive(Clone, Copy)]
 pub enum BinaryOperator {
     Or,
     And,
@@ -89,14 +89,14 @@ pub enum BinaryOperator {
 }
 
 /// The return type of a function.
-#[derive(Clone, Copy, Debug)]
+#[derive(Clone, Copy)]
 pub enum ReturnType {
     Int,
     Void,
 }
 
 /// A reducer that is declared or is a parameter: the name of its monoid, and its own name.
-#[derive(Clone, Copy, Debug)]
+#[derive(Clone, Copy)]
 pub struct Reducer {
     pub monoid: Name,
     pub name: Name,
@@ -324,7 +324,7 @@ pub enum GlobalVariable {
 }
 
 /// A parameter of a function: a word, or a reducer.
-#[derive(Clone, Copy, Debug)]
+#[derive(Clone, Copy)]
 pub enum Parameter {
     Variable(Name),
     Reducer(Reducer),

@@ -10,7 +10,7 @@ use std::alloc::{AllocError, Global};
 use std::collections::HashMap;
 
 /// A line of a reducer: the peer class of its strand, and its position.
-#[derive(Clone, Copy, PartialEq, Eq, Debug)]
+#[derive(Clone, Copy)]
 pub struct Birth {
     pub class: u32,
     pub at: Pos,

@@ -3,7 +3,7 @@
 use thiserror::Error;
 
 /// Why a text isn't read as a trace.
-#[derive(Clone, Copy, PartialEq, Eq, Debug, Error)]
+#[derive(Clone, Copy, Debug, Error)]
 pub enum TraceFault {
     /// This line, counted from 1, isn't one that may be there.
     #[error("malformed trace at line {line}")]

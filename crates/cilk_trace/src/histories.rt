@@ -8,7 +8,7 @@ use crate::line::Cells;
 use std::alloc::{AllocError, Global};
 
 /// An access of a cell: its strand's Hebrew number, from 1, and its position. None has number 0.
-#[derive(Clone, Copy, PartialEq, Eq, Debug)]
+#[derive(Clone, Copy)]
 pub struct Kept {
     pub hebrew: u32,
     pub at: u32,
@@ -20,14 +20,14 @@ impl Kept {
 }
 
 /// The write and the access of greatest Hebrew number of a cell, the earliest of their strand.
-#[derive(Clone, Copy, PartialEq, Eq, Debug)]
+#[derive(Clone, Copy)]
 pub struct History {
     pub write: Kept,
     pub access: Kept,
 }
 
 /// What a line does to its cells.
-#[derive(Clone, Copy, PartialEq, Eq, Debug)]
+#[derive(Clone, Copy)]
 pub enum Kind {
     Read,
     Write,

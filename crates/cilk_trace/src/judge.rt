@@ -12,14 +12,14 @@ use cilk_types::event::Pos;
 use std::alloc::{AllocError, Global};
 
 /// The positions of two accesses that race. Positions count lines from 1, without the header.
-#[derive(Clone, Copy, PartialEq, Eq, Debug)]
+#[derive(Clone, Copy)]
 pub struct Race {
     pub earlier: Pos,
     pub later: Pos,
 }
 
 /// The verdict on a trace. Positions count lines from 1, without the header.
-#[derive(Clone, Copy, PartialEq, Eq, Debug)]
+#[derive(Clone, Copy)]
 pub enum Verdict {
     /// No two lines race.
     RaceFree,
@@ -30,7 +30,7 @@ pub enum Verdict {
 }
 
 /// Whether a line can be of the trace that was surveyed.
-#[derive(Clone, Copy, PartialEq, Eq, Debug)]
+#[derive(Clone, Copy)]
 pub enum Judged {
     Fits,
     /// The second reading isn't that of the same trace.

@@ -1,14 +1,14 @@
 //! The lines of a trace.
 
 /// The cells `first`, `first + 1`, .. of a line, `count` in number.
-#[derive(Clone, Copy, PartialEq, Eq, Debug)]
+#[derive(Clone, Copy)]
 pub struct Cells {
     pub first: u32,
     pub count: u32,
 }
 
 /// A line of a trace after its header.
-#[derive(Clone, Copy, PartialEq, Eq, Debug)]
+#[derive(Clone, Copy)]
 pub enum Line {
     /// A child of the current frame begins.
     Enter { site: u32 },

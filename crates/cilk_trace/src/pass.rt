@@ -20,7 +20,7 @@ use cilk_types::event::{Pos, StrandNo};
 use std::alloc::{AllocError, Global};
 
 /// What a line is to the pass.
-#[derive(Clone, Copy, PartialEq, Eq, Debug)]
+#[derive(Clone, Copy)]
 pub enum Met {
     /// No race ends here.
     Clean,

@@ -4,7 +4,7 @@ ghost use Rattle.std.specs.Prelude.{◌≡◌, false, IsTrue};
 ghost use Rattle.cilk_trace.specs.declared.place.Place.TheVariants.{Over};
 
 /// The part of the text that is due next.
-#[derive(Clone, Copy, PartialEq, Eq, Debug)]
+#[derive(Clone, Copy)]
 pub enum Place {
     /// The first line, `cilktrace 1`.
     Header,

@@ -13,7 +13,7 @@ use std::marker::Model;
 pub const MAX_MARKS: usize = 1_073_741_824;
 
 /// Whether a line may come after those before it.
-#[derive(Clone, Copy, PartialEq, Eq, Debug)]
+#[derive(Clone, Copy)]
 pub enum Placing {
     Fits,
     /// No trace has this line here.

@@ -35,7 +35,7 @@ pub struct Known {
 }
 
 /// Whether a line may come after those before it.
-#[derive(Clone, Copy, PartialEq, Eq, Debug)]
+#[derive(Clone, Copy)]
 pub enum Surveyed {
     Fits,
     /// No trace has this line here.

@@ -19,14 +19,14 @@ use cilk_types::event::{Pos, StrandNo};
 use std::alloc::{AllocError, Global};
 
 /// The positions of two reads of one reducer's view, by strands whose peers differ.
-#[derive(Clone, Copy, PartialEq, Eq, Debug)]
+#[derive(Clone, Copy)]
 pub struct ViewRace {
     pub earlier: Pos,
     pub later: Pos,
 }
 
 /// What a line is to the pass.
-#[derive(Clone, Copy, PartialEq, Eq, Debug)]
+#[derive(Clone, Copy)]
 pub enum Viewed {
     Fits,
     /// No trace has this line here: a reducer that is alive is created, or another one used.

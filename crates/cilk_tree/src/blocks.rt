@@ -15,7 +15,7 @@ use std::alloc::{AllocError, Global};
 
 /// The continuation of a spawn: the positions of the `resume` that begins it and of the `sync` that
 /// ends its block.
-#[derive(Clone, Copy, PartialEq, Eq, Debug)]
+#[derive(Clone, Copy)]
 pub struct Continuation {
     pub resume: Pos,
     pub sync: Pos,

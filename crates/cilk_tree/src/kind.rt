@@ -8,7 +8,7 @@ use cilk_types::event::{Cell, Event, FrameNo, Instance};
 use cilk_types::trace::Trace;
 
 /// An event without its value.
-#[derive(Clone, Copy, PartialEq, Eq, Debug)]
+#[derive(Clone, Copy, PartialEq, Eq)]
 pub enum Kind {
     Begin { frame: FrameNo },
     Spawn { child: FrameNo },
@@ -26,7 +26,7 @@ pub enum Kind {
 }
 
 /// The next event of a run, as a plan knows it.
-#[derive(Clone, Copy, PartialEq, Eq, Debug)]
+#[derive(Clone, Copy, PartialEq, Eq)]
 pub enum Asked {
     /// The next event has this kind and is of this frame.
     Next { frame: FrameNo, kind: Kind },

@@ -5,7 +5,7 @@ ghost use Rattle.std.specs.Prelude.{◌≡◌};
 use cilk_types::event::Event;
 
 /// The mark of an event: its effect on strands.
-#[derive(Clone, Copy, PartialEq, Eq)]
+#[derive(Clone, Copy)]
 pub enum Mark {
     /// The first event of a frame. It begins a strand.
     Begin,

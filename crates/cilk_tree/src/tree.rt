@@ -6,7 +6,7 @@ use std::marker::Model;
 
 /// A node of a series-parallel tree. `left` and `right` are the numbers of strands of its two
 /// parts.
-#[derive(Clone, Copy, PartialEq, Eq, Debug)]
+#[derive(Clone, Copy)]
 pub enum Node {
     /// A leaf: a strand of `events` events.
     Strand { events: u32 },
@@ -17,7 +17,7 @@ pub enum Node {
 }
 
 /// A series-parallel tree: its nodes as a list in preorder, so the leaves are in serial order.
-#[derive(Drop, Debug)]
+#[derive(Drop)]
 pub struct SpTree {
     nodes: Vec<Node>,
 }

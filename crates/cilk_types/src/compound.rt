@@ -1,7 +1,7 @@
 //! Compound assignments.
 
 /// The operator of a compound assignment: `+=`, `-=` or `*=`.
-#[derive(Clone, Copy, PartialEq, Eq, Debug)]
+#[derive(Clone, Copy)]
 pub enum Compound {
     Add,
     Subtract,

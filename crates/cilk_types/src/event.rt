@@ -17,7 +17,7 @@ pub type StrandNo = u32;
 
 /// A reducer while a program runs: the frame that created it, and its number among that frame's
 /// reducers, from 1. The ordered output has `frame` 0 and `place` 0.
-#[derive(Clone, Copy, PartialEq, Eq, Hash, Debug)]
+#[derive(Clone, Copy, PartialEq, Eq, Hash)]
 pub struct Instance {
     pub frame: FrameNo,
     pub place: u32,
@@ -29,7 +29,7 @@ impl Instance {
 }
 
 /// An event of a serial run.
-#[derive(Clone, Copy, PartialEq, Eq, Debug)]
+#[derive(Clone, Copy, PartialEq, Eq)]
 pub enum Event {
     /// A frame begins.
     Begin { frame: FrameNo },

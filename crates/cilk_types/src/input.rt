@@ -9,7 +9,7 @@ use crate::word_list::WordList;
 use std::marker::Model;
 
 /// The numbers that a program reads by `input`, counted from 0: at most [`MAX_INPUTS`] words.
-#[derive(Drop, Debug)]
+#[derive(Drop)]
 pub struct Input {
     numbers: WordList,
 }

@@ -2,7 +2,7 @@
 
 /// How a child is started: called, or spawned. A spawned child may run in parallel with what
 /// follows it in its parent.
-#[derive(Clone, Copy, PartialEq, Eq, Debug)]
+#[derive(Clone, Copy)]
 pub enum Invocation {
     Call,
     Spawn,

@@ -3,7 +3,7 @@
 use crate::sequence::Sequence;
 
 /// The last value of a global reducer.
-#[derive(Drop, Debug)]
+#[derive(Drop)]
 pub enum Final {
     /// The number that a program reads from it: of `add`, `min`, `max` and `affine`.
     Number(i64),
@@ -13,7 +13,6 @@ pub enum Final {
 
 /// The outcome of a run that ends: the result of `main`, the global cells in order, the printed
 /// numbers in order, and each global reducer's last value in order of declaration.
-#[derive(Debug)]
 pub struct Outcome {
     pub result: i64,
     pub globals: Sequence<i64>,

@@ -5,7 +5,7 @@ ghost use Rattle.std.specs.Prelude.{◌≡◌, ◌==◌, length};
 use std::marker::Model;
 
 /// A `Vec` whose contracts speak of its items alone: two sequences with the same items are equal.
-#[derive(Drop, Debug)]
+#[derive(Drop)]
 pub struct Sequence<T> {
     items: Vec<T>,
 }

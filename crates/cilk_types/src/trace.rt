@@ -8,7 +8,7 @@ use std::marker::Model;
 
 /// The events of a serial run in order, at most [`MAX_EVENTS`](crate::limits::MAX_EVENTS). Position
 /// `p` is the `p`-th event, from 1.
-#[derive(Drop, Debug)]
+#[derive(Drop)]
 pub struct Trace {
     events: Vec<Event>,
 }

@@ -8,7 +8,7 @@ use std::marker::Model;
 
 /// A list of words, whose contracts speak of its items alone. The type guarantees that each number
 /// is a word, so a reader of the list need not check them.
-#[derive(Drop, Debug)]
+#[derive(Drop)]
 pub struct WordList {
     numbers: Vec<i64>,
 }
