@@ -2,7 +2,7 @@
 
 use crate::around::word_at;
 use crate::place::{Location, locate};
-use crate::sentence::{Part, Sentence, say};
+use crate::sentence::{Sentence, say};
 use crate::site::Site;
 use crate::sites::enclosing;
 use crate::tokens::{Declared, Tokens};
@@ -38,12 +38,12 @@ pub fn at_hand<'a>(
 
 fn unexpected<'a>(name: &'a [u8], wanted: &'a str) -> Sentence<'a> {
     let words = match (name.is_empty(), wanted.is_empty()) {
-        (true, true) => return say("found the text's end"),
-        (true, false) => return say("found the text's end, wanted {}").with(Part::Text(wanted)),
+        (true, true) => "found the text's end{}",
+        (true, false) => "found the text's end{}, wanted {}",
         (false, true) => "found `{}`",
         (false, false) => "found `{}`, wanted {}",
     };
-    say(words).word(name).with(Part::Text(wanted))
+    say(words).word(name).text(wanted)
 }
 
 // The place of the name's other declaration.
@@ -73,45 +73,35 @@ fn miscounted<'a>(tokens: &Tokens<'a>, token: usize, name: &'a [u8]) -> Sentence
     }
 }
 
-// The kind of the name, and its wrong use.
+// The kind of the name, and its wrong use; or the variable that stands in its place in the head of a
+// `cilk_for`.
 fn mistaken<'a>(tokens: &Tokens<'a>, token: usize, name: &'a [u8]) -> Sentence<'a> {
-    let site = Site::new(tokens, token);
-    if site.fits("0 return") {
-        return say(if site.fits("+1 ;") { NO_RESULT } else { RESULT });
-    }
-    if site.fits("in cilk_for") {
-        let variable = match enclosing(tokens, token) {
-            Some(open) => tokens.word(open.saturating_add(2)),
-            None => &[],
-        };
-        return say("found `{}`, where `{}`, this `cilk_for`'s variable, is wanted")
-            .word(name)
-            .word(variable);
-    }
-    say("`{}` {}")
-        .word(name)
-        .with(Part::Text(site.said(MISUSED).unwrap_or("")))
+    let words = Site::new(tokens, token).said(MISUSED).unwrap_or("`{}`");
+    let variable = match enclosing(tokens, token) {
+        Some(open) => tokens.word(open.saturating_add(2)),
+        None => &[],
+    };
+    say(words).word(name).word(variable)
 }
-
-const NO_RESULT: &str = "an `int` function returns a number";
-
-const RESULT: &str = "a `void` function returns no number";
 
 // What is wrong with the use of a name.
 const MISUSED: &str = "\
-is nothing => is no reducer, which the parameter is
-is reducer | +1 ( => is a reducer, and can't be called
-is reducer | +1 [ => is a reducer, and has no index
-is reducer | +1 , ) | -1 ( , | in @ => is a reducer, and the parameter is none of its monoid
-is reducer => is a reducer: `value(r)` reads it, `update(r, e)` and `set(r, e)` write it
--2 update set value => is no reducer
-is array | +1 ( => is an array, and can't be called
-is array => is an array, and stands only with an index: `a[i]`
-is function procedure | +1 ( => is a `void` function, and its call has no result
-is function procedure => is a function, and can only be called
-+1 ( => is a variable, and can't be called
-+1 [ => is no array, and has no index
-is variable => is no reducer, which the parameter is";
+0 return | +1 ; => an `int` function returns a number
+0 return => a `void` function returns no number
+in cilk_for => found `{}`, where `{}`, this `cilk_for`'s variable, is wanted
+0 @nothing => `{}` is no reducer, which the parameter is
+0 @reducer | +1 ( => `{}` is a reducer, and can't be called
+0 @reducer | +1 [ => `{}` is a reducer, and has no index
+0 @reducer | +1 , ) | -1 ( , | in @ => `{}` is a reducer, and the parameter is none of its monoid
+0 @reducer => `{}` is a reducer: `value(r)` reads it, `update(r, e)` and `set(r, e)` write it
+-2 update set value => `{}` is no reducer
+0 @array | +1 ( => `{}` is an array, and can't be called
+0 @array => `{}` is an array, and stands only with an index: `a[i]`
+0 @function @procedure | +1 ( => `{}` is a `void` function, and its call has no result
+0 @function @procedure => `{}` is a function, and can only be called
++1 ( => `{}` is a variable, and can't be called
++1 [ => `{}` is no array, and has no index
+0 @variable => `{}` is no reducer, which the parameter is";
 
 // Why the text has no right `main`.
 const NO_MAIN: &str = "\

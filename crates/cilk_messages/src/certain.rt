@@ -3,7 +3,6 @@
 //! None of them is right anywhere in the language, so that the text around them doesn't matter.
 
 use crate::around::is_among;
-use crate::forms::size_of;
 use crate::site::{Look, Site};
 use crate::sites::closing;
 use crate::tokens::Tokens;
@@ -38,11 +37,11 @@ const DECLARED: &str = "\
 -1 ) | -4 cilk_reducer => yes
 -1 ) => no
 -1 * | -2 * => yes
--1 * | typed2 => yes
+-1 * | -2 & => yes
 -1 * => no
 -1 int void => yes
-typed | +1 ) => library
-typed => yes";
+-1 & | +1 ) => library
+-1 & => yes";
 
 /// Returns what to write for the form that stands at a token, if there is one.
 pub fn form_at(site: &Site<'_, '_>, look: &mut Look) -> Option<&'static str> {
@@ -70,9 +69,9 @@ pub fn form_at(site: &Site<'_, '_>, look: &mut Look) -> Option<&'static str> {
 // A `main` with parameters, and the type of a cast.
 const OPENING: &str = "\
 0 main | -1 int void | +1 ( | +2 ^ ) void => PARAMETERS
--1 ( | -2 ~ ( , ; { } * | type | +1 * => CAST
--1 ( | -2 ~ ( , ; { } * | type | +1 ) => cast
--1 ( | -2 ~ ( , ; { } * | type | types => cast";
+-1 ( | -2 ~ ( , ; { } * | 0 & | +1 * => CAST
+-1 ( | -2 ~ ( , ; { } * | 0 & | +1 ) => cast
+-1 ( | -2 ~ ( , ; { } * | 0 & | +1 & => cast";
 
 // A word of another language.
 fn of_word(site: &Site<'_, '_>) -> Option<&'static str> {
@@ -80,15 +79,13 @@ fn of_word(site: &Site<'_, '_>) -> Option<&'static str> {
         return None;
     }
     let hint = word_of_c(site.word())?;
-    if site.fits("0 sizeof") {
-        Some(size_of(site.tokens, site.number))
-    } else {
-        Some(site.said(PLACED).unwrap_or(hint))
-    }
+    Some(site.said(PLACED).unwrap_or(hint))
 }
 
-// A constant of C's headers that a global opens with, and a variable of a function.
+// The size of a type, a constant of C's headers that a global opens with, and a variable of a
+// function.
 const PLACED: &str = "\
+0 sizeof | +2 & => BYTES
 0 static | outer no => STATIC
 0 INT_MIN LONG_MIN LLONG_MIN INT64_MIN | first => LEAST
 0 INT_MAX LONG_MAX LLONG_MAX INT64_MAX | first => GREATEST";
@@ -100,17 +97,17 @@ const PLACED: &str = "\
 // the language doesn't have as one, and a reserved word as a name.
 const FORMS: &str = "\
 0 - | +1 > => ARROW
-0 * | typed | memory => MEMORY
-0 * | typed => POINTER
+0 * | -1 & | memory => MEMORY
+0 * | -1 & => POINTER
 0 * | -1 ~ ( , ; { } => POINTER
 0 * | -1 @ | -2 ; { } | in ^ for cilk_for => POINTER
 0 [ | -1 ] | +2 ] | +3 [ => THREE_INDICES
 0 [ | -1 ] | -3 [ | -4 ] => THREE_INDICES
 0 [ | -1 ] => ONE_INDEX
 0 { | -1 = => ZEROS
-0 [ | -1 @ | typed2 | flat no => ARRAY_PARAMETER
-0 [ | -1 @ | typed2 | outer no => ARRAYS
-0 [ | -1 @ | typed2 | +1 ^ # => LENGTH
+0 [ | -1 @ | -2 & | flat no => ARRAY_PARAMETER
+0 [ | -1 @ | -2 & | outer no => ARRAYS
+0 [ | -1 @ | -2 & | +1 ^ # => LENGTH
 0 , | head for => ONE_STEP
 0 <= | -2 ; | head cilk_for => UP_TO
 0 > >= | -2 ; | head cilk_for => DOWNWARD

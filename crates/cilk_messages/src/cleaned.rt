@@ -22,21 +22,21 @@ pub fn cleaned(
         choices: 0,
         count: 0,
     };
-    for (place, byte) in text.iter().enumerate() {
+    for place in 0..text.len() {
+        let byte = text[place];
         if place >= piece.end {
             piece = piece_at(text, place);
-            if piece.first.is_some() && marks.is_told(*byte) {
+            if piece.first.is_some() && marks.is_told(byte) {
                 if let Some(hint) = hint_at(text, place, piece.end) {
                     further.note(place, piece.shown, hint, false);
                 }
             }
             first = piece.first;
         }
-        cleaned.push(first.unwrap_or(*byte))?;
-        first = match piece.first {
-            Some(_) => Some(b' '),
-            None => None,
-        };
+        cleaned.push(first.unwrap_or(byte))?;
+        if first.is_some() {
+            first = Some(b' ');
+        }
     }
     Ok(cleaned)
 }

@@ -1,7 +1,7 @@
 //! The line of a fault, with a mark below its place.
 
 use crate::place::{between, line_at};
-use crate::sentence::printed;
+use crate::sentence::{printed, say};
 use std::alloc::{AllocError, Global};
 use unicode_width::UnicodeWidthChar;
 
@@ -20,12 +20,10 @@ pub fn push_excerpt(
     let at = at.min(end);
     let from = cut_before(text, first, at);
     let upto = cut_behind(text, at, end);
-    let ahead = printed(alloc, between(text, from, at))?;
-    let rest = printed(alloc, between(text, at, upto).trim_ascii_end())?;
-    report.push_str(ahead.as_str())?;
-    report.push_str(rest.as_str())?;
-    report.push('\n')?;
-    push_blanks(report, ahead.as_str())
+    let ahead = between(text, from, at);
+    let rest = between(text, at, upto).trim_ascii_end();
+    say("{}{}\n").word(ahead).word(rest).push(alloc, report)?;
+    push_blanks(report, printed(alloc, ahead)?.as_str())
 }
 
 // The mark, after blanks as wide as a text. A tab remains a tab.

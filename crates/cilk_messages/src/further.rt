@@ -4,7 +4,7 @@ use crate::certain::{form_at, own_words};
 use crate::cleaned::cleaned;
 use crate::kinds::is_foreign;
 use crate::place::{between, line_at, locate};
-use crate::sentence::{Part, say};
+use crate::sentence::say;
 use crate::site::{Look, Site};
 use crate::tokens::Tokens;
 use std::alloc::{AllocError, Global};
@@ -68,42 +68,33 @@ impl<'a, 'h> Further<'a, 'h> {
         if at == self.told.at || (is_on_line && hint == self.told.hint) {
             return;
         }
-        let place = self.place_for(at, length, hint, by_word);
-        if let Some(form) = self.forms.get_mut(place) {
+        let word = between(self.text, at, at.saturating_add(length));
+        for place in 0..KEPT {
+            let form = self.forms[place];
+            let end = form.at.saturating_add(form.length);
             if form.hint.is_empty() {
-                *form = Form {
+                self.forms[place] = Form {
                     at,
                     length,
                     hint,
                     more: 0,
                 };
-            } else {
-                form.more = form.more.saturating_add(1);
+                return;
+            }
+            if form.hint == hint && (!by_word || between(self.text, form.at, end) == word) {
+                self.forms[place].more = form.more.saturating_add(1);
+                return;
             }
         }
-    }
-
-    // The number of the form that a form is counted with, or of the next one.
-    fn place_for(&self, at: usize, length: usize, hint: &str, by_word: bool) -> usize {
-        let word = between(self.text, at, at.saturating_add(length));
-        let mut place: usize = 0;
-        for form in &self.forms {
-            let end = form.at.saturating_add(form.length);
-            let is_same = !by_word || between(self.text, form.at, end) == word;
-            if form.hint.is_empty() || (is_same && form.hint == hint) {
-                return place;
-            }
-            place = place.saturating_add(1);
-        }
-        place
     }
 
     // The first form from a place on, with this hint or, if that is empty, with any.
     fn first(&self, from: usize, hint: &str) -> Form {
         let mut first = NO_FORM;
-        for form in &self.forms {
+        for place in 0..KEPT {
+            let form = self.forms[place];
             if form.at >= from && form.at < first.at && (hint.is_empty() || form.hint == hint) {
-                first = *form;
+                first = form;
             }
         }
         first
@@ -112,22 +103,22 @@ impl<'a, 'h> Further<'a, 'h> {
     fn push_form(&self, alloc: Global, report: &mut String, form: &Form) -> Result<(), AllocError> {
         let line = locate(self.text, form.at).line;
         let word = between(self.text, form.at, form.at.saturating_add(form.length));
-        say("also line {}: `{}`")
-            .count(line)
-            .word(word)
-            .push(alloc, report)?;
-        if form.more > 0 {
-            say(" (and {} more)").count(form.more).push(alloc, report)?;
-        }
+        let words = if form.more > 0 {
+            "also line {}: `{}` (and {} more): "
+        } else {
+            "also line {}: `{}`: "
+        };
+        let head = say(words).count(line).word(word);
+        head.count(form.more).push(alloc, report)?;
         let told = if form.hint == self.told.hint {
             self.told.at
         } else {
             self.first(0, form.hint).at
         };
         let told = if told == form.at {
-            say(": {}\n").with(Part::Text(form.hint))
+            say("{}\n").text(form.hint)
         } else {
-            say(": as at line {}\n").count(locate(self.text, told).line)
+            say("as at line {}\n").count(locate(self.text, told).line)
         };
         told.push(alloc, report)
     }

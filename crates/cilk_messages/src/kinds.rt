@@ -1,25 +1,25 @@
 //! Files of another kind in place of a program.
 
 use crate::around::{byte_at, word_after};
+use crate::place::between;
+use crate::sentences::row_of;
 
-// How a file of each kind begins, and what to do with it.
+// What a file of each kind has before its first blank, and what to do with it.
 const KINDS: &str = "\
 cilktrace-bin => this is a trace in the binary form: `cilk judge TRACE` reads it
-cilktrace  => this is a trace: `cilk judge TRACE` reads it
-cilksites  => this is a table of sites: `cilk judge TRACE --sites FILE` reads it
-cilkcert  => this is a certificate: `cilk check PROGRAM CERTIFICATE` reads it, after the text of the program
-run  => this is a script: `cilk play PROGRAM SCRIPT` reads it, after the text of the program
-steal  => this is a script: `cilk play PROGRAM SCRIPT` reads it, after the text of the program
-\u{7f}ELF => this is a compiled program, and no text: give the source, in the language of `docs/LANGUAGE.md`; one that `recorder/cilkrec` built writes a trace as it runs, and `cilk judge TRACE` reads that";
+cilktrace => this is a trace: `cilk judge TRACE` reads it
+cilksites => this is a table of sites: `cilk judge TRACE --sites FILE` reads it
+cilkcert => this is a certificate: `cilk check PROGRAM CERTIFICATE` reads it, after the text of the program
+run steal => this is a script: `cilk play PROGRAM SCRIPT` reads it, after the text of the program
+\u{7f}ELF.. => this is a compiled program, and no text: give the source, in the language of `docs/LANGUAGE.md`; one that `recorder/cilkrec` built writes a trace as it runs, and `cilk judge TRACE` reads that";
 
 /// Returns what to do with a text that is no program, if it begins as a file of another kind. A
 /// script may have comments ahead.
 pub fn other_kind(text: &[u8]) -> Option<&'static str> {
-    let rest = text.get(behind_comments(text)..)?;
-    for kind in KINDS.lines() {
-        let (front, said) = kind.split_once(" => ")?;
-        if rest.starts_with(front.as_bytes()) {
-            return Some(said);
+    let first = behind_comments(text);
+    for end in first..text.len() {
+        if text[end] == b' ' {
+            return row_of(KINDS, between(text, first, end));
         }
     }
     None
@@ -28,12 +28,12 @@ pub fn other_kind(text: &[u8]) -> Option<&'static str> {
 // Where the first line begins that isn't a comment of a script, and isn't blank.
 fn behind_comments(text: &[u8]) -> usize {
     let mut from = word_after(text, 0);
-    for (place, byte) in text.iter().enumerate() {
+    for place in 0..text.len() {
         if place >= from {
             if byte_at(text, from) != b'#' {
                 return from;
             }
-            if *byte == b'\n' {
+            if text[place] == b'\n' {
                 from = word_after(text, place);
             }
         }

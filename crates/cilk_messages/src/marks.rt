@@ -200,8 +200,8 @@ fn is_reducer(text: &[u8], name: &[u8]) -> bool {
 
 // The word after the first closing parenthesis, if there is one nearby.
 fn named_behind(text: &[u8]) -> &[u8] {
-    for (place, byte) in text.iter().enumerate().take(128) {
-        if *byte == b')' {
+    for place in 0..text.len().min(128) {
+        if text[place] == b')' {
             return word_at(text, word_after(text, place.saturating_add(1)));
         }
     }

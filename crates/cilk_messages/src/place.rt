@@ -28,8 +28,8 @@ impl Location {
 /// Returns the location of a byte, counted from 0. The place after the last byte is the end.
 pub fn locate(text: &[u8], at: usize) -> Location {
     let mut location = Location { line: 1, column: 1 };
-    for byte in text.iter().take(at) {
-        location = location.behind(*byte);
+    for place in 0..text.len().min(at) {
+        location = location.behind(text[place]);
     }
     location
 }
@@ -37,8 +37,8 @@ pub fn locate(text: &[u8], at: usize) -> Location {
 /// Returns the line of a byte, without its end, and the place of its first byte.
 pub fn line_at(text: &[u8], at: usize) -> (&[u8], usize) {
     let mut first = 0;
-    for (place, byte) in text.iter().enumerate() {
-        if *byte == b'\n' {
+    for place in 0..text.len() {
+        if text[place] == b'\n' {
             if at <= place {
                 return (between(text, first, place), first);
             }

@@ -17,33 +17,39 @@ pub const PLACE: usize = 4;
 
 pub const CURE: usize = 5;
 
-/// Returns the meaning of a number, if it is one of the tool's.
-pub fn reason_of(number: u16) -> Option<&'static str> {
-    for entry in NUMBERS.split("\n\n") {
-        let (digits, reason) = entry.split_once(": ")?;
-        if digits.parse::<u16>() == Ok(number) {
-            return Some(reason);
+/// Returns a line of the meaning of a number, empty if the tool has no such number.
+pub fn line_of(number: u16, wanted: usize) -> &'static str {
+    let mut place = usize::MAX;
+    for line in NUMBERS.lines() {
+        let (known, title) = titled(line);
+        if known == number && number > 0 {
+            place = wanted;
         }
-    }
-    None
-}
-
-/// Returns a line of a meaning, empty if there is none.
-pub fn line_of(reason: &'static str, wanted: usize) -> &'static str {
-    for (number, line) in reason.lines().enumerate() {
-        if number == wanted {
-            return line;
+        if place == 0 {
+            return title;
         }
+        place = place.saturating_sub(1);
     }
     ""
 }
 
+/// Returns the number and the title in the first line of a meaning; for another line 0 and the line.
+pub fn titled(line: &'static str) -> (u16, &'static str) {
+    if let Some((digits, title)) = line.split_once(": ")
+        && let Ok(number) = digits.parse::<u16>()
+    {
+        (number, title)
+    } else {
+        (0, line)
+    }
+}
+
 /// Returns the title of a number, empty for another number.
 pub fn title_of(number: u16) -> &'static str {
-    line_of(reason_of(number).unwrap_or(""), TITLE)
+    line_of(number, TITLE)
 }
 
 /// Returns the general advice for a number, empty for another number.
 pub fn cure_of(number: u16) -> &'static str {
-    line_of(reason_of(number).unwrap_or(""), CURE)
+    line_of(number, CURE)
 }

@@ -7,9 +7,7 @@ use crate::hints::hint_of;
 use crate::kinds::{FOREIGN, is_foreign, other_kind};
 use crate::numbers::NUMBERS;
 use crate::place::{Location, locate};
-use crate::reasons::{
-    CURE, EXAMPLE, LINE, MEANING, PLACE, TITLE, cure_of, line_of, reason_of, title_of,
-};
+use crate::reasons::{EXAMPLE, LINE, MEANING, PLACE, cure_of, line_of, title_of, titled};
 use crate::sentence::{Part, push_line, say};
 use crate::tokens::Tokens;
 use std::alloc::{AllocError, Global};
@@ -37,46 +35,49 @@ pub struct Wanted<'a> {
 
 /// Returns the text of `explain NUMBER`, or `None` if the tool has no such number.
 pub fn of_number(alloc: Global, number: u16) -> Result<Option<String>, AllocError> {
-    let Some(reason) = reason_of(number) else {
+    let title = title_of(number);
+    if title.is_empty() {
         return Ok(None);
-    };
+    }
     let mut text = String::new(alloc);
-    push_reason(alloc, &mut text, number, reason)?;
+    push_meaning(alloc, &mut text, number, title)?;
     Ok(Some(text))
 }
 
-fn push_reason(
+fn push_meaning(
     alloc: Global,
     text: &mut String,
     number: u16,
-    reason: &'static str,
+    title: &str,
 ) -> Result<(), AllocError> {
-    let example = line_of(reason, EXAMPLE);
+    let example = line_of(number, EXAMPLE);
     let (kind, shown) = example.split_once(' ').unwrap_or((example, ""));
     let words = match kind {
-        "program" if number > 300 =>
-            "\n\nThe program\n\n    {}\n\nand the certificate of its run are answered by the line",
-        "program" => "\n\nThe program\n\n    {}\n\nis answered by the line",
-        "edit" => "\n\nThe certificate of `examples/race.c`, with {}, is answered by the line",
-        _ => "\n\nFor example {}: the answer is the line",
+        "program" if number > 300 => PROGRAM_WITH_CERTIFICATE,
+        "program" => PROGRAM,
+        "edit" => EDIT,
+        _ => "For example {}: the answer is the line\n\n    {}\n\n",
     };
-    let head = say("{}: {}\n\n{}").count(number as usize);
-    let head = head.with(Part::Text(line_of(reason, TITLE)));
-    head.with(Part::Text(line_of(reason, MEANING)))
-        .push(alloc, text)?;
-    say(words).with(Part::Text(shown)).push(alloc, text)?;
-    let foot = say("\n\n    {}\n\nThe place is read as: {}.\n\n{}\n");
-    let foot = foot
-        .with(Part::Text(line_of(reason, LINE)))
-        .with(Part::Text(line_of(reason, PLACE)));
-    foot.with(Part::Text(line_of(reason, CURE)))
-        .push(alloc, text)?;
-    match number {
-        301 => text.push_str(MALFORMED_TRACE),
-        302 => text.push_str(CUT_TRACE),
-        _ => Ok(()),
-    }
+    let of_trace = match number {
+        301 => MALFORMED_TRACE,
+        302 => CUT_TRACE,
+        _ => "",
+    };
+    let head = say("{}: {}\n\n{}\n\n").count(number as usize).text(title);
+    head.text(line_of(number, MEANING)).push(alloc, text)?;
+    let shown = say(words).text(shown);
+    shown.text(line_of(number, LINE)).push(alloc, text)?;
+    let foot = say("The place is read as: {}.\n\n{}\n{}").text(line_of(number, PLACE));
+    foot.text(cure_of(number)).text(of_trace).push(alloc, text)
 }
+
+const PROGRAM: &str = "The program\n\n    {}\n\nis answered by the line\n\n    {}\n\n";
+
+const PROGRAM_WITH_CERTIFICATE: &str =
+    "The program\n\n    {}\n\nand the certificate of its run are answered by the line\n\n    {}\n\n";
+
+const EDIT: &str =
+    "The certificate of `examples/race.c`, with {}, is answered by the line\n\n    {}\n\n";
 
 const MALFORMED_TRACE: &str =
     "\nBy `judge`, `trace 301 at L` says that line L isn't in the form of traces, or can't come there in the trace of a run (`docs/TRACES.md`).\n";
@@ -87,12 +88,10 @@ const CUT_TRACE: &str =
 /// Returns the text of `explain`: each number with its title.
 pub fn of_all(alloc: Global) -> Result<String, AllocError> {
     let mut text = String::new(alloc);
-    for entry in NUMBERS.split("\n\n") {
-        if let Some((number, rest)) = entry.split_once(": ")
-            && let Some((title, _)) = rest.split_once('\n')
-        {
-            let line = say("{}  {}\n").with(Part::Text(number));
-            line.with(Part::Text(title)).push(alloc, &mut text)?;
+    for line in NUMBERS.lines() {
+        let (number, title) = titled(line);
+        if number > 0 {
+            write!(text, "{number}  {title}\n")?;
         }
     }
     Ok(text)
@@ -124,15 +123,14 @@ fn push_finding<'a>(
         ..
     } = *finding;
     let place = if number == 115 {
-        end_of(text)
+        text.trim_ascii_end().len()
     } else {
         finding.at
     };
     let head = say("{}: error {}: {}\n").with(Part::Place(file, locate(text, place)));
-    let head = head
-        .count(number as usize)
-        .with(Part::Text(title_of(number)));
-    head.push(alloc, report)?;
+    head.count(number as usize)
+        .text(title_of(number))
+        .push(alloc, report)?;
     push_excerpt(alloc, report, text, place)?;
     let tokens = Tokens::new(alloc, text)?;
     push_advice(alloc, report, &tokens, finding, wanted)
@@ -181,18 +179,8 @@ fn push_others(
     Ok(())
 }
 
-// The place after the last byte that isn't blank.
-fn end_of(text: &[u8]) -> usize {
-    let mut end = 0;
-    for (place, byte) in text.iter().enumerate() {
-        if !byte.is_ascii_whitespace() {
-            end = place.saturating_add(1);
-        }
-    }
-    end
-}
-
-/// Returns the message after a refusal whose place isn't a byte: a line, an event or a run.
+/// Returns the message after a refusal whose place isn't a byte: a line, an event or a run. For a
+/// number that the tool doesn't have it is empty.
 pub fn of_line(
     alloc: Global,
     file: &str,
@@ -200,8 +188,8 @@ pub fn of_line(
     number: u16,
 ) -> Result<String, AllocError> {
     let mut report = String::new(alloc);
-    if let Some(reason) = reason_of(number) {
-        push_refusal(alloc, &mut report, begin_of(file, line), number, reason)?;
+    if !title_of(number).is_empty() {
+        push_refusal(alloc, &mut report, begin_of(file, line), number)?;
     }
     Ok(report)
 }
@@ -211,15 +199,15 @@ fn push_refusal(
     report: &mut String,
     place: Part<'_>,
     number: u16,
-    reason: &'static str,
 ) -> Result<(), AllocError> {
-    let head = say("{}: error {}: {}\n").with(place);
-    let head = head.count(number as usize);
-    head.with(Part::Text(line_of(reason, TITLE)))
-        .push(alloc, report)?;
-    push_line(alloc, report, "reason", &say(line_of(reason, MEANING)))?;
-    push_line(alloc, report, "hint", &say(line_of(reason, CURE)))
+    let head = say(REFUSAL).with(place).count(number as usize);
+    head.text(title_of(number))
+        .text(line_of(number, MEANING))
+        .text(cure_of(number))
+        .push(alloc, report)
 }
+
+const REFUSAL: &str = "{}: error {}: {}\nreason: {}\nhint: {}\n";
 
 // The place of a line, or a file alone.
 fn begin_of(file: &str, line: Option<u64>) -> Part<'_> {

@@ -55,6 +55,11 @@ impl<'a> Sentence<'a> {
         filled
     }
 
+    /// Fills the next gap with words.
+    pub fn text(self, words: &'a str) -> Sentence<'a> {
+        self.with(Part::Text(words))
+    }
+
     /// Fills the next gap with a word of a program's text.
     pub fn word(self, word: &'a [u8]) -> Sentence<'a> {
         self.with(Part::Word(word))
@@ -129,8 +134,7 @@ pub fn push_line(
     if sentence.words.is_empty() {
         return Ok(());
     }
-    text.push_str(what)?;
-    text.push_str(": ")?;
+    write!(text, "{what}: ")?;
     sentence.push(alloc, text)?;
     text.push('\n')
 }

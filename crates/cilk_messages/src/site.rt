@@ -2,23 +2,25 @@
 //!
 //! A rule is a line `PLACE WORDS | PLACE WORDS => HINT`, whose hint is a text, or the name of one
 //! (`sentence`). It fits where at each place stands one of the words, or none of them if they begin
-//! with `^`. `@` stands for any name, `#` for any number, `$` for a name or a reserved word, `~` for
-//! what comes before an operand, and `?` for any token. Places are
+//! with `^`. `@` stands for any name, `@array` for one that is declared as an array, and `:array`
+//! for one in such a declaration; in place of `array` may stand `variable`, `reducer`, `function`,
+//! `procedure` (a `void` function) and `nothing`. `#` stands for any number, `$` for a name or a
+//! reserved word, `&` for a word of a type, `~` for what comes before an operand, and `?` for any
+//! token. Places are
 //!
 //! - `0`, `-1`, `+1` and so on: the token, the one before it, the one after it;
 //! - `in`: the token before the parentheses around it; `head`: the same, if these are the only
 //!   ones; `of`: the one before the parentheses that end just before it, and `of-1` the one before
 //!   that;
-//! - what a name is declared as, a variable, array, reducer, function or procedure (a `void`
-//!   function): `is` of the name here, `next` of the one after it, `calls` of the one at `of`,
-//!   `declares` only if it is declared here, and `main` of the text's `main`;
-//! - a condition that holds, as `begins`, without words (`Site::holds`).
+//! - `main`: what the text's `main` is declared as;
+//! - a condition that holds, as `begins`, without words, or doesn't, as `begins no` (`Site::holds`).
 
-use crate::around::{is_among, is_name};
+use crate::around::{byte_at, is_among, is_name, is_number};
+use crate::place::between;
 use crate::sentences::sentence;
 use crate::sites::{
-    begins, closed_head, enclosing, ends_behind, head_of, is_chained, is_function, is_global,
-    is_in_brackets, is_in_first_value, is_in_length, is_in_reducer, is_in_sum, takes_memory,
+    begins, begins_line, closed_head, ends_behind, head_of, is_function, is_global,
+    is_in_first_value, is_in_length, is_in_sum, is_viewed, mark_ahead, takes_memory,
 };
 use crate::tokens::{Declared, Tokens};
 use crate::vocabulary::TYPE_WORDS;
@@ -102,8 +104,9 @@ impl<'t, 'a> Site<'t, 'a> {
     /// Returns the hint of the first rule that fits.
     pub fn said(&self, rules: &'static str) -> Option<&'static str> {
         for rule in rules.lines() {
-            let (pattern, hint) = rule.split_once(" => ")?;
-            if self.fits(pattern) {
+            if let Some((pattern, hint)) = rule.split_once(" => ")
+                && self.fits(pattern)
+            {
                 return Some(sentence(hint));
             }
         }
@@ -135,54 +138,60 @@ impl<'t, 'a> Site<'t, 'a> {
 
     fn is_like(&self, number: usize, words: &str) -> bool {
         let word = self.tokens.word(number);
-        let kind = match self.tokens.kind(number) {
-            Some(Kind::Name) => "@ $ ?",
-            Some(Kind::Number(_)) => "# ?",
-            Some(_) if is_name(word) => "$ ?",
-            Some(_) => "?",
-            None => return false,
-        };
+        if word.is_empty() {
+            return false;
+        }
         for wanted in words.split_whitespace() {
-            if wanted.as_bytes() == word
-                || is_among(kind, wanted.as_bytes())
-                || (wanted == "~" && is_among(OPERATORS, word))
-            {
+            let wanted = wanted.as_bytes();
+            if wanted == word || self.is_of(number, word, wanted) {
                 return true;
             }
         }
         false
     }
 
+    // Whether a token is of a class of words: a sign, and the kind of a declaration behind it.
+    fn is_of(&self, number: usize, word: &'a [u8], class: &[u8]) -> bool {
+        let kind = between(class, 1, class.len());
+        match byte_at(class, 0) {
+            b'@' if kind.is_empty() => matches!(self.tokens.kind(number), Some(Kind::Name)),
+            b'@' => kind_of(self.tokens.kind_declared(number)).as_bytes() == kind,
+            b':' => kind_of(self.tokens.declared(number)).as_bytes() == kind,
+            b'#' => is_number(word),
+            b'$' => is_name(word),
+            b'&' => kind.is_empty() && self.is_type(word),
+            b'~' => is_among(OPERATORS, word),
+            b'?' => true,
+            _ => false,
+        }
+    }
+
     // The token at a place, if it is the place of one.
     fn token_at(&self, place: &str) -> Option<usize> {
         let Site { tokens, number, .. } = *self;
         match place {
-            "0" => Some(number),
-            "+1" => number.checked_add(1),
-            "+2" => number.checked_add(2),
-            "+3" => number.checked_add(3),
             "in" => head_of(tokens, number),
             "of" => closed_head(tokens, number),
-            "of-1" => closed_head(tokens, number)?.checked_sub(1),
+            "of-1" => match closed_head(tokens, number) {
+                Some(named) => named.checked_sub(1),
+                None => None,
+            },
             "head" if self.look.parentheses == 1 => self.look.head,
-            _ => number.checked_sub(place.strip_prefix('-')?.parse::<usize>().ok()?),
+            _ => match place.parse::<isize>() {
+                Ok(offset) => number.checked_add_signed(offset),
+                Err(_) => None,
+            },
         }
     }
 
-    // The word for what a name is declared as, or whether a condition holds.
+    // What `main` is declared as, or whether a condition holds.
     fn fact(&self, place: &str) -> &'static str {
-        let Site { tokens, number, .. } = *self;
-        match place {
-            "is" => kind_of(tokens.kind_declared(number)),
-            "next" => kind_of(tokens.kind_declared(number.saturating_add(1))),
-            "calls" => match closed_head(tokens, number) {
-                Some(named) => kind_of(tokens.kind_declared(named)),
-                None => "nothing",
-            },
-            "declares" => kind_of(tokens.declared(number)),
-            "main" => kind_of(tokens.main()),
-            _ if self.holds(place) => "yes",
-            _ => "no",
+        if place == "main" {
+            kind_of(self.tokens.main())
+        } else if self.holds(place) {
+            "yes"
+        } else {
+            "no"
         }
     }
 
@@ -193,30 +202,23 @@ impl<'t, 'a> Site<'t, 'a> {
             "begins" => begins(tokens, number),
             "second" => number > 0 && begins(tokens, number.saturating_sub(1)),
             "global" => is_global(tokens, number),
-            "local" => !is_global(tokens, number),
-            "prototype" => is_function(tokens, closed_head(tokens, number)),
-            "parameter" => is_function(tokens, head_of(tokens, number)),
             "item" => {
                 is_global(tokens, number)
                     && !is_function(tokens, head_of(tokens, number))
                     && begins(tokens, number)
             }
-            "brackets" => is_in_brackets(tokens, number),
-            "parentheses" => enclosing(tokens, number).is_some(),
-            "reducer" => is_in_reducer(tokens, number),
+            "brackets" => self.is_like(mark_ahead(tokens, number, "( ["), "["),
             "length" => is_in_length(tokens, number),
             "first" => is_in_first_value(tokens, number),
             "memory" => takes_memory(tokens, number),
-            "chained" => is_chained(tokens, number),
+            "chained" => self.is_like(mark_ahead(tokens, number, CHAINING), "= return"),
             "flat" => self.look.parentheses == 0,
             "outer" => self.look.braces == 0,
             "summed" => is_in_sum(tokens, number),
             "prototyped" => ends_behind(tokens, number),
             "own" => self.is_own(self.word()),
-            "types" => is_among(TYPE_WORDS, tokens.word(number.saturating_add(1))),
-            "type" => self.is_type(Some(number)),
-            "typed" => self.is_type(number.checked_sub(1)),
-            "typed2" => self.is_type(number.checked_sub(2)),
+            "viewed" => is_viewed(tokens, number),
+            "line" => begins_line(tokens, number),
             _ => false,
         }
     }
@@ -226,19 +228,17 @@ impl<'t, 'a> Site<'t, 'a> {
         self.own.binary_search(&word).is_ok()
     }
 
-    // Whether a token is a word of a type.
-    fn is_type(&self, number: Option<usize>) -> bool {
-        let Some(number) = number else {
-            return false;
-        };
-        let word = self.tokens.word(number);
-        is_among("int void", word)
-            || (self.is_like(number, "@") && is_among(TYPE_WORDS, word) && !self.is_own(word))
+    // Whether a word is one of a type, and no name of the text's own.
+    fn is_type(&self, word: &'a [u8]) -> bool {
+        is_among("int void", word) || (is_among(TYPE_WORDS, word) && !self.is_own(word))
     }
 }
 
 // Marks that an operand follows, but for `*`, which may declare a pointer.
 const OPERATORS: &str = "return [ = += -= *= + - / % < > <= >= == != && || !";
+
+// What an assignment can stand behind, or an expression with one can begin with.
+const CHAINING: &str = "= return ( [ ,";
 
 fn kind_of(declared: Option<Declared>) -> &'static str {
     match declared {

@@ -1,8 +1,8 @@
 //! The surroundings of a token: parentheses, head, block or declaration.
 
 use crate::around::is_among;
+use crate::place::between;
 use crate::tokens::{Declared, Tokens};
-use crate::vocabulary::TYPE_WORDS;
 use cilk_syntax::token::Kind;
 
 /// Returns the parenthesis that is open at a token, in its own statement. For a closing
@@ -23,28 +23,34 @@ pub fn enclosing(tokens: &Tokens<'_>, number: usize) -> Option<usize> {
 
 /// Returns the token before the parentheses around a token.
 pub fn head_of(tokens: &Tokens<'_>, number: usize) -> Option<usize> {
-    enclosing(tokens, number)?.checked_sub(1)
+    match enclosing(tokens, number) {
+        Some(open) => open.checked_sub(1),
+        None => None,
+    }
 }
 
 /// Returns the kind of the token before the parentheses around a token.
 pub fn head_kind(tokens: &Tokens<'_>, number: usize) -> Option<Kind> {
-    tokens.kind(head_of(tokens, number)?)
+    match head_of(tokens, number) {
+        Some(named) => tokens.kind(named),
+        None => None,
+    }
 }
 
 /// Returns the token before the parentheses that end just before a token.
 pub fn closed_head(tokens: &Tokens<'_>, number: usize) -> Option<usize> {
-    let ahead = number.checked_sub(1)?;
-    match tokens.kind(ahead) {
-        Some(Kind::Close) => enclosing(tokens, ahead)?.checked_sub(1),
+    match tokens.kind_back(number, 1) {
+        Some(Kind::Close) => head_of(tokens, number.saturating_sub(1)),
         _ => None,
     }
 }
 
-/// Returns the token before the parentheses that end just before a token, or else around it.
-pub fn head_near(tokens: &Tokens<'_>, number: usize) -> Option<usize> {
-    match closed_head(tokens, number) {
-        None => head_of(tokens, number),
-        named => named,
+/// Returns the token before the parentheses that end just before a token, or else around it; the
+/// number past all tokens if there is none.
+pub fn head_near(tokens: &Tokens<'_>, number: usize) -> usize {
+    match closed_head(tokens, number).or(head_of(tokens, number)) {
+        Some(named) => named,
+        None => tokens.count(),
     }
 }
 
@@ -70,35 +76,25 @@ pub fn takes_memory(tokens: &Tokens<'_>, number: usize) -> bool {
     false
 }
 
-/// Returns whether an assignment or a `return` stands before a token in its statement, outside of
-/// parentheses and brackets.
-pub fn is_chained(tokens: &Tokens<'_>, number: usize) -> bool {
+// The most tokens that are looked at for a mark.
+const NEAR: usize = 200;
+
+/// Returns the last of these words before a token, past all that is closed between them; the number
+/// past all tokens if a mark that ends a statement, or none, is near ahead.
+pub fn mark_ahead(tokens: &Tokens<'_>, number: usize, marks: &str) -> usize {
     let mut depth: usize = 0;
-    for back in 1..number.saturating_add(1) {
+    for back in 1..number.saturating_add(1).min(NEAR) {
         match tokens.kind_back(number, back) {
+            Some(Kind::Semicolon | Kind::OpenBrace | Kind::CloseBrace) => break,
             Some(Kind::Close | Kind::CloseBracket) => depth = depth.saturating_add(1),
             Some(Kind::Open | Kind::OpenBracket) if depth > 0 => depth = depth.saturating_sub(1),
-            Some(Kind::Assign | Kind::Return) if depth == 0 => return true,
-            Some(Kind::Comma) if depth > 0 => {}
-            Some(
-                Kind::Open
-                | Kind::OpenBracket
-                | Kind::Comma
-                | Kind::Semicolon
-                | Kind::OpenBrace
-                | Kind::CloseBrace,
-            ) => return false,
+            _ if depth == 0 && is_among(marks, tokens.word_back(number, back)) => {
+                return number.saturating_sub(back);
+            }
             _ => {}
         }
     }
-    false
-}
-
-/// Returns whether a token is in a reducer's declaration: at the marks of its monoid, or after its
-/// name.
-pub fn is_in_reducer(tokens: &Tokens<'_>, number: usize) -> bool {
-    matches!(head_kind(tokens, number), Some(Kind::CilkReducer))
-        || matches!(tokens.kind_back(number, 5), Some(Kind::CilkReducer))
+    tokens.count()
 }
 
 /// Returns whether a token is outside of all function bodies.
@@ -135,23 +131,9 @@ pub fn is_condition(tokens: &Tokens<'_>, named: Option<usize>) -> bool {
 
 /// Returns whether a token is in the length of an array's declaration.
 pub fn is_in_length(tokens: &Tokens<'_>, number: usize) -> bool {
-    for back in 1..number.saturating_add(1) {
-        match tokens.kind_back(number, back) {
-            Some(Kind::OpenBracket) => {
-                let name = number.saturating_sub(back).saturating_sub(1);
-                return matches!(tokens.declared(name), Some(Declared::Array));
-            }
-            Some(Kind::CloseBracket | Kind::Semicolon | Kind::OpenBrace | Kind::CloseBrace) => {
-                return false;
-            }
-            _ => {}
-        }
-    }
-    false
+    let name = mark_ahead(tokens, number, "[").saturating_sub(1);
+    matches!(tokens.declared(name), Some(Declared::Array))
 }
-
-// The most tokens that are looked at for a closing parenthesis.
-const NEAR: usize = 200;
 
 /// Returns the first closing parenthesis from a token on, or the token itself if none is near.
 pub fn closing(tokens: &Tokens<'_>, number: usize) -> usize {
@@ -166,7 +148,7 @@ pub fn closing(tokens: &Tokens<'_>, number: usize) -> usize {
 /// Returns whether a semicolon follows the parentheses after a name.
 pub fn ends_behind(tokens: &Tokens<'_>, number: usize) -> bool {
     matches!(
-        tokens.kind_behind(closing(tokens, number)),
+        tokens.kind(closing(tokens, number).saturating_add(1)),
         Some(Kind::Semicolon)
     )
 }
@@ -191,54 +173,41 @@ pub fn is_in_sum(tokens: &Tokens<'_>, number: usize) -> bool {
 
 /// Returns whether a token is in the first value of a global.
 pub fn is_in_first_value(tokens: &Tokens<'_>, number: usize) -> bool {
-    for back in 1..number.saturating_add(1) {
-        match tokens.kind_back(number, back) {
-            Some(Kind::Assign) => {
-                let name = number.saturating_sub(back).saturating_sub(1);
-                return tokens.declared(name).is_some() && is_global(tokens, number);
-            }
-            Some(Kind::Comma | Kind::Semicolon | Kind::OpenBrace | Kind::CloseBrace) => {
-                return false;
-            }
-            _ => {}
+    let mark = mark_ahead(tokens, number, "= ,");
+    matches!(tokens.kind(mark), Some(Kind::Assign))
+        && tokens.declared(mark.saturating_sub(1)).is_some()
+        && is_global(tokens, number)
+}
+
+/// Returns whether a reducer of the type that is declared at a token is declared too.
+pub fn is_viewed(tokens: &Tokens<'_>, number: usize) -> bool {
+    for later in 1..tokens.count() {
+        if matches!(tokens.kind(later), Some(Kind::CilkReducer))
+            && declares_type(tokens, number, tokens.word_back(later, 1))
+        {
+            return true;
         }
     }
     false
 }
 
-/// Returns the first token of the type of a cast whose parentheses are at a token or before it.
-pub fn cast_at(tokens: &Tokens<'_>, number: usize) -> Option<usize> {
-    let ahead = number.checked_sub(1)?;
-    let open = match tokens.kind(ahead) {
-        Some(Kind::Close) => enclosing(tokens, ahead)?,
-        _ => enclosing(tokens, number)?,
-    };
-    let first = open.saturating_add(1);
-    let is_type = first <= number && is_among(TYPE_WORDS, tokens.word(first));
-    if is_type
-        && !matches!(
-            tokens.kind(open.checked_sub(1)?),
-            Some(Kind::Name | Kind::For | Kind::CilkFor)
-        )
-    {
-        Some(first)
-    } else {
-        None
-    }
-}
-
-/// Returns whether the innermost bracket or parenthesis that is open at a token is a bracket.
-pub fn is_in_brackets(tokens: &Tokens<'_>, number: usize) -> bool {
+// Whether the type declared at a token has this name, before its members or after them.
+fn declares_type(tokens: &Tokens<'_>, number: usize, name: &[u8]) -> bool {
     let mut depth: usize = 0;
-    for back in 1..number.saturating_add(1) {
-        match tokens.kind_back(number, back) {
-            Some(Kind::Close | Kind::CloseBracket) => depth = depth.saturating_add(1),
-            Some(Kind::OpenBracket) if depth == 0 => return true,
-            Some(Kind::Open) if depth == 0 => return false,
-            Some(Kind::Open | Kind::OpenBracket) => depth = depth.saturating_sub(1),
-            Some(Kind::Semicolon | Kind::OpenBrace | Kind::CloseBrace) => return false,
+    for later in number..tokens.count() {
+        match tokens.kind(later) {
+            Some(Kind::OpenBrace) => depth = depth.saturating_add(1),
+            Some(Kind::CloseBrace) => depth = depth.saturating_sub(1),
+            Some(Kind::Semicolon) if depth == 0 => return false,
+            Some(Kind::Name) if depth == 0 && tokens.word(later) == name => return true,
             _ => {}
         }
     }
     false
+}
+
+/// Returns whether the token before is on an earlier line.
+pub fn begins_line(tokens: &Tokens<'_>, number: usize) -> bool {
+    let ahead = tokens.place(number.saturating_sub(1));
+    between(tokens.text, ahead, tokens.place(number)).contains(&b'\n')
 }

@@ -66,19 +66,12 @@ impl<'a> Tokens<'a> {
 
     /// Returns the number of the first token that begins at a place or after it.
     pub fn number_at(&self, place: usize) -> usize {
-        let mut number: usize = 0;
-        for token in &self.tokens {
-            if token.at >= place {
+        for number in 0..self.tokens.len() {
+            if self.tokens[number].at >= place {
                 return number;
             }
-            number = number.saturating_add(1);
         }
-        number
-    }
-
-    /// Returns the kind of the token after this one.
-    pub fn kind_behind(&self, number: usize) -> Option<Kind> {
-        self.kind(number.saturating_add(1))
+        self.tokens.len()
     }
 
     /// Returns the kind of the token `back` tokens before this one.
@@ -117,19 +110,15 @@ impl<'a> Tokens<'a> {
 
     /// Returns the first function `main`, as it is declared.
     pub fn main(&self) -> Option<Declared> {
-        for token in 0..self.count() {
-            if self.word(token) == b"main".as_slice()
-                && let Some(declared @ Declared::Function { .. }) = self.declared(token)
-            {
-                return Some(declared);
-            }
+        match self.function_behind(0, b"main") {
+            Some((_, declared)) => Some(declared),
+            None => None,
         }
-        None
     }
 
     // The kind that a name is declared as, by the token after it.
     fn declared_as(&self, number: usize, has_result: bool) -> Declared {
-        match self.kind_behind(number) {
+        match self.kind(number.saturating_add(1)) {
             Some(Kind::Open) => Declared::Function {
                 has_result,
                 parameters: self.parts_behind(number),
@@ -201,8 +190,10 @@ impl<'a> Tokens<'a> {
 
     /// Returns what a token's name is declared as.
     pub fn kind_declared(&self, number: usize) -> Option<Declared> {
-        let (_, declared) = self.declaration_of(number)?;
-        Some(declared)
+        match self.declaration_of(number) {
+            Some((_, declared)) => Some(declared),
+            None => None,
+        }
     }
 
     /// Returns the first declaration of a name.

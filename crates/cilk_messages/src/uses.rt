@@ -1,16 +1,41 @@
 //! Rules for a token that doesn't belong in a statement, a call, a head or an item.
 
+use crate::report::Wanted;
+use crate::sentences::sentence;
 use crate::site::Site;
+use crate::vocabulary::{NUMBERS, said_of};
 
-/// Returns the advice for a refused token.
-pub fn of_use(site: &Site<'_, '_>) -> Option<&'static str> {
-    site.said(USES)
+/// Returns the advice for a refused token, or `spawned` for the spawn of an assignment.
+pub fn of_use(site: &Site<'_, '_>, wanted: &Wanted<'_>) -> Option<&'static str> {
+    match site.said(USES) {
+        Some("number") => said_of(NUMBERS, site.word()).or(Some(sentence("FIRST_VALUE"))),
+        None if wanted.words == "`{`" => Some("a function's body stands between `{` and `}`"),
+        None => site.said(UNPAIRED),
+        cure => cure,
+    }
 }
 
-// After a reserved word that needs another token; a reserved word in place of a name or statement;
-// in the parentheses of `print`, `value`, `update` or `set`; calls; heads of loops; pointers;
-// brackets; pairs of marks; items; statements; and what is left.
+// The end of a text that ends too early, and a mark that closes nothing.
+const UNPAIRED: &str = "\
+0 ^ ? => a `}` may be missing at the end, or before it
+0 ) | in ^ ? => there is a `)` too many, here or ahead";
+
+// A spawn; the declaration of a reducer, a length, and a global's first value; after a reserved word
+// that needs another token; a reserved word in place of a name or statement; in the parentheses of
+// `print`, `value`, `update` or `set`; calls; heads of loops; pointers; brackets; pairs of marks;
+// items; statements; and what is left.
 const USES: &str = "\
+0 = | -2 cilk_spawn => spawned
+0 [ | in cilk_reducer => REDUCER_ARRAY
+0 [ | -5 cilk_reducer => REDUCER_ARRAY
+-1 ( | +1 , | in cilk_reducer => REDUCER_FUNCTIONS
+in cilk_reducer => REDUCER
+-5 cilk_reducer => REDUCER
+length => LENGTH
+0 INT_MIN LONG_MIN LLONG_MIN INT64_MIN | first => LEAST
+0 INT_MAX LONG_MAX LLONG_MAX INT64_MAX | first => GREATEST
+0 - | -1 9223372036854775807 | first => LEAST
+0 ^ { | first => number
 -1 print | 0 @ # - => PRINT
 -1 update set value | 0 @ => REDUCER_USE
 -1 print update set value input input_count => RESERVED_NAME
@@ -28,7 +53,7 @@ in value => REDUCER_USE
 0 ) | in update set => REDUCER_USE
 -1 ( | in update set => REDUCER_USE
 -2 ( | in update set => REDUCER_USE
-0 ( | -1 @ | -2 int void | local => NESTED
+0 ( | -1 @ | -2 int void | global no => NESTED
 0 ( | -1 @ => CALL
 0 + - * / % < <= > >= == != && || [ | of @ | of-1 cilk_spawn => SPAWN
 0 + - * / % < <= > >= == != && || [ | of @ => CALL
@@ -42,7 +67,7 @@ in value => REDUCER_USE
 0 > | -1 - => ARROW
 0 - | +1 > => ARROW
 0 ) | -1 * => POINTER
-0 * | next reducer => REDUCER_USE
+0 * | +1 @reducer => REDUCER_USE
 0 * | -1 void => there are no pointers, and a reducer needs no functions: `int cilk_reducer(add) r;` has its monoid, one of add, min, max, append and affine
 0 * | -1 int | memory => MEMORY
 0 * | -1 int ( = ; { } , ) => POINTER
@@ -53,16 +78,16 @@ in value => REDUCER_USE
 0 = | -1 ] => ASSIGNMENT
 0 { | -1 = => ZEROS
 0 , | brackets => ONE_INDEX
-0 [ | parameter => ARRAY_PARAMETER
+0 [ | in :function :procedure => ARRAY_PARAMETER
 0 [ => ARRAYS
-0 ; | -1 ) | prototype => PROTOTYPE
+0 ; | -1 ) | of :function :procedure => PROTOTYPE
 0 < <= | -1 < => SHIFT_UP
 0 > >= | -1 > => SHIFT_DOWN
 0 < | +1 < <= => SHIFT_UP
 0 > | +1 > >= => SHIFT_DOWN
 0 / % | +1 = => DIVIDED
-0 @ | +1 @ * | parameter | global => ONE_TYPE
-0 @ | parameter | global => each parameter has its type: `int f(int a, int b)`
+0 @ | +1 @ * | in :function :procedure | global => ONE_TYPE
+0 @ | in :function :procedure | global => each parameter has its type: `int f(int a, int b)`
 0 @ | +1 ( | item => a function begins with `int` or `void`
 0 @ | +1 @ * | item => ONE_TYPE
 0 @ | +1 cilk_reducer | item => REDUCER
@@ -76,7 +101,7 @@ in value => REDUCER_USE
 0 else | -1 ? => an `else` follows the one statement of its `if`
 0 -- | +1 > | in for => COUNT_DOWN
 0 ++ -- => STEP
-0 , | parentheses no | local => there is no comma operator: write two statements, each with its `;`
+0 , | in ^ ? | global no => there is no comma operator: write two statements, each with its `;`
 0 = | in if while => `==` compares: an assignment is a statement of its own, and stands in no expression
 0 = += -= *= => ASSIGNMENT
 0 cilk_spawn => SPAWN

@@ -1,17 +1,14 @@
 //! Words of C and OpenCilk that the language lacks, and what to write for each.
 
 use crate::around::is_among;
-use crate::sentences::sentence;
+use crate::sentences::{row_of, sentence};
 
 /// Returns the hint for a word, of a table with lines `WORDS => HINT`.
 pub fn said_of(table: &'static str, word: &[u8]) -> Option<&'static str> {
-    for line in table.lines() {
-        let (words, hint) = line.split_once(" => ")?;
-        if is_among(words, word) {
-            return Some(sentence(hint));
-        }
+    match row_of(table, word) {
+        Some(hint) => Some(sentence(hint)),
+        None => None,
     }
-    None
 }
 
 /// The reserved words that do the same as words of another language.
@@ -33,9 +30,8 @@ pub fn word_of_c(word: &[u8]) -> Option<&'static str> {
 /// Returns the cure for another type, a word of OpenCilk's reducers, or a word before a declaration
 /// or a statement.
 pub fn other_word(word: &[u8]) -> Option<&'static str> {
-    match said_of(TYPES, word) {
+    match said_of(OTHER_WORDS, word) {
         None if is_among(LOCK_WORDS, word) => Some(sentence("LOCKS")),
-        None => said_of(KEYWORDS, word),
         cure => cure,
     }
 }
@@ -67,7 +63,8 @@ unsigned char uint8_t uint16_t uint32_t => `int` is the only type, and has a sig
 float double => numbers are whole: leave the cast out; before a division multiply first, `a * 1000 / b` for `(double)a / b` in thousandths
 int long short int64_t int32_t size_t => `int` is the only type, and has 64 bits: leave the cast out";
 
-const TYPES: &str = "\
+// Types, words of reducers, and words before a declaration, a statement or an operand.
+const OTHER_WORDS: &str = "\
 long short int64_t int32_t int16_t int8_t size_t => `int` is the only type, and has 64 bits
 unsigned uint32_t => `int` is the only type; its 64 bits have a sign. What wraps at 32 bits, as the seed of a generator of random numbers, is kept below 2^32 by `%`: `seed = (seed * 1664525 + 1013904223) % 4294967296;`
 signed uint64_t uint16_t uint8_t => `int` is the only type; its 64 bits have a sign
@@ -79,10 +76,7 @@ enum => in place of `enum { N = 8 };` write the number 8 wherever `N` stands; a 
 struct union class => STRUCTURES
 typedef => `int` is the only type, and needs no other name
 REDUCER_VIEW => REDUCER_USE
-CILK_C_.. cilk_reducer_.. reducer_op.. => REDUCER";
-
-// Words before a declaration, a statement or an operand.
-const KEYWORDS: &str = "\
+CILK_C_.. cilk_reducer_.. reducer_op.. => REDUCER
 const => leave `const` out
 static => leave `static` out
 inline => leave `inline` out

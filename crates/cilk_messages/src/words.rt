@@ -115,7 +115,10 @@ fn needing<'a>(
 ) -> Result<Command<'a>, AllocError>
     ensures { (a : App) → IfOk command.entry (λ c. HasShape c a) → IfOk result (λ c. HasShape c (with_rule a (needed name.entry.now))) }
 {
-    command?.arg(Arg::new(alloc, name).required(true))
+    match command {
+        Ok(command) => command.arg(Arg::new(alloc, name).required(true)),
+        Err(error) => Err(error),
+    }
 }
 
 // Adds an option `--NAME VALUE`.
@@ -126,7 +129,10 @@ fn taking<'a>(
 ) -> Result<Command<'a>, AllocError>
     ensures { (a : App) → IfOk command.entry (λ c. HasShape c a) → IfOk result (λ c. HasShape c (with_rule a (taken name.entry.now))) }
 {
-    command?.arg(Arg::new(alloc, name).long(name).action(ArgAction::Set))
+    match command {
+        Ok(command) => command.arg(Arg::new(alloc, name).long(name).action(ArgAction::Set)),
+        Err(error) => Err(error),
+    }
 }
 
 // `NAME PROGRAM [--input FILE]`
@@ -214,28 +220,34 @@ fn command<'a>(alloc: Global) -> Result<Command<'a>, AllocError>
 fn paths<'a>(matches: &ArgMatches<'a>) -> Option<(&'a str, Option<&'a str>)>
     ensures { option_map paths_view result ≡ paths_in (rows_of (found_of matches.now)) }
 {
-    let program = matches.get_str("program")?;
     let input = matches.get_str("input");
-    Some((program, input))
+    match matches.get_str("program") {
+        Some(program) => Some((program, input)),
+        None => None,
+    }
 }
 
 // The order of `run` with these matches.
 fn run_order<'a>(run: &ArgMatches<'a>) -> Option<Order<'a>>
     ensures { option_map order_view result ≡ run_with (rows_of (found_of run.now)) }
 {
-    let (program, input) = paths(run)?;
-    Some(Order::Run {
-        program: Origin::File(program),
-        input,
-    })
+    match paths(run) {
+        Some((program, input)) => Some(Order::Run {
+            program: Origin::File(program),
+            input,
+        }),
+        None => None,
+    }
 }
 
 // The order of `certify` with these matches.
 fn certify_order<'a>(certify: &ArgMatches<'a>) -> Option<Order<'a>>
     ensures { option_map order_view result ≡ certify_with (rows_of (found_of certify.now)) }
 {
-    let (program, input) = paths(certify)?;
-    Some(Order::Certify { program, input })
+    match paths(certify) {
+        Some((program, input)) => Some(Order::Certify { program, input }),
+        None => None,
+    }
 }
 
 // The order of `check` with these matches.
@@ -243,12 +255,14 @@ fn check_order<'a>(check: &ArgMatches<'a>) -> Option<Order<'a>>
     ensures { option_map order_view result ≡ check_with (rows_of (found_of check.now)) }
 {
     let certificate = check.get_str("certificate")?;
-    let (program, input) = paths(check)?;
-    Some(Order::Check {
-        program,
-        certificate,
-        input,
-    })
+    match paths(check) {
+        Some((program, input)) => Some(Order::Check {
+            program,
+            certificate,
+            input,
+        }),
+        None => None,
+    }
 }
 
 // The number that digits name, if it is from 1 to 64.
@@ -282,43 +296,50 @@ fn play_order<'a>(play: &ArgMatches<'a>) -> Option<Order<'a>>
     let script = play.get_str("script")?;
     let (program, input) = paths(play)?;
     let word = play.get_str("workers");
-    let workers = workers_in(word)?;
-    Some(Order::Play {
-        program,
-        script,
-        workers,
-        input,
-    })
+    match workers_in(word) {
+        Some(workers) => Some(Order::Play {
+            program,
+            script,
+            workers,
+            input,
+        }),
+        None => None,
+    }
 }
 
 // The order of `settle` with these matches.
 fn settle_order<'a>(settle: &ArgMatches<'a>) -> Option<Order<'a>>
     ensures { option_map order_view result ≡ settle_with (rows_of (found_of settle.now)) }
 {
-    let (program, input) = paths(settle)?;
-    Some(Order::Settle { program, input })
+    match paths(settle) {
+        Some((program, input)) => Some(Order::Settle { program, input }),
+        None => None,
+    }
 }
 
 // The order of `judge` with these matches.
 fn judge_order<'a>(judge: &ArgMatches<'a>) -> Option<Order<'a>>
     ensures { option_map order_view result ≡ judge_with (rows_of (found_of judge.now)) }
 {
-    let trace = judge.get_str("trace")?;
     let sites = judge.get_str("sites");
-    Some(Order::Judge { trace, sites })
+    match judge.get_str("trace") {
+        Some(trace) => Some(Order::Judge { trace, sites }),
+        None => None,
+    }
 }
 
 // The order of the matches.
 fn order_of<'a>(matches: &ArgMatches<'a>) -> Option<Order<'a>>
     ensures { option_map order_view result ≡ order_by (subcommand_rows_of matches.now) }
 {
-    match matches.subcommand() {
-        Some(("run", run)) => run_order(run),
-        Some(("certify", certify)) => certify_order(certify),
-        Some(("check", check)) => check_order(check),
-        Some(("play", play)) => play_order(play),
-        Some(("settle", settle)) => settle_order(settle),
-        Some(("judge", judge)) => judge_order(judge),
+    let (name, found) = matches.subcommand()?;
+    match name {
+        "run" => run_order(found),
+        "certify" => certify_order(found),
+        "check" => check_order(found),
+        "play" => play_order(found),
+        "settle" => settle_order(found),
+        "judge" => judge_order(found),
         _ => None,
     }
 }

@@ -1,13 +1,10 @@
-use Rattle.std.proofs.Common.{ap, option_map, ◌∙◌}
 use Rattle.clap.specs.Words.{found_of, rows_of}
-use Rattle.cilk_messages.specs.Words.{Certify, order_view}
+use Rattle.cilk_messages.specs.Words.{Certify}
 use Rattle.cilk_messages.proofs.Entered.{asked_by}
 use Rattle.cilk_messages.proofs.words.certify_order.Goals as goal
 
-pub returns-in_err-program : goal.returns-in_err-program
-returns-in_err-program c =
-    ap (option_map order_view) c.from_residual.ensures
-    ∙ asked_by (λ paths. Certify paths.0 paths.1) (rows_of (found_of c.args.certify.now)) _ _ c.paths.ensures c.in_err-program.was
+pub returns-in-Some : goal.returns-in-Some
+returns-in-Some c = asked_by (λ paths. Certify paths.0 paths.1) (rows_of (found_of c.args.certify.now)) _ _ c.paths.ensures c.in-Some.is
 
-pub returns : goal.returns
-returns c = asked_by (λ paths. Certify paths.0 paths.1) (rows_of (found_of c.args.certify.now)) _ _ c.paths.ensures c.in_ok-program.was
+pub returns-in-None : goal.returns-in-None
+returns-in-None c = asked_by (λ paths. Certify paths.0 paths.1) (rows_of (found_of c.args.certify.now)) _ _ c.paths.ensures c.in-None.is

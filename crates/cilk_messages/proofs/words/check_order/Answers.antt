@@ -9,13 +9,12 @@ returns-in_err-certificate c =
     ap (option_map order_view) c.from_residual.ensures
     ∙ sym (no_certificate (found_of c.args.check.now) _ c.get_str.ensures c.in_err-certificate.was)
 
-pub returns-in_err-program : goal.returns-in_err-program
-returns-in_err-program c =
-    ap (option_map order_view) c.from_residual-in_err-program.ensures
-    ∙ (asked_by (λ paths. Check paths.0 c.in_ok-certificate.certificate.now paths.1) (rows_of (found_of c.args.check.now)) _ _ c.paths.ensures c.in_err-program.was
-    ∙ sym (some_certificate (found_of c.args.check.now) _ _ c.get_str.ensures c.in_ok-certificate.was))
+pub returns-in-Some : goal.returns-in-Some
+returns-in-Some c =
+    asked_by (λ paths. Check paths.0 c.in_ok-certificate.certificate.now paths.1) (rows_of (found_of c.args.check.now)) _ _ c.paths.ensures c.in-Some.is
+    ∙ sym (some_certificate (found_of c.args.check.now) _ _ c.get_str.ensures c.in_ok-certificate.was)
 
-pub returns : goal.returns
-returns c =
-    asked_by (λ paths. Check paths.0 c.in_ok-certificate.certificate.now paths.1) (rows_of (found_of c.args.check.now)) _ _ c.paths.ensures c.in_ok-program.was
+pub returns-in-None : goal.returns-in-None
+returns-in-None c =
+    asked_by (λ paths. Check paths.0 c.in_ok-certificate.certificate.now paths.1) (rows_of (found_of c.args.check.now)) _ _ c.paths.ensures c.in-None.is
     ∙ sym (some_certificate (found_of c.args.check.now) _ _ c.get_str.ensures c.in_ok-certificate.was)

@@ -14,15 +14,14 @@ returns-in_err-program c =
     ∙ sym (some_script (found_of c.args.play.now) _ _ c.get_str.ensures c.in_ok-script.was
     ∙ no_script_paths (rows_of (found_of c.args.play.now)) _ _ c.paths.ensures c.in_err-program.was)
 
-pub returns-in_err-workers : goal.returns-in_err-workers
-returns-in_err-workers c =
-    ap (option_map order_view) c.from_residual-in_err-workers.ensures
-    ∙ sym (some_script (found_of c.args.play.now) _ _ c.get_str.ensures c.in_ok-script.was
-    ∙ some_script_paths (found_of c.args.play.now) _ _ _ _ _ _ c.paths.ensures c.in_ok-program.was c.get_str-word.ensures c.workers_in.ensures
-    c.in_err-workers.was)
-
-pub returns : goal.returns
-returns c =
+pub returns-in-Some : goal.returns-in-Some
+returns-in-Some c =
     sym (some_script (found_of c.args.play.now) _ _ c.get_str.ensures c.in_ok-script.was
     ∙ some_script_paths (found_of c.args.play.now) _ _ _ _ _ _ c.paths.ensures c.in_ok-program.was c.get_str-word.ensures c.workers_in.ensures
-    c.in_ok-workers.was)
+    c.in-Some.is)
+
+pub returns-in-None : goal.returns-in-None
+returns-in-None c =
+    sym (some_script (found_of c.args.play.now) _ _ c.get_str.ensures c.in_ok-script.was
+    ∙ some_script_paths (found_of c.args.play.now) _ _ _ _ _ _ c.paths.ensures c.in_ok-program.was c.get_str-word.ensures c.workers_in.ensures
+    c.in-None.is)
