@@ -29,7 +29,7 @@ pub fn word_at(text: &[u8], at: usize) -> &[u8] {
         if !is_word(text[place]) {
             break;
         }
-        upto = place.saturating_add(1);
+        upto = place + 1;
     }
     between(text, at, upto)
 }
@@ -38,7 +38,7 @@ pub fn word_at(text: &[u8], at: usize) -> &[u8] {
 pub fn before(text: &[u8], at: usize) -> Option<usize> {
     let mut first = None;
     for back in 0..at {
-        let place = at.saturating_sub(back).saturating_sub(1);
+        let place = at - back - 1;
         let byte = byte_at(text, place);
         match first {
             None if is_blank(byte) => {}

@@ -2,6 +2,7 @@
 
 use crate::around::word_at;
 use crate::place::{Location, locate};
+use crate::rules::said;
 use crate::sentence::{Sentence, say};
 use crate::site::Site;
 use crate::sites::enclosing;
@@ -27,7 +28,7 @@ pub fn at_hand<'a>(
         112 => return Some(declared_twice(tokens, token, name)),
         113 => return Some(miscounted(tokens, token, name)),
         114 => return Some(mistaken(tokens, token, name)),
-        115 => Site::new(tokens, token).said(NO_MAIN)?,
+        115 => said(&Site::new(tokens, token), NO_MAIN)?,
         117 => "`{}` counts the turns of a `cilk_for`, and is written here",
         118 => "`{}` is declared after another statement, or in an inner block",
         119 => "the declaration of `{}` goes past a limit",
@@ -76,7 +77,7 @@ fn miscounted<'a>(tokens: &Tokens<'a>, token: usize, name: &'a [u8]) -> Sentence
 // The kind of the name, and its wrong use; or the variable that stands in its place in the head of a
 // `cilk_for`.
 fn mistaken<'a>(tokens: &Tokens<'a>, token: usize, name: &'a [u8]) -> Sentence<'a> {
-    let words = Site::new(tokens, token).said(MISUSED).unwrap_or("`{}`");
+    let words = said(&Site::new(tokens, token), MISUSED).unwrap_or("`{}`");
     let variable = match enclosing(tokens, token) {
         Some(open) => tokens.word(open.saturating_add(2)),
         None => &[],

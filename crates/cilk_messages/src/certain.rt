@@ -3,7 +3,8 @@
 //! None of them is right anywhere in the language, so that the text around them doesn't matter.
 
 use crate::around::is_among;
-use crate::site::{Look, Site};
+use crate::rules::{fits, said};
+use crate::site::Site;
 use crate::sites::closing;
 use crate::tokens::Tokens;
 use crate::vocabulary::{cast_to, library_word, word_of_c};
@@ -23,7 +24,7 @@ pub fn own_words<'a>(alloc: Global, tokens: &Tokens<'a>) -> Result<Vec<&'a [u8]>
 
 /// Returns whether a token may be a name in its declaration, by the tokens on both sides.
 pub fn may_declare(site: &Site<'_, '_>) -> bool {
-    match site.said(DECLARED) {
+    match said(site, DECLARED) {
         Some("library") => library_word(site.word()).is_some(),
         Some("yes") => true,
         _ => false,
@@ -43,13 +44,22 @@ const DECLARED: &str = "\
 -1 & | +1 ) => library
 -1 & => yes";
 
+/// A look at the tokens of a text in order.
+#[derive(Clone, Copy)]
+pub struct Look {
+    /// Whether the last form is a word.
+    pub is_word: bool,
+    /// The token up to which nothing is shown.
+    pub upto: usize,
+}
+
 /// Returns what to write for the form that stands at a token, if there is one.
 pub fn form_at(site: &Site<'_, '_>, look: &mut Look) -> Option<&'static str> {
     look.is_word = false;
     if site.number < look.upto {
         return None;
     }
-    if let Some(hint) = site.said(OPENING) {
+    if let Some(hint) = said(site, OPENING) {
         look.is_word = !is_among("main", site.word());
         look.upto = closing(site.tokens, site.number);
         return Some(if hint == "cast" {
@@ -63,7 +73,7 @@ pub fn form_at(site: &Site<'_, '_>, look: &mut Look) -> Option<&'static str> {
         return Some(hint);
     }
     look.is_word = is_among("print update set value input input_count", site.word());
-    site.said(FORMS)
+    said(site, FORMS)
 }
 
 // A `main` with parameters, and the type of a cast.
@@ -75,18 +85,18 @@ const OPENING: &str = "\
 
 // A word of another language.
 fn of_word(site: &Site<'_, '_>) -> Option<&'static str> {
-    if !site.fits("0 @ | -2 ^ sizeof | own no") || site.fits("0 min max | +1 )") {
+    if !fits(site, "0 @ | -2 ^ sizeof | own no") || fits(site, "0 min max | +1 )") {
         return None;
     }
     let hint = word_of_c(site.word())?;
-    Some(site.said(PLACED).unwrap_or(hint))
+    Some(said(site, PLACED).unwrap_or(hint))
 }
 
 // The size of a type, a constant of C's headers that a global opens with, and a variable of a
 // function.
 const PLACED: &str = "\
 0 sizeof | +2 & => BYTES
-0 static | outer no => STATIC
+0 static | global no => STATIC
 0 INT_MIN LONG_MIN LLONG_MIN INT64_MIN | first => LEAST
 0 INT_MAX LONG_MAX LLONG_MAX INT64_MAX | first => GREATEST";
 
@@ -105,23 +115,23 @@ const FORMS: &str = "\
 0 [ | -1 ] | -3 [ | -4 ] => THREE_INDICES
 0 [ | -1 ] => ONE_INDEX
 0 { | -1 = => ZEROS
-0 [ | -1 @ | -2 & | flat no => ARRAY_PARAMETER
-0 [ | -1 @ | -2 & | outer no => ARRAYS
+0 [ | -1 @ | -2 & | in ? => ARRAY_PARAMETER
+0 [ | -1 @ | -2 & | global no => ARRAYS
 0 [ | -1 @ | -2 & | +1 ^ # => LENGTH
-0 , | head for => ONE_STEP
-0 <= | -2 ; | head cilk_for => UP_TO
-0 > >= | -2 ; | head cilk_for => DOWNWARD
-0 != | -2 ; | head cilk_for => HEAD
-0 -- -= | head cilk_for => DOWNWARD
-0 = | -2 ; | head cilk_for => STEP_HEAD
-0 += | +1 ^ 1 | head cilk_for => STEP_HEAD
-0 @ | -1 ( | head cilk_for => DECLARES
+0 , | in for => ONE_STEP
+0 <= | -2 ; | in cilk_for => UP_TO
+0 > >= | -2 ; | in cilk_for => DOWNWARD
+0 != | -2 ; | in cilk_for => HEAD
+0 -- -= | in cilk_for => DOWNWARD
+0 = | -2 ; | in cilk_for => STEP_HEAD
+0 += | +1 ^ 1 | in cilk_for => STEP_HEAD
+0 @ | -1 ( | in cilk_for => DECLARES
 0 @ | +1 ( | -1 int void | own | prototyped => PROTOTYPE
-0 @ | +1 ( | -1 , | own | flat no => CALL
+0 @ | +1 ( | -1 , | own | in ? => CALL
 0 @ | +1 ( | -1 cilk_spawn | -3 ] | own => SPAWN
 0 @ | +1 ( | -1 ^ = | -1 ~ ( | own => CALL
 0 @ | +1 ( | -1 = | -2 ] | own => CALL
-0 @ | +1 ( | -1 = | own | flat no => CALL
+0 @ | +1 ( | -1 = | own | in ? => CALL
 0 @ | +1 ( | -1 = | own | summed => CALL
 0 -- | -1 @ | +1 > | in for => COUNT_DOWN
 0 ++ -- | -1 @ | -2 ( | -3 if while @ print => STEP

@@ -154,7 +154,7 @@ fn line_end(text: &[u8], at: usize) -> usize {
 
 fn comment_end(text: &[u8], at: usize) -> usize {
     for place in at..text.len() {
-        if byte_at(text, place) == b'*' && byte_at(text, place.saturating_add(1)) == b'/' {
+        if byte_at(text, place) == b'*' && byte_at(text, place + 1) == b'/' {
             return place.saturating_add(2);
         }
     }
@@ -170,7 +170,7 @@ fn quote_end(text: &[u8], at: usize) -> usize {
             return place;
         }
         if !is_escaped && byte == byte_at(text, at) {
-            return place.saturating_add(1);
+            return place + 1;
         }
         is_escaped = !is_escaped && byte == b'\\';
     }

@@ -4,6 +4,7 @@ use crate::certain::may_declare;
 use crate::hints::meant;
 use crate::place::between;
 use crate::report::Wanted;
+use crate::rules::{fits, said};
 use crate::sentence::{Sentence, say};
 use crate::sentences::sentence;
 use crate::site::Site;
@@ -61,27 +62,27 @@ const SPAWNED_CALL: &str = "the call is spawned, not the assignment: `{} = cilk_
 // begin there.
 fn of_words(site: &Site<'_, '_>) -> Option<&'static str> {
     let Site { tokens, number, .. } = *site;
-    let of_site = site.said(WORDS);
+    let of_site = said(site, WORDS);
     if of_site.is_some() {
         return of_site;
     }
     let named = head_near(tokens, number);
-    if Site::new(tokens, named).fits("0 ^ @ for cilk_for | +2 &") {
+    if fits(&Site::new(tokens, named), "0 ^ @ for cilk_for | +2 &") {
         return Some(cast_to(tokens.word(named.saturating_add(2))));
     }
     let of_word = other_word(site.word())
-        .or(Site::new(tokens, number.saturating_sub(1)).said(SIZE))
-        .or(Site::new(tokens, named).said(SIZE));
+        .or(said(&Site::new(tokens, number.saturating_sub(1)), SIZE))
+        .or(said(&Site::new(tokens, named), SIZE));
     if of_word.is_some() {
         return of_word;
     }
     let ahead = tokens.word_back(number, 1);
-    let of_ahead = if site.fits("0 (") {
+    let of_ahead = if fits(site, "0 (") {
         undeclared(tokens, ahead)
     } else {
         other_word(ahead)
     };
-    match (of_ahead, site.fits("-1 )")) {
+    match (of_ahead, fits(site, "-1 )")) {
         (None, true) => undeclared(tokens, tokens.word(named)),
         (None, false) => other_word(tokens.word(named)),
         (cure, _) => cure,

@@ -1,11 +1,12 @@
 //! What else a text has that the language has no form for, after the hint for its first fault.
 
-use crate::certain::{form_at, own_words};
+use crate::certain::{Look, form_at, own_words};
 use crate::cleaned::cleaned;
 use crate::kinds::is_foreign;
 use crate::place::{between, line_at, locate};
+use crate::rules::fits;
 use crate::sentence::say;
-use crate::site::{Look, Site};
+use crate::site::Site;
 use crate::tokens::Tokens;
 use std::alloc::{AllocError, Global};
 
@@ -171,17 +172,18 @@ fn look_over<'a>(
     further: &mut Further<'_, '_>,
     is_foreign: bool,
 ) {
-    let mut look = Look::new();
+    let mut look = Look {
+        is_word: false,
+        upto: 0,
+    };
     for number in 0..tokens.count().min(LOOKED_AT) {
-        look.see(tokens, number);
         let site = Site {
             tokens,
             number,
             own,
-            look,
         };
         if let Some(hint) = form_at(&site, &mut look)
-            && !(is_foreign && site.fits("0 < >"))
+            && !(is_foreign && fits(&site, "0 < >"))
         {
             further.note(
                 tokens.place(number),

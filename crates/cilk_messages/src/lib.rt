@@ -52,6 +52,7 @@ mod numbers;
 pub mod place;
 pub mod reasons;
 pub mod report;
+mod rules;
 pub mod sentence;
 mod sentences;
 mod site;

@@ -4,6 +4,7 @@ use crate::around::{
     before, byte_at, is_among, is_name, is_number, word_after, word_at, word_before,
 };
 use crate::place::{between, line_at};
+use crate::rules::{Surroundings, said};
 use crate::sentences::sentence;
 use crate::vocabulary::{LOCK_WORDS, TYPE_WORDS};
 
@@ -18,23 +19,105 @@ pub fn odd_byte(text: &[u8], at: usize) -> &'static str {
 
 /// Returns the advice for a word or mark that begins no token.
 pub fn no_token(text: &[u8], at: usize) -> Option<&'static str> {
-    match byte_at(text, at) {
-        b'"' | b'\'' => Some(no_quote(text, at)),
-        b'#' => Some(no_directive(text, at)),
-        b':' => Some(no_colon(text, at)),
-        b'?' => Some(sentence("CHOICE")),
-        b'&' => Some(no_ampersand(text, at)),
-        b'|' => Some(
-            "there are no operators on bits: put numbers together by `*` and `+`, as `2 * x + 1` for `x << 1 | 1`",
-        ),
-        b'^' => Some(
-            "there are no operators on bits: a loop over `x % 2` and `x / 2` stands for `x ^ y`",
-        ),
-        b'~' => Some("there are no operators on bits: `-x - 1` stands for `~x`"),
-        b'.' => Some(no_point(text, at)),
-        b'/' => Some("a comment ends with `*/`"),
-        b'0'..=b'9' => Some(no_number(word_at(text, at))),
-        _ => None,
+    let word = word_at(text, at);
+    if is_number(word) {
+        return Some(no_number(word));
+    }
+    said(&Spot { text, at }, MARKS)
+}
+
+// A byte of a text. Its places are `0`, what stands there; `-1`, `-2` and `+1`, the words before and
+// after it; `on`, the text from it on; `called`, the word before the parenthesis before it;
+// `directive`, the word after a `#`; and conditions (`Spot::holds`). `@` stands for any name, `#` for
+// any number, `&` for a word of a type, and `!` for one of locks.
+#[derive(Clone, Copy)]
+struct Spot<'a> {
+    text: &'a [u8],
+    at: usize,
+}
+
+// Strings and characters; lines of the preprocessor; colons; operators on bits; points; a comment.
+const MARKS: &str = "\
+on \"\\n\".. | called printf puts print => LINE_END
+on '\\n'.. | called putchar print => LINE_END
+on '.. => there are no characters: write their numbers
+on \".. | called scanf => INPUT
+on \".. => there are no strings: `print(e);` writes a number on a line of its own
+on #.. | directive if ifdef ifndef else elif endif undef error => NO_LINE
+on #.. | directive define | valued no => NO_LINE
+on #.. | directive define | macro => MACRO
+on #.. => DEFINITION
+on ::.. | -1 ^ std => REDUCER
+on ::cout.. ::endl.. => PRINT
+on ::cin.. => INPUT
+on ::atomic.. ::mutex.. ::lock_guard.. ::unique_lock.. ::scoped_lock.. => LOCKS
+on ::.. => LIBRARY
+on :=.. => an assignment is `x = e;`
+on :.. | -1 default => write `if` and `else if`
+on :.. | -2 case => write `if` and `else if`
+on :.. | -1 @ | -2 ; { } ) => LABELS
+on :.. | -1 @ | first => LABELS
+on :.. | -1 @ => a loop counts, and has no `:` in its head: `for (int i = 0; i < n; i++)`
+on :.. ?.. => CHOICE
+on &.. | -1 & => REFERENCES
+on &.. | -1 ) ] @ # ! => BITS
+on &.. | called ! => LOCKS
+on &.. => there are no pointers: a place in a global array stands for an address, as `i` for `&a[i]`, and for `&x` a function returns the number
+on |.. => there are no operators on bits: put numbers together by `*` and `+`, as `2 * x + 1` for `x << 1 | 1`
+on ^.. => there are no operators on bits: a loop over `x % 2` and `x / 2` stands for `x ^ y`
+on ~.. => there are no operators on bits: `-x - 1` stands for `~x`
+on ... | -1 # => FRACTIONS
+on ... | +1 # => FRACTIONS
+on ... | viewed => VIEW_MEMBERS
+on ... => STRUCTURES
+on /.. => a comment ends with `*/`";
+
+impl Surroundings for Spot<'_> {
+    fn has(&self, place: &str, words: &str) -> bool {
+        let Spot { text, at } = *self;
+        let next = at.saturating_add(1);
+        let word = match place {
+            "on" => between(text, at, text.len()),
+            "-1" => word_before(text, at),
+            "-2" => word_before(text, before(text, at).unwrap_or(0)),
+            "+1" => word_at(text, next),
+            "called" => called(text, at),
+            "directive" => word_at(text, word_after(text, next)),
+            _ => self.fact(place),
+        };
+        is_among(words, word) || is_among(words, class_of(word))
+    }
+}
+
+// The sign of the class that a word is of.
+fn class_of(word: &[u8]) -> &'static [u8] {
+    if is_among(TYPE_WORDS, word) {
+        b"&"
+    } else if is_among(LOCK_WORDS, word) {
+        b"!"
+    } else if is_name(word) {
+        b"@"
+    } else if is_number(word) {
+        b"#"
+    } else {
+        b""
+    }
+}
+
+impl Spot<'_> {
+    // Whether a condition holds.
+    fn fact(&self, condition: &str) -> &'static [u8] {
+        let Spot { text, at } = *self;
+        let holds = match condition {
+            "valued" => !between(text, at, word_after(text, defined_end(text, at))).contains(
+                &b'\n',
+            ),
+            "macro" => byte_at(text, defined_end(text, at)) == b'(',
+            "first" => begins_line(text, before(text, at).unwrap_or(0)),
+            "viewed" => is_view(text, at) || is_reducer(text, word_before(text, at)),
+            _ => false,
+        };
+        if holds { b"yes" } else { b"no" }
     }
 }
 
@@ -46,128 +129,17 @@ pub fn called(text: &[u8], at: usize) -> &[u8] {
     }
 }
 
-// The advice for a string, a read or a print, or for a character. A printed line end needs nothing.
-fn no_quote(text: &[u8], at: usize) -> &'static str {
-    let rest = text.get(at..).unwrap_or(&[]);
-    let called = called(text, at);
-    if rest.starts_with(b"\"\\n\"") && is_among("printf puts print", called)
-        || rest.starts_with(b"'\\n'") && is_among("putchar print", called)
-    {
-        sentence("LINE_END")
-    } else if rest.starts_with(b"'") {
-        "there are no characters: write their numbers"
-    } else if is_among("scanf", called) {
-        sentence("INPUT")
-    } else {
-        "there are no strings: `print(e);` writes a number on a line of its own"
-    }
-}
-
-// A line of the preprocessor.
-fn no_directive(text: &[u8], at: usize) -> &'static str {
+// The end of the name that a line of the preprocessor defines.
+fn defined_end(text: &[u8], at: usize) -> usize {
     let first = word_after(text, at.saturating_add(1));
-    let word = word_at(text, first);
-    if is_among("if ifdef ifndef else elif endif undef error", word) {
-        return "there is no preprocessor: leave this line away";
-    }
-    let name = word_after(text, first.saturating_add(word.len()));
-    let end = name.saturating_add(word_at(text, name).len());
-    let has_value = !between(text, at, word_after(text, end)).contains(&b'\n');
-    if is_among("define", word) && !has_value {
-        "there is no preprocessor: leave this line away"
-    } else if is_among("define", word) && byte_at(text, end) == b'(' {
-        MACRO
-    } else {
-        DEFINITION
-    }
+    let name = word_after(text, first.saturating_add(word_at(text, first).len()));
+    name.saturating_add(word_at(text, name).len())
 }
 
-const MACRO: &str =
-    "there is no preprocessor: a function stands for a macro with arguments, `int least(int a, int b) { .. }`, and a variable takes its call, `x = least(a, b);`; in an index write out what it stands for, `a[i * n + j]`";
-
-const DEFINITION: &str =
-    "there is no preprocessor: in place of `#define N 8` write the number 8 wherever `N` stands; a global `int n = 8;` does too, but not for an array's length";
-
-// A colon: in a name of C++, in a `switch`, after a label, or in the head of another loop.
-fn no_colon(text: &[u8], at: usize) -> &'static str {
-    let ahead = word_before(text, at);
-    let behind = at.saturating_add(1);
-    match byte_at(text, behind) {
-        b':' if ahead == b"std".as_slice() => of_std(word_at(text, behind.saturating_add(1))),
-        b':' => sentence("REDUCER"),
-        b'=' => "an assignment is `x = e;`",
-        _ if is_case(text, at) => "write `if` and `else if`",
-        _ if is_label(text, at) => "there are no labels: a flag in the loop's condition ends it",
-        _ if is_name(ahead) =>
-            "a loop counts, and has no `:` in its head: `for (int i = 0; i < n; i++)`",
-        _ => sentence("CHOICE"),
-    }
-}
-
-// The advice for a name of C++'s library.
-fn of_std(name: &[u8]) -> &'static str {
-    if is_among("cout endl", name) {
-        sentence("PRINT")
-    } else if is_among("cin", name) {
-        sentence("INPUT")
-    } else if is_among(LOCK_WORDS, name) {
-        sentence("LOCKS")
-    } else {
-        sentence("LIBRARY")
-    }
-}
-
-// Whether a colon ends a `case` or a `default`.
-fn is_case(text: &[u8], at: usize) -> bool {
-    let Some(ahead) = before(text, at) else {
-        return false;
-    };
-    let is_default = word_at(text, ahead) == b"default".as_slice();
-    is_default || word_before(text, ahead) == b"case".as_slice()
-}
-
-// Whether a colon ends a label: a name that begins its line or follows a statement.
-fn is_label(text: &[u8], at: usize) -> bool {
-    let Some(name) = before(text, at) else {
-        return false;
-    };
-    if !is_name(word_at(text, name)) {
-        return false;
-    }
-    let (_line, first) = line_at(text, name);
-    match before(text, name) {
-        Some(ahead) => {
-            ahead < first || matches!(byte_at(text, ahead), b';' | b'{' | b'}' | b')')
-        }
-        None => true,
-    }
-}
-
-// A `&` after an operand is of bits; otherwise it takes an address.
-fn no_ampersand(text: &[u8], at: usize) -> &'static str {
-    let ahead = word_before(text, at);
-    if is_among(TYPE_WORDS, ahead) {
-        sentence("REFERENCES")
-    } else if is_among(") ]", ahead) || is_name(ahead) || is_number(ahead) {
-        sentence("BITS")
-    } else if is_among(LOCK_WORDS, called(text, at)) {
-        sentence("LOCKS")
-    } else {
-        "there are no pointers: a place in a global array stands for an address, as `i` for `&a[i]`, and for `&x` a function returns the number"
-    }
-}
-
-// A point: in a fraction, before a member of a reducer's view, or of another structure.
-fn no_point(text: &[u8], at: usize) -> &'static str {
-    let ahead = word_before(text, at);
-    let is_digit = byte_at(text, at.saturating_add(1)).is_ascii_digit();
-    if is_number(ahead) || is_digit {
-        sentence("FRACTIONS")
-    } else if is_view(text, at) || is_reducer(text, ahead) {
-        sentence("VIEW_MEMBERS")
-    } else {
-        sentence("STRUCTURES")
-    }
+// Whether the word at a place is the first of its line.
+fn begins_line(text: &[u8], at: usize) -> bool {
+    let (_line, first) = line_at(text, at);
+    word_after(text, first) == at
 }
 
 // Whether a point follows the view of a reducer, as in OpenCilk's first reducers.
@@ -202,7 +174,7 @@ fn is_reducer(text: &[u8], name: &[u8]) -> bool {
 fn named_behind(text: &[u8]) -> &[u8] {
     for place in 0..text.len().min(128) {
         if text[place] == b')' {
-            return word_at(text, word_after(text, place.saturating_add(1)));
+            return word_at(text, word_after(text, place + 1));
         }
     }
     &[]

@@ -53,6 +53,9 @@ CHOICE => there is no `? :`: write `if` and `else`
 LIBRARY => there is no library: write it as a function of whole numbers
 LINE_AWAY => leave this line away
 LINE_END => `print` ends each line itself: leave this away
+MACRO => there is no preprocessor: a function stands for a macro with arguments, `int least(int a, int b) { .. }`, and a variable takes its call, `x = least(a, b);`; in an index write out what it stands for, `a[i * n + j]`
+DEFINITION => there is no preprocessor: in place of `#define N 8` write the number 8 wherever `N` stands; a global `int n = 8;` does too, but not for an array's length
+LABELS => there are no labels: a flag in the loop's condition ends it
 NO_LINE => there is no preprocessor: leave this line away
 BYTES => there is no `sizeof`: count elements, not bytes, and leave `* sizeof(int)` out
 FIRST_VALUE => a global opens with a number: write that, or let `main` give it another value
@@ -65,7 +68,7 @@ RESERVED_NAME => this word is reserved here: take another name
 NESTED => functions stand side by side, none inside another: a `}` may be missing ahead";
 
 /// Returns the hint with this name; words that are no name are a hint themselves.
-pub fn sentence(named: &'static str) -> &'static str {
+pub fn sentence(named: &str) -> &str {
     row_of(SENTENCES, named.as_bytes()).unwrap_or(named)
 }
 

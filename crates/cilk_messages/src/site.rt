@@ -1,23 +1,20 @@
-//! A token, and rules that ask for the words around it.
+//! A token, as rules ask for the words around it.
 //!
-//! A rule is a line `PLACE WORDS | PLACE WORDS => HINT`, whose hint is a text, or the name of one
-//! (`sentence`). It fits where at each place stands one of the words, or none of them if they begin
-//! with `^`. `@` stands for any name, `@array` for one that is declared as an array, and `:array`
-//! for one in such a declaration; in place of `array` may stand `variable`, `reducer`, `function`,
-//! `procedure` (a `void` function) and `nothing`. `#` stands for any number, `$` for a name or a
-//! reserved word, `&` for a word of a type, `~` for what comes before an operand, and `?` for any
-//! token. Places are
+//! Among the words of a rule `@` stands for any name, `@array` for one that is declared as an array,
+//! and `:array` for one in such a declaration; in place of `array` may stand `variable`, `reducer`,
+//! `function`, `procedure` (a `void` function) and `nothing`. `#` stands for any number, `$` for a
+//! name or a reserved word, `&` for a word of a type, `~` for what comes before an operand, and `?`
+//! for any token. Places are
 //!
 //! - `0`, `-1`, `+1` and so on: the token, the one before it, the one after it;
-//! - `in`: the token before the parentheses around it; `head`: the same, if these are the only
-//!   ones; `of`: the one before the parentheses that end just before it, and `of-1` the one before
-//!   that;
+//! - `in`: the token before the parentheses around it; `of`: the one before the parentheses that end
+//!   just before it, and `of-1` the one before that;
 //! - `main`: what the text's `main` is declared as;
-//! - a condition that holds, as `begins`, without words, or doesn't, as `begins no` (`Site::holds`).
+//! - a condition that holds, as `begins`, or doesn't, as `begins no` (`Site::holds`).
 
 use crate::around::{byte_at, is_among, is_name, is_number};
 use crate::place::between;
-use crate::sentences::sentence;
+use crate::rules::Surroundings;
 use crate::sites::{
     begins, begins_line, closed_head, ends_behind, head_of, is_function, is_global,
     is_in_first_value, is_in_length, is_in_sum, is_viewed, mark_ahead, takes_memory,
@@ -33,56 +30,6 @@ pub struct Site<'t, 'a> {
     pub number: usize,
     /// The words that the text declares as names, in order, where types are asked for.
     pub own: &'t [&'a [u8]],
-    /// What came before it, where all tokens are looked at in order.
-    pub look: Look,
-}
-
-/// A look at the tokens of a text in order.
-#[derive(Clone, Copy)]
-pub struct Look {
-    /// Whether the last form is a word.
-    pub is_word: bool,
-    /// The token up to which nothing is shown.
-    pub upto: usize,
-    braces: usize,
-    parentheses: usize,
-    // The token before the outermost parenthesis that is open.
-    head: Option<usize>,
-}
-
-impl Look {
-    /// A look that has seen nothing.
-    pub fn new() -> Look {
-        Look {
-            is_word: false,
-            upto: 0,
-            braces: 0,
-            parentheses: 0,
-            head: None,
-        }
-    }
-
-    /// Goes on to a token.
-    pub fn see(&mut self, tokens: &Tokens<'_>, number: usize) {
-        match tokens.kind(number) {
-            Some(Kind::OpenBrace) => {
-                self.braces = self.braces.saturating_add(1);
-                self.parentheses = 0;
-            }
-            Some(Kind::CloseBrace) => {
-                self.braces = self.braces.saturating_sub(1);
-                self.parentheses = 0;
-            }
-            Some(Kind::Open) => {
-                if self.parentheses == 0 {
-                    self.head = number.checked_sub(1);
-                }
-                self.parentheses = self.parentheses.saturating_add(1);
-            }
-            Some(Kind::Close) => self.parentheses = self.parentheses.saturating_sub(1),
-            _ => {}
-        }
-    }
 }
 
 impl<'t, 'a> Site<'t, 'a> {
@@ -92,48 +39,12 @@ impl<'t, 'a> Site<'t, 'a> {
             tokens,
             number,
             own: &[],
-            look: Look::new(),
         }
     }
 
     /// Returns the bytes of the token.
     pub fn word(&self) -> &'a [u8] {
         self.tokens.word(self.number)
-    }
-
-    /// Returns the hint of the first rule that fits.
-    pub fn said(&self, rules: &'static str) -> Option<&'static str> {
-        for rule in rules.lines() {
-            if let Some((pattern, hint)) = rule.split_once(" => ")
-                && self.fits(pattern)
-            {
-                return Some(sentence(hint));
-            }
-        }
-        None
-    }
-
-    /// Returns whether all conditions of a rule hold.
-    pub fn fits(&self, pattern: &str) -> bool {
-        for condition in pattern.split(" | ") {
-            let (place, words) = condition.split_once(' ').unwrap_or((condition, "yes"));
-            let is_there = match words.strip_prefix("^ ") {
-                Some(others) => !self.has(place, others),
-                None => self.has(place, words),
-            };
-            if !is_there {
-                return false;
-            }
-        }
-        true
-    }
-
-    // Whether one of these words is at a place.
-    fn has(&self, place: &str, words: &str) -> bool {
-        match self.token_at(place) {
-            Some(number) => self.is_like(number, words),
-            None => is_among(words, self.fact(place).as_bytes()),
-        }
     }
 
     fn is_like(&self, number: usize, words: &str) -> bool {
@@ -176,7 +87,6 @@ impl<'t, 'a> Site<'t, 'a> {
                 Some(named) => named.checked_sub(1),
                 None => None,
             },
-            "head" if self.look.parentheses == 1 => self.look.head,
             _ => match place.parse::<isize>() {
                 Ok(offset) => number.checked_add_signed(offset),
                 Err(_) => None,
@@ -212,8 +122,6 @@ impl<'t, 'a> Site<'t, 'a> {
             "first" => is_in_first_value(tokens, number),
             "memory" => takes_memory(tokens, number),
             "chained" => self.is_like(mark_ahead(tokens, number, CHAINING), "= return"),
-            "flat" => self.look.parentheses == 0,
-            "outer" => self.look.braces == 0,
             "summed" => is_in_sum(tokens, number),
             "prototyped" => ends_behind(tokens, number),
             "own" => self.is_own(self.word()),
@@ -231,6 +139,15 @@ impl<'t, 'a> Site<'t, 'a> {
     // Whether a word is one of a type, and no name of the text's own.
     fn is_type(&self, word: &'a [u8]) -> bool {
         is_among("int void", word) || (is_among(TYPE_WORDS, word) && !self.is_own(word))
+    }
+}
+
+impl Surroundings for Site<'_, '_> {
+    fn has(&self, place: &str, words: &str) -> bool {
+        match self.token_at(place) {
+            Some(number) => self.is_like(number, words),
+            None => is_among(words, self.fact(place).as_bytes()),
+        }
     }
 }
 

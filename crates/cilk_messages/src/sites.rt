@@ -89,7 +89,7 @@ pub fn mark_ahead(tokens: &Tokens<'_>, number: usize, marks: &str) -> usize {
             Some(Kind::Close | Kind::CloseBracket) => depth = depth.saturating_add(1),
             Some(Kind::Open | Kind::OpenBracket) if depth > 0 => depth = depth.saturating_sub(1),
             _ if depth == 0 && is_among(marks, tokens.word_back(number, back)) => {
-                return number.saturating_sub(back);
+                return number - back;
             }
             _ => {}
         }
@@ -148,7 +148,7 @@ pub fn closing(tokens: &Tokens<'_>, number: usize) -> usize {
 /// Returns whether a semicolon follows the parentheses after a name.
 pub fn ends_behind(tokens: &Tokens<'_>, number: usize) -> bool {
     matches!(
-        tokens.kind(closing(tokens, number).saturating_add(1)),
+        tokens.kind_behind(closing(tokens, number)),
         Some(Kind::Semicolon)
     )
 }

@@ -74,6 +74,11 @@ impl<'a> Tokens<'a> {
         self.tokens.len()
     }
 
+    /// Returns the kind of the token after this one.
+    pub fn kind_behind(&self, number: usize) -> Option<Kind> {
+        self.kind(number.saturating_add(1))
+    }
+
     /// Returns the kind of the token `back` tokens before this one.
     pub fn kind_back(&self, number: usize, back: usize) -> Option<Kind> {
         match number.checked_sub(back) {
@@ -118,7 +123,7 @@ impl<'a> Tokens<'a> {
 
     // The kind that a name is declared as, by the token after it.
     fn declared_as(&self, number: usize, has_result: bool) -> Declared {
-        match self.kind(number.saturating_add(1)) {
+        match self.kind_behind(number) {
             Some(Kind::Open) => Declared::Function {
                 has_result,
                 parameters: self.parts_behind(number),
@@ -137,7 +142,7 @@ impl<'a> Tokens<'a> {
                 Some(Kind::Open | Kind::OpenBracket) if depth == 0 => return false,
                 Some(Kind::Open | Kind::OpenBracket) => depth = depth.saturating_sub(1),
                 Some(Kind::Semicolon | Kind::OpenBrace | Kind::CloseBrace) => {
-                    let first = self.kind_back(number, back.saturating_sub(1));
+                    let first = self.kind_back(number, back - 1);
                     return matches!(first, Some(Kind::Int));
                 }
                 _ => {}
@@ -173,7 +178,7 @@ impl<'a> Tokens<'a> {
         let name = self.word(number);
         let mut closed: usize = 0;
         for back in 1..number.saturating_add(1) {
-            let earlier = number.saturating_sub(back);
+            let earlier = number - back;
             match self.kind(earlier) {
                 Some(Kind::CloseBrace) => closed = closed.saturating_add(1),
                 Some(Kind::OpenBrace) => closed = closed.saturating_sub(1),

@@ -2,6 +2,7 @@
 
 use crate::place::locate;
 use crate::report::Wanted;
+use crate::rules::{fits, said};
 use crate::sentence::{Sentence, say};
 use crate::site::Site;
 use crate::tokens::Tokens;
@@ -11,17 +12,17 @@ use cilk_syntax::token::Kind;
 /// rest could follow it.
 pub fn missing_mark<'a>(site: &Site<'_, 'a>, wanted: &Wanted<'_>) -> Option<Sentence<'a>> {
     let Site { tokens, number, .. } = *site;
-    let follows = site.said(FOLLOWS).is_some();
-    let mark = if wanted.semicolon && follows && site.said(ENDS).is_some() {
+    let follows = said(site, FOLLOWS).is_some();
+    let mark = if wanted.semicolon && follows && said(site, ENDS).is_some() {
         ";"
     } else if wanted.words.contains("`]`") && is_behind_index(site) {
         "]"
-    } else if wanted.words.contains("`)`") && (follows || site.fits("0 ; {")) {
+    } else if wanted.words.contains("`)`") && (follows || fits(site, "0 ; {")) {
         ")"
     } else {
         return None;
     };
-    let hint = if site.fits("line") || tokens.kind(number).is_none() {
+    let hint = if fits(site, "line") || tokens.kind(number).is_none() {
         let ahead = tokens.place(number.saturating_sub(1));
         let words = say("a `{}` may be missing at the end of line {}").text(mark);
         words.count(locate(tokens.text, ahead).line)
@@ -48,8 +49,8 @@ const FOLLOWS: &str = "\
 // Whether a token could follow a closing bracket: the end of the surrounding part, or an assignment
 // if no bracket closes later.
 fn is_behind_index(site: &Site<'_, '_>) -> bool {
-    site.fits("0 ) ; { | brackets")
-        || (site.fits("0 = += -= *= | brackets") && !is_closed_later(site.tokens, site.number))
+    fits(site, "0 ) ; { | brackets")
+        || (fits(site, "0 = += -= *= | brackets") && !is_closed_later(site.tokens, site.number))
 }
 
 // Whether a bracket that is open at a token closes in its statement.

@@ -1,16 +1,17 @@
 //! Rules for a token that doesn't belong in a statement, a call, a head or an item.
 
 use crate::report::Wanted;
+use crate::rules::said;
 use crate::sentences::sentence;
 use crate::site::Site;
 use crate::vocabulary::{NUMBERS, said_of};
 
 /// Returns the advice for a refused token, or `spawned` for the spawn of an assignment.
 pub fn of_use(site: &Site<'_, '_>, wanted: &Wanted<'_>) -> Option<&'static str> {
-    match site.said(USES) {
+    match said(site, USES) {
         Some("number") => said_of(NUMBERS, site.word()).or(Some(sentence("FIRST_VALUE"))),
         None if wanted.words == "`{`" => Some("a function's body stands between `{` and `}`"),
-        None => site.said(UNPAIRED),
+        None => said(site, UNPAIRED),
         cure => cure,
     }
 }
