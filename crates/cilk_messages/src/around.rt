@@ -7,10 +7,6 @@ pub fn is_word(byte: u8) -> bool {
     byte.is_ascii_alphanumeric() || byte == b'_'
 }
 
-fn is_blank(byte: u8) -> bool {
-    byte == b' ' || (byte >= b'\t' && byte <= b'\r')
-}
-
 /// Returns the byte at a place, 0 after the end.
 pub fn byte_at(text: &[u8], at: usize) -> u8 {
     match text.get(at) {
@@ -41,7 +37,7 @@ pub fn before(text: &[u8], at: usize) -> Option<usize> {
         let place = at - back - 1;
         let byte = byte_at(text, place);
         match first {
-            None if is_blank(byte) => {}
+            None if matches!(byte, b' ' | b'\t'..=b'\r') => {}
             None if is_word(byte) => first = Some(place),
             None => return Some(place),
             Some(_) if is_word(byte) => first = Some(place),
@@ -62,7 +58,7 @@ pub fn word_before(text: &[u8], at: usize) -> &[u8] {
 /// Returns where the first word from a place on begins, or the end of the text.
 pub fn word_after(text: &[u8], at: usize) -> usize {
     for place in at..text.len() {
-        if !is_blank(text[place]) {
+        if !matches!(text[place], b' ' | b'\t'..=b'\r') {
             return place;
         }
     }

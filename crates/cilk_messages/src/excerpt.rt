@@ -1,5 +1,6 @@
 //! The line of a fault, with a mark below its place.
 
+use crate::around::byte_at;
 use crate::place::{between, line_at};
 use crate::sentence::{printed, say};
 use std::alloc::{AllocError, Global};
@@ -46,7 +47,7 @@ fn cut_before(text: &[u8], first: usize, at: usize) -> usize {
         return first;
     }
     for place in at.saturating_sub(SHOWN)..at {
-        if begins_character(text, place) {
+        if !matches!(byte_at(text, place), 0x80..=0xBF) {
             return place;
         }
     }
@@ -56,16 +57,9 @@ fn cut_before(text: &[u8], first: usize, at: usize) -> usize {
 // Where the shown part ends: at the line's end, or at the first character too far away.
 fn cut_behind(text: &[u8], at: usize, end: usize) -> usize {
     for place in at.saturating_add(SHOWN)..end {
-        if begins_character(text, place) {
+        if !matches!(byte_at(text, place), 0x80..=0xBF) {
             return place;
         }
     }
     end
-}
-
-fn begins_character(text: &[u8], place: usize) -> bool {
-    match text.get(place) {
-        Some(byte) => !matches!(*byte, 0x80..=0xBF),
-        None => true,
-    }
 }

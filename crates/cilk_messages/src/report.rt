@@ -8,7 +8,7 @@ use crate::kinds::{FOREIGN, is_foreign, other_kind};
 use crate::numbers::NUMBERS;
 use crate::place::{Location, locate};
 use crate::reasons::{EXAMPLE, LINE, MEANING, PLACE, cure_of, line_of, title_of, titled};
-use crate::sentence::{Part, push_line, say};
+use crate::sentence::{Part, push_line, push_said, say};
 use crate::tokens::Tokens;
 use std::alloc::{AllocError, Global};
 
@@ -63,12 +63,21 @@ fn push_meaning(
         302 => CUT_TRACE,
         _ => "",
     };
-    let head = say("{}: {}\n\n{}\n\n").count(number as usize).text(title);
-    head.text(line_of(number, MEANING)).push(alloc, text)?;
-    let shown = say(words).text(shown);
-    shown.text(line_of(number, LINE)).push(alloc, text)?;
-    let foot = say("The place is read as: {}.\n\n{}\n{}").text(line_of(number, PLACE));
-    foot.text(cure_of(number)).text(of_trace).push(alloc, text)
+    let meaning = line_of(number, MEANING);
+    let head = [
+        Part::Count(number as usize),
+        Part::Text(title),
+        Part::Text(meaning),
+    ];
+    push_said(alloc, text, "{}: {}\n\n{}\n\n", &head)?;
+    let line = line_of(number, LINE);
+    push_said(alloc, text, words, &[Part::Text(shown), Part::Text(line)])?;
+    let foot = [
+        Part::Text(line_of(number, PLACE)),
+        Part::Text(cure_of(number)),
+        Part::Text(of_trace),
+    ];
+    push_said(alloc, text, "The place is read as: {}.\n\n{}\n{}", &foot)
 }
 
 const PROGRAM: &str = "The program\n\n    {}\n\nis answered by the line\n\n    {}\n\n";
@@ -91,7 +100,8 @@ pub fn of_all(alloc: Global) -> Result<String, AllocError> {
     for line in NUMBERS.lines() {
         let (number, title) = titled(line);
         if number > 0 {
-            write!(text, "{number}  {title}\n")?;
+            let parts = [Part::Count(number as usize), Part::Text(title)];
+            push_said(alloc, &mut text, "{}  {}\n", &parts)?;
         }
     }
     Ok(text)
@@ -200,11 +210,14 @@ fn push_refusal(
     place: Part<'_>,
     number: u16,
 ) -> Result<(), AllocError> {
-    let head = say(REFUSAL).with(place).count(number as usize);
-    head.text(title_of(number))
-        .text(line_of(number, MEANING))
-        .text(cure_of(number))
-        .push(alloc, report)
+    let parts = [
+        place,
+        Part::Count(number as usize),
+        Part::Text(title_of(number)),
+        Part::Text(line_of(number, MEANING)),
+        Part::Text(cure_of(number)),
+    ];
+    push_said(alloc, report, REFUSAL, &parts)
 }
 
 const REFUSAL: &str = "{}: error {}: {}\nreason: {}\nhint: {}\n";

@@ -77,17 +77,27 @@ impl<'a> Sentence<'a> {
 
     /// Adds the sentence to a text.
     pub fn push(&self, alloc: Global, text: &mut String) -> Result<(), AllocError> {
-        let mut rest = self.words;
-        for part in &self.parts {
-            let Some((ahead, behind)) = rest.split_once("{}") else {
-                break;
-            };
-            text.push_str(ahead)?;
-            push_part(alloc, text, *part)?;
-            rest = behind;
-        }
-        text.push_str(rest)
+        push_said(alloc, text, self.words, &self.parts)
     }
+}
+
+/// Adds words to a text, in which `{}` stands for each part.
+pub fn push_said(
+    alloc: Global,
+    text: &mut String,
+    words: &str,
+    parts: &[Part<'_>],
+) -> Result<(), AllocError> {
+    let mut rest = words;
+    for number in 0..parts.len() {
+        let Some((ahead, behind)) = rest.split_once("{}") else {
+            break;
+        };
+        text.push_str(ahead)?;
+        push_part(alloc, text, parts[number])?;
+        rest = behind;
+    }
+    text.push_str(rest)
 }
 
 fn push_part(alloc: Global, text: &mut String, part: Part<'_>) -> Result<(), AllocError> {
