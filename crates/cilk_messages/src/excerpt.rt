@@ -2,7 +2,7 @@
 
 use crate::around::byte_at;
 use crate::place::{between, line_at};
-use crate::sentence::{printed, say};
+use crate::sentence::{Part, printed, push_said};
 use std::alloc::{AllocError, Global};
 use unicode_width::UnicodeWidthChar;
 
@@ -23,7 +23,12 @@ pub fn push_excerpt(
     let upto = cut_behind(text, at, end);
     let ahead = between(text, from, at);
     let rest = between(text, at, upto).trim_ascii_end();
-    say("{}{}\n").word(ahead).word(rest).push(alloc, report)?;
+    push_said(
+        alloc,
+        report,
+        "{}{}\n",
+        &[Part::Word(ahead), Part::Word(rest)],
+    )?;
     push_blanks(report, printed(alloc, ahead)?.as_str())
 }
 

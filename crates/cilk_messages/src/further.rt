@@ -5,7 +5,7 @@ use crate::cleaned::cleaned;
 use crate::kinds::is_foreign;
 use crate::place::{between, line_at, locate};
 use crate::rules::fits;
-use crate::sentence::say;
+use crate::sentence::{Part, push_said};
 use crate::site::Site;
 use crate::tokens::Tokens;
 use std::alloc::{AllocError, Global};
@@ -109,19 +109,19 @@ impl<'a, 'h> Further<'a, 'h> {
         } else {
             "also line {}: `{}`: "
         };
-        let head = say(words).count(line).word(word);
-        head.count(form.more).push(alloc, report)?;
+        let head = [Part::Count(line), Part::Word(word), Part::Count(form.more)];
+        push_said(alloc, report, words, &head)?;
         let told = if form.hint == self.told.hint {
             self.told.at
         } else {
             self.first(0, form.hint).at
         };
-        let told = if told == form.at {
-            say("{}\n").text(form.hint)
+        if told == form.at {
+            push_said(alloc, report, "{}\n", &[Part::Text(form.hint)])
         } else {
-            say("as at line {}\n").count(locate(self.text, told).line)
-        };
-        told.push(alloc, report)
+            let earlier = Part::Count(locate(self.text, told).line);
+            push_said(alloc, report, "as at line {}\n", &[earlier])
+        }
     }
 
     fn push(&self, alloc: Global, report: &mut String) -> Result<(), AllocError> {

@@ -137,10 +137,12 @@ fn push_finding<'a>(
     } else {
         finding.at
     };
-    let head = say("{}: error {}: {}\n").with(Part::Place(file, locate(text, place)));
-    head.count(number as usize)
-        .text(title_of(number))
-        .push(alloc, report)?;
+    let head = [
+        Part::Place(file, locate(text, place)),
+        Part::Count(number as usize),
+        Part::Text(title_of(number)),
+    ];
+    push_said(alloc, report, "{}: error {}: {}\n", &head)?;
     push_excerpt(alloc, report, text, place)?;
     let tokens = Tokens::new(alloc, text)?;
     push_advice(alloc, report, &tokens, finding, wanted)
@@ -239,9 +241,8 @@ fn begin_of(file: &str, line: Option<u64>) -> Part<'_> {
 /// Returns the message after a refused script.
 pub fn of_script(alloc: Global, file: &str, line: usize) -> Result<String, AllocError> {
     let mut report = String::new(alloc);
-    say(SCRIPT)
-        .with(begin_of(file, Some(line as u64)))
-        .push(alloc, &mut report)?;
+    let place = begin_of(file, Some(line as u64));
+    push_said(alloc, &mut report, SCRIPT, &[place])?;
     Ok(report)
 }
 

@@ -192,28 +192,17 @@ pub fn empty<'a>(alloc: Global) -> Result<Command<'a>, AllocError>
         .bin_name("cilk")
 }
 
-// Adds a command with its help text to a program.
-fn joined<'a>(
-    app: Result<Command<'a>, AllocError>,
-    command: Result<Command<'a>, AllocError>,
-    about: &'a str,
-) -> Result<Command<'a>, AllocError>
-    ensures { (a b : App) → IfOk app.entry (λ c. HasShape c a) → IfOk command.entry (λ c. HasShape c b)
-        → IfOk result (λ r. HasShape r (with_subcommand a b.top)) }
-{
-    with(app?, command, about)
-}
-
 // The program with all commands.
 fn command<'a>(alloc: Global) -> Result<Command<'a>, AllocError>
     ensures { IfOk result (λ c. HasShape c cilk_app) }
 {
-    let one = joined(empty(alloc), program_command(alloc, "run"), RUN);
-    let two = joined(one, program_command(alloc, "certify"), CERTIFY);
-    let three = joined(two, check_command(alloc), CHECK);
-    let four = joined(three, play_command(alloc), PLAY);
-    let five = joined(four, program_command(alloc, "settle"), SETTLE);
-    joined(five, judge_command(alloc), JUDGE)
+    let app = empty(alloc)?;
+    let one = with(app, program_command(alloc, "run"), RUN)?;
+    let two = with(one, program_command(alloc, "certify"), CERTIFY)?;
+    let three = with(two, check_command(alloc), CHECK)?;
+    let four = with(three, play_command(alloc), PLAY)?;
+    let five = with(four, program_command(alloc, "settle"), SETTLE)?;
+    with(five, judge_command(alloc), JUDGE)
 }
 
 // The paths of the program and of the input in a command's matches.
