@@ -215,10 +215,7 @@ const DIGITS: usize = 18;
 
 // The end of a number of C: with a point, letters, and a sign after the `e` of an exponent.
 fn numeral_end(text: &[u8], at: usize) -> usize {
-    let is_hexadecimal = is_among(
-        "x X",
-        between(text, at.saturating_add(1), at.saturating_add(2)),
-    );
+    let is_hexadecimal = matches!(byte_at(text, at.saturating_add(1)), b'x' | b'X');
     for place in at..text.len() {
         let byte = byte_at(text, place);
         let is_sign = matches!(byte, b'+' | b'-')

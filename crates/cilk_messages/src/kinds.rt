@@ -48,7 +48,7 @@ pub const FOREIGN: &str =
 /// Returns whether a text names C++'s library, or its reducers.
 pub fn is_foreign(text: &[u8]) -> bool {
     for place in 0..text.len() {
-        let rest = text.get(place..).unwrap_or(&[]);
+        let rest = between(text, place, text.len());
         if rest.starts_with(b"std::")
             || rest.starts_with(b"cilk::")
             || rest.starts_with(b"namespace std;")

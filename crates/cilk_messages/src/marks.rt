@@ -6,7 +6,7 @@ use crate::around::{
 use crate::place::{between, line_at};
 use crate::rules::{Surroundings, said};
 use crate::sentences::sentence;
-use crate::vocabulary::{LOCK_WORDS, TYPE_WORDS};
+use crate::vocabulary::{LOCK_WORDS, TYPE_WORDS, said_of};
 
 /// Returns the advice for a byte above 127.
 pub fn odd_byte(text: &[u8], at: usize) -> &'static str {
@@ -144,25 +144,20 @@ fn begins_line(text: &[u8], at: usize) -> bool {
 
 // Whether a point follows the view of a reducer, as in OpenCilk's first reducers.
 fn is_view(text: &[u8], at: usize) -> bool {
-    let Some(front) = text.get(..at) else {
-        return false;
-    };
-    let mut open = front.len();
-    for back in 1..front.len().saturating_add(1).min(64) {
-        let place = front.len().saturating_sub(back);
-        if byte_at(front, place) == b'(' {
-            open = place;
-            break;
+    for back in 0..at.min(64) {
+        let open = at - back - 1;
+        if byte_at(text, open) == b'(' {
+            return word_before(text, open) == b"REDUCER_VIEW".as_slice();
         }
     }
-    word_before(text, open) == b"REDUCER_VIEW".as_slice()
+    false
 }
 
 // Whether a text declares a reducer of this name.
 fn is_reducer(text: &[u8], name: &[u8]) -> bool {
     let word = b"cilk_reducer".as_slice();
     for place in 0..text.len() {
-        let rest = text.get(place..).unwrap_or(&[]);
+        let rest = between(text, place, text.len());
         if rest.starts_with(word) && is_name(name) && named_behind(rest) == name {
             return true;
         }
@@ -182,16 +177,17 @@ fn named_behind(text: &[u8]) -> &[u8] {
 
 /// Returns the advice for a number of C that isn't one here.
 pub fn no_number(word: &[u8]) -> &'static str {
-    if word.starts_with(b"0x") || word.starts_with(b"0X") {
-        return "write the number with decimal digits";
-    }
-    match word.last() {
-        Some(b'l' | b'L' | b'u' | b'U') =>
+    match (said_of(NUMERALS, word), word.last()) {
+        (Some(cure), _) => cure,
+        (None, Some(b'l' | b'L' | b'u' | b'U')) =>
             "`int` is the only type: write the number without letters",
-        _ if is_among("1e-..", word) && !is_among("1e-1 1e-2 1e-3", word) => sentence("TINY"),
-        _ if word.contains(&b'e') || word.contains(&b'E') || word.ends_with(b"f") => sentence(
-            "FRACTIONS",
-        ),
+        (None, Some(b'f')) => sentence("FRACTIONS"),
+        _ if word.contains(&b'e') || word.contains(&b'E') => sentence("FRACTIONS"),
         _ => "a number has digits alone, and doesn't begin with 0",
     }
 }
+
+const NUMERALS: &str = "\
+0x.. 0X.. => write the number with decimal digits
+1e-1 1e-2 1e-3 => FRACTIONS
+1e-.. => TINY";
