@@ -88,8 +88,10 @@ fn of_word(site: &Site<'_, '_>) -> Option<&'static str> {
     if !fits(site, "0 @ | -2 ^ sizeof | own no") || fits(site, "0 min max | +1 )") {
         return None;
     }
-    let hint = word_of_c(site.word())?;
-    Some(said(site, PLACED).unwrap_or(hint))
+    match word_of_c(site.word()) {
+        Some(hint) => Some(said(site, PLACED).unwrap_or(hint)),
+        None => None,
+    }
 }
 
 // The size of a type, a constant of C's headers that a global opens with, and a variable of a

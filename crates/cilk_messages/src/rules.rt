@@ -2,8 +2,8 @@
 //!
 //! A rule is a line `PLACE WORDS | PLACE WORDS => HINT`, whose hint is a text, or the name of one
 //! (`sentence`). It fits where at each place stands one of the words, or none of them if they begin
-//! with `^`. A place with no words after it is a condition that has to hold, and `no` stands behind
-//! one that has not to.
+//! with `^`. A place with no words after it is a condition that has to hold; one with `no` after it has
+//! not to.
 
 use crate::sentences::sentence;
 

@@ -61,7 +61,7 @@ impl<'t, 'a> Site<'t, 'a> {
         false
     }
 
-    // Whether a token is of a class of words: a sign, and the kind of a declaration behind it.
+    // Whether a token is of a class of words: a sign, and after it the kind of a declaration.
     fn is_of(&self, number: usize, word: &'a [u8], class: &[u8]) -> bool {
         let kind = between(class, 1, class.len());
         match byte_at(class, 0) {
@@ -154,7 +154,7 @@ impl Surroundings for Site<'_, '_> {
 // Marks that an operand follows, but for `*`, which may declare a pointer.
 const OPERATORS: &str = "return [ = += -= *= + - / % < > <= >= == != && || !";
 
-// What an assignment can stand behind, or an expression with one can begin with.
+// Marks that an assignment follows, and those that the expression around it can begin after.
 const CHAINING: &str = "= return ( [ ,";
 
 fn kind_of(declared: Option<Declared>) -> &'static str {
