@@ -3,12 +3,11 @@
 use crate::fault::CaseFault;
 use crate::items::map_of;
 use crate::map::TextMap;
+use cilk_messages::tokens::Tokens;
 use cilk_names::resolve::resolve;
 use cilk_parser::input::parse_input;
 use cilk_parser::parse::parse;
 use cilk_program::program::Program;
-use cilk_syntax::lexer::lex;
-use cilk_syntax::tree::Tree;
 use cilk_types::input::Input;
 use std::alloc::Global;
 
@@ -60,12 +59,7 @@ impl<'a> Case<'a> {
 // The program of a text, and its map.
 fn read(alloc: Global, text: &[u8]) -> Result<(Program, TextMap), CaseFault> {
     let tree = parse(alloc, text)?;
-    let map = mapped(alloc, text, &tree)?;
+    let tokens = Tokens::new(alloc, text)?;
+    let map = map_of(alloc, &tree, &tokens)?;
     Ok((resolve(alloc, &tree)?, map))
-}
-
-fn mapped(alloc: Global, text: &[u8], tree: &Tree) -> Result<TextMap, CaseFault> {
-    let tokens = lex(alloc, text)?;
-    let map = map_of(alloc, tree, tokens.as_slice())?;
-    Ok(map)
 }

@@ -2,7 +2,6 @@
 
 use cilk_names::fault::NameFault;
 use cilk_parser::fault::TextFault;
-use cilk_syntax::lexer::LexFault;
 use std::alloc::AllocError;
 
 /// The reason why a run can't be explained.
@@ -35,15 +34,6 @@ impl From<NameFault> for CaseFault {
         match fault {
             NameFault::Memory => CaseFault::Memory,
             NameFault::At(_, _) => CaseFault::Unfit,
-        }
-    }
-}
-
-impl From<LexFault> for CaseFault {
-    fn from(fault: LexFault) -> CaseFault {
-        match fault {
-            LexFault::Memory => CaseFault::Memory,
-            LexFault::At(_, _) => CaseFault::Unfit,
         }
     }
 }

@@ -85,6 +85,14 @@ impl TextMap {
         }
     }
 
+    /// Returns the map of a body for changes, if the text has that body.
+    pub fn body_mut(&mut self, body: Body) -> Option<&mut BodyMap> {
+        match body {
+            Body::Function(number) => self.functions.get_mut(number as usize),
+            Body::Loop(number) => self.loops.get_mut(number as usize),
+        }
+    }
+
     /// Returns the last global whose first cell isn't after this cell.
     pub fn global(&self, cell: usize) -> Option<GlobalName> {
         let mut found = None;
