@@ -1,5 +1,5 @@
-//! A critical path of a run, a longest chain of its events; and the number of events at each step of
-//! the span.
+//! The longest chains of a run's events: a critical path, and the number of events at each step of the
+//! span.
 
 use cilk_types::event::Event;
 use cilk_types::trace::Trace;
@@ -24,56 +24,56 @@ struct Depth {
     is_spawned: bool,
 }
 
-/// For each event so far the one before it on a longest chain, if there is one.
-#[derive(Drop)]
-struct Chains {
+/// The chains of a run: for each event its step, which is the length of the longest chain before it,
+/// and the event before it on such a chain, if there is one.
+pub struct Chains {
+    pub steps: Vec<usize>,
     before: Vec<usize>,
     waiting: Vec<Depth>,
     depth: Depth,
 }
 
+// Written out, so that a proof follows one call where chains are dropped.
+impl Drop for Chains {
+    fn drop(self) {
+        let Chains {
+            steps: _steps,
+            before: _before,
+            waiting: _waiting,
+            depth: _depth,
+        } = self;
+    }
+}
+
 /// Returns the events of a longest chain, in order. Events count from 0. Cost and memory: linear in
 /// the events.
 pub fn critical_path(alloc: Global, trace: &Trace) -> Result<Vec<usize>, AllocError> {
+    let chains = Chains::of(alloc, trace)?;
     let mut path = Vec::new(alloc);
-    push_path(&mut Chains::new(alloc), trace, &mut path)?;
+    chains.push_path(&mut path)?;
+    path.reverse();
     Ok(path)
 }
 
-fn push_path(chains: &mut Chains, trace: &Trace, path: &mut Vec<usize>) -> Result<(), AllocError> {
-    for event in trace.as_slice() {
-        chains.meet(event)?;
-    }
-    chains.push_path(path)?;
-    path.reverse();
-    Ok(())
-}
-
-/// Returns for each step of the span the number of events there. The step of an event is the length
-/// of the longest chain up to it, so with enough workers all events of a step can be made at the
-/// same time. Cost and memory: linear in the events.
+/// Returns for each step of the span the number of events there. With enough workers all events of a
+/// step can be made at the same time. Cost and memory: linear in the events.
 pub fn profile(alloc: Global, trace: &Trace) -> Result<Vec<u32>, AllocError> {
-    let mut steps = Vec::new(alloc);
-    push_steps(&mut Chains::new(alloc), trace, &mut steps)?;
-    Ok(steps)
-}
-
-fn push_steps(chains: &mut Chains, trace: &Trace, steps: &mut Vec<u32>) -> Result<(), AllocError> {
-    for event in trace.as_slice() {
-        let step = chains.meet(event)?;
-        if step >= steps.len() {
-            steps.push(0)?;
-        }
-        if let Some(events) = steps.get_mut(step) {
+    let chains = Chains::of(alloc, trace)?;
+    let mut counts: Vec<u32> = Vec::new(alloc);
+    counts.resize(chains.depth.own.length, 0)?;
+    for step in &chains.steps {
+        if let Some(events) = counts.get_mut(*step) {
             *events = events.saturating_add(1);
         }
     }
-    Ok(())
+    Ok(counts)
 }
 
 impl Chains {
-    fn new(alloc: Global) -> Chains {
-        Chains {
+    /// Finds the chains of a run's events.
+    pub fn of(alloc: Global, trace: &Trace) -> Result<Chains, AllocError> {
+        let mut chains = Chains {
+            steps: Vec::new(alloc),
             before: Vec::new(alloc),
             waiting: Vec::new(alloc),
             depth: Depth {
@@ -81,11 +81,15 @@ impl Chains {
                 spawned: NO_CHAIN,
                 is_spawned: false,
             },
+        };
+        for event in trace.as_slice() {
+            chains.meet(event)?;
         }
+        Ok(chains)
     }
 
-    // Adds an event to its frame's chain. Returns the length of the chain before it.
-    fn meet(&mut self, event: &Event) -> Result<usize, AllocError> {
+    // Adds an event to its frame's chain.
+    fn meet(&mut self, event: &Event) -> Result<(), AllocError> {
         if let Event::Sync = event {
             self.depth.own = longer(self.depth.own, self.depth.spawned);
             self.depth.spawned = NO_CHAIN;
@@ -95,6 +99,7 @@ impl Chains {
             length: length.saturating_add(1),
             last: self.before.len(),
         };
+        self.steps.push(length)?;
         self.before.push(last)?;
         match event {
             Event::Spawn { .. } => self.enter(true)?,
@@ -102,7 +107,7 @@ impl Chains {
             Event::End => self.leave(),
             _ => {}
         }
-        Ok(length)
+        Ok(())
     }
 
     fn enter(&mut self, is_spawned: bool) -> Result<(), AllocError> {

@@ -65,7 +65,7 @@ impl Table<'_> {
             .functions
             .len()
             .saturating_add(case.map.loops.len());
-        let shares = shares(case.alloc, &run.trace, members.as_slice(), count)?;
+        let shares = shares(case.alloc, run, members.as_slice(), count)?;
         self.push_shares(text, shares.as_slice())
     }
 
