@@ -1,7 +1,6 @@
 //! Charts as SVG: words, and the marks of scales.
 
-use cilk_messages::sentence::{Part, Sentence, say};
-use std::alloc::{AllocError, Global};
+use std::alloc::AllocError;
 
 /// The left end and the width of each chart, and its height. The texts below have them, too.
 pub const LEFT: usize = 80;
@@ -15,12 +14,6 @@ pub const HEAD: &str =
     "<svg xmlns=\"http://www.w3.org/2000/svg\" viewBox=\"0 0 800 690\" font-family=\"sans-serif\" font-size=\"13\">\n\
     <rect width=\"800\" height=\"690\" fill=\"#ffffff\"/>\n\
     <text x=\"80\" y=\"26\" text-anchor=\"start\" fill=\"#222222\">";
-
-/// Work, span and parallelism, after the file's name.
-pub const NAMES: &str = ": speed-up by workers (work {}, span {}, parallelism {}{}{}{})</text>\n\
-    <text x=\"80\" y=\"46\" text-anchor=\"start\" fill=\"#222222\">burdened span ";
-
-pub const BURDENED: &str = "{}: a burden of {} for each spawn that a steal may take</text>\n";
 
 /// The axes of the chart of workers.
 pub const WORKERS_AXES: &str = "<path d=\"M80 95 V315 h680\" fill=\"none\" stroke=\"#222222\"/>\n\
@@ -51,64 +44,55 @@ pub const OUTLINE: &str = "<path fill=\"#0072b2\" d=\"M80 640";
 
 pub const OUTLINE_END: &str = " H760 V640 Z\"/>\n";
 
-/// Its axes, and a line at the parallelism.
-pub const STEPS_AXES: &str = "<path d=\"M80 420 V640 h680\" fill=\"none\" stroke=\"#222222\"/>\n\
-    <path fill=\"none\" stroke=\"#777777\" stroke-width=\"2\" stroke-dasharray=\"6 4\" d=\"M80 {} h680\"/>\n\
-    <text x=\"760\" y=\"410\" text-anchor=\"end\" fill=\"#222222\">broken line: the parallelism, which is their mean</text>\n";
-
-const LEVEL: &str = "<path d=\"M80 {} h680\" stroke=\"#dddddd\"/>\n\
-    <text x=\"72\" y=\"{}\" text-anchor=\"end\" fill=\"#222222\">{}{}{}{}</text>\n";
-
-const COLUMN: &str = "<path d=\"M{} {} v5\" stroke=\"#222222\"/>\n\
-    <text x=\"{}\" y=\"{}\" text-anchor=\"middle\" fill=\"#222222\">{}</text>\n";
-
-/// Fills four gaps with a number of hundredths, with a point before two digits unless they are 0.
-pub fn with_hundredths(sentence: Sentence<'_>, number: u64) -> Sentence<'_> {
-    let whole = sentence.count((number / 100) as usize);
-    if number % 100 == 0 {
-        return whole;
+/// Adds a number of hundredths, with a point before two digits unless they are 0.
+pub fn push_hundredths(text: &mut String, number: u64) -> Result<(), AllocError> {
+    let (whole, rest) = (number / 100, number % 100);
+    if rest == 0 {
+        write!(text, "{whole}")
+    } else {
+        write!(text, "{whole}.{rest:02}")
     }
-    let tenths = whole
-        .with(Part::Text("."))
-        .count((number / 10 % 10) as usize);
-    tenths.count((number % 10) as usize)
 }
 
 /// Adds a mark of the upward scale, in hundredths, with a line across the chart.
-pub fn push_level(
-    alloc: Global,
-    text: &mut String,
-    y: usize,
-    hundredths: u64,
-) -> Result<(), AllocError> {
-    let level = say(LEVEL).count(y).count(y.saturating_add(4));
-    with_hundredths(level, hundredths).push(alloc, text)
+pub fn push_level(text: &mut String, y: usize, hundredths: usize) -> Result<(), AllocError> {
+    let base = y.saturating_add(4);
+    write!(
+        text,
+        "<path d=\"M80 {y} h680\" stroke=\"#dddddd\"/>\n\
+        <text x=\"72\" y=\"{base}\" text-anchor=\"end\" fill=\"#222222\">"
+    )?;
+    push_hundredths(text, hundredths as u64)?;
+    text.push_str("</text>\n")
 }
 
 /// Adds a mark of the scale to the right.
 pub fn push_column(
-    alloc: Global,
     text: &mut String,
     top: usize,
     x: usize,
     number: usize,
 ) -> Result<(), AllocError> {
     let bottom = top.saturating_add(HEIGHT);
-    let column = say(COLUMN).count(x).count(bottom).count(x);
-    column
-        .count(bottom.saturating_add(20))
-        .count(number)
-        .push(alloc, text)
+    let base = bottom.saturating_add(20);
+    write!(
+        text,
+        "<path d=\"M{x} {bottom} v5\" stroke=\"#222222\"/>\n\
+        <text x=\"{x}\" y=\"{base}\" text-anchor=\"middle\" fill=\"#222222\">{number}</text>\n"
+    )
 }
 
-/// Adds words, with what XML can't have as itself.
-pub fn push_escaped(text: &mut String, words: &str) -> Result<(), AllocError> {
+/// Adds words, with what XML or else a string of `dot` can't have as itself.
+pub fn push_escaped(text: &mut String, words: &str, is_xml: bool) -> Result<(), AllocError> {
     for symbol in words.chars() {
         let escaped = match symbol {
-            '&' => "&amp;",
-            '<' => "&lt;",
-            '>' => "&gt;",
-            '\0'..='\u{1f}' | '\u{7f}' | '\u{fffe}' | '\u{ffff}' => "?",
+            '&' if is_xml => "&amp;",
+            '<' if is_xml => "&lt;",
+            '>' if is_xml => "&gt;",
+            '\u{fffe}' | '\u{ffff}' if is_xml => "?",
+            '"' if !is_xml => "\\\"",
+            '\\' if !is_xml => "\\\\",
+            '\0'..='\u{1f}' | '\u{7f}' => "?",
             _ => "",
         };
         text.push_str(escaped)?;

@@ -1,5 +1,6 @@
 //! The series-parallel tree of a small run, as a graph.
 
+use crate::chart::push_escaped;
 use crate::scene::Scene;
 use cilk_messages::sentence::say;
 use cilk_tree::tree::{Node, SpTree};
@@ -9,7 +10,11 @@ use std::alloc::AllocError;
 pub const MAX_NODES: usize = 500;
 
 const HEAD: &str =
-    "digraph run {\n  graph [bgcolor=white, fontname=\"sans-serif\"];\n  node [fontname=\"sans-serif\", style=filled, fillcolor=white];\n";
+    "digraph run {\n  graph [bgcolor=white, fontname=\"sans-serif\"];\n  node [fontname=\"sans-serif\", style=filled, fillcolor=white];\n  label=\"";
+
+// The title, after the file's name.
+const LABEL: &str =
+    ": S: left, then right; P: left and right in parallel; a box: a strand with its function, first line and events\";\n";
 
 /// Where a node stands: its number, that of its first strand, and the first event of that one,
 /// which counts from 0.
@@ -34,10 +39,10 @@ pub fn dot(scene: &Scene<'_>, tree: &SpTree) -> Result<Option<String>, AllocErro
 
 fn push_graph(text: &mut String, scene: &Scene<'_>, tree: &SpTree) -> Result<(), AllocError> {
     text.push_str(HEAD)?;
-    push_name(text, scene.case.file)?;
+    push_escaped(text, scene.case.file, false)?;
+    text.push_str(LABEL)?;
     let mut open = Vec::new(scene.case.alloc);
-    push_nodes(text, scene, tree.as_slice(), &mut open)?;
-    text.push_str("}\n")
+    push_nodes(text, scene, tree.as_slice(), &mut open)
 }
 
 // The nodes. `open` has those that still miss a child, once for each missing child.
@@ -56,8 +61,7 @@ fn push_nodes(
         position.number = number;
         push_node(text, scene, node, position)?;
         if let Some(above) = open.pop() {
-            let edge = say("  n{} -> n{};\n").count(above).count(number);
-            scene.push(text, &edge)?;
+            write!(text, "  n{above} -> n{number};\n")?;
         }
         match node {
             Node::Strand { events } => {
@@ -70,24 +74,7 @@ fn push_nodes(
             }
         }
     }
-    Ok(())
-}
-
-// The title, with the file's name.
-fn push_name(text: &mut String, file: &str) -> Result<(), AllocError> {
-    text.push_str("  label=\"")?;
-    for symbol in file.chars() {
-        if matches!(symbol, '"' | '\\') {
-            text.push('\\')?;
-        }
-        text.push(match symbol {
-            '\0'..='\u{1f}' | '\u{7f}' => '?',
-            _ => symbol,
-        })?;
-    }
-    text.push_str(
-        ": S: left, then right; P: left and right in parallel; a box: a strand with its function, first line and events\";\n",
-    )
+    text.push_str("}\n")
 }
 
 // The line that declares a node.
@@ -102,31 +89,28 @@ fn push_node(
         strand,
         event,
     } = position;
-    let named = match *node {
+    match *node {
         Node::Strand { events } => {
-            let strand = say(STRAND).count(number).count(strand);
-            let strand = strand.word(function_at(scene, event));
-            strand.count(line_of(scene, event)).counted(events as usize)
+            let name = match scene.frame_of(event) {
+                Some(frame) => scene.body_name(scene.note(frame).body),
+                None => &[],
+            };
+            let strand = say(STRAND).count(number).count(strand).word(name);
+            let strand = strand.count(line_of(scene, event));
+            scene.push(text, &strand.counted(events as usize))
         }
-        Node::Series { .. } => say("  n{} [shape=diamond, label=\"S\"];\n").count(number),
-        Node::Parallel { .. } => say(PARALLEL)
-            .count(number)
-            .count(line_of(scene, event.saturating_sub(1))),
-    };
-    scene.push(text, &named)
+        Node::Series { .. } => write!(text, "  n{number} [shape=diamond, label=\"S\"];\n"),
+        Node::Parallel { .. } => {
+            let line = line_of(scene, event.saturating_sub(1));
+            write!(
+                text,
+                "  n{number} [shape=circle, label=\"P\\nline {line}\"];\n"
+            )
+        }
+    }
 }
 
 const STRAND: &str = "  n{} [shape=box, label=\"{}: {}, line {}\\n{} event{}\"];\n";
-
-const PARALLEL: &str = "  n{} [shape=circle, label=\"P\\nline {}\"];\n";
-
-// The name of the function or loop whose frame makes an event.
-fn function_at<'a>(scene: &Scene<'a>, event: usize) -> &'a [u8] {
-    match scene.frame_of(event) {
-        Some(frame) => scene.body_name(scene.note(frame).body),
-        None => &[],
-    }
-}
 
 // The line of an event.
 fn line_of(scene: &Scene<'_>, event: usize) -> usize {

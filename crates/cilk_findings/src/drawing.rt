@@ -4,9 +4,8 @@
 use crate::burdened::BURDEN;
 use crate::case::Case;
 use crate::chart::{
-    BOUND, BURDENED, ESTIMATE, HEAD, HEIGHT, KEYS, LEFT, NAMES, OUTLINE, OUTLINE_END, STEPS_AXES,
-    STEPS_WORDS, WIDTH, WORKERS_AXES, push_column, push_escaped, push_level, scaled,
-    with_hundredths,
+    BOUND, ESTIMATE, HEAD, HEIGHT, KEYS, LEFT, OUTLINE, OUTLINE_END, STEPS_WORDS, WIDTH,
+    WORKERS_AXES, push_column, push_escaped, push_hundredths, push_level, scaled,
 };
 use crate::critical::profile;
 use crate::dot::dot;
@@ -14,10 +13,9 @@ use crate::fault::CaseFault;
 use crate::runs::Run;
 use crate::scene::Scene;
 use crate::totals::{Totals, totals_of};
-use cilk_messages::sentence::say;
 use cilk_tree::building::tree_of;
 use cilk_types::trace::Trace;
-use std::alloc::{AllocError, Global};
+use std::alloc::AllocError;
 
 // The upper ends of the two charts.
 const SPEED_UP: usize = 95;
@@ -32,54 +30,56 @@ const WORKERS: usize = 32;
 /// otherwise the error is [`CaseFault::Unfit`].
 pub fn profile_of(case: &Case<'_>) -> Result<String, CaseFault> {
     let run = ended(case)?;
-    let text = picture(case, &run.trace)?;
-    Ok(text)
-}
-
-fn picture(case: &Case<'_>, trace: &Trace) -> Result<String, AllocError> {
-    let totals = totals_of(case.alloc, trace)?;
-    let steps = profile(case.alloc, trace)?;
     let mut text = String::new(case.alloc);
-    push_charts(case, &mut text, &totals, steps.as_slice())?;
+    push_charts(case, &run.trace, &mut text)?;
     Ok(text)
 }
 
-fn push_charts(
-    case: &Case<'_>,
-    text: &mut String,
-    totals: &Totals,
-    steps: &[u32],
-) -> Result<(), AllocError> {
+fn push_charts(case: &Case<'_>, trace: &Trace, text: &mut String) -> Result<(), AllocError> {
+    let totals = totals_of(case.alloc, trace)?;
     text.push_str(HEAD)?;
-    push_escaped(text, case.file)?;
-    push_speed_up(case.alloc, text, totals)?;
-    push_steps(case.alloc, text, totals, steps)?;
-    text.push_str("</svg>\n")
+    push_escaped(text, case.file, true)?;
+    push_speed_up(text, &totals)?;
+    let steps = profile(case.alloc, trace)?;
+    push_steps(text, &totals, steps.as_slice())
 }
 
 // The estimate and the bound, for each number of workers.
-fn push_speed_up(alloc: Global, text: &mut String, totals: &Totals) -> Result<(), AllocError> {
-    let names = say(NAMES).count(totals.work).count(totals.span as usize);
-    with_hundredths(names, totals.parallelism()).push(alloc, text)?;
-    let burdened = say(BURDENED).count(totals.burdened_span as usize);
-    burdened.count(BURDEN as usize).push(alloc, text)?;
+fn push_speed_up(text: &mut String, totals: &Totals) -> Result<(), AllocError> {
+    let Totals {
+        work,
+        span,
+        burdened_span,
+        ..
+    } = *totals;
+    write!(
+        text,
+        ": speed-up by workers (work {work}, span {span}, parallelism "
+    )?;
+    push_hundredths(text, totals.parallelism())?;
+    write!(
+        text,
+        ")</text>\n\
+        <text x=\"80\" y=\"46\" text-anchor=\"start\" fill=\"#222222\">burdened span {burdened_span}: \
+        a burden of {BURDEN} for each spawn that a steal may take</text>\n"
+    )?;
     let most = greatest_speed_up(totals);
-    push_workers(alloc, text, most)?;
+    push_workers(text, most)?;
     text.push_str(WORKERS_AXES)?;
-    push_curve(alloc, text, totals, most, true)?;
-    push_curve(alloc, text, totals, most, false)?;
+    push_curve(text, totals, most, true)?;
+    push_curve(text, totals, most, false)?;
     text.push_str(KEYS)
 }
 
 // The scales of the chart of workers.
-fn push_workers(alloc: Global, text: &mut String, most: usize) -> Result<(), AllocError> {
+fn push_workers(text: &mut String, most: usize) -> Result<(), AllocError> {
     for part in 0..5_usize {
         let speed = most.saturating_mul(part) / 4;
-        push_level(alloc, text, height_at(SPEED_UP, speed, most), speed as u64)?;
+        push_level(text, height_at(SPEED_UP, speed, most), speed)?;
     }
     for part in 0..9_usize {
         let workers = (part.saturating_mul(WORKERS) / 8).max(1);
-        push_column(alloc, text, SPEED_UP, column_of(workers), workers)?;
+        push_column(text, SPEED_UP, column_of(workers), workers)?;
     }
     Ok(())
 }
@@ -97,7 +97,6 @@ fn greatest_speed_up(totals: &Totals) -> usize {
 }
 
 fn push_curve(
-    alloc: Global,
     text: &mut String,
     totals: &Totals,
     most: usize,
@@ -111,9 +110,10 @@ fn push_curve(
         } else {
             totals.speed_up_estimate(workers as u64)
         };
-        let to = say(if number == 0 { "M{} {}" } else { " L{} {}" });
+        let to = if number == 0 { "M" } else { " L" };
+        let x = column_of(workers);
         let y = height_at(SPEED_UP, speed as usize, most);
-        to.count(column_of(workers)).count(y).push(alloc, text)?;
+        write!(text, "{to}{x} {y}")?;
     }
     text.push_str("\"/>\n")
 }
@@ -128,97 +128,71 @@ fn height_at(top: usize, part: usize, whole: usize) -> usize {
     top.saturating_add(HEIGHT).saturating_sub(height)
 }
 
-// The events of each step, with a line at the parallelism.
-fn push_steps(
-    alloc: Global,
-    text: &mut String,
-    totals: &Totals,
-    steps: &[u32],
-) -> Result<(), AllocError> {
-    let octaves = octaves_of(greatest(steps));
+// The events of each step, with a line at the parallelism. The scale has octaves, from a half up.
+fn push_steps(text: &mut String, totals: &Totals, steps: &[u32]) -> Result<(), AllocError> {
+    let most = most_in(steps, 0, steps.len()).max(1);
+    let (whole, rest) = logarithm(most.saturating_mul(100));
+    let octaves = if rest > 0 {
+        whole.saturating_add(1)
+    } else {
+        whole
+    };
     text.push_str(STEPS_WORDS)?;
-    push_scale(alloc, text, octaves, steps.len())?;
-    push_outline(alloc, text, steps, octaves)?;
+    push_scale(text, octaves, steps.len())?;
+    push_outline(text, steps, octaves)?;
     let y = height_of(totals.parallelism() as usize, octaves);
-    say(STEPS_AXES).count(y).push(alloc, text)
+    write!(
+        text,
+        "<path d=\"M80 420 V640 h680\" fill=\"none\" stroke=\"#222222\"/>\n\
+        <path fill=\"none\" stroke=\"#777777\" stroke-width=\"2\" stroke-dasharray=\"6 4\" d=\"M80 {y} h680\"/>\n\
+        <text x=\"760\" y=\"410\" text-anchor=\"end\" fill=\"#222222\">\
+        broken line: the parallelism, which is their mean</text>\n</svg>\n"
+    )
 }
 
 // The scales of the chart of steps.
-fn push_scale(
-    alloc: Global,
-    text: &mut String,
-    octaves: usize,
-    span: usize,
-) -> Result<(), AllocError> {
+fn push_scale(text: &mut String, octaves: usize, span: usize) -> Result<(), AllocError> {
     let mut hundredths: usize = 100;
     for octave in 0..octaves {
         if octaves <= 10 || octave % 2 == 0 {
-            push_level(
-                alloc,
-                text,
-                height_of(hundredths, octaves),
-                hundredths as u64,
-            )?;
+            push_level(text, height_of(hundredths, octaves), hundredths)?;
         }
         hundredths = hundredths.saturating_mul(2);
     }
     for part in 0..5_usize {
         let x = LEFT.saturating_add(scaled(part, 4, WIDTH));
-        push_column(alloc, text, STEPS, x, span.saturating_mul(part) / 4)?;
+        push_column(text, STEPS, x, span.saturating_mul(part) / 4)?;
     }
     Ok(())
 }
 
-// The outline of the steps, from left to right.
-fn push_outline(
-    alloc: Global,
-    text: &mut String,
-    steps: &[u32],
-    octaves: usize,
-) -> Result<(), AllocError> {
+// The outline of the steps, from left to right: in each column the most events of its steps.
+fn push_outline(text: &mut String, steps: &[u32], octaves: usize) -> Result<(), AllocError> {
     text.push_str(OUTLINE)?;
     let mut top = STEPS.saturating_add(HEIGHT);
     for column in 0..WIDTH {
-        let next = height_of(most_in(steps, column).saturating_mul(100), octaves);
+        let from = column.saturating_mul(steps.len()) / WIDTH;
+        let upto = column.saturating_add(1).saturating_mul(steps.len()) / WIDTH;
+        let most = most_in(steps, from, upto.max(from.saturating_add(1)));
+        let next = height_of(most.saturating_mul(100), octaves);
         if next != top {
             let x = LEFT.saturating_add(column);
-            say(" H{} V{}").count(x).count(next).push(alloc, text)?;
+            write!(text, " H{x} V{next}")?;
         }
         top = next;
     }
     text.push_str(OUTLINE_END)
 }
 
-// The most events of one step, but at least 1.
-fn greatest(steps: &[u32]) -> usize {
-    let mut most: usize = 1;
-    for events in steps {
-        most = most.max(*events as usize);
-    }
-    most
-}
-
-// The most events of the steps that fall into a column.
-fn most_in(steps: &[u32], column: usize) -> usize {
-    let from = column.saturating_mul(steps.len()) / WIDTH;
-    let upto = column.saturating_add(1).saturating_mul(steps.len()) / WIDTH;
+// The most events of one of these steps.
+fn most_in(steps: &[u32], from: usize, upto: usize) -> usize {
     let mut most: usize = 0;
-    for step in from..upto.max(from.saturating_add(1)) {
+    for step in from..upto {
         if let Some(events) = steps.get(step) {
             most = most.max(*events as usize);
         }
     }
     most
-}
-
-// The number of octaves of the scale, from a half up, that a number of events needs.
-fn octaves_of(most: usize) -> usize {
-    let (octaves, rest) = logarithm(most.saturating_mul(100));
-    if rest > 0 {
-        octaves.saturating_add(1)
-    } else {
-        octaves
-    }
 }
 
 // The height of a number of hundredths on that scale.

@@ -41,7 +41,11 @@ impl<'a> Scene<'a> {
 
     /// Returns the number of frames of a path.
     pub fn length(&self, frame: usize, top: Option<usize>) -> usize {
-        let mut at = Some(frame).filter(|frame| Some(*frame) != top);
+        let mut at = if Some(frame) == top {
+            None
+        } else {
+            Some(frame)
+        };
         let mut length: usize = 0;
         for _level in 0..self.run.replay.frames.len() {
             let Some(frame) = at else {
