@@ -153,12 +153,13 @@ impl Beside {
         let events = scene.run.trace.as_slice().iter().enumerate();
         for (index, event) in events.skip(self.upto) {
             let frame = scene.frame_of(index)?;
+            let parent = match open {
+                Some(child) => scene.above(child),
+                None => None,
+            };
             match *event {
                 Event::End if self.is_above(frame) && scene.is_spawned(frame) => open = Some(frame),
-                Event::End | Event::Sync
-                    if open.and_then(|child| scene.above(child)) == Some(frame) => {
-                    open = None;
-                }
+                Event::End | Event::Sync if parent == Some(frame) => open = None,
                 _ => {}
             }
             if let (true, Some(child)) = (changes(event, instance), open) {

@@ -1,68 +1,28 @@
 //! The cure of a race: a change of the program, a place for a `cilk_sync`, or a choice of both.
 
-use crate::pair::{Pair, Race};
+use crate::pair::{Pair, Race, name_of};
 use crate::texts::text;
 use crate::uses::{
-    Added, Most, Swap, Taken, adds, behind_place, filled, has_name, has_part, kept_by, multiplies,
+    Most, Swap, Taken, adds, behind_place, filled, has_name, has_part, kept_by, multiplies,
     semicolon_at, swap_of, takes, text_of,
 };
 use cilk_findings::partings::{loop_round, parted_at, stands_in, statement_of};
 use cilk_findings::scene::Scene;
 use cilk_messages::reasons::cure_of as cure_of_number;
-use cilk_messages::sentence::{Part, Sentence, say};
+use cilk_messages::sentence::{Part, say};
 use cilk_messages::sites::head_kind;
 use cilk_messages::tokens::Tokens;
 use cilk_syntax::token::Kind;
 use cilk_types::event::{Cell, Event};
-use cilk_types::invocation::Invocation;
 use std::alloc::AllocError;
 
 // The most events of a swap.
 const NEAR: usize = 100;
 
-// What parts the two events of a race.
-#[derive(Clone, Copy)]
-enum Means {
-    Change,
-    /// A change, or a `cilk_sync`.
-    Either,
-    /// A `cilk_sync`, and what it does.
-    Sync,
-}
+/// A cure, by the names of its words: first one text, then another one, if it has one.
+type Way = (&'static str, &'static str);
 
-// A kind of cure, with its words in two sentences.
-#[derive(Clone, Copy)]
-struct Way<'a> {
-    means: Means,
-    first: Sentence<'a>,
-    second: Sentence<'a>,
-}
-
-fn by_both<'a>(first: Sentence<'a>, second: Sentence<'a>) -> Way<'a> {
-    Way {
-        means: Means::Change,
-        first,
-        second,
-    }
-}
-
-fn by_change(first: Sentence<'_>) -> Way<'_> {
-    by_both(first, say(""))
-}
-
-fn by_either(first: Sentence<'_>) -> Way<'_> {
-    Way {
-        means: Means::Either,
-        ..by_change(first)
-    }
-}
-
-fn by_sync(first: Sentence<'_>) -> Way<'_> {
-    Way {
-        means: Means::Sync,
-        ..by_change(first)
-    }
-}
+const BY_SYNC: Way = ("SYNC", "");
 
 /// Adds the cure of a race: its number's general one where the run has no pair of events.
 pub fn push_cure(
@@ -75,77 +35,73 @@ pub fn push_cure(
         return scene.push(report, &say(cure_of_number(race.number)));
     };
     let tokens = Tokens::new(scene.case.alloc, scene.case.text)?;
-    let site = Site {
-        scene: *scene,
-        tokens: &tokens,
-        pair: *pair,
-    };
-    let way = site.way_of(race).unwrap_or(by_sync(say("")));
-    push_way(scene, report, &way, pair)
+    let site = Site::of(scene, &tokens, *pair, race.later);
+    let (first, second) = site.way_of(race.later);
+    site.push(report, first)?;
+    site.push(report, second)
 }
 
-fn push_way(
-    scene: &Scene<'_>,
-    report: &mut String,
-    way: &Way<'_>,
-    pair: &Pair,
-) -> Result<(), AllocError> {
-    let parted = parted_at(scene, scene.invoked_at(pair.child), pair.leaving(scene))?;
-    if let Means::Sync = way.means {
-        scene.push(report, &parted)?;
-    }
-    scene.push(report, &way.first)?;
-    scene.push(report, &way.second)?;
-    if let Means::Either = way.means {
-        report.push_str("; or, with less in parallel, ")?;
-        scene.push(report, &parted)?;
-    }
-    Ok(())
-}
-
-// Two events of a race, and the tokens of the text.
+/// Two events of a race, and the tokens of the text.
 #[derive(Clone, Copy)]
 struct Site<'a, 't> {
     scene: Scene<'a>,
     tokens: &'t Tokens<'a>,
     pair: Pair,
+    /// The name of the variable, array or reducer.
+    name: &'a [u8],
+    /// The index in the array, and its length.
+    index: usize,
+    length: usize,
+    /// The statements of both events.
+    later: usize,
+    earlier: usize,
+    /// The token from which the race's later event comes.
+    at: usize,
+    in_turns: bool,
 }
 
-impl<'a> Site<'a, '_> {
-    fn way_of(&self, race: Race) -> Option<Way<'a>> {
-        match self.scene.access(race.later) {
-            Some((cell, _)) => self.of_cell(cell),
-            None => Some(self.of_view(race.later)),
+impl<'a, 't> Site<'a, 't> {
+    fn of(scene: &Scene<'a>, tokens: &'t Tokens<'a>, pair: Pair, event: usize) -> Site<'a, 't> {
+        let at = tokens.number_at(scene.byte_of(event));
+        let (mut name, mut index, mut length) = (tokens.word(at), 0, 0);
+        if let Some((cell, _)) = scene.access(event) {
+            name = match name_of(scene, event) {
+                Some(name) => scene.word(name),
+                None => &[],
+            };
+            if let Some(array) = scene.global(cell) {
+                index = cell.saturating_sub(array.first);
+                length = array.length.unwrap_or(0);
+            }
+        }
+        Site {
+            scene: *scene,
+            tokens,
+            pair,
+            name,
+            index,
+            length,
+            later: statement_of(tokens, tokens.number_at(scene.byte_of(pair.later))),
+            earlier: statement_of(tokens, tokens.number_at(scene.byte_of(pair.earlier))),
+            at,
+            in_turns: pair.is_in_turns(scene),
         }
     }
 
-    fn of_cell(&self, cell: usize) -> Option<Way<'a>> {
-        let in_turns = self.pair.is_in_turns(&self.scene);
-        let Some(global) = self.scene.global(cell) else {
-            let (_, name) = self.scene.variable(cell)?;
-            let name = self.scene.word(name);
-            return Some(if self.is_spawned_result() {
-                self.of_result(name)
-            } else {
-                self.of_variable(name, text("OWN"))
-            });
+    fn way_of(&self, event: usize) -> Way {
+        let Some((cell, _)) = self.scene.access(event) else {
+            return self.of_view(event);
         };
-        let name = self.scene.word(global.name);
-        let index = cell.saturating_sub(global.first);
-        Some(match global.length {
-            None if self.is_in_called() => self.of_variable(name, text("CALLED_GLOBAL")),
-            None => self.of_variable(name, text("OWN_GLOBAL")),
-            Some(length) if in_turns => self.of_turns(name, index, length),
-            Some(length) => self.of_calls(name, index, length),
-        })
-    }
-
-    // The statements of both events, the later one first.
-    fn statements(&self) -> [usize; 2] {
-        let tokens = self.tokens;
-        let later = tokens.number_at(self.scene.byte_of(self.pair.later));
-        let earlier = tokens.number_at(self.scene.byte_of(self.pair.earlier));
-        [statement_of(tokens, later), statement_of(tokens, earlier)]
+        match self.scene.global(cell) {
+            None if self.name.is_empty() => BY_SYNC,
+            None if !self.is_spawned_result() => self.of_variable("OWN"),
+            None if self.scene.run.gives_result(self.pair.later) => ("RESULTS", "OR_SYNC"),
+            None => ("SYNC", "RESULT"),
+            Some(_) if self.length > 0 && self.in_turns => self.of_turns(),
+            Some(_) if self.length > 0 => self.of_calls(),
+            Some(_) if self.is_in_called() => self.of_variable("CALLED_GLOBAL"),
+            Some(_) => self.of_variable("OWN_GLOBAL"),
+        }
     }
 
     // Whether the earlier event takes the result of a spawned call.
@@ -158,59 +114,53 @@ impl<'a> Site<'a, '_> {
         }
     }
 
-    // The result of a spawned call.
-    fn of_result(&self, name: &'a [u8]) -> Way<'a> {
-        if self.scene.run.gives_result(self.pair.later) {
-            return by_either(say(text("RESULTS")));
-        }
-        by_sync(say(text("RESULT")).word(name))
-    }
-
     // A single variable.
-    fn of_variable(&self, name: &'a [u8], own: &'static str) -> Way<'a> {
-        let in_turns = self.pair.is_in_turns(&self.scene);
-        if let (true, Some(set)) = (in_turns, self.own_at(name)) {
-            let words = match self.tokens.kind_back(set, 2) {
-                Some(Kind::For) => text("OWN_HEAD"),
-                _ => own,
+    fn of_variable(&self, own: &'static str) -> Way {
+        let (tokens, name) = (self.tokens, self.name);
+        if let (true, Some(set)) = (self.in_turns, self.own_at()) {
+            return match tokens.kind_back(set, 2) {
+                Some(Kind::For) => ("OWN_HEAD", ""),
+                _ => (own, ""),
             };
-            return by_change(say(words).word(name).word(name).word(name));
         }
-        if let Some(array) = filled(self.tokens, name) {
-            let filled = say(text("FILLED")).word(name).word(array);
-            return by_change(filled.word(array));
+        if filled(tokens, name).is_some() {
+            return ("FILLED", "");
         }
-        let [later, earlier] = self.statements();
-        if multiplies(self.tokens, later, name) || multiplies(self.tokens, earlier, name) {
-            return by_change(say(text("PRODUCT")).word(name));
+        if multiplies(tokens, self.later, name) || multiplies(tokens, self.earlier, name) {
+            return ("PRODUCT", "");
         }
-        if in_turns && self.is_running(name) {
-            return by_change(say(text("RUNNING")).word(name));
+        if self.in_turns && self.is_running() {
+            return ("RUNNING", "");
         }
-        match (self.reduced(later, name), self.reduced(earlier, name)) {
-            (Some(change), Some(_)) => return change,
-            (Some(change), None) | (None, Some(change)) if in_turns => return change,
+        match (self.taken_at(self.later), self.taken_at(self.earlier)) {
+            (Some(taken), Some(_)) => return (self.declared(self.later), taken.words),
+            (Some(taken), None) if self.in_turns => {
+                return (self.declared(self.later), taken.words);
+            }
+            (None, Some(taken)) if self.in_turns => {
+                return (self.declared(self.earlier), taken.words);
+            }
             _ => {}
         }
-        if in_turns {
-            by_change(say(own).word(name).word(name))
+        if self.in_turns {
+            (own, "")
         } else if self.is_beside_call() || self.is_in_one_loop() && self.writes() == (false, true) {
-            by_either(say(text("PASSED")).word(name))
+            ("PASSED", "OR_SYNC")
         } else {
-            by_sync(say(""))
+            BY_SYNC
         }
     }
 
     // Where a turn of the loop sets a variable, if it does so before it reads it.
-    fn own_at(&self, name: &[u8]) -> Option<usize> {
+    fn own_at(&self) -> Option<usize> {
         let tokens = self.tokens;
         let first = self.loop_token();
         let mut set = None;
         for number in first..tokens.count() {
-            if tokens.word(number) == name && stands_in(tokens, first, number) {
+            if tokens.word(number) == self.name && stands_in(tokens, first, number) {
                 let right = number.saturating_add(2);
                 let is_set = matches!(tokens.kind_behind(number), Some(Kind::Assign))
-                    && !has_name(tokens, right, semicolon_at(tokens, right), name);
+                    && !has_name(tokens, right, semicolon_at(tokens, right), self.name);
                 match set {
                     None if is_set => set = Some(number),
                     Some(_) if !is_set => return set,
@@ -222,76 +172,74 @@ impl<'a> Site<'a, '_> {
         None
     }
 
-    // A reducer for what a statement makes of a variable.
-    fn reduced(&self, first: usize, name: &'a [u8]) -> Option<Way<'a>> {
-        let taken = self.counted(takes(self.tokens, first, name)?)?;
-        let said = updated(taken.words, name, taken.added).word(taken.again);
-        Some(by_both(self.declared(first, taken.monoid, name), said))
+    // How a reducer takes what the statements of both events make of a variable.
+    fn taken(&self) -> Option<Taken<'a>> {
+        match self.taken_at(self.later) {
+            None => self.taken_at(self.earlier),
+            taken => taken,
+        }
     }
 
-    // How a reducer takes the first or last number: of turns it keeps which one that is.
-    fn counted(&self, taken: Taken<'a>) -> Option<Taken<'a>> {
-        let in_turns = self.pair.is_in_turns(&self.scene);
-        let (variable, _, _) = self.turns();
-        let number = taken.added.amount;
-        let added = Added {
-            amount: variable,
-            ..taken.added
-        };
+    // How a reducer takes what a statement makes of a variable: of the first or last number in turns
+    // it keeps which turn that is.
+    fn taken_at(&self, first: usize) -> Option<Taken<'a>> {
+        let taken = takes(self.tokens, first, self.name)?;
+        let number = taken.amount;
         match taken.words {
-            "ONCE" | "LAST" if in_turns && !self.is_in_called() => Some(if number == variable {
-                taken
-            } else {
-                Taken {
-                    words: "TURN",
-                    added,
-                    again: number,
-                    ..taken
-                }
-            }),
+            "ONCE" | "LAST" if self.in_turns && !self.is_in_called() => {
+                let (variable, _, _) = self.turns();
+                Some(if number == variable {
+                    taken
+                } else {
+                    Taken {
+                        words: "TURN",
+                        amount: variable,
+                        again: number,
+                        ..taken
+                    }
+                })
+            }
             "LAST" => None,
             "ONCE" if has_part(number, b"[") => None,
-            "FLAG" if !in_turns && !self.is_beside_call() => None,
+            "FLAG" if !self.in_turns && !self.is_beside_call() => None,
             _ => Some(taken),
         }
     }
 
-    // Where a reducer in place of a variable is declared.
-    fn declared(&self, number: usize, monoid: &'static str, name: &'a [u8]) -> Sentence<'a> {
-        let at = match self.tokens.kind(number) {
-            Some(Kind::Increment | Kind::Decrement | Kind::If) => self.named_from(number, name),
-            _ => number,
+    // Where a reducer in place of a variable is declared, which a statement changes.
+    fn declared(&self, first: usize) -> &'static str {
+        let at = match self.tokens.kind(first) {
+            Some(Kind::Increment | Kind::Decrement | Kind::If) => self.named_from(first),
+            _ => first,
         };
-        let depth = match self.tokens.declaration_of(at) {
-            Some((declared, _)) => depth_of(self.tokens, declared),
-            None => 0,
-        };
-        let words = match depth {
-            0 => text("GLOBAL"),
-            1 => text("FIRST"),
-            _ => text("INNER"),
-        };
-        say(words).with(Part::Text(monoid)).word(name).word(name)
+        match self.tokens.declaration_of(at) {
+            Some((declared, _)) => match depth_of(self.tokens, declared) {
+                0 => "GLOBAL",
+                1 => "FIRST",
+                _ => "INNER",
+            },
+            None => "GLOBAL",
+        }
     }
 
-    // The first token from a place on with this name.
-    fn named_from(&self, number: usize, name: &[u8]) -> usize {
-        for named in number..self.tokens.count() {
-            if self.tokens.word(named) == name {
-                return named;
+    // The first token from a place on with the name.
+    fn named_from(&self, first: usize) -> usize {
+        for number in first..self.tokens.count() {
+            if self.tokens.word(number) == self.name {
+                return number;
             }
         }
-        number
+        first
     }
 
     // Whether turns of the loop read a variable elsewhere than where they change it.
-    fn is_running(&self, name: &'a [u8]) -> bool {
+    fn is_running(&self) -> bool {
         let first = self.loop_token();
         for number in first..self.tokens.count() {
-            if self.tokens.word(number) == name && stands_in(self.tokens, first, number) {
+            if self.tokens.word(number) == self.name && stands_in(self.tokens, first, number) {
                 let start = statement_of(self.tokens, number);
                 let is_first = start == number || number == start.saturating_add(1);
-                if !is_first && takes(self.tokens, start, name).is_none() {
+                if !is_first && takes(self.tokens, start, self.name).is_none() {
                     return true;
                 }
             }
@@ -310,92 +258,88 @@ impl<'a> Site<'a, '_> {
     }
 }
 
-// Arrays.
+/// Arrays.
 impl<'a> Site<'a, '_> {
     // Elements that turns of a loop share.
-    fn of_turns(&self, name: &'a [u8], index: usize, length: usize) -> Way<'a> {
+    fn of_turns(&self) -> Way {
         let tokens = self.tokens;
-        let [later, earlier] = self.statements();
-        let (at, behind) = self.written();
-        let inner = at.saturating_add(2);
-        let position = text_of(tokens, inner, behind);
-        let (variable, _, turns) = self.turns();
-        let total = length.saturating_mul(turns);
-        if let (Some(sum), Some(_)) = (adds(tokens, later, name), adds(tokens, earlier, name)) {
+        if self.adds_up() {
             return if self.is_single() {
-                single(name, sum)
+                ("SINGLE", "SUM")
             } else {
-                let rows = say(text("ROWS")).count(total).count(length).word(variable);
-                let rows = rows.word(position).word(name).word(position);
-                by_both(rows, say(text("ROWS_ADDED")))
+                ("ROWS", "ROWS_ADDED")
             };
         }
-        if let Some(way) = self.swapped(name) {
+        if let Some(way) = self.swapped() {
             return way;
         }
-        if self.is_asked(name, text_of(tokens, at, behind.saturating_add(1))) {
-            return by_change(say(text("CLAIMED")).word(name));
+        let (at, behind) = self.written();
+        if self.is_asked(text_of(tokens, at, behind.saturating_add(1))) {
+            return ("CLAIMED", "");
         }
         if self.is_in_called() {
-            return by_change(say(text("WORK")).word(name).word(name));
+            return ("WORK", "");
         }
-        let is_own = has_name(tokens, inner, behind, variable);
-        by_change(match self.writes() {
-            (true, true) if is_own => say(text("APART")).word(name).word(position),
-            (true, true) => {
-                let row = say(text("ROW")).word(name).word(name).count(total);
-                row.count(length).word(variable)
-            }
-            _ if !is_own => say(text("ORDER")).word(name),
-            (false, _) => say(text("COPIED")).word(name),
-            (true, false) => say(text("FLOW")).word(name).count(index).word(name),
-        })
+        let is_own = has_name(tokens, at.saturating_add(2), behind, self.turns().0);
+        let words = match self.writes() {
+            (true, true) if is_own => "APART",
+            (true, true) => "ROW",
+            _ if !is_own => "ORDER",
+            (false, _) => "COPIED",
+            (true, false) => "FLOW",
+        };
+        (words, "")
+    }
+
+    // Whether both statements add to an element of the array.
+    fn adds_up(&self) -> bool {
+        adds(self.tokens, self.later, self.name).is_some()
+            && adds(self.tokens, self.earlier, self.name).is_some()
     }
 
     // The name of the written array, and the bracket that ends its index.
     fn written(&self) -> (usize, usize) {
-        let [later, earlier] = self.statements();
         let written = match self.writes() {
-            (true, false) => earlier,
-            _ => later,
+            (true, false) => self.earlier,
+            _ => self.later,
         };
         let at = behind_mark(self.tokens, written);
         (at, behind_place(self.tokens, at).saturating_sub(1))
     }
 
     // Two turns that swap the same two elements.
-    fn swapped(&self, name: &'a [u8]) -> Option<Way<'a>> {
-        let tokens = self.tokens;
-        let [later, earlier] = self.statements();
-        let swap = swap_of(tokens, later, name)?;
+    fn swapped(&self) -> Option<Way> {
+        let swap = swap_of(self.tokens, self.later, self.name)?;
         let (one, other) = self.cells_of(swap, self.pair.earlier)?;
         let pair = self.cells_of(swap, self.pair.later)?;
-        if swap_of(tokens, earlier, name)?.one != swap.one
+        if swap_of(self.tokens, self.earlier, self.name)?.one != swap.one
             || pair != (one, other) && pair != (other, one)
         {
             return None;
         }
-        let (variable, low, high) = self.turns();
+        Some(match self.inner_variable() {
+            Some(_) => ("SWAPPED", "SWAPPED_INNER"),
+            None => ("SWAPPED", "SWAPPED_HALF"),
+        })
+    }
+
+    // The variable of a loop in the turns that is around a swap.
+    fn inner_variable(&self) -> Option<&'a [u8]> {
+        let tokens = self.tokens;
         let at = if self.is_in_called() {
             tokens.number_at(self.scene.invoked_at(self.scene.around(self.pair.second).0))
         } else {
-            swap.one
+            swap_of(tokens, self.later, self.name)?.one
         };
-        let bound = match loop_round(tokens, at) {
-            Some(inner) if inner > self.loop_token() => {
-                let named = inner.saturating_add(match tokens.kind(inner.saturating_add(2)) {
-                    Some(Kind::Int) => 3,
-                    _ => 2,
-                });
-                say(text("SWAPPED_INNER"))
-                    .word(tokens.word(named))
-                    .word(variable)
-            }
-            _ => say(text("SWAPPED_HALF"))
-                .word(variable)
-                .count(low.saturating_add(high) / 2),
-        };
-        Some(by_both(say(text("SWAPPED")).word(name), bound))
+        let inner = loop_round(tokens, at)?;
+        if inner <= self.loop_token() {
+            return None;
+        }
+        let named = inner.saturating_add(match tokens.kind(inner.saturating_add(2)) {
+            Some(Kind::Int) => 3,
+            _ => 2,
+        });
+        Some(tokens.word(named))
     }
 
     // The two elements that a swap writes, of which an event accesses one.
@@ -434,12 +378,15 @@ impl<'a> Site<'a, '_> {
     }
 
     // Whether an `if` compares this element of an array with a constant.
-    fn is_asked(&self, name: &[u8], place: &[u8]) -> bool {
+    fn is_asked(&self, place: &[u8]) -> bool {
         let tokens = self.tokens;
         for number in 0..tokens.count() {
             let behind = behind_place(tokens, number);
             let is_if = matches!(head_kind(tokens, number), Some(Kind::If));
-            if is_if && tokens.word(number) == name && text_of(tokens, number, behind) == place {
+            if is_if
+                && tokens.word(number) == self.name
+                && text_of(tokens, number, behind) == place
+            {
                 let is_not = matches!(tokens.kind_back(number, 1), Some(Kind::Not));
                 let compared = tokens.kind_behind(behind);
                 return match tokens.kind(behind) {
@@ -502,52 +449,39 @@ impl<'a> Site<'a, '_> {
     }
 
     // An element that a spawned call and what runs beside it share.
-    fn of_calls(&self, name: &'a [u8], index: usize, length: usize) -> Way<'a> {
-        let tokens = self.tokens;
-        let [later, earlier] = self.statements();
-        let work = say(text("WORK")).word(name).word(name);
+    fn of_calls(&self) -> Way {
+        let is_spawn = matches!(self.tokens.kind(self.later), Some(Kind::CilkSpawn));
         if !self.is_beside_call() {
             return match (self.is_in_one_loop(), self.writes().1) {
-                (true, true) => by_either(work),
-                (true, false) if !matches!(tokens.kind(later), Some(Kind::CilkSpawn)) => {
-                    by_sync(say(text("SECOND_LOOP")).word(name))
-                }
-                _ => by_sync(say("")),
+                (true, true) => ("WORK", "OR_SYNC"),
+                (true, false) if !is_spawn => ("SYNC", "SECOND_LOOP"),
+                _ => BY_SYNC,
             };
         }
-        if let (Some(sum), Some(_)) = (adds(tokens, later, name), adds(tokens, earlier, name)) {
-            return self.of_counts(name, sum, length);
+        if self.adds_up() {
+            return if self.is_single() {
+                ("SINGLE", "SUM")
+            } else {
+                ("CALL_ROWS", "")
+            };
         }
         let called = self.scene.function_of(self.pair.child);
-        let beside = self.scene.function_of(self.branch().unwrap_or(0));
-        if self.is_in_ranges(index) && called != beside {
-            return by_sync(say(text("ORDERED")).word(beside).word(called).word(name));
+        match self.is_in_ranges() {
+            true if called != self.beside() => ("SYNC", "ORDERED"),
+            true => ("RANGES", "OR_SYNC"),
+            false if self.writes() == (true, false) => ("TABLE", "OR_SYNC"),
+            false => ("WORK", "OR_SYNC"),
         }
-        by_either(if self.is_in_ranges(index) {
-            let ranges = say(text("RANGES")).word(name).word(called);
-            ranges.word(name).count(index)
-        } else if self.writes() == (true, false) {
-            say(text("TABLE")).word(name)
-        } else {
-            work
-        })
-    }
-
-    // Elements in which two calls add up.
-    fn of_counts(&self, name: &'a [u8], sum: Added<'a>, length: usize) -> Way<'a> {
-        if self.is_single() {
-            return single(name, sum);
-        }
-        let (at, behind) = self.written();
-        let position = text_of(self.tokens, at.saturating_add(2), behind);
-        let rows = say(text("CALL_ROWS")).count(length.saturating_mul(2));
-        let rows = rows.word(position).word(name).word(position);
-        by_change(rows.count(length))
     }
 
     // The child of the common frame that the later event is in.
     fn branch(&self) -> Option<usize> {
         self.scene.child_of(self.pair.common, self.pair.second)
+    }
+
+    // The function of that child.
+    fn beside(&self) -> &'a [u8] {
+        self.scene.function_of(self.branch().unwrap_or(0))
     }
 
     // Whether the later event is in another call of the spawned function, or in another spawn.
@@ -565,27 +499,23 @@ impl<'a> Site<'a, '_> {
     fn is_in_one_loop(&self) -> bool {
         let tokens = self.tokens;
         let spawn = tokens.number_at(self.scene.invoked_at(self.pair.child));
+        let leaving = tokens.number_at(self.pair.leaving(&self.scene));
         match loop_round(tokens, spawn) {
-            Some(round) => stands_in(
-                tokens,
-                round,
-                tokens.number_at(self.pair.leaving(&self.scene)),
-            ),
+            Some(round) => stands_in(tokens, round, leaving),
             None => false,
         }
     }
 
-    // Whether both calls have an index between two of their arguments, one after the other.
-    fn is_in_ranges(&self, index: usize) -> bool {
-        match (i64::try_from(index), self.branch()) {
-            (Ok(index), Some(branch)) => {
-                self.is_in_range(self.pair.child, index) && self.is_in_range(branch, index)
-            }
-            _ => false,
+    // Whether both calls have the index between two of their arguments, one after the other.
+    fn is_in_ranges(&self) -> bool {
+        match self.branch() {
+            Some(branch) => self.is_in_range(self.pair.child) && self.is_in_range(branch),
+            None => false,
         }
     }
 
-    fn is_in_range(&self, frame: usize, index: i64) -> bool {
+    fn is_in_range(&self, frame: usize) -> bool {
+        let index = i64::try_from(self.index).unwrap_or(i64::MAX);
         for place in 1..self.scene.words_of(frame) {
             let from = self.scene.argument(frame, place.saturating_sub(1));
             if let (Some(from), Some(upto)) = (from, self.scene.argument(frame, place)) {
@@ -598,63 +528,127 @@ impl<'a> Site<'a, '_> {
     }
 }
 
-// Reducers.
+/// Reducers.
 impl<'a> Site<'a, '_> {
     // A reducer that is read or set.
-    fn of_view(&self, at: usize) -> Way<'a> {
-        let tokens = self.tokens;
-        let reducer = tokens.number_at(self.scene.byte_of(at));
-        let name = tokens.word(reducer);
-        let monoid = match tokens.declaration_of(reducer) {
-            Some((declared, _)) => tokens.word(declared.saturating_sub(2)),
-            None => &[],
-        };
-        if let Some(Most { monoid, number }) = kept_by(tokens, reducer) {
-            let kept = say(text("KEPT")).with(Part::Text(monoid)).word(name);
-            return by_change(kept.word(name).word(number));
-        }
-        let is_behind = at == self.pair.later && !self.pair.is_in_turns(&self.scene);
-        if !is_behind && self.is_set(name) {
-            let own = say(text("OWN_SUM")).word(name).word(name).word(name);
-            let reducer = say(text("OWN_REDUCER")).word(monoid).word(name);
-            return by_both(own.word(name).word(name), reducer);
-        }
-        if self.pair.is_in_turns(&self.scene) {
-            return by_change(say(text("AFTER_LOOP")).word(name));
-        }
-        if is_behind {
-            return by_sync(say(""));
-        }
+    fn of_view(&self, event: usize) -> Way {
+        let is_behind = event == self.pair.later && !self.in_turns;
         let parent = self.scene.function_of(self.pair.common);
-        let read = if parent == self.scene.function_of(self.pair.child) {
-            say(text("IN_RECURSION"))
-                .word(parent)
-                .word(name)
-                .word(parent)
+        let is_recursion = parent == self.scene.function_of(self.pair.child);
+        let is_sum = self.monoid() == b"add".as_slice();
+        if kept_by(self.tokens, self.at).is_some() {
+            ("KEPT", "")
+        } else if !is_behind && self.is_set() {
+            ("OWN_SUM", "OWN_REDUCER")
+        } else if self.in_turns {
+            ("AFTER_LOOP", "")
+        } else if is_behind {
+            BY_SYNC
         } else {
-            let spawn = self.scene.place(self.scene.invoked_at(self.pair.child));
-            say(text("IN_PARENT")).word(name).word(parent).with(spawn)
-        };
-        by_both(
-            read,
-            say(if monoid == b"add".as_slice() {
-                text("OWN_PART")
-            } else {
-                ""
-            }),
-        )
+            (
+                if is_recursion {
+                    "IN_RECURSION"
+                } else {
+                    "IN_PARENT"
+                },
+                if is_sum { "OWN_PART" } else { "" },
+            )
+        }
+    }
+
+    // The name of the reducer's monoid.
+    fn monoid(&self) -> &'a [u8] {
+        match self.tokens.declaration_of(self.at) {
+            Some((declared, _)) => self.tokens.word_back(declared, 2),
+            None => &[],
+        }
     }
 
     // Whether the text sets a reducer with this name.
-    fn is_set(&self, name: &[u8]) -> bool {
+    fn is_set(&self) -> bool {
         for number in 0..self.tokens.count() {
             if matches!(self.tokens.kind(number), Some(Kind::Set))
-                && self.tokens.word(number.saturating_add(2)) == name
+                && self.tokens.word(number.saturating_add(2)) == self.name
             {
                 return true;
             }
         }
         false
+    }
+}
+
+/// Words.
+impl<'a> Site<'a, '_> {
+    // Adds the words with this name, and what its letters stand for.
+    fn push(&self, report: &mut String, named: &str) -> Result<(), AllocError> {
+        let mut rest = text(named);
+        for _gap in 0..rest.len() {
+            let Some((ahead, behind)) = rest.split_once('{') else {
+                break;
+            };
+            let Some((letter, after)) = behind.split_once('}') else {
+                break;
+            };
+            report.push_str(ahead)?;
+            self.push_fact(report, letter)?;
+            rest = after;
+        }
+        report.push_str(rest)
+    }
+
+    fn push_fact(&self, report: &mut String, letter: &str) -> Result<(), AllocError> {
+        let scene = &self.scene;
+        let letter = letter.as_bytes().first().copied().unwrap_or(0);
+        match letter {
+            b'y' => {
+                let spawn = scene.invoked_at(self.pair.child);
+                let parted = parted_at(scene, spawn, self.pair.leaving(scene))?;
+                scene.push(report, &parted)
+            }
+            b'a' => match self.taken() {
+                Some(taken) => scene.push(report, &say(taken.form).word(taken.amount)),
+                None => Ok(()),
+            },
+            _ => scene.push(report, &say("{}").with(self.fact(letter))),
+        }
+    }
+
+    // What a letter stands for.
+    fn fact(&self, letter: u8) -> Part<'a> {
+        let scene = &self.scene;
+        let (variable, low, high) = self.turns();
+        match letter {
+            b'n' => Part::Word(self.name),
+            b'i' => Part::Count(self.index),
+            b'l' => Part::Count(self.length),
+            b'd' => Part::Count(self.length.saturating_mul(2)),
+            b't' => Part::Count(self.length.saturating_mul(high)),
+            b'v' => Part::Word(variable),
+            b'h' => Part::Count(low.saturating_add(high) / 2),
+            b'w' => Part::Word(self.inner_variable().unwrap_or(&[])),
+            b'f' => Part::Word(filled(self.tokens, self.name).unwrap_or(&[])),
+            b'p' => {
+                let (at, behind) = self.written();
+                Part::Word(text_of(self.tokens, at.saturating_add(2), behind))
+            }
+            b'b' => Part::Word(self.beside()),
+            b'c' => Part::Word(scene.function_of(self.pair.child)),
+            b'e' => Part::Word(scene.function_of(self.pair.common)),
+            b's' => scene.place(scene.invoked_at(self.pair.child)),
+            b'r' => Part::Word(self.monoid()),
+            _ => self.kept(letter),
+        }
+    }
+
+    // The same for how a reducer takes something.
+    fn kept(&self, letter: u8) -> Part<'a> {
+        match (letter, self.taken(), kept_by(self.tokens, self.at)) {
+            (b'm', Some(taken), _) => Part::Text(taken.monoid),
+            (b'g', Some(taken), _) => Part::Word(taken.again),
+            (b'k', _, Some(Most { monoid, .. })) => Part::Text(monoid),
+            (b'u', _, Some(Most { number, .. })) => Part::Word(number),
+            _ => Part::Text(""),
+        }
     }
 }
 
@@ -664,20 +658,6 @@ fn is_write_of(event: &Event, wanted: Cell) -> bool {
 
 fn is_write(event: Option<Event>) -> bool {
     matches!(event, Some(Event::Write { .. }))
-}
-
-// A reducer for the one element of an array that is added to.
-fn single<'a>(array: &'a [u8], sum: Added<'a>) -> Way<'a> {
-    let name = b"all".as_slice();
-    let declared = say(text("SINGLE")).with(Part::Text("add")).word(name);
-    by_both(declared.word(array), updated("UPDATED", name, sum))
-}
-
-// How a reducer is updated and read.
-fn updated<'a>(words: &str, name: &'a [u8], sum: Added<'a>) -> Sentence<'a> {
-    let updated = say(text(words)).word(name).with(Part::Text(sum.open));
-    let updated = updated.word(sum.amount).with(Part::Text(sum.close));
-    updated.word(name)
 }
 
 // The token after `++` or `--`, if one of these stands at a token.

@@ -2,6 +2,7 @@
 
 use crate::beside::{Beside, Change};
 use cilk_findings::scene::Scene;
+use cilk_syntax::tree::Name;
 use cilk_types::event::{Event, Instance};
 use std::alloc::AllocError;
 
@@ -63,6 +64,17 @@ pub fn viewed_at(scene: &Scene<'_>, index: usize) -> Option<Instance> {
         Event::Set { instance, .. } => Some(instance),
         Event::Value { instance, .. } => Some(instance),
         _ => None,
+    }
+}
+
+/// Returns the name with which the variable, array or reducer of an event is declared.
+pub fn name_of(scene: &Scene<'_>, index: usize) -> Option<Name> {
+    let Some((cell, _)) = scene.access(index) else {
+        return scene.reducer(viewed_at(scene, index)?);
+    };
+    match scene.global(cell) {
+        Some(global) => Some(global.name),
+        None => Some(scene.variable(cell)?.1),
     }
 }
 

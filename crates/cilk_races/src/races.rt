@@ -1,7 +1,7 @@
 //! Reports on two accesses that race, or on a reducer's read that a schedule can change.
 
 use crate::cures::push_cure;
-use crate::pair::{Pair, Race, pair_of, viewed_at};
+use crate::pair::{Pair, Race, name_of, pair_of};
 use crate::schedules::search;
 use cilk_findings::case::Case;
 use cilk_findings::fault::CaseFault;
@@ -134,16 +134,7 @@ fn done_by(event: &Event) -> Sentence<'static> {
 
 // Where the variable, array or reducer is declared.
 fn push_declared(scene: &Scene<'_>, report: &mut String, race: Race) -> Result<(), AllocError> {
-    let name = match (scene.access(race.later), viewed_at(scene, race.later)) {
-        (Some((cell, _)), _) => match (scene.global(cell), scene.variable(cell)) {
-            (Some(global), _) => Some(global.name),
-            (None, Some((_, name))) => Some(name),
-            (None, None) => None,
-        },
-        (None, Some(instance)) => scene.reducer(instance),
-        (None, None) => None,
-    };
-    match name {
+    match name_of(scene, race.later) {
         Some(name) => {
             let declared = say("declared: `{}` at {}\n").word(scene.word(name));
             scene.push(report, &declared.with(scene.place(name.at)))

@@ -71,7 +71,7 @@ fn best_of(scene: &Scene<'_>, pair: &Pair, serial: &Outcome) -> Result<Option<Fo
             let difference = schedule.play(scene.case, serial)?;
             played = played.saturating_add(1);
             best = better(best, schedule, difference, played);
-            if scene.run.trace.len() > SEARCHED || is_shown(&best) {
+            if scene.run.trace.len() > SEARCHED || telling(&difference) == MOST_TELLING {
                 return Ok(best);
             }
         }
@@ -79,7 +79,7 @@ fn best_of(scene: &Scene<'_>, pair: &Pair, serial: &Outcome) -> Result<Option<Fo
     Ok(best)
 }
 
-// The more telling one of two outcomes.
+// The more telling one of two outcomes, or the first.
 fn better(
     best: Option<Found>,
     schedule: Schedule,
@@ -87,34 +87,29 @@ fn better(
     played: usize,
 ) -> Option<Found> {
     match (best, difference) {
-        (Some(found), Some(Difference::Nothing) | None) => Some(Found { played, ..found }),
-        (
-            Some(
-                found @ Found {
-                    difference: Difference::Globals,
-                    ..
-                },
-            ),
-            Some(Difference::Globals),
-        ) => Some(Found { played, ..found }),
+        (Some(found), difference) if telling(&difference) <= telling(&Some(found.difference)) => {
+            Some(Found { played, ..found })
+        }
         (_, Some(difference)) => Some(Found {
             schedule,
             difference,
             played,
         }),
-        (None, None) => None,
+        (_, None) => None,
     }
 }
 
-// Whether an outcome shows a difference to a reader.
-fn is_shown(found: &Option<Found>) -> bool {
-    match found {
-        Some(Found { difference, .. }) => {
-            !matches!(difference, Difference::Nothing | Difference::Globals)
-        }
-        None => false,
+// How much an outcome tells a reader.
+fn telling(difference: &Option<Difference>) -> u8 {
+    match difference {
+        None => 0,
+        Some(Difference::Nothing) => 1,
+        Some(Difference::Globals) => 2,
+        Some(_) => MOST_TELLING,
     }
 }
+
+const MOST_TELLING: u8 = 3;
 
 impl Found {
     /// Returns the script of the schedule.

@@ -6,12 +6,11 @@ use cilk_messages::sites::head_of;
 use cilk_messages::tokens::Tokens;
 use cilk_syntax::token::Kind;
 
-/// What a statement adds: a number's text between two marks.
+/// What a statement adds: the text of a number, and a form with a gap for it.
 #[derive(Clone, Copy)]
 pub struct Added<'a> {
-    pub open: &'static str,
+    pub form: &'static str,
     pub amount: &'a [u8],
-    pub close: &'static str,
 }
 
 /// The monoid of a comparison, and the text of the number that is kept.
@@ -21,13 +20,14 @@ pub struct Most<'a> {
     pub number: &'a [u8],
 }
 
-/// How a reducer takes what a statement makes of a variable: the name of the words that say so, and
-/// the part of a condition that goes away, or the variable again.
+/// How a reducer takes what a statement makes of a variable: the name of the words that say so, the
+/// number as in [`Added`], and the part of a condition that goes away, or the variable again.
 #[derive(Clone, Copy)]
 pub struct Taken<'a> {
     pub monoid: &'static str,
     pub words: &'static str,
-    pub added: Added<'a>,
+    pub form: &'static str,
+    pub amount: &'a [u8],
     pub again: &'a [u8],
 }
 
@@ -75,6 +75,16 @@ pub fn has_name(tokens: &Tokens<'_>, from: usize, upto: usize, name: &[u8]) -> b
     false
 }
 
+// Whether a word is one of these, which blanks separate.
+fn is_among(words: &str, word: &[u8]) -> bool {
+    for it in words.split_whitespace() {
+        if it.as_bytes() == word {
+            return true;
+        }
+    }
+    false
+}
+
 /// Returns the token after a variable or element that begins at a token.
 pub fn behind_place(tokens: &Tokens<'_>, named: usize) -> usize {
     let mut depth: usize = 0;
@@ -103,28 +113,32 @@ pub fn adds<'a>(tokens: &Tokens<'a>, first: usize, name: &[u8]) -> Option<Added<
     }
     let behind = behind_place(tokens, named);
     let rest = behind.saturating_add(1);
-    let end = semicolon_at(tokens, rest);
-    match tokens.kind(if is_ahead { first } else { behind }) {
-        Some(Kind::Increment) => Some(bare(b"1")),
-        Some(Kind::Decrement) => Some(bare(b"-1")),
-        Some(Kind::PlusAssign) => without(tokens, rest, end, name),
-        Some(Kind::MinusAssign) => Some(Added {
-            open: "-(",
-            close: ")",
-            ..without(tokens, rest, end, name)?
+    let right = Side {
+        from: rest,
+        upto: semicolon_at(tokens, rest),
+    };
+    let (form, side) = match tokens.kind(if is_ahead { first } else { behind }) {
+        Some(Kind::Increment) => return Some(Added {
+            form: "1",
+            amount: &[],
         }),
-        Some(Kind::Assign) => assigned(tokens, named, rest, name),
-        _ => None,
+        Some(Kind::Decrement) => return Some(Added {
+            form: "-1",
+            amount: &[],
+        }),
+        Some(Kind::PlusAssign) => ("{}", right),
+        Some(Kind::MinusAssign) => ("-({})", right),
+        Some(Kind::Assign) => match joined(tokens, named, rest)? {
+            (mark, side) if matches!(tokens.kind(mark), Some(Kind::Plus)) => ("{}", side),
+            _ => return None,
+        },
+        _ => return None,
+    };
+    if has_name(tokens, side.from, side.upto, name) {
+        return None;
     }
-}
-
-// What `PLACE = PLACE + ..` or `PLACE = .. + PLACE` adds. The right side begins at a token.
-fn assigned<'a>(tokens: &Tokens<'a>, named: usize, right: usize, name: &[u8]) -> Option<Added<'a>> {
-    let (mark, side) = joined(tokens, named, right)?;
-    match tokens.kind(mark) {
-        Some(Kind::Plus) => without(tokens, side.from, side.upto, name),
-        _ => None,
-    }
+    let amount = text_of(tokens, side.from, side.upto);
+    Some(Added { form, amount })
 }
 
 // The operator, and what it joins with the place, of `PLACE = PLACE OPERATOR ..` or of
@@ -157,27 +171,12 @@ pub fn multiplies(tokens: &Tokens<'_>, first: usize, name: &[u8]) -> bool {
     tokens.word(first) == name && matches!(tokens.kind(mark), Some(Kind::Star | Kind::StarAssign))
 }
 
-fn bare(amount: &[u8]) -> Added<'_> {
-    Added {
-        open: "",
-        amount,
-        close: "",
-    }
-}
-
-// An added number whose text doesn't have the name itself.
-fn without<'a>(tokens: &Tokens<'a>, from: usize, end: usize, name: &[u8]) -> Option<Added<'a>> {
-    if has_name(tokens, from, end, name) {
-        return None;
-    }
-    Some(bare(text_of(tokens, from, end)))
-}
-
 /// Returns how a reducer takes what the statement at a token makes of a variable. The statement may
 /// be the `if` around an assignment.
 pub fn takes<'a>(tokens: &Tokens<'a>, first: usize, name: &'a [u8]) -> Option<Taken<'a>> {
-    if let Some(added) = adds(tokens, first, name) {
-        return Some(by_reducer("add", "UPDATED", added, name));
+    if let Some(Added { form, amount }) = adds(tokens, first, name) {
+        let taken = by_reducer("add", "UPDATED", amount, name);
+        return Some(Taken { form, ..taken });
     }
     let start = assignment_of(tokens, first, name)?;
     let right = start.saturating_add(2);
@@ -191,7 +190,10 @@ pub fn takes<'a>(tokens: &Tokens<'a>, first: usize, name: &'a [u8]) -> Option<Ta
             Some(Kind::Or) => "max",
             _ => return None,
         };
-        return Some(by_reducer(monoid, "FLAG", truth(tokens, side), name));
+        let amount = text_of(tokens, side.from, side.upto);
+        let form = truth(tokens, side);
+        let taken = by_reducer(monoid, "FLAG", amount, name);
+        return Some(Taken { form, ..taken });
     }
     if let Some(most) = called(tokens, side, name) {
         return Some(most);
@@ -199,30 +201,28 @@ pub fn takes<'a>(tokens: &Tokens<'a>, first: usize, name: &'a [u8]) -> Option<Ta
     if has_name(tokens, right, side.upto, name) {
         return None;
     }
-    if let Some(asked) = asked_at(tokens, start, name) {
-        return if has_else(tokens, asked, start) {
-            None
-        } else {
-            compared(tokens, asked, side)
-        };
+    match (asked_at(tokens, start, name), flag(tokens, side, name)) {
+        (Some(asked), _) if has_name(tokens, asked, start, b"else") => None,
+        (Some(asked), _) => compared(tokens, asked, side),
+        (None, None) => {
+            let amount = text_of(tokens, right, side.upto);
+            Some(by_reducer("max", "LAST", amount, name))
+        }
+        (None, flag) => flag,
     }
-    if let Some(flag) = flag(tokens, side, name) {
-        return Some(flag);
-    }
-    let amount = bare(text_of(tokens, right, side.upto));
-    Some(by_reducer("max", "LAST", amount, name))
 }
 
 fn by_reducer<'a>(
     monoid: &'static str,
     words: &'static str,
-    added: Added<'a>,
+    amount: &'a [u8],
     again: &'a [u8],
 ) -> Taken<'a> {
     Taken {
         monoid,
         words,
-        added,
+        form: "{}",
+        amount,
         again,
     }
 }
@@ -239,28 +239,14 @@ fn assignment_of(tokens: &Tokens<'_>, first: usize, name: &[u8]) -> Option<usize
     None
 }
 
-// A number that is used as true or false, as 0 or 1.
-fn truth<'a>(tokens: &Tokens<'a>, side: Side) -> Added<'a> {
-    let amount = text_of(tokens, side.from, side.upto);
+// The form of a number that is used as true or false, as 0 or 1.
+fn truth(tokens: &Tokens<'_>, side: Side) -> &'static str {
     for number in side.from..side.upto {
-        if let Some(
-            Kind::Not
-            | Kind::Less
-            | Kind::Greater
-            | Kind::LessEqual
-            | Kind::GreaterEqual
-            | Kind::Equal
-            | Kind::NotEqual,
-        ) = tokens.kind(number)
-        {
-            return bare(amount);
+        if is_among("! < > <= >= == !=", tokens.word(number)) {
+            return "{}";
         }
     }
-    Added {
-        open: "!!(",
-        amount,
-        close: ")",
-    }
+    "!!({})"
 }
 
 // The other argument of a call of a function for the greater or lesser of two numbers.
@@ -282,7 +268,7 @@ fn called<'a>(tokens: &Tokens<'a>, side: Side, name: &'a [u8]) -> Option<Taken<'
     } else {
         return None;
     };
-    Some(by_reducer(monoid, "MOST", bare(amount), name))
+    Some(by_reducer(monoid, "MOST", amount, name))
 }
 
 /// Returns whether a word or a text has a part.
@@ -312,15 +298,6 @@ fn asked_at(tokens: &Tokens<'_>, start: usize, name: &[u8]) -> Option<usize> {
     found
 }
 
-fn has_else(tokens: &Tokens<'_>, from: usize, upto: usize) -> bool {
-    for number in from..upto {
-        if let Some(Kind::Else) = tokens.kind(number) {
-            return true;
-        }
-    }
-    false
-}
-
 // What an `if` keeps that compares a variable at a token and sets it to a number: the greatest or
 // least where it is that number, otherwise the first.
 fn compared<'a>(tokens: &Tokens<'a>, asked: usize, number: Side) -> Option<Taken<'a>> {
@@ -328,12 +305,14 @@ fn compared<'a>(tokens: &Tokens<'a>, asked: usize, number: Side) -> Option<Taken
     let ahead = tokens.kind_back(asked, 1);
     let behind = tokens.kind_behind(asked);
     let side = match monoid_of(None, behind) {
-        None if !matches!(behind, Some(Kind::Equal)) => ahead_of(tokens, asked.saturating_sub(1)),
-        _ => behind_of(tokens, asked.saturating_add(2)),
+        None if !matches!(behind, Some(Kind::Equal)) => {
+            part_at(tokens, asked.saturating_sub(1), true)
+        }
+        _ => part_at(tokens, asked.saturating_add(2), false),
     };
     let is_equal = matches!(ahead, Some(Kind::Not | Kind::Equal))
         || matches!(behind, Some(Kind::Equal));
-    let amount = bare(text_of(tokens, number.from, number.upto));
+    let amount = text_of(tokens, number.from, number.upto);
     if is_same(tokens, side, number) || !is_equal && !is_constant(tokens, side) {
         return Some(by_reducer(monoid_of(ahead, behind)?, "COMPARED", amount, name));
     }
@@ -353,7 +332,7 @@ fn flag<'a>(tokens: &Tokens<'a>, number: Side, name: &'a [u8]) -> Option<Taken<'
     if !is_constant(tokens, number) {
         return None;
     }
-    let amount = bare(text_of(tokens, number.from, number.upto));
+    let amount = text_of(tokens, number.from, number.upto);
     let monoid = match tokens.kind(number.from) {
         Some(Kind::Number(0) | Kind::Minus) => "min",
         _ => "max",
@@ -380,32 +359,34 @@ fn is_same(tokens: &Tokens<'_>, one: Side, other: Side) -> bool {
     one.upto.saturating_sub(one.from) == other.upto.saturating_sub(other.from)
 }
 
-// The part of a condition from a token on, up to its end, or to `&&` or `||`.
-fn behind_of(tokens: &Tokens<'_>, from: usize) -> Side {
+// The part of a condition before a token, or from it on: to an end of the condition, `&&` or `||`.
+fn part_at(tokens: &Tokens<'_>, at: usize, is_ahead: bool) -> Side {
+    let (ends, opens, closes) = if is_ahead {
+        ("( && ||", ") ]", "( [")
+    } else {
+        (") && ||", "( [", ") ]")
+    };
     let mut depth: usize = 0;
-    for upto in from..tokens.count() {
-        match tokens.kind(upto) {
-            Some(Kind::Open | Kind::OpenBracket) => depth = depth.saturating_add(1),
-            Some(Kind::Close | Kind::And | Kind::Or) if depth == 0 => return Side { from, upto },
-            Some(Kind::Close | Kind::CloseBracket) => depth = depth.saturating_sub(1),
-            _ => {}
+    let (mut from, mut upto) = (at, at);
+    for _token in 0..tokens.count() {
+        let word = tokens.word(if is_ahead {
+            from.saturating_sub(1)
+        } else {
+            upto
+        });
+        if depth == 0 && is_among(ends, word) {
+            break;
         }
-    }
-    Side { from, upto: from }
-}
-
-// The part of a condition before a token.
-fn ahead_of(tokens: &Tokens<'_>, upto: usize) -> Side {
-    let mut depth: usize = 0;
-    let mut from = upto;
-    for back in 1..upto {
-        match tokens.kind_back(upto, back) {
-            Some(Kind::Close | Kind::CloseBracket) => depth = depth.saturating_add(1),
-            Some(Kind::Open | Kind::And | Kind::Or) if depth == 0 => break,
-            Some(Kind::Open | Kind::OpenBracket) => depth = depth.saturating_sub(1),
-            _ => {}
+        if is_among(opens, word) {
+            depth = depth.saturating_add(1);
+        } else if is_among(closes, word) {
+            depth = depth.saturating_sub(1);
         }
-        from = upto.saturating_sub(back);
+        if is_ahead {
+            from = from.saturating_sub(1);
+        } else {
+            upto = upto.saturating_add(1);
+        }
     }
     Side { from, upto }
 }
@@ -442,15 +423,6 @@ fn swap_at(tokens: &Tokens<'_>, one: usize, name: &[u8]) -> Option<usize> {
     if is_swap { Some(other) } else { None }
 }
 
-// The first token of the first statement after the condition of an `if`.
-fn body_of(tokens: &Tokens<'_>, condition: usize) -> usize {
-    let body = behind_head(tokens, condition);
-    match tokens.kind(body) {
-        Some(Kind::OpenBrace) => body.saturating_add(1),
-        _ => body,
-    }
-}
-
 // The monoid that keeps the same number as a comparison, by the marks before and after what is
 // compared.
 fn monoid_of(ahead: Option<Kind>, behind: Option<Kind>) -> Option<&'static str> {
@@ -470,7 +442,11 @@ pub fn kept_by<'a>(tokens: &Tokens<'a>, reducer: usize) -> Option<Most<'a>> {
         tokens.kind_back(reducer, 3),
         tokens.kind(reducer.saturating_add(2)),
     )?;
-    let first = body_of(tokens, condition_of(tokens, reducer)?);
+    let body = behind_head(tokens, condition_of(tokens, reducer)?);
+    let first = match tokens.kind(body) {
+        Some(Kind::OpenBrace) => body.saturating_add(1),
+        _ => body,
+    };
     let named = first.saturating_add(2);
     if !matches!(tokens.kind(first), Some(Kind::Set | Kind::Update))
         || tokens.word(named) != tokens.word(reducer)
@@ -511,5 +487,5 @@ pub fn filled<'a>(tokens: &Tokens<'a>, name: &[u8]) -> Option<&'a [u8]> {
         }
         is_counted = is_counted || adds(tokens, number, name).is_some();
     }
-    array.filter(|_| is_counted)
+    if is_counted { array } else { None }
 }
