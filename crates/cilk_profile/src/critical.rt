@@ -42,81 +42,46 @@ const SITE: &str = "spawned";
 
 const LINE: &str = "line";
 
+/// The critical path of a run: its events, and what it goes through.
+struct Critical<'a> {
+    table: Table<'a>,
+    path: Vec<usize>,
+    // For each event, and the end, the number of events of the path that come before it.
+    ahead: Vec<u64>,
+    // By the byte of the text.
+    sites: Vec<Option<Site>>,
+    // For each byte of the text, the events of the path there.
+    counts: Vec<u64>,
+    lines: Vec<Line>,
+}
+
+// Written out, so that a proof follows one call where it is dropped.
+impl Drop for Critical<'_> {
+    fn drop(self) {
+        let Critical {
+            table: _table,
+            path: _path,
+            ahead: _ahead,
+            sites: _sites,
+            counts: _counts,
+            lines: _lines,
+        } = self;
+    }
+}
+
 impl Table<'_> {
     /// Adds a table of the places of spawns, and one of the lines with most of the critical path.
     pub fn push_critical(&self, text: &mut String) -> Result<(), AllocError> {
-        let path = critical_path(self.scene.case.alloc, &self.scene.run.trace)?;
-        self.push_sites(text, path.as_slice())?;
-        self.push_lines(text, path.as_slice())
-    }
-
-    fn push_sites(&self, text: &mut String, path: &[usize]) -> Result<(), AllocError> {
-        let ahead = events_ahead(&self.scene, path)?;
-        let sites = sites_of(&self.scene, ahead.as_slice())?;
-        self.push_each(text, sites.as_slice(), path.len() as u64)
-    }
-
-    // Adds a line for each place, if there is one.
-    fn push_each(&self, text: &mut String, sites: &[Site], total: u64) -> Result<(), AllocError> {
-        let mut width = SITE.len();
-        for site in sites {
-            width = width.max(self.length_of(&title_at(&self.scene, site.body, site.at))?);
-        }
-        if sites.is_empty() {
-            return Ok(());
-        }
-        text.push('\n')?;
-        push_cells(
-            text,
-            SITE,
-            &["spawns", "on span", "share"],
-            width,
-            self.commas,
-        )?;
-        for site in sites {
-            self.push_title(text, &title_at(&self.scene, site.body, site.at), width)?;
-            self.push_number(text, site.spawned)?;
-            self.push_percent(text, site.on_path, total)?;
-            text.push('\n')?;
-        }
-        Ok(())
-    }
-
-    fn push_lines(&self, text: &mut String, path: &[usize]) -> Result<(), AllocError> {
-        let counts = counts_of(&self.scene, path)?;
-        let mut lines = lines_of(self.scene.case, counts.as_slice())?;
-        self.push_greatest(text, &mut lines, path.len() as u64)
-    }
-
-    fn push_greatest(
-        &self,
-        text: &mut String,
-        lines: &mut Vec<Line>,
-        total: u64,
-    ) -> Result<(), AllocError> {
-        text.push('\n')?;
-        push_cells(text, LINE, &["on span", "share"], LINE.len(), self.commas)?;
-        for _line in 0..LINES {
-            let Some(line) = take_greatest(lines) else {
-                break;
-            };
-            self.push_title(text, &say("{}").count(line.number), LINE.len())?;
-            self.push_percent(text, line.on_path, total)?;
-            self.push_line(text, &line)?;
-            text.push('\n')?;
-        }
-        Ok(())
-    }
-
-    // The beginning of a line of the program's text, without blanks around it.
-    fn push_line(&self, text: &mut String, line: &Line) -> Result<(), AllocError> {
-        if self.commas {
-            return Ok(());
-        }
-        let case = self.scene.case;
-        let bytes = case.text.get(line.first..line.end).unwrap_or(&[]);
-        let shown = printed(case.alloc, bytes)?;
-        push_words(text, shown.as_str().trim())
+        let alloc = self.scene.case.alloc;
+        let mut critical = Critical {
+            table: *self,
+            path: critical_path(alloc, &self.scene.run.trace)?,
+            ahead: Vec::new(alloc),
+            sites: Vec::new(alloc),
+            counts: Vec::new(alloc),
+            lines: Vec::new(alloc),
+        };
+        critical.work(text)
     }
 
     // Adds a count, and how much that is of another, in percent with a digit after the point.
@@ -132,10 +97,151 @@ impl Table<'_> {
     }
 }
 
-fn push_words(text: &mut String, words: &str) -> Result<(), AllocError> {
+impl Critical<'_> {
+    fn work(&mut self, text: &mut String) -> Result<(), AllocError> {
+        self.find_ahead()?;
+        self.find_sites()?;
+        self.push_sites(text)?;
+        self.find_counts()?;
+        self.find_lines()?;
+        self.push_lines(text)
+    }
+
+    fn find_ahead(&mut self) -> Result<(), AllocError> {
+        let mut count: u64 = 0;
+        let mut next: usize = 0;
+        for event in 0..self.table.scene.run.replay.steps.len().saturating_add(1) {
+            self.ahead.push(count)?;
+            if self.path.get(next) == Some(&event) {
+                count = count.saturating_add(1);
+                next = next.saturating_add(1);
+            }
+        }
+        Ok(())
+    }
+
+    fn find_sites(&mut self) -> Result<(), AllocError> {
+        let scene = self.table.scene;
+        self.sites.resize(scene.case.text.len(), None)?;
+        for note in &scene.run.replay.frames {
+            if let Some(at) = site_at(&scene, note)
+                && let Some(site) = self.sites.get_mut(at)
+            {
+                *site = Some(counted(*site, note, at, self.ahead.as_slice()));
+            }
+        }
+        Ok(())
+    }
+
+    fn find_counts(&mut self) -> Result<(), AllocError> {
+        let Scene { case, run } = self.table.scene;
+        self.counts.resize(case.text.len(), 0)?;
+        for event in &self.path {
+            let at = run.replay.place(&case.map, *event).unwrap_or(0);
+            if let Some(count) = self.counts.get_mut(at) {
+                *count = count.saturating_add(1);
+            }
+        }
+        Ok(())
+    }
+
+    // The lines of the text, with the events there.
+    fn find_lines(&mut self) -> Result<(), AllocError> {
+        let text = self.table.scene.case.text;
+        let mut number: usize = 1;
+        let mut first: usize = 0;
+        let mut on_path: u64 = 0;
+        for end in 0..text.len().saturating_add(1) {
+            on_path = on_path.saturating_add(count_at(self.counts.as_slice(), end));
+            if text.get(end).copied().unwrap_or(b'\n') == b'\n' {
+                self.lines.push(Line {
+                    number,
+                    first,
+                    end,
+                    on_path,
+                })?;
+                number = number.saturating_add(1);
+                first = end.saturating_add(1);
+                on_path = 0;
+            }
+        }
+        Ok(())
+    }
+
+    // Adds a line for each place, in the order of the text, if there is one.
+    fn push_sites(&self, text: &mut String) -> Result<(), AllocError> {
+        let Table { scene, commas } = self.table;
+        let mut width: usize = 0;
+        for site in &self.sites {
+            if let Some(site) = site {
+                let title = title_at(&scene, site.body, site.at);
+                width = width.max(self.table.length_of(&title)?);
+            }
+        }
+        if width == 0 {
+            return Ok(());
+        }
+        let width = width.max(SITE.len());
+        text.push('\n')?;
+        push_cells(text, SITE, &["spawns", "on span", "share"], width, commas)?;
+        for site in &self.sites {
+            if let Some(site) = site {
+                let title = title_at(&scene, site.body, site.at);
+                self.table.push_title(text, &title, width)?;
+                self.table.push_number(text, site.spawned)?;
+                self.table
+                    .push_percent(text, site.on_path, self.path.len() as u64)?;
+                text.push('\n')?;
+            }
+        }
+        Ok(())
+    }
+
+    // Adds the lines with most of the path.
+    fn push_lines(&mut self, text: &mut String) -> Result<(), AllocError> {
+        let table = self.table;
+        text.push('\n')?;
+        push_cells(text, LINE, &["on span", "share"], LINE.len(), table.commas)?;
+        for _line in 0..LINES {
+            let Some(line) = self.take_greatest() else {
+                break;
+            };
+            table.push_title(text, &say("{}").count(line.number), LINE.len())?;
+            table.push_percent(text, line.on_path, self.path.len() as u64)?;
+            if !table.commas {
+                push_words(text, table.scene.case, &line)?;
+            }
+            text.push('\n')?;
+        }
+        Ok(())
+    }
+
+    // Removes the line with the most events, the first of several. None if no line has any.
+    fn take_greatest(&mut self) -> Option<Line> {
+        let mut found: Option<Line> = None;
+        let mut greatest: u64 = 0;
+        let mut place: usize = 0;
+        for (number, line) in self.lines.iter().enumerate() {
+            if line.on_path > greatest {
+                found = Some(*line);
+                greatest = line.on_path;
+                place = number;
+            }
+        }
+        if let Some(line) = self.lines.get_mut(place) {
+            line.on_path = 0;
+        }
+        found
+    }
+}
+
+// The beginning of a line of the program's text, without blanks around it.
+fn push_words(text: &mut String, case: &Case<'_>, line: &Line) -> Result<(), AllocError> {
     text.push_str("  ")?;
+    let bytes = case.text.get(line.first..line.end).unwrap_or(&[]);
+    let shown = printed(case.alloc, bytes)?;
     let mut count: usize = 0;
-    for symbol in words.chars() {
+    for symbol in shown.as_str().trim().chars() {
         if count == SHOWN {
             return text.push_str(" ..");
         }
@@ -143,31 +249,6 @@ fn push_words(text: &mut String, words: &str) -> Result<(), AllocError> {
         count = count.saturating_add(1);
     }
     Ok(())
-}
-
-// The places of spawns, in the order of the text.
-fn sites_of(scene: &Scene<'_>, ahead: &[u64]) -> Result<Vec<Site>, AllocError> {
-    let found = sites_by_byte(scene, ahead)?;
-    let mut sites = Vec::new(scene.case.alloc);
-    for site in &found {
-        if let Some(site) = site {
-            sites.push(*site)?;
-        }
-    }
-    Ok(sites)
-}
-
-fn sites_by_byte(scene: &Scene<'_>, ahead: &[u64]) -> Result<Vec<Option<Site>>, AllocError> {
-    let mut sites: Vec<Option<Site>> = Vec::new(scene.case.alloc);
-    sites.resize(scene.case.text.len(), None)?;
-    for note in &scene.run.replay.frames {
-        if let Some(at) = site_at(scene, note) {
-            if let Some(site) = sites.get_mut(at) {
-                *site = Some(counted(*site, note, at, ahead));
-            }
-        }
-    }
-    Ok(sites)
 }
 
 // A place with one frame more. A frame inside another one of the same place adds no events.
@@ -196,7 +277,10 @@ fn counted(site: Option<Site>, note: &FrameNote, at: usize, ahead: &[u64]) -> Si
 // The byte of the text at which a frame is spawned, or of the `cilk_for` that it runs turns of.
 fn site_at(scene: &Scene<'_>, note: &FrameNote) -> Option<usize> {
     match (note.body, note.how) {
-        (Body::Loop(_), _) => scene.case.map.body(note.body).map(|body| body.name.at),
+        (Body::Loop(_), _) => {
+            let map = scene.case.map.body(note.body)?;
+            Some(map.name.at)
+        }
         (Body::Function(_), Invocation::Spawn) => {
             let step = StepNote {
                 frame: note.parent,
@@ -208,74 +292,6 @@ fn site_at(scene: &Scene<'_>, note: &FrameNote) -> Option<usize> {
     }
 }
 
-// For each event, and the end, the number of events of a path that come before it.
-fn events_ahead(scene: &Scene<'_>, path: &[usize]) -> Result<Vec<u64>, AllocError> {
-    let mut ahead = Vec::new(scene.case.alloc);
-    let mut count: u64 = 0;
-    let mut next: usize = 0;
-    for event in 0..scene.run.replay.steps.len().saturating_add(1) {
-        ahead.push(count)?;
-        if path.get(next) == Some(&event) {
-            count = count.saturating_add(1);
-            next = next.saturating_add(1);
-        }
-    }
-    Ok(ahead)
-}
-
 fn count_at(counts: &[u64], place: usize) -> u64 {
     counts.get(place).copied().unwrap_or(0)
-}
-
-// Removes the line with the most events, the first of several. None if no line has any.
-fn take_greatest(lines: &mut Vec<Line>) -> Option<Line> {
-    let mut found: Option<Line> = None;
-    let mut place: usize = 0;
-    for (number, line) in lines.iter().enumerate() {
-        if line.on_path > found.map_or(0, |found| found.on_path) {
-            found = Some(*line);
-            place = number;
-        }
-    }
-    if let Some(line) = lines.get_mut(place) {
-        line.on_path = 0;
-    }
-    found
-}
-
-// For each byte of the text, the events of a path there.
-fn counts_of(scene: &Scene<'_>, path: &[usize]) -> Result<Vec<u64>, AllocError> {
-    let case = scene.case;
-    let mut counts: Vec<u64> = Vec::new(case.alloc);
-    counts.resize(case.text.len(), 0)?;
-    for event in path {
-        let at = scene.run.replay.place(&case.map, *event).unwrap_or(0);
-        if let Some(count) = counts.get_mut(at) {
-            *count = count.saturating_add(1);
-        }
-    }
-    Ok(counts)
-}
-
-// The lines of the text, with the events there.
-fn lines_of(case: &Case<'_>, counts: &[u64]) -> Result<Vec<Line>, AllocError> {
-    let mut lines = Vec::new(case.alloc);
-    let mut number: usize = 1;
-    let mut first: usize = 0;
-    let mut on_path: u64 = 0;
-    for end in 0..case.text.len().saturating_add(1) {
-        on_path = on_path.saturating_add(count_at(counts, end));
-        if case.text.get(end).copied().unwrap_or(b'\n') == b'\n' {
-            lines.push(Line {
-                number,
-                first,
-                end,
-                on_path,
-            })?;
-            number = number.saturating_add(1);
-            first = end.saturating_add(1);
-            on_path = 0;
-        }
-    }
-    Ok(lines)
 }

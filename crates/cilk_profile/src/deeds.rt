@@ -5,7 +5,7 @@
 //! same events. A frame that departs, as a race lets it, is shown by the number of its events.
 
 use cilk_findings::scene::Scene;
-use cilk_messages::sentence::{Sentence, say};
+use cilk_messages::sentence::say;
 use cilk_schedule::{Choice, Told};
 use cilk_types::event::Event;
 use std::alloc::{AllocError, Global};
@@ -39,26 +39,44 @@ struct Hand {
     deed: usize,
 }
 
+// A worker that has done nothing.
+const IDLE: Hand = Hand {
+    frame: 0,
+    strand: None,
+    deed: SHOWN,
+};
+
+/// Events that a worker makes one after the other in a frame, without a counterpart in the serial
+/// run where `strand` is 0: from an event to another one of that run, and from a byte to another one.
+#[derive(Clone, Copy)]
+struct Stretch {
+    strand: u32,
+    count: usize,
+    first: usize,
+    last: usize,
+    from: usize,
+    upto: usize,
+}
+
+/// Words with a gap for a line, and those where the line isn't known.
+type Words = (&'static str, &'static str);
+
+const STEALS: Words = (
+    " steals the continuation of line {}",
+    " steals a continuation",
+);
+
+const WAITS: Words = (" waits at the sync of line {}", " waits at a sync");
+
+const STOPS: Words = (" stops at line {} by fault {}", " stops by fault {}");
+
 #[derive(Clone, Copy)]
 enum Deed {
-    /// A strand, from an event to another one of the serial run, and from a byte to another one.
-    Works {
-        strand: u32,
-        first: usize,
-        last: usize,
-        from: usize,
-        upto: usize,
-    },
-    /// So many events without a counterpart in the serial run.
-    Departs(usize),
-    /// The continuation of the spawn at a byte.
-    Steals(Option<usize>),
-    /// The sync at a byte.
-    Waits(Option<usize>),
-    /// The frame with this twin.
+    Makes(Stretch),
+    /// These words, by a byte of the text, and the number of a fault.
+    Tells(Words, Option<usize>, u16),
+    /// The frame with this twin ends.
     Ends(Option<usize>),
-    /// A fault by its number, where the serial run has an event at this byte.
-    Stops(u16, Option<usize>),
 }
 
 /// What each worker did so far.
@@ -106,12 +124,7 @@ impl<'a> Deeds<'a> {
     }
 
     fn open(&mut self, workers: usize) -> Result<(), AllocError> {
-        let idle = Hand {
-            frame: 0,
-            strand: None,
-            deed: SHOWN,
-        };
-        self.hands.resize(workers, idle)?;
+        self.hands.resize(workers, IDLE)?;
         self.seats.push(Seat {
             parent: 0,
             is_spawned: false,
@@ -133,30 +146,26 @@ impl<'a> Deeds<'a> {
 
     /// Notes what came of a choice.
     pub fn note(&mut self, choice: Choice, told: Told) -> Result<(), AllocError> {
+        let worker = worker_of(choice);
         match (choice, told) {
-            (Choice::Run(worker), Told::Did(act)) => {
+            (Choice::Run(_), Told::Did(act)) => {
                 let frame = (act.frame as usize).saturating_sub(1);
-                self.make(at_of(worker), frame, &act.event)
+                self.make(worker, frame, &act.event)
             }
-            (Choice::Run(worker), Told::Waits) => {
-                let frame = self.frame_of(at_of(worker));
-                let at = self.byte_of(self.next_of(frame));
-                self.add(at_of(worker), Deed::Waits(at))
+            (Choice::Run(_), Told::Waits) => {
+                let at = self.next_byte(worker);
+                self.add(worker, Deed::Tells(WAITS, at, 0))
             }
-            (Choice::Steal(worker, place), Told::Stole) => self.steal(at_of(worker), place),
+            (Choice::Steal(_, place), Told::Stole) => self.steal(worker, place),
             _ => Ok(()),
         }
     }
 
     /// Notes that a fault stops a worker.
     pub fn stop(&mut self, choice: Choice, number: u16) -> Result<(), AllocError> {
-        let worker = match choice {
-            Choice::Run(worker) => worker,
-            Choice::Steal(worker, _) => worker,
-        };
-        let frame = self.frame_of(at_of(worker));
-        let at = self.byte_of(self.next_of(frame));
-        self.add(at_of(worker), Deed::Stops(number, at))
+        let worker = worker_of(choice);
+        let at = self.next_byte(worker);
+        self.add(worker, Deed::Tells(STOPS, at, number))
     }
 
     fn make(&mut self, worker: usize, frame: usize, event: &Event) -> Result<(), AllocError> {
@@ -167,7 +176,7 @@ impl<'a> Deeds<'a> {
             Event::Call { .. } => self.invoke(worker, frame, made, false),
             Event::End => self.end(worker, frame),
             _ => {
-                self.move_to(frame, made.map(|index| index.saturating_add(1)));
+                self.move_behind(frame, made);
                 Ok(())
             }
         }
@@ -175,7 +184,7 @@ impl<'a> Deeds<'a> {
 
     // The event of the serial run that a frame's event is, if the frame is still like its twin.
     fn counterpart(&self, frame: usize, event: &Event) -> Option<usize> {
-        let index = self.next_of(frame)?;
+        let index = self.seats.get(frame)?.next?;
         let serial = self.scene.run.event(index)?;
         let globals = self.scene.case.program.globals.len();
         if form_of(&serial, globals) == form_of(event, globals) {
@@ -185,48 +194,41 @@ impl<'a> Deeds<'a> {
         }
     }
 
-    // Adds an event to the worker's strand, or begins another strand with it.
+    // Adds an event to the worker's stretch, or begins another one with it.
     fn work(&mut self, worker: usize, frame: usize, made: Option<usize>) -> Result<(), AllocError> {
+        let index = made.unwrap_or(0);
+        let at = self.byte_of(made).unwrap_or(0);
         let strand = match made {
             Some(index) => self.strands.get(index).copied().unwrap_or(0),
             None => 0,
         };
-        if !self.goes_on(worker, frame, strand) {
-            let deed = self.begun(made, strand);
+        let hand = self.hands.get(worker).copied().unwrap_or(IDLE);
+        if hand.frame != frame || hand.strand != Some(strand) {
             let place = self.deeds.len();
-            self.add(worker, deed)?;
             self.hold(worker, frame, Some(strand), place);
-            return Ok(());
+            let stretch = Stretch {
+                strand,
+                count: 1,
+                first: index,
+                last: index,
+                from: at,
+                upto: at,
+            };
+            return self.add(worker, Deed::Makes(stretch));
         }
-        let at = self.byte_of(made).unwrap_or(0);
-        if let Some(hand) = self.hands.get(worker).copied()
-            && let Some((_, deed)) = self.deeds.get_mut(hand.deed)
+        if let Some((_, deed)) = self.deeds.get_mut(hand.deed)
+            && let Deed::Makes(stretch) = *deed
         {
-            *deed = extended(*deed, made.unwrap_or(0), at);
+            *deed = Deed::Makes(Stretch {
+                strand,
+                count: stretch.count.saturating_add(1),
+                first: stretch.first,
+                last: index,
+                from: stretch.from.min(at),
+                upto: stretch.upto.max(at),
+            });
         }
         Ok(())
-    }
-
-    // Whether an event of a frame and a strand belongs to the worker's last deed.
-    fn goes_on(&self, worker: usize, frame: usize, strand: u32) -> bool {
-        match self.hands.get(worker) {
-            Some(hand) => hand.frame == frame && hand.strand == Some(strand),
-            None => false,
-        }
-    }
-
-    fn begun(&self, made: Option<usize>, strand: u32) -> Deed {
-        let Some(index) = made else {
-            return Deed::Departs(1);
-        };
-        let at = self.byte_of(made).unwrap_or(0);
-        Deed::Works {
-            strand,
-            first: index,
-            last: index,
-            from: at,
-            upto: at,
-        }
     }
 
     // Notes a child, with which the worker continues.
@@ -237,19 +239,27 @@ impl<'a> Deeds<'a> {
         made: Option<usize>,
         is_spawned: bool,
     ) -> Result<(), AllocError> {
-        let first = made.map(|index| index.saturating_add(1));
-        let twin = first.and_then(|index| self.scene.frame_of(index));
+        let next = behind(made);
+        let twin = match next {
+            Some(first) => self.scene.frame_of(first),
+            None => None,
+        };
         let child = self.seats.len();
         self.seats.push(Seat {
             parent: frame,
             is_spawned,
             twin,
-            next: first,
+            next,
         })?;
-        let ended = twin.and_then(|twin| self.scene.note(twin).ended);
-        self.move_to(frame, ended.map(|index| index.saturating_add(1)));
+        let (ended, at) = match twin {
+            Some(twin) => (
+                self.scene.note(twin).ended,
+                Some(self.scene.invoked_at(twin)),
+            ),
+            None => (None, None),
+        };
+        self.move_behind(frame, ended);
         if is_spawned {
-            let at = twin.map(|twin| self.scene.invoked_at(twin));
             self.offer(Offer { worker, frame, at })?;
         }
         self.hold(worker, child, None, SHOWN);
@@ -276,7 +286,7 @@ impl<'a> Deeds<'a> {
         }
         let Offer { frame, at, .. } = self.offers.remove(place);
         self.hold(worker, frame, None, SHOWN);
-        self.add(worker, Deed::Steals(at))
+        self.add(worker, Deed::Tells(STEALS, at, 0))
     }
 
     // Ends a frame. The worker continues its parent, whose continuation it no longer offers.
@@ -284,7 +294,7 @@ impl<'a> Deeds<'a> {
         let Some(seat) = self.seats.get(frame).copied() else {
             return Ok(());
         };
-        self.move_to(frame, None);
+        self.move_behind(frame, None);
         self.hold(worker, seat.parent, None, SHOWN);
         if !seat.is_spawned && frame > 0 {
             return Ok(());
@@ -327,22 +337,17 @@ impl<'a> Deeds<'a> {
         }
     }
 
-    fn move_to(&mut self, frame: usize, next: Option<usize>) {
+    // The frame's next event is the one after an event of the serial run.
+    fn move_behind(&mut self, frame: usize, made: Option<usize>) {
         if let Some(seat) = self.seats.get_mut(frame) {
-            seat.next = next;
+            seat.next = behind(made);
         }
     }
 
-    fn frame_of(&self, worker: usize) -> usize {
-        match self.hands.get(worker) {
-            Some(hand) => hand.frame,
-            None => 0,
-        }
-    }
-
-    fn next_of(&self, frame: usize) -> Option<usize> {
-        let seat = self.seats.get(frame)?;
-        seat.next
+    // The byte of the next event of the worker's frame.
+    fn next_byte(&self, worker: usize) -> Option<usize> {
+        let hand = self.hands.get(worker).copied().unwrap_or(IDLE);
+        self.byte_of(self.seats.get(hand.frame)?.next)
     }
 
     // The byte of an event of the serial run.
@@ -354,79 +359,49 @@ impl<'a> Deeds<'a> {
     pub fn push(&self, report: &mut String) -> Result<(), AllocError> {
         for (worker, deed) in &self.deeds {
             let worker = worker.saturating_add(1);
-            self.scene.push(report, &say("worker {}").count(worker))?;
-            self.push_deed(report, *deed)?;
+            write!(report, "worker {worker}")?;
+            match *deed {
+                Deed::Makes(stretch) => self.push_stretch(report, &stretch)?,
+                Deed::Tells((words, _), Some(at), number) => {
+                    let line = self.scene.line(at);
+                    let words = say(words).count(line).count(number as usize);
+                    self.scene.push(report, &words)?;
+                }
+                Deed::Tells((_, words), None, number) => {
+                    self.scene.push(report, &say(words).count(number as usize))?;
+                }
+                Deed::Ends(twin) => self.push_end(report, twin)?,
+            }
             report.push('\n')?;
         }
-        if self.more > 0 {
-            self.scene
-                .push(report, &say("and {} more lines\n").count(self.more))?;
+        let more = self.more;
+        if more > 0 {
+            write!(report, "and {more} more lines\n")?;
         }
         Ok(())
     }
 
-    fn push_deed(&self, report: &mut String, deed: Deed) -> Result<(), AllocError> {
-        let words = match deed {
-            Deed::Works {
-                strand,
-                first,
-                last,
-                from,
-                upto,
-            } => {
-                self.push_lines(report, strand, self.scene.line(from), self.scene.line(upto))?;
-                events_of(first.saturating_add(1), last.saturating_add(1))
-            }
-            Deed::Departs(count) => {
-                say(": {} event{} that the serial run doesn't have there").counted(count)
-            }
-            Deed::Steals(at) => {
-                self.with_line(
-                    " steals the continuation of line {}",
-                    " steals a continuation",
-                    at,
-                )
-            }
-            Deed::Waits(at) => {
-                self.with_line(" waits at the sync of line {}", " waits at a sync", at)
-            }
-            Deed::Stops(number, at) => {
-                self.with_line(" stops at line {} by fault {}", " stops by fault {}", at)
-                    .count(number as usize)
-            }
-            Deed::Ends(twin) => return self.push_end(report, twin),
-        };
-        self.scene.push(report, &words)
-    }
-
-    // A sentence with the line of a byte, or one without it.
-    fn with_line(
-        &self,
-        words: &'static str,
-        without: &'static str,
-        at: Option<usize>,
-    ) -> Sentence<'static> {
-        match at {
-            Some(at) => say(words).count(self.scene.line(at)),
-            None => say(without),
+    // The strand, its lines and its events.
+    fn push_stretch(&self, report: &mut String, stretch: &Stretch) -> Result<(), AllocError> {
+        let Stretch { strand, count, .. } = *stretch;
+        if strand == 0 {
+            let departs = say(": {} event{} that the serial run doesn't have there");
+            return self.scene.push(report, &departs.counted(count));
         }
-    }
-
-    // The strand and its lines.
-    fn push_lines(
-        &self,
-        report: &mut String,
-        strand: u32,
-        first: usize,
-        last: usize,
-    ) -> Result<(), AllocError> {
-        let words = if first == last {
-            say(": strand {}, line {} ")
+        let from = self.scene.line(stretch.from);
+        let upto = self.scene.line(stretch.upto);
+        if from == upto {
+            write!(report, ": strand {strand}, line {from} ")?;
         } else {
-            say(": strand {}, lines {} to {} ")
-        };
-        let words = words.count(strand as usize).count(first).count(last);
-        self.scene.push(report, &words)
+            write!(report, ": strand {strand}, lines {from} to {upto} ")?;
+        }
+        let first = stretch.first.saturating_add(1);
+        let last = stretch.last.saturating_add(1);
+        if first == last {
+            write!(report, "(event {first})")
+        } else {
+            write!(report, "(events {first} to {last})")
+        }
     }
 
     // The frame that ends, and where it was spawned.
@@ -443,43 +418,22 @@ impl<'a> Deeds<'a> {
             return Ok(());
         }
         let line = self.scene.line(self.scene.invoked_at(frame));
-        self.scene
-            .push(report, &say(", spawned on line {}").count(line))
+        write!(report, ", spawned on line {line}")
     }
 }
 
-// The place of a worker among the hands.
-fn at_of(worker: u32) -> usize {
+// The place of a choice's worker among the hands.
+fn worker_of(choice: Choice) -> usize {
+    let worker = match choice {
+        Choice::Run(worker) => worker,
+        Choice::Steal(worker, _) => worker,
+    };
     (worker as usize).saturating_sub(1)
 }
 
-fn events_of(first: usize, last: usize) -> Sentence<'static> {
-    if first == last {
-        say("(event {})").count(first)
-    } else {
-        say("(events {} to {})").count(first).count(last)
-    }
-}
-
-// A deed with one event more: the event of the serial run, and its byte.
-fn extended(deed: Deed, made: usize, at: usize) -> Deed {
-    match deed {
-        Deed::Works {
-            strand,
-            first,
-            from,
-            upto,
-            ..
-        } => Deed::Works {
-            strand,
-            first,
-            last: made,
-            from: from.min(at),
-            upto: upto.max(at),
-        },
-        Deed::Departs(count) => Deed::Departs(count.saturating_add(1)),
-        _ => deed,
-    }
+// The place after an event.
+fn behind(made: Option<usize>) -> Option<usize> {
+    Some(made?.saturating_add(1))
 }
 
 // The form of an event, and its cell if a global has it: other cells, and frames, are numbered as a

@@ -26,8 +26,8 @@ pub fn push_order(
                 let same = say("`{}` makes the two one after the other");
                 return scene.push(report, &same.word(scene.function_of(common)));
             }
-            scene.push(report, &ahead(scene, common, earlier))?;
-            scene.push(report, &invoked(scene, common, later))
+            scene.push(report, &in_words(scene, common, earlier, &EARLIER))?;
+            scene.push(report, &in_words(scene, common, later, &LATER))
         }
     }
 }
@@ -69,25 +69,21 @@ fn waited_for<'a>(scene: &Scene<'a>, common: usize, child: usize, later: usize) 
             .count(scene.line(spawn))
             .count(scene.line(scene.byte_of(later)));
     }
-    let sync = sync_behind(scene, parent, child);
-    let at = sync.and_then(|index| scene.run.replay.place(&scene.case.map, index));
-    match at {
-        Some(at) if is_sync_word(scene, at) => {
-            say("the `cilk_sync` on line {} waits for the child spawned on line {}")
-                .count(scene.line(at))
-                .count(scene.line(spawn))
-        }
-        Some(at) if scene.is_of_loop(parent) => {
-            say("each turn of the `cilk_for` on line {} waits for its children at its end").count(
-                scene.line(at),
-            )
-        }
-        Some(at) => {
-            say("`{}` waits for its children at its end (line {})")
-                .word(scene.function_of(parent))
-                .count(scene.line(at))
-        }
-        None => say("the child spawned on line {} ends first").count(scene.line(spawn)),
+    let Some(at) = sync_behind(scene, parent, child) else {
+        return say("the child spawned on line {} ends first").count(scene.line(spawn));
+    };
+    let line = scene.line(at);
+    let text = scene.case.text.get(at..).unwrap_or(&[]);
+    if text.starts_with(b"cilk_sync") {
+        say("the `cilk_sync` on line {} waits for the child spawned on line {}")
+            .count(line)
+            .count(scene.line(spawn))
+    } else if scene.is_of_loop(parent) {
+        say("each turn of the `cilk_for` on line {} waits for its children at its end").count(line)
+    } else {
+        say("`{}` waits for its children at its end (line {})")
+            .word(scene.function_of(parent))
+            .count(line)
     }
 }
 
@@ -106,54 +102,56 @@ fn is_in_loop_of(scene: &Scene<'_>, child: usize, event: usize) -> bool {
     false
 }
 
-// The first sync of a frame after a child.
+// The byte of the first sync of a frame after a child.
 fn sync_behind(scene: &Scene<'_>, parent: usize, child: usize) -> Option<usize> {
     let ended = scene.note(child).ended?;
     let events = scene.run.trace.as_slice().iter().enumerate();
     for (index, event) in events.skip(ended) {
         if matches!(event, Event::Sync) && scene.frame_of(index) == Some(parent) {
-            return Some(index);
+            return scene.run.replay.place(&scene.case.map, index);
         }
     }
     None
 }
 
-fn is_sync_word(scene: &Scene<'_>, at: usize) -> bool {
-    match scene.case.text.get(at..) {
-        Some(text) => text.starts_with(b"cilk_sync"),
-        None => false,
-    }
+// Words for an event of a frame, and for the child of the frame that an event is in, with a gap for
+// the line.
+#[derive(Clone, Copy)]
+struct Words {
+    event: &'static str,
+    turns: &'static str,
+    spawn: &'static str,
+    call: &'static str,
 }
 
-// An earlier event in a frame, or in a child that it called.
-fn ahead<'a>(scene: &Scene<'a>, common: usize, earlier: usize) -> Sentence<'a> {
-    let frame = scene.frame_of(earlier).unwrap_or(0);
-    match scene.child_of(common, frame) {
-        Some(child) if frame != common => {
-            let words = if scene.is_of_loop(child) {
-                "the `cilk_for` on line {} ends before "
-            } else {
-                "the call on line {} returns before "
-            };
-            say(words).count(scene.line(scene.invoked_at(child)))
-        }
-        _ => say("line {} comes before ").count(scene.line(scene.byte_of(earlier))),
-    }
-}
+// A child with an earlier event isn't spawned, or a sync waits for it.
+const EARLIER: Words = Words {
+    event: "line {} comes before ",
+    turns: "the `cilk_for` on line {} ends before ",
+    spawn: "the call on line {} returns before ",
+    call: "the call on line {} returns before ",
+};
 
-// A later event in a frame, or the invocation of the child that it is in.
-fn invoked<'a>(scene: &Scene<'a>, common: usize, later: usize) -> Sentence<'a> {
-    let frame = scene.frame_of(later).unwrap_or(0);
+const LATER: Words = Words {
+    event: "line {}",
+    turns: "the `cilk_for` on line {}",
+    spawn: "the spawn on line {}",
+    call: "the call on line {}",
+};
+
+// An event of a frame, or the child of that frame that it is in.
+fn in_words<'a>(scene: &Scene<'a>, common: usize, event: usize, words: &Words) -> Sentence<'a> {
+    let frame = scene.frame_of(event).unwrap_or(0);
     let child = match scene.child_of(common, frame) {
         Some(child) if frame != common => child,
-        _ => return say("line {}").count(scene.line(scene.byte_of(later))),
+        _ => return say(words.event).count(scene.line(scene.byte_of(event))),
     };
     let words = if scene.is_of_loop(child) {
-        "the `cilk_for` on line {}"
+        words.turns
     } else if scene.is_spawned(child) {
-        "the spawn on line {}"
+        words.spawn
     } else {
-        "the call on line {}"
+        words.call
     };
     say(words).count(scene.line(scene.invoked_at(child)))
 }

@@ -14,18 +14,6 @@ use std::alloc::AllocError;
 // The heads of the columns of numbers.
 const HEADINGS: [&str; 5] = ["frames", "strands", "events", "work", "span"];
 
-/// The measures of a run besides its totals.
-#[derive(Drop)]
-pub struct Details {
-    /// The ticks of the run.
-    pub ticks: u64,
-    /// A line for each function and loop, after an empty line and a head. The columns are the
-    /// number of its frames, the strands and events that these frames make themselves, the work
-    /// from their begin to their end, and the largest span of one frame. Then tables of the spawns
-    /// and lines on the critical path, and of the speed-up by several workers.
-    pub bodies: String,
-}
-
 /// A table of a run: with columns, or with commas.
 #[derive(Clone, Copy)]
 pub struct Table<'a> {
@@ -33,29 +21,34 @@ pub struct Table<'a> {
     pub commas: bool,
 }
 
-/// Measures a case's run, for a table with columns or with commas. The run has to end without a
-/// fault; otherwise the error is [`CaseFault::Unfit`].
-pub fn details_of(case: &Case<'_>, totals: &Totals, commas: bool) -> Result<Details, CaseFault> {
+/// Adds what a case's run costs besides its totals: a line for each function and loop, after an empty
+/// line and a head. The columns are the number of its frames, the strands and events that these
+/// frames make themselves, the work from their begin to their end, and the largest span of one frame.
+/// Then tables of the spawns and lines on the critical path, and of the speed-up by several workers.
+/// Returns the ticks of the run. It has to end without a fault; otherwise the error is
+/// [`CaseFault::Unfit`].
+pub fn push_tables(
+    text: &mut String,
+    case: &Case<'_>,
+    totals: &Totals,
+    commas: bool,
+) -> Result<u64, CaseFault> {
     let run = Run::of(case)?;
     if run.fault.is_some() {
         return Err(CaseFault::Unfit);
     }
-    let mut bodies = String::new(case.alloc);
     let scene = Scene { case, run: &run };
-    push_details(Table { scene, commas }, totals, &mut bodies)?;
-    Ok(Details {
-        ticks: u64::from(run.replay.ticks),
-        bodies,
-    })
-}
-
-fn push_details(table: Table<'_>, totals: &Totals, text: &mut String) -> Result<(), AllocError> {
-    table.push_rows(text)?;
-    table.push_critical(text)?;
-    table.push_speed_ups(totals, text)
+    Table { scene, commas }.push(totals, text)?;
+    Ok(u64::from(run.replay.ticks))
 }
 
 impl Table<'_> {
+    fn push(&self, totals: &Totals, text: &mut String) -> Result<(), AllocError> {
+        self.push_rows(text)?;
+        self.push_critical(text)?;
+        self.push_speed_ups(totals, text)
+    }
+
     // The functions and loops that ran: functions first, each in the text's order.
     fn push_rows(&self, text: &mut String) -> Result<(), AllocError> {
         let Scene { case, run } = self.scene;
@@ -170,8 +163,10 @@ fn title_of<'a>(scene: &Scene<'a>, place: usize) -> Sentence<'a> {
         return say("{}").word(scene.body_name(function));
     };
     let body = Body::Loop(u32::try_from(number).unwrap_or(0));
-    let at = scene.case.map.body(body).map_or(0, |map| map.name.at);
-    title_at(scene, body, at)
+    match scene.case.map.body(body) {
+        Some(map) => title_at(scene, body, map.name.at),
+        None => title_at(scene, body, 0),
+    }
 }
 
 /// Returns the name of a body with a place.
@@ -186,15 +181,10 @@ fn members_of(case: &Case<'_>, run: &Run) -> Result<Vec<usize>, AllocError> {
     let functions = case.map.functions.len();
     let mut members: Vec<usize> = Vec::new(case.alloc);
     for note in &run.replay.frames {
-        members.push(place_in(functions, note.body))?;
+        members.push(match note.body {
+            Body::Function(number) => number as usize,
+            Body::Loop(number) => functions.saturating_add(number as usize),
+        })?;
     }
     Ok(members)
-}
-
-// The place of a body in that order.
-fn place_in(functions: usize, body: Body) -> usize {
-    match body {
-        Body::Function(number) => number as usize,
-        Body::Loop(number) => functions.saturating_add(number as usize),
-    }
 }

@@ -5,7 +5,7 @@ ghost use Rattle.cilk_profile.specs.Measured.{IsAboutPictures, IsMeasureText, Is
 ghost use Rattle.cilk_messages.specs.Words.{texts};
 
 use crate::kept::{CaseTexts, Kept};
-use crate::rows::{Details, details_of};
+use crate::rows::push_tables;
 use crate::table::{BLANK, COMMA, totals_text};
 use crate::words::asks;
 use cilk_findings::case::Case;
@@ -112,9 +112,10 @@ fn table(
 ) -> Result<Vec<u8>, CaseFault>
     ensures { IfOk result (λ text. IsTable (texts words.now) totals.now text.items) }
 {
-    let behind = behind_totals(alloc, totals, asks(words, "--csv"), read)?;
-    let mut text = totals_text(alloc, mark_in(words), totals, behind.ticks)?;
-    text.extend_from_slice(behind.bodies.as_bytes())?;
+    let mut rest = String::new(alloc);
+    let ticks = push_rest(alloc, &mut rest, totals, asks(words, "--csv"), read)?;
+    let mut text = totals_text(alloc, mark_in(words), totals, ticks)?;
+    text.extend_from_slice(rest.as_bytes())?;
     Ok(text)
 }
 
@@ -125,29 +126,17 @@ fn mark_in(words: &[&str]) -> u8
     if asks(words, "--csv") { COMMA } else { BLANK }
 }
 
-/// The ticks, and the rows by function and loop.
-#[derive(Drop)]
-struct Behind {
-    ticks: Option<u64>,
-    bodies: String,
-}
-
-fn behind_totals(
+// Adds what follows the totals, and returns the ticks.
+fn push_rest(
     alloc: Global,
+    rest: &mut String,
     totals: &Totals,
     commas: bool,
     read: Option<CaseTexts<'_>>,
-) -> Result<Behind, CaseFault> {
+) -> Result<Option<u64>, CaseFault> {
     let Some(read) = read else {
-        return Ok(Behind {
-            ticks: None,
-            bodies: String::new(alloc),
-        });
+        return Ok(None);
     };
     let case = read.case(alloc)?;
-    let Details { ticks, bodies } = details_of(&case, totals, commas)?;
-    Ok(Behind {
-        ticks: Some(ticks),
-        bodies,
-    })
+    Ok(Some(push_tables(rest, &case, totals, commas)?))
 }

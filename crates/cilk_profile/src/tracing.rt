@@ -103,21 +103,26 @@ fn push_run(
     steps: &[Step],
 ) -> Result<(), AllocError> {
     let mut deeds = Deeds::new(scene.case.alloc, scene, workers)?;
+    follow(scene.case, workers, steps, &mut deeds)?;
+    deeds.push(report)
+}
+
+// Makes the choices of a script, from the run's beginning, and notes what comes of them.
+fn follow(
+    case: &Case<'_>,
+    workers: u32,
+    steps: &[Step],
+    deeds: &mut Deeds<'_>,
+) -> Result<(), AllocError> {
+    let code = lower(case.alloc, &case.program)?;
+    let mut machine = Machine::new(case.alloc, &code, &case.input, workers)?;
     let mut left = Left {
         choices: Choices::new(steps),
         workers,
         rounds: 0,
         worker: 0,
     };
-    follow(scene.case, &mut left, &mut deeds)?;
-    deeds.push(report)
-}
-
-// Makes the choices that are left, from the run's beginning, and notes what comes of them.
-fn follow(case: &Case<'_>, left: &mut Left<'_>, deeds: &mut Deeds<'_>) -> Result<(), AllocError> {
-    let code = lower(case.alloc, &case.program)?;
-    let mut machine = Machine::new(case.alloc, &code, &case.input, left.workers)?;
-    follow_on(case.alloc, &mut machine, left, deeds)
+    follow_on(case.alloc, &mut machine, &mut left, deeds)
 }
 
 fn follow_on(
