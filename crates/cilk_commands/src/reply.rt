@@ -31,7 +31,6 @@ pub const NO_MEMORY: u8 = 5;
 pub const NO_MEMORY_LINE: &str = "no memory\n";
 
 /// An answer, which is shown on standard output.
-#[derive(Drop)]
 pub enum Answer {
     /// The outcome of a run, with the names of its global reducers in order of declaration.
     Outcome {
@@ -55,8 +54,28 @@ pub enum Answer {
     RaceFree,
 }
 
+// Written out, so that a proof follows one call where an answer is dropped.
+impl Drop for Answer {
+    fn drop(self) {
+        match self {
+            Answer::Outcome {
+                names: _names,
+                outcome: _outcome,
+            } => {}
+            Answer::Certificate(_certificate) => {}
+            Answer::Accepted => {}
+            Answer::Refused(_) => {}
+            Answer::NotEnded => {}
+            Answer::Settled {
+                names: _names,
+                outcome: _outcome,
+            } => {}
+            Answer::RaceFree => {}
+        }
+    }
+}
+
 /// A failure, which is shown on standard error in place of an answer.
-#[derive(Drop)]
 pub enum Failure<'a> {
     /// The words are no command: clap's own text.
     Words(String),
@@ -78,6 +97,33 @@ pub enum Failure<'a> {
     Changed(&'a str),
     /// Out of memory.
     Memory,
+}
+
+// Written out, so that a proof follows one call where a failure is dropped.
+impl Drop for Failure<'_> {
+    fn drop(self) {
+        match self {
+            Failure::Words(_text) => {}
+            Failure::Unreadable(_) => {}
+            Failure::Program {
+                number: _,
+                place: _,
+            } => {}
+            Failure::Input {
+                number: _,
+                place: _,
+            } => {}
+            Failure::Run { number: _, at: _ } => {}
+            Failure::Strand {
+                number: _,
+                name: _name,
+            } => {}
+            Failure::Script(_) => {}
+            Failure::Trace { number: _, line: _ } => {}
+            Failure::Changed(_) => {}
+            Failure::Memory => {}
+        }
+    }
 }
 
 impl Answer {

@@ -38,7 +38,8 @@ fn is_help(word: &str) -> bool
     word == "--help" || word == "-h"
 }
 
-fn is_command(word: &str) -> bool
+/// Returns whether a word is the name of a command.
+pub fn is_command(word: &str) -> bool
     ensures { result ≡ is_command word.now }
 {
     word == "run"

@@ -35,7 +35,6 @@ struct Open {
 }
 
 /// A search for two lines of a trace. Its memory is linear in the depth of frames.
-#[derive(Drop)]
 pub struct Accesses {
     alloc: Global,
     earlier: u32,
@@ -53,6 +52,24 @@ pub struct Accesses {
     /// The last call on the way from the earlier line to the later one that ended: it is the child
     /// in which the earlier line is, of the last frame on both ways.
     pub parted: Option<CallLines>,
+}
+
+// Written out, so that a proof follows one call where a search is dropped.
+impl Drop for Accesses {
+    fn drop(self) {
+        let Accesses {
+            alloc: _alloc,
+            earlier: _earlier,
+            later: _later,
+            reader: _reader,
+            open: _open,
+            children: _children,
+            fewest: _fewest,
+            first: _first,
+            second: _second,
+            parted: _parted,
+        } = self;
+    }
 }
 
 impl Accesses {
@@ -111,21 +128,17 @@ impl Accesses {
     }
 
     fn access(&self, number: u32, line: Line) -> Result<Access, AllocError> {
+        let mut frame = String::new(self.alloc);
+        self.push_path(&mut frame)?;
         Ok(Access {
             number,
             line,
-            frame: self.path()?,
+            frame,
         })
     }
 
-    // The path of the current frame: `r`, and the number of each frame on the way among its
+    // Adds the path of the current frame: `r`, and the number of each frame on the way among its
     // parent's children.
-    fn path(&self) -> Result<String, AllocError> {
-        let mut path = String::new(self.alloc);
-        self.push_path(&mut path)?;
-        Ok(path)
-    }
-
     fn push_path(&self, path: &mut String) -> Result<(), AllocError> {
         path.push('r')?;
         for (depth, frame) in self.open.iter().enumerate() {

@@ -1,9 +1,7 @@
 //! The tool's help.
 
-ghost use Rattle.cilk_commands.specs.Replies.{failure_view};
-ghost use Rattle.cilk_commands.specs.Serving.{WordsFail};
-
-use cilk_commands::reply::Failure;
+use crate::about::is_command;
+use cilk_messages::sentence::{Part, say};
 use cilk_profile::asks;
 use std::alloc::{AllocError, Global};
 
@@ -86,8 +84,10 @@ Documents, beside the program's sources: README.md, docs/LANGUAGE.md, docs/FROM-
 OpenCilk), docs/REFUSALS.md, docs/CHECKER.md, docs/SCRIPTS.md, docs/TRACES.md, docs/EDITORS.md, docs/PROVED.md
 ";
 
-/// The help on `explain`, and the answer to `explain` without a valid number.
-pub const EXPLAIN: &str = "\
+/// The help on each command, behind a line with its name. A line with a word of [`SHARED`] stands for
+/// the line of that word.
+const PAGES: &str = "
+== explain
 Explain the number of a refusal: its meaning, a text that provokes it, and the cure
 
 Usage: cilk explain [NUMBER]
@@ -96,42 +96,7 @@ Arguments:
   [NUMBER]  101 to 106, 111 to 119, 121, 122, 201 to 206, 301 to 312 or 502; without it, list each with its title
 
 hint: `cilk --help` describes all commands
-";
-
-/// The help on a command: its purpose and usage, and its own arguments and options.
-#[derive(Clone, Copy)]
-struct Page {
-    head: &'static str,
-    argument: &'static str,
-    options: &'static str,
-}
-
-const PROGRAM: &str =
-    "\nArguments:\n  PROGRAM         a file with a program text, of at most 262,144 bytes\n";
-
-const CERTIFICATE: &str =
-    "  CERTIFICATE     a certificate, such as `certify` writes, of at most 268,435,456 bytes\n";
-
-const SCRIPT: &str =
-    "  SCRIPT          a file with a script, of at most 1,048,576 bytes (docs/SCRIPTS.md)\n";
-
-const OPTIONS: &str = "
-Options:
-  --input FILE    the numbers for `input(k)`, at most 65,536, separated by blanks; without this option there are none
-";
-
-const EXPLAINS: &str = "  \
-  --explain       after a refusal, say on standard error at which line and column it is, why, and what to write instead
-";
-
-const FOOT: &str = "  \
-  -h, --help      show this text, if it is the only word after the command
-
-hint: `cilk --help` describes all commands, statuses and limits
-";
-
-const SETTLE: Page = Page {
-    head: "\
+== settle
 Run programs serially, and tell of each whether it races: if not, no schedule changes what it leaves
 
 Usage: cilk settle PROGRAM.. [--input FILE] [--short | --json | --why LINE]
@@ -144,106 +109,136 @@ or what `run` writes for a wrong program or input.
 An explanation follows on standard error: at which lines and columns it is, why, and what to write instead.
 Several programs are settled one after the other, on the same input, each under a line with its name. The status is the
 greatest of theirs; no memory, or a write that fails, ends the call.
-",
-    argument: "",
-    options: "  \
+
+Arguments:
+PROGRAM
+
+Options:
+INPUT
   --short         a line for each program: its name and the first line of the answer
   --json          a line for each program: a JSON object with its name, the status and the whole answer
   --why LINE      for one program: after `settled`, say on standard error what orders the accesses of this line with
                   those of other strands
   --explain       changes nothing here; only for one program
-",
-};
+HELP
 
-const RUN: Page = Page {
-    head: "\
+HINT
+== run
 Run a program serially; show the numbers that it prints, its global reducers and its result
 
 Usage: cilk run PROGRAM [--input FILE] [--explain]
-",
-    argument: "",
-    options: "",
-};
 
-const CERTIFY: Page = Page {
-    head: "\
+Arguments:
+PROGRAM
+
+Options:
+INPUT
+EXPLAIN
+HELP
+
+HINT
+== certify
 Write the certificate of a program's serial run to standard output: a list of its events, frames and strands
 
 Usage: cilk certify PROGRAM [--input FILE] [--explain]
-",
-    argument: "",
-    options: "",
-};
 
-const CHECK: Page = Page {
-    head: "\
+Arguments:
+PROGRAM
+
+Options:
+INPUT
+EXPLAIN
+HELP
+
+HINT
+== check
 Check that a certificate is right and that no two events race; if not, show the first thing that is wrong
 
 Usage: cilk check PROGRAM CERTIFICATE [--input FILE] [--helpers N] [--explain]
-",
-    argument: CERTIFICATE,
-    options: "  \
-  --helpers N     share the work among N threads, 1 to 16: the same answer, sooner where frames compute long
-",
-};
 
-const THREADS: Page = Page {
-    head: "\
+Arguments:
+PROGRAM
+CERTIFICATE
+
+Options:
+INPUT
+  --helpers N     share the work among N threads, 1 to 16: the same answer, sooner where frames compute long
+EXPLAIN
+HELP
+
+HINT
+== threads
 Check as `check` does; if that accepts, run the program on threads, by work stealing
 
 Usage: cilk threads PROGRAM CERTIFICATE [--workers N] [--input FILE] [--on FILE] [--stats] [--explain]
-",
-    argument: CERTIFICATE,
-    options: "  \
+
+Arguments:
+PROGRAM
+CERTIFICATE
+
+Options:
+INPUT
   --workers N     the number of workers, 1 to 64; 2 without this option
   --on FILE       run on threads with the numbers of FILE in place of those of --input; the answer is `refused 502`
                   if the program departs from the certified run on them
   --stats         say on standard error how many strands each worker began, how many of these were continuations that it
                   stole, and how many seconds the run took
-",
-};
+EXPLAIN
+HELP
 
-const PLAY: Page = Page {
-    head: "\
+HINT
+== play
 Run a program in parallel, step by step, by the orders of a script to its workers
 
 Usage: cilk play PROGRAM SCRIPT [--workers N] [--input FILE] [--trace] [--explain]
-",
-    argument: SCRIPT,
-    options: "  \
+
+Arguments:
+PROGRAM
+  SCRIPT          a file with a script, of at most 1,048,576 bytes (docs/SCRIPTS.md)
+
+Options:
+INPUT
   --workers N     the number of workers, 1 to 64; 2 without this option
   --trace         say on standard error what each worker does, in up to 200 lines: its strands, with their lines and the
                   events of the serial run, its steals, waits and ends
-",
-};
+EXPLAIN
+HELP
 
-const SCHEDULE: Page = Page {
-    head: "\
+HINT
+== schedule
 If `check` finds a race, write to standard output a script for `play` that makes its later access first
 
 Usage: cilk schedule PROGRAM CERTIFICATE [--input FILE] [--explain]
-",
-    argument: CERTIFICATE,
-    options: "",
-};
 
-const MEASURE: Page = Page {
-    head: "\
+Arguments:
+PROGRAM
+CERTIFICATE
+
+Options:
+INPUT
+EXPLAIN
+HELP
+
+HINT
+== measure
 Run a program, and show, instead of its outcome, its events, ticks, frames, strands, work, span, burdened span
 (with 1,000 events for each spawn on the way) and parallelism, and a table by function and loop
 
 Usage: cilk measure PROGRAM [--input FILE] [--csv | --svg | --dot] [--explain]
-",
-    argument: "",
-    options: "  \
+
+Arguments:
+PROGRAM
+
+Options:
+INPUT
   --csv           write the table with commas
   --svg           write a picture instead: the speed-up by workers, and how many events could be made at each step
   --dot           write the tree of the run instead, for Graphviz's `dot`; only of a run with at most 500 nodes
-",
-};
+EXPLAIN
+HELP
 
-/// The help on `judge`.
-const JUDGE: &str = "\
+HINT
+== judge
 Tell whether a recorded run of a C or C++ program has a race
 
 Usage: cilk judge TRACE [--sites FILE] [--explain]
@@ -262,116 +257,109 @@ Options:
   --sites FILE    after a refusal, say on standard error at which files, lines and functions the accesses are, by the
                   table of sites in FILE
   --explain       the same without a table, by lines of the trace; and why a text isn't a trace
-  -h, --help      show this text, if it is the only word after the command
+HELP
 
 To record a run (recorder/README.md):
   recorder/cilkrec gcc -O2 prog.c -o prog
   CILK_TRACE=prog.trace CILK_SITES=prog.sites ./prog
   cilk judge prog.trace --sites prog.sites
 
-hint: `cilk --help` describes all commands, statuses and limits
-";
+HINT";
 
-/// Returns the help on a command that takes a program.
-fn page_of(command: &str) -> Option<Page> {
-    match command {
-        "settle" => Some(SETTLE),
-        "run" => Some(RUN),
-        "certify" => Some(CERTIFY),
-        "check" => Some(CHECK),
-        "threads" => Some(THREADS),
-        "play" => Some(PLAY),
-        "schedule" => Some(SCHEDULE),
-        "measure" => Some(MEASURE),
-        _ => None,
-    }
-}
+/// Lines of several pages, each behind its word.
+const SHARED: &str = "\
+PROGRAM:  PROGRAM         a file with a program text, of at most 262,144 bytes
+CERTIFICATE:  CERTIFICATE     a certificate, such as `certify` writes, of at most 268,435,456 bytes
+INPUT:  --input FILE    the numbers for `input(k)`, at most 65,536, separated by blanks; without this option there are none
+EXPLAIN:  --explain       after a refusal, say on standard error at which line and column it is, why, and what to write instead
+HELP:  -h, --help      show this text, if it is the only word after the command
+HINT:hint: `cilk --help` describes all commands, statuses and limits";
 
 /// Returns the text of the help on a command.
 pub fn help_on(alloc: Global, command: &str) -> Result<String, AllocError> {
-    let Some(
-        Page {
-            head,
-            argument,
-            options,
-        },
-    ) = page_of(command)
-    else {
-        let page = if command == "judge" { JUDGE } else { EXPLAIN };
-        return String::from_str(alloc, page);
-    };
-    let mut text = String::from_str(alloc, head)?;
-    let explains = if command == "settle" { "" } else { EXPLAINS };
-    for part in [PROGRAM, argument, OPTIONS, options, explains, FOOT] {
-        text.push_str(part)?;
+    let mut text = String::new(alloc);
+    for line in page_of(command).lines() {
+        let line = whole(line);
+        write!(text, "{line}\n")?;
     }
     Ok(text)
 }
 
-/// Returns the hint that follows clap's text for a command line that isn't valid.
-pub fn advice(alloc: Global, words: &[&str]) -> Result<String, AllocError> {
-    match words {
-        [first, ..] if first.starts_with("-") || *first == "help" => format!(in alloc; "\n{HELP}"),
-        ["settle", ..] if asks(words, "--why") => String::from_str(alloc, NO_LINE),
-        [first, ..] if is_command(first) => format!(in alloc;
-            "\nhint: `cilk help {first}` describes `{first}` and its options\n"
-        ),
-        [first, ..] if first.ends_with(".c") => format!(in alloc;
-            "\nhint: to run this program: `cilk run {first}`; to see whether it races: `cilk settle {first}`\n"
-        ),
-        [first, ..] if first.ends_with(".trace") => format!(in alloc;
-            "\nhint: to judge this trace: `cilk judge {first}`\n"
-        ),
-        [first, ..] if is_near_settle(first) => near(alloc, "settle"),
-        [first, ..] if is_near_judge(first) => near(alloc, "judge"),
-        [first] => format!(in alloc;
-            "\nhint: to run the program `{first}`: `cilk run {first}`; `cilk --help` lists the commands\n"
-        ),
-        _ => String::from_str(alloc, "\nhint: `cilk --help` lists the commands\n"),
+fn page_of(command: &str) -> &'static str {
+    for entry in PAGES.split("\n== ") {
+        if let Some((name, page)) = entry.split_once("\n")
+            && name == command
+        {
+            return page;
+        }
+    }
+    ""
+}
+
+// The line for which a page's line stands.
+fn whole(line: &'static str) -> &'static str {
+    for shared in SHARED.lines() {
+        if let Some((word, whole)) = shared.split_once(":")
+            && word == line
+        {
+            return whole;
+        }
+    }
+    line
+}
+
+/// Adds the hint that follows clap's text for a command line that isn't valid.
+pub fn push_advice(alloc: Global, text: &mut String, words: &[&str]) -> Result<(), AllocError> {
+    let first = match words {
+        [first, ..] => *first,
+        [] => "",
+    };
+    text.push('\n')?;
+    say(hint_of(words, first))
+        .with(Part::Text(first))
+        .with(Part::Text(first))
+        .push(alloc, text)
+}
+
+// The hint, with gaps for the first word.
+fn hint_of(words: &[&str], first: &str) -> &'static str {
+    if first.starts_with("-") || first == "help" {
+        HELP
+    } else if first == "settle" && asks(words, "--why") {
+        NO_LINE
+    } else if is_command(first) {
+        "hint: `cilk help {}` describes `{}` and its options\n"
+    } else if first.ends_with(".c") {
+        "hint: to run this program: `cilk run {}`; to see whether it races: `cilk settle {}`\n"
+    } else if first.ends_with(".trace") {
+        "hint: to judge this trace: `cilk judge {}`\n"
+    } else if asks(NEAR_SETTLE, first) {
+        "hint: perhaps `settle` is meant: `cilk help settle` describes it; `cilk --help` lists the commands\n"
+    } else if asks(NEAR_JUDGE, first) {
+        "hint: perhaps `judge` is meant: `cilk help judge` describes it; `cilk --help` lists the commands\n"
+    } else if words.len() == 1 {
+        "hint: to run the program `{}`: `cilk run {}`; `cilk --help` lists the commands\n"
+    } else {
+        "hint: `cilk --help` lists the commands\n"
     }
 }
 
 // The hint for `--why` without a line.
 const NO_LINE: &str =
-    "\nhint: `--why` takes one program and the number of a line in it: `cilk settle prog.c --why 12`\n";
+    "hint: `--why` takes one program and the number of a line in it: `cilk settle prog.c --why 12`\n";
 
-fn is_command(word: &str) -> bool {
-    page_of(word).is_some() || word == "judge" || word == "explain"
-}
+// Words that may stand for `settle`, and for `judge`.
+const NEAR_SETTLE: &[&str] = &[
+    "settled", "settles", "setle", "settel", "race", "races", "verify",
+];
 
-// A word that may stand for `settle`.
-fn is_near_settle(word: &str) -> bool {
-    matches!(
-        word,
-        "settled" | "settles" | "setle" | "settel" | "race" | "races" | "verify"
-    )
-}
-
-// A word that may stand for `judge`.
-fn is_near_judge(word: &str) -> bool {
-    matches!(
-        word,
-        "judged" | "judges" | "jugde" | "juge" | "judg" | "trace" | "traces" | "cilkscreen"
-    )
-}
-
-fn near(alloc: Global, command: &str) -> Result<String, AllocError> {
-    format!(in alloc;
-        "\nhint: perhaps `{command}` is meant: `cilk help {command}` describes it; `cilk --help` lists the commands\n"
-    )
-}
-
-// The error of `schedule` without a certificate.
-const NO_SCHEDULE: &str =
-    "error: these words name no certificate: `cilk schedule PROGRAM CERTIFICATE [--input FILE] [--explain]`\n\
-    hint: the script goes to standard output: `cilk schedule prog.c prog.certificate > prog.script`\n";
-
-/// Returns the failure of `schedule` without a certificate.
-pub fn usage_of_schedule<'a>(alloc: Global) -> Failure<'a>
-    ensures { WordsFail (failure_view result) }
-{
-    match String::from_str(alloc, NO_SCHEDULE) {
-        Ok(text) => Failure::Words(text),
-        Err(_) => Failure::Memory,
-    }
-}
+const NEAR_JUDGE: &[&str] = &[
+    "judged",
+    "judges",
+    "jugde",
+    "juge",
+    "judg",
+    "trace",
+    "traces",
+    "cilkscreen",
+];

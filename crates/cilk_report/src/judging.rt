@@ -95,7 +95,10 @@ fn of_accesses<F: Keeps>(
         return Err(CaseFault::Unfit);
     };
     let (one, other) = (site_of(first.line), site_of(second.line));
-    let call = found.parted.map_or(other, |call| call.site);
+    let call = match found.parted {
+        Some(call) => call.site,
+        None => other,
+    };
     let mut sites = Sites::new(alloc, [one, other, call]);
     let lacks = read_sites(judged, &mut sites, files)?;
     let (title, parted, end) = match refusal {

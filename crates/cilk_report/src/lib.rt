@@ -59,4 +59,4 @@ pub use flags::unflagged;
 pub use kept::{Keeps, KeptFiles};
 pub use serving::{follow, serve_explained};
 pub use totals::totals_of;
-pub use words::{behind_first, is_help, is_measure, run_of, run_words, usage_of_measure};
+pub use words::{behind_first, is_help, is_measure, run_of, run_words};

@@ -10,8 +10,8 @@ ghost use Rattle.cilk_messages.specs.Words.{texts};
 
 use crate::explaining::{of_answer, of_failure, race_of, texts_of};
 use crate::flags::unmarked;
-use crate::help::usage_of_schedule;
 use crate::serving::{follow, tell_text};
+use crate::words::wrong_words;
 use crate::{Keeps, behind_first, is_help};
 use cilk_checker::refusal::Refusal;
 use cilk_commands::reply::{Answer, Failure};
@@ -66,6 +66,11 @@ pub fn serve_schedule<F: Keeps, R: Read, O: Write, E: Write>(
     }
 }
 
+// The error of `schedule` without a certificate.
+const USAGE: &str =
+    "error: these words name no certificate: `cilk schedule PROGRAM CERTIFICATE [--input FILE] [--explain]`\n\
+    hint: the script goes to standard output: `cilk schedule prog.c prog.certificate > prog.script`\n";
+
 // Serves the command by the words of the check.
 #[tactic(auto, using(cilk_commands::proofs::Reading::takes_same))]
 fn serve_checked<F: Keeps, R: Read, O: Write, E: Write>(
@@ -99,7 +104,11 @@ fn serve_checked<F: Keeps, R: Read, O: Write, E: Write>(
                 follow(served, text, err)
             }
         },
-        Err(WordsFault::Usage(_)) => complain(alloc, &usage_of_schedule(alloc), err).status,
+        Err(WordsFault::Usage(_)) => complain(
+            alloc,
+            &wrong_words(String::from_str(alloc, USAGE)),
+            err,
+        ).status,
         Err(WordsFault::Memory) => complain(alloc, &Failure::Memory, err).status,
     }
 }

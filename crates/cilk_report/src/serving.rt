@@ -14,15 +14,16 @@ use crate::about::{About, answer_about};
 use crate::explaining::of_failure;
 use crate::extras::{behind_answer, behind_failure};
 use crate::flags::{Extras, explains_itself, extras_of, unflagged};
-use crate::help::{EXPLAIN, advice};
+use crate::help::{help_on, push_advice};
 use crate::judging::{Judged, of_trace_failure, of_trace_race};
 use crate::scheduling::{is_schedule, serve_schedule};
 use crate::settling::{is_settling, serve_settling};
 use crate::totals::undrawn;
-use crate::{Keeps, is_measure, run_of, run_words, totals_of, usage_of_measure};
+use crate::words::wrong_words;
+use crate::{Keeps, is_measure, run_of, run_words, totals_of};
 use cilk_commands::reply::{Answer, Failure, NO_MEMORY, WRONG};
 use cilk_commands::streams::send;
-use cilk_commands::{Served, carry_out, complain, show, tell};
+use cilk_commands::{Served, carry_out, complain, serve, show, tell};
 use cilk_findings::fault::CaseFault;
 use cilk_messages::words::{Order, Origin, WordsFault, read};
 use cilk_profile::{Kept, asks, text_of};
@@ -70,13 +71,10 @@ pub fn serve_explained<F: Keeps, R: Read, O: Write, E: Write>(
             files.keep();
             serve_flagged(alloc, words, extras_of(words), files, input, out, err)
         }
-        Ok(order) => match carry_out(alloc, order, files, input) {
-            Ok(answer) => show(alloc, &answer, out, err).status,
-            Err(failure) => complain(alloc, &failure, err).status,
-        },
+        Ok(_) => serve(alloc, words, files, input, out, err),
         Err(WordsFault::Usage(usage)) => {
             files.keep();
-            serve_other(alloc, words, usage, files, input, out, err)
+            serve_other(alloc, words, usage.as_str(), files, input, out, err)
         }
         Err(WordsFault::Memory) => complain(alloc, &Failure::Memory, err).status,
     }
@@ -87,7 +85,7 @@ pub fn serve_explained<F: Keeps, R: Read, O: Write, E: Write>(
 fn serve_other<F: Keeps, R: Read, O: Write, E: Write>(
     alloc: Global,
     words: &[&str],
-    usage: String,
+    usage: &str,
     files: &mut F,
     input: &mut R,
     out: &mut O,
@@ -124,7 +122,7 @@ fn serve_other<F: Keeps, R: Read, O: Write, E: Write>(
 fn serve_unmeasured<F: Keeps, R: Read, O: Write, E: Write>(
     alloc: Global,
     words: &[&str],
-    usage: String,
+    usage: &str,
     files: &mut F,
     input: &mut R,
     out: &mut O,
@@ -161,7 +159,7 @@ fn serve_unmeasured<F: Keeps, R: Read, O: Write, E: Write>(
 fn serve_unscheduled<F: Keeps, R: Read, O: Write, E: Write>(
     alloc: Global,
     words: &[&str],
-    usage: String,
+    usage: &str,
     files: &mut F,
     input: &mut R,
     out: &mut O,
@@ -193,27 +191,18 @@ fn serve_unscheduled<F: Keeps, R: Read, O: Write, E: Write>(
 
 /// Returns the failure for a command line that isn't valid: clap's text and a hint, or the help on
 /// `explain`, which clap doesn't know. `is_why` says whether `--why` and a line are left out here.
-fn refusal<'a>(alloc: Global, words: &[&str], is_why: bool, usage: String) -> Failure<'a>
+fn refusal<'a>(alloc: Global, words: &[&str], is_why: bool, usage: &str) -> Failure<'a>
     ensures { WordsFail (failure_view result) }
 {
-    match advised(alloc, words, is_why, usage) {
-        Ok(text) => Failure::Words(text),
-        Err(_) => Failure::Memory,
-    }
+    wrong_words(advised(alloc, words, is_why, usage))
 }
 
-fn advised(
-    alloc: Global,
-    words: &[&str],
-    is_why: bool,
-    usage: String,
-) -> Result<String, AllocError> {
+fn advised(alloc: Global, words: &[&str], is_why: bool, usage: &str) -> Result<String, AllocError> {
     if matches!(words, ["explain", ..]) {
-        return String::from_str(alloc, EXPLAIN);
+        return help_on(alloc, "explain");
     }
-    let mut text = usage;
-    let asked = if is_why { WHY } else { words };
-    text.push_str(advice(alloc, asked)?.as_str())?;
+    let mut text = String::from_str(alloc, usage)?;
+    push_advice(alloc, &mut text, if is_why { WHY } else { words })?;
     Ok(text)
 }
 
@@ -249,7 +238,7 @@ fn serve_flagged<F: Keeps, R: Read, O: Write, E: Write>(
         },
         Err(WordsFault::Usage(usage)) => {
             let is_why = extras.why.is_some();
-            complain(alloc, &refusal(alloc, words, is_why, usage), err).status
+            complain(alloc, &refusal(alloc, words, is_why, usage.as_str()), err).status
         }
         Err(WordsFault::Memory) => complain(alloc, &Failure::Memory, err).status,
     }
@@ -330,6 +319,11 @@ fn serve_measure<F: Keeps, R: Read, O: Write, E: Write>(
     }
 }
 
+// The error of `measure` without a program.
+const USAGE: &str =
+    "error: these words name no program to measure: `cilk measure PROGRAM [--input FILE] [--csv | --svg | --dot] [--explain]`\n\
+    hint: what it shows goes to standard output, a picture too: `cilk measure prog.c --svg > prog.svg`\n";
+
 /// Serves `measure` by the words of the run.
 #[tactic(auto, using(cilk_commands::proofs::Reading::takes_same))]
 fn serve_run<F: Keeps, R: Read, O: Write, E: Write>(
@@ -352,9 +346,13 @@ fn serve_run<F: Keeps, R: Read, O: Write, E: Write>(
             Some((program, numbers)) => {
                 show_measured(alloc, words, program, numbers, files, input, out, err)
             }
-            None => complain(alloc, &usage_of_measure(alloc), err).status,
+            None => complain(alloc, &wrong_words(String::from_str(alloc, USAGE)), err).status,
         },
-        Err(WordsFault::Usage(_)) => complain(alloc, &usage_of_measure(alloc), err).status,
+        Err(WordsFault::Usage(_)) => complain(
+            alloc,
+            &wrong_words(String::from_str(alloc, USAGE)),
+            err,
+        ).status,
         Err(WordsFault::Memory) => complain(alloc, &Failure::Memory, err).status,
     }
 }

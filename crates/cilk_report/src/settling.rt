@@ -1,9 +1,10 @@
 //! The command `settle` for several programs, or in a short form.
 
-ghost use Rattle.std.specs.Prelude.{◌≡◌, ◌++◌, ◌⊎◌, Bool, IfOk, IsFalse, IsTrue, None, OnOk, Some, codes, cond, option_map};
+ghost use Rattle.std.specs.Prelude.{◌≡◌, ◌++◌, ◌∷◌, ◌⊎◌, [], Bool, IfOk, IsFalse, IsTrue, None, OnOk, Option, Some, codes, cond, decimal, option_map};
 ghost use Rattle.std.specs.Io.KnownBytes.{Appends};
-ghost use Rattle.cilk_commands.specs.Replies.{IsErrorText, NoMemory, failure_view, line, out_text, status_of};
-ghost use Rattle.cilk_commands.specs.Serving.{ShowsError, WordsFail, world};
+ghost use Rattle.json.specs.Token.{begin_object, end_object, key, number, string};
+ghost use Rattle.cilk_commands.specs.Replies.{IsErrorText, NoMemory, Text, line, out_text, status_of};
+ghost use Rattle.cilk_commands.specs.Serving.{SettleReply, ShowsError, Surroundings, world};
 ghost use Rattle.cilk_commands.specs.Streams.{AppendsFront, AppendsPart, TakesAtMost};
 ghost use Rattle.cilk_commands.specs.declared.reply.TheConstants.{NO_MEMORY};
 ghost use Rattle.cilk_commands.specs.declared.streams.TheConstants.{MAX_READ};
@@ -14,6 +15,7 @@ ghost use Rattle.cilk_report.specs.Settling.{Fails, IsShown, SettlesEach, Shows,
 use crate::about::is_option;
 use crate::explaining::{of_answer, of_failure};
 use crate::serving::missing;
+use crate::words::wrong_words;
 use crate::{Keeps, behind_first, is_help};
 use cilk_commands::reply::{Answer, Failure, NO_MEMORY, WRONG};
 use cilk_commands::streams::send;
@@ -126,15 +128,6 @@ const USAGE: &str =
     "error: these words name no programs to settle: `cilk settle PROGRAM.. [--input FILE] [--short | --json]`\n\
     hint: `cilk help settle` describes `settle` and its options\n";
 
-fn usage_of_settle<'a>(alloc: Global) -> Failure<'a>
-    ensures { WordsFail (failure_view result) }
-{
-    match String::from_str(alloc, USAGE) {
-        Ok(text) => Failure::Words(text),
-        Err(_) => Failure::Memory,
-    }
-}
-
 /// Serves `settle` for several programs, or in a short form.
 #[tactic(auto, using(cilk_commands::proofs::Reading::takes_same))]
 pub fn serve_settling<F: Keeps, R: Read, O: Write, E: Write>(
@@ -151,7 +144,7 @@ pub fn serve_settling<F: Keeps, R: Read, O: Write, E: Write>(
 {
     match batch_of(alloc, words) {
         Ok(Some(batch)) => settle_each(alloc, &batch, files, input, out, err),
-        Ok(None) => complain(alloc, &usage_of_settle(alloc), err).status,
+        Ok(None) => complain(alloc, &wrong_words(String::from_str(alloc, USAGE)), err).status,
         Err(_) => complain(alloc, &Failure::Memory, err).status,
     }
 }
@@ -211,11 +204,29 @@ fn settle_one<F: Keeps, R: Read, O: Write, E: Write>(
     }
     files.keep();
     let reply = settle(alloc, program, batch.input, files, input);
-    let status = status_of(&reply);
+    show_reply(alloc, program, batch, &reply, files.kept(), out, err)
+}
+
+// Shows a reply, unless it is out of memory.
+fn show_reply<O: Write, E: Write>(
+    alloc: Global,
+    program: &str,
+    batch: &Batch<'_>,
+    reply: &Result<Answer, Failure<'_>>,
+    kept: &Kept,
+    out: &mut O,
+    err: &mut E,
+) -> Step
+    ensures goes_on { IsTrue result.goes_on → (w : Surroundings) (i : Option Text) → SettleReply w program.now i (reply_view reply.now)
+        → Shows batch.now.form w program.now i result.status (O.contents out.old) (O.contents out.new) (E.contents err.old) (E.contents err.new) }
+    ensures ends { IsFalse result.goes_on → (w : Surroundings) (i : Option Text) → SettleReply w program.now i (reply_view reply.now)
+        → Fails batch.now.form w program.now i result.status (O.contents out.old) (O.contents out.new) (E.contents err.old) (E.contents err.new) }
+{
+    let status = status_of(reply);
     if status == NO_MEMORY {
         return starved(alloc, err);
     }
-    match shown(alloc, program, batch, &reply, files.kept()) {
+    match shown(alloc, program, batch, reply, kept) {
         Ok(texts) => write_texts(&texts, status, out, err),
         Err(_) => starved(alloc, err),
     }
@@ -244,10 +255,48 @@ fn starved<E: Write>(alloc: Global, err: &mut E) -> Step
 }
 
 /// Texts for standard output and standard error.
-#[derive(Drop)]
 struct Texts {
     out: Vec<u8>,
     err: Vec<u8>,
+}
+
+// Written out, so that a proof follows one call where texts are dropped.
+impl Drop for Texts {
+    fn drop(self) {
+        let Texts {
+            out: _out,
+            err: _err,
+        } = self;
+    }
+}
+
+impl Texts {
+    // The text for standard output under a heading, and that for standard error with an explanation.
+    fn full(self, alloc: Global, program: &str, explanation: &str) -> Result<Texts, AllocError>
+        ensures out { IfOk result (λ all. all.out.items ≡ heading program.now ++ self.out.items) }
+        ensures err { IfOk result (λ all. all.err.items ≡ self.err.items ++ explanation.now) }
+    {
+        let Texts { out: reply, err } = self;
+        let mut full = Texts {
+            out: Vec::new(alloc),
+            err,
+        };
+        full.out.extend_from_slice(program.as_bytes())?;
+        full.out.extend_from_slice(b":\n")?;
+        full.out.extend_from_slice(reply.as_slice())?;
+        full.err.extend_from_slice(explanation.as_bytes())?;
+        Ok(full)
+    }
+
+    // Both as one text.
+    fn whole(self) -> Result<Vec<u8>, AllocError>
+        ensures { IfOk result (λ text. text.items ≡ self.out.items ++ self.err.items) }
+    {
+        let Texts { out, err } = self;
+        let mut text = out;
+        text.extend_from_slice(err.as_slice())?;
+        Ok(text)
+    }
 }
 
 // Writes the texts that show a reply with this status. The call ends if a write fails.
@@ -290,17 +339,17 @@ fn shown(
                 input: batch.input,
             };
             let explanation = explanation(alloc, &order, reply, kept)?;
-            full(alloc, program, texts, explanation.as_str())
+            texts.full(alloc, program, explanation.as_str())
         }
         Form::Short => {
-            let line = short(alloc, program, whole(texts)?.as_slice())?;
+            let line = short(alloc, program, texts.whole()?.as_slice())?;
             Ok(Texts {
                 out: line,
                 err: Vec::new(alloc),
             })
         }
         Form::Json => {
-            let line = object(alloc, program, status_of(reply), whole(texts)?.as_slice())?;
+            let line = object(alloc, program, status_of(reply), texts.whole()?.as_slice())?;
             Ok(Texts {
                 out: line,
                 err: Vec::new(alloc),
@@ -313,9 +362,9 @@ fn shown(
 fn texts_of(alloc: Global, reply: &Result<Answer, Failure<'_>>) -> Result<Texts, AllocError>
     ensures { IfOk result (λ texts. (texts.out.items ≡ out_text (reply_view reply.now)) × IsErrorText (reply_view reply.now) texts.err.items) }
 {
-    let mut out = Vec::new(alloc);
     match reply {
         Ok(answer) => {
+            let mut out = Vec::new(alloc);
             if !answer.send(alloc, &mut out)? {
                 return Err(AllocError);
             }
@@ -324,10 +373,13 @@ fn texts_of(alloc: Global, reply: &Result<Answer, Failure<'_>>) -> Result<Texts,
                 err: Vec::new(alloc),
             })
         }
-        Err(failure) => Ok(Texts {
-            out,
-            err: failure.text(alloc)?,
-        }),
+        Err(failure) => {
+            let err = failure.text(alloc)?;
+            Ok(Texts {
+                out: Vec::new(alloc),
+                err,
+            })
+        }
     }
 }
 
@@ -346,28 +398,6 @@ fn explanation(
         Ok(text) => Ok(text),
         Err(fault) => String::from_str(alloc, missing(fault)),
     }
-}
-
-// A reply's text under a heading, and its text for standard error with an explanation.
-fn full(alloc: Global, program: &str, texts: Texts, explanation: &str) -> Result<Texts, AllocError>
-    ensures out { IfOk result (λ all. all.out.items ≡ heading program.now ++ texts.out.items) }
-    ensures err { IfOk result (λ all. all.err.items ≡ texts.err.items ++ explanation.now) }
-{
-    let mut out = program.as_bytes().to_vec(alloc)?;
-    out.extend_from_slice(b":\n")?;
-    out.extend_from_slice(texts.out.as_slice())?;
-    let mut err = texts.err;
-    err.extend_from_slice(explanation.as_bytes())?;
-    Ok(Texts { out, err })
-}
-
-// Both texts as one.
-fn whole(texts: Texts) -> Result<Vec<u8>, AllocError>
-    ensures { IfOk result (λ text. text.items ≡ texts.out.items ++ texts.err.items) }
-{
-    let mut text = texts.out;
-    text.extend_from_slice(texts.err.as_slice())?;
-    Ok(text)
 }
 
 // The line `PROGRAM: REPLY`.
@@ -405,6 +435,23 @@ fn object(alloc: Global, program: &str, status: u8, reply: &[u8]) -> Result<Vec<
         return Err(AllocError);
     };
     let mut writer = Writer::new(Vec::new(alloc));
+    write_object(&mut writer, program, status, reply)?;
+    let mut text = writer.into_inner();
+    text.push(b'\n')?;
+    Ok(text)
+}
+
+fn write_object(
+    writer: &mut Writer<Global>,
+    program: &str,
+    status: u8,
+    reply: &str,
+) -> Result<(), AllocError>
+    requires { writer.old.tokens ≡ [] }
+    ensures tokens { OnOk result (writer.new.tokens ≡ begin_object ∷ key (codes "program") ∷ string program.now ∷ key (codes "status")
+        ∷ number (decimal status) ∷ key (codes "reply") ∷ string reply.now ∷ end_object ∷ []) }
+    ensures before { OnOk result (writer.new.before ≡ writer.old.before) }
+{
     writer.begin_object()?;
     writer.key("program")?;
     writer.string(program)?;
@@ -413,7 +460,5 @@ fn object(alloc: Global, program: &str, status: u8, reply: &[u8]) -> Result<Vec<
     writer.key("reply")?;
     writer.string(reply)?;
     writer.end_object()?;
-    let mut text = writer.into_inner();
-    text.push(b'\n')?;
-    Ok(text)
+    Ok(())
 }

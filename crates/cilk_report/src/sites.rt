@@ -19,12 +19,23 @@ struct Site {
 }
 
 /// A search for sites in a table.
-#[derive(Drop)]
 pub struct Sites {
     alloc: Global,
     wanted: [u32; 3],
     found: Vec<Site>,
     line: Vec<u8>,
+}
+
+// Written out, so that a proof follows one call where a search is dropped.
+impl Drop for Sites {
+    fn drop(self) {
+        let Sites {
+            alloc: _alloc,
+            wanted: _wanted,
+            found: _found,
+            line: _line,
+        } = self;
+    }
 }
 
 impl Sites {

@@ -8,6 +8,7 @@ ghost use Rattle.cilk_commands.specs.Streams.{TakesAtMost};
 ghost use Rattle.cilk_commands.specs.declared.streams.TheConstants.{MAX_READ};
 ghost use Rattle.cilk_messages.specs.Words.{origin_view};
 
+use crate::words::wrong_words;
 use cilk_commands::files::Files;
 use cilk_commands::reply::Failure;
 use cilk_commands::{given, stopped};
@@ -47,8 +48,5 @@ pub fn undrawn<'a>(alloc: Global, reason: NoText) -> Failure<'a>
     let NoText::Undrawn(text) = reason else {
         return Failure::Memory;
     };
-    match String::from_str(alloc, text) {
-        Ok(text) => Failure::Words(text),
-        Err(_) => Failure::Memory,
-    }
+    wrong_words(String::from_str(alloc, text))
 }

@@ -18,15 +18,56 @@ const MARKS: &str = "`)` `}` `]` `,` `else` `cilk_reducer`";
 // Such tokens that also begin a statement or an expression.
 const BEGINNINGS: &str = "`(` `{` `[` `++` `int` `void` `cilk_spawn`";
 
-/// The beginning of a text, after which tokens are tried.
-#[derive(Drop)]
+/// The beginning of a text, after which tokens are tried, and what is listed of them.
 struct Trial {
     alloc: Global,
     text: Vec<u8>,
     at: usize,
+    listed: Vec<&'static str>,
+}
+
+// Written out, so that a proof follows one call where a trial is dropped.
+impl Drop for Trial {
+    fn drop(self) {
+        let Trial {
+            alloc: _alloc,
+            text: _text,
+            at: _at,
+            listed: _listed,
+        } = self;
+    }
+}
+
+/// Returns the tokens that can follow the first `at` bytes of a text, whose tokens the parser
+/// accepts. The list is empty for a text that is too long for a trial.
+pub fn expected_at(alloc: Global, text: &[u8], at: usize) -> Result<Expected, AllocError> {
+    match text.get(..at) {
+        Some(front) if front.len() < MAX_TEXT - 32 => {
+            let mut trial = Trial {
+                alloc,
+                text: front.to_vec(alloc)?,
+                at,
+                listed: Vec::new(alloc),
+            };
+            trial.expected()
+        }
+        _ => Ok(Expected {
+            words: String::new(alloc),
+            semicolon: false,
+        }),
+    }
 }
 
 impl Trial {
+    fn expected(&mut self) -> Result<Expected, AllocError> {
+        let semicolon = self.takes(";")?;
+        self.list(semicolon)?;
+        Ok(Expected {
+            words: self.joined()?,
+            semicolon,
+        })
+    }
+
     // Whether this token can follow the beginning.
     fn takes(&mut self, token: &str) -> Result<bool, AllocError> {
         self.text.truncate(self.at);
@@ -40,102 +81,69 @@ impl Trial {
             _ => Ok(true),
         }
     }
-}
 
-/// Returns the tokens that can follow the first `at` bytes of a text, whose tokens the parser
-/// accepts. The list is empty for a text that is too long for a trial.
-pub fn expected_at(alloc: Global, text: &[u8], at: usize) -> Result<Expected, AllocError> {
-    let front = match text.get(..at) {
-        Some(front) if front.len() < MAX_TEXT - 32 => front,
-        _ => {
-            return Ok(Expected {
-                words: String::new(alloc),
-                semicolon: false,
-            });
+    // Lists the possible tokens: groups first, then single ones.
+    fn list(&mut self, semicolon: bool) -> Result<(), AllocError> {
+        let is_statement = self.takes("while")?;
+        let has_name = self.takes("x")?;
+        let has_number = self.takes("0")?;
+        let group = match (has_name, has_number) {
+            _ if is_statement => Some("a statement"),
+            (true, true) => Some("an expression"),
+            (true, false) => Some("a name"),
+            (false, true) => Some("a number"),
+            (false, false) => None,
+        };
+        if let Some(group) = group {
+            self.listed.push(group)?;
         }
-    };
-    let mut trial = Trial {
-        alloc,
-        text: front.to_vec(alloc)?,
-        at,
-    };
-    tried(&mut trial)
-}
-
-fn tried(trial: &mut Trial) -> Result<Expected, AllocError> {
-    let semicolon = trial.takes(";")?;
-    let mut listed: Vec<&'static str> = Vec::new(trial.alloc);
-    list(trial, &mut listed, semicolon)?;
-    Ok(Expected {
-        words: joined(trial.alloc, listed.as_slice())?,
-        semicolon,
-    })
-}
-
-// The possible tokens: groups first, then single ones.
-fn list(
-    trial: &mut Trial,
-    listed: &mut Vec<&'static str>,
-    semicolon: bool,
-) -> Result<(), AllocError> {
-    let is_statement = trial.takes("while")?;
-    let has_name = trial.takes("x")?;
-    let has_number = trial.takes("0")?;
-    match (has_name, has_number) {
-        _ if is_statement => listed.push("a statement")?,
-        (true, true) => listed.push("an expression")?,
-        (true, false) => listed.push("a name")?,
-        (false, true) => listed.push("a number")?,
-        (false, false) => {}
-    }
-    if semicolon && !is_statement {
-        listed.push("`;`")?;
-    }
-    push_tokens(trial, listed, MARKS)?;
-    if !is_statement && !has_number {
-        push_behind(trial, listed)?;
-    }
-    Ok(())
-}
-
-// The tokens that can follow a name or an expression, or that begin a declaration.
-fn push_behind(trial: &mut Trial, listed: &mut Vec<&'static str>) -> Result<(), AllocError> {
-    if trial.takes("%")? {
-        listed.push("an operator")?;
-    } else if trial.takes("<")? {
-        listed.push("`<`")?;
-    }
-    if trial.takes("*=")? {
-        listed.push("an assignment")?;
-    } else if trial.takes("=")? {
-        listed.push("`=`")?;
-    }
-    push_tokens(trial, listed, BEGINNINGS)
-}
-
-// The possible ones of these tokens.
-fn push_tokens(
-    trial: &mut Trial,
-    listed: &mut Vec<&'static str>,
-    tokens: &'static str,
-) -> Result<(), AllocError> {
-    for token in tokens.split_whitespace() {
-        if trial.takes(token.trim_matches('`'))? {
-            listed.push(token)?;
+        if semicolon && !is_statement {
+            self.listed.push("`;`")?;
         }
-    }
-    Ok(())
-}
-
-// A list in words, with commas and a final `or`.
-fn joined(alloc: Global, listed: &[&str]) -> Result<String, AllocError> {
-    let mut words = String::new(alloc);
-    for (place, item) in listed.iter().enumerate() {
-        if place > 0 {
-            let is_last = place.saturating_add(1) == listed.len();
-            words.push_str(if is_last { " or " } else { ", " })?;
+        self.list_each(MARKS)?;
+        if !is_statement && !has_number {
+            self.list_first("% an operator|< `<`")?;
+            self.list_first("*= an assignment|= `=`")?;
+            self.list_each(BEGINNINGS)?;
         }
-        words.push_str(item)?;
+        Ok(())
     }
-    Ok(words)
+
+    // Lists the first of these tokens that is possible, by the words behind it.
+    fn list_first(&mut self, tokens: &'static str) -> Result<(), AllocError> {
+        for row in tokens.split("|") {
+            if let Some((token, words)) = row.split_once(" ")
+                && self.takes(token)?
+            {
+                self.listed.push(words)?;
+                break;
+            }
+        }
+        Ok(())
+    }
+
+    // Lists the possible ones of these tokens.
+    fn list_each(&mut self, tokens: &'static str) -> Result<(), AllocError> {
+        for token in tokens.split_whitespace() {
+            if self.takes(token.trim_matches('`'))? {
+                self.listed.push(token)?;
+            }
+        }
+        Ok(())
+    }
+
+    // The list in words, with commas and a final `or`.
+    fn joined(&self) -> Result<String, AllocError> {
+        let mut words = String::new(self.alloc);
+        let last = self.listed.len().saturating_sub(1);
+        for (place, item) in self.listed.iter().enumerate() {
+            let mark = match place {
+                0 => "",
+                _ if place == last => " or ",
+                _ => ", ",
+            };
+            write!(words, "{mark}{item}")?;
+        }
+        Ok(words)
+    }
 }

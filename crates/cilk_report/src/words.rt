@@ -1,4 +1,4 @@
-//! The command line of `measure`.
+//! The command line of `measure`, and the failure of a wrong one.
 
 ghost use Rattle.std.specs.Prelude.{◌≡◌, IfOk, Some, filter, not, option_map};
 ghost use Rattle.cilk_report.specs.Words.{behind_first, is_form, is_help, is_measure, run_of, words_of_run};
@@ -10,16 +10,11 @@ use cilk_commands::reply::Failure;
 use cilk_messages::words::{Order, Origin};
 use std::alloc::{AllocError, Global};
 
-// The error of `measure` without a program.
-const USAGE: &str =
-    "error: these words name no program to measure: `cilk measure PROGRAM [--input FILE] [--csv | --svg | --dot] [--explain]`\n\
-    hint: what it shows goes to standard output, a picture too: `cilk measure prog.c --svg > prog.svg`\n";
-
-/// Returns the failure of `measure` without a program.
-pub fn usage_of_measure<'a>(alloc: Global) -> Failure<'a>
+/// Returns the failure of a command line by a text about it, if there was memory for the text.
+pub fn wrong_words<'a>(text: Result<String, AllocError>) -> Failure<'a>
     ensures { WordsFail (failure_view result) }
 {
-    match String::from_str(alloc, USAGE) {
+    match text {
         Ok(text) => Failure::Words(text),
         Err(_) => Failure::Memory,
     }

@@ -38,9 +38,9 @@ pub returns-in-Err-Usage-clause-shown : goal.returns-in-Err-Usage-clause-shown
 returns-in-Err-Usage-clause-shown g c = Checked (
   g.E.Write.contents c.complain-in-Err-Usage.new.err,
   c.complain-in-Err-Usage.result.told,
-  refused _ _ c.usage_of_schedule.result _ _ _ _ _
+  refused _ _ c.wrong_words.result _ _ _ _ _
       (unasked _ _ (subst (λ (e : WordsFault). IsUsage e) (sym c.in-Err-Usage.field-0-is) tt) c.in-Err-Usage.ensures.fault)
-      c.usage_of_schedule.ensures c.complain-in-Err-Usage.ensures,
+      c.wrong_words.ensures c.complain-in-Err-Usage.ensures,
   silence _ _,
 )
 

@@ -2,26 +2,18 @@ use Rattle.std.proofs.Common.{ap, refl, subst, sym, ◌∙◌}
 use Rattle.std.proofs.lemmas.Bool.{true≢false}
 use Rattle.cilk_report.proofs.Batches as batches
 use Rattle.cilk_report.proofs.Measuring as measuring
-use Rattle.cilk_report.proofs.Replies.{IsUsage, ended, failed, of_kept, other, silence, starved, starved_or_settled, unasked, yes}
+use Rattle.cilk_report.proofs.Replies.{IsUsage, of_kept, other, silence, starved, starved_or_settled, unasked, yes}
 use Rattle.cilk_report.specs.Explained.{Checked, Measures, Schedules, Served, ServesExplained, ServesThenExplains, Settles, Settling, explains_itself, unflagged, words_of_check}
 use Rattle.cilk_messages.specs.Words.{texts}
 use Rattle.cilk_messages.specs.declared.words.WordsFault.{WordsFault}
 use Rattle.cilk_report.proofs.serving.serve_explained.Goals as goal
 
-pub returns-in-Ok-carry_out-clause-served : goal.returns-in-Ok-carry_out-clause-served
-returns-in-Ok-carry_out-clause-served g c =
-    Served c.show.result.told (other _ _ _ c.in-Ok.ensures.order c.explains_itself.ensures c.if-explains_itself.false)
-    (ended _ _ _ _ _ _ _ _ _ _ _ c.in-Ok.ensures.order c.in-Ok-carry_out.ensures.answer c.show.ensures refl)
+pub returns-in-Ok-2-clause-served : goal.returns-in-Ok-2-clause-served
+returns-in-Ok-2-clause-served g c =
+    Served c.serve.ensures.served.0 (other _ _ _ c.in-Ok.ensures.order c.explains_itself.ensures c.if-explains_itself.false) c.serve.ensures.served.1
 
-pub returns-in-Ok-carry_out-clause-measured : goal.returns-in-Ok-carry_out-clause-measured
-returns-in-Ok-carry_out-clause-measured g c = λ empty _. absurd (measuring.asked _ _ c.in-Ok.ensures.order empty)
-
-pub returns-in-Err-clause-served : goal.returns-in-Err-clause-served
-returns-in-Err-clause-served g c =
-    Served c.complain.result.told (other _ _ _ c.in-Ok.ensures.order c.explains_itself.ensures c.if-explains_itself.false) (failed _ _ _ _ _ _ _ _ _ _ c.in-Ok.ensures.order c.in-Err.ensures.failure c.complain.ensures refl)
-
-pub returns-in-Err-clause-measured : goal.returns-in-Err-clause-measured
-returns-in-Err-clause-measured g c = λ empty _. absurd (measuring.asked _ _ c.in-Ok.ensures.order empty)
+pub returns-in-Ok-2-clause-measured : goal.returns-in-Ok-2-clause-measured
+returns-in-Ok-2-clause-measured g c = λ empty _. absurd (measuring.asked _ _ c.in-Ok.ensures.order empty)
 
 pub serve_other-requires-clause-other : goal.serve_other-requires-clause-other
 serve_other-requires-clause-other g c =
@@ -45,11 +37,8 @@ returns-in-Err-Memory-clause-served g c = starved_or_settled _ _ _ _ _ _ _ _ _ _
 pub returns-in-Err-Memory-clause-measured : goal.returns-in-Err-Memory-clause-measured
 returns-in-Err-Memory-clause-measured g c = λ _ _. measuring.starved _ _ _ _ _ _ _ _ _ _ _ _ c.complain-in-Err-Memory.ensures (silence _ _) refl
 
-pub returns-in-Ok-carry_out-clause-explained : goal.returns-in-Ok-carry_out-clause-explained
-returns-in-Ok-carry_out-clause-explained g c = λ empty _ _ _ _. absurd (measuring.asked _ _ c.in-Ok.ensures.order empty)
-
-pub returns-in-Err-clause-explained : goal.returns-in-Err-clause-explained
-returns-in-Err-clause-explained g c = λ empty _ _ _ _. absurd (measuring.asked _ _ c.in-Ok.ensures.order empty)
+pub returns-in-Ok-2-clause-explained : goal.returns-in-Ok-2-clause-explained
+returns-in-Ok-2-clause-explained g c = λ empty _ _ _ _. absurd (measuring.asked _ _ c.in-Ok.ensures.order empty)
 
 pub returns-in-Err-Usage-clause-explained : goal.returns-in-Err-Usage-clause-explained
 returns-in-Err-Usage-clause-explained g c = λ _ isnt other about less.
@@ -65,11 +54,8 @@ returns-in-Err-Memory-clause-explained g c = λ _ _ _ _ _. (
   silence _ _,
 )
 
-pub returns-in-Ok-carry_out-clause-scheduled : goal.returns-in-Ok-carry_out-clause-scheduled
-returns-in-Ok-carry_out-clause-scheduled g c = λ empty _ _. absurd (measuring.asked _ _ c.in-Ok.ensures.order empty)
-
-pub returns-in-Err-clause-scheduled : goal.returns-in-Err-clause-scheduled
-returns-in-Err-clause-scheduled g c = λ empty _ _. absurd (measuring.asked _ _ c.in-Ok.ensures.order empty)
+pub returns-in-Ok-2-clause-scheduled : goal.returns-in-Ok-2-clause-scheduled
+returns-in-Ok-2-clause-scheduled g c = λ empty _ _. absurd (measuring.asked _ _ c.in-Ok.ensures.order empty)
 
 pub returns-in-Err-Usage-clause-scheduled : goal.returns-in-Err-Usage-clause-scheduled
 returns-in-Err-Usage-clause-scheduled g c = λ _ isnt schedules.
@@ -85,12 +71,8 @@ returns-in-Err-Memory-clause-scheduled g c = λ _ _ _. Checked (
   silence _ _,
 )
 
-pub returns-in-Ok-carry_out-clause-settled : goal.returns-in-Ok-carry_out-clause-settled
-returns-in-Ok-carry_out-clause-settled g c = λ yes.
-    absurd (true≢false (sym yes ∙ other _ _ _ c.in-Ok.ensures.order c.explains_itself.ensures c.if-explains_itself.false))
-
-pub returns-in-Err-clause-settled : goal.returns-in-Err-clause-settled
-returns-in-Err-clause-settled g c = λ yes.
+pub returns-in-Ok-2-clause-settled : goal.returns-in-Ok-2-clause-settled
+returns-in-Ok-2-clause-settled g c = λ yes.
     absurd (true≢false (sym yes ∙ other _ _ _ c.in-Ok.ensures.order c.explains_itself.ensures c.if-explains_itself.false))
 
 pub returns-in-Err-Usage-clause-settled : goal.returns-in-Err-Usage-clause-settled
@@ -130,11 +112,8 @@ returns-in-Ok-clause-explained g c = λ empty _ _ _ _. absurd (measuring.asked _
 pub returns-in-Ok-clause-settles : goal.returns-in-Ok-clause-settles
 returns-in-Ok-clause-settles g c = λ empty _ _ _. absurd (measuring.asked _ _ c.in-Ok.ensures.order empty)
 
-pub returns-in-Ok-carry_out-clause-settles : goal.returns-in-Ok-carry_out-clause-settles
-returns-in-Ok-carry_out-clause-settles g c = λ empty _ _ _. absurd (measuring.asked _ _ c.in-Ok.ensures.order empty)
-
-pub returns-in-Err-clause-settles : goal.returns-in-Err-clause-settles
-returns-in-Err-clause-settles g c = λ empty _ _ _. absurd (measuring.asked _ _ c.in-Ok.ensures.order empty)
+pub returns-in-Ok-2-clause-settles : goal.returns-in-Ok-2-clause-settles
+returns-in-Ok-2-clause-settles g c = λ empty _ _ _. absurd (measuring.asked _ _ c.in-Ok.ensures.order empty)
 
 pub returns-in-Err-Usage-clause-settles : goal.returns-in-Err-Usage-clause-settles
 returns-in-Err-Usage-clause-settles g c = λ _ isnt other held.

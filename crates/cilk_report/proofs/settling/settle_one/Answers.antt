@@ -1,40 +1,17 @@
-use Rattle.std.proofs.Common.{inl, inr, option_map, refl, sym, ◌∙◌}
+use Rattle.std.proofs.Common.{refl}
 use Rattle.cilk_report.proofs.Batches.{settled}
-use Rattle.cilk_report.specs.Settling.{OutOfMemory, Untold, Unwritten, reply_view}
+use Rattle.cilk_report.specs.Settling.{OutOfMemory}
 use Rattle.cilk_report.proofs.settling.settle_one.Goals as goal
 
 pub returns-then-failures-eq18446744073709551615-clause-ends : goal.returns-then-failures-eq18446744073709551615-clause-ends
 returns-then-failures-eq18446744073709551615-clause-ends g c = λ _. OutOfMemory c.starved.ensures.told.0 c.starved.ensures.status refl c.starved.ensures.told.1
 
-pub returns-then-status-eq-NO_MEMORY-clause-ends : goal.returns-then-status-eq-NO_MEMORY-clause-ends
-returns-then-status-eq-NO_MEMORY-clause-ends g c =
-    λ _. OutOfMemory c.starved-then-status-eq-NO_MEMORY.ensures.told.0 c.starved-then-status-eq-NO_MEMORY.ensures.status refl
-    c.starved-then-status-eq-NO_MEMORY.ensures.told.1
-
-pub returns-in-Ok-clause-goes_on : goal.returns-in-Ok-clause-goes_on
-returns-in-Ok-clause-goes_on g c = λ on.
-    let written = c.write_texts.ensures.goes_on on in
-    record {
-      reply = reply_view c.settle-reply.result;
-      settles = settled _ _ _ _ _ _ _ _ c.settle-reply.result c.keep.ensures.failures c.keep.ensures.same c.settle-reply.ensures.answer c.settle-reply.ensures.failure;
-      status_is = written.0 ∙ c.status_of-status.ensures;
-      remains = λ none. c.if-status-eq-NO_MEMORY.false (sym written.0 ∙ none);
-      texts = (c.in-Ok.texts.out.items, c.in-Ok.texts.err.items);
-      shown = c.in-Ok.ensures;
-      on_out = written.1;
-      on_err = written.2;
-    }
-
-pub returns-in-Ok-clause-ends : goal.returns-in-Ok-clause-ends
-returns-in-Ok-clause-ends g c = λ off.
-    let reply =
-    settled _ _ _ _ _ _ _ _ c.settle-reply.result c.keep.ensures.failures c.keep.ensures.same c.settle-reply.ensures.answer c.settle-reply.ensures.failure in
-    elim (c.write_texts.ensures.ends off) [
-      | inl cut ↦ Unwritten (reply_view c.settle-reply.result) c.in-Ok.texts.out.items c.in-Ok.texts.err.items cut.2.0 reply c.in-Ok.ensures cut.0 cut.1 cut.2.1
-      | inr cut ↦ Untold (reply_view c.settle-reply.result) c.in-Ok.texts.out.items c.in-Ok.texts.err.items reply c.in-Ok.ensures
-          (cut.0 ∙ c.status_of-status.ensures) cut.1 cut.2
-    ]
+pub returns-clause-goes_on : goal.returns-clause-goes_on
+returns-clause-goes_on g c = λ on.
+    c.show_reply.ensures.goes_on on _ _
+    (settled _ _ _ _ _ _ _ _ c.settle-reply.result c.keep.ensures.failures c.keep.ensures.same c.settle-reply.ensures.answer c.settle-reply.ensures.failure)
 
 pub returns-clause-ends : goal.returns-clause-ends
-returns-clause-ends g c =
-    λ _. OutOfMemory c.starved-in-Err.ensures.told.0 c.starved-in-Err.ensures.status refl c.starved-in-Err.ensures.told.1
+returns-clause-ends g c = λ off.
+    c.show_reply.ensures.ends off _ _
+    (settled _ _ _ _ _ _ _ _ c.settle-reply.result c.keep.ensures.failures c.keep.ensures.same c.settle-reply.ensures.answer c.settle-reply.ensures.failure)

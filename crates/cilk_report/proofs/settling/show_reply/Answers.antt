@@ -1,0 +1,33 @@
+use Rattle.std.proofs.Common.{inl, inr, refl, sym, ◌∙◌}
+use Rattle.cilk_report.specs.Settling.{OutOfMemory, Untold, Unwritten, reply_view}
+use Rattle.cilk_report.proofs.settling.show_reply.Goals as goal
+
+pub returns-then-status-eq-NO_MEMORY-clause-ends : goal.returns-then-status-eq-NO_MEMORY-clause-ends
+returns-then-status-eq-NO_MEMORY-clause-ends g c =
+    λ _ w i settles. OutOfMemory c.starved.ensures.told.0 c.starved.ensures.status refl c.starved.ensures.told.1
+
+pub returns-in-Ok-clause-goes_on : goal.returns-in-Ok-clause-goes_on
+returns-in-Ok-clause-goes_on g c = λ on w i settles.
+    let written = c.write_texts.ensures.goes_on on in
+    record {
+      reply = reply_view c.args.reply.now;
+      settles = settles;
+      status_is = written.0 ∙ c.status_of-status.ensures;
+      remains = λ none. c.if-status-eq-NO_MEMORY.false (sym written.0 ∙ none);
+      texts = (c.in-Ok.texts.out.items, c.in-Ok.texts.err.items);
+      shown = c.in-Ok.ensures;
+      on_out = written.1;
+      on_err = written.2;
+    }
+
+pub returns-in-Ok-clause-ends : goal.returns-in-Ok-clause-ends
+returns-in-Ok-clause-ends g c = λ off w i settles.
+    elim (c.write_texts.ensures.ends off) [
+      | inl cut ↦ Unwritten (reply_view c.args.reply.now) c.in-Ok.texts.out.items c.in-Ok.texts.err.items cut.2.0 settles c.in-Ok.ensures cut.0 cut.1 cut.2.1
+      | inr cut ↦ Untold (reply_view c.args.reply.now) c.in-Ok.texts.out.items c.in-Ok.texts.err.items settles c.in-Ok.ensures
+          (cut.0 ∙ c.status_of-status.ensures) cut.1 cut.2
+    ]
+
+pub returns-clause-ends : goal.returns-clause-ends
+returns-clause-ends g c =
+    λ _ w i settles. OutOfMemory c.starved-in-Err.ensures.told.0 c.starved-in-Err.ensures.status refl c.starved-in-Err.ensures.told.1
