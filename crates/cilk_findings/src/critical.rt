@@ -55,7 +55,7 @@ pub fn critical_path(alloc: Global, trace: &Trace) -> Result<Vec<usize>, AllocEr
     Ok(path)
 }
 
-/// Returns for each step of the span the number of events there. With enough workers all events of a
+/// Returns for each step of the span of a run that has ended the number of events there. With enough workers all events of a
 /// step can be made at the same time. Cost and memory: linear in the events.
 pub fn profile(alloc: Global, trace: &Trace) -> Result<Vec<u32>, AllocError> {
     let chains = Chains::of(alloc, trace)?;

@@ -16,7 +16,7 @@ pub fn map_of<'a>(
     tokens: &'a Tokens<'a>,
 ) -> Result<TextMap, AllocError> {
     let mut map = TextMap::new(alloc);
-    let mut walker = Walker::new(alloc, tokens, tree.items.as_slice());
+    let mut walker = Walker::new(alloc, tokens, tree.items.as_slice())?;
     walker.whole()?;
     mem::swap(&mut map, &mut walker.map);
     Ok(map)

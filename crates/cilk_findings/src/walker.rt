@@ -33,11 +33,12 @@ pub const FUNCTION: &str = "...HmVgRtppp";
 /// The marks that pass a line of globals.
 pub const LINE: &str = "K";
 
-// An index; operators; operands; statements up to a brace; a statement; what follows an `if`; assignments and
-// calls; what follows the name in these or in a declaration; the right side of a compound assignment;
-// declared names, and what follows them; of a `for` the beginning, the test, the test once more, the step
-// with the body, and the step alone; the end of a `cilk_for`'s head; of a function the head and the local
-// reducers; the rest of a line.
+// I: an index; 1 to 6: operators; A: operands; R: statements up to a brace; S: a statement; L: what
+// follows an `if`; Z: assignments and calls; U: what follows the name in these or in a declaration;
+// B: the right side of a compound assignment; D, F: declared names, and what follows them; of a
+// `for` Y: the beginning, T: the test, Q: the test once more, W, X: the step with the body, and
+// J: the step alone; N: the end of a `cilk_for`'s head; H, V: of a function the head and the local
+// reducers; K: the rest of a line.
 const GRAMMAR: &str = "\
 I [ => .A1.
 1 || => tpppA2p
@@ -113,13 +114,22 @@ struct Task {
     noted: usize,
 }
 
-/// A walk: its map so far, the next token, and the rows that have begun, the innermost last.
+/// The name of a function and its parameters.
+#[derive(Clone, Copy)]
+struct Function<'a> {
+    word: &'a [u8],
+    parameters: &'a [Parameter],
+}
+
+/// A walk: its map so far, the next token, the text's functions, and the rows that have begun, the
+/// innermost last.
 pub struct Walker<'a> {
     pub alloc: Global,
     pub tokens: &'a Tokens<'a>,
     pub items: &'a [Item],
     pub map: TextMap,
     next: usize,
+    functions: Vec<Function<'a>>,
     tasks: Vec<Task>,
 }
 
@@ -132,6 +142,7 @@ impl Drop for Walker<'_> {
             items: _items,
             map: _map,
             next: _next,
+            functions: _functions,
             tasks: _tasks,
         } = self;
     }
@@ -139,15 +150,20 @@ impl Drop for Walker<'_> {
 
 impl<'a> Walker<'a> {
     /// A walk that begins with the first token. The tokens have to be those of the items' text.
-    pub fn new(alloc: Global, tokens: &'a Tokens<'a>, items: &'a [Item]) -> Walker<'a> {
-        Walker {
+    pub fn new(
+        alloc: Global,
+        tokens: &'a Tokens<'a>,
+        items: &'a [Item],
+    ) -> Result<Walker<'a>, AllocError> {
+        Ok(Walker {
             alloc,
             tokens,
             items,
             map: TextMap::new(alloc),
             next: 0,
+            functions: functions_of(alloc, tokens.text, items)?,
             tasks: Vec::new(alloc),
-        }
+        })
     }
 
     /// Walks on by these marks.
@@ -178,6 +194,9 @@ impl<'a> Walker<'a> {
 
     // The marks of the row that a letter or digit stands for here: of a digit, also those of higher ones.
     fn row_of(&self, mark: u8) -> Option<&'static [u8]> {
+        if !mark.is_ascii_uppercase() && !mark.is_ascii_digit() {
+            return None;
+        }
         for row in GRAMMAR.lines() {
             let letter = row.as_bytes().first().copied().unwrap_or(0);
             if letter == mark || mark.is_ascii_digit() && mark < letter && letter.is_ascii_digit() {
@@ -293,7 +312,7 @@ impl<'a> Walker<'a> {
     // no instruction.
     fn begin_call(&mut self, task: Task) -> Result<(), AllocError> {
         let name = self.tokens.word(self.next.saturating_sub(1));
-        let parameters = parameters_of(self.items, self.tokens.text, name);
+        let parameters = self.parameters_of(name);
         if parameters.is_empty() {
             let marks = ".".as_bytes();
             self.tasks.push(Task { marks, ..task })?;
@@ -311,6 +330,16 @@ impl<'a> Walker<'a> {
         Ok(())
     }
 
+    // The parameters of the function with a name.
+    fn parameters_of(&self, name: &[u8]) -> &'a [Parameter] {
+        for function in self.functions.as_slice() {
+            if function.word == name {
+                return function.parameters;
+            }
+        }
+        &[]
+    }
+
     // The bytes of a token.
     fn name_at(&self, number: usize) -> Name {
         let at = self.tokens.place(number);
@@ -319,17 +348,22 @@ impl<'a> Walker<'a> {
     }
 }
 
-// The parameters of the function with a name.
-fn parameters_of<'a>(items: &'a [Item], text: &[u8], wanted: &[u8]) -> &'a [Parameter] {
+// The functions among the items of a text.
+fn functions_of<'a>(
+    alloc: Global,
+    text: &'a [u8],
+    items: &'a [Item],
+) -> Result<Vec<Function<'a>>, AllocError> {
+    let mut functions = Vec::new(alloc);
     for item in items {
         if let Item::Function(_, name, parameters, _) = item
             && let Some(word) = text.get(name.at..name.end)
-            && word == wanted
         {
-            return parameters.as_slice();
+            let parameters = parameters.as_slice();
+            functions.push(Function { word, parameters })?;
         }
     }
-    &[]
+    Ok(functions)
 }
 
 /// Returns the number of a body. A text has no more than fit.

@@ -36,7 +36,10 @@ pub fn no_form<'a>(
         return Some(hint);
     }
     match of_use(&site, wanted) {
-        Some("spawned") => spawned_assignment(&site),
+        Some("spawned") => match spawned_assignment(&site) {
+            None => Some(say(sentence("ASSIGNMENT"))),
+            hint => hint,
+        },
         Some(cure) => Some(say(cure)),
         None => None,
     }

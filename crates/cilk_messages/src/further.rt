@@ -153,7 +153,7 @@ pub fn push_further(
     further.push(alloc, report)
 }
 
-// The most tokens that are looked at.
+// The most tokens that are looked at: some looks go back to the first token of a text.
 const LOOKED_AT: usize = 20_000;
 
 // Notes the forms of a text. In a text of C++ `<<` and `>>` may be those of a stream.

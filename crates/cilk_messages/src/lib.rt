@@ -24,7 +24,7 @@
 //! | [`report::of_line`] | the message after a refusal of a certificate, or a fault of a run |
 //! | [`report::of_script`] | the message after a refused script |
 //! | [`report::of_number`], [`report::of_all`] | the text of `explain` |
-//! | [`reasons::reason_of`] | the meaning of a number, with an example and a cure |
+//! | [`reasons::line_of`] | a line of the meaning of a number |
 //! | [`sentence::say`] | a sentence with gaps, and the parts that fill them |
 //! | [`sites::enclosing`] and others | the surroundings of a token |
 //! | [`words::read`] | the command line as an order: `run`, `certify`, `check`, `play`, `settle` or `judge` |

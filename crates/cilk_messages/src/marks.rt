@@ -26,10 +26,10 @@ pub fn no_token(text: &[u8], at: usize) -> Option<&'static str> {
     said(&Spot { text, at }, MARKS)
 }
 
-// A byte of a text. Its places are `0`, what stands there; `-1`, `-2` and `+1`, the words before and
-// after it; `on`, the text from it on; `called`, the word before the parenthesis before it;
-// `directive`, the word after a `#`; and conditions (`Spot::holds`). `@` stands for any name, `#` for
-// any number, `&` for a word of a type, and `!` for one of locks.
+// A byte of a text. Its places are `-1`, `-2` and `+1`, the words before and after it; `on`, the text
+// from it on; `called`, the word before the parenthesis before it; `directive`, the word after a `#`;
+// and conditions (`Spot::fact`). `@` stands for any name, `#` for any number, `:type` for a word of a
+// type, and `:lock` for one of locks.
 #[derive(Clone, Copy)]
 struct Spot<'a> {
     text: &'a [u8],
@@ -59,9 +59,9 @@ on :.. | -1 @ | -2 ; { } ) => LABELS
 on :.. | -1 @ | first => LABELS
 on :.. | -1 @ => a loop counts, and has no `:` in its head: `for (int i = 0; i < n; i++)`
 on :.. ?.. => CHOICE
-on &.. | -1 & => REFERENCES
-on &.. | -1 ) ] @ # ! => BITS
-on &.. | called ! => LOCKS
+on &.. | -1 :type => REFERENCES
+on &.. | -1 ) ] @ # => BITS
+on &.. | called :lock => LOCKS
 on &.. => there are no pointers: a place in a global array stands for an address, as `i` for `&a[i]`, and for `&x` a function returns the number
 on |.. => there are no operators on bits: put numbers together by `*` and `+`, as `2 * x + 1` for `x << 1 | 1`
 on ^.. => there are no operators on bits: a loop over `x % 2` and `x / 2` stands for `x ^ y`
@@ -85,22 +85,11 @@ impl Surroundings for Spot<'_> {
             "directive" => word_at(text, word_after(text, next)),
             _ => self.fact(place),
         };
-        is_among(words, word) || is_among(words, class_of(word))
-    }
-}
-
-// The sign of the class that a word is of.
-fn class_of(word: &[u8]) -> &'static [u8] {
-    if is_among(TYPE_WORDS, word) {
-        b"&"
-    } else if is_among(LOCK_WORDS, word) {
-        b"!"
-    } else if is_name(word) {
-        b"@"
-    } else if is_number(word) {
-        b"#"
-    } else {
-        b""
+        is_among(words, word)
+            || is_among(words, b"@") && is_name(word)
+            || is_among(words, b"#") && is_number(word)
+            || is_among(words, b":type") && is_among(TYPE_WORDS, word)
+            || is_among(words, b":lock") && is_among(LOCK_WORDS, word)
     }
 }
 
@@ -113,7 +102,7 @@ impl Spot<'_> {
                 &b'\n',
             ),
             "macro" => byte_at(text, defined_end(text, at)) == b'(',
-            "first" => begins_line(text, before(text, at).unwrap_or(0)),
+            "first" => is_first_of_line(text, before(text, at).unwrap_or(0)),
             "viewed" => is_view(text, at) || is_reducer(text, word_before(text, at)),
             _ => false,
         };
@@ -137,7 +126,7 @@ fn defined_end(text: &[u8], at: usize) -> usize {
 }
 
 // Whether the word at a place is the first of its line.
-fn begins_line(text: &[u8], at: usize) -> bool {
+fn is_first_of_line(text: &[u8], at: usize) -> bool {
     let (_line, first) = line_at(text, at);
     word_after(text, first) == at
 }
@@ -189,5 +178,5 @@ pub fn no_number(word: &[u8]) -> &'static str {
 
 const NUMERALS: &str = "\
 0x.. 0X.. => write the number with decimal digits
-1e-1 1e-2 1e-3 => FRACTIONS
+1e-1 1e-2 1e-3 1e-1f 1e-2f 1e-3f 1e-1L 1e-2L 1e-3L 1e-1l 1e-2l 1e-3l => FRACTIONS
 1e-.. => TINY";

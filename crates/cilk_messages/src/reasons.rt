@@ -34,7 +34,7 @@ pub fn line_of(number: u16, wanted: usize) -> &'static str {
 }
 
 /// Returns the number and the title in the first line of a meaning; for another line 0 and the line.
-pub fn titled(line: &'static str) -> (u16, &'static str) {
+pub(crate) fn titled(line: &'static str) -> (u16, &'static str) {
     if let Some((digits, title)) = line.split_once(": ")
         && let Ok(number) = digits.parse::<u16>()
     {

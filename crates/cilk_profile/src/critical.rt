@@ -81,7 +81,7 @@ impl Table<'_> {
             counts: Vec::new(alloc),
             lines: Vec::new(alloc),
         };
-        critical.work(text)
+        critical.push(text)
     }
 
     // Adds a count, and how much that is of another, in percent with a digit after the point.
@@ -98,7 +98,7 @@ impl Table<'_> {
 }
 
 impl Critical<'_> {
-    fn work(&mut self, text: &mut String) -> Result<(), AllocError> {
+    fn push(&mut self, text: &mut String) -> Result<(), AllocError> {
         self.find_ahead()?;
         self.find_sites()?;
         self.push_sites(text)?;

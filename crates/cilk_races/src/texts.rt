@@ -5,7 +5,8 @@
 // braces stands for
 //
 // - `y` a place for a `cilk_sync`, `n` the name of the variable, array or reducer, `r` the reducer's monoid;
-// - `m` the monoid that takes a number, `a` the number, `g` what is not asked for any more;
+// - `m` the monoid that takes a number, `a` the number, `g` the part of a condition that goes
+//   away, the variable again, or the number of a turn;
 // - `k` the monoid that keeps a number by itself, `u` the number;
 // - `i` the index of the element, `p` the words of the index, `f` the array that a counter fills;
 // - `l` the length of the array, `d` twice that, `t` that for each turn;
