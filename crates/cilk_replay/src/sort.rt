@@ -9,7 +9,7 @@ use cilk_tree::kind::Kind;
 use cilk_types::invocation::Invocation;
 
 /// The sort of an event.
-#[derive(Clone, Copy)]
+#[derive(Clone, Copy, PartialEq, Eq)]
 pub enum Sort {
     Begin,
     Spawn,
