@@ -32,10 +32,10 @@ returns-in-Err-Usage-clause-served g c =
     (g.E.Write.contents c.serve_other.new.err)) _ _ _ _ c.keep-in-Err-Usage.ensures.failures c.keep-in-Err-Usage.ensures.same c.serve_other.ensures.served
 
 pub returns-in-Err-Memory-clause-served : goal.returns-in-Err-Memory-clause-served
-returns-in-Err-Memory-clause-served g c = starved_or_settled _ _ _ _ _ _ _ _ _ _ c.complain-in-Err-Memory.ensures
+returns-in-Err-Memory-clause-served g c = starved_or_settled _ _ _ _ _ _ _ _ _ _ c.complain.ensures
 
 pub returns-in-Err-Memory-clause-measured : goal.returns-in-Err-Memory-clause-measured
-returns-in-Err-Memory-clause-measured g c = λ _ _. measuring.starved _ _ _ _ _ _ _ _ _ _ _ _ c.complain-in-Err-Memory.ensures (silence _ _) refl
+returns-in-Err-Memory-clause-measured g c = λ _ _. measuring.starved _ _ _ _ _ _ _ _ _ _ _ _ c.complain.ensures (silence _ _) refl
 
 pub returns-in-Ok-2-clause-explained : goal.returns-in-Ok-2-clause-explained
 returns-in-Ok-2-clause-explained g c = λ empty _ _ _ _. absurd (measuring.asked _ _ c.in-Ok.ensures.order empty)
@@ -48,9 +48,9 @@ returns-in-Err-Usage-clause-explained g c = λ _ isnt other about less.
 
 pub returns-in-Err-Memory-clause-explained : goal.returns-in-Err-Memory-clause-explained
 returns-in-Err-Memory-clause-explained g c = λ _ _ _ _ _. (
-  g.E.Write.contents c.complain-in-Err-Memory.new.err,
-  c.complain-in-Err-Memory.result.told,
-  starved _ _ _ _ _ _ _ c.complain-in-Err-Memory.ensures,
+  g.E.Write.contents c.complain.new.err,
+  c.complain.result.told,
+  starved _ _ _ _ _ _ _ c.complain.ensures,
   silence _ _,
 )
 
@@ -65,9 +65,9 @@ returns-in-Err-Usage-clause-scheduled g c = λ _ isnt schedules.
 
 pub returns-in-Err-Memory-clause-scheduled : goal.returns-in-Err-Memory-clause-scheduled
 returns-in-Err-Memory-clause-scheduled g c = λ _ _ _. Checked (
-  g.E.Write.contents c.complain-in-Err-Memory.new.err,
-  c.complain-in-Err-Memory.result.told,
-  starved _ _ _ _ _ _ _ c.complain-in-Err-Memory.ensures,
+  g.E.Write.contents c.complain.new.err,
+  c.complain.result.told,
+  starved _ _ _ _ _ _ _ c.complain.ensures,
   silence _ _,
 )
 
@@ -81,9 +81,9 @@ returns-in-Err-Usage-clause-settled g c = λ yes.
 
 pub returns-in-Err-Memory-clause-settled : goal.returns-in-Err-Memory-clause-settled
 returns-in-Err-Memory-clause-settled g c = λ _. (
-  g.E.Write.contents c.complain-in-Err-Memory.new.err,
-  c.complain-in-Err-Memory.result.told,
-  starved _ _ _ _ _ _ _ c.complain-in-Err-Memory.ensures,
+  g.E.Write.contents c.complain.new.err,
+  c.complain.result.told,
+  starved _ _ _ _ _ _ _ c.complain.ensures,
   silence _ _,
 )
 
@@ -122,4 +122,4 @@ returns-in-Err-Usage-clause-settles g c = λ _ isnt other held.
     (g.E.Write.contents c.serve_other.new.err)) _ _ _ _ c.keep-in-Err-Usage.ensures.failures c.keep-in-Err-Usage.ensures.same (c.serve_other.ensures.settles isnt other held)
 
 pub returns-in-Err-Memory-clause-settles : goal.returns-in-Err-Memory-clause-settles
-returns-in-Err-Memory-clause-settles g c = λ _ _ _ _. batches.starved _ _ _ _ _ _ _ _ _ _ c.complain-in-Err-Memory.ensures
+returns-in-Err-Memory-clause-settles g c = λ _ _ _ _. batches.starved _ _ _ _ _ _ _ _ _ _ c.complain.ensures

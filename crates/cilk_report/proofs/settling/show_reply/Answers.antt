@@ -28,6 +28,6 @@ returns-in-Ok-clause-ends g c = λ off w i settles.
           (cut.0 ∙ c.status_of-status.ensures) cut.1 cut.2
     ]
 
-pub returns-clause-ends : goal.returns-clause-ends
-returns-clause-ends g c =
+pub returns-in-Err-clause-ends : goal.returns-in-Err-clause-ends
+returns-in-Err-clause-ends g c =
     λ _ w i settles. OutOfMemory c.starved-in-Err.ensures.told.0 c.starved-in-Err.ensures.status refl c.starved-in-Err.ensures.told.1
