@@ -14,52 +14,52 @@ use Rattle.cilk_program.specs.declared.program.GlobalReducer.{GlobalReducer}
 use Rattle.cilk_program.specs.Syntax.{Expression, Number, Variable, Element, Negate, Not, Binary, And, Or, Value, Input, InputCount, Target, ToVariable, ToElement, Invoke, Declaration, Zero, Opening, Invoking, Statement, Empty, Block, Declare, Assign, Change, Step, Invokes, Sync, If, IfElse, For, ParallelFor, Print, Update, Set, Return, Statements, Nothing, Then, Function, Loop, Source}
 
 abbrev pub expression : exprs.Expr → Expression
-expression (exprs.Number n) = Number n.value
-expression (exprs.Variable x) = Variable x
-expression (exprs.Element' a p e) = Element a (expression e)
-expression (exprs.Negate' p e) = Negate (expression e)
-expression (exprs.Not' p e) = Not (expression e)
-expression (exprs.Binary' op p a q b) = Binary op (expression a) (expression b)
-expression (exprs.And' p a q b) = And (expression a) (expression b)
-expression (exprs.Or' p a q b) = Or (expression a) (expression b)
-expression (exprs.Value r) = Value r
-expression (exprs.Input' p e) = Input (expression e)
-expression exprs.InputCount = InputCount
+expression (exprs.Number at n) = Number n.value
+expression (exprs.Variable at x) = Variable x
+expression (exprs.Element' at a p e) = Element a (expression e)
+expression (exprs.Negate' at p e) = Negate (expression e)
+expression (exprs.Not' at p e) = Not (expression e)
+expression (exprs.Binary' at op p a q b) = Binary op (expression a) (expression b)
+expression (exprs.And' at p a q b) = And (expression a) (expression b)
+expression (exprs.Or' at p a q b) = Or (expression a) (expression b)
+expression (exprs.Value at r) = Value r
+expression (exprs.Input' at p e) = Input (expression e)
+expression (exprs.InputCount at) = InputCount
 
 abbrev pub optional : Option exprs.Expr → Option Expression
 optional None = None
 optional (Some e) = Some (expression e)
 
 abbrev pub target : declared_targets.Target → Target
-target (targets.Variable x) = ToVariable x
-target (targets.Element a e) = ToElement a (expression e)
+target (targets.Variable at x) = ToVariable x
+target (targets.Element at a e) = ToElement a (expression e)
 
 abbrev pub invoke : declared_invokes.Invoke → Invoke
 invoke i = record { how = i.how; function = i.function; arguments = map expression i.arguments.items; reducers = i.reducers.items; result = i.result }
 
 abbrev pub declaration : declared_declarations.Declaration → Declaration
-declaration (declarations.Zero n) = Zero n
-declaration (declarations.Value n e) = Opening n (expression e)
+declaration (declarations.Zero at n) = Zero n
+declaration (declarations.Value at n e) = Opening n (expression e)
 declaration (declarations.Invoke i) = Invoking (invoke i)
 
 abbrev mutual
   pub statement : stmts.Stmt → Statement
-  statement stmts.Empty = Empty
-  statement (stmts.Block' shape row) = Block (row_view row)
+  statement (stmts.Empty at) = Empty
+  statement (stmts.Block' at shape row) = Block (row_view row)
   statement (stmts.Declare row) = Declare (map declaration row.items)
   statement (stmts.Assign t e) = Assign (target t) (expression e)
-  statement (stmts.Change t op e) = Change (target t) op (expression e)
+  statement (stmts.Change t at op e) = Change (target t) op (expression e)
   statement (stmts.Step t n) = Step (target t) n
   statement (stmts.Invoke i) = Invokes (invoke i)
-  statement stmts.Sync = Sync
-  statement (stmts.If' e p s) = If (expression e) (statement s)
-  statement (stmts.IfElse' e p s q other) = IfElse (expression e) (statement s) (statement other)
-  statement (stmts.For' shape row test shape2 row2 p s) = For (row_view row) (optional test) (row_view row2) (statement s)
-  statement (stmts.ParallelFor a b n) = ParallelFor (expression a) (expression b) n
-  statement (stmts.Print e) = Print (expression e)
-  statement (stmts.Update r e) = Update r (expression e)
-  statement (stmts.Set r e) = Set r (expression e)
-  statement (stmts.Return e) = Return (optional e)
+  statement (stmts.Sync at) = Sync
+  statement (stmts.If' at e p s) = If (expression e) (statement s)
+  statement (stmts.IfElse' at e p s q other) = IfElse (expression e) (statement s) (statement other)
+  statement (stmts.For' at shape row test shape2 row2 p s) = For (row_view row) (optional test) (row_view row2) (statement s)
+  statement (stmts.ParallelFor at a b n) = ParallelFor (expression a) (expression b) n
+  statement (stmts.Print at e) = Print (expression e)
+  statement (stmts.Update at r e) = Update r (expression e)
+  statement (stmts.Set at r e) = Set r (expression e)
+  statement (stmts.Return at e) = Return (optional e)
 
   pub row_view : {n : _} → stmts.Row_of-Stmt n → Statements
   row_view stmts.end_of-Stmt = Nothing

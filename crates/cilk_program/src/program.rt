@@ -12,9 +12,12 @@ use cilk_types::word_list::WordList;
 /// A function. Its frame has `cells` cells: its `words` word parameters first, then its variables
 /// in order of declaration.
 /// `given` has the monoids of its reducer parameters, and `reducers` those of the reducers that it
-/// declares, in order.
+/// declares, in order. `at` and `end` are the bytes of the text where its name begins and of the
+/// brace that closes it.
 #[derive(Drop)]
 pub struct Function {
+    pub at: usize,
+    pub end: usize,
     pub words: u32,
     pub given: Sequence<MonoidKind>,
     pub cells: u32,
@@ -29,9 +32,11 @@ pub enum Body {
     Loop(u32),
 }
 
-/// A `cilk_for`. The frame of one turn has `cells` cells, the loop's variable first.
+/// A `cilk_for`. The frame of one turn has `cells` cells, the loop's variable first. `at` is the byte
+/// of the text where its first word begins.
 #[derive(Drop)]
 pub struct Loop {
+    pub at: usize,
     pub within: Body,
     pub cells: u32,
     pub body: Vec<Stmt>,

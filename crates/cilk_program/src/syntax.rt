@@ -1,4 +1,8 @@
 //! Statements and expressions whose names are resolved.
+//!
+//! Each has the byte of the text that it comes from, which tells where a run reads, writes or stops:
+//! of an operator its mark, of a variable, an element or a reducer its name, of a call its first
+//! byte, and of other statements their first byte.
 
 ghost use Rattle.cilk_types.specs.Word.{IsWord};
 
@@ -68,54 +72,54 @@ pub struct Literal {
 
 /// An expression.
 pub enum Expr {
-    Number(Literal),
-    Variable(Place),
+    Number(usize, Literal),
+    Variable(usize, Place),
     /// The array element at an index, which is checked against the array's length.
-    Element(Array, Box<Expr>),
-    Negate(Box<Expr>),
-    Not(Box<Expr>),
-    Binary(Operator, Box<Expr>, Box<Expr>),
+    Element(usize, Array, Box<Expr>),
+    Negate(usize, Box<Expr>),
+    Not(usize, Box<Expr>),
+    Binary(usize, Operator, Box<Expr>, Box<Expr>),
     /// Evaluates the right side only if the left isn't 0.
-    And(Box<Expr>, Box<Expr>),
+    And(usize, Box<Expr>, Box<Expr>),
     /// Evaluates the right side only if the left is 0.
-    Or(Box<Expr>, Box<Expr>),
+    Or(usize, Box<Expr>, Box<Expr>),
     /// The number of a reducer's view.
-    Value(Reducer),
+    Value(usize, Reducer),
     /// The input number at an index from 0.
-    Input(Box<Expr>),
+    Input(usize, Box<Expr>),
     /// The count of input numbers.
-    InputCount,
+    InputCount(usize),
 }
 
 impl Drop for Expr {
     fn drop(self) {
         match self {
-            Expr::Number(_) => {}
-            Expr::Variable(_) => {}
-            Expr::Element(_, _at) => {}
-            Expr::Negate(_inner) => {}
-            Expr::Not(_inner) => {}
-            Expr::Binary(_, _left, _right) => {}
-            Expr::And(_left, _right) => {}
-            Expr::Or(_left, _right) => {}
-            Expr::Value(_) => {}
-            Expr::Input(_at) => {}
-            Expr::InputCount => {}
+            Expr::Number(_, _) => {}
+            Expr::Variable(_, _) => {}
+            Expr::Element(_, _, _index) => {}
+            Expr::Negate(_, _inner) => {}
+            Expr::Not(_, _inner) => {}
+            Expr::Binary(_, _, _left, _right) => {}
+            Expr::And(_, _left, _right) => {}
+            Expr::Or(_, _left, _right) => {}
+            Expr::Value(_, _) => {}
+            Expr::Input(_, _index) => {}
+            Expr::InputCount(_) => {}
         }
     }
 }
 
 /// The target of an assignment.
 pub enum Target {
-    Variable(Place),
-    Element(Array, Expr),
+    Variable(usize, Place),
+    Element(usize, Array, Expr),
 }
 
 impl Drop for Target {
     fn drop(self) {
         match self {
-            Target::Variable(_) => {}
-            Target::Element(_, _at) => {}
+            Target::Variable(_, _) => {}
+            Target::Element(_, _, _index) => {}
         }
     }
 }
@@ -123,6 +127,7 @@ impl Drop for Target {
 /// A call or spawn of a function: its index, its word and reducer arguments in order, and the
 /// variable that receives the result.
 pub struct Invoke {
+    pub at: usize,
     pub how: Invocation,
     pub function: u32,
     pub arguments: Vec<Expr>,
@@ -133,6 +138,7 @@ pub struct Invoke {
 impl Drop for Invoke {
     fn drop(self) {
         let Invoke {
+            at: _,
             how: _,
             function: _,
             arguments: _arguments,
@@ -145,8 +151,8 @@ impl Drop for Invoke {
 /// One variable of a declaration, by its index among the frame's cells.
 pub enum Declaration {
     /// The variable becomes 0.
-    Zero(u32),
-    Value(u32, Expr),
+    Zero(usize, u32),
+    Value(usize, u32, Expr),
     /// The child writes its result. The declaration itself writes nothing.
     Invoke(Invoke),
 }
@@ -154,8 +160,8 @@ pub enum Declaration {
 impl Drop for Declaration {
     fn drop(self) {
         match self {
-            Declaration::Zero(_) => {}
-            Declaration::Value(_, _value) => {}
+            Declaration::Zero(_, _) => {}
+            Declaration::Value(_, _, _value) => {}
             Declaration::Invoke(_invoke) => {}
         }
     }
@@ -165,49 +171,50 @@ impl Drop for Declaration {
 pub enum Stmt {
     /// Does nothing. A local reducer's declaration is empty too: the reducer is created when its
     /// frame begins.
-    Empty,
-    Block(Vec<Stmt>),
+    Empty(usize),
+    Block(usize, Vec<Stmt>),
     Declare(Vec<Declaration>),
     Assign(Target, Expr),
-    Change(Target, Compound, Expr),
+    /// A compound assignment, with the place of its mark.
+    Change(Target, usize, Compound, Expr),
     /// Adds 1 for `++`, -1 for `--`.
     Step(Target, i64),
     Invoke(Invoke),
-    Sync,
-    If(Expr, Box<Stmt>),
-    IfElse(Expr, Box<Stmt>, Box<Stmt>),
+    Sync(usize),
+    If(usize, Expr, Box<Stmt>),
+    IfElse(usize, Expr, Box<Stmt>, Box<Stmt>),
     /// A `for`: its initial statements, its condition (true if absent), its step and its body. A
     /// `while` has only a condition and a body.
-    For(Vec<Stmt>, Option<Expr>, Vec<Stmt>, Box<Stmt>),
+    For(usize, Vec<Stmt>, Option<Expr>, Vec<Stmt>, Box<Stmt>),
     /// A `cilk_for` from the first bound up to, but not including, the second, and the loop's index
     /// in the program.
-    ParallelFor(Expr, Expr, u32),
-    Print(Expr),
-    Update(Reducer, Expr),
-    Set(Reducer, Expr),
+    ParallelFor(usize, Expr, Expr, u32),
+    Print(usize, Expr),
+    Update(usize, Reducer, Expr),
+    Set(usize, Reducer, Expr),
     /// Returns a value, or 0 if there is none.
-    Return(Option<Expr>),
+    Return(usize, Option<Expr>),
 }
 
 impl Drop for Stmt {
     fn drop(self) {
         match self {
-            Stmt::Empty => {}
-            Stmt::Block(_list) => {}
+            Stmt::Empty(_) => {}
+            Stmt::Block(_, _list) => {}
             Stmt::Declare(_list) => {}
             Stmt::Assign(_target, _value) => {}
-            Stmt::Change(_target, _, _value) => {}
+            Stmt::Change(_target, _, _, _value) => {}
             Stmt::Step(_target, _) => {}
             Stmt::Invoke(_invoke) => {}
-            Stmt::Sync => {}
-            Stmt::If(_test, _body) => {}
-            Stmt::IfElse(_test, _then, _other) => {}
-            Stmt::For(_first, _test, _step, _body) => {}
-            Stmt::ParallelFor(_from, _to, _) => {}
-            Stmt::Print(_value) => {}
-            Stmt::Update(_, _value) => {}
-            Stmt::Set(_, _value) => {}
-            Stmt::Return(_value) => {}
+            Stmt::Sync(_) => {}
+            Stmt::If(_, _test, _body) => {}
+            Stmt::IfElse(_, _test, _then, _other) => {}
+            Stmt::For(_, _first, _test, _step, _body) => {}
+            Stmt::ParallelFor(_, _from, _to, _) => {}
+            Stmt::Print(_, _value) => {}
+            Stmt::Update(_, _, _value) => {}
+            Stmt::Set(_, _, _value) => {}
+            Stmt::Return(_, _value) => {}
         }
     }
 }

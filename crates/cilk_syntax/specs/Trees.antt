@@ -118,15 +118,15 @@ pub data Item : Type 0 where
 
 -- the expression in memory, as plain data
 abbrev pub expression : exprs.Expr → Expression
-expression (exprs.Number n) = Number n
+expression (exprs.Number at n) = Number n
 expression (exprs.Variable name) = Expression.Variable name
 expression (exprs.Element' name p e) = Expression.Element name (expression e)
 expression (exprs.Group' p e) = Group (expression e)
-expression (exprs.Unary' op p e) = Unary op (expression e)
-expression (exprs.Binary' op p a q b) = Binary op (expression a) (expression b)
+expression (exprs.Unary' at op p e) = Unary op (expression e)
+expression (exprs.Binary' at op p a q b) = Binary op (expression a) (expression b)
 expression (exprs.Value name) = Expression.Value name
-expression (exprs.Input' p e) = Input (expression e)
-expression exprs.InputCount = InputCount
+expression (exprs.Input' at p e) = Input (expression e)
+expression (exprs.InputCount at) = InputCount
 
 abbrev pub optional : Option (Box exprs.Expr Global) → Option Expression
 optional None = None
@@ -148,7 +148,7 @@ place (places.Element name e) = Lvalue.Element name (expression e.value)
 
 abbrev pub assignment : declared_assignments.Assignment → Assignment
 assignment (assignments.Set p e) = Assignment.Set (place p) (expression e.value)
-assignment (assignments.Compound op p e) = Compound op (place p) (expression e.value)
+assignment (assignments.Compound at op p e) = Compound op (place p) (expression e.value)
 assignment (assignments.Increment p) = Increment (place p)
 assignment (assignments.Decrement p) = Decrement (place p)
 
@@ -181,23 +181,23 @@ bounds b = record { variable = b.variable; low = expression b.low.value; tested 
 
 abbrev mutual
   pub statement : stmts.Stmt → Statement
-  statement stmts.Empty = Empty
-  statement (stmts.Block' shape row) = Block (row_view row)
+  statement (stmts.Empty at) = Empty
+  statement (stmts.Block' at shape row) = Block (row_view row)
   statement (stmts.Declare locals) = Declare (locals_of locals.items)
   statement (stmts.Reducer r) = Statement.Reducer r
   statement (stmts.Assign a) = Assign (assignment a)
   statement (stmts.Invoke how c) = Statement.Invoke how (call c)
   statement (stmts.AssignCall name how c) = AssignCall name how (call c)
-  statement stmts.Sync = Sync
-  statement (stmts.If' e p s) = If (expression e.value) (statement s)
-  statement (stmts.IfElse' e p s q other) = IfElse (expression e.value) (statement s) (statement other)
-  statement (stmts.While' e p s) = While (expression e.value) (statement s)
-  statement (stmts.For' b e a p s) = For (optional_beginning b) (optional e) (optional_assignment a) (statement s)
-  statement (stmts.ParallelFor' b p s) = ParallelFor (bounds b) (statement s)
+  statement (stmts.Sync at) = Sync
+  statement (stmts.If' at e p s) = If (expression e.value) (statement s)
+  statement (stmts.IfElse' at e p s q other) = IfElse (expression e.value) (statement s) (statement other)
+  statement (stmts.While' at e p s) = While (expression e.value) (statement s)
+  statement (stmts.For' at b e a p s) = For (optional_beginning b) (optional e) (optional_assignment a) (statement s)
+  statement (stmts.ParallelFor' at b p s) = ParallelFor (bounds b) (statement s)
   statement (stmts.Return at e) = Return at (optional e)
-  statement (stmts.Print e) = Print (expression e.value)
-  statement (stmts.Update name e) = Update name (expression e.value)
-  statement (stmts.Set name e) = Statement.Set name (expression e.value)
+  statement (stmts.Print at e) = Print (expression e.value)
+  statement (stmts.Update at name e) = Update name (expression e.value)
+  statement (stmts.Set at name e) = Statement.Set name (expression e.value)
 
   pub row_view : {n : _} → stmts.Row_of-Stmt n → Statements
   row_view stmts.end_of-Stmt = End
@@ -211,7 +211,7 @@ statements (s ∷ list) = Then (statement s) (statements list)
 abbrev pub item : declared.Item → Item
 item (items.Globals variables) = Globals variables.items
 item (items.Reducer r) = Item.Reducer r
-item (items.Function returns name parameters body) = Function returns name parameters.items (statements body.items)
+item (items.Function returns name parameters body end) = Function returns name parameters.items (statements body.items)
 
 abbrev pub items_of : List declared.Item → List Item
 items_of [] = []

@@ -103,31 +103,32 @@ pub struct Reducer {
 }
 
 /// An expression. `Element` is an element of an array, `Group` an expression in parentheses,
-/// `Value` the value of a reducer, and `Input` the input number at a place.
+/// `Value` the value of a reducer, and `Input` the input number at a place. Numbers, operators and
+/// inputs have the place of their first byte.
 pub enum Expr {
-    Number(i64),
+    Number(usize, i64),
     Variable(Name),
     Element(Name, Box<Expr>),
     Group(Box<Expr>),
-    Unary(UnaryOperator, Box<Expr>),
-    Binary(BinaryOperator, Box<Expr>, Box<Expr>),
+    Unary(usize, UnaryOperator, Box<Expr>),
+    Binary(usize, BinaryOperator, Box<Expr>, Box<Expr>),
     Value(Name),
-    Input(Box<Expr>),
-    InputCount,
+    Input(usize, Box<Expr>),
+    InputCount(usize),
 }
 
 impl Drop for Expr {
     fn drop(self) {
         match self {
-            Expr::Number(_) => {}
+            Expr::Number(_, _) => {}
             Expr::Variable(_) => {}
-            Expr::Element(_, _at) => {}
+            Expr::Element(_, _index) => {}
             Expr::Group(_inner) => {}
-            Expr::Unary(_, _right) => {}
-            Expr::Binary(_, _left, _right) => {}
+            Expr::Unary(_, _, _right) => {}
+            Expr::Binary(_, _, _left, _right) => {}
             Expr::Value(_) => {}
-            Expr::Input(_at) => {}
-            Expr::InputCount => {}
+            Expr::Input(_, _index) => {}
+            Expr::InputCount(_) => {}
         }
     }
 }
@@ -139,8 +140,10 @@ pub struct Argument {
     pub value: Box<Expr>,
 }
 
-/// A call: the name of the function, and the arguments in order.
+/// A call: the name of the function, and the arguments in order. `at` is the place of its first
+/// byte, which is that of its `cilk_spawn` if it has one.
 pub struct Call {
+    pub at: usize,
     pub name: Name,
     pub arguments: Vec<Argument>,
 }
@@ -148,6 +151,7 @@ pub struct Call {
 impl Drop for Call {
     fn drop(self) {
         let Call {
+            at: _,
             name: _,
             arguments: _arguments,
         } = self;
@@ -169,10 +173,10 @@ impl Drop for Lvalue {
     }
 }
 
-/// An assignment: `=`, a compound one (`+=`, `-=`, `*=`), `++`, or `--`.
+/// An assignment: `=`, a compound one (`+=`, `-=`, `*=`) with the place of its mark, `++`, or `--`.
 pub enum Assignment {
     Set(Lvalue, Box<Expr>),
-    Compound(Compound, Lvalue, Box<Expr>),
+    Compound(usize, Compound, Lvalue, Box<Expr>),
     Increment(Lvalue),
     Decrement(Lvalue),
 }
@@ -181,7 +185,7 @@ impl Drop for Assignment {
     fn drop(self) {
         match self {
             Assignment::Set(_target, _value) => {}
-            Assignment::Compound(_, _target, _value) => {}
+            Assignment::Compound(_, _, _target, _value) => {}
             Assignment::Increment(_target) => {}
             Assignment::Decrement(_target) => {}
         }
@@ -249,48 +253,48 @@ impl Drop for Bounds {
     }
 }
 
-/// A statement. `Return` has the place of its first byte. `AssignCall` assigns a call's result to a
-/// variable.
+/// A statement. Those that don't begin with a name or a declaration have the place of their first
+/// byte. `AssignCall` assigns a call's result to a variable.
 pub enum Stmt {
-    Empty,
-    Block(Vec<Stmt>),
+    Empty(usize),
+    Block(usize, Vec<Stmt>),
     Declare(Vec<Local>),
     Reducer(Reducer),
     Assign(Assignment),
     Invoke(Invocation, Call),
     AssignCall(Name, Invocation, Call),
-    Sync,
-    If(Box<Expr>, Box<Stmt>),
-    IfElse(Box<Expr>, Box<Stmt>, Box<Stmt>),
-    While(Box<Expr>, Box<Stmt>),
-    For(Option<Beginning>, Option<Box<Expr>>, Option<Assignment>, Box<Stmt>),
-    ParallelFor(Bounds, Box<Stmt>),
+    Sync(usize),
+    If(usize, Box<Expr>, Box<Stmt>),
+    IfElse(usize, Box<Expr>, Box<Stmt>, Box<Stmt>),
+    While(usize, Box<Expr>, Box<Stmt>),
+    For(usize, Option<Beginning>, Option<Box<Expr>>, Option<Assignment>, Box<Stmt>),
+    ParallelFor(usize, Bounds, Box<Stmt>),
     Return(usize, Option<Box<Expr>>),
-    Print(Box<Expr>),
-    Update(Name, Box<Expr>),
-    Set(Name, Box<Expr>),
+    Print(usize, Box<Expr>),
+    Update(usize, Name, Box<Expr>),
+    Set(usize, Name, Box<Expr>),
 }
 
 impl Drop for Stmt {
     fn drop(self) {
         match self {
-            Stmt::Empty => {}
-            Stmt::Block(_body) => {}
+            Stmt::Empty(_) => {}
+            Stmt::Block(_, _body) => {}
             Stmt::Declare(_locals) => {}
             Stmt::Reducer(_) => {}
             Stmt::Assign(_assignment) => {}
             Stmt::Invoke(_, _call) => {}
             Stmt::AssignCall(_, _, _call) => {}
-            Stmt::Sync => {}
-            Stmt::If(_test, _then) => {}
-            Stmt::IfElse(_test, _then, _other) => {}
-            Stmt::While(_test, _body) => {}
-            Stmt::For(_first, _test, _step, _body) => {}
-            Stmt::ParallelFor(_bounds, _body) => {}
+            Stmt::Sync(_) => {}
+            Stmt::If(_, _test, _then) => {}
+            Stmt::IfElse(_, _test, _then, _other) => {}
+            Stmt::While(_, _test, _body) => {}
+            Stmt::For(_, _first, _test, _step, _body) => {}
+            Stmt::ParallelFor(_, _bounds, _body) => {}
             Stmt::Return(_, _value) => {}
-            Stmt::Print(_value) => {}
-            Stmt::Update(_, _value) => {}
-            Stmt::Set(_, _value) => {}
+            Stmt::Print(_, _value) => {}
+            Stmt::Update(_, _, _value) => {}
+            Stmt::Set(_, _, _value) => {}
         }
     }
 }
@@ -330,11 +334,12 @@ pub enum Parameter {
     Reducer(Reducer),
 }
 
-/// An item: a line of global variables, a global reducer, or a function.
+/// An item: a line of global variables, a global reducer, or a function with the place of the brace
+/// that closes it.
 pub enum Item {
     Globals(Vec<GlobalVariable>),
     Reducer(Reducer),
-    Function(ReturnType, Name, Vec<Parameter>, Vec<Stmt>),
+    Function(ReturnType, Name, Vec<Parameter>, Vec<Stmt>, usize),
 }
 
 impl Drop for Item {
@@ -342,7 +347,7 @@ impl Drop for Item {
         match self {
             Item::Globals(_variables) => {}
             Item::Reducer(_) => {}
-            Item::Function(_, _, _parameters, _body) => {}
+            Item::Function(_, _, _parameters, _body, _) => {}
         }
     }
 }
