@@ -14,6 +14,10 @@ use Rattle.cilk_lower.specs.declared.code.Instr.TheVariants as instrs
 use Rattle.cilk_lower.specs.declared.code.Site.{Site}
 use Rattle.cilk_lower.specs.declared.layout.Layout.{Layout}
 
+-- the instructions so far, without the bytes that they come from
+pub record ListingView : Type 0 where
+  pub items : List Instr
+
 -- The instructions of all bodies, the call sites, the entry points of the root, the functions and
 -- the loops, and the layout of frames.
 pub record CodeView : Type 0 where

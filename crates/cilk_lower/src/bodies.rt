@@ -8,7 +8,7 @@ ghost use Rattle.cilk_program.specs.declared.syntax.ReducerPlace.{ReducerPlace};
 
 use crate::code::{EntryPoint, Instr};
 use crate::emitter::Emitter;
-use crate::put::{put, put_create};
+use crate::put::{Listing, put, put_create};
 use cilk_monoid::kind::MonoidKind;
 use cilk_program::program::{Function, GlobalReducer, Loop};
 use cilk_program::syntax::ReducerPlace;
@@ -64,34 +64,38 @@ pub fn emit_loops(
 }
 
 /// Appends the instructions that create the global reducers.
-pub fn put_globals(code: &mut Vec<Instr>, reducers: &[GlobalReducer]) -> Result<(), AllocError>
+pub fn put_globals(code: &mut Listing, reducers: &[GlobalReducer]) -> Result<(), AllocError>
     requires { length reducers.now ≤ 64 }
     ensures { OnOk result (code.new.items ≡ code.old.items ++ creates_code ReducerPlace.Global 0 (map (λ r. r.kind) reducers.now)) }
 {
     'each: for n in 0..reducers.len() {
         let reducer = &reducers[n];
-        put_create(code, ReducerPlace::Global(n as u32), reducer.kind)?;
+        put_create(code, 0, ReducerPlace::Global(n as u32), reducer.kind)?;
     }
     Ok(())
 }
 
 /// Appends the instructions that write a frame's words to its first cells.
-pub fn put_words(code: &mut Vec<Instr>, count: u32) -> Result<(), AllocError>
+pub fn put_words(code: &mut Listing, at: usize, count: u32) -> Result<(), AllocError>
     ensures { OnOk result (code.new.items ≡ code.old.items ++ words_code 0 count) }
 {
     'each: for n in 0..count {
-        put(code, Instr::Word(n))?;
+        put(code, at, Instr::Word(n))?;
     }
     Ok(())
 }
 
 /// Appends the instructions that create a frame's own reducers.
-pub fn put_own(code: &mut Vec<Instr>, kinds: &[MonoidKind]) -> Result<(), AllocError>
+pub fn put_own(
+    code: &mut Listing,
+    at: usize,
+    kinds: &[MonoidKind],
+) -> Result<(), AllocError>
     requires { length kinds.now ≤ 64 }
     ensures { OnOk result (code.new.items ≡ code.old.items ++ creates_code (ReducerPlace.Own 0) 0 kinds.now) }
 {
     'each: for n in 0..kinds.len() {
-        put_create(code, ReducerPlace::Own(0, n as u32), kinds[n])?;
+        put_create(code, at, ReducerPlace::Own(0, n as u32), kinds[n])?;
     }
     Ok(())
 }

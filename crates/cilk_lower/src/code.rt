@@ -5,6 +5,7 @@ ghost use Rattle.cilk_lower.specs.Behaves.{IsCode};
 ghost use Rattle.cilk_lower.specs.Code.{ArraysFit, JumpsLand, Lands, ArrayFits, SitesFit, entry_of};
 
 use crate::layout::Layout;
+use crate::put::Listing;
 use cilk_program::ask::Callee;
 use cilk_program::given::References;
 use cilk_program::syntax::{Array, Operator, Place, Reducer};
@@ -124,9 +125,11 @@ pub struct Site {
 }
 
 /// The code of a well-named program. Each jump stays within the instructions, each array's cells
-/// fit in `u32`, and each call site has at most 16 words and 16 reducers.
+/// fit in `u32`, and each call site has at most 16 words and 16 reducers. Each instruction has the
+/// byte of the text that it comes from.
 pub struct Code {
     instrs: Vec<Instr>,
+    origins: Vec<usize>,
     sites: Vec<Site>,
     root: EntryPoint,
     functions: Vec<EntryPoint>,
@@ -139,6 +142,7 @@ impl Drop for Code {
     fn drop(self) {
         let Code {
             instrs: _instrs,
+            origins: _origins,
             sites: _sites,
             root: _,
             functions: _functions,
@@ -162,7 +166,7 @@ impl Model for Code {
 impl Code {
     /// Makes a code of its parts.
     pub(crate) fn new(
-        instrs: Vec<Instr>,
+        instrs: Listing,
         sites: Vec<Site>,
         root: EntryPoint,
         functions: Vec<EntryPoint>,
@@ -175,8 +179,10 @@ impl Code {
         requires is_code { IsCode (record { instrs = instrs.items; sites = sites.items; root = root; functions = functions.items; loops = loops.items; layout = layout }) }
         ensures { result ≡ record { instrs = instrs.items; sites = sites.items; root = root; functions = functions.items; loops = loops.items; layout = layout } }
     {
+        let (instrs, origins) = instrs.into_parts();
         Code {
             instrs,
+            origins,
             sites,
             root,
             functions,
@@ -236,6 +242,15 @@ impl Code {
         ensures { result ≡ length self.now.instrs }
     {
         self.instrs.len()
+    }
+
+    /// Returns the byte of the text that an instruction comes from, by the instruction's place in the
+    /// code; 0 if there is no such instruction.
+    pub fn origin(&self, place: usize) -> usize {
+        match self.origins.get(place) {
+            Some(origin) => *origin,
+            None => 0,
+        }
     }
 
     /// Returns the instructions in order.

@@ -11,7 +11,7 @@ use crate::bodies::{put_own, put_words};
 use crate::code::{EntryPoint, Instr, Site};
 use crate::expressions::{emit_value, emit_values};
 use crate::put::{
-    begin, begin_else, pass, pass_if_zero, pass_unless_one, put, put_ends, put_halves, put_jump,
+    Listing, begin, begin_else, pass, pass_if_zero, pass_unless_one, put, put_ends, put_halves, put_jump,
 };
 use crate::simple::{
     emit_assign, emit_change, emit_choice, emit_last, emit_parallel, emit_return, emit_step,
@@ -25,7 +25,7 @@ use std::alloc::AllocError;
 /// The instructions and call sites so far, and the room that the current body needs.
 #[derive(Drop)]
 pub struct Emitter {
-    pub instrs: Vec<Instr>,
+    pub instrs: Listing,
     pub sites: Vec<Site>,
     pub room: usize,
 }
@@ -40,11 +40,11 @@ impl Emitter {
         ensures room { let g = function f.now in IfOk result (λ e. e.room ≡ deepest_of_all g.body) }
     {
         let place = self.instrs.len();
-        put_words(&mut self.instrs, f.words)?;
-        put_own(&mut self.instrs, f.reducers.as_slice())?;
+        put_words(&mut self.instrs, f.at, f.words)?;
+        put_own(&mut self.instrs, f.at, f.reducers.as_slice())?;
         self.room = 0;
         self.emit_all(&f.body)?;
-        put_ends(&mut self.instrs)?;
+        put_ends(&mut self.instrs, f.end)?;
         Ok(EntryPoint {
             place,
             room: self.room,
@@ -60,13 +60,13 @@ impl Emitter {
         ensures place { IfOk result (λ e. e.place ≡ length self.old.instrs.items) }
         ensures room { let b = loop l.now in IfOk result (λ e. e.room ≡ deepest_of_all b.body) }
     {
-        let place = put_jump(&mut self.instrs, Instr::SkipUnlessOne(0))?;
-        put(&mut self.instrs, Instr::Turn)?;
+        let place = put_jump(&mut self.instrs, l.at, Instr::SkipUnlessOne(0))?;
+        put(&mut self.instrs, l.at, Instr::Turn)?;
         self.room = 0;
         self.emit_all(&l.body)?;
-        put_ends(&mut self.instrs)?;
+        put_ends(&mut self.instrs, l.at)?;
         pass_unless_one(&mut self.instrs, place);
-        put_halves(&mut self.instrs)?;
+        put_halves(&mut self.instrs, l.at)?;
         Ok(EntryPoint {
             place,
             room: self.room,
@@ -95,46 +95,56 @@ impl Emitter {
         ensures room { OnOk result (self.new.room ≡ max self.old.room (deepest (statement s.now))) }
     {
         match s {
-            Stmt::Empty => begin(&mut self.instrs),
-            Stmt::Block(row) => {
-                begin(&mut self.instrs)?;
+            Stmt::Empty(at) => begin(&mut self.instrs, *at),
+            Stmt::Block(at, row) => {
+                begin(&mut self.instrs, *at)?;
                 self.emit_all(row)
             }
             Stmt::Declare(row) => self.emit_declarations(row),
             Stmt::Assign(to, e) => emit_assign(&mut self.instrs, &mut self.room, to, e),
-            Stmt::Change(to, op, e) => emit_change(&mut self.instrs, &mut self.room, to, *op, e),
+            Stmt::Change(to, mark, op, e) => {
+                emit_change(&mut self.instrs, &mut self.room, to, *mark, *op, e)
+            }
             Stmt::Step(to, n) => emit_step(&mut self.instrs, &mut self.room, to, *n),
             Stmt::Invoke(call) => self.emit_statement_invoke(call),
-            Stmt::Sync => emit_sync(&mut self.instrs),
-            Stmt::If(test, body) => {
-                let skip = emit_choice(&mut self.instrs, &mut self.room, test)?;
+            Stmt::Sync(at) => emit_sync(&mut self.instrs, *at),
+            Stmt::If(at, test, body) => {
+                let skip = emit_choice(&mut self.instrs, &mut self.room, *at, test)?;
                 self.emit_stmt(body)?;
                 pass_if_zero(&mut self.instrs, skip);
                 Ok(())
             }
-            Stmt::IfElse(test, first, second) => {
-                let skip = emit_choice(&mut self.instrs, &mut self.room, test)?;
+            Stmt::IfElse(at, test, first, second) => {
+                let skip = emit_choice(&mut self.instrs, &mut self.room, *at, test)?;
                 self.emit_stmt(first)?;
-                let jump = begin_else(&mut self.instrs, skip)?;
+                let jump = begin_else(&mut self.instrs, *at, skip)?;
                 self.emit_stmt(second)?;
                 pass(&mut self.instrs, jump);
                 Ok(())
             }
-            Stmt::For(beginning, test, step, body) => {
-                begin(&mut self.instrs)?;
+            Stmt::For(at, beginning, test, step, body) => {
+                begin(&mut self.instrs, *at)?;
                 self.emit_all(beginning)?;
-                emit_test(&mut self.instrs, &mut self.room, test)?;
+                emit_test(&mut self.instrs, &mut self.room, *at, test)?;
                 let start = self.instrs.len();
                 self.emit_stmt(body)?;
                 self.emit_all(step)?;
-                end_turn(&mut self.instrs, &mut self.room, test, start)?;
+                end_turn(&mut self.instrs, &mut self.room, *at, test, start)?;
                 Ok(())
             }
-            Stmt::ParallelFor(a, b, n) => emit_parallel(&mut self.instrs, &mut self.room, a, b, *n),
-            Stmt::Print(e) => emit_last(&mut self.instrs, &mut self.room, e, Instr::Print),
-            Stmt::Update(r, e) => emit_last(&mut self.instrs, &mut self.room, e, Instr::Update(*r)),
-            Stmt::Set(r, e) => emit_last(&mut self.instrs, &mut self.room, e, Instr::Set(*r)),
-            Stmt::Return(e) => emit_return(&mut self.instrs, &mut self.room, e),
+            Stmt::ParallelFor(at, a, b, n) => {
+                emit_parallel(&mut self.instrs, &mut self.room, *at, a, b, *n)
+            }
+            Stmt::Print(at, e) => {
+                emit_last(&mut self.instrs, &mut self.room, *at, e, Instr::Print)
+            }
+            Stmt::Update(at, r, e) => {
+                emit_last(&mut self.instrs, &mut self.room, *at, e, Instr::Update(*r))
+            }
+            Stmt::Set(at, r, e) => {
+                emit_last(&mut self.instrs, &mut self.room, *at, e, Instr::Set(*r))
+            }
+            Stmt::Return(at, e) => emit_return(&mut self.instrs, &mut self.room, *at, e),
         }
     }
 
@@ -145,7 +155,7 @@ impl Emitter {
         ensures sites { OnOk result (self.new.sites.items ≡ self.old.sites.items ++ declarations_sites (map declaration row.now)) }
         ensures room { OnOk result (self.new.room ≡ max self.old.room (declarations_depth (map declaration row.now))) }
     {
-        begin(&mut self.instrs)?;
+        begin(&mut self.instrs, first_origin(row))?;
         'each: for d in row {
             self.emit_declaration(d)?;
         }
@@ -159,10 +169,10 @@ impl Emitter {
         ensures room { OnOk result (self.new.room ≡ max self.old.room (declaration_depth (declaration d.now))) }
     {
         match d {
-            Declaration::Zero(cell) => put(&mut self.instrs, Instr::Zero(*cell)),
-            Declaration::Value(cell, e) => {
+            Declaration::Zero(at, cell) => put(&mut self.instrs, *at, Instr::Zero(*cell)),
+            Declaration::Value(at, cell, e) => {
                 emit_value(&mut self.instrs, &mut self.room, e)?;
-                put(&mut self.instrs, Instr::Store(Place::Local(0, *cell)))
+                put(&mut self.instrs, *at, Instr::Store(Place::Local(0, *cell)))
             }
             Declaration::Invoke(call) => self.emit_invoke(call),
         }
@@ -175,7 +185,7 @@ impl Emitter {
         ensures sites { OnOk result (self.new.sites.items ≡ self.old.sites.items ++ site (invoke call.now) ∷ []) }
         ensures room { let i = invoke call.now in OnOk result (self.new.room ≡ max self.old.room (depths i.arguments)) }
     {
-        begin(&mut self.instrs)?;
+        begin(&mut self.instrs, call.at)?;
         self.emit_invoke(call)
     }
 
@@ -187,10 +197,20 @@ impl Emitter {
         ensures room { let i = invoke call.now in OnOk result (self.new.room ≡ max self.old.room (depths i.arguments)) }
     {
         emit_values(&mut self.instrs, &mut self.room, &call.arguments)?;
-        put(&mut self.instrs, Instr::Invoke(self.sites.len()))?;
-        put(&mut self.instrs, Instr::Resume)?;
+        put(&mut self.instrs, call.at, Instr::Invoke(self.sites.len()))?;
+        put(&mut self.instrs, call.at, Instr::Resume)?;
         self.sites.push(site_of(call))?;
         Ok(())
+    }
+}
+
+// The byte that the first of these declarations comes from.
+fn first_origin(row: &[Declaration]) -> usize {
+    match row.first() {
+        Some(Declaration::Zero(at, _)) => *at,
+        Some(Declaration::Value(at, _, _)) => *at,
+        Some(Declaration::Invoke(call)) => call.at,
+        None => 0,
     }
 }
 

@@ -1,4 +1,5 @@
-//! Emits expressions. `room` is raised to the number of operands that they need.
+//! Emits expressions and statements' first ticks. `at` is the byte of the text that an instruction
+//! comes from, and `room` is raised to the number of operands that they need.
 
 ghost use Rattle.std.specs.Prelude.{◌≡◌, ◌+◌, ◌<◌, ◌^◌, max, map, [], ◌∷◌, ◌++◌, length, IfOk, OnOk};
 ghost use Rattle.cilk_lower.specs.declared.code.Instr.{Instr};
@@ -7,21 +8,21 @@ ghost use Rattle.cilk_lower.specs.Rooms.{depth, depths};
 ghost use Rattle.cilk_program.specs.Programs.{expression};
 
 use crate::code::Instr;
-use crate::put::{begin, begin_or, end_and, end_or, put, put_jump, put_operand};
+use crate::put::{Listing, begin, begin_or, end_and, end_or, put, put_jump, put_operand};
 use cilk_program::syntax::{Expr, Operator};
 use std::alloc::AllocError;
 
 /// Emits a statement's tick and its expression.
-pub fn emit_begun(code: &mut Vec<Instr>, room: &mut usize, e: &Expr) -> Result<(), AllocError>
+pub fn emit_begun(code: &mut Listing, room: &mut usize, at: usize, e: &Expr) -> Result<(), AllocError>
     ensures code { OnOk result (code.new.items ≡ code.old.items ++ (Instr.Tick ∷ expr_code (expression e.now))) }
     ensures room { OnOk result (room.new ≡ max room.old (depth (expression e.now))) }
 {
-    begin(code)?;
+    begin(code, at)?;
     emit_value(code, room, e)
 }
 
 /// Emits several expressions, each above the values of those before it.
-pub fn emit_values(code: &mut Vec<Instr>, room: &mut usize, row: &[Expr]) -> Result<(), AllocError>
+pub fn emit_values(code: &mut Listing, room: &mut usize, row: &[Expr]) -> Result<(), AllocError>
     ensures code { OnOk result (code.new.items ≡ code.old.items ++ exprs_code (map expression row.now)) }
     ensures room { OnOk result (room.new ≡ max room.old (depths (map expression row.now))) }
 {
@@ -32,7 +33,7 @@ pub fn emit_values(code: &mut Vec<Instr>, room: &mut usize, row: &[Expr]) -> Res
 }
 
 /// Emits an expression without other operands below it.
-pub fn emit_value(code: &mut Vec<Instr>, room: &mut usize, e: &Expr) -> Result<(), AllocError>
+pub fn emit_value(code: &mut Listing, room: &mut usize, e: &Expr) -> Result<(), AllocError>
     ensures code { OnOk result (code.new.items ≡ code.old.items ++ expr_code (expression e.now)) }
     ensures room { OnOk result (room.new ≡ max room.old (depth (expression e.now))) }
 {
@@ -41,7 +42,7 @@ pub fn emit_value(code: &mut Vec<Instr>, room: &mut usize, e: &Expr) -> Result<(
 
 /// Emits an expression above `below` other operands.
 pub fn emit_above(
-    code: &mut Vec<Instr>,
+    code: &mut Listing,
     room: &mut usize,
     below: usize,
     e: &Expr,
@@ -57,37 +58,37 @@ pub fn emit_above(
 
 // Emits an expression, and returns the maximum number of its operands on the stack.
 #[cycle(expressions)]
-fn emit_expr(code: &mut Vec<Instr>, e: &Expr) -> Result<usize, AllocError>
+fn emit_expr(code: &mut Listing, e: &Expr) -> Result<usize, AllocError>
     ensures code { OnOk result (code.new.items ≡ code.old.items ++ expr_code (expression e.now)) }
     ensures depth { IfOk result (λ d. d ≡ depth (expression e.now)) }
 {
     match e {
-        Expr::Number(n) => put_operand(code, Instr::Push(n.value)),
-        Expr::Variable(x) => put_operand(code, Instr::Load(*x)),
-        Expr::Value(reducer) => put_operand(code, Instr::Value(*reducer)),
-        Expr::InputCount => put_operand(code, Instr::InputCount),
-        Expr::Element(array, index) => emit_unary(code, index, Instr::LoadElement(*array)),
-        Expr::Negate(e) => emit_unary(code, e, Instr::Negate),
-        Expr::Not(e) => emit_unary(code, e, Instr::Not),
-        Expr::Input(e) => emit_unary(code, e, Instr::Input),
-        Expr::Binary(operator, a, b) => {
+        Expr::Number(at, n) => put_operand(code, *at, Instr::Push(n.value)),
+        Expr::Variable(at, x) => put_operand(code, *at, Instr::Load(*x)),
+        Expr::Value(at, reducer) => put_operand(code, *at, Instr::Value(*reducer)),
+        Expr::InputCount(at) => put_operand(code, *at, Instr::InputCount),
+        Expr::Element(at, array, index) => emit_unary(code, *at, index, Instr::LoadElement(*array)),
+        Expr::Negate(at, e) => emit_unary(code, *at, e, Instr::Negate),
+        Expr::Not(at, e) => emit_unary(code, *at, e, Instr::Not),
+        Expr::Input(at, e) => emit_unary(code, *at, e, Instr::Input),
+        Expr::Binary(at, operator, a, b) => {
             let left = emit_expr(code, a)?;
-            let right = emit_right(code, *operator, b)?;
-            put(code, Instr::Apply(*operator))?;
+            let right = emit_right(code, *at, *operator, b)?;
+            put(code, *at, Instr::Apply(*operator))?;
             Ok(left.max(right + 1))
         }
-        Expr::And(a, b) => {
+        Expr::And(at, a, b) => {
             let left = emit_expr(code, a)?;
-            let skip = put_jump(code, Instr::JumpIfZero(0))?;
+            let skip = put_jump(code, *at, Instr::JumpIfZero(0))?;
             let right = emit_expr(code, b)?;
-            end_and(code, skip)?;
+            end_and(code, *at, skip)?;
             Ok(left.max(right))
         }
-        Expr::Or(a, b) => {
+        Expr::Or(at, a, b) => {
             let left = emit_expr(code, a)?;
-            let jump = begin_or(code)?;
+            let jump = begin_or(code, *at)?;
             let right = emit_expr(code, b)?;
-            end_or(code, jump)?;
+            end_or(code, *at, jump)?;
             Ok(left.max(right))
         }
     }
@@ -95,12 +96,17 @@ fn emit_expr(code: &mut Vec<Instr>, e: &Expr) -> Result<usize, AllocError>
 
 // Emits the right operand of an operator. A number is pushed and applied at once.
 #[cycle(expressions)]
-fn emit_right(code: &mut Vec<Instr>, operator: Operator, e: &Expr) -> Result<usize, AllocError>
+fn emit_right(
+    code: &mut Listing,
+    at: usize,
+    operator: Operator,
+    e: &Expr,
+) -> Result<usize, AllocError>
     ensures code { let right = expression e.now in OnOk result (code.new.items ≡ code.old.items ++ right_code operator (literal right) (expr_code right)) }
     ensures depth { IfOk result (λ d. d ≡ depth (expression e.now)) }
 {
     match number_of(e) {
-        Some(n) => put_operand(code, Instr::ApplyNumber(operator, n)),
+        Some(n) => put_operand(code, at, Instr::ApplyNumber(operator, n)),
         None => emit_expr(code, e),
     }
 }
@@ -110,18 +116,23 @@ fn number_of(e: &Expr) -> Option<i64>
     ensures { result ≡ literal (expression e.now) }
 {
     match e {
-        Expr::Number(n) => Some(n.value),
+        Expr::Number(_, n) => Some(n.value),
         _ => None,
     }
 }
 
 // Emits an operand and the instruction that takes it.
 #[cycle(expressions)]
-fn emit_unary(code: &mut Vec<Instr>, e: &Expr, last: Instr) -> Result<usize, AllocError>
+fn emit_unary(
+    code: &mut Listing,
+    at: usize,
+    e: &Expr,
+    last: Instr,
+) -> Result<usize, AllocError>
     ensures code { OnOk result (code.new.items ≡ code.old.items ++ (expr_code (expression e.now) ++ last ∷ [])) }
     ensures depth { IfOk result (λ d. d ≡ depth (expression e.now)) }
 {
     let needed = emit_expr(code, e)?;
-    put(code, last)?;
+    put(code, at, last)?;
     Ok(needed)
 }

@@ -10,6 +10,7 @@ use crate::bodies::{emit_functions, emit_loops, put_globals};
 use crate::code::{Code, EntryPoint};
 use crate::emitter::Emitter;
 use crate::layout::lay_out;
+use crate::put::Listing;
 use cilk_program::program::Program;
 use std::alloc::{AllocError, Global};
 
@@ -25,7 +26,7 @@ pub fn lower(alloc: Global, program: &Program) -> Result<Code, AllocError>
     ensures layout { IfOk result (λ code. LaysOut (source program.now) code.layout) }
 {
     let mut out = Emitter {
-        instrs: Vec::new(alloc),
+        instrs: Listing::new(alloc),
         sites: Vec::new(alloc),
         room: 0,
     };

@@ -65,23 +65,23 @@ fn is_silent(s: &Stmt) -> bool
     ensures { result ≡ is_silent (statement s.now) }
 {
     match s {
-        Stmt::Empty => true,
-        Stmt::Block(row) => are_silent(row),
+        Stmt::Empty(_) => true,
+        Stmt::Block(_, row) => are_silent(row),
         Stmt::Declare(_) => true,
         Stmt::Assign(_, _) => true,
-        Stmt::Change(_, _, _) => true,
+        Stmt::Change(_, _, _, _) => true,
         Stmt::Step(_, _) => true,
         Stmt::Invoke(_) => true,
-        Stmt::Sync => true,
-        Stmt::If(_, body) => is_silent(body),
-        Stmt::IfElse(_, first, second) => is_silent(first) && is_silent(second),
-        Stmt::For(beginning, _, step, body) => {
+        Stmt::Sync(_) => true,
+        Stmt::If(_, _, body) => is_silent(body),
+        Stmt::IfElse(_, _, first, second) => is_silent(first) && is_silent(second),
+        Stmt::For(_, beginning, _, step, body) => {
             are_silent(beginning) && is_silent(body) && are_silent(step)
         }
-        Stmt::ParallelFor(_, _, _) => true,
-        Stmt::Print(_) => false,
-        Stmt::Update(_, _) => true,
-        Stmt::Set(_, _) => true,
-        Stmt::Return(_) => true,
+        Stmt::ParallelFor(_, _, _, _) => true,
+        Stmt::Print(_, _) => false,
+        Stmt::Update(_, _, _) => true,
+        Stmt::Set(_, _, _) => true,
+        Stmt::Return(_, _) => true,
     }
 }
