@@ -72,19 +72,22 @@ fn operation<'a>(
         }
         Kind::PlusAssign => {
             let (value, rest) = expr(alloc, rest, depth)?;
-            Ok((Assignment::Compound(Compound::Add, target, value), rest))
+            Ok((
+                Assignment::Compound(first.at, Compound::Add, target, value),
+                rest,
+            ))
         }
         Kind::MinusAssign => {
             let (value, rest) = expr(alloc, rest, depth)?;
             Ok((
-                Assignment::Compound(Compound::Subtract, target, value),
+                Assignment::Compound(first.at, Compound::Subtract, target, value),
                 rest,
             ))
         }
         Kind::StarAssign => {
             let (value, rest) = expr(alloc, rest, depth)?;
             Ok((
-                Assignment::Compound(Compound::Multiply, target, value),
+                Assignment::Compound(first.at, Compound::Multiply, target, value),
                 rest,
             ))
         }

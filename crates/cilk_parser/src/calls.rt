@@ -104,10 +104,11 @@ pub fn arguments<'a>(
     }
 }
 
-/// Reads a call.
+/// Reads a call. `at` is the place that it keeps: its own, or that of its `cilk_spawn`.
 #[tactic(auto, unfolding(cilk_syntax::specs::Grammar::SpellsCall))]
 pub fn call<'a>(
     alloc: Global,
+    at: usize,
     tokens: &'a [Token],
     depth: u32,
 ) -> Result<(Call, &'a [Token]), Stop<'a>>
@@ -121,7 +122,12 @@ pub fn call<'a>(
     let (name, rest) = name(tokens)?;
     let rest = one(rest, Punct::Open)?;
     let (arguments, rest) = arguments(alloc, rest, depth)?;
-    Ok((Call { name, arguments }, rest))
+    let call = Call {
+        at,
+        name,
+        arguments,
+    };
+    Ok((call, rest))
 }
 
 /// Reads a right side, after its `=`.
@@ -143,16 +149,17 @@ pub fn right_side<'a>(
         [
             Token {
                 kind: Kind::CilkSpawn,
+                at,
                 ..
             },
             after @ ..,
         ] => {
-            let (spawned, rest) = call(alloc, after, depth)?;
+            let (spawned, rest) = call(alloc, *at, after, depth)?;
             Ok((Source::Invoke(Invocation::Spawn, spawned), rest))
         }
         _ => {
             if begins_call(tokens) {
-                let (called, rest) = call(alloc, tokens, depth)?;
+                let (called, rest) = call(alloc, tokens[0].at, tokens, depth)?;
                 Ok((Source::Invoke(Invocation::Call, called), rest))
             } else {
                 let (value, rest) = expr(alloc, tokens, depth)?;

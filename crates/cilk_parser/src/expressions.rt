@@ -40,9 +40,10 @@ fn reducer_value<'a>(
     Ok((Box::new(alloc, Expr::Value(reducer))?, rest, operators))
 }
 
-/// Reads the number of inputs, after `input_count`.
+/// Reads the number of inputs, after its `input_count` at this place.
 fn input_count<'a>(
     alloc: Global,
+    at: usize,
     tokens: &'a [Token],
     operators: u32,
 ) -> Result<(Box<Expr>, &'a [Token], u32), Stop<'a>>
@@ -57,7 +58,7 @@ fn input_count<'a>(
 {
     let rest = one(tokens, Punct::Open)?;
     let rest = one(rest, Punct::Close)?;
-    Ok((Box::new(alloc, Expr::InputCount)?, rest, operators))
+    Ok((Box::new(alloc, Expr::InputCount(at))?, rest, operators))
 }
 
 /// Reads an expression whose operators are of this level or tighter.
@@ -91,7 +92,7 @@ fn at_level<'a>(
             return Err(Stop::PastLimit(rest));
         }
         let (right, after, more) = at_level(alloc, &rest[1..], wanted + 1, depth, count + 1)?;
-        left = Box::new(alloc, Expr::Binary(operator, left, right))?;
+        left = Box::new(alloc, Expr::Binary(rest[0].at, operator, left, right))?;
         rest = after;
         count = more;
     }
@@ -127,7 +128,11 @@ fn operand<'a>(
         });
     }
     match first.kind {
-        Kind::Number(value) => Ok((Box::new(alloc, Expr::Number(value))?, rest, operators)),
+        Kind::Number(value) => Ok((
+            Box::new(alloc, Expr::Number(first.at, value))?,
+            rest,
+            operators,
+        )),
         Kind::Name => {
             let name = Name {
                 at: first.at,
@@ -139,8 +144,8 @@ fn operand<'a>(
         Kind::Not => signed(alloc, UnaryOperator::Not, tokens, rest, depth, operators),
         Kind::Open => group(alloc, rest, depth, operators),
         Kind::Value => reducer_value(alloc, rest, operators),
-        Kind::Input => input(alloc, rest, depth, operators),
-        Kind::InputCount => input_count(alloc, rest, operators),
+        Kind::Input => input(alloc, first.at, rest, depth, operators),
+        Kind::InputCount => input_count(alloc, first.at, rest, operators),
         _ => Err(Stop::Unexpected(tokens)),
     }
 }
@@ -172,7 +177,11 @@ fn signed<'a>(
         return Err(Stop::PastLimit(tokens));
     }
     let (inner, rest, count) = operand(alloc, rest, depth + 1, operators + 1)?;
-    Ok((Box::new(alloc, Expr::Unary(operator, inner))?, rest, count))
+    Ok((
+        Box::new(alloc, Expr::Unary(tokens[0].at, operator, inner))?,
+        rest,
+        count,
+    ))
 }
 
 /// Reads an expression in parentheses, after the opening one.
@@ -198,10 +207,11 @@ fn group<'a>(
     Ok((Box::new(alloc, Expr::Group(inner))?, rest, count))
 }
 
-/// Reads an input with its place, after `input`.
+/// Reads an input with its index, after its `input` at this place.
 #[cycle(expressions)]
 fn input<'a>(
     alloc: Global,
+    at: usize,
     tokens: &'a [Token],
     depth: u32,
     operators: u32,
@@ -219,7 +229,7 @@ fn input<'a>(
 {
     let rest = one(tokens, Punct::Open)?;
     let (place, rest, count) = nested(alloc, rest, depth + 1, operators, Punct::Close)?;
-    Ok((Box::new(alloc, Expr::Input(place))?, rest, count))
+    Ok((Box::new(alloc, Expr::Input(at, place))?, rest, count))
 }
 
 /// Reads a variable or an element of an array, after its name.

@@ -138,38 +138,39 @@ fn line<'a>(
     }
 }
 
-/// Reads the body of a function.
+/// Reads the body of a function, and returns it with the place of the brace that closes it.
 #[tactic(auto, unfolding(cilk_syntax::specs::Grammar::SpellsBody))]
-fn body<'a>(alloc: Global, tokens: &'a [Token]) -> Result<(Vec<Stmt>, &'a [Token]), Stop<'a>>
-    ensures tree { IfOk result (λ x. SpellsBody (trees.statements x.0.items) tokens.now x.1.now) }
-    ensures shorter { IfOk result (λ x. length x.1.now < length tokens.now) }
+fn body<'a>(alloc: Global, tokens: &'a [Token]) -> Result<(Vec<Stmt>, usize, &'a [Token]), Stop<'a>>
+    ensures tree { IfOk result (λ x. SpellsBody (trees.statements x.0.items) tokens.now x.2.now) }
+    ensures shorter { IfOk result (λ x. length x.2.now < length tokens.now) }
     ensures reads { IfOk result (λ x. (stack : List Symbol) →
-        run tokens.now (One Punct.OpenBrace ∷ Statements 0 ∷ One Punct.CloseBrace ∷ stack) 0 ≡ run x.1.now stack 0) }
+        run tokens.now (One Punct.OpenBrace ∷ Statements 0 ∷ One Punct.CloseBrace ∷ stack) 0 ≡ run x.2.now stack 0) }
     ensures stops { IfErr result (λ e. (stack : List Symbol) →
         IsStop e (run tokens.now (One Punct.OpenBrace ∷ Statements 0 ∷ One Punct.CloseBrace ∷ stack) 0)) }
 {
     let rest = one(tokens, Punct::OpenBrace)?;
-    let (list, rest) = statements(alloc, rest, 0)?;
-    let rest = one(rest, Punct::CloseBrace)?;
-    Ok((list, rest))
+    let (list, last) = statements(alloc, rest, 0)?;
+    let rest = one(last, Punct::CloseBrace)?;
+    Ok((list, last[0].at, rest))
 }
 
-/// Reads the parameters and the body of a function, after the opening parenthesis.
+/// Reads the parameters and the body of a function, after the opening parenthesis. Returns them with
+/// the place of the brace that closes the body.
 #[tactic(auto, unfolding(cilk_syntax::specs::Grammar::SpellsFunction))]
 fn function<'a>(
     alloc: Global,
     tokens: &'a [Token],
-) -> Result<(Vec<Parameter>, Vec<Stmt>, &'a [Token]), Stop<'a>>
-    ensures tree { IfOk result (λ x. SpellsFunction x.0.items (trees.statements x.1.items) tokens.now x.2.now) }
-    ensures shorter { IfOk result (λ x. length x.2.now < length tokens.now) }
+) -> Result<(Vec<Parameter>, Vec<Stmt>, usize, &'a [Token]), Stop<'a>>
+    ensures tree { IfOk result (λ x. SpellsFunction x.0.items (trees.statements x.1.items) tokens.now x.3.now) }
+    ensures shorter { IfOk result (λ x. length x.3.now < length tokens.now) }
     ensures reads { IfOk result (λ x. (stack : List Symbol) →
-        run tokens.now (expected.Parameters ∷ One Punct.OpenBrace ∷ Statements 0 ∷ One Punct.CloseBrace ∷ stack) 0 ≡ run x.2.now stack 0) }
+        run tokens.now (expected.Parameters ∷ One Punct.OpenBrace ∷ Statements 0 ∷ One Punct.CloseBrace ∷ stack) 0 ≡ run x.3.now stack 0) }
     ensures stops { IfErr result (λ e. (stack : List Symbol) →
         IsStop e (run tokens.now (expected.Parameters ∷ One Punct.OpenBrace ∷ Statements 0 ∷ One Punct.CloseBrace ∷ stack) 0)) }
 {
     let (list, rest) = parameters(alloc, tokens)?;
-    let (body, rest) = body(alloc, rest)?;
-    Ok((list, body, rest))
+    let (body, end, rest) = body(alloc, rest)?;
+    Ok((list, body, end, rest))
 }
 
 /// Reads the rest of an item that begins with `int` and a name.
@@ -194,8 +195,11 @@ fn declared<'a>(
             },
             after @ ..,
         ] => {
-            let (list, body, rest) = function(alloc, after)?;
-            Ok((Item::Function(ReturnType::Int, first, list, body), rest))
+            let (list, body, end, rest) = function(alloc, after)?;
+            Ok((
+                Item::Function(ReturnType::Int, first, list, body, end),
+                rest,
+            ))
         }
         _ => {
             let (list, rest) = line(alloc, first, tokens)?;
@@ -244,8 +248,11 @@ fn procedure<'a>(alloc: Global, tokens: &'a [Token]) -> Result<(Item, &'a [Token
 {
     let (name, rest) = name(tokens)?;
     let rest = one(rest, Punct::Open)?;
-    let (list, body, rest) = function(alloc, rest)?;
-    Ok((Item::Function(ReturnType::Void, name, list, body), rest))
+    let (list, body, end, rest) = function(alloc, rest)?;
+    Ok((
+        Item::Function(ReturnType::Void, name, list, body, end),
+        rest,
+    ))
 }
 
 /// Reads the type that an item begins with.

@@ -60,7 +60,11 @@ fn called<'a>(
 {
     let (arguments, rest) = arguments(alloc, tokens, depth)?;
     let rest = one(rest, Punct::Semicolon)?;
-    let call = Call { name, arguments };
+    let call = Call {
+        at: name.at,
+        name,
+        arguments,
+    };
     Ok((Stmt::Invoke(Invocation::Call, call), rest))
 }
 
@@ -147,9 +151,10 @@ fn ended_target<'a>(
     then_one(place, rest, Punct::Semicolon)
 }
 
-/// Reads a spawned call, after its `cilk_spawn`.
+/// Reads a spawned call, after its `cilk_spawn` at this place.
 fn spawned<'a>(
     alloc: Global,
+    at: usize,
     tokens: &'a [Token],
     depth: u32,
 ) -> Result<(Stmt, &'a [Token]), Stop<'a>>
@@ -160,14 +165,15 @@ fn spawned<'a>(
     ensures stops { IfErr result (λ e. (stack : List Symbol) →
         IsStop e (run tokens.now (Named ∷ One Punct.Open ∷ Arguments depth ∷ One Punct.Semicolon ∷ stack) 0)) }
 {
-    let (call, rest) = call(alloc, tokens, depth)?;
+    let (call, rest) = call(alloc, at, tokens, depth)?;
     let spawned = Stmt::Invoke(Invocation::Spawn, call);
     then_one(spawned, rest, Punct::Semicolon)
 }
 
-/// Reads a print, after its `print`.
+/// Reads a print, after its `print` at this place.
 fn printed<'a>(
     alloc: Global,
+    at: usize,
     tokens: &'a [Token],
     depth: u32,
 ) -> Result<(Stmt, &'a [Token]), Stop<'a>>
@@ -179,7 +185,7 @@ fn printed<'a>(
         IsStop e (run tokens.now (One Punct.Open ∷ Operand depth ∷ Tail depth ∷ Anew ∷ One Punct.Close ∷ One Punct.Semicolon ∷ stack) 0)) }
 {
     let (value, rest) = parenthesized(alloc, tokens, depth)?;
-    then_one(Stmt::Print(value), rest, Punct::Semicolon)
+    then_one(Stmt::Print(at, value), rest, Punct::Semicolon)
 }
 
 /// Reads a statement that contains no others and is nested in `depth` statements.
@@ -201,7 +207,7 @@ fn simple<'a>(
         return Err(Stop::Unexpected(tokens));
     };
     match first.kind {
-        Kind::Semicolon => Ok((Stmt::Empty, rest)),
+        Kind::Semicolon => Ok((Stmt::Empty(first.at), rest)),
         Kind::Int => declaration(alloc, rest, depth),
         Kind::Name => {
             let name = Name {
@@ -218,23 +224,23 @@ fn simple<'a>(
             let (target, rest) = ended_target(alloc, rest, depth)?;
             Ok((Stmt::Assign(Assignment::Decrement(target)), rest))
         }
-        Kind::CilkSpawn => spawned(alloc, rest, depth),
+        Kind::CilkSpawn => spawned(alloc, first.at, rest, depth),
         Kind::CilkSync => {
             let rest = one(rest, Punct::Semicolon)?;
-            Ok((Stmt::Sync, rest))
+            Ok((Stmt::Sync(first.at), rest))
         }
         Kind::Return => {
             let (value, rest) = optional(alloc, rest, depth)?;
             Ok((Stmt::Return(first.at, value), rest))
         }
-        Kind::Print => printed(alloc, rest, depth),
+        Kind::Print => printed(alloc, first.at, rest, depth),
         Kind::Update => {
             let (reducer, value, rest) = update(alloc, rest, depth)?;
-            Ok((Stmt::Update(reducer, value), rest))
+            Ok((Stmt::Update(first.at, reducer, value), rest))
         }
         Kind::Set => {
             let (reducer, value, rest) = update(alloc, rest, depth)?;
-            Ok((Stmt::Set(reducer, value), rest))
+            Ok((Stmt::Set(first.at, reducer, value), rest))
         }
         _ => Err(Stop::Unexpected(tokens)),
     }
@@ -269,20 +275,21 @@ fn statement<'a>(
         Kind::OpenBrace => {
             let (list, rest) = statements(alloc, rest, depth + 1)?;
             let rest = one(rest, Punct::CloseBrace)?;
-            Ok((Stmt::Block(list), rest))
+            Ok((Stmt::Block(first.at, list), rest))
         }
-        Kind::If => choice(alloc, rest, depth),
-        Kind::While => while_loop(alloc, rest, depth),
-        Kind::For => for_loop(alloc, rest, depth),
-        Kind::CilkFor => parallel_loop(alloc, rest, depth),
+        Kind::If => choice(alloc, first.at, rest, depth),
+        Kind::While => while_loop(alloc, first.at, rest, depth),
+        Kind::For => for_loop(alloc, first.at, rest, depth),
+        Kind::CilkFor => parallel_loop(alloc, first.at, rest, depth),
         _ => simple(alloc, tokens, depth),
     }
 }
 
-/// Reads the rest of a `while`.
+/// Reads the rest of a `while` at this place.
 #[cycle(statements)]
 fn while_loop<'a>(
     alloc: Global,
+    at: usize,
     tokens: &'a [Token],
     depth: u32,
 ) -> Result<(Stmt, &'a [Token]), Stop<'a>>
@@ -296,13 +303,14 @@ fn while_loop<'a>(
 {
     let (test, rest) = parenthesized(alloc, tokens, depth)?;
     let (body, rest) = statement(alloc, rest, depth + 1)?;
-    Ok((Stmt::While(test, Box::new(alloc, body)?), rest))
+    Ok((Stmt::While(at, test, Box::new(alloc, body)?), rest))
 }
 
-/// Reads the rest of a `cilk_for`.
+/// Reads the rest of a `cilk_for` at this place.
 #[cycle(statements)]
 fn parallel_loop<'a>(
     alloc: Global,
+    at: usize,
     tokens: &'a [Token],
     depth: u32,
 ) -> Result<(Stmt, &'a [Token]), Stop<'a>>
@@ -318,13 +326,14 @@ fn parallel_loop<'a>(
 {
     let (bounds, rest) = bounds(alloc, tokens, depth)?;
     let (body, rest) = statement(alloc, rest, depth + 1)?;
-    Ok((Stmt::ParallelFor(bounds, Box::new(alloc, body)?), rest))
+    Ok((Stmt::ParallelFor(at, bounds, Box::new(alloc, body)?), rest))
 }
 
-/// Reads the rest of a `for`.
+/// Reads the rest of a `for` at this place.
 #[cycle(statements)]
 fn for_loop<'a>(
     alloc: Global,
+    at: usize,
     tokens: &'a [Token],
     depth: u32,
 ) -> Result<(Stmt, &'a [Token]), Stop<'a>>
@@ -339,13 +348,17 @@ fn for_loop<'a>(
     let (head, rest) = loop_head(alloc, tokens, depth)?;
     let (body, rest) = statement(alloc, rest, depth + 1)?;
     let body = Box::new(alloc, body)?;
-    Ok((Stmt::For(head.beginning, head.test, head.step, body), rest))
+    Ok((
+        Stmt::For(at, head.beginning, head.test, head.step, body),
+        rest,
+    ))
 }
 
-/// Reads the rest of an `if`, with its `else` if one follows.
+/// Reads the rest of an `if` at this place, with its `else` if one follows.
 #[cycle(statements)]
 fn choice<'a>(
     alloc: Global,
+    at: usize,
     tokens: &'a [Token],
     depth: u32,
 ) -> Result<(Stmt, &'a [Token]), Stop<'a>>
@@ -369,9 +382,12 @@ fn choice<'a>(
             after @ ..,
         ] => {
             let (second, rest) = statement(alloc, after, depth + 1)?;
-            Ok((Stmt::IfElse(test, first, Box::new(alloc, second)?), rest))
+            Ok((
+                Stmt::IfElse(at, test, first, Box::new(alloc, second)?),
+                rest,
+            ))
         }
-        _ => Ok((Stmt::If(test, first), rest)),
+        _ => Ok((Stmt::If(at, test, first), rest)),
     }
 }
 
