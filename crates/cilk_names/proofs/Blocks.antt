@@ -1,5 +1,5 @@
 -- Lists of statements, as the code's loops build them and as a block has them.
-use Rattle.std.proofs.Common.{◌≡◌, List, [], ◌∷◌, ◌++◌, Option, refl, ap, ◌∙◌, rules, Vec, Box}
+use Rattle.std.proofs.Common.{◌≡◌, ℕ, List, [], ◌∷◌, ◌++◌, Option, refl, ap, ◌∙◌, rules, Vec, Box}
 use Rattle.std.specs.declared.alloc.Global.{Global}
 use Rattle.cilk_syntax.specs.declared.tree.Stmt as code
 use Rattle.cilk_syntax.specs.declared.tree.Stmt.TheBlock as coded
@@ -15,8 +15,8 @@ tree_row : (n : _) (row : code.Row_of-Stmt n) → trees.row_view row ≡ trees.s
 tree_row _ code.end_of-Stmt = refl
 tree_row _ (code.more_of-Stmt s row) = ap (λ x. trees.Then (trees.statement s) x) (tree_row _ row)
 
-pub tree_block : (v : Vec code.Stmt Global) → trees.statement (code.Block v) ≡ trees.Block (trees.statements v.items)
-tree_block v =
+pub tree_block : (at : ℕ) (v : Vec code.Stmt Global) → trees.statement (code.Block at v) ≡ trees.Block (trees.statements v.items)
+tree_block at v =
     ap trees.Block (tree_row _ (coded.hidden-the_row-Stmt-0 v) ∙ ap trees.statements {x = code.items-the_row-Stmt _ (coded.hidden-the_row-Stmt-0 v)} {y = v.items} (search (rules, code.the_lemmas)))
 
 -- the same of resolved statements
@@ -28,12 +28,12 @@ resolved_list : (v : Vec resolved.Stmt Global) → programs.row_view (given.hidd
 resolved_list v =
     resolved_row _ (given.hidden-the_row-Stmt-0 v) ∙ ap programs.statements {x = resolved.items-the_row-Stmt _ (given.hidden-the_row-Stmt-0 v)} {y = v.items} (search (rules, resolved.the_lemmas))
 
-pub block : (v : Vec resolved.Stmt Global) → programs.statement (resolved.Block v) ≡ Block (programs.statements v.items)
-block v = ap Block (resolved_list v)
+pub block : (at : ℕ) (v : Vec resolved.Stmt Global) → programs.statement (resolved.Block at v) ≡ Block (programs.statements v.items)
+block at v = ap Block (resolved_list v)
 
-pub for_is : (b : Vec resolved.Stmt Global) (e : Option Expr) (a : Vec resolved.Stmt Global) (s : Box resolved.Stmt Global)
-    → programs.statement (resolved.For b e a s) ≡ For (programs.statements b.items) (programs.optional e) (programs.statements a.items) (programs.statement s.value)
-for_is b e a s =
+pub for_is : (at : ℕ) (b : Vec resolved.Stmt Global) (e : Option Expr) (a : Vec resolved.Stmt Global) (s : Box resolved.Stmt Global)
+    → programs.statement (resolved.For at b e a s) ≡ For (programs.statements b.items) (programs.optional e) (programs.statements a.items) (programs.statement s.value)
+for_is at b e a s =
     ap (λ x. For x (programs.optional e) (programs.row_view (given.hidden-the_row-Stmt-0 a)) (programs.statement s.value)) (resolved_list b)
     ∙ ap (λ x. For (programs.statements b.items) (programs.optional e) x (programs.statement s.value)) (resolved_list a)
 

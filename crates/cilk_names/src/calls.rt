@@ -36,14 +36,14 @@ fn bare_name(tree: &tree::Expr) -> Option<Name>
 {
     match tree {
         tree::Expr::Variable(name) => Some(*name),
-        tree::Expr::Number(_)
+        tree::Expr::Number(_, _)
         | tree::Expr::Element(_, _)
         | tree::Expr::Group(_)
-        | tree::Expr::Unary(_, _)
-        | tree::Expr::Binary(_, _, _)
+        | tree::Expr::Unary(_, _, _)
+        | tree::Expr::Binary(_, _, _, _)
         | tree::Expr::Value(_)
-        | tree::Expr::Input(_)
-        | tree::Expr::InputCount => None,
+        | tree::Expr::Input(_, _)
+        | tree::Expr::InputCount(_) => None,
     }
 }
 
@@ -168,6 +168,7 @@ pub(crate) fn call(
     let kinds = fit(table, function, call, is_taken, first);
     let Passed { words, reducers } = arguments(alloc, table, kinds, &call.arguments, first)?;
     Ok(Some(Invoke {
+        at: call.at,
         how,
         function,
         arguments: words,

@@ -18,33 +18,35 @@ use cilk_syntax::tree;
 use cilk_types::compound::Compound;
 use std::alloc::{AllocError, Global};
 
-/// Makes an expression that reads a variable, or 0 if there is none.
-fn read(place: Option<Place>) -> Expr
+/// Makes an expression that reads a variable named at a place of the text, or 0 if there is none.
+fn read(at: usize, place: Option<Place>) -> Expr
     ensures { expression result ≡ read_of place }
 {
     match place {
-        Some(place) => Expr::Variable(place),
-        None => Expr::Number(Literal { value: 0 }),
+        Some(place) => Expr::Variable(at, place),
+        None => Expr::Number(at, Literal { value: 0 }),
     }
 }
 
-/// Makes an expression that reads an element of an array, or 0 if there is no array.
-fn element(array: Option<Array>, index: Box<Expr>) -> Expr
+/// Makes an expression that reads an element of an array named at a place of the text, or 0 if there
+/// is no array.
+fn element(at: usize, array: Option<Array>, index: Box<Expr>) -> Expr
     ensures { expression result ≡ element_of array (expression index.value) }
 {
     match array {
-        Some(array) => Expr::Element(array, index),
-        None => Expr::Number(Literal { value: 0 }),
+        Some(array) => Expr::Element(at, array, index),
+        None => Expr::Number(at, Literal { value: 0 }),
     }
 }
 
-/// Makes an expression that reads a reducer's value, or 0 if there is no reducer.
-fn value(reducer: Option<Reducer>) -> Expr
+/// Makes an expression that reads the value of a reducer named at a place of the text, or 0 if there
+/// is no reducer.
+fn value(at: usize, reducer: Option<Reducer>) -> Expr
     ensures { expression result ≡ value_of reducer }
 {
     match reducer {
-        Some(reducer) => Expr::Value(reducer),
-        None => Expr::Number(Literal { value: 0 }),
+        Some(reducer) => Expr::Value(at, reducer),
+        None => Expr::Number(at, Literal { value: 0 }),
     }
 }
 
@@ -76,26 +78,26 @@ pub(crate) fn expression(
     ensures value { IfOk result (λ r. expression r ≡ expression_of (names_of table.now) (trees.expression tree.now)) }
 {
     match tree {
-        tree::Expr::Number(value) => Ok(Expr::Number(Literal { value: *value })),
-        tree::Expr::Variable(name) => Ok(read(variable(table, *name, first))),
+        tree::Expr::Number(at, value) => Ok(Expr::Number(*at, Literal { value: *value })),
+        tree::Expr::Variable(name) => Ok(read(name.at, variable(table, *name, first))),
         tree::Expr::Element(name, index) => {
             let array = array(table, *name, first);
             let index = part(alloc, table, index, first)?;
-            Ok(element(array, index))
+            Ok(element(name.at, array, index))
         }
         tree::Expr::Group(inner) => expression(alloc, table, inner, first),
-        tree::Expr::Unary(operator, operand) => {
+        tree::Expr::Unary(at, operator, operand) => {
             let operand = part(alloc, table, operand, first)?;
-            Ok(in_front(*operator, operand))
+            Ok(in_front(*at, *operator, operand))
         }
-        tree::Expr::Binary(operator, left, right) => {
+        tree::Expr::Binary(at, operator, left, right) => {
             let left = part(alloc, table, left, first)?;
             let right = part(alloc, table, right, first)?;
-            Ok(between(*operator, left, right))
+            Ok(between(*at, *operator, left, right))
         }
-        tree::Expr::Value(name) => Ok(value(reducer(table, *name, first))),
-        tree::Expr::Input(place) => Ok(Expr::Input(part(alloc, table, place, first)?)),
-        tree::Expr::InputCount => Ok(Expr::InputCount),
+        tree::Expr::Value(name) => Ok(value(name.at, reducer(table, *name, first))),
+        tree::Expr::Input(at, place) => Ok(Expr::Input(*at, part(alloc, table, place, first)?)),
+        tree::Expr::InputCount(at) => Ok(Expr::InputCount(*at)),
     }
 }
 
@@ -128,47 +130,57 @@ fn target(
 {
     match tree {
         tree::Lvalue::Variable(name) => match written(table, *name, first) {
-            Some(place) => Ok(Some(Target::Variable(place))),
+            Some(place) => Ok(Some(Target::Variable(name.at, place))),
             None => Ok(None),
         },
         tree::Lvalue::Element(name, index) => {
             let array = array(table, *name, first);
             let index = expression(alloc, table, index, first)?;
             match array {
-                Some(array) => Ok(Some(Target::Element(array, index))),
+                Some(array) => Ok(Some(Target::Element(name.at, array, index))),
                 None => Ok(None),
             }
         }
     }
 }
 
-/// Makes an assignment of a value, or an empty statement if there is no target.
-fn assign(place: Option<Target>, value: Expr) -> Stmt
+/// Returns the place of the text that names the target of an assignment.
+fn place_of(tree: &tree::Lvalue) -> usize {
+    match tree {
+        tree::Lvalue::Variable(name) | tree::Lvalue::Element(name, _) => name.at,
+    }
+}
+
+/// Makes an assignment of a value to a target named at a place of the text, or an empty statement if
+/// there is no target.
+fn assign(at: usize, place: Option<Target>, value: Expr) -> Stmt
     ensures { statement result ≡ or_empty (option_map target place) (λ t. Assign t (expression value)) }
 {
     match place {
         Some(place) => Stmt::Assign(place, value),
-        None => Stmt::Empty,
+        None => Stmt::Empty(at),
     }
 }
 
-/// Makes a compound assignment of a value, or an empty statement if there is no target.
-fn change(place: Option<Target>, operator: Compound, value: Expr) -> Stmt
+/// Makes a compound assignment of a value to a target named at a place of the text, or an empty
+/// statement if there is no target. `mark` is the place of the operator.
+fn change(at: usize, place: Option<Target>, mark: usize, operator: Compound, value: Expr) -> Stmt
     ensures { statement result ≡ or_empty (option_map target place) (λ t. Change t operator (expression value)) }
 {
     match place {
-        Some(place) => Stmt::Change(place, operator, value),
-        None => Stmt::Empty,
+        Some(place) => Stmt::Change(place, mark, operator, value),
+        None => Stmt::Empty(at),
     }
 }
 
-/// Makes an increment or a decrement, or an empty statement if there is no target.
-fn step(place: Option<Target>, by: i64) -> Stmt
+/// Makes an increment or a decrement of a target named at a place of the text, or an empty statement
+/// if there is no target.
+fn step(at: usize, place: Option<Target>, by: i64) -> Stmt
     ensures { statement result ≡ or_empty (option_map target place) (λ t. Step t by) }
 {
     match place {
         Some(place) => Stmt::Step(place, by),
-        None => Stmt::Empty,
+        None => Stmt::Empty(at),
     }
 }
 
@@ -185,16 +197,24 @@ pub(crate) fn assignment(
 {
     match tree {
         tree::Assignment::Set(place, value) => {
+            let at = place_of(place);
             let place = target(alloc, table, place, first)?;
             let value = expression(alloc, table, value, first)?;
-            Ok(assign(place, value))
+            Ok(assign(at, place, value))
         }
-        tree::Assignment::Compound(operator, place, value) => {
+        tree::Assignment::Compound(mark, operator, place, value) => {
+            let at = place_of(place);
             let place = target(alloc, table, place, first)?;
             let value = expression(alloc, table, value, first)?;
-            Ok(change(place, *operator, value))
+            Ok(change(at, place, *mark, *operator, value))
         }
-        tree::Assignment::Increment(place) => Ok(step(target(alloc, table, place, first)?, 1)),
-        tree::Assignment::Decrement(place) => Ok(step(target(alloc, table, place, first)?, -1)),
+        tree::Assignment::Increment(place) => {
+            let at = place_of(place);
+            Ok(step(at, target(alloc, table, place, first)?, 1))
+        }
+        tree::Assignment::Decrement(place) => {
+            let at = place_of(place);
+            Ok(step(at, target(alloc, table, place, first)?, -1))
+        }
     }
 }

@@ -52,7 +52,7 @@ fn push_signature(
 {
     match item {
         Item::Globals(_) | Item::Reducer(_) => Ok(()),
-        Item::Function(returns, _, parameters, _) => {
+        Item::Function(returns, _, parameters, _, _) => {
             let parameters = kinds_of(alloc, text, parameters)?;
             signatures.push(Signature {
                 returns: *returns,
@@ -85,7 +85,7 @@ fn functions_behind(count: usize, item: &Item) -> usize
 {
     match item {
         Item::Globals(_) | Item::Reducer(_) => count,
-        Item::Function(_, _, _, _) => count + 1,
+        Item::Function(_, _, _, _, _) => count + 1,
     }
 }
 
@@ -114,7 +114,7 @@ fn know(table: &mut Table, item: &Item, number: usize) -> Result<(), AllocError>
 {
     match item {
         Item::Globals(_) | Item::Reducer(_) => Ok(()),
-        Item::Function(_, name, _, _) => {
+        Item::Function(_, name, _, _, _) => {
             table.know(*name, number_of(number)?)?;
             Ok(())
         }
@@ -137,7 +137,9 @@ fn is_main_item(text: &[u8], item: &Item) -> bool
 {
     match item {
         Item::Globals(_) | Item::Reducer(_) => false,
-        Item::Function(returns, name, parameters, _) => is_main(text, *returns, *name, parameters),
+        Item::Function(returns, name, parameters, _, _) => is_main(
+            text, *returns, *name, parameters,
+        ),
     }
 }
 

@@ -119,8 +119,9 @@ impl Resolver<'_> {
         Ok(())
     }
 
-    /// Leaves a function that has `words` parameters that are words.
-    fn end(&mut self, alloc: Global, words: u32, body: Vec<Stmt>) -> Function
+    /// Leaves a function that has `words` parameters that are words. Its name is at `at`, and the brace
+    /// that closes it at `end`.
+    fn end(&mut self, alloc: Global, at: usize, end: usize, words: u32, body: Vec<Stmt>) -> Function
         ensures names { (outer : List Scope) (inner : Scope) → (let n = names_of self.old.table in n.outer) ≡ outer ++ inner ∷ [] → names_of self.new.table ≡ record (names_of self.old.table) { inner = inner; outer = outer } }
         ensures same { (self.new.loops ≡ self.old.loops) × (self.new.first ≡ self.old.first) × (self.new.reducers ≡ self.old.reducers) }
         ensures made { function result ≡ record { words = words; given = self.old.given.items; cells = self.old.frame.cells; reducers = self.old.own.items; body = statements body.items } }
@@ -129,6 +130,8 @@ impl Resolver<'_> {
         let given = mem::replace(&mut self.given, Vec::new(alloc));
         let own = mem::replace(&mut self.own, Vec::new(alloc));
         Function {
+            at,
+            end,
             words,
             given: Sequence::new(given),
             cells: self.frame.cells,
@@ -224,7 +227,7 @@ impl Pass<'_> {
         Ok(())
     }
 
-    /// Declares a function and resolves its body.
+    /// Declares a function and resolves its body, which the brace at `end` closes.
     #[tactic(auto, using(crate::proofs::Earliest::earliest_append))]
     fn function(
         &mut self,
@@ -233,6 +236,7 @@ impl Pass<'_> {
         name: Name,
         parameters: &[Parameter],
         body: &[tree::Stmt],
+        end: usize,
     ) -> Result<(), AllocError>
         ensures known { OnOk result (known_of self.new
             ≡ behind_item (known_of self.old) (trees.Function returns name parameters.now
@@ -256,7 +260,7 @@ impl Pass<'_> {
         self.scene.parameters(parameters)?;
         let words = self.scene.frame.cells;
         let body = self.scene.row(alloc, body)?;
-        let function = self.scene.end(alloc, words, body);
+        let function = self.scene.end(alloc, name.at, end, words, body);
         self.functions.push(function)?;
         Ok(())
     }
@@ -280,8 +284,8 @@ impl Pass<'_> {
                 self.reducer(alloc, *reducer)?;
                 Ok(())
             }
-            Item::Function(returns, name, parameters, body) => {
-                self.function(alloc, *returns, *name, parameters, body)?;
+            Item::Function(returns, name, parameters, body, end) => {
+                self.function(alloc, *returns, *name, parameters, body, *end)?;
                 Ok(())
             }
         }

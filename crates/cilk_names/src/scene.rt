@@ -124,10 +124,12 @@ impl Resolver<'_> {
         Ok(())
     }
 
-    /// Resolves the initializer of a declared variable in the cell of this number.
+    /// Resolves the initializer of a variable, in the cell of this number, that is declared at a place
+    /// of the text.
     fn initializer(
         &mut self,
         alloc: Global,
+        at: usize,
         number: u32,
         initializer: &LocalInitializer,
     ) -> Result<Declaration, AllocError>
@@ -139,8 +141,9 @@ impl Resolver<'_> {
         ensures value { IfOk result (λ r. declaration r ≡ declaration_of (names_of self.old.table) number (trees.local_initializer initializer.now)) }
     {
         match initializer {
-            LocalInitializer::Absent => Ok(Declaration::Zero(number)),
+            LocalInitializer::Absent => Ok(Declaration::Zero(at, number)),
             LocalInitializer::Value(value) => Ok(Declaration::Value(
+                at,
                 number,
                 expression(alloc, &self.table, value, &mut self.first)?,
             )),
@@ -148,7 +151,7 @@ impl Resolver<'_> {
                 let place = Some(Place::Local(0, number));
                 match call(alloc, &self.table, *how, tree, true, place, &mut self.first)? {
                     Some(invoke) => Ok(Declaration::Invoke(invoke)),
-                    None => Ok(Declaration::Zero(number)),
+                    None => Ok(Declaration::Zero(at, number)),
                 }
             }
         }
@@ -164,7 +167,7 @@ impl Resolver<'_> {
     {
         let number = self.frame.cells;
         self.variable(local.name)?;
-        self.initializer(alloc, number, &local.initializer)
+        self.initializer(alloc, local.name.at, number, &local.initializer)
     }
 
     /// Resolves the variables of a declaration, in order.
@@ -200,7 +203,7 @@ impl Resolver<'_> {
         self.variable(name)?;
         let value = expression(alloc, &self.table, value, &mut self.first)?;
         let mut declarations = Vec::new(alloc);
-        declarations.push(Declaration::Value(number, value))?;
+        declarations.push(Declaration::Value(name.at, number, value))?;
         Ok(Stmt::Declare(declarations))
     }
 

@@ -65,7 +65,7 @@ fn returned(
     note_unless(is_outside, NameErrorKind::ReturnInLoop, place, first);
     let gives = gives_what_it_returns(returns, value);
     note_unless(gives, NameErrorKind::WrongKind, place, first);
-    Ok(Stmt::Return(optional(alloc, table, value, first)?))
+    Ok(Stmt::Return(place, optional(alloc, table, value, first)?))
 }
 
 /// Resolves the step of a `for`: a row of one statement or of none.
@@ -84,13 +84,14 @@ fn step(
     }
 }
 
-/// Makes a call statement, or an empty statement if there is no call.
-fn invoke(invoke: Option<Invoke>) -> Stmt
+/// Makes a call statement of a function named at a place of the text, or an empty statement if there
+/// is no call.
+fn invoke(at: usize, invoke: Option<Invoke>) -> Stmt
     ensures { statement result ≡ or_empty (option_map invoked invoke) Invokes }
 {
     match invoke {
         Some(invoke) => Stmt::Invoke(invoke),
-        None => Stmt::Empty,
+        None => Stmt::Empty(at),
     }
 }
 
@@ -106,7 +107,7 @@ fn invoked(
     ensures value { IfOk result (λ r. statement r ≡ or_empty (invoke_of (names_of table.now) how (trees.call tree.now) None) Invokes) }
 {
     let call = call(alloc, table, how, tree, false, None, first)?;
-    Ok(invoke(call))
+    Ok(invoke(tree.name.at, call))
 }
 
 /// Resolves a call whose result is assigned to a variable.
@@ -127,14 +128,15 @@ fn assigned(
 {
     let place = written(table, name, first);
     let call = call(alloc, table, how, tree, true, place, first)?;
-    Ok(invoke(call))
+    Ok(invoke(tree.name.at, call))
 }
 
-/// Resolves an `update` of a reducer.
+/// Resolves an `update` of a reducer at a place of the text.
 #[tactic(auto, using(crate::proofs::Earliest::earliest_append))]
 fn update(
     alloc: Global,
     table: &Table,
+    at: usize,
     name: Name,
     value: &tree::Expr,
     first: &mut Option<Misnaming>,
@@ -149,16 +151,17 @@ fn update(
     let reducer = reducer(table, name, first);
     let value = expression(alloc, table, value, first)?;
     match reducer {
-        Some(reducer) => Ok(Stmt::Update(reducer, value)),
-        None => Ok(Stmt::Empty),
+        Some(reducer) => Ok(Stmt::Update(at, reducer, value)),
+        None => Ok(Stmt::Empty(at)),
     }
 }
 
-/// Resolves a `set` of a reducer.
+/// Resolves a `set` of a reducer at a place of the text.
 #[tactic(auto, using(crate::proofs::Earliest::earliest_append))]
 fn set(
     alloc: Global,
     table: &Table,
+    at: usize,
     name: Name,
     value: &tree::Expr,
     first: &mut Option<Misnaming>,
@@ -173,23 +176,29 @@ fn set(
     let reducer = reducer(table, name, first);
     let value = expression(alloc, table, value, first)?;
     match reducer {
-        Some(reducer) => Ok(Stmt::Set(reducer, value)),
-        None => Ok(Stmt::Empty),
+        Some(reducer) => Ok(Stmt::Set(at, reducer, value)),
+        None => Ok(Stmt::Empty(at)),
     }
 }
 
-/// Makes a `for` of these parts.
-fn for_of(beginning: Vec<Stmt>, test: Option<Expr>, step: Vec<Stmt>, body: Box<Stmt>) -> Stmt
+/// Makes a `for` of these parts at a place of the text.
+fn for_of(
+    at: usize,
+    beginning: Vec<Stmt>,
+    test: Option<Expr>,
+    step: Vec<Stmt>,
+    body: Box<Stmt>,
+) -> Stmt
     ensures { statement result ≡ For (statements beginning.items) (optional test) (statements step.items) (statement body.value) }
 {
-    Stmt::For(beginning, test, step, body)
+    Stmt::For(at, beginning, test, step, body)
 }
 
-/// Makes a `while`: a `for` with a condition alone.
-fn while_of(alloc: Global, test: Expr, body: Box<Stmt>) -> Stmt
+/// Makes a `while` at a place of the text: a `for` with a condition alone.
+fn while_of(alloc: Global, at: usize, test: Expr, body: Box<Stmt>) -> Stmt
     ensures { statement result ≡ For Nothing (Some (expression test)) Nothing (statement body.value) }
 {
-    for_of(Vec::new(alloc), Some(test), Vec::new(alloc), body)
+    for_of(at, Vec::new(alloc), Some(test), Vec::new(alloc), body)
 }
 
 /// Notes a fault unless two names in a head are equal.
@@ -219,10 +228,11 @@ fn bounds(
     Ok((low, high))
 }
 
-/// The context outside a parallel loop's body: the frame, the number of enclosing loop bodies, and
-/// the loop's number.
+/// The context outside a parallel loop's body: the loop's place in the text, the frame, the number of
+/// enclosing loop bodies, and the loop's number.
 #[derive(Clone, Copy)]
 struct Outside {
+    at: usize,
     frame: Frame,
     level: u32,
     number: u32,
@@ -254,15 +264,16 @@ impl Resolver<'_> {
         self.table.close();
     }
 
-    /// Enters the body of a parallel loop with this variable, and reserves the loop's place in the
-    /// list of loops.
-    fn enter(&mut self, alloc: Global, name: Name) -> Result<Outside, AllocError>
+    /// Enters the body of a parallel loop with this variable at a place of the text, and reserves the
+    /// loop's place in the list of loops.
+    fn enter(&mut self, alloc: Global, at: usize, name: Name) -> Result<Outside, AllocError>
         ensures context { OnOk result (context_of self.new ≡ in_body (context_of self.old) name) }
         ensures first { OnOk result (self.new.first ≡ self.old.first) }
         ensures loops { IfOk result (λ o. (p : syntax.Loop) × (map loop self.new.loops.items ≡ map loop self.old.loops.items ++ p ∷ [])) }
         ensures outside { IfOk result (λ o. (o.frame ≡ self.old.frame) × (o.level ≡ self.old.table.level) × (o.number ≡ length self.old.loops.items)) }
     {
         let outside = Outside {
+            at,
             frame: self.frame,
             level: self.table.level,
             number: number_of(self.loops.len())?,
@@ -275,6 +286,7 @@ impl Resolver<'_> {
         self.table
             .declare(name, Meaning::Turn(level), &mut self.first)?;
         self.loops.push(Loop {
+            at,
             within: outside.frame.body,
             cells: 0,
             body: Vec::new(alloc),
@@ -298,6 +310,7 @@ impl Resolver<'_> {
         let row = row_of_one(alloc, Box::into_inner(body))?;
         let index = outside.number as usize;
         self.loops[index] = Loop {
+            at: outside.at,
             within: outside.frame.body,
             cells: self.frame.cells,
             body: row,
@@ -314,6 +327,7 @@ impl Resolver<'_> {
     fn parallel(
         &mut self,
         alloc: Global,
+        at: usize,
         head: &Bounds,
         body: &tree::Stmt,
     ) -> Result<Stmt, AllocError>
@@ -330,10 +344,10 @@ impl Resolver<'_> {
             (trees.statement body.now))) }
     {
         let (low, high) = bounds(alloc, &self.table, head, &mut self.first)?;
-        let outside = self.enter(alloc, head.variable)?;
+        let outside = self.enter(alloc, at, head.variable)?;
         let body = self.scoped(alloc, body)?;
         self.leave(alloc, outside, body)?;
-        Ok(Stmt::ParallelFor(low, high, outside.number))
+        Ok(Stmt::ParallelFor(at, low, high, outside.number))
     }
 
     /// Resolves a `for`, whose head opens a scope.
@@ -342,6 +356,7 @@ impl Resolver<'_> {
     fn repeated(
         &mut self,
         alloc: Global,
+        at: usize,
         beginning: &Option<Beginning>,
         test: &Option<Box<tree::Expr>>,
         tree: &Option<tree::Assignment>,
@@ -367,7 +382,7 @@ impl Resolver<'_> {
         let step = step(alloc, &self.table, tree, &mut self.first)?;
         let body = self.scoped(alloc, body)?;
         self.close();
-        Ok(for_of(row, test, step, body))
+        Ok(for_of(at, row, test, step, body))
     }
 
     /// Resolves a statement in a scope of its own.
@@ -423,12 +438,12 @@ impl Resolver<'_> {
         ensures value { IfOk result (λ r. statement r ≡ statement_of (context_of self.old) (trees.statement tree.now)) }
     {
         match tree {
-            tree::Stmt::Empty => Ok(Stmt::Empty),
-            tree::Stmt::Block(list) => self.block(alloc, list),
+            tree::Stmt::Empty(at) => Ok(Stmt::Empty(*at)),
+            tree::Stmt::Block(at, list) => self.block(alloc, *at, list),
             tree::Stmt::Declare(locals) => Ok(Stmt::Declare(self.locals(alloc, locals)?)),
             tree::Stmt::Reducer(reducer) => {
                 self.reducer(*reducer)?;
-                Ok(Stmt::Empty)
+                Ok(Stmt::Empty(reducer.name.at))
             }
             tree::Stmt::Assign(tree) => assignment(alloc, &self.table, tree, &mut self.first),
             tree::Stmt::Invoke(how, tree) => {
@@ -437,45 +452,50 @@ impl Resolver<'_> {
             tree::Stmt::AssignCall(name, how, tree) => {
                 assigned(alloc, &self.table, *name, *how, tree, &mut self.first)
             }
-            tree::Stmt::Sync => Ok(Stmt::Sync),
-            tree::Stmt::If(test, body) => {
+            tree::Stmt::Sync(at) => Ok(Stmt::Sync(*at)),
+            tree::Stmt::If(at, test, body) => {
                 let (test, body) = self.guarded(alloc, body, test)?;
-                Ok(Stmt::If(test, body))
+                Ok(Stmt::If(*at, test, body))
             }
-            tree::Stmt::IfElse(test, body, other) => {
+            tree::Stmt::IfElse(at, test, body, other) => {
                 let (test, body) = self.guarded(alloc, body, test)?;
                 let other = self.scoped(alloc, other)?;
-                Ok(Stmt::IfElse(test, body, other))
+                Ok(Stmt::IfElse(*at, test, body, other))
             }
-            tree::Stmt::While(test, body) => {
+            tree::Stmt::While(at, test, body) => {
                 let (test, body) = self.guarded(alloc, body, test)?;
-                Ok(while_of(alloc, test, body))
+                Ok(while_of(alloc, *at, test, body))
             }
-            tree::Stmt::For(beginning, test, step, body) => {
-                self.repeated(alloc, beginning, test, step, body)
+            tree::Stmt::For(at, beginning, test, step, body) => {
+                self.repeated(alloc, *at, beginning, test, step, body)
             }
-            tree::Stmt::ParallelFor(head, body) => self.parallel(alloc, head, body),
+            tree::Stmt::ParallelFor(at, head, body) => self.parallel(alloc, *at, head, body),
             tree::Stmt::Return(place, value) => {
                 let returns = self.frame.returns;
                 returned(alloc, &self.table, returns, *place, value, &mut self.first)
             }
-            tree::Stmt::Print(value) => Ok(Stmt::Print(expression(
+            tree::Stmt::Print(at, value) => Ok(Stmt::Print(
+                *at,
+                expression(alloc, &self.table, value, &mut self.first)?,
+            )),
+            tree::Stmt::Update(at, name, value) => {
+                update(alloc, &self.table, *at, *name, value, &mut self.first)
+            }
+            tree::Stmt::Set(at, name, value) => set(
                 alloc,
                 &self.table,
+                *at,
+                *name,
                 value,
                 &mut self.first,
-            )?)),
-            tree::Stmt::Update(name, value) => {
-                update(alloc, &self.table, *name, value, &mut self.first)
-            }
-            tree::Stmt::Set(name, value) => set(alloc, &self.table, *name, value, &mut self.first),
+            ),
         }
     }
 
     /// Resolves a block in a scope of its own.
     #[cycle(statements)]
     #[tactic(auto, using(crate::proofs::Blocks::block))]
-    fn block(&mut self, alloc: Global, list: &[tree::Stmt]) -> Result<Stmt, AllocError>
+    fn block(&mut self, alloc: Global, at: usize, list: &[tree::Stmt]) -> Result<Stmt, AllocError>
         ensures context { OnOk result (context_of self.new ≡ behind (context_of self.old) (trees.Block (trees.statements list.now))) }
         ensures faults { OnOk result (self.new.first
             ≡ earliest self.old.first (statement_faults (context_of self.old)
@@ -487,7 +507,7 @@ impl Resolver<'_> {
         self.open(alloc)?;
         let row = self.row(alloc, list)?;
         self.close();
-        Ok(Stmt::Block(row))
+        Ok(Stmt::Block(at, row))
     }
 
     /// Resolves statements in order and notes faults.

@@ -29,7 +29,7 @@
 //! ```text
 //! int g = 3; int main() { return g; }
 //!
-//! body of main    Return(Some(Variable(Place::Global(0))))
+//! body of main    Return(24, Some(Variable(31, Place::Global(0))))
 //! serial run      begin; read cell 0, which is 3; sync; end
 //! ```
 #![tactic(auto)]

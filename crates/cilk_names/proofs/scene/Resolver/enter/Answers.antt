@@ -24,6 +24,6 @@ returns-clause-first c =
 
 pub returns-clause-loops : goal.returns-clause-loops
 returns-clause-loops c =
-    let made : Loop = record { within = c.args.self.now.frame.body; cells = 0; body = c.new.result } in
+    let made : Loop = record { at = c.args.at; within = c.args.self.now.frame.body; cells = 0; body = c.new.result } in
     let items : c.push.new.self.items ≡ c.args.self.now.loops.items ++ made ∷ [] = c.in_ok-push.ensures.items in
     (loop made, ap (map loop) items ∙ map_append loop c.args.self.now.loops.items (made ∷ []))
