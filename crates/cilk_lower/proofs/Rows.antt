@@ -29,8 +29,8 @@ row_is : (n : _) (row : Row_of-Stmt n) → row_view row ≡ statements (items-th
 row_is _ end_of-Stmt = refl
 row_is _ (more_of-Stmt s row) = ap (λ x. Then (statement s) x) (row_is _ row)
 
-pub block_is : (v : Vec Stmt Global) → statement (stmts.Block v) ≡ trees.Block (statements v.items)
-block_is v =
+pub block_is : (at : ℕ) (v : Vec Stmt Global) → statement (stmts.Block at v) ≡ trees.Block (statements v.items)
+block_is at v =
     ap trees.Block (row_is _ (hidden-the_row-Stmt-0 v) ∙ ap statements {x = items-the_row-Stmt _ (hidden-the_row-Stmt-0 v)} {y = v.items} (search (rules, the_lemmas)))
 
 -- one more statement
@@ -193,8 +193,8 @@ row_fits list i s low is fits =
     let before = all_sites (statements (take i list)) in
     back_fits before (stmt_sites (statement s)) (front_fits (before ++ stmt_sites (statement s)) (all_sites (statements (drop (i + 1) list))) (subst SitesFit sites fits))
 
-pub for_is : (v w : Vec Stmt Global) (test : _) (b : _) → statement (stmts.For v test w b) ≡ trees.For (statements v.items) (optional test) (statements w.items) (statement b.value)
-for_is v w test b =
+pub for_is : (at : ℕ) (v w : Vec Stmt Global) (test : _) (b : _) → statement (stmts.For at v test w b) ≡ trees.For (statements v.items) (optional test) (statements w.items) (statement b.value)
+for_is at v w test b =
     ap (λ x. trees.For x (optional test) (row_view (hidden-the_row-Stmt-0 w)) (statement b.value)) (row_is _ (hidden-the_row-Stmt-0 v) ∙ ap statements {x = items-the_row-Stmt _ (hidden-the_row-Stmt-0 v)} {y = v.items} (search (rules, the_lemmas)))
     ∙ ap (λ x. trees.For (statements v.items) (optional test) x (statement b.value)) (row_is _ (hidden-the_row-Stmt-0 w) ∙ ap statements {x = items-the_row-Stmt _ (hidden-the_row-Stmt-0 w)} {y = w.items} (search (rules, the_lemmas)))
 
@@ -242,9 +242,9 @@ pub row_code : (c c' : List Instr) (ss ss' : List Site) (row : Statements) (t : 
 row_code c c' ss ss' row t es e = let count : length ss' ≡ length ss + length (all_sites row) = ap length es ∙ length-append ss (all_sites row) in e ∙ ap (λ n. c ++ stmt_code n t) count
 
 -- a `for`, through its references
-pub meant : (f : Stmt) (v w : Vec Stmt Global) (test : _) (b : _) (row step : List Stmt) (body : Stmt) → f ≡ stmts.For v test w b → row ≡ v.items → step ≡ w.items → body ≡ b.value → statement f ≡ trees.For (statements row) (optional test) (statements step) (statement body)
-meant f v w test b row step body is er es eb =
-    ap statement is ∙ for_is v w test b
+pub meant : (at : ℕ) (f : Stmt) (v w : Vec Stmt Global) (test : _) (b : _) (row step : List Stmt) (body : Stmt) → f ≡ stmts.For at v test w b → row ≡ v.items → step ≡ w.items → body ≡ b.value → statement f ≡ trees.For (statements row) (optional test) (statements step) (statement body)
+meant at f v w test b row step body is er es eb =
+    ap statement is ∙ for_is at v w test b
     ∙ ap (λ l. trees.For (statements l) (optional test) (statements w.items) (statement b.value)) (sym er)
     ∙ ap (λ l. trees.For (statements row) (optional test) (statements l) (statement b.value)) (sym es)
     ∙ ap (λ s. trees.For (statements row) (optional test) (statements step) (statement s)) (sym eb)

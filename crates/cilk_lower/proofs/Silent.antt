@@ -34,11 +34,11 @@ pub row_is : (list : List Stmt) → row_is_silent (statements list) ≡ list_all
 row_is [] = refl
 row_is (s ∷ list) = ap (λ b. is_silent (statement s) && b) (row_is list)
 
-pub block_silent : (v : Vec Stmt Global) → is_silent (statement (stmts.Block v)) ≡ row_is_silent (statements v.items)
-block_silent v = ap is_silent (block_is v)
+pub block_silent : (at : ℕ) (v : Vec Stmt Global) → is_silent (statement (stmts.Block at v)) ≡ row_is_silent (statements v.items)
+block_silent at v = ap is_silent (block_is at v)
 
-pub for_silent : (f : Stmt) (v w : Vec Stmt Global) (test : _) (b : _) → f ≡ stmts.For v test w b → is_silent (statement f) ≡ (row_is_silent (statements v.items) && (is_silent (statement b.value) && row_is_silent (statements w.items)))
-for_silent f v w test b is = ap is_silent (ap statement is ∙ for_is v w test b)
+pub for_silent : (at : ℕ) (f : Stmt) (v w : Vec Stmt Global) (test : _) (b : _) → f ≡ stmts.For at v test w b → is_silent (statement f) ≡ (row_is_silent (statements v.items) && (is_silent (statement b.value) && row_is_silent (statements w.items)))
+for_silent at f v w test b is = ap is_silent (ap statement is ∙ for_is at v w test b)
 
 pub both : (a b c : Bool) → (a && b) ≡ true → (a && (b && c)) ≡ c
 both true true c h = refl

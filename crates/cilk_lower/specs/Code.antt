@@ -1,5 +1,7 @@
 -- The code of statements and bodies.
-use Rattle.std.specs.Prelude.{◌≡◌, ◌+◌, ◌-◌, ◌^◌, ◌≤◌, ℕ, zero, suc, pos, Bool, true, false, IsTrue, List, [], ◌∷◌, ◌++◌, length, Option, Some, None, slice_get, unwrap_or, ℤ}
+use Rattle.std.specs.Prelude.{◌≡◌, ◌+◌, ◌-◌, ◌<◌, ◌^◌, ◌≤◌, ℕ, zero, suc, pos, Bool, true, false, IsTrue, List, [], ◌∷◌, ◌++◌, length, Option, Some, None, slice_get, unwrap_or, ℤ}
+use Rattle.std.proofs.Common.{Vec, arith}
+use Rattle.std.specs.declared.alloc.Global.{Global}
 use Rattle.cilk_monoid.specs.declared.kind.MonoidKind.{MonoidKind}
 use Rattle.cilk_program.specs.declared.ask.Callee.{Callee}
 use Rattle.cilk_program.specs.declared.ask.Callee.TheVariants as callees
@@ -17,6 +19,10 @@ use Rattle.cilk_lower.specs.declared.layout.Layout.{Layout}
 -- the instructions so far, without the bytes that they come from
 pub record ListingView : Type 0 where
   pub items : List Instr
+  pub small : length items < 2 ^ 63
+
+abbrev pub listing_of : Vec Instr Global → ListingView
+listing_of v = record { items = v.items; small = omega (arith, v.ok.0, v.ok.1, v.small) }
 
 -- The instructions of all bodies, the call sites, the entry points of the root, the functions and
 -- the loops, and the layout of frames.

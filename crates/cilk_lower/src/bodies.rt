@@ -86,11 +86,7 @@ pub fn put_words(code: &mut Listing, at: usize, count: u32) -> Result<(), AllocE
 }
 
 /// Appends the instructions that create a frame's own reducers.
-pub fn put_own(
-    code: &mut Listing,
-    at: usize,
-    kinds: &[MonoidKind],
-) -> Result<(), AllocError>
+pub fn put_own(code: &mut Listing, at: usize, kinds: &[MonoidKind]) -> Result<(), AllocError>
     requires { length kinds.now ≤ 64 }
     ensures { OnOk result (code.new.items ≡ code.old.items ++ creates_code (ReducerPlace.Own 0) 0 kinds.now) }
 {

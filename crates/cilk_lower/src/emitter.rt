@@ -11,7 +11,8 @@ use crate::bodies::{put_own, put_words};
 use crate::code::{EntryPoint, Instr, Site};
 use crate::expressions::{emit_value, emit_values};
 use crate::put::{
-    Listing, begin, begin_else, pass, pass_if_zero, pass_unless_one, put, put_ends, put_halves, put_jump,
+    Listing, begin, begin_else, pass, pass_if_zero, pass_unless_one, put, put_ends, put_halves,
+    put_jump,
 };
 use crate::simple::{
     emit_assign, emit_change, emit_choice, emit_last, emit_parallel, emit_return, emit_step,

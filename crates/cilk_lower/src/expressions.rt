@@ -13,7 +13,12 @@ use cilk_program::syntax::{Expr, Operator};
 use std::alloc::AllocError;
 
 /// Emits a statement's tick and its expression.
-pub fn emit_begun(code: &mut Listing, room: &mut usize, at: usize, e: &Expr) -> Result<(), AllocError>
+pub fn emit_begun(
+    code: &mut Listing,
+    room: &mut usize,
+    at: usize,
+    e: &Expr,
+) -> Result<(), AllocError>
     ensures code { OnOk result (code.new.items ≡ code.old.items ++ (Instr.Tick ∷ expr_code (expression e.now))) }
     ensures room { OnOk result (room.new ≡ max room.old (depth (expression e.now))) }
 {
@@ -123,12 +128,7 @@ fn number_of(e: &Expr) -> Option<i64>
 
 // Emits an operand and the instruction that takes it.
 #[cycle(expressions)]
-fn emit_unary(
-    code: &mut Listing,
-    at: usize,
-    e: &Expr,
-    last: Instr,
-) -> Result<usize, AllocError>
+fn emit_unary(code: &mut Listing, at: usize, e: &Expr, last: Instr) -> Result<usize, AllocError>
     ensures code { OnOk result (code.new.items ≡ code.old.items ++ (expr_code (expression e.now) ++ last ∷ [])) }
     ensures depth { IfOk result (λ d. d ≡ depth (expression e.now)) }
 {

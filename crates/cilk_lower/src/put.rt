@@ -30,17 +30,18 @@ impl Drop for Listing {
 }
 
 impl Model for Listing {
-    ghost use Rattle.cilk_lower.specs.Code.{ListingView};
+    ghost use Rattle.cilk_lower.specs.Code.{ListingView, listing_of};
 
     ghost Value = { ListingView };
 
-    ghost view = { λ l. record { items = l.instrs.items } };
+    ghost view = { λ l. listing_of l.instrs };
 }
 
 impl Listing {
     /// Creates a listing without instructions.
     pub fn new(alloc: Global) -> Listing
-        ensures { result.items ≡ [] }
+        ensures items { result.items ≡ [] }
+        ensures none { length result.items ≡ 0 }
     {
         Listing {
             instrs: Vec::new(alloc),

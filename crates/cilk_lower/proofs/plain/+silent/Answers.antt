@@ -15,7 +15,7 @@ are_silent-returns t c = let row = c.args.row.now in sym (row_is row ∙ all_don
 
 pub is_silent-returns-in-Block : goal.is_silent-returns-in-Block
 is_silent-returns-in-Block t c =
-    c.are_silent.ensures ∙ ap (λ row. row_is_silent (statements row)) c.deref.ensures.value ∙ sym (ap (λ s. is_silent (statement s)) c.in-Block.is ∙ block_silent c.in-Block.row)
+    c.are_silent.ensures ∙ ap (λ row. row_is_silent (statements row)) c.deref.ensures.value ∙ sym (ap (λ s. is_silent (statement s)) c.in-Block.is ∙ block_silent c.in-Block.field-0 c.in-Block.row)
 
 pub is_silent-returns-then-is_silent-2 : goal.is_silent-returns-then-is_silent-2
 is_silent-returns-then-is_silent-2 t c =
@@ -27,7 +27,7 @@ is_silent-returns-then-is_silent-2 t c =
       | is_silent-else-are_silent w ↦ w.value-is ∙ w.if-are_silent.false ∙ ap (λ x. x && b) (sym (sym first ∙ w.if-are_silent.false))
     ] in
     c.are_silent-then-is_silent-2.ensures ∙ ap (λ row. row_is_silent (statements row)) c.deref-then-is_silent-2.ensures.value
-    ∙ sym (for_silent c.args.s.now c.in-For.beginning c.in-For.step c.in-For.field-1 c.in-For.body c.in-For.is ∙ both a b (row_is_silent (statements c.in-For.step.items)) (sym so_far ∙ c.if-is_silent-2.true))
+    ∙ sym (for_silent _ c.args.s.now c.in-For.beginning c.in-For.step c.in-For.field-2 c.in-For.body c.in-For.is ∙ both a b (row_is_silent (statements c.in-For.step.items)) (sym so_far ∙ c.if-is_silent-2.true))
 
 pub is_silent-returns-else-is_silent-2 : goal.is_silent-returns-else-is_silent-2
 is_silent-returns-else-is_silent-2 t c =
@@ -38,4 +38,4 @@ is_silent-returns-else-is_silent-2 t c =
       | is_silent-then-are_silent w ↦ w.value-is ∙ w.is_silent-then-are_silent.ensures ∙ ap (λ s. is_silent (statement s)) w.deref-then-are_silent.ensures ∙ ap (λ x. x && b) (sym (sym first ∙ w.if-are_silent.true))
       | is_silent-else-are_silent w ↦ w.value-is ∙ w.if-are_silent.false ∙ ap (λ x. x && b) (sym (sym first ∙ w.if-are_silent.false))
     ] in
-    c.if-is_silent-2.false ∙ sym (for_silent c.args.s.now c.in-For.beginning c.in-For.step c.in-For.field-1 c.in-For.body c.in-For.is ∙ neither a b (row_is_silent (statements c.in-For.step.items)) (sym so_far ∙ c.if-is_silent-2.false))
+    c.if-is_silent-2.false ∙ sym (for_silent _ c.args.s.now c.in-For.beginning c.in-For.step c.in-For.field-2 c.in-For.body c.in-For.is ∙ neither a b (row_is_silent (statements c.in-For.step.items)) (sym so_far ∙ c.if-is_silent-2.false))

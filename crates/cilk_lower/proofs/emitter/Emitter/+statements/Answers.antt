@@ -40,7 +40,7 @@ emit_all-each-preserved t c =
 
 pub emit_stmt-emit_all-requires : goal.emit_stmt-emit_all-requires
 emit_stmt-emit_all-requires t c =
-    let fits : SitesFit (all_sites (statements c.in-Block.row.items)) = subst (λ s. SitesFit (stmt_sites s)) (ap statement c.in-Block.is ∙ block_is c.in-Block.row) c.requires in
+    let fits : SitesFit (all_sites (statements c.in-Block.row.items)) = subst (λ s. SitesFit (stmt_sites s)) (ap statement c.in-Block.is ∙ block_is c.in-Block.at c.in-Block.row) c.requires in
     (search (rules, the_lemmas), subst (λ (row : List Stmt). SitesFit (all_sites (statements row))) (sym c.deref.ensures.value) fits)
 
 pub emit_stmt-emit_stmt-requires : goal.emit_stmt-emit_stmt-requires
@@ -68,7 +68,7 @@ emit_stmt-emit_all-requires-in-For t c =
     let row = all_sites (statements a.beginning.items) in
     let body = stmt_sites (statement a.body.value) in
     let step = all_sites (statements a.step.items) in
-    let fits : SitesFit (row ++ (body ++ step)) = subst (λ s. SitesFit (stmt_sites s)) (ap statement a.is ∙ for_is a.beginning a.step a.test a.body) c.requires in
+    let fits : SitesFit (row ++ (body ++ step)) = subst (λ s. SitesFit (stmt_sites s)) (ap statement a.is ∙ for_is a.at a.beginning a.step a.test a.body) c.requires in
     (search (rules, the_lemmas), subst (λ (row : List Stmt). SitesFit (all_sites (statements row))) (sym c.deref-in-For.ensures.value) (front_fits row (body ++ step) fits))
 
 pub emit_stmt-emit_stmt-requires-in-For : goal.emit_stmt-emit_stmt-requires-in-For
@@ -77,7 +77,7 @@ emit_stmt-emit_stmt-requires-in-For t c =
     let row = all_sites (statements a.beginning.items) in
     let body = stmt_sites (statement a.body.value) in
     let step = all_sites (statements a.step.items) in
-    let fits : SitesFit (row ++ (body ++ step)) = subst (λ s. SitesFit (stmt_sites s)) (ap statement a.is ∙ for_is a.beginning a.step a.test a.body) c.requires in
+    let fits : SitesFit (row ++ (body ++ step)) = subst (λ s. SitesFit (stmt_sites s)) (ap statement a.is ∙ for_is a.at a.beginning a.step a.test a.body) c.requires in
     (search (rules, the_lemmas), subst (λ (s : Stmt). SitesFit (stmt_sites (statement s))) (sym c.deref-in-For-2.ensures) (front_fits body step (back_fits row (body ++ step) fits)))
 
 pub emit_stmt-emit_all-requires-in-For-2 : goal.emit_stmt-emit_all-requires-in-For-2
@@ -86,20 +86,20 @@ emit_stmt-emit_all-requires-in-For-2 t c =
     let row = all_sites (statements a.beginning.items) in
     let body = stmt_sites (statement a.body.value) in
     let step = all_sites (statements a.step.items) in
-    let fits : SitesFit (row ++ (body ++ step)) = subst (λ s. SitesFit (stmt_sites s)) (ap statement a.is ∙ for_is a.beginning a.step a.test a.body) c.requires in
+    let fits : SitesFit (row ++ (body ++ step)) = subst (λ s. SitesFit (stmt_sites s)) (ap statement a.is ∙ for_is a.at a.beginning a.step a.test a.body) c.requires in
     (search (rules, the_lemmas), subst (λ (row : List Stmt). SitesFit (all_sites (statements row))) (sym c.deref-in-For-3.ensures.value) (back_fits body step (back_fits row (body ++ step) fits)))
 
 pub emit_stmt-end_turn-requires-clause-first : goal.emit_stmt-end_turn-requires-clause-first
 emit_stmt-end_turn-requires-clause-first t c =
     let follows = turn_follows c.args.self.now.instrs.items (all_code (length c.args.self.now.sites.items) (statements c.deref-in-For.result.now)) (test_code (optional c.in-For.test)) _ _ c.emit_test.new.code.items c.in_ok-begin-in-For.ensures c.in_ok-emit_all-in-For.ensures.code c.in_ok-emit_test-in-For.ensures.code in
-    omega (arith, follows, c.len-start.ensures, c.emit_test.new.code.ok.0)
+    omega (arith, follows, c.len-start.ensures)
 
 pub emit_stmt-end_turn-requires-clause-start : goal.emit_stmt-end_turn-requires-clause-start
 emit_stmt-end_turn-requires-clause-start t c =
     let s = statement c.deref-in-For-2.result.now in
     let sites = c.emit_all-in-For.new.self.sites.items in
     let starts = turn_starts (stmt_code (length sites) s) (all_code (length c.emit_stmt-in-For.new.self.sites.items) (statements c.deref-in-For-3.result.now)) c.emit_test.new.code.items _ _ c.in_ok-emit_stmt-in-For.ensures.code c.in_ok-emit_all-in-For-2.ensures.code (stmt_some (length sites) s) in
-    omega (arith, starts, c.len-start.ensures, c.emit_test.new.code.ok.0)
+    omega (arith, starts, c.len-start.ensures)
 
 pub emit_stmt-emit_declarations-requires : goal.emit_stmt-emit_declarations-requires
 emit_stmt-emit_declarations-requires t c =
@@ -116,21 +116,21 @@ emit_stmt-returns-in_ok-begin-in-Block-clause-code t c =
     on_ok_weaker {P = c.emit_all.new.self.instrs.items ≡ c.begin-in-Block.new.code.items ++ all_code k (statements c.deref.result.now)} {Q = c.emit_all.new.self.instrs.items ≡ base ++ stmt_code k (statement c.args.s.now)} c.emit_all.result (λ e.
     block_code base c.begin-in-Block.new.code.items _ k (statements c.deref.result.now) c.in_ok-begin-in-Block.ensures e
     ∙ ap (λ row. base ++ (Tick ∷ all_code k (statements row))) c.deref.ensures.value
-    ∙ ap (λ s. base ++ stmt_code k s) (sym (ap statement c.in-Block.is ∙ block_is c.in-Block.row))) c.emit_all.ensures.code
+    ∙ ap (λ s. base ++ stmt_code k s) (sym (ap statement c.in-Block.is ∙ block_is c.in-Block.at c.in-Block.row))) c.emit_all.ensures.code
 
 pub emit_stmt-returns-in_ok-begin-in-Block-clause-sites : goal.emit_stmt-returns-in_ok-begin-in-Block-clause-sites
 emit_stmt-returns-in_ok-begin-in-Block-clause-sites t c =
     let sites = c.args.self.now.sites.items in
     on_ok_weaker {P = c.emit_all.new.self.sites.items ≡ sites ++ all_sites (statements c.deref.result.now)} {Q = c.emit_all.new.self.sites.items ≡ sites ++ stmt_sites (statement c.args.s.now)} c.emit_all.result (λ e. e
     ∙ ap (λ row. sites ++ all_sites (statements row)) c.deref.ensures.value
-    ∙ ap (λ s. sites ++ stmt_sites s) (sym (ap statement c.in-Block.is ∙ block_is c.in-Block.row))) c.emit_all.ensures.sites
+    ∙ ap (λ s. sites ++ stmt_sites s) (sym (ap statement c.in-Block.is ∙ block_is c.in-Block.at c.in-Block.row))) c.emit_all.ensures.sites
 
 pub emit_stmt-returns-in_ok-begin-in-Block-clause-room : goal.emit_stmt-returns-in_ok-begin-in-Block-clause-room
 emit_stmt-returns-in_ok-begin-in-Block-clause-room t c =
     let room = c.args.self.now.room in
     on_ok_weaker {P = c.emit_all.new.self.room ≡ max room (deepest_of_all (statements c.deref.result.now))} {Q = c.emit_all.new.self.room ≡ max room (deepest (statement c.args.s.now))} c.emit_all.result (λ e. e
     ∙ ap (λ row. max room (deepest_of_all (statements row))) c.deref.ensures.value
-    ∙ ap (λ s. max room (deepest s)) (sym (ap statement c.in-Block.is ∙ block_is c.in-Block.row))) c.emit_all.ensures.room
+    ∙ ap (λ s. max room (deepest s)) (sym (ap statement c.in-Block.is ∙ block_is c.in-Block.at c.in-Block.row))) c.emit_all.ensures.room
 
 pub emit_stmt-returns-in_ok-emit_stmt-in-If-clause-code : goal.emit_stmt-returns-in_ok-emit_stmt-in-If-clause-code
 emit_stmt-returns-in_ok-emit_stmt-in-If-clause-code t c =
@@ -164,9 +164,9 @@ emit_stmt-returns-in_ok-end_turn-in-For-clause-code t c =
     let test = optional c.in-For.test in
     let s1 = c.emit_all-in-For.new.self.sites.items in
     let s2 = c.emit_stmt-in-For.new.self.sites.items in
-    patch_for test base (all_code (length sites) (statements row)) (stmt_code (length s1) (statement body)) (all_code (length s2) (statements step)) _ _ _ _ _ _ _ c.in_ok-begin-in-For.ensures c.in_ok-emit_all-in-For.ensures.code c.in_ok-emit_test-in-For.ensures.code (c.len-start.ensures ∙ c.emit_test.new.code.ok.0) c.in_ok-emit_stmt-in-For.ensures.code c.in_ok-emit_all-in-For-2.ensures.code c.in_ok-end_turn-in-For.ensures.code
+    patch_for test base (all_code (length sites) (statements row)) (stmt_code (length s1) (statement body)) (all_code (length s2) (statements step)) _ _ _ _ _ _ _ c.in_ok-begin-in-For.ensures c.in_ok-emit_all-in-For.ensures.code c.in_ok-emit_test-in-For.ensures.code c.len-start.ensures c.in_ok-emit_stmt-in-For.ensures.code c.in_ok-emit_all-in-For-2.ensures.code c.in_ok-end_turn-in-For.ensures.code
     ∙ ap (λ l. base ++ l) (for_code sites s1 s2 (statements row) (statements step) test (statement body) c.in_ok-emit_all-in-For.ensures.sites c.in_ok-emit_stmt-in-For.ensures.sites)
-    ∙ ap (λ s. base ++ stmt_code (length sites) s) (sym (meant c.args.s.now c.in-For.beginning c.in-For.step c.in-For.test c.in-For.body row step body c.in-For.is c.deref-in-For.ensures.value c.deref-in-For-3.ensures.value c.deref-in-For-2.ensures))
+    ∙ ap (λ s. base ++ stmt_code (length sites) s) (sym (meant _ c.args.s.now c.in-For.beginning c.in-For.step c.in-For.test c.in-For.body row step body c.in-For.is c.deref-in-For.ensures.value c.deref-in-For-3.ensures.value c.deref-in-For-2.ensures))
 
 pub emit_stmt-returns-in_ok-end_turn-in-For-clause-sites : goal.emit_stmt-returns-in_ok-end_turn-in-For-clause-sites
 emit_stmt-returns-in_ok-end_turn-in-For-clause-sites t c =
@@ -175,12 +175,12 @@ emit_stmt-returns-in_ok-end_turn-in-For-clause-sites t c =
     let body = c.deref-in-For-2.result.now in
     let step = c.deref-in-For-3.result.now in
     three_sites sites c.emit_all-in-For.new.self.sites.items c.emit_stmt-in-For.new.self.sites.items _ (all_sites (statements row)) (stmt_sites (statement body)) (all_sites (statements step)) c.in_ok-emit_all-in-For.ensures.sites c.in_ok-emit_stmt-in-For.ensures.sites c.in_ok-emit_all-in-For-2.ensures.sites
-    ∙ ap (λ s. sites ++ stmt_sites s) (sym (meant c.args.s.now c.in-For.beginning c.in-For.step c.in-For.test c.in-For.body row step body c.in-For.is c.deref-in-For.ensures.value c.deref-in-For-3.ensures.value c.deref-in-For-2.ensures))
+    ∙ ap (λ s. sites ++ stmt_sites s) (sym (meant _ c.args.s.now c.in-For.beginning c.in-For.step c.in-For.test c.in-For.body row step body c.in-For.is c.deref-in-For.ensures.value c.deref-in-For-3.ensures.value c.deref-in-For-2.ensures))
 
 pub emit_stmt-returns-in_ok-end_turn-in-For-clause-room : goal.emit_stmt-returns-in_ok-end_turn-in-For-clause-room
 emit_stmt-returns-in_ok-end_turn-in-For-clause-room t c =
     let row = c.deref-in-For.result.now in
     let body = c.deref-in-For-2.result.now in
     let step = c.deref-in-For-3.result.now in
-    let room = ap deepest (meant c.args.s.now c.in-For.beginning c.in-For.step c.in-For.test c.in-For.body row step body c.in-For.is c.deref-in-For.ensures.value c.deref-in-For-3.ensures.value c.deref-in-For-2.ensures) in
+    let room = ap deepest (meant _ c.args.s.now c.in-For.beginning c.in-For.step c.in-For.test c.in-For.body row step body c.in-For.is c.deref-in-For.ensures.value c.deref-in-For-3.ensures.value c.deref-in-For-2.ensures) in
     omega (arith, room, c.in_ok-emit_all-in-For.ensures.room, c.in_ok-emit_test-in-For.ensures.room, c.in_ok-emit_stmt-in-For.ensures.room, c.in_ok-emit_all-in-For-2.ensures.room, c.in_ok-end_turn-in-For.ensures.room)
