@@ -30,12 +30,12 @@ row_is : (n : _) (row : Row_of-Stmt n) → row_view row ≡ statements (items-th
 row_is _ end_of-Stmt = refl
 row_is _ (more_of-Stmt s row) = ap (λ x. Then (statement s) x) (row_is _ row)
 
-pub block_is : (v : Vec Stmt Global) → statement (Block v) ≡ trees.Block (statements v.items)
-block_is v =
+pub block_is : (at : ℕ) (v : Vec Stmt Global) → statement (Block at v) ≡ trees.Block (statements v.items)
+block_is at v =
     ap trees.Block (row_is _ (hidden-the_row-Stmt-0 v) ∙ ap statements {x = items-the_row-Stmt _ (hidden-the_row-Stmt-0 v)} {y = v.items} (search (rules, the_lemmas)))
 
-pub spells_block : (v : Vec Stmt Global) (ts ts1 ts2 rest : List Token) → Is kinds.OpenBrace ts ts1 → SpellsAll (statements v.items) ts1 ts2 → Is kinds.CloseBrace ts2 rest → SpellsStmt (statement (Block v)) ts rest
-spells_block v ts ts1 ts2 rest first all close = subst (λ s. SpellsStmt s ts rest) (sym (block_is v)) (ts1, ts2, first, all, close)
+pub spells_block : (at : ℕ) (v : Vec Stmt Global) (ts ts1 ts2 rest : List Token) → Is kinds.OpenBrace ts ts1 → SpellsAll (statements v.items) ts1 ts2 → Is kinds.CloseBrace ts2 rest → SpellsStmt (statement (Block at v)) ts rest
+spells_block at v ts ts1 ts2 rest first all close = subst (λ s. SpellsStmt s ts rest) (sym (block_is at v)) (ts1, ts2, first, all, close)
 
 -- where a statement begins, a list of statements is one statement and more
 with_form : (d : ℕ) (x : Kind) (stack : List Symbol) (n : ℕ) (below below' : After) → begins_statement x ≡ true → chosen (followed (Statements d ∷ []) (move_statement d x)) stack n below ≡ chosen (move_statement d x) (Statements d ∷ stack) n below'
