@@ -1,9 +1,7 @@
-//! A program with its input and the map of its text.
+//! A program with its input and the names in its text.
 
 use crate::fault::CaseFault;
-use crate::items::map_of;
 use crate::map::TextMap;
-use cilk_messages::tokens::Tokens;
 use cilk_names::resolve::resolve;
 use cilk_parser::input::parse_input;
 use cilk_parser::parse::parse;
@@ -11,7 +9,7 @@ use cilk_program::program::Program;
 use cilk_types::input::Input;
 use std::alloc::Global;
 
-/// A program and its input, with the file's name, the program's text and the map of that text.
+/// A program and its input, with the file's name, the program's text and the names in it.
 pub struct Case<'a> {
     pub alloc: Global,
     pub file: &'a str,
@@ -59,7 +57,6 @@ impl<'a> Case<'a> {
 // The program of a text, and its map.
 fn read(alloc: Global, text: &[u8]) -> Result<(Program, TextMap), CaseFault> {
     let tree = parse(alloc, text)?;
-    let tokens = Tokens::new(alloc, text)?;
-    let map = map_of(alloc, &tree, &tokens)?;
+    let map = TextMap::of(alloc, &tree)?;
     Ok((resolve(alloc, &tree)?, map))
 }

@@ -96,12 +96,12 @@ fn push_node(
                 None => &[],
             };
             let strand = say(STRAND).count(number).count(strand).word(name);
-            let strand = strand.count(line_of(scene, event));
+            let strand = strand.count(scene.line(scene.byte_of(event)));
             scene.push(text, &strand.counted(events as usize))
         }
         Node::Series { .. } => write!(text, "  n{number} [shape=diamond, label=\"S\"];\n"),
         Node::Parallel { .. } => {
-            let line = line_of(scene, event.saturating_sub(1));
+            let line = scene.line(scene.byte_of(event.saturating_sub(1)));
             write!(
                 text,
                 "  n{number} [shape=circle, label=\"P\\nline {line}\"];\n"
@@ -111,8 +111,3 @@ fn push_node(
 }
 
 const STRAND: &str = "  n{} [shape=box, label=\"{}: {}, line {}\\n{} event{}\"];\n";
-
-// The line of an event.
-fn line_of(scene: &Scene<'_>, event: usize) -> usize {
-    scene.line(scene.run.replay.place(&scene.case.map, event).unwrap_or(0))
-}

@@ -40,7 +40,7 @@ fn push_fault(
 ) -> Result<(), AllocError> {
     let alloc = scene.case.alloc;
     let number = fault.number();
-    let at = scene.spot(stop.step);
+    let at = stop.step.at;
     let head = say("{}: error {}: {}")
         .with(scene.place(at))
         .count(number as usize);

@@ -3,11 +3,11 @@
 //!
 //! The runtime and the checker know a run by numbers: an event by its position, a cell or frame by
 //! its number. This crate leads back to the text. [`case::Case::of`] reads the program and its
-//! input, and [`items::map_of`] notes for each instruction the byte of the token that it is made
-//! from. [`replay::follow`] then makes the serial run once more, event by event, and notes for each
-//! event its frame and instruction, and for each frame its parent ([`runs::Run::of`] has both).
+//! input, and [`map::TextMap::of`] the names that the text declares. [`replay::follow`] then makes
+//! the serial run once more, event by event, and notes for each event its frame and the byte of the
+//! text that its instruction comes from, and for each frame its parent ([`runs::Run::of`] has both).
 //! Nothing is recorded while a program runs for others, so a run that nobody asks about pays
-//! nothing. Results are meaningful only if tree, tokens, code and events come from the same text.
+//! nothing. Results are meaningful only if tree, code and events come from the same text.
 //! The crate `cilk_races` explains races on top of this one.
 //!
 //! | Call | Result |
@@ -43,7 +43,6 @@ pub mod drawing;
 pub mod fault;
 pub mod faults;
 pub mod further;
-pub mod items;
 pub mod map;
 pub mod partings;
 pub mod paths;
@@ -53,4 +52,3 @@ pub mod runs;
 pub mod scene;
 pub mod shares;
 pub mod totals;
-mod walker;

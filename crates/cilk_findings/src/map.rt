@@ -1,17 +1,15 @@
-//! The names in a text, and the places of its instructions.
+//! The names that a text declares.
 
 use cilk_program::program::Body;
-use cilk_syntax::tree::Name;
-use std::alloc::Global;
+use cilk_syntax::tree::{Beginning, GlobalVariable, Item, Name, Parameter, Stmt, Tree};
+use std::alloc::{AllocError, Global};
 
 /// A function, or the body of a `cilk_for`, whose name is the word `cilk_for`. Holds the names of
-/// its frame's cells and of its own reducers, and for each instruction the byte of its token, in
-/// order.
+/// its frame's cells and of its own reducers, in order.
 pub struct BodyMap {
     pub name: Name,
     pub cells: Vec<Name>,
     pub reducers: Vec<Name>,
-    pub spots: Vec<usize>,
 }
 
 // Written out, so that a proof follows one call where a map is dropped.
@@ -21,19 +19,16 @@ impl Drop for BodyMap {
             name: _name,
             cells: _cells,
             reducers: _reducers,
-            spots: _spots,
         } = self;
     }
 }
 
 impl BodyMap {
-    /// Creates a map that holds only the body's name.
-    pub fn new(alloc: Global, name: Name) -> BodyMap {
+    fn new(alloc: Global, name: Name) -> BodyMap {
         BodyMap {
             name,
             cells: Vec::new(alloc),
             reducers: Vec::new(alloc),
-            spots: Vec::new(alloc),
         }
     }
 }
@@ -67,13 +62,131 @@ impl Drop for TextMap {
 }
 
 impl TextMap {
-    /// Creates a map without names.
-    pub fn new(alloc: Global) -> TextMap {
-        TextMap {
+    /// Maps a text. Functions, loops, cells and reducers have the numbers that `cilk_names` gives
+    /// them.
+    pub fn of(alloc: Global, tree: &Tree) -> Result<TextMap, AllocError> {
+        let mut map = TextMap {
             globals: Vec::new(alloc),
             reducers: Vec::new(alloc),
             functions: Vec::new(alloc),
             loops: Vec::new(alloc),
+        };
+        for item in tree.items.as_slice() {
+            match item {
+                Item::Globals(variables) => map.add_globals(variables)?,
+                Item::Reducer(reducer) => map.reducers.push(reducer.name)?,
+                Item::Function(_, name, parameters, body, _) => {
+                    map.add_function(alloc, *name, parameters, body)?;
+                }
+            }
+        }
+        Ok(map)
+    }
+
+    // Adds the variables of a line.
+    fn add_globals(&mut self, variables: &[GlobalVariable]) -> Result<(), AllocError> {
+        for variable in variables {
+            let (name, length) = match *variable {
+                GlobalVariable::Variable(name, _) => (name, None),
+                GlobalVariable::Array(name, length) => (name, usize::try_from(length).ok()),
+            };
+            let first = match self.globals.last() {
+                Some(last) => last.first.saturating_add(last.length.unwrap_or(1)),
+                None => 0,
+            };
+            self.globals.push(GlobalName {
+                name,
+                first,
+                length,
+            })?;
+        }
+        Ok(())
+    }
+
+    // Adds a function, with the loops in it.
+    fn add_function(
+        &mut self,
+        alloc: Global,
+        name: Name,
+        parameters: &[Parameter],
+        statements: &[Stmt],
+    ) -> Result<(), AllocError> {
+        let body = Body::Function(count_of(self.functions.len()));
+        self.functions.push(BodyMap::new(alloc, name))?;
+        for parameter in parameters {
+            if let Parameter::Variable(name) = parameter {
+                self.add_cell(body, *name)?;
+            }
+        }
+        self.add_all(alloc, body, statements)
+    }
+
+    // Adds what the statements of a body declare.
+    #[cycle(statements)]
+    fn add_all(&mut self, alloc: Global, body: Body, list: &[Stmt]) -> Result<(), AllocError> {
+        for statement in list {
+            self.add(alloc, body, statement)?;
+        }
+        Ok(())
+    }
+
+    // Adds what a statement of a body declares. That of a `cilk_for` is of a body of its own.
+    #[cycle(statements)]
+    fn add(&mut self, alloc: Global, body: Body, statement: &Stmt) -> Result<(), AllocError> {
+        match statement {
+            Stmt::Block(_, list) => self.add_all(alloc, body, list),
+            Stmt::Declare(locals) => {
+                for local in locals {
+                    self.add_cell(body, local.name)?;
+                }
+                Ok(())
+            }
+            Stmt::Reducer(reducer) => {
+                if let Some(map) = self.body_mut(body) {
+                    map.reducers.push(reducer.name)?;
+                }
+                Ok(())
+            }
+            Stmt::If(_, _, inner) => self.add(alloc, body, inner),
+            Stmt::IfElse(_, _, inner, other) => {
+                self.add(alloc, body, inner)?;
+                self.add(alloc, body, other)
+            }
+            Stmt::While(_, _, inner) => self.add(alloc, body, inner),
+            Stmt::For(_, beginning, _, _, inner) => {
+                if let Some(Beginning::Declares(name, _)) = beginning {
+                    self.add_cell(body, *name)?;
+                }
+                self.add(alloc, body, inner)
+            }
+            Stmt::ParallelFor(at, bounds, inner) => {
+                let turn = self.add_loop(alloc, *at, bounds.variable)?;
+                self.add(alloc, turn, inner)
+            }
+            _ => Ok(()),
+        }
+    }
+
+    // Adds a loop, whose word is at byte `at`.
+    fn add_loop(&mut self, alloc: Global, at: usize, variable: Name) -> Result<Body, AllocError> {
+        let body = Body::Loop(count_of(self.loops.len()));
+        let end = at.saturating_add(8);
+        self.loops.push(BodyMap::new(alloc, Name { at, end }))?;
+        self.add_cell(body, variable)?;
+        Ok(body)
+    }
+
+    fn add_cell(&mut self, body: Body, name: Name) -> Result<(), AllocError> {
+        if let Some(map) = self.body_mut(body) {
+            map.cells.push(name)?;
+        }
+        Ok(())
+    }
+
+    fn body_mut(&mut self, body: Body) -> Option<&mut BodyMap> {
+        match body {
+            Body::Function(number) => self.functions.get_mut(number as usize),
+            Body::Loop(number) => self.loops.get_mut(number as usize),
         }
     }
 
@@ -82,14 +195,6 @@ impl TextMap {
         match body {
             Body::Function(number) => self.functions.get(number as usize),
             Body::Loop(number) => self.loops.get(number as usize),
-        }
-    }
-
-    /// Returns the map of a body for changes, if the text has that body.
-    pub fn body_mut(&mut self, body: Body) -> Option<&mut BodyMap> {
-        match body {
-            Body::Function(number) => self.functions.get_mut(number as usize),
-            Body::Loop(number) => self.loops.get_mut(number as usize),
         }
     }
 
@@ -113,4 +218,9 @@ impl TextMap {
         }
         None
     }
+}
+
+// The number of a body. A text has no more than fit.
+fn count_of(number: usize) -> u32 {
+    u32::try_from(number).unwrap_or(u32::MAX)
 }

@@ -136,10 +136,7 @@ impl<'a> Scene<'a> {
             self.push(report, &self.turn(frame))?;
             report.push_str(" of ")?;
         }
-        let at = match self.case.map.body(note.body) {
-            Some(map) => map.name.at,
-            None => 0,
-        };
+        let at = self.named_at(note.body);
         self.push(report, &say("the `cilk_for` at {}").with(self.place(at)))
     }
 

@@ -70,9 +70,8 @@ fn loop_at(scene: &Scene<'_>, step: StepNote) -> Option<usize> {
     if scene.halves(step.frame) {
         return own;
     }
-    let at = scene.spot(step);
     for (number, map) in scene.case.map.loops.iter().enumerate() {
-        if map.name.at == at {
+        if map.name.at == step.at {
             return Some(number);
         }
     }

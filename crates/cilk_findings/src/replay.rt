@@ -10,7 +10,9 @@ use cilk_frames::operands::LastOperands;
 use cilk_lower::code::{Code, Instr};
 use cilk_program::ask::Callee;
 use cilk_program::program::{Body, Program};
+use cilk_program::syntax::ReducerPlace;
 use cilk_serial::serial_run::{Next, SerialRun};
+use cilk_syntax::tree::Name;
 use cilk_types::event::Event;
 use cilk_types::fault::Fault;
 use cilk_types::input::Input;
@@ -18,7 +20,7 @@ use cilk_types::invocation::Invocation;
 use cilk_types::trace::Trace;
 use std::alloc::{AllocError, Global};
 
-/// A frame of the run. Frames, events and instructions count from 0 here.
+/// A frame of the run. Frames and events count from 0 here.
 #[derive(Clone, Copy)]
 pub struct FrameNote {
     /// The body that it runs. The turns of a loop are from `low` up to but without `high`.
@@ -26,10 +28,10 @@ pub struct FrameNote {
     pub low: i64,
     pub high: i64,
     pub how: Invocation,
-    /// The frame that invoked it, with the instruction and the event of the invocation. The first
-    /// frame is its own parent.
+    /// The frame that invoked it, with the byte of the text and the event of the invocation. The
+    /// first frame is its own parent.
     pub parent: usize,
-    pub instruction: usize,
+    pub at: usize,
     pub begun: usize,
     /// Its last event, once that is made.
     pub ended: Option<usize>,
@@ -44,17 +46,17 @@ pub const NO_FRAME: FrameNote = FrameNote {
     high: 0,
     how: Invocation::Call,
     parent: 0,
-    instruction: 0,
+    at: 0,
     begun: 0,
     ended: None,
     cell: 0,
 };
 
-/// The frame and the instruction of an event.
+/// The frame of an event, and the byte of the text that it comes from.
 #[derive(Clone, Copy)]
 pub struct StepNote {
     pub frame: usize,
-    pub instruction: usize,
+    pub at: usize,
 }
 
 /// The step at which a run stops without an end, and the last two operands there.
@@ -86,17 +88,19 @@ impl Drop for Replay {
     }
 }
 
-/// Makes the serial run of a program, and notes its frames and the instruction of each event.
+/// Makes the serial run of a program, and notes its frames and the place of each event. The map has
+/// to be that of the program's text.
 pub fn follow(
     alloc: Global,
     program: &Program,
     code: &Code,
     input: &Input,
+    map: &TextMap,
 ) -> Result<(Trace, Option<Fault>, Replay), AllocError>
     requires { Behaves (source program.now) code.now }
 {
     let mut serial = SerialRun::new(alloc, program, code, input)?;
-    let mut notes = Notes::new(alloc, program, code)?;
+    let mut notes = Notes::new(alloc, program, code, map)?;
     let (fault, stop) = notes.follow(&mut serial)?;
     let replay = notes.into_replay(serial.ticks(), stop);
     Ok((serial.into_trace(), fault, replay))
@@ -107,6 +111,7 @@ pub fn follow(
 struct Notes<'a> {
     program: &'a Program,
     code: &'a Code,
+    map: &'a TextMap,
     frames: Vec<FrameNote>,
     steps: Vec<StepNote>,
     open: Vec<usize>,
@@ -118,6 +123,7 @@ impl Drop for Notes<'_> {
         let Notes {
             program: _program,
             code: _code,
+            map: _map,
             frames: _frames,
             steps: _steps,
             open: _open,
@@ -128,19 +134,22 @@ impl Drop for Notes<'_> {
 
 impl<'a> Notes<'a> {
     // The first frame is noted, before its first event.
-    fn new(alloc: Global, program: &'a Program, code: &'a Code) -> Result<Notes<'a>, AllocError> {
+    fn new(
+        alloc: Global,
+        program: &'a Program,
+        code: &'a Code,
+        map: &'a TextMap,
+    ) -> Result<Notes<'a>, AllocError> {
         let mut notes = Notes {
             program,
             code,
+            map,
             frames: Vec::new(alloc),
             steps: Vec::new(alloc),
             open: Vec::new(alloc),
             cells: program.globals.len(),
         };
-        let first = StepNote {
-            frame: 0,
-            instruction: 0,
-        };
+        let first = StepNote { frame: 0, at: 0 };
         notes.begin(
             Body::Function(program.main),
             (0, 0),
@@ -176,13 +185,25 @@ impl<'a> Notes<'a> {
     // The step of an instruction of the current frame, by its place in the code.
     fn step(&self, place: usize) -> StepNote {
         let frame = self.open.last().copied().unwrap_or(0);
-        let first = match self.frames.get(frame) {
-            Some(note) => first_of(self.code, note.body),
-            None => 0,
+        let at = match self.declared_by(frame, place) {
+            Some(name) => name.at,
+            None => self.code.origin(place),
         };
-        StepNote {
-            frame,
-            instruction: place.saturating_sub(first),
+        StepNote { frame, at }
+    }
+
+    // The parameter or reducer whose instruction is at a place.
+    fn declared_by(&self, frame: usize, place: usize) -> Option<Name> {
+        let note = self.frames.get(frame)?;
+        let map: &BodyMap = self.map.body(note.body)?;
+        match self.code.instrs().get(place)? {
+            Instr::Word(number) => map.cells.get(*number as usize).copied(),
+            Instr::Create(reducer) => match reducer.place {
+                ReducerPlace::Global(number) => self.map.reducers.get(number as usize).copied(),
+                ReducerPlace::Own(_, number) => map.reducers.get(number as usize).copied(),
+                ReducerPlace::Given(_, _) => None,
+            },
+            _ => None,
         }
     }
 
@@ -243,7 +264,7 @@ impl<'a> Notes<'a> {
             high: turns.1,
             how,
             parent: step.frame,
-            instruction: step.instruction,
+            at: step.at,
             begun: self.steps.len().saturating_sub(1),
             ended: None,
             cell: self.cells,
@@ -289,6 +310,7 @@ impl<'a> Notes<'a> {
         let Notes {
             program: _program,
             code: _code,
+            map: _map,
             frames,
             steps,
             open: _open,
@@ -303,28 +325,7 @@ impl<'a> Notes<'a> {
     }
 }
 
-/// Returns the place of a body's first instruction.
-pub fn first_of(code: &Code, body: Body) -> usize {
-    match body {
-        Body::Function(number) => code.function_entry(number).place,
-        Body::Loop(number) => code.loop_entry(number).place,
-    }
-}
-
 impl Replay {
-    /// Returns the byte of the text from which a step's instruction comes.
-    pub fn spot(&self, map: &TextMap, step: StepNote) -> Option<usize> {
-        let frame = self.frames.get(step.frame)?;
-        let body: &BodyMap = map.body(frame.body)?;
-        body.spots.get(step.instruction).copied()
-    }
-
-    /// Returns the byte of the text from which an event comes.
-    pub fn place(&self, map: &TextMap, event: usize) -> Option<usize> {
-        let step = self.steps.get(event)?;
-        self.spot(map, *step)
-    }
-
     /// Returns the frame that has a cell, and the cell's number within that frame.
     pub fn owner(&self, cell: usize) -> Option<(usize, usize)> {
         let mut found = None;

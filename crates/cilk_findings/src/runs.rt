@@ -2,8 +2,8 @@
 
 use crate::case::Case;
 use crate::fault::CaseFault;
-use crate::replay::{Replay, first_of, follow};
-use cilk_lower::code::{Code, Instr};
+use crate::replay::{Replay, follow};
+use cilk_lower::code::Code;
 use cilk_lower::lower::lower;
 use cilk_types::event::Event;
 use cilk_types::fault::Fault;
@@ -11,7 +11,7 @@ use cilk_types::trace::Trace;
 
 /// A run: its code, its events, the fault that stops it, if any, and its notes.
 pub struct Run {
-    code: Code,
+    pub code: Code,
     pub trace: Trace,
     pub fault: Option<Fault>,
     pub replay: Replay,
@@ -33,7 +33,13 @@ impl Run {
     /// Makes the serial run of a case and its notes.
     pub fn of(case: &Case<'_>) -> Result<Run, CaseFault> {
         let code = lower(case.alloc, &case.program)?;
-        let (trace, fault, replay) = follow(case.alloc, &case.program, &code, &case.input)?;
+        let (trace, fault, replay) = follow(
+            case.alloc,
+            &case.program,
+            &code,
+            &case.input,
+            &case.map,
+        )?;
         Ok(Run {
             code,
             trace,
@@ -42,16 +48,14 @@ impl Run {
         })
     }
 
-    /// Returns whether an event, counted from 0, is a child's result.
+    /// Returns whether an event, counted from 0, is a child's result: the write right ahead of its
+    /// end.
     pub fn gives_result(&self, index: usize) -> bool {
-        let Some(step) = self.replay.steps.get(index) else {
-            return false;
-        };
-        let Some(note) = self.replay.frames.get(step.frame) else {
-            return false;
-        };
-        let place = first_of(&self.code, note.body).saturating_add(step.instruction);
-        matches!(self.code.instrs().get(place), Some(Instr::GiveResult))
+        let next = self.event(index.saturating_add(1));
+        matches!(
+            (self.event(index), next),
+            (Some(Event::Write { .. }), Some(Event::End))
+        )
     }
 
     /// Returns an event, counted from 0.

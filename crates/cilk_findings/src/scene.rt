@@ -2,7 +2,7 @@
 
 use crate::case::Case;
 use crate::map::{BodyMap, GlobalName};
-use crate::replay::{FrameNote, NO_FRAME, StepNote};
+use crate::replay::{FrameNote, NO_FRAME};
 use crate::runs::Run;
 use cilk_messages::excerpt::push_excerpt;
 use cilk_messages::place::locate;
@@ -34,24 +34,24 @@ impl<'a> Scene<'a> {
 
     /// Returns the byte of an event. Of a child's result it is the place that invokes the child.
     pub fn byte_of(&self, index: usize) -> usize {
-        match self.frame_of(index) {
-            Some(frame) if self.run.gives_result(index) => self.invoked_at(frame),
-            _ => self.run.replay.place(&self.case.map, index).unwrap_or(0),
+        match self.run.replay.steps.get(index) {
+            Some(step) if self.run.gives_result(index) => self.invoked_at(step.frame),
+            Some(step) => step.at,
+            None => 0,
         }
-    }
-
-    /// Returns the byte of the text from which a step's instruction comes.
-    pub fn spot(&self, step: StepNote) -> usize {
-        self.run.replay.spot(&self.case.map, step).unwrap_or(0)
     }
 
     /// Returns the byte of the text at which a frame is invoked.
     pub fn invoked_at(&self, frame: usize) -> usize {
-        let note = self.note(frame);
-        self.spot(StepNote {
-            frame: note.parent,
-            instruction: note.instruction,
-        })
+        self.note(frame).at
+    }
+
+    /// Returns the byte of the text at which a body has its name.
+    pub fn named_at(&self, body: Body) -> usize {
+        match self.case.map.body(body) {
+            Some(map) => map.name.at,
+            None => 0,
+        }
     }
 
     /// Ends a line about a byte of the text, and adds an excerpt of the text there.

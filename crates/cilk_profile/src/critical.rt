@@ -3,7 +3,7 @@
 use crate::rows::{Table, push_cells, title_at};
 use cilk_findings::case::Case;
 use cilk_findings::critical::critical_path;
-use cilk_findings::replay::{FrameNote, StepNote};
+use cilk_findings::replay::FrameNote;
 use cilk_findings::scene::Scene;
 use cilk_messages::sentence::{printed, say};
 use cilk_program::program::Body;
@@ -137,8 +137,9 @@ impl Critical<'_> {
         let Scene { case, run } = self.table.scene;
         self.counts.resize(case.text.len(), 0)?;
         for event in &self.path {
-            let at = run.replay.place(&case.map, *event).unwrap_or(0);
-            if let Some(count) = self.counts.get_mut(at) {
+            if let Some(step) = run.replay.steps.get(*event)
+                && let Some(count) = self.counts.get_mut(step.at)
+            {
                 *count = count.saturating_add(1);
             }
         }
@@ -277,17 +278,8 @@ fn counted(site: Option<Site>, note: &FrameNote, at: usize, ahead: &[u64]) -> Si
 // The byte of the text at which a frame is spawned, or of the `cilk_for` that it runs turns of.
 fn site_at(scene: &Scene<'_>, note: &FrameNote) -> Option<usize> {
     match (note.body, note.how) {
-        (Body::Loop(_), _) => {
-            let map = scene.case.map.body(note.body)?;
-            Some(map.name.at)
-        }
-        (Body::Function(_), Invocation::Spawn) => {
-            let step = StepNote {
-                frame: note.parent,
-                instruction: note.instruction,
-            };
-            scene.run.replay.spot(&scene.case.map, step)
-        }
+        (Body::Loop(_), _) => Some(scene.named_at(note.body)),
+        (Body::Function(_), Invocation::Spawn) => Some(note.at),
         (Body::Function(_), Invocation::Call) => None,
     }
 }

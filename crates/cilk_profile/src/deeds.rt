@@ -352,7 +352,7 @@ impl<'a> Deeds<'a> {
 
     // The byte of an event of the serial run.
     fn byte_of(&self, made: Option<usize>) -> Option<usize> {
-        self.scene.run.replay.place(&self.scene.case.map, made?)
+        Some(self.scene.run.replay.steps.get(made?)?.at)
     }
 
     /// Adds a line for each deed.

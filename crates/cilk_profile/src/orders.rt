@@ -108,7 +108,7 @@ fn sync_behind(scene: &Scene<'_>, parent: usize, child: usize) -> Option<usize> 
     let events = scene.run.trace.as_slice().iter().enumerate();
     for (index, event) in events.skip(ended) {
         if matches!(event, Event::Sync) && scene.frame_of(index) == Some(parent) {
-            return scene.run.replay.place(&scene.case.map, index);
+            return Some(scene.byte_of(index));
         }
     }
     None

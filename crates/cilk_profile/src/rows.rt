@@ -163,10 +163,7 @@ fn title_of<'a>(scene: &Scene<'a>, place: usize) -> Sentence<'a> {
         return say("{}").word(scene.body_name(function));
     };
     let body = Body::Loop(u32::try_from(number).unwrap_or(0));
-    match scene.case.map.body(body) {
-        Some(map) => title_at(scene, body, map.name.at),
-        None => title_at(scene, body, 0),
-    }
+    title_at(scene, body, scene.named_at(body))
 }
 
 /// Returns the name of a body with a place.

@@ -9,7 +9,6 @@ use cilk_findings::case::Case;
 use cilk_findings::fault::CaseFault;
 use cilk_findings::runs::Run;
 use cilk_findings::scene::Scene;
-use cilk_lower::lower::lower;
 use cilk_messages::words::Origin;
 use cilk_parser::script::{ScriptFault, Step, read};
 use cilk_parser::script_choices::{Choices, Next};
@@ -96,33 +95,24 @@ fn push_steps(
     Ok(())
 }
 
+// Makes the choices of a script, from the run's beginning, and tells what comes of them.
 fn push_run(
     report: &mut String,
     scene: Scene<'_>,
     workers: u32,
     steps: &[Step],
 ) -> Result<(), AllocError> {
-    let mut deeds = Deeds::new(scene.case.alloc, scene, workers)?;
-    follow(scene.case, workers, steps, &mut deeds)?;
-    deeds.push(report)
-}
-
-// Makes the choices of a script, from the run's beginning, and notes what comes of them.
-fn follow(
-    case: &Case<'_>,
-    workers: u32,
-    steps: &[Step],
-    deeds: &mut Deeds<'_>,
-) -> Result<(), AllocError> {
-    let code = lower(case.alloc, &case.program)?;
-    let mut machine = Machine::new(case.alloc, &code, &case.input, workers)?;
+    let Scene { case, run } = scene;
+    let mut deeds = Deeds::new(case.alloc, scene, workers)?;
+    let mut machine = Machine::new(case.alloc, &run.code, &case.input, workers)?;
     let mut left = Left {
         choices: Choices::new(steps),
         workers,
         rounds: 0,
         worker: 0,
     };
-    follow_on(case.alloc, &mut machine, &mut left, deeds)
+    follow_on(case.alloc, &mut machine, &mut left, &mut deeds)?;
+    deeds.push(report)
 }
 
 fn follow_on(

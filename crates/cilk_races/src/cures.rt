@@ -250,11 +250,7 @@ impl<'a, 't> Site<'a, 't> {
     // The token of the loop whose turns race.
     fn loop_token(&self) -> usize {
         let body = self.scene.note(self.pair.child).body;
-        let at = match self.scene.case.map.body(body) {
-            Some(map) => map.name.at,
-            None => 0,
-        };
-        self.tokens.number_at(at)
+        self.tokens.number_at(self.scene.named_at(body))
     }
 }
 
