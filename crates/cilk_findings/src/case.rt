@@ -42,7 +42,9 @@ impl<'a> Case<'a> {
         input: &[u8],
     ) -> Result<Case<'a>, CaseFault> {
         let input = parse_input(alloc, input)?;
-        let (program, map) = read(alloc, text)?;
+        let tree = parse(alloc, text)?;
+        let map = TextMap::of(alloc, &tree)?;
+        let program = resolve(alloc, &tree)?;
         Ok(Case {
             alloc,
             file,
@@ -52,11 +54,4 @@ impl<'a> Case<'a> {
             map,
         })
     }
-}
-
-// The program of a text, and its map.
-fn read(alloc: Global, text: &[u8]) -> Result<(Program, TextMap), CaseFault> {
-    let tree = parse(alloc, text)?;
-    let map = TextMap::of(alloc, &tree)?;
-    Ok((resolve(alloc, &tree)?, map))
 }

@@ -102,7 +102,7 @@ impl<'a> Scene<'a> {
     fn are_alike(&self, one: usize, other: usize) -> bool {
         other != 0
             && self.note(one).body == self.note(other).body
-            && self.invoked_at(one) == self.invoked_at(other)
+            && self.note(one).invoked_at == self.note(other).invoked_at
     }
 
     fn push_row(&self, report: &mut String, row: &Row) -> Result<(), AllocError> {
@@ -119,7 +119,10 @@ impl<'a> Scene<'a> {
             (Body::Function(_), Invocation::Spawn) if first > 0 => ", spawned at {}",
             _ => "",
         };
-        self.push(report, &say(words).with(self.place(self.invoked_at(first))))?;
+        self.push(
+            report,
+            &say(words).with(self.place(self.note(first).invoked_at)),
+        )?;
         if count > 1 {
             self.push(report, &say(" ({} times)").count(count))?;
         }

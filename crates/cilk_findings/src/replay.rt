@@ -8,10 +8,9 @@ ghost use Rattle.std.specs.Prelude.{OnOk};
 use crate::map::{BodyMap, TextMap};
 use cilk_frames::operands::LastOperands;
 use cilk_lower::code::{Code, Instr};
-use cilk_program::ask::Callee;
 use cilk_program::program::{Body, Program};
 use cilk_program::syntax::ReducerPlace;
-use cilk_serial::serial_run::{Next, SerialRun};
+use cilk_serial::serial_run::{Next, SerialRun, Target};
 use cilk_syntax::tree::Name;
 use cilk_types::event::Event;
 use cilk_types::fault::Fault;
@@ -31,7 +30,7 @@ pub struct FrameNote {
     /// The frame that invoked it, with the byte of the text and the event of the invocation. The
     /// first frame is its own parent.
     pub parent: usize,
-    pub at: usize,
+    pub invoked_at: usize,
     pub begun: usize,
     /// Its last event, once that is made.
     pub ended: Option<usize>,
@@ -46,7 +45,7 @@ pub const NO_FRAME: FrameNote = FrameNote {
     high: 0,
     how: Invocation::Call,
     parent: 0,
-    at: 0,
+    invoked_at: 0,
     begun: 0,
     ended: None,
     cell: 0,
@@ -101,32 +100,33 @@ pub fn follow(
 {
     let mut serial = SerialRun::new(alloc, program, code, input)?;
     let mut notes = Notes::new(alloc, program, code, map)?;
-    let (fault, stop) = notes.follow(&mut serial)?;
-    let replay = notes.into_replay(serial.ticks(), stop);
+    let fault = notes.follow(&mut serial)?;
+    let Notes {
+        code: _,
+        map: _,
+        replay,
+        frame: _,
+        cells: _,
+    } = notes;
     Ok((serial.into_trace(), fault, replay))
 }
 
-/// The notes so far, the frames that have begun and not ended, the innermost last, and the cells of
-/// all frames so far.
+/// The notes so far, the frame of the next event, and the cells of all frames so far.
 struct Notes<'a> {
-    program: &'a Program,
     code: &'a Code,
     map: &'a TextMap,
-    frames: Vec<FrameNote>,
-    steps: Vec<StepNote>,
-    open: Vec<usize>,
+    replay: Replay,
+    frame: usize,
     cells: usize,
 }
 
 impl Drop for Notes<'_> {
     fn drop(self) {
         let Notes {
-            program: _program,
             code: _code,
             map: _map,
-            frames: _frames,
-            steps: _steps,
-            open: _open,
+            replay: _replay,
+            frame: _frame,
             cells: _cells,
         } = self;
     }
@@ -136,45 +136,44 @@ impl<'a> Notes<'a> {
     // The first frame is noted, before its first event.
     fn new(
         alloc: Global,
-        program: &'a Program,
+        program: &Program,
         code: &'a Code,
         map: &'a TextMap,
     ) -> Result<Notes<'a>, AllocError> {
         let mut notes = Notes {
-            program,
             code,
             map,
-            frames: Vec::new(alloc),
-            steps: Vec::new(alloc),
-            open: Vec::new(alloc),
+            replay: Replay {
+                frames: Vec::new(alloc),
+                steps: Vec::new(alloc),
+                ticks: 0,
+                stop: None,
+            },
+            frame: 0,
             cells: program.globals.len(),
         };
         let first = StepNote { frame: 0, at: 0 };
-        notes.begin(
-            Body::Function(program.main),
-            (0, 0),
-            Invocation::Call,
-            first,
-        )?;
+        notes.begin(Target::Function(program.main), Invocation::Call, first)?;
         Ok(notes)
     }
 
-    // Makes all events of a run. Returns the fault that stops it, if any, and where.
-    fn follow(
-        &mut self,
-        serial: &mut SerialRun<'_>,
-    ) -> Result<(Option<Fault>, Option<StopNote>), AllocError>
+    // Makes all events of a run. Returns the fault that stops it, if any.
+    fn follow(&mut self, serial: &mut SerialRun<'_>) -> Result<Option<Fault>, AllocError>
         ensures { OnOk result (IsIntact serial.new.stage) }
     {
         for _step in 0..u64::MAX {
-            let callee = serial.callee();
+            let target = serial.target();
             let place = serial.place();
             match serial.next()? {
-                Next::Made(event) => self.meet(event, place, &callee)?,
-                Next::Ended => return Ok((None, None)),
+                Next::Made(event) => self.meet(event, place, target)?,
+                Next::Ended => {
+                    self.replay.ticks = serial.ticks();
+                    return Ok(None);
+                }
                 Next::Stops(fault) => {
-                    let stop = self.stop(place, serial.last_operands());
-                    return Ok((Some(fault), Some(stop)));
+                    self.replay.ticks = serial.ticks();
+                    self.replay.stop = Some(self.stop(place, serial.last_operands()));
+                    return Ok(Some(fault));
                 }
             }
         }
@@ -184,17 +183,19 @@ impl<'a> Notes<'a> {
 
     // The step of an instruction of the current frame, by its place in the code.
     fn step(&self, place: usize) -> StepNote {
-        let frame = self.open.last().copied().unwrap_or(0);
-        let at = match self.declared_by(frame, place) {
+        let at = match self.declared_by(place) {
             Some(name) => name.at,
             None => self.code.origin(place),
         };
-        StepNote { frame, at }
+        StepNote {
+            frame: self.frame,
+            at,
+        }
     }
 
     // The parameter or reducer whose instruction is at a place.
-    fn declared_by(&self, frame: usize, place: usize) -> Option<Name> {
-        let note = self.frames.get(frame)?;
+    fn declared_by(&self, place: usize) -> Option<Name> {
+        let note = self.replay.frames.get(self.frame)?;
         let map: &BodyMap = self.map.body(note.body)?;
         match self.code.instrs().get(place)? {
             Instr::Word(number) => map.cells.get(*number as usize).copied(),
@@ -207,86 +208,54 @@ impl<'a> Notes<'a> {
         }
     }
 
-    // Notes an event, with the place of its instruction and the callee of the frame that it begins.
+    // Notes an event, with the place of its instruction and what the frame that it begins runs.
     fn meet(
         &mut self,
         event: Event,
         place: usize,
-        callee: &Option<Callee>,
+        target: Option<Target>,
     ) -> Result<(), AllocError> {
         let step = self.step(place);
-        let at = self.steps.len();
-        self.steps.push(step)?;
-        match event {
-            Event::Call { .. } => self.invoke(callee, Invocation::Call, step),
-            Event::Spawn { .. } => self.invoke(callee, Invocation::Spawn, step),
-            Event::End => {
-                if let Some(note) = self.frames.get_mut(step.frame) {
-                    note.ended = Some(at);
+        let number = self.replay.steps.len();
+        self.replay.steps.push(step)?;
+        match (event, target) {
+            (Event::Call { .. }, Some(target)) => self.begin(target, Invocation::Call, step),
+            (Event::Spawn { .. }, Some(target)) => self.begin(target, Invocation::Spawn, step),
+            (Event::End, _) => {
+                if let Some(note) = self.replay.frames.get_mut(step.frame) {
+                    note.ended = Some(number);
+                    self.frame = note.parent;
                 }
-                self.open.pop();
                 Ok(())
             }
             _ => Ok(()),
         }
     }
 
-    // Notes the frame of a callee.
-    fn invoke(
-        &mut self,
-        callee: &Option<Callee>,
-        how: Invocation,
-        step: StepNote,
-    ) -> Result<(), AllocError> {
-        match callee {
-            Some(Callee::Function(call)) => {
-                self.begin(Body::Function(call.function), (0, 0), how, step)
-            }
-            Some(Callee::Loop(part)) => {
-                self.begin(Body::Loop(part.number), (part.low, part.high), how, step)
-            }
-            _ => Ok(()),
-        }
-    }
-
-    // Notes a frame that was invoked at this step.
-    fn begin(
-        &mut self,
-        body: Body,
-        turns: (i64, i64),
-        how: Invocation,
-        step: StepNote,
-    ) -> Result<(), AllocError> {
-        let number = self.frames.len();
-        self.frames.push(FrameNote {
+    // Notes a frame that was invoked at this step. One of several turns of a loop has no cells.
+    fn begin(&mut self, target: Target, how: Invocation, step: StepNote) -> Result<(), AllocError> {
+        let (body, low, high) = match target {
+            Target::Function(number) => (Body::Function(number), 0, 0),
+            Target::Loop(part) => (Body::Loop(part.number), part.low, part.high),
+        };
+        let cells = match self.map.body(body) {
+            Some(map) if low.saturating_add(1) >= high => map.cells.len(),
+            _ => 0,
+        };
+        self.frame = self.replay.frames.len();
+        self.replay.frames.push(FrameNote {
             body,
-            low: turns.0,
-            high: turns.1,
+            low,
+            high,
             how,
             parent: step.frame,
-            at: step.at,
-            begun: self.steps.len().saturating_sub(1),
+            invoked_at: step.at,
+            begun: self.replay.steps.len().saturating_sub(1),
             ended: None,
             cell: self.cells,
         })?;
-        self.cells = self.cells.saturating_add(self.cells_of(body, turns));
-        self.open.push(number)?;
+        self.cells = self.cells.saturating_add(cells);
         Ok(())
-    }
-
-    // How many cells a frame has. One of several turns of a loop has none.
-    fn cells_of(&self, body: Body, turns: (i64, i64)) -> usize {
-        let cells = match body {
-            Body::Function(number) => match self.program.functions.get(number as usize) {
-                Some(function) => function.cells,
-                None => 0,
-            },
-            Body::Loop(number) => match self.program.loops.get(number as usize) {
-                Some(one) if turns.0.saturating_add(1) >= turns.1 => one.cells,
-                _ => 0,
-            },
-        };
-        cells as usize
     }
 
     // The step at which the run stops, and the operands that cause it.
@@ -303,24 +272,6 @@ impl<'a> Notes<'a> {
             step: self.step(place),
             left,
             right,
-        }
-    }
-
-    fn into_replay(self, ticks: u32, stop: Option<StopNote>) -> Replay {
-        let Notes {
-            program: _program,
-            code: _code,
-            map: _map,
-            frames,
-            steps,
-            open: _open,
-            cells: _cells,
-        } = self;
-        Replay {
-            frames,
-            steps,
-            ticks,
-            stop,
         }
     }
 }

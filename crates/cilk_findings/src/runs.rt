@@ -48,8 +48,8 @@ impl Run {
         })
     }
 
-    /// Returns whether an event, counted from 0, is a child's result: the write right ahead of its
-    /// end.
+    /// Returns whether an event, counted from 0, is a child's result: a write that the end of its
+    /// frame follows.
     pub fn gives_result(&self, index: usize) -> bool {
         let next = self.event(index.saturating_add(1));
         matches!(

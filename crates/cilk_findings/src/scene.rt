@@ -35,15 +35,10 @@ impl<'a> Scene<'a> {
     /// Returns the byte of an event. Of a child's result it is the place that invokes the child.
     pub fn byte_of(&self, index: usize) -> usize {
         match self.run.replay.steps.get(index) {
-            Some(step) if self.run.gives_result(index) => self.invoked_at(step.frame),
+            Some(step) if self.run.gives_result(index) => self.note(step.frame).invoked_at,
             Some(step) => step.at,
             None => 0,
         }
-    }
-
-    /// Returns the byte of the text at which a frame is invoked.
-    pub fn invoked_at(&self, frame: usize) -> usize {
-        self.note(frame).at
     }
 
     /// Returns the byte of the text at which a body has its name.

@@ -279,7 +279,7 @@ fn counted(site: Option<Site>, note: &FrameNote, at: usize, ahead: &[u64]) -> Si
 fn site_at(scene: &Scene<'_>, note: &FrameNote) -> Option<usize> {
     match (note.body, note.how) {
         (Body::Loop(_), _) => Some(scene.named_at(note.body)),
-        (Body::Function(_), Invocation::Spawn) => Some(note.at),
+        (Body::Function(_), Invocation::Spawn) => Some(note.invoked_at),
         (Body::Function(_), Invocation::Call) => None,
     }
 }

@@ -252,10 +252,10 @@ impl<'a> Deeds<'a> {
             next,
         })?;
         let (ended, at) = match twin {
-            Some(twin) => (
-                self.scene.note(twin).ended,
-                Some(self.scene.invoked_at(twin)),
-            ),
+            Some(twin) => {
+                let note = self.scene.note(twin);
+                (note.ended, Some(note.invoked_at))
+            }
             None => (None, None),
         };
         self.move_behind(frame, ended);
@@ -417,7 +417,7 @@ impl<'a> Deeds<'a> {
         if frame == 0 || self.scene.is_of_loop(frame) {
             return Ok(());
         }
-        let line = self.scene.line(self.scene.invoked_at(frame));
+        let line = self.scene.line(self.scene.note(frame).invoked_at);
         write!(report, ", spawned on line {line}")
     }
 }

@@ -58,7 +58,7 @@ fn spawned_below(scene: &Scene<'_>, common: usize, frame: usize) -> Option<usize
 // The sync that waits for a spawned child before a later event.
 fn waited_for<'a>(scene: &Scene<'a>, common: usize, child: usize, later: usize) -> Sentence<'a> {
     let parent = scene.above(child).unwrap_or(0);
-    let spawn = scene.invoked_at(child);
+    let spawn = scene.note(child).invoked_at;
     if scene.is_of_loop(child) {
         let words = if is_in_loop_of(scene, child, later) {
             "an earlier run of the `cilk_for` on line {} has ended, with all its turns"
@@ -153,5 +153,5 @@ fn in_words<'a>(scene: &Scene<'a>, common: usize, event: usize, words: &Words) -
     } else {
         words.call
     };
-    say(words).count(scene.line(scene.invoked_at(child)))
+    say(words).count(scene.line(scene.note(child).invoked_at))
 }

@@ -323,7 +323,8 @@ impl<'a> Site<'a, '_> {
     fn inner_variable(&self) -> Option<&'a [u8]> {
         let tokens = self.tokens;
         let at = if self.is_in_called() {
-            tokens.number_at(self.scene.invoked_at(self.scene.around(self.pair.second).0))
+            let called = self.scene.around(self.pair.second).0;
+            tokens.number_at(self.scene.note(called).invoked_at)
         } else {
             swap_of(tokens, self.later, self.name)?.one
         };
@@ -494,7 +495,7 @@ impl<'a> Site<'a, '_> {
     // Whether the innermost loop around the spawn is around the later path as well.
     fn is_in_one_loop(&self) -> bool {
         let tokens = self.tokens;
-        let spawn = tokens.number_at(self.scene.invoked_at(self.pair.child));
+        let spawn = tokens.number_at(self.scene.note(self.pair.child).invoked_at);
         let leaving = tokens.number_at(self.pair.leaving(&self.scene));
         match loop_round(tokens, spawn) {
             Some(round) => stands_in(tokens, round, leaving),
@@ -597,7 +598,7 @@ impl<'a> Site<'a, '_> {
         let letter = letter.as_bytes().first().copied().unwrap_or(0);
         match letter {
             b'y' => {
-                let spawn = scene.invoked_at(self.pair.child);
+                let spawn = scene.note(self.pair.child).invoked_at;
                 let parted = parted_at(scene, spawn, self.pair.leaving(scene))?;
                 scene.push(report, &parted)
             }
@@ -630,7 +631,7 @@ impl<'a> Site<'a, '_> {
             b'b' => Part::Word(self.beside()),
             b'c' => Part::Word(scene.function_of(self.pair.child)),
             b'e' => Part::Word(scene.function_of(self.pair.common)),
-            b's' => scene.place(scene.invoked_at(self.pair.child)),
+            b's' => scene.place(scene.note(self.pair.child).invoked_at),
             b'r' => Part::Word(self.monoid()),
             _ => self.kept(letter),
         }

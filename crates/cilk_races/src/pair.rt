@@ -131,7 +131,7 @@ impl Pair {
     /// it.
     pub fn leaving(&self, scene: &Scene<'_>) -> usize {
         match scene.child_of(self.common, self.second) {
-            Some(child) => scene.invoked_at(child),
+            Some(child) => scene.note(child).invoked_at,
             None => scene.byte_of(self.later),
         }
     }

@@ -158,7 +158,7 @@ fn push_pair(scene: &Scene<'_>, report: &mut String, pair: &Pair) -> Result<(), 
     let parallel = if pair.is_in_turns(scene) {
         say("parallel: the turns of a `cilk_for` run in parallel\n")
     } else {
-        let spawn = scene.place(scene.invoked_at(pair.child));
+        let spawn = scene.place(scene.note(pair.child).invoked_at);
         say("parallel: the spawn at {} lets its child run beside what follows it\n").with(spawn)
     };
     scene.push(report, &parallel)?;
