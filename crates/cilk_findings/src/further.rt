@@ -37,7 +37,7 @@ struct Found {
     other: usize,
 }
 
-/// The accesses so far, linked by their cells, and the races, of which the first isn't shown.
+/// The accesses so far, linked by their cells, and the races. The first race isn't shown.
 struct Search<'a> {
     scene: Scene<'a>,
     heads: Vec<usize>,

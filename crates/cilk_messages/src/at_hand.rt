@@ -85,7 +85,7 @@ fn mistaken<'a>(tokens: &Tokens<'a>, token: usize, name: &'a [u8]) -> Sentence<'
     say(words).word(name).word(variable)
 }
 
-// What is wrong with the use of a name.
+// The mistakes in the use of a name.
 const MISUSED: &str = "\
 0 return | +1 ; => an `int` function returns a number
 0 return => a `void` function returns no number

@@ -92,7 +92,7 @@ fn of_numeral(word: &[u8]) -> Option<&'static str> {
 #[derive(Clone, Copy)]
 struct Piece {
     end: usize,
-    // What stands for its first byte, if it is taken out. A blank stands for each other one.
+    // The byte in place of its first one, if it is taken out. Each other one becomes a blank.
     first: Option<u8>,
     // How many of its bytes are shown.
     shown: usize,
@@ -186,7 +186,7 @@ fn character_end(text: &[u8], from: usize) -> usize {
     text.len()
 }
 
-// A line of the preprocessor, of which its `#` and first word are shown.
+// A line of the preprocessor. Its `#` and first word are shown.
 fn directive(text: &[u8], at: usize) -> Piece {
     let first = word_after(text, at.saturating_add(1));
     let word = word_at(text, first);

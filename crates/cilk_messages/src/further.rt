@@ -33,7 +33,7 @@ const NO_FORM: Form = Form {
     more: 0,
 };
 
-/// The first fault of a text, of which the hint isn't repeated.
+/// The first fault of a text, whose hint isn't repeated.
 #[derive(Clone, Copy)]
 pub struct Told<'h> {
     pub at: usize,

@@ -14,7 +14,7 @@ run steal => this is a script: `cilk play PROGRAM SCRIPT` reads it, after the te
 \u{7f}ELF.. => this is a compiled program, and no text: give the source, in the language of `docs/LANGUAGE.md`; one that `recorder/cilkrec` built writes a trace as it runs, and `cilk judge TRACE` reads that";
 
 /// Returns what to do with a text that is no program, if it begins as a file of another kind. A
-/// script may have comments ahead.
+/// script may begin with comments.
 pub fn other_kind(text: &[u8]) -> Option<&'static str> {
     let first = behind_comments(text);
     for end in first..text.len() {

@@ -38,7 +38,7 @@
 //! model of simple commands.
 #![tactic(auto)]
 
-mod around;
+pub mod around;
 mod at_hand;
 mod certain;
 mod cleaned;

@@ -1,8 +1,8 @@
 //! The meanings of the tool's numbers, as a text.
 
 /// For each number six lines, and an empty line between two of them: the number with the mistake in
-/// a few words; the mistake in a sentence or two; an example, of which the first word says what it
-/// is; the line that the tool writes for it; how to read the places in such a line; and the advice.
+/// a few words; the mistake in a sentence or two; an example, whose first word says what it is;
+/// the line that the tool writes for it; how to read the places in such a line; and the advice.
 ///
 /// An example is a `program` (a whole text without input; for a refusal, with the certificate of its
 /// own run), an `edit` of the certificate of `examples/race.c`, or something else in `words`.

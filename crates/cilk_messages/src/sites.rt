@@ -80,7 +80,7 @@ pub fn takes_memory(tokens: &Tokens<'_>, number: usize) -> bool {
 const NEAR: usize = 200;
 
 /// Returns the last of these words before a token, past all that is closed between them; the number
-/// past all tokens if a mark that ends a statement, or none, is near ahead.
+/// past all tokens if a mark that ends a statement, or none, comes soon.
 pub fn mark_ahead(tokens: &Tokens<'_>, number: usize, marks: &str) -> usize {
     let mut depth: usize = 0;
     for back in 1..number.saturating_add(1).min(NEAR) {

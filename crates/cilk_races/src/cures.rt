@@ -339,7 +339,7 @@ impl<'a> Site<'a, '_> {
         Some(tokens.word(named))
     }
 
-    // The two elements that a swap writes, of which an event accesses one.
+    // The two elements that a swap writes, if an event accesses one of them.
     fn cells_of(&self, swap: Swap, index: usize) -> Option<(usize, usize)> {
         for second in index..index.saturating_add(NEAR) {
             if let Some(other) = self.written_at(swap.other, second) {

@@ -2,6 +2,7 @@
 //! it as a flag, or swaps it with another one.
 
 use cilk_findings::partings::{behind_head, stands_in, statement_of};
+use cilk_messages::around::is_among;
 use cilk_messages::sites::head_of;
 use cilk_messages::tokens::Tokens;
 use cilk_syntax::token::Kind;
@@ -69,16 +70,6 @@ pub fn semicolon_at(tokens: &Tokens<'_>, first: usize) -> usize {
 pub fn has_name(tokens: &Tokens<'_>, from: usize, upto: usize, name: &[u8]) -> bool {
     for number in from..upto {
         if tokens.word(number) == name {
-            return true;
-        }
-    }
-    false
-}
-
-// Whether a word is one of these, which blanks separate.
-fn is_among(words: &str, word: &[u8]) -> bool {
-    for it in words.split_whitespace() {
-        if it.as_bytes() == word {
             return true;
         }
     }

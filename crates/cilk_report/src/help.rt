@@ -84,7 +84,7 @@ Documents, beside the program's sources: README.md, docs/LANGUAGE.md, docs/FROM-
 OpenCilk), docs/REFUSALS.md, docs/CHECKER.md, docs/SCRIPTS.md, docs/TRACES.md, docs/EDITORS.md, docs/PROVED.md
 ";
 
-/// The help on each command, behind a line with its name. A line with a word of [`SHARED`] stands for
+/// The help on each command, after a line with its name. A line with a word of [`SHARED`] stands for
 /// the line of that word.
 const PAGES: &str = "
 == explain
@@ -266,7 +266,7 @@ To record a run (recorder/README.md):
 
 HINT";
 
-/// Lines of several pages, each behind its word.
+/// Lines of several pages, each after its word.
 const SHARED: &str = "\
 PROGRAM:  PROGRAM         a file with a program text, of at most 262,144 bytes
 CERTIFICATE:  CERTIFICATE     a certificate, such as `certify` writes, of at most 268,435,456 bytes

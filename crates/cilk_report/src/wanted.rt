@@ -109,7 +109,7 @@ impl Trial {
         Ok(())
     }
 
-    // Lists the first of these tokens that is possible, by the words behind it.
+    // Lists the first of these tokens that is possible, by the words after it.
     fn list_first(&mut self, tokens: &'static str) -> Result<(), AllocError> {
         for row in tokens.split("|") {
             if let Some((token, words)) = row.split_once(" ")
