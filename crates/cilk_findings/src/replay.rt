@@ -112,24 +112,13 @@ pub fn follow(
 }
 
 /// The notes so far, the frame of the next event, and the cells of all frames so far.
+#[derive(Drop)]
 struct Notes<'a> {
     code: &'a Code,
     map: &'a TextMap,
     replay: Replay,
     frame: usize,
     cells: usize,
-}
-
-impl Drop for Notes<'_> {
-    fn drop(self) {
-        let Notes {
-            code: _code,
-            map: _map,
-            replay: _replay,
-            frame: _frame,
-            cells: _cells,
-        } = self;
-    }
 }
 
 impl<'a> Notes<'a> {
