@@ -28,15 +28,15 @@ pub const ESTIMATE: &str = "<path fill=\"none\" stroke=\"#d55e00\" stroke-width=
 /// What their colours mean.
 pub const KEYS: &str =
     "<path fill=\"none\" stroke=\"#0072b2\" stroke-width=\"2\" d=\"M80 68 h30\"/>\n\
-    <text x=\"118\" y=\"72\" text-anchor=\"start\" fill=\"#222222\">at most: the workers, or the parallelism</text>\n\
+    <text x=\"118\" y=\"72\" text-anchor=\"start\" fill=\"#222222\">at most: the lesser of workers and parallelism</text>\n\
     <path fill=\"none\" stroke=\"#d55e00\" stroke-width=\"2\" d=\"M420 68 h30\"/>\n\
-    <text x=\"458\" y=\"72\" text-anchor=\"start\" fill=\"#222222\">estimate with the burden</text>\n";
+    <text x=\"458\" y=\"72\" text-anchor=\"start\" fill=\"#222222\">low estimate, with the burden</text>\n";
 
 /// The words at the chart of steps.
 pub const STEPS_WORDS: &str =
     "<text x=\"80\" y=\"390\" text-anchor=\"start\" fill=\"#222222\">events that could be made at the same time (a column shows \
     the most of its steps)</text>\n\
-    <text x=\"420\" y=\"680\" text-anchor=\"middle\" fill=\"#222222\">step of the span</text>\n\
+    <text x=\"420\" y=\"680\" text-anchor=\"middle\" fill=\"#222222\">step of the longest chain (the span)</text>\n\
     <text x=\"22\" y=\"530\" transform=\"rotate(-90 22 530)\" text-anchor=\"middle\" fill=\"#222222\">events (logarithmic)</text>\n";
 
 /// The begin and the end of its outline.

@@ -10,11 +10,11 @@ use std::alloc::AllocError;
 pub const MAX_NODES: usize = 500;
 
 const HEAD: &str =
-    "digraph run {\n  graph [bgcolor=white, fontname=\"sans-serif\"];\n  node [fontname=\"sans-serif\", style=filled, fillcolor=white];\n  label=\"";
+    "digraph run {\n  graph [bgcolor=white, fontname=\"sans-serif\", labelloc=t, ordering=out];\n  node [fontname=\"sans-serif\", style=filled, fillcolor=white];\n  label=\"";
 
 // The title, after the file's name.
 const LABEL: &str =
-    ": S: left, then right; P: left and right in parallel; a box: a strand with its function, first line and events\";\n";
+    ": S: left, then right; P: left (the child) and right in parallel; a box: a strand with its function, first line and events\";\n";
 
 /// Where a node stands: its number, that of its first strand, and the first event of that one,
 /// which counts from 0.

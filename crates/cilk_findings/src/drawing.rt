@@ -38,7 +38,7 @@ pub fn profile_of(case: &Case<'_>) -> Result<String, CaseFault> {
 fn push_charts(case: &Case<'_>, trace: &Trace, text: &mut String) -> Result<(), AllocError> {
     let totals = totals_of(case.alloc, trace)?;
     text.push_str(HEAD)?;
-    push_escaped(text, case.file, true)?;
+    push_escaped(text, case.file.rsplit('/').next().unwrap_or(""), true)?;
     push_speed_up(text, &totals)?;
     let steps = profile(case.alloc, trace)?;
     push_steps(text, &totals, steps.as_slice())
@@ -61,7 +61,7 @@ fn push_speed_up(text: &mut String, totals: &Totals) -> Result<(), AllocError> {
         text,
         ")</text>\n\
         <text x=\"80\" y=\"46\" text-anchor=\"start\" fill=\"#222222\">burdened span {burdened_span}: \
-        a burden of {BURDEN} for each spawn that a steal may take</text>\n"
+        a burden of {BURDEN} events for each spawn that a steal may take</text>\n"
     )?;
     let most = greatest_speed_up(totals);
     push_workers(text, most)?;
@@ -159,9 +159,11 @@ fn push_scale(text: &mut String, octaves: usize, span: usize) -> Result<(), Allo
         }
         hundredths = hundredths.saturating_mul(2);
     }
-    for part in 0..5_usize {
-        let x = LEFT.saturating_add(scaled(part, 4, WIDTH));
-        push_column(text, STEPS, x, span.saturating_mul(part) / 4)?;
+    let parts = span.clamp(1, 4);
+    for part in 0..parts.saturating_add(1) {
+        let step = span.saturating_mul(part) / parts;
+        let x = LEFT.saturating_add(scaled(step, span, WIDTH));
+        push_column(text, STEPS, x, step)?;
     }
     Ok(())
 }

@@ -321,7 +321,7 @@ fn serve_measure<F: Keeps, R: Read, O: Write, E: Write>(
 
 // The error of `measure` without a program.
 const USAGE: &str =
-    "error: these words name no program to measure: `cilk measure PROGRAM [--input FILE] [--csv | --svg | --dot] [--explain]`\n\
+    "error: `measure` takes other words: `cilk measure PROGRAM [--input FILE] [--csv | --svg | --dot] [--explain]`\n\
     hint: what it shows goes to standard output, a picture too: `cilk measure prog.c --svg > prog.svg`\n";
 
 /// Serves `measure` by the words of the run.
