@@ -133,6 +133,7 @@ fn piece_at(text: &[u8], at: usize) -> Piece {
         (b'0'..=b'9', _) | (b'.', b'0'..=b'9') => numeral(text, at),
         (b'&', b'&') | (b'|', b'|') => Piece::plain(two),
         (b':', b':') => odd(at, two, b' '),
+        (b'&' | b'|' | b'^', b' ') => odd(at, next, b'*'),
         (b'&' | b'|' | b'^' | b'~' | b'?' | b':' | b'.' | b'\\' | b'$' | b'@', _) => {
             odd(at, next, b' ')
         }

@@ -121,4 +121,4 @@ assert => `print` what is to hold, or let the result tell of it
 memcpy memmove memset => write element by element, in a loop
 __cilkrts_get_nworkers __cilkrts_get_worker_number => a result can't depend on the workers: leave this out, or write a number
 clock time => there is no clock: `measure` counts what a run takes
-sqrt pow log exp floor ceil abs labs fabs fmin fmax min max strlen strcmp qsort => LIBRARY";
+sqrt pow log exp sin cos tan floor ceil round abs labs fabs fmin fmax min max strlen strcmp strcpy strcat qsort toupper tolower isdigit isalpha isspace => LIBRARY";
