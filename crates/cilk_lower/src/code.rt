@@ -126,7 +126,8 @@ pub struct Site {
 
 /// The code of a well-named program. Each jump stays within the instructions, each array's cells
 /// fit in `u32`, and each call site has at most 16 words and 16 reducers. Each instruction has the
-/// byte of the text that it comes from.
+/// byte of the text that it comes from: at the begin of a function's frame that of the function's
+/// name, and 0 where a global reducer is created.
 pub struct Code {
     instrs: Vec<Instr>,
     origins: Vec<usize>,

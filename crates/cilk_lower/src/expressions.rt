@@ -78,7 +78,7 @@ fn emit_expr(code: &mut Listing, e: &Expr) -> Result<usize, AllocError>
         Expr::Input(at, e) => emit_unary(code, *at, e, Instr::Input),
         Expr::Binary(at, operator, a, b) => {
             let left = emit_expr(code, a)?;
-            let right = emit_right(code, *at, *operator, b)?;
+            let right = emit_right(code, *operator, b)?;
             put(code, *at, Instr::Apply(*operator))?;
             Ok(left.max(right + 1))
         }
@@ -101,28 +101,13 @@ fn emit_expr(code: &mut Listing, e: &Expr) -> Result<usize, AllocError>
 
 // Emits the right operand of an operator. A number is pushed and applied at once.
 #[cycle(expressions)]
-fn emit_right(
-    code: &mut Listing,
-    at: usize,
-    operator: Operator,
-    e: &Expr,
-) -> Result<usize, AllocError>
+fn emit_right(code: &mut Listing, operator: Operator, e: &Expr) -> Result<usize, AllocError>
     ensures code { let right = expression e.now in OnOk result (code.new.items ≡ code.old.items ++ right_code operator (literal right) (expr_code right)) }
     ensures depth { IfOk result (λ d. d ≡ depth (expression e.now)) }
 {
-    match number_of(e) {
-        Some(n) => put_operand(code, at, Instr::ApplyNumber(operator, n)),
-        None => emit_expr(code, e),
-    }
-}
-
-// The number, if the expression is one.
-fn number_of(e: &Expr) -> Option<i64>
-    ensures { result ≡ literal (expression e.now) }
-{
     match e {
-        Expr::Number(_, n) => Some(n.value),
-        _ => None,
+        Expr::Number(at, n) => put_operand(code, *at, Instr::ApplyNumber(operator, n.value)),
+        _ => emit_expr(code, e),
     }
 }
 

@@ -23,6 +23,9 @@ const RACE: &str =
 // A division by zero.
 const FAULT: &str = "int main() { int a; a = 0; return 1 / a; }";
 
+// No program.
+const BROKEN: &str = "int main() { return 1 +; }";
+
 // A program, a call, and the same call with an explanation.
 type Pair = (
     &'static str,
@@ -30,7 +33,12 @@ type Pair = (
     &'static [&'static str],
 );
 
-const PAIRS: [Pair; 8] = [
+const PAIRS: [Pair; 11] = [
+    (
+        BROKEN,
+        &["run", "program"],
+        &["run", "program", "--explain"],
+    ),
     (FAULT, &["run", "program"], &["run", "program", "--explain"]),
     (
         FAULT,
@@ -56,6 +64,16 @@ const PAIRS: [Pair; 8] = [
         RACE,
         &["check", "program", "certificate"],
         &["schedule", "program", "certificate"],
+    ),
+    (
+        FIB,
+        &["settle", "program"],
+        &["settle", "program", "--why", "1"],
+    ),
+    (
+        FIB,
+        &["threads", "program", "certificate"],
+        &["threads", "program", "certificate", "--stats"],
     ),
     (FIB, &["run", "program"], &["measure", "program"]),
     (
