@@ -45,17 +45,37 @@ pub struct Pair {
     pub child: usize,
 }
 
+// The most reads of a reducer that are looked at.
+const VIEWS: usize = 64;
+
 /// Returns the pair of a race: its two accesses, or a read or set of a reducer and the nearest
 /// update of it in parallel, if the run has one.
 pub fn pair_of(scene: &Scene<'_>, race: Race) -> Result<Option<Pair>, AllocError> {
     if race.is_of_cell() {
         return Ok(of_events(scene, race.earlier, race.later));
     }
-    let (Some(instance), Some(frame)) = (viewed_at(scene, race.later), scene.frame_of(race.later))
-    else {
-        return Ok(None);
-    };
-    of_view(scene, race.later, frame, instance)
+    let mut left = VIEWS;
+    for at in race.later..scene.run.trace.as_slice().len() {
+        if left > 0 && is_again(scene, race.later, at) {
+            left = left.saturating_sub(1);
+            if let Some(pair) = of_view(scene, at, true)? {
+                return Ok(Some(pair));
+            }
+        }
+    }
+    of_view(scene, race.later, false)
+}
+
+// Whether an event reads or sets the reducer of another one, and comes from the same place.
+fn is_again(scene: &Scene<'_>, first: usize, at: usize) -> bool {
+    match (viewed_at(scene, first), viewed_at(scene, at)) {
+        (Some(one), Some(other)) => {
+            one.frame == other.frame
+                && one.place == other.place
+                && scene.byte_of(first) == scene.byte_of(at)
+        }
+        _ => false,
+    }
 }
 
 /// Returns the reducer that an event reads or sets.
@@ -92,17 +112,18 @@ fn of_events(scene: &Scene<'_>, earlier: usize, later: usize) -> Option<Pair> {
     })
 }
 
-// A read or set of a reducer, with the last update before it or the first one after it that runs in
-// parallel.
-fn of_view(
-    scene: &Scene<'_>,
-    at: usize,
-    frame: usize,
-    instance: Instance,
-) -> Result<Option<Pair>, AllocError> {
+// A read or set of a reducer, with the last update before it, or else the first one after it, that
+// runs in parallel. A schedule can change a read only by an update before it.
+fn of_view(scene: &Scene<'_>, at: usize, is_before: bool) -> Result<Option<Pair>, AllocError> {
+    let (Some(instance), Some(frame)) = (viewed_at(scene, at), scene.frame_of(at)) else {
+        return Ok(None);
+    };
     let beside = Beside::of(scene.case.alloc, scene, frame, at)?;
-    if let Some(Change { at: earlier, child }) = beside.changing(scene, instance) {
-        return Ok(with_child(scene, earlier, at, child));
+    if is_before {
+        return Ok(match beside.changing(scene, instance) {
+            Some(Change { at: earlier, child }) => with_child(scene, earlier, at, child),
+            None => None,
+        });
     }
     Ok(match beside.changed(scene, instance) {
         Some(Change { at: later, child }) => with_child(scene, at, later, child),

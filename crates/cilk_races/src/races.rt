@@ -53,6 +53,7 @@ pub fn script_of_race(
 
 fn push_race(scene: &Scene<'_>, report: &mut String, race: Race) -> Result<(), AllocError> {
     let pair = pair_of(scene, race)?;
+    let race = shown_by(race, &pair);
     push_events(scene, report, race, &pair)?;
     report.push_str("hint: ")?;
     push_cure(scene, report, race, &pair)?;
@@ -65,6 +66,17 @@ fn push_race(scene: &Scene<'_>, report: &mut String, race: Race) -> Result<(), A
         push_further(scene, report, race.earlier, race.later)
     } else {
         Ok(())
+    }
+}
+
+// The race that is shown: of a reducer's reads the first one that a schedule can change.
+fn shown_by(race: Race, pair: &Option<Pair>) -> Race {
+    match pair {
+        Some(pair) if !race.is_of_cell() && pair.earlier != race.later => Race {
+            later: pair.later,
+            ..race
+        },
+        _ => race,
     }
 }
 
