@@ -1,5 +1,5 @@
 -- Lists of statements, as the code's loops build them and as a block has them.
-use Rattle.std.proofs.Common.{◌≡◌, ℕ, List, [], ◌∷◌, ◌++◌, Option, refl, ap, ◌∙◌, rules, Vec, Box}
+use Rattle.std.proofs.Common.{◌≡◌, ℕ, List, [], ◌∷◌, ◌++◌, Option, refl, sym, ap, ◌∙◌, rules, Vec, Box}
 use Rattle.std.specs.declared.alloc.Global.{Global}
 use Rattle.cilk_syntax.specs.declared.tree.Stmt as code
 use Rattle.cilk_syntax.specs.declared.tree.Stmt.TheBlock as coded
@@ -8,28 +8,29 @@ use Rattle.cilk_program.specs.declared.syntax.Expr.{Expr}
 use Rattle.cilk_program.specs.declared.syntax.Stmt as resolved
 use Rattle.cilk_program.specs.declared.syntax.Stmt.TheBlock as given
 use Rattle.cilk_program.specs.Programs as programs
-use Rattle.cilk_program.specs.Syntax.{Block, For, Statements, Nothing, Then}
+use Rattle.cilk_program.specs.Syntax.{For, Statements, Nothing, Then}
 
 -- a row of statements in a tree is the list that it was made from
 tree_row : (n : _) (row : code.Row_of-Stmt n) → trees.row_view row ≡ trees.statements (code.items-the_row-Stmt n row)
 tree_row _ code.end_of-Stmt = refl
 tree_row _ (code.more_of-Stmt s row) = ap (λ x. trees.Then (trees.statement s) x) (tree_row _ row)
 
-pub tree_block : (at : ℕ) (v : Vec code.Stmt Global) → trees.statement (code.Block at v) ≡ trees.Block (trees.statements v.items)
-tree_block at v =
-    ap trees.Block (tree_row _ (coded.hidden-the_row-Stmt-0 v) ∙ ap trees.statements {x = code.items-the_row-Stmt _ (coded.hidden-the_row-Stmt-0 v)} {y = v.items} (search (rules, code.the_lemmas)))
+tree_list : (v : Vec code.Stmt Global) → trees.row_view (coded.hidden-the_row-Stmt-0 v) ≡ trees.statements v.items
+tree_list v =
+    tree_row _ (coded.hidden-the_row-Stmt-0 v) ∙ ap trees.statements {x = code.items-the_row-Stmt _ (coded.hidden-the_row-Stmt-0 v)} {y = v.items} (search (rules, code.the_lemmas))
+
+-- a block is the statements of its list, whatever its place
+pub tree_block : (s : code.Stmt) (at : ℕ) (v : Vec code.Stmt Global) (list : List code.Stmt) → s ≡ code.Block at v → list ≡ v.items → trees.Block (trees.statements list) ≡ trees.statement s
+tree_block s at v list is same = ap (λ l. trees.Block (trees.statements l)) same ∙ sym (ap trees.statement is ∙ ap trees.Block (tree_list v))
 
 -- the same of resolved statements
 resolved_row : (n : _) (row : resolved.Row_of-Stmt n) → programs.row_view row ≡ programs.statements (resolved.items-the_row-Stmt n row)
 resolved_row _ resolved.end_of-Stmt = refl
 resolved_row _ (resolved.more_of-Stmt s row) = ap (λ x. Then (programs.statement s) x) (resolved_row _ row)
 
-resolved_list : (v : Vec resolved.Stmt Global) → programs.row_view (given.hidden-the_row-Stmt-0 v) ≡ programs.statements v.items
+pub resolved_list : (v : Vec resolved.Stmt Global) → programs.row_view (given.hidden-the_row-Stmt-0 v) ≡ programs.statements v.items
 resolved_list v =
     resolved_row _ (given.hidden-the_row-Stmt-0 v) ∙ ap programs.statements {x = resolved.items-the_row-Stmt _ (given.hidden-the_row-Stmt-0 v)} {y = v.items} (search (rules, resolved.the_lemmas))
-
-pub block : (at : ℕ) (v : Vec resolved.Stmt Global) → programs.statement (resolved.Block at v) ≡ Block (programs.statements v.items)
-block at v = ap Block (resolved_list v)
 
 pub for_is : (at : ℕ) (b : Vec resolved.Stmt Global) (e : Option Expr) (a : Vec resolved.Stmt Global) (s : Box resolved.Stmt Global)
     → programs.statement (resolved.For at b e a s) ≡ For (programs.statements b.items) (programs.optional e) (programs.statements a.items) (programs.statement s.value)

@@ -96,7 +96,7 @@ pub(crate) fn expression(
             Ok(between(*at, *operator, left, right))
         }
         tree::Expr::Value(name) => Ok(value(name.at, reducer(table, *name, first))),
-        tree::Expr::Input(at, place) => Ok(Expr::Input(*at, part(alloc, table, place, first)?)),
+        tree::Expr::Input(at, index) => Ok(Expr::Input(*at, part(alloc, table, index, first)?)),
         tree::Expr::InputCount(at) => Ok(Expr::InputCount(*at)),
     }
 }

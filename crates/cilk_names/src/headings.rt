@@ -137,9 +137,9 @@ fn is_main_item(text: &[u8], item: &Item) -> bool
 {
     match item {
         Item::Globals(_) | Item::Reducer(_) => false,
-        Item::Function(returns, name, parameters, _, _) => is_main(
-            text, *returns, *name, parameters,
-        ),
+        Item::Function(returns, name, parameters, _, _) => {
+            is_main(text, *returns, *name, parameters)
+        }
     }
 }
 

@@ -20,6 +20,9 @@
 //! | [`limits`] | Limits on functions, parameters, cells and reducers. |
 //! | [`resolution`] | Laws: a tree without faults resolves to exactly one program. |
 //!
+//! The program keeps the places of the text that its statements and expressions come from. No
+//! contract speaks of them.
+//!
 //! `specs/Resolution.antt` defines which program a tree resolves to, case by case, and
 //! `specs/Misnamings.antt` all faults of a tree.
 //!

@@ -429,7 +429,7 @@ impl Resolver<'_> {
 
     /// Resolves a statement and notes faults.
     #[cycle(statements)]
-    #[tactic(auto, using(crate::proofs::Earliest::earliest_append, crate::proofs::Blocks::tree_block, crate::proofs::Blocks::block))]
+    #[tactic(auto, using(crate::proofs::Earliest::earliest_append))]
     fn statement(&mut self, alloc: Global, tree: &tree::Stmt) -> Result<Stmt, AllocError>
         ensures context { OnOk result (context_of self.new ≡ behind (context_of self.old) (trees.statement tree.now)) }
         ensures faults { OnOk result (self.new.first ≡ earliest self.old.first (statement_faults (context_of self.old) (trees.statement tree.now))) }
@@ -481,20 +481,15 @@ impl Resolver<'_> {
             tree::Stmt::Update(at, name, value) => {
                 update(alloc, &self.table, *at, *name, value, &mut self.first)
             }
-            tree::Stmt::Set(at, name, value) => set(
-                alloc,
-                &self.table,
-                *at,
-                *name,
-                value,
-                &mut self.first,
-            ),
+            tree::Stmt::Set(at, name, value) => {
+                set(alloc, &self.table, *at, *name, value, &mut self.first)
+            }
         }
     }
 
     /// Resolves a block in a scope of its own.
     #[cycle(statements)]
-    #[tactic(auto, using(crate::proofs::Blocks::block))]
+    #[tactic(auto, using(crate::proofs::Blocks::resolved_list))]
     fn block(&mut self, alloc: Global, at: usize, list: &[tree::Stmt]) -> Result<Stmt, AllocError>
         ensures context { OnOk result (context_of self.new ≡ behind (context_of self.old) (trees.Block (trees.statements list.now))) }
         ensures faults { OnOk result (self.new.first

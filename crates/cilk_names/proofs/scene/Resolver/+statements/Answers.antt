@@ -1,13 +1,14 @@
 -- Closed scopes, loops in their reserved places, and one more statement of a row.
-use Rattle.std.proofs.Common.{map, ap, ◌∙◌, ◌++◌}
+use Rattle.std.proofs.Common.{◌≡◌, OnOk, IfOk, map, ap, ◌∙◌, ◌++◌, subst}
 use Rattle.cilk_syntax.specs.Trees as trees
 use Rattle.cilk_program.specs.Programs.{loop, statement}
 use Rattle.cilk_names.specs.declared.scene.Frame.{Frame}
-use Rattle.cilk_names.specs.Contexts.{inside}
+use Rattle.cilk_names.specs.Contexts.{behind, inside}
 use Rattle.cilk_names.specs.Faults.{earliest}
 use Rattle.cilk_names.specs.Misnamings.{statement_faults}
-use Rattle.cilk_names.specs.Pass.{loops_of}
+use Rattle.cilk_names.specs.Pass.{loops_of, statement_of}
 use Rattle.cilk_names.specs.States.{context_of}
+use Rattle.cilk_names.proofs.Blocks.{tree_block}
 use Rattle.cilk_names.proofs.Behinds.{scope_closed, row_closed, head_closed, loop_closed}
 use Rattle.cilk_names.proofs.Loops.{place_taken, loop_taken}
 use Rattle.cilk_names.proofs.Rows.{row_context, row_step, row_loops_step, row_value_step, row_context_end, row_end, row_loops_end, row_value_end}
@@ -17,6 +18,26 @@ pub block-returns-clause-context : goal.block-returns-clause-context
 block-returns-clause-context t c =
     row_closed (context_of c.args.self.now) (context_of c.open.new.self) (context_of c.row.new.self) (context_of c.close.new.self) (trees.statements c.args.list.now)
     c.in_ok-open.ensures.context c.in_ok-row.ensures.context c.close.ensures.context
+
+pub statement-returns-in-Block-clause-context : goal.statement-returns-in-Block-clause-context
+statement-returns-in-Block-clause-context t c =
+    subst (λ (s : trees.Statement). OnOk c.block.result (context_of c.block.new.self ≡ behind (context_of c.args.self.now) s))
+    (tree_block c.args.tree.now c.in-Block.at c.in-Block.list c.deref.result.now c.in-Block.is c.deref.ensures.value) c.block.ensures.context
+
+pub statement-returns-in-Block-clause-faults : goal.statement-returns-in-Block-clause-faults
+statement-returns-in-Block-clause-faults t c =
+    subst (λ (s : trees.Statement). OnOk c.block.result (c.block.new.self.first ≡ earliest c.args.self.now.first (statement_faults (context_of c.args.self.now) s)))
+    (tree_block c.args.tree.now c.in-Block.at c.in-Block.list c.deref.result.now c.in-Block.is c.deref.ensures.value) c.block.ensures.faults
+
+pub statement-returns-in-Block-clause-loops : goal.statement-returns-in-Block-clause-loops
+statement-returns-in-Block-clause-loops t c =
+    subst (λ (s : trees.Statement). OnOk c.block.result (map loop c.block.new.self.loops.items ≡ map loop c.args.self.now.loops.items ++ loops_of (context_of c.args.self.now) s))
+    (tree_block c.args.tree.now c.in-Block.at c.in-Block.list c.deref.result.now c.in-Block.is c.deref.ensures.value) c.block.ensures.loops
+
+pub statement-returns-in-Block-clause-value : goal.statement-returns-in-Block-clause-value
+statement-returns-in-Block-clause-value t c =
+    subst (λ (s : trees.Statement). IfOk c.block.result (λ r. statement r ≡ statement_of (context_of c.args.self.now) s))
+    (tree_block c.args.tree.now c.in-Block.at c.in-Block.list c.deref.result.now c.in-Block.is c.deref.ensures.value) c.block.ensures.value
 
 pub scoped-returns-clause-context : goal.scoped-returns-clause-context
 scoped-returns-clause-context t c =
