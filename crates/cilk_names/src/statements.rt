@@ -131,12 +131,11 @@ fn assigned(
     Ok(invoke(tree.name.at, call))
 }
 
-/// Resolves an `update` of a reducer at a place of the text.
+/// Resolves an `update` of a reducer.
 #[tactic(auto, using(crate::proofs::Earliest::earliest_append))]
 fn update(
     alloc: Global,
     table: &Table,
-    at: usize,
     name: Name,
     value: &tree::Expr,
     first: &mut Option<Misnaming>,
@@ -151,17 +150,16 @@ fn update(
     let reducer = reducer(table, name, first);
     let value = expression(alloc, table, value, first)?;
     match reducer {
-        Some(reducer) => Ok(Stmt::Update(at, reducer, value)),
-        None => Ok(Stmt::Empty(at)),
+        Some(reducer) => Ok(Stmt::Update(name.at, reducer, value)),
+        None => Ok(Stmt::Empty(name.at)),
     }
 }
 
-/// Resolves a `set` of a reducer at a place of the text.
+/// Resolves a `set` of a reducer.
 #[tactic(auto, using(crate::proofs::Earliest::earliest_append))]
 fn set(
     alloc: Global,
     table: &Table,
-    at: usize,
     name: Name,
     value: &tree::Expr,
     first: &mut Option<Misnaming>,
@@ -176,8 +174,8 @@ fn set(
     let reducer = reducer(table, name, first);
     let value = expression(alloc, table, value, first)?;
     match reducer {
-        Some(reducer) => Ok(Stmt::Set(at, reducer, value)),
-        None => Ok(Stmt::Empty(at)),
+        Some(reducer) => Ok(Stmt::Set(name.at, reducer, value)),
+        None => Ok(Stmt::Empty(name.at)),
     }
 }
 
@@ -478,12 +476,10 @@ impl Resolver<'_> {
                 *at,
                 expression(alloc, &self.table, value, &mut self.first)?,
             )),
-            tree::Stmt::Update(at, name, value) => {
-                update(alloc, &self.table, *at, *name, value, &mut self.first)
+            tree::Stmt::Update(name, value) => {
+                update(alloc, &self.table, *name, value, &mut self.first)
             }
-            tree::Stmt::Set(at, name, value) => {
-                set(alloc, &self.table, *at, *name, value, &mut self.first)
-            }
+            tree::Stmt::Set(name, value) => set(alloc, &self.table, *name, value, &mut self.first),
         }
     }
 

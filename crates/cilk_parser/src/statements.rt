@@ -236,11 +236,11 @@ fn simple<'a>(
         Kind::Print => printed(alloc, first.at, rest, depth),
         Kind::Update => {
             let (reducer, value, rest) = update(alloc, rest, depth)?;
-            Ok((Stmt::Update(first.at, reducer, value), rest))
+            Ok((Stmt::Update(reducer, value), rest))
         }
         Kind::Set => {
             let (reducer, value, rest) = update(alloc, rest, depth)?;
-            Ok((Stmt::Set(first.at, reducer, value), rest))
+            Ok((Stmt::Set(reducer, value), rest))
         }
         _ => Err(Stop::Unexpected(tokens)),
     }

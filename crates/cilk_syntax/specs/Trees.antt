@@ -196,8 +196,8 @@ abbrev mutual
   statement (stmts.ParallelFor' at b p s) = ParallelFor (bounds b) (statement s)
   statement (stmts.Return at e) = Return at (optional e)
   statement (stmts.Print at e) = Print (expression e.value)
-  statement (stmts.Update at name e) = Update name (expression e.value)
-  statement (stmts.Set at name e) = Statement.Set name (expression e.value)
+  statement (stmts.Update name e) = Update name (expression e.value)
+  statement (stmts.Set name e) = Statement.Set name (expression e.value)
 
   pub row_view : {n : _} → stmts.Row_of-Stmt n → Statements
   row_view stmts.end_of-Stmt = End

@@ -253,8 +253,8 @@ impl Drop for Bounds {
     }
 }
 
-/// A statement. Those that don't begin with a name or a declaration have the place of their first
-/// byte. `AssignCall` assigns a call's result to a variable.
+/// A statement. Those without a name of their own have the place of their first byte. `AssignCall`
+/// assigns a call's result to a variable.
 pub enum Stmt {
     Empty(usize),
     Block(usize, Vec<Stmt>),
@@ -271,8 +271,8 @@ pub enum Stmt {
     ParallelFor(usize, Bounds, Box<Stmt>),
     Return(usize, Option<Box<Expr>>),
     Print(usize, Box<Expr>),
-    Update(usize, Name, Box<Expr>),
-    Set(usize, Name, Box<Expr>),
+    Update(Name, Box<Expr>),
+    Set(Name, Box<Expr>),
 }
 
 impl Drop for Stmt {
@@ -293,8 +293,8 @@ impl Drop for Stmt {
             Stmt::ParallelFor(_, _bounds, _body) => {}
             Stmt::Return(_, _value) => {}
             Stmt::Print(_, _value) => {}
-            Stmt::Update(_, _, _value) => {}
-            Stmt::Set(_, _, _value) => {}
+            Stmt::Update(_, _value) => {}
+            Stmt::Set(_, _value) => {}
         }
     }
 }
