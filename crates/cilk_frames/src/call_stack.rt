@@ -61,6 +61,7 @@ impl<C> CallStack<C> {
 
     /// Makes `frame` the running frame, which the previous one waits for. If memory is refused, the
     /// frames are unchanged, and the new one is dropped.
+    #[inline(always)]
     pub fn push(&mut self, frame: Activation<C>) -> Result<(), AllocError>
     where
         C: Drop,

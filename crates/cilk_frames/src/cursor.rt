@@ -30,12 +30,14 @@ pub enum Answer {
 /// whether it is owed a word, and its result so far.
 #[derive(Drop)]
 pub struct Cursor {
-    part: Option<LoopPart>,
-    takes: bool,
     place: usize,
-    owed: Owed,
     operands: Operands,
     held: i64,
+    // The turns of a loop, if the frame runs some. The last two stand together, so that few bytes
+    // between fields are copied where a cursor is moved.
+    part: Option<LoopPart>,
+    takes: bool,
+    owed: Owed,
 }
 
 impl Model for Cursor {
@@ -61,12 +63,12 @@ impl Cursor {
     #[inline(always)]
     pub fn idle(alloc: Global) -> Cursor {
         Cursor {
-            part: None,
-            takes: false,
             place: 0,
-            owed: Owed::Nothing,
             operands: Operands::empty(alloc),
             held: 0,
+            part: None,
+            takes: false,
+            owed: Owed::Nothing,
         }
     }
 
@@ -119,12 +121,12 @@ impl Cursor {
     {
         let operands = Operands::new(alloc, entry.room, words)?;
         Ok(Cursor {
-            part,
-            takes,
             place: entry.place,
-            owed: Owed::Nothing,
             operands,
             held: 0,
+            part,
+            takes,
+            owed: Owed::Nothing,
         })
     }
 

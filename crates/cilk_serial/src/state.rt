@@ -190,6 +190,7 @@ impl State {
     }
 
     /// Makes the event of an invocation, and adds the child's cells.
+    #[inline(always)]
     pub fn begin(&mut self, how: Invocation, cells: u32) -> Result<(), AllocError>
         requires { self.old.frames < MAX_FRAMES }
         ensures { OnOk result (Begins self.old self.new how cells) }
