@@ -8,21 +8,27 @@ ghost use Rattle.cilk_frames.specs.AskSlot.{IsFunctionCall, in_full, words_in};
 ghost use Rattle.cilk_frames.specs.Following.{child_of};
 
 use crate::cursor::Cursor;
+use crate::operands::Operands;
 use crate::small_ask::SmallAsk;
 use cilk_lower::code::Site;
 use cilk_program::ask::{Ask, Callee, FunctionCall};
 use cilk_program::given::{References, Words};
 use cilk_types::invocation::Invocation;
+use std::alloc::Global;
 use std::marker::Model;
 
 /// The last request of a frame. Most of an `Ask` is room for a function's arguments, and would be
 /// copied at each step. Here it stays in one place, and is written only when a function is invoked.
+/// The slot also keeps the operands of frames that have ended, so that frames that begin later need
+/// not allocate theirs.
 #[derive(Drop)]
 pub struct AskSlot {
     // None if a function is invoked.
     small_ask: Option<SmallAsk>,
     how: Invocation,
     call: FunctionCall,
+    // None before the first frame ends.
+    spares: Option<Vec<Operands>>,
 }
 
 impl Model for AskSlot {
@@ -48,6 +54,34 @@ impl AskSlot {
                 reducers: References::new(),
                 result: None,
             },
+            spares: None,
+        }
+    }
+
+    /// Keeps the operands of a frame that has ended. If memory is refused, they are dropped.
+    #[inline(always)]
+    pub fn keep(&mut self, alloc: Global, operands: Operands)
+        ensures { self.new ≡ self.old }
+    {
+        match &mut self.spares {
+            Some(spares) => {
+                let _ = spares.push(operands);
+            }
+            None => self.spares = Some(Vec::new(alloc)),
+        }
+    }
+
+    /// Returns the operands that were kept last, or such without room.
+    #[inline(always)]
+    pub fn spare(&mut self, alloc: Global) -> Operands
+        ensures { self.new ≡ self.old }
+    {
+        match &mut self.spares {
+            Some(spares) => match spares.pop() {
+                Some(operands) => operands,
+                None => Operands::empty(alloc),
+            },
+            None => Operands::empty(alloc),
         }
     }
 

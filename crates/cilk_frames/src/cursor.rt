@@ -16,6 +16,7 @@ use cilk_program::ask::{Ask, Callee, FunctionCall, LoopPart};
 use cilk_program::given::Words;
 use std::alloc::{AllocError, Global};
 use std::marker::Model;
+use std::mem;
 
 /// The answer to a frame's request.
 #[derive(Clone, Copy)]
@@ -55,7 +56,8 @@ impl Cursor {
         ensures stands { IfOk result (λ c. (p : Source) (inputs : List ℤ) → Behaves p code.now → Stands code.now inputs p Callee.Root c [] 0) }
         ensures owes { IfOk result (λ c. c.owed ≡ owed_for Begin) }
     {
-        Cursor::first(alloc, code.entry(&Callee::Root), &[], None, false)
+        let none = Operands::empty(alloc);
+        Cursor::first(alloc, none, code.entry(&Callee::Root), &[], None, false)
     }
 
     /// Returns a cursor of no frame, for the time in which a frame's own is elsewhere. Allocates
@@ -92,9 +94,23 @@ impl Cursor {
         ensures stands { IfOk result (λ c. (p : Source) (inputs : List ℤ) → Behaves p code.now → CalleeIsFit p (Callee.Function call.now) → Stands code.now inputs p (Callee.Function call.now) c [] 0) }
         ensures owes { IfOk result (λ c. c.owed ≡ owed_for Begin) }
     {
+        Cursor::function_in(alloc, Operands::empty(alloc), code, call)
+    }
+
+    /// Returns the same frame as [`Cursor::function`], in the operands of a frame that has ended.
+    pub fn function_in(
+        alloc: Global,
+        operands: Operands,
+        code: &Code,
+        call: &FunctionCall,
+    ) -> Result<Cursor, AllocError>
+        ensures stands { IfOk result (λ c. (p : Source) (inputs : List ℤ) → Behaves p code.now → CalleeIsFit p (Callee.Function call.now) → Stands code.now inputs p (Callee.Function call.now) c [] 0) }
+        ensures owes { IfOk result (λ c. c.owed ≡ owed_for Begin) }
+    {
         let entry = code.function_entry(call.function);
         Cursor::first(
             alloc,
+            operands,
             entry,
             call.words.as_slice(),
             None,
@@ -107,11 +123,27 @@ impl Cursor {
         ensures stands { IfOk result (λ c. (p : Source) (inputs : List ℤ) → Behaves p code.now → CalleeIsFit p (Callee.Loop part.now) → Stands code.now inputs p (Callee.Loop part.now) c [] 0) }
         ensures owes { IfOk result (λ c. c.owed ≡ owed_for Begin) }
     {
-        Cursor::first(alloc, code.loop_entry(part.number), &[], Some(*part), false)
+        Cursor::turns_in(alloc, Operands::empty(alloc), code, part)
     }
 
+    /// Returns the same frame as [`Cursor::turns`], in the operands of a frame that has ended.
+    pub fn turns_in(
+        alloc: Global,
+        operands: Operands,
+        code: &Code,
+        part: &LoopPart,
+    ) -> Result<Cursor, AllocError>
+        ensures stands { IfOk result (λ c. (p : Source) (inputs : List ℤ) → Behaves p code.now → CalleeIsFit p (Callee.Loop part.now) → Stands code.now inputs p (Callee.Loop part.now) c [] 0) }
+        ensures owes { IfOk result (λ c. c.owed ≡ owed_for Begin) }
+    {
+        let entry = code.loop_entry(part.number);
+        Cursor::first(alloc, operands, entry, &[], Some(*part), false)
+    }
+
+    #[inline(always)]
     fn first(
         alloc: Global,
+        operands: Operands,
         entry: EntryPoint,
         words: &[i64],
         part: Option<LoopPart>,
@@ -119,7 +151,7 @@ impl Cursor {
     ) -> Result<Cursor, AllocError>
         ensures { IfOk result (λ c. c ≡ begins_at entry (record { words = words.now; part = part; takes = takes })) }
     {
-        let operands = Operands::new(alloc, entry.room, words)?;
+        let operands = operands.again(alloc, entry.room, words)?;
         Ok(Cursor {
             place: entry.place,
             operands,
@@ -128,6 +160,12 @@ impl Cursor {
             takes,
             owed: Owed::Nothing,
         })
+    }
+
+    /// Takes the operands of a frame that has ended, for another frame.
+    #[inline(always)]
+    pub fn take_operands(&mut self, alloc: Global) -> Operands {
+        mem::replace(&mut self.operands, Operands::empty(alloc))
     }
 
     /// Returns the place of the next instruction.

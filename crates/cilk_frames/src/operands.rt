@@ -52,6 +52,32 @@ impl Operands {
         })
     }
 
+    /// Makes an empty stack as [`Operands::new`] does, in the list of a frame that has ended.
+    /// Allocates only if that list is too short.
+    #[inline(always)]
+    pub fn again(self, alloc: Global, room: usize, words: &[i64]) -> Result<Operands, AllocError>
+        ensures { IfOk result (λ o. o ≡ record { words = words.now; stack = []; room = room }) }
+    {
+        let Operands {
+            mut items,
+            given: _,
+            start: _,
+        } = self;
+        let total = room.saturating_add(words.len());
+        if items.capacity() < total {
+            return Operands::new(alloc, room, words);
+        }
+        items.resize(total, 0)?;
+        'each: for number in 0..words.len() {
+            items[number] = words[number];
+        }
+        Ok(Operands {
+            items,
+            given: words.len(),
+            start: total,
+        })
+    }
+
     /// Returns operands without room. Allocates nothing.
     #[inline(always)]
     pub fn empty(alloc: Global) -> Operands {

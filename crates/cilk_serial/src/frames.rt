@@ -20,6 +20,7 @@ use cilk_frames::activation::Activation;
 use cilk_frames::beginnings;
 use cilk_frames::call_stack::CallStack;
 use cilk_frames::cursor::Cursor;
+use cilk_frames::operands::Operands;
 use cilk_lower::code::Code;
 use cilk_monoid::kind::MonoidKind;
 use cilk_program::ask::{FunctionCall, LoopPart};
@@ -46,9 +47,11 @@ pub fn root(alloc: Global, program: &Program, code: &Code) -> Result<Activation<
     ))
 }
 
-/// Returns the frame of a function that the running frame invokes, before it begins.
+/// Returns the frame of a function that the running frame invokes, before it begins. `operands` are
+/// those of a frame that has ended.
 pub fn function(
     alloc: Global,
+    operands: Operands,
     code: &Code,
     state: &State,
     frames: &CallStack<Cursor>,
@@ -59,7 +62,7 @@ pub fn function(
     requires cells { length state.now.cells.items ≤ MAX_CELLS }
     ensures { IfOk result (λ a. IsChild code.now state.now frames.now (callees.Function call.now) a) }
 {
-    let cursor = Cursor::function(alloc, code, call)?;
+    let cursor = Cursor::function_in(alloc, operands, code, call)?;
     let number = state.frames + 1;
     let base = state.cells.len() as Cell;
     let frame = beginnings::function(
@@ -75,8 +78,10 @@ pub fn function(
 }
 
 /// Returns the frame of some turns of a loop that the running frame invokes, before it begins.
+/// `operands` are those of a frame that has ended.
 pub fn turns(
     alloc: Global,
+    operands: Operands,
     code: &Code,
     state: &State,
     frames: &CallStack<Cursor>,
@@ -87,7 +92,7 @@ pub fn turns(
     requires cells { length state.now.cells.items ≤ MAX_CELLS }
     ensures { IfOk result (λ a. IsChild code.now state.now frames.now (callees.Loop part.now) a) }
 {
-    let cursor = Cursor::turns(alloc, code, part)?;
+    let cursor = Cursor::turns_in(alloc, operands, code, part)?;
     let number = state.frames + 1;
     let base = state.cells.len() as Cell;
     let here = frames.depth();

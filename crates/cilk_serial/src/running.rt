@@ -120,7 +120,7 @@ impl Running {
                 Ok(step)
             }
             Told::Ends(result) => {
-                let step = self.end(program, code, input, result)?;
+                let step = self.end(alloc, program, code, input, result)?;
                 Ok(step)
             }
             Told::Stops(fault) => Ok(Step::Stops(fault)),
@@ -255,12 +255,13 @@ impl Running {
         requires begins { IsFunctionCall self.old.ask }
         ensures { (inputs : List ℤ) → Going code.now (source program.now) inputs self.old → IfOk result (λ step. Progresses code.now (source program.now) inputs self.old step self.new) }
     {
+        let operands = self.ask.spare(alloc);
         let (how, call) = self.ask.invocation();
         let cells = function_cells(program, call.function);
         if let Some(fault) = crowded(&self.state, cells) {
             return Ok(Step::Stops(fault));
         }
-        let frame = function(alloc, code, &self.state, &self.frames, call)?;
+        let frame = function(alloc, operands, code, &self.state, &self.frames, call)?;
         self.begin(how, cells, frame)?;
         Ok(Step::Made)
     }
@@ -283,7 +284,8 @@ impl Running {
         if let Some(fault) = crowded(&self.state, cells) {
             return Ok(Step::Stops(fault));
         }
-        let frame = turns(alloc, code, &self.state, &self.frames, part)?;
+        let operands = self.ask.spare(alloc);
+        let frame = turns(alloc, operands, code, &self.state, &self.frames, part)?;
         self.begin(how, cells, frame)?;
         Ok(Step::Made)
     }
@@ -310,6 +312,7 @@ impl Running {
     #[inline(never)]
     pub fn end(
         &mut self,
+        alloc: Global,
         program: &Program,
         code: &Code,
         input: &Input,
@@ -325,6 +328,8 @@ impl Running {
             Err(Refused::Memory) => return Err(AllocError),
         }
         retire(program, &mut self.state, &self.frames.top);
+        let operands = self.frames.top.cursor.take_operands(alloc);
+        self.ask.keep(alloc, operands);
         let goes_on = self.frames.pop();
         if !goes_on {
             return Ok(Step::Last(value));

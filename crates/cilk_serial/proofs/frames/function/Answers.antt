@@ -8,8 +8,8 @@ use Rattle.cilk_serial.proofs.Beginnings.{function_scoped}
 use Rattle.cilk_serial.proofs.Homes.{result_fits, seen_scope}
 use Rattle.cilk_serial.proofs.frames.function.Goals as goal
 
-pub function-requires-2 : goal.function-requires-2
-function-requires-2 c =
+pub function-requires : goal.function-requires
+function-requires c =
     let h = c.requires.may in
     let fr = h.1 in
     let may = h.4 in

@@ -2,7 +2,10 @@ use Rattle.cilk_program.specs.declared.ask.Callee.TheVariants.{Loop}
 use Rattle.cilk_program.specs.Sources.{source}
 use Rattle.cilk_serial.proofs.Driving.{begins_child, crowd_refuses, fits_callee, may_begin, not_crowded, stops, uncrowded}
 use Rattle.cilk_serial.proofs.running.Running.invoke_turns.Goals as goal
-use Rattle.std.proofs.Common.{refl}
+use Rattle.std.proofs.Common.{refl, sym, subst, ◌∙◌}
+use Rattle.cilk_program.specs.declared.ask.Ask.{Ask}
+use Rattle.cilk_serial.specs.Going.{Going}
+use Rattle.cilk_serial.specs.declared.running.Running.{Running}
 
 pub turn_cells-cells-requires : goal.turn_cells-cells-requires
 turn_cells-cells-requires c =
@@ -44,5 +47,9 @@ pub returns : goal.returns
 returns c = λ inputs g.
     let p = c.args.program.now in
     let r = c.args.self.now in
-    let allowed = uncrowded (source p) r.state r.ask c.args.how (Loop c.args.part.now) c.turn_cells-cells.result c.requires.begins c.turn_cells-cells.ensures c.in_default.ensures in
-    begins_child c.args.code.now (source p) inputs r c.begin.new.self c.in_ok-frame.frame c.args.how (Loop c.args.part.now) c.turn_cells-cells.result p.well_named g allowed c.requires.begins c.turn_cells-cells.ensures c.in_ok-frame.ensures c.in_ok-begin.ensures
+    let callee = Loop c.args.part.now in
+    let spared : Running = record { state = r.state; frames = r.frames; ask = c.spare-operands.new.self; left = r.left } in
+    let going = subst (λ (k : Ask). Going c.args.code.now (source p) inputs (record { state = r.state; frames = r.frames; ask = k; left = r.left })) (sym c.spare-operands.ensures) g in
+    let asks = c.spare-operands.ensures ∙ c.requires.begins in
+    let allowed = uncrowded (source p) r.state spared.ask c.args.how callee c.turn_cells-cells.result asks c.turn_cells-cells.ensures c.in_default.ensures in
+    begins_child c.args.code.now (source p) inputs spared c.begin.new.self c.in_ok-frame.frame c.args.how callee c.turn_cells-cells.result p.well_named going allowed asks c.turn_cells-cells.ensures c.in_ok-frame.ensures c.in_ok-begin.ensures

@@ -5,7 +5,7 @@ use Rattle.cilk_lower.specs.declared.code.EntryPoint.{EntryPoint}
 use Rattle.cilk_lower.specs.Code.{entry_of}
 use Rattle.cilk_frames.specs.Cursor.{begins_at}
 use Rattle.cilk_frames.proofs.Following.{stands_as}
-use Rattle.cilk_frames.proofs.cursor.Cursor.function.Goals as goal
+use Rattle.cilk_frames.proofs.cursor.Cursor.function_in.Goals as goal
 
 pub returns-clause-stands : goal.returns-clause-stands
 returns-clause-stands c =
