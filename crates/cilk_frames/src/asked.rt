@@ -17,6 +17,10 @@ use cilk_types::invocation::Invocation;
 use std::alloc::Global;
 use std::marker::Model;
 
+// A loop of many turns, halved, has fewer frames at once. A chain of frames that end one after
+// another would keep far more than the frames after it use.
+const MAX_SPARES: usize = 64;
+
 /// The last request of a frame. Most of an `Ask` is room for a function's arguments, and would be
 /// copied at each step. Here it stays in one place, and is written only when a function is invoked.
 /// The slot also keeps the operands of frames that have ended, so that frames that begin later need
@@ -58,14 +62,17 @@ impl AskSlot {
         }
     }
 
-    /// Keeps the operands of a frame that has ended. If memory is refused, they are dropped.
+    /// Keeps the operands of a frame that has ended. They are dropped if many are kept already, or if
+    /// memory is refused.
     #[inline(always)]
     pub fn keep(&mut self, alloc: Global, operands: Operands)
         ensures { self.new ≡ self.old }
     {
         match &mut self.spares {
             Some(spares) => {
-                let _ = spares.push(operands);
+                if spares.len() < MAX_SPARES {
+                    let _ = spares.push(operands);
+                }
             }
             None => self.spares = Some(Vec::new(alloc)),
         }
