@@ -20,17 +20,17 @@ use Rattle.cilk_program.specs.Sources.{source}
 use Rattle.cilk_determinacy.specs.Words.{AreWords, ExpressionWords, ExpressionsWords, OptionWords, TargetWords, DeclarationWords, DeclarationsWords, StatementWords, RowWords, FunctionsWords, LoopsWords, HasWords}
 
 expression_words : (e : exprs.Expr) → ExpressionWords (expression e)
-expression_words (exprs.Number n) = n.word
-expression_words (exprs.Variable x) = tt
-expression_words (exprs.Element' a p e) = expression_words e
-expression_words (exprs.Negate' p e) = expression_words e
-expression_words (exprs.Not' p e) = expression_words e
-expression_words (exprs.Binary' op p a q b) = (expression_words a, expression_words b)
-expression_words (exprs.And' p a q b) = (expression_words a, expression_words b)
-expression_words (exprs.Or' p a q b) = (expression_words a, expression_words b)
-expression_words (exprs.Value r) = tt
-expression_words (exprs.Input' p e) = expression_words e
-expression_words exprs.InputCount = tt
+expression_words (exprs.Number at n) = n.word
+expression_words (exprs.Variable at x) = tt
+expression_words (exprs.Element' at a p e) = expression_words e
+expression_words (exprs.Negate' at p e) = expression_words e
+expression_words (exprs.Not' at p e) = expression_words e
+expression_words (exprs.Binary' at op p a q b) = (expression_words a, expression_words b)
+expression_words (exprs.And' at p a q b) = (expression_words a, expression_words b)
+expression_words (exprs.Or' at p a q b) = (expression_words a, expression_words b)
+expression_words (exprs.Value at r) = tt
+expression_words (exprs.Input' at p e) = expression_words e
+expression_words (exprs.InputCount at) = tt
 
 expressions_words : (es : List exprs.Expr) → ExpressionsWords (map expression es)
 expressions_words [] = tt
@@ -41,12 +41,12 @@ optional_words None = tt
 optional_words (Some e) = expression_words e
 
 target_words : (t : declared_targets.Target) → TargetWords (target t)
-target_words (targets.Variable x) = tt
-target_words (targets.Element a e) = expression_words e
+target_words (targets.Variable at x) = tt
+target_words (targets.Element at a e) = expression_words e
 
 declaration_words : (d : declared_declarations.Declaration) → DeclarationWords (declaration d)
-declaration_words (declarations.Zero n) = tt
-declaration_words (declarations.Value n e) = expression_words e
+declaration_words (declarations.Zero at n) = tt
+declaration_words (declarations.Value at n e) = expression_words e
 declaration_words (declarations.Invoke i) = expressions_words i.arguments.items
 
 declarations_words : (ds : List declared_declarations.Declaration) → DeclarationsWords (map declaration ds)
@@ -55,22 +55,22 @@ declarations_words (d ∷ ds) = (declaration_words d, declarations_words ds)
 
 mutual
   statement_words : (s : stmts.Stmt) → StatementWords (statement s)
-  statement_words stmts.Empty = tt
-  statement_words (stmts.Block' shape row) = row_words row
+  statement_words (stmts.Empty at) = tt
+  statement_words (stmts.Block' at shape row) = row_words row
   statement_words (stmts.Declare row) = declarations_words row.items
   statement_words (stmts.Assign t e) = (target_words t, expression_words e)
-  statement_words (stmts.Change t op e) = (target_words t, expression_words e)
+  statement_words (stmts.Change t at op e) = (target_words t, expression_words e)
   statement_words (stmts.Step t n) = target_words t
   statement_words (stmts.Invoke i) = expressions_words i.arguments.items
-  statement_words stmts.Sync = tt
-  statement_words (stmts.If' e p s) = (expression_words e, statement_words s)
-  statement_words (stmts.IfElse' e p s q other) = (expression_words e, statement_words s, statement_words other)
-  statement_words (stmts.For' shape row test shape2 row2 p s) = (row_words row, optional_words test, row_words row2, statement_words s)
-  statement_words (stmts.ParallelFor a b n) = (expression_words a, expression_words b)
-  statement_words (stmts.Print e) = expression_words e
-  statement_words (stmts.Update r e) = expression_words e
-  statement_words (stmts.Set r e) = expression_words e
-  statement_words (stmts.Return e) = optional_words e
+  statement_words (stmts.Sync at) = tt
+  statement_words (stmts.If' at e p s) = (expression_words e, statement_words s)
+  statement_words (stmts.IfElse' at e p s q other) = (expression_words e, statement_words s, statement_words other)
+  statement_words (stmts.For' at shape row test shape2 row2 p s) = (row_words row, optional_words test, row_words row2, statement_words s)
+  statement_words (stmts.ParallelFor at a b n) = (expression_words a, expression_words b)
+  statement_words (stmts.Print at e) = expression_words e
+  statement_words (stmts.Update at r e) = expression_words e
+  statement_words (stmts.Set at r e) = expression_words e
+  statement_words (stmts.Return at e) = optional_words e
 
   row_words : {n : _} (row : stmts.Row_of-Stmt n) → RowWords (row_view row)
   row_words stmts.end_of-Stmt = tt
