@@ -28,7 +28,7 @@ pub const ESTIMATE: &str = "<path fill=\"none\" stroke=\"#d55e00\" stroke-width=
 /// What their colours mean.
 pub const KEYS: &str =
     "<path fill=\"none\" stroke=\"#0072b2\" stroke-width=\"2\" d=\"M80 68 h30\"/>\n\
-    <text x=\"118\" y=\"72\" text-anchor=\"start\" fill=\"#222222\">at most: the lesser of workers and parallelism</text>\n\
+    <text x=\"118\" y=\"72\" text-anchor=\"start\" fill=\"#222222\">at most: min(workers, parallelism)</text>\n\
     <path fill=\"none\" stroke=\"#d55e00\" stroke-width=\"2\" d=\"M420 68 h30\"/>\n\
     <text x=\"458\" y=\"72\" text-anchor=\"start\" fill=\"#222222\">low estimate, with the burden</text>\n";
 
