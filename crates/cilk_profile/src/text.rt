@@ -63,8 +63,7 @@ pub fn text_of(
 }
 
 // The errors of a picture that isn't drawn.
-const TOO_LARGE: &str =
-    "error: the run has too many strands to be drawn as a tree: more than 250\n\
+const TOO_LARGE: &str = "error: the run has too many strands to be drawn as a tree: more than 250\n\
     hint: measure a smaller input, or draw its steps: `cilk measure PROGRAM --svg`\n";
 
 const TWO_FORMS: &str = "error: one picture or table at a time: `--csv`, `--svg` or `--dot`\n\
