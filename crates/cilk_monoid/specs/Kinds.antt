@@ -1,5 +1,5 @@
 -- The five monoids that programs name.
-use Rattle.std.specs.Prelude.{Bool, true, false, ℕ, ℤ, pos, negsuc, ◌+ℤ◌, ◌*ℤ◌, [], ◌∷◌, ◌++◌, length, All}
+use Rattle.std.specs.Prelude.{Bool, true, false, if◌then◌else◌, ℕ, ℤ, pos, negsuc, ◌+ℤ◌, ◌*ℤ◌, List, [], ◌∷◌, ◌++◌, Option, Some, None, bytes_eq, codes, length, All}
 use Rattle.std.specs.Int.{int_max, int_min}
 use Rattle.cilk_types.specs.Word.{word_of, IsWord}
 use Rattle.cilk_types.specs.declared.outcome.Final.{Final}
@@ -8,6 +8,15 @@ use Rattle.cilk_monoid.specs.declared.kind.MonoidKind.{MonoidKind}
 use Rattle.cilk_monoid.specs.declared.kind.MonoidKind.TheVariants.{Add, Least, Greatest, Append, Affine}
 use Rattle.cilk_monoid.specs.Laws.{MonoidStructure}
 use Rattle.cilk_monoid.specs.Values.{ViewValue, Number, Elements, Map}
+
+-- the monoid with this name in a program
+abbrev pub kind_named : List ℕ → Option MonoidKind
+kind_named name =
+    if bytes_eq name (codes "add") then Some Add
+    else (if bytes_eq name (codes "min") then Some Least
+    else (if bytes_eq name (codes "max") then Some Greatest
+    else (if bytes_eq name (codes "append") then Some Append
+    else (if bytes_eq name (codes "affine") then Some Affine else None))))
 
 -- an operation on numbers, lifted to values of views
 abbrev pub on_numbers : (ℤ → ℤ → ℤ) → ViewValue → ViewValue → ViewValue

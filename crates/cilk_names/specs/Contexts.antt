@@ -2,6 +2,7 @@
 -- functions.
 use Rattle.std.specs.Prelude.{ℕ, ◌+◌, nat_lt, Bool, false, if◌then◌else◌, List, [], ◌∷◌, ◌++◌, length, Option, Some, None, bytes_eq}
 use Rattle.cilk_monoid.specs.declared.kind.MonoidKind.{MonoidKind}
+use Rattle.cilk_monoid.specs.Kinds.{kind_named}
 use Rattle.cilk_syntax.specs.declared.tree.Name.{Name}
 use Rattle.cilk_syntax.specs.declared.tree.Parameter.{Parameter}
 use Rattle.cilk_syntax.specs.declared.tree.Parameter.TheVariants as parameters
@@ -9,7 +10,7 @@ use Rattle.cilk_syntax.specs.declared.tree.Reducer.{Reducer}
 use Rattle.cilk_syntax.specs.Trees as trees
 use Rattle.cilk_syntax.specs.Trees.{Item, Globals, Function, bytes_of}
 use Rattle.cilk_program.specs.declared.program.Body.TheVariants as bodies
-use Rattle.cilk_names.specs.Names.{Scope, Names, monoid_of, monoid_at, kind_or_sum, declare, opened, with_function}
+use Rattle.cilk_names.specs.Names.{Scope, Names, monoid_at, kind_or_sum, declare, opened, with_function}
 use Rattle.cilk_names.specs.declared.limits.TheConstants.{MAX_CELLS, MAX_REDUCERS}
 use Rattle.cilk_names.specs.declared.table.Meaning.TheVariants as meanings
 use Rattle.cilk_names.specs.declared.table.Home.TheVariants as homes
@@ -116,7 +117,7 @@ abbrev mutual
 -- the kind of a parameter
 abbrev pub kind_of : List ℕ → Parameter → ParameterKind
 kind_of text (parameters.Variable x) = kinds.Word
-kind_of text (parameters.Reducer r) = kinds.Reducer (monoid_of (bytes_of text r.monoid))
+kind_of text (parameters.Reducer r) = kinds.Reducer (kind_named (bytes_of text r.monoid))
 
 abbrev pub kinds_of : List ℕ → List Parameter → List ParameterKind
 kinds_of text [] = []

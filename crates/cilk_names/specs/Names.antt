@@ -1,9 +1,10 @@
 -- The meaning of names in lexical scopes. A function is known in the whole text, another name from
 -- its declaration to the end of its scope. An inner name hides an outer one.
-use Rattle.std.specs.Prelude.{ℕ, Bool, true, false, if◌then◌else◌, List, [], ◌∷◌, ◌++◌, Option, Some, None, option_map, unwrap_or, bytes_eq, codes}
+use Rattle.std.specs.Prelude.{ℕ, Bool, true, false, if◌then◌else◌, List, [], ◌∷◌, ◌++◌, Option, Some, None, option_map, unwrap_or, bytes_eq}
 use Rattle.std.specs.Option.{is_some, option_map_or, option_or}
 use Rattle.cilk_monoid.specs.declared.kind.MonoidKind.{MonoidKind}
 use Rattle.cilk_monoid.specs.declared.kind.MonoidKind.TheVariants as monoids
+use Rattle.cilk_monoid.specs.Kinds.{kind_named}
 use Rattle.cilk_syntax.specs.declared.tree.Name.{Name}
 use Rattle.cilk_syntax.specs.declared.tree.Reducer.{Reducer}
 use Rattle.cilk_syntax.specs.Trees.{bytes_of}
@@ -11,15 +12,6 @@ use Rattle.cilk_names.specs.declared.table.Meaning.{Meaning}
 use Rattle.cilk_names.specs.declared.table.Meaning.TheVariants as meanings
 use Rattle.cilk_names.specs.declared.table.Binding.{Binding}
 use Rattle.cilk_names.specs.declared.signature.Signature.{Signature}
-
--- the monoid with this name
-abbrev pub monoid_of : List ℕ → Option MonoidKind
-monoid_of name =
-    if bytes_eq name (codes "add") then Some monoids.Add
-    else (if bytes_eq name (codes "min") then Some monoids.Least
-    else (if bytes_eq name (codes "max") then Some monoids.Greatest
-    else (if bytes_eq name (codes "append") then Some monoids.Append
-    else (if bytes_eq name (codes "affine") then Some monoids.Affine else None))))
 
 -- a scope: for each name its meaning, and whether it is declared already
 abbrev pub Scope : Type 0
@@ -68,7 +60,7 @@ abbrev pub opened : Names → Names
 opened names = record names { inner = empty; outer = names.outer ++ names.inner ∷ [] }
 
 abbrev pub monoid_at : Names → Reducer → Option MonoidKind
-monoid_at names r = monoid_of (bytes_of names.text r.monoid)
+monoid_at names r = kind_named (bytes_of names.text r.monoid)
 
 -- the monoid of a reducer; an unknown one counts as a sum
 abbrev pub kind_or_sum : Option MonoidKind → MonoidKind

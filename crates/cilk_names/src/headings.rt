@@ -7,9 +7,9 @@ ghost use Rattle.cilk_names.specs.Globals.{is_main, is_main_item, main_of};
 ghost use Rattle.cilk_names.specs.Tables.{names_of};
 
 use crate::scene::number_of;
-use crate::sights::monoid_of;
 use crate::signature::{ParameterKind, Signature};
 use crate::table::{Table, bytes_of};
+use cilk_monoid::kind::MonoidKind;
 use cilk_syntax::tree::{Item, Name, Parameter, ReturnType};
 use cilk_types::sequence::Sequence;
 use std::alloc::{AllocError, Global};
@@ -21,7 +21,7 @@ fn kind_of(text: &[u8], parameter: Parameter) -> ParameterKind
     match parameter {
         Parameter::Variable(_) => ParameterKind::Word,
         Parameter::Reducer(reducer) => {
-            ParameterKind::Reducer(monoid_of(bytes_of(text, reducer.monoid)))
+            ParameterKind::Reducer(MonoidKind::named(bytes_of(text, reducer.monoid)))
         }
     }
 }

@@ -2,7 +2,7 @@
 
 ghost use Rattle.std.specs.Prelude.{◌≡◌};
 ghost use Rattle.cilk_names.specs.Faults.{array_faults, earliest, function_faults, monoid_faults, name_faults, reducer_faults, unless, variable_faults, written_faults};
-ghost use Rattle.cilk_names.specs.Names.{meaning, monoid_at, monoid_of};
+ghost use Rattle.cilk_names.specs.Names.{meaning, monoid_at};
 ghost use Rattle.cilk_names.specs.Sights.{array, array_of, called, function_of, is_reducer_of, is_same, is_turn, place_of, reducer, reducer_of, reducer_place, variable};
 ghost use Rattle.cilk_names.specs.Tables.{names_of};
 
@@ -245,27 +245,8 @@ pub fn monoid(
     ensures monoid { result ≡ monoid_at (names_of table.now) reducer }
     ensures faults { first.new ≡ earliest first.old (monoid_faults (names_of table.now) reducer) }
 {
-    let kind = monoid_of(bytes_of(table.text, reducer.monoid));
+    let kind = MonoidKind::named(bytes_of(table.text, reducer.monoid));
     let place = reducer.monoid.at;
     note_unless(kind.is_some(), NameErrorKind::Unknown, place, first);
     kind
-}
-
-/// Returns the monoid with this name.
-pub fn monoid_of(name: &[u8]) -> Option<MonoidKind>
-    ensures { result ≡ monoid_of name.now }
-{
-    if name == b"add".as_slice() {
-        Some(MonoidKind::Add)
-    } else if name == b"min".as_slice() {
-        Some(MonoidKind::Least)
-    } else if name == b"max".as_slice() {
-        Some(MonoidKind::Greatest)
-    } else if name == b"append".as_slice() {
-        Some(MonoidKind::Append)
-    } else if name == b"affine".as_slice() {
-        Some(MonoidKind::Affine)
-    } else {
-        None
-    }
 }
