@@ -19,6 +19,8 @@ A case is a folder, listed in the file `cases`, with
   out err   what goes to the two streams. `<..>` stands for any bytes
   status    the exit status, where it isn't 0
   makes     a line with the name of a file that is made first, and a line for each word of the call that shows it
+  reads     how many times files are read; only crates/cilk_rows counts that
+  unread    after how many reads of files each further one fails; only crates/cilk_rows serves such a case
   fills     lines `FILE COUNT TEXT`: TEXT is put COUNT times at the end of FILE, `\\n` in it for a line's end; after `makes`
   about     what the case tells, for its reader
 and the files that its words name. A text whose file isn't there is empty. The program sees a copy of the folder without
@@ -42,7 +44,7 @@ DATA = f"{TOP}/crates/cilk_rows/data"
 PROGRAM = os.environ.get("CILK", f"{TOP}/crates/cilk/out/cilk")
 GAP = b"<..>"
 WANTED = ("out", "err", "status")
-OWN = WANTED + ("words", "stdin", "makes", "fills", "about")
+OWN = WANTED + ("words", "stdin", "makes", "reads", "unread", "fills", "about")
 LIMIT = 60
 MOST = 40  # lines of a difference
 
@@ -143,7 +145,7 @@ def differences(name, status, out, err):
 
 def run(program, form, jobs, limit, is_light):
     """Runs the cases whose names a form finds; the answer is the status."""
-    chosen = [name for name in names() if re.search(form, name)]
+    chosen = [name for name in names() if re.search(form, name) and not os.path.exists(f"{DATA}/{name}/unread")]
     if is_light:
         slow = {name.decode() for name in lines(f"{DATA}/slow")}
         print(f"left out: {len(slow.intersection(chosen))} cases that go to a limit of a run")

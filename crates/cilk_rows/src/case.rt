@@ -15,6 +15,10 @@ pub struct Case {
     /// Lines `NAME COUNT TEXT`: add the text that many times at the end of a file.
     fills: String,
     pub files: Vec<File>,
+    /// The number of times that files are read, if the case says it.
+    pub reads: Option<u64>,
+    /// The number of reads after which each further one fails.
+    pub left: u64,
     pub status: u8,
     pub out: Vec<u8>,
     pub err: Vec<u8>,
@@ -86,6 +90,8 @@ pub fn loaded(rt: &HostRuntime, name: &str) -> Result<Case, AllocError> {
     let makes = text_of(rt, path(alloc, name, "makes")?.as_str())?;
     let fills = text_of(rt, path(alloc, name, "fills")?.as_str())?;
     let status = text_of(rt, path(alloc, name, "status")?.as_str())?;
+    let reads = text_of(rt, path(alloc, name, "reads")?.as_str())?;
+    let unread = text_of(rt, path(alloc, name, "unread")?.as_str())?;
     let out = bytes(rt, path(alloc, name, "out")?.as_str())?;
     let err = bytes(rt, path(alloc, name, "err")?.as_str())?;
     let mut files = Vec::new(alloc);
@@ -97,6 +103,8 @@ pub fn loaded(rt: &HostRuntime, name: &str) -> Result<Case, AllocError> {
         makes,
         fills,
         files,
+        reads: reads.as_str().trim().parse::<u64>().ok(),
+        left: unread.as_str().trim().parse::<u64>().unwrap_or(u64::MAX),
         status: status.as_str().trim().parse::<u8>().unwrap_or(0),
         out,
         err,

@@ -31,19 +31,27 @@ fn found<'a>(files: &'a [File], name: &str) -> Option<&'a [u8]> {
     bytes
 }
 
-/// The files of a case, as the tool reads them. An unknown path counts as a failure.
+/// The files of a case, as the tool reads them. An unknown path counts as a failure, and so does each
+/// read once none is left.
 #[derive(Drop)]
 pub struct Folder<'a> {
     files: &'a [File],
+    left: u64,
+    pub reads: u64,
     failures: u64,
 }
 
 impl<'a> Folder<'a> {
-    /// Creates a folder with these files.
-    pub fn new(files: &'a [File]) -> Folder<'a>
+    /// Creates a folder with these files, which can be read so many times.
+    pub fn new(files: &'a [File], left: u64) -> Folder<'a>
         ensures { result.failures ≡ 0 }
     {
-        Folder { files, failures: 0 }
+        Folder {
+            files,
+            left,
+            reads: 0,
+            failures: 0,
+        }
     }
 
     /// Returns the text of a path.
@@ -52,9 +60,13 @@ impl<'a> Folder<'a> {
         ensures counted { IfErr result (λ _. self.old.failures < self.new.failures) }
         ensures uncounted { OnOk result (self.new.failures ≡ self.old.failures) }
     {
+        self.reads = self.reads.saturating_add(1);
         match found(self.files, path) {
-            Some(bytes) => Ok(bytes),
-            None => {
+            Some(bytes) if self.left > 0 => {
+                self.left -= 1;
+                Ok(bytes)
+            }
+            _ => {
                 self.failures += 1;
                 Err(FileFault::Device)
             }

@@ -12,7 +12,9 @@
 //! | `stdin`, and files that `words` names | what the call reads |
 //! | `makes` | a file to make first by another call, as a certificate |
 //! | `fills` | texts to repeat at the end of a file, for long inputs |
+//! | `unread` | the number of reads of files after which each further one fails |
 //! | `out`, `err`, `status` | the expected reply; `<..>` matches any bytes |
+//! | `reads` | the expected number of reads of files |
 //!
 //! A missing file is empty text, so a case holds only what matters for it. `tools/cases.py`
 //! describes the folders and runs the built program with the same cases.
@@ -40,25 +42,27 @@ use std::sync::Wait;
 use std::thread::Threads;
 use std::time::Clock;
 
-/// The reply to a call.
+/// The reply to a call, and how many times it read a file.
 #[derive(Drop)]
 struct Shown {
     status: u8,
+    reads: u64,
     out: Vec<u8>,
     err: Vec<u8>,
 }
 
-/// Serves words over files. The file `stdin` is the standard input.
+/// Serves words over files that can be read `left` times. The file `stdin` is the standard input.
 fn served<H: Threads + Wait + Clock + Sync>(
     rt: &HostRuntime,
     handle: &H,
     words: &str,
     files: &[File],
+    left: u64,
 ) -> Result<Shown, AllocError> {
     let alloc = rt.alloc();
     let words: Vec<&str> = words.lines().collect(alloc)?;
     let mut input = bytes_of(files, "stdin");
-    let mut folder = KeptFiles::new(alloc, Folder::new(files));
+    let mut folder = KeptFiles::new(alloc, Folder::new(files, left));
     let (mut out, mut err) = (Vec::new(alloc), Vec::new(alloc));
     let status = serve(
         handle,
@@ -69,7 +73,8 @@ fn served<H: Threads + Wait + Clock + Sync>(
         &mut out,
         &mut err,
     );
-    Ok(Shown { status, out, err })
+    let reads = folder.files.reads;
+    Ok(Shown { status, reads, out, err })
 }
 
 /// Makes the file of a case's own call, if it has one: the standard output of that call.
@@ -82,7 +87,7 @@ fn make<H: Threads + Wait + Clock + Sync>(
     let Some((name, words)) = case.makes.as_str().split_once('\n') else {
         return Ok(());
     };
-    let made = served(rt, handle, words, case.files.as_slice())?;
+    let made = served(rt, handle, words, case.files.as_slice(), u64::MAX)?;
     let name = String::from_str(alloc, name)?;
     let bytes = made.out.as_slice().to_vec(alloc)?;
     case.files.push(File { name, bytes })?;
@@ -113,16 +118,23 @@ fn is_passed<H: Threads + Wait + Clock + Sync>(
     let mut case = loaded(rt, name)?;
     make(rt, handle, &mut case)?;
     case.fill(rt.alloc())?;
-    let shown = served(rt, handle, case.words.as_str(), case.files.as_slice())?;
+    let (words, files) = (case.words.as_str(), case.files.as_slice());
+    let shown = served(rt, handle, words, files, case.left)?;
     let (out, err) = (case.out.as_slice(), case.err.as_slice());
     if shown.status != case.status {
         let (wanted, status) = (case.status, shown.status);
         println!(rt; "{name}: status {wanted} is wanted, and it is {status}")?;
     }
+    let reads = case.reads.unwrap_or(shown.reads);
+    if shown.reads != reads {
+        let read = shown.reads;
+        println!(rt; "{name}: {reads} reads of files are wanted, and there are {read}")?;
+    }
     print_difference(rt, name, "standard output", out, shown.out.as_slice())?;
     print_difference(rt, name, "standard error", err, shown.err.as_slice())?;
     Ok(
         shown.status == case.status
+            && shown.reads == reads
             && agrees(out, shown.out.as_slice())
             && agrees(err, shown.err.as_slice()),
     )
