@@ -55,8 +55,8 @@ pub fn run_many<H: Threads + Sync, W: Watch + Sync>(
     run_to_end(alloc, program, input)
 }
 
-// The same, with the hints in a certificate's text.
-fn listed_run<H: Threads + Sync, W: Watch + Sync>(
+/// The same, with the hints in a certificate's text. Its only fault is that memory runs out.
+pub fn listed_run<H: Threads + Sync, W: Watch + Sync>(
     rt: &H,
     alloc: Global,
     program: &Program,
