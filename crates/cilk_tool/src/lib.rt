@@ -12,9 +12,9 @@
 //! whose run leaves the plan of the certified run ends in `refused 502` with the position.
 //!
 //! `check PROGRAM CERTIFICATE --helpers N` shows what `check` shows. The helpers, each in a thread
-//! of its own, replay the program's frames (`cilk_helpers`). The certificate's file is read twice,
-//! in parts: once for hints, which nothing trusts, and once for the check. A single helper starts
-//! no thread.
+//! of its own, replay the program's frames (`cilk_helpers`). The certificate's text is kept: it
+//! is read for hints, which nothing trusts, and then checked. A single helper starts no thread.
+//! Then the file is read in parts, as by `check` alone.
 //!
 //! All other command lines are served by [`cilk_report::serve_explained`], without threads or
 //! waiting. `--explain` adds an explanation on standard error to both commands.
