@@ -2,10 +2,12 @@
 
 use crate::certain::{Look, form_at, own_words};
 use crate::cleaned::cleaned;
+use crate::gone::end_of_gone;
 use crate::kinds::is_foreign;
 use crate::place::{between, line_at, locate};
 use crate::rules::fits;
 use crate::sentence::{Part, push_said};
+use crate::sentences::sentence;
 use crate::site::Site;
 use crate::tokens::Tokens;
 use std::alloc::{AllocError, Global};
@@ -85,6 +87,16 @@ impl<'a, 'h> Further<'a, 'h> {
             if form.hint == hint && (!by_word || between(self.text, form.at, end) == word) {
                 self.forms[place].more = form.more.saturating_add(1);
                 return;
+            }
+        }
+    }
+
+    // Forgets the forms that stand in a part of the text alone.
+    fn forget(&mut self, from: usize, upto: usize) {
+        for place in 0..KEPT {
+            let form = self.forms[place];
+            if form.at > from && form.at < upto && form.more == 0 {
+                self.forms[place] = NO_FORM;
             }
         }
     }
@@ -176,7 +188,18 @@ fn look_over<'a>(
         is_word: false,
         upto: 0,
     };
+    let mut gone: usize = 0;
     for number in 0..tokens.count().min(LOOKED_AT) {
+        if number < gone {
+            continue;
+        }
+        let (place, length) = (tokens.place(number), tokens.word(number).len());
+        if let Some(end) = end_of_gone(tokens, number) {
+            further.forget(place, tokens.place(end));
+            further.note(place, length, sentence("GONE"), false);
+            gone = end;
+            continue;
+        }
         let site = Site {
             tokens,
             number,
@@ -185,12 +208,7 @@ fn look_over<'a>(
         if let Some(hint) = form_at(&site, &mut look)
             && !(is_foreign && fits(&site, "0 < >"))
         {
-            further.note(
-                tokens.place(number),
-                tokens.word(number).len(),
-                hint,
-                look.is_word,
-            );
+            further.note(place, length, hint, look.is_word);
         }
     }
 }

@@ -45,6 +45,7 @@ mod cleaned;
 pub mod excerpt;
 mod forms;
 mod further;
+mod gone;
 pub mod hints;
 mod kinds;
 mod marks;

@@ -152,7 +152,7 @@ A run has at most 1,000,000 events (reads, writes, calls, syncs and the like) an
 program int main() { while (1) { print(1); } return 0; }
 fault 204 at 1000001
 too many events, or too many ticks, in place of this event
-See that each loop ends. On a smaller input `measure` shows which function or loop makes the most events: each read and each write of a variable or an element is one. Keep less in variables on the way, or do less for each element.
+See that each loop ends. On a smaller input `measure` shows which function or loop makes the most events: each read and each write of a variable or an element is one. Keep less in variables on the way, do less for each element, or take a smaller size: a limit is met in proportion to what the run does.
 
 205: too many frames
 A run begins at most 65,536 frames: one for each call and each spawn, and 2 n - 1 for a `cilk_for` of n turns. A recursion without an end comes to this, too.

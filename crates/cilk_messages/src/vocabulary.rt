@@ -66,7 +66,7 @@ int long short int64_t int32_t size_t => `int` is the only type, and has 64 bits
 // Types, words of reducers, and words before a declaration, a statement or an operand.
 const OTHER_WORDS: &str = "\
 long short int64_t int32_t int16_t int8_t size_t => `int` is the only type, and has 64 bits
-unsigned uint32_t => `int` is the only type; its 64 bits have a sign. What wraps at 32 bits, as the seed of a generator of random numbers, is kept below 2^32 by `%`: `seed = (seed * 1664525 + 1013904223) % 4294967296;`
+unsigned uint32_t => `int` is the only type; its 64 bits have a sign. What wraps at 32 bits, as the seed of a generator of random numbers, is kept below 2^32 by `%`: `seed = (seed * 1664525 + 1013904223) % 4294967296;`; an `unsigned char` wraps at 256
 signed uint64_t uint16_t uint8_t => `int` is the only type; its 64 bits have a sign
 char => `int` is the only type; a character is its number
 bool _Bool => `int` is the only type; 0 is false, and all else is true
