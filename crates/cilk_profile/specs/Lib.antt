@@ -1,3 +1,5 @@
+pub mod Burdened
 pub mod Measured
+pub mod Measures
 pub mod Table
 pub mod Words

@@ -1,6 +1,6 @@
 -- The output of `measure`.
 use Rattle.std.specs.Prelude.{◌≡◌, ℕ, Bool, true, ◌||◌, IsFalse, List, ◌++◌, cond, Option, codes}
-use Rattle.cilk_findings.specs.declared.totals.Totals.{Totals}
+use Rattle.cilk_profile.specs.declared.totals.Totals.{Totals}
 use Rattle.cilk_profile.specs.Table.{totals_text}
 use Rattle.cilk_profile.specs.Words.{Text, asks}
 use Rattle.cilk_profile.specs.declared.table.TheConstants.{BLANK, COMMA}

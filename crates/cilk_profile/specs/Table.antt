@@ -1,6 +1,6 @@
 -- The totals of a run as lines of text: a name, a separator, a number and LF.
 use Rattle.std.specs.Prelude.{ℕ, ◌*◌, ◌/◌, ◌%◌, List, [], ◌∷◌, ◌++◌, Option, Some, None, codes, decimal}
-use Rattle.cilk_findings.specs.declared.totals.Totals.{Totals}
+use Rattle.cilk_profile.specs.declared.totals.Totals.{Totals}
 
 -- `NAME MARK NUMBER`
 abbrev pub total_line : List ℕ → ℕ → ℕ → List ℕ

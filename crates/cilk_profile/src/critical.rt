@@ -2,7 +2,7 @@
 
 use crate::rows::{Table, push_cells, title_at};
 use cilk_findings::case::Case;
-use cilk_findings::critical::critical_path;
+use crate::chains::critical_path;
 use cilk_findings::replay::FrameNote;
 use cilk_findings::scene::Scene;
 use cilk_messages::sentence::{printed, say};

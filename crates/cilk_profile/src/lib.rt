@@ -6,13 +6,20 @@
 //! sync, or the order of the text. [`push_trace`] says what each worker does by a script, strand by
 //! strand.
 //!
-//! All is derived from the texts of the program and its input, by one more serial run
+//! Work is the number of events of a run. Span is the length of its longest chain of events in
+//! which each comes before the next under every schedule, so no number of workers needs fewer
+//! steps. Their quotient is the parallelism (Frigo, Leiserson and Randall 1998, section 1). In the
+//! burdened span each spawn on the way costs what a steal may cost (He, Leiserson and Leiserson 2010).
+//! [`measure`] finds these, and is proved to.
+//!
+//! All else is derived from the texts of the program and its input, by one more serial run
 //! (`cilk_findings`), and a trace by a stepwise one too (`cilk_schedule`). [`Kept`] has these texts
 //! as they were read. It reads no files, writes no replies and explains no races, so its proof waits
 //! neither for `cilk_commands` nor for `cilk_races`.
 //!
 //! | Call | Result |
 //! |---|---|
+//! | [`measure`], [`totals_of`] | work, span, burdened span, frames and strands of the serial run |
 //! | [`text_of`] | the table or picture of `measure`, or why there is [`NoText`] |
 //! | [`push_why`] | what orders the accesses of a line |
 //! | [`push_trace`] | what each worker does by a script |
@@ -28,14 +35,21 @@
 //! ```
 #![tactic(auto)]
 
+mod burdened;
+mod chains;
+mod chart;
 mod critical;
 mod deeds;
+mod dot;
+mod drawing;
 mod kept;
 mod orders;
 mod rows;
+mod shares;
 mod speed_up;
 mod table;
 mod text;
+mod totals;
 mod tracing;
 mod why;
 mod words;
@@ -43,6 +57,7 @@ mod words;
 pub use kept::{CaseTexts, Kept};
 pub use rows::push_cells;
 pub use text::{NoText, text_of};
+pub use totals::{Totals, measure, totals_of};
 pub use tracing::push_trace;
 pub use why::push_why;
 pub use words::asks;

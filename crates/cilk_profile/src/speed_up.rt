@@ -1,7 +1,7 @@
 //! Bounds of the speed-up by several workers.
 
 use crate::rows::{Table, push_cells};
-use cilk_findings::totals::Totals;
+use crate::totals::Totals;
 use cilk_messages::sentence::say;
 use std::alloc::AllocError;
 

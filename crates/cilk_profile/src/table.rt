@@ -3,7 +3,7 @@
 ghost use Rattle.std.specs.Prelude.{◌≡◌, ◌++◌, IfOk, OnOk};
 ghost use Rattle.cilk_profile.specs.Table.{burdened_name, decimal_point, hundredths, known_line, parallelism_line, total_line, totals_text};
 
-use cilk_findings::totals::Totals;
+use crate::totals::Totals;
 use itoa::Buffer;
 use std::alloc::{AllocError, Global};
 
@@ -13,7 +13,7 @@ pub const BLANK: u8 = b' ';
 /// The separator in a table with commas.
 pub const COMMA: u8 = b',';
 
-// The name of the burdened span, with `cilk_findings::burdened::BURDEN`.
+// The name of the burdened span, with `crate::burdened::BURDEN`.
 const BURDENED: &[u8] = b"burdened span (a burden of 1000 for each spawn that a steal may take)";
 
 // `NAME MARK NUMBER`.

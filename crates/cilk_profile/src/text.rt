@@ -9,9 +9,9 @@ use crate::rows::push_tables;
 use crate::table::{BLANK, COMMA, totals_text};
 use crate::words::asks;
 use cilk_findings::case::Case;
-use cilk_findings::drawing::{profile_of, tree_of_run};
+use crate::drawing::{profile_of, tree_of_run};
 use cilk_findings::fault::CaseFault;
-use cilk_findings::totals::Totals;
+use crate::totals::Totals;
 use cilk_messages::words::Origin;
 use std::alloc::{AllocError, Global};
 

@@ -16,7 +16,7 @@ use Rattle.cilk_report.specs.Measured.{AreTotalsOf, TellsWhy}
 use Rattle.cilk_profile.specs.Measured.{IsAboutPictures, is_drawn}
 use Rattle.cilk_profile.specs.declared.text.NoText.{NoText}
 use Rattle.cilk_profile.specs.declared.text.NoText.TheVariants as reasons
-use Rattle.cilk_findings.specs.declared.totals.Totals.{Totals}
+use Rattle.cilk_profile.specs.declared.totals.Totals.{Totals}
 use Rattle.cilk_commands.specs.Files.{Failures}
 use Rattle.cilk_commands.specs.Replies.{NoMemory, Reply, Text, failure_view, status_of}
 use Rattle.cilk_commands.specs.Serving.{IsOrNoMemory, RunReply, ShowsError, WordsFail, world}

@@ -3,7 +3,7 @@
 use Rattle.std.specs.Prelude.{◌≡◌, ◌⊎◌, ◌<◌, ◌&&◌, ◌||◌, ℕ, Bool, true, false, not, List, [], ◌∷◌, length, filter, cond, Option, Some, None, codes}
 use Rattle.std.specs.Str.{bytes_eq}
 use Rattle.std.specs.Io.KnownBytes.{Appends}
-use Rattle.cilk_findings.specs.declared.totals.Totals.{Totals}
+use Rattle.cilk_profile.specs.declared.totals.Totals.{Totals}
 use Rattle.cilk_syntax.specs.Lexing.{all_digits}
 use Rattle.cilk_commands.specs.Files.{Failures}
 use Rattle.cilk_commands.specs.Replies.{BadTrace, Ended, NoMemory, Refused, Reply, Text, line, status_of}

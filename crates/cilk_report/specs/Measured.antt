@@ -2,8 +2,8 @@
 use Rattle.std.specs.Prelude.{◌≡◌, ℤ, List, Option}
 use Rattle.cilk_types.specs.declared.event.Event.{Event}
 use Rattle.cilk_checker.specs.Judging.{Meant}
-use Rattle.cilk_findings.specs.Measures.{AreMeasures}
-use Rattle.cilk_findings.specs.declared.totals.Totals.{Totals}
+use Rattle.cilk_profile.specs.Measures.{AreMeasures}
+use Rattle.cilk_profile.specs.declared.totals.Totals.{Totals}
 use Rattle.cilk_profile.specs.declared.text.NoText.{NoText}
 use Rattle.cilk_profile.specs.declared.text.NoText.TheVariants as reasons
 use Rattle.cilk_commands.specs.Replies.{NoMemory, Reply, Text}

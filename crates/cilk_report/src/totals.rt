@@ -12,9 +12,8 @@ use crate::words::wrong_words;
 use cilk_commands::files::Files;
 use cilk_commands::reply::Failure;
 use cilk_commands::{given, stopped};
-use cilk_findings::totals::{Totals, measure};
 use cilk_messages::words::Origin;
-use cilk_profile::NoText;
+use cilk_profile::{NoText, Totals, measure};
 use std::alloc::Global;
 use std::io::Read;
 

@@ -6,7 +6,7 @@ ghost use Rattle.cilk_types.specs.declared.limits.TheConstants.{MAX_EVENTS};
 ghost use Rattle.cilk_tree.specs.Shape.{Shape, Spells};
 ghost use Rattle.cilk_tree.specs.Tree.{tree as tree_of_shape, preorder};
 ghost use Rattle.cilk_tree.specs.Spans.{top, below};
-ghost use Rattle.cilk_findings.specs.Burdened.{IsBurdenedSpan, joined};
+ghost use Rattle.cilk_profile.specs.Burdened.{IsBurdenedSpan, joined};
 
 use cilk_tree::tree::{Node, SpTree};
 use cilk_types::stack::Stack;

@@ -1,7 +1,7 @@
 //! Work and span of a run.
 
 ghost use Rattle.std.specs.Prelude.{IfOk, IfErr};
-ghost use Rattle.cilk_findings.specs.Measures.{AreMeasures, AreTotals};
+ghost use Rattle.cilk_profile.specs.Measures.{AreMeasures, AreTotals};
 ghost use Rattle.cilk_program.specs.Sources.{source};
 ghost use Rattle.cilk_serial.specs.Ran.{IsRunFault};
 

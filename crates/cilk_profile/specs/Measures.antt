@@ -8,9 +8,9 @@ use Rattle.cilk_tree.specs.Shape.{Shape, Spells}
 use Rattle.cilk_tree.specs.Tree.{tree, leaves}
 use Rattle.cilk_tree.specs.Span.{IsSpan}
 use Rattle.cilk_cert_maker.specs.Frames.{frames_of, owners_of}
-use Rattle.cilk_findings.specs.Burdened.{IsBurdenedSpan}
-use Rattle.cilk_findings.specs.declared.burdened.TheConstants.{BURDEN}
-use Rattle.cilk_findings.specs.declared.totals.Totals.{Totals}
+use Rattle.cilk_profile.specs.Burdened.{IsBurdenedSpan}
+use Rattle.cilk_profile.specs.declared.burdened.TheConstants.{BURDEN}
+use Rattle.cilk_profile.specs.declared.totals.Totals.{Totals}
 
 -- Totals of a list of events: work is its length, and span the length of its longest chain (Frigo,
 -- Leiserson and Randall 1998, section 1). The burdened span is the weight of its heaviest path (He,

@@ -1,7 +1,7 @@
 use Rattle.std.proofs.Common.{arith}
-use Rattle.cilk_findings.proofs.Weights.{at_first, at_next, at_last}
-use Rattle.cilk_findings.specs.declared.burdened.TheConstants.{BURDEN}
-use Rattle.cilk_findings.proofs.burdened.burdened_span.Goals as goal
+use Rattle.cilk_profile.proofs.Weights.{at_first, at_next, at_last}
+use Rattle.cilk_profile.specs.declared.burdened.TheConstants.{BURDEN}
+use Rattle.cilk_profile.proofs.burdened.burdened_span.Goals as goal
 
 pub loop-place-init : goal.loop-place-init
 loop-place-init c = at_first BURDEN _ _ _ c.as_slice-nodes.ensures.nodes c.new-spans.ensures

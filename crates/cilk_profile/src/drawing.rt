@@ -2,16 +2,16 @@
 //! series-parallel tree.
 
 use crate::burdened::BURDEN;
-use crate::case::Case;
+use cilk_findings::case::Case;
 use crate::chart::{
     BOUND, ESTIMATE, HEAD, HEIGHT, KEYS, LEFT, OUTLINE, OUTLINE_END, STEPS_WORDS, WIDTH,
     WORKERS_AXES, push_column, push_escaped, push_hundredths, push_level, scaled,
 };
-use crate::critical::profile;
+use crate::chains::profile;
 use crate::dot::dot;
-use crate::fault::CaseFault;
-use crate::runs::Run;
-use crate::scene::Scene;
+use cilk_findings::fault::CaseFault;
+use cilk_findings::runs::Run;
+use cilk_findings::scene::Scene;
 use crate::totals::{Totals, totals_of};
 use cilk_tree::building::tree_of;
 use cilk_types::trace::Trace;

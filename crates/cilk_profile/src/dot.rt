@@ -1,7 +1,7 @@
 //! The series-parallel tree of a small run, as a graph.
 
 use crate::chart::push_escaped;
-use crate::scene::Scene;
+use cilk_findings::scene::Scene;
 use cilk_messages::sentence::say;
 use cilk_tree::tree::{Node, SpTree};
 use std::alloc::AllocError;

@@ -1,8 +1,8 @@
 //! Work and span of groups of a run's frames, as the frames of one function.
 
-use crate::critical::Chains;
-use crate::replay::FrameNote;
-use crate::runs::Run;
+use crate::chains::Chains;
+use cilk_findings::replay::FrameNote;
+use cilk_findings::runs::Run;
 use cilk_types::event::Event;
 use std::alloc::{AllocError, Global};
 

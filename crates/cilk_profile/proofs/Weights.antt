@@ -10,7 +10,7 @@ use Rattle.cilk_tree.specs.Spans.{top}
 use Rattle.cilk_tree.specs.declared.tree.Node.{Node}
 use Rattle.cilk_tree.specs.declared.tree.Node.TheVariants as nodes
 use Rattle.cilk_tree.proofs.Places.{size, size-spelled}
-use Rattle.cilk_findings.specs.Burdened.{IsPath, IsBurdenedSpan, joined}
+use Rattle.cilk_profile.specs.Burdened.{IsPath, IsBurdenedSpan, joined}
 
 abbrev pub weight : ℕ → Tree → ℕ
 weight b (strand n) = n

@@ -1,2 +1,0 @@
-pub mod Burdened
-pub mod Measures
