@@ -15,6 +15,7 @@
 //! | [`faults::of_fault`] | why and where a fault stops the run, and a hint |
 //! | [`further::push_further`] | a line for each two places of the text whose accesses race |
 //! | [`scene::Scene`] | names, places and paths of a run's frames and events, in words |
+//! | [`kept::Kept`], [`kept::CaseTexts`] | copies of what was read, and a program and its input among them |
 //! | [`partings::parted_at`] | where a `cilk_sync` would separate a spawn from later code |
 //!
 //! ```text
@@ -27,6 +28,7 @@ pub mod case;
 pub mod fault;
 pub mod faults;
 pub mod further;
+pub mod kept;
 pub mod map;
 pub mod partings;
 pub mod paths;

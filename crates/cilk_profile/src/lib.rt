@@ -2,9 +2,7 @@
 //!
 //! [`text_of`] is what `measure` shows of a run: its totals, a line for each function and loop, the
 //! spawns and lines on its critical path, and bounds of the speed-up by several workers; or a
-//! picture. [`push_why`] says what orders the accesses of a line with those of other strands: a
-//! sync, or the order of the text. [`push_trace`] says what each worker does by a script, strand by
-//! strand.
+//! picture. [`push_trace`] says what each worker does by a script, strand by strand.
 //!
 //! Work is the number of events of a run. Span is the length of its longest chain of events in
 //! which each comes before the next under every schedule, so no number of workers needs fewer
@@ -21,7 +19,6 @@
 //! |---|---|
 //! | [`measure`], [`totals_of`] | work, span, burdened span, frames and strands of the serial run |
 //! | [`text_of`] | the table or picture of `measure`, or why there is [`NoText`] |
-//! | [`push_why`] | what orders the accesses of a line |
 //! | [`push_trace`] | what each worker does by a script |
 //! | [`push_cells`] | a line of a table |
 //! | [`asks`] | whether a word is on a command line |
@@ -42,8 +39,6 @@ mod critical;
 mod deeds;
 mod dot;
 mod drawing;
-mod kept;
-mod orders;
 mod rows;
 mod shares;
 mod speed_up;
@@ -51,13 +46,11 @@ mod table;
 mod text;
 mod totals;
 mod tracing;
-mod why;
 mod words;
 
-pub use kept::{CaseTexts, Kept};
+pub use cilk_findings::kept::{CaseTexts, Kept};
 pub use rows::push_cells;
 pub use text::{NoText, text_of};
 pub use totals::{Totals, measure, totals_of};
 pub use tracing::push_trace;
-pub use why::push_why;
 pub use words::asks;

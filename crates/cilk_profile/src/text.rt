@@ -4,7 +4,7 @@ ghost use Rattle.std.specs.Prelude.{◌≡◌, IfErr, IfOk};
 ghost use Rattle.cilk_profile.specs.Measured.{IsAboutPictures, IsMeasureText, IsTable, is_drawn, mark_in};
 ghost use Rattle.cilk_messages.specs.Words.{texts};
 
-use crate::kept::{CaseTexts, Kept};
+use cilk_findings::kept::{CaseTexts, Kept};
 use crate::rows::push_tables;
 use crate::table::{BLANK, COMMA, totals_text};
 use crate::words::asks;

@@ -4,7 +4,7 @@ ghost use Rattle.std.specs.Prelude.{◌≡◌};
 ghost use Rattle.cilk_schedule.specs.Played.{IsUnstopped};
 
 use crate::deeds::Deeds;
-use crate::kept::{CaseTexts, Kept};
+use cilk_findings::kept::{CaseTexts, Kept};
 use cilk_findings::case::Case;
 use cilk_findings::fault::CaseFault;
 use cilk_findings::runs::Run;

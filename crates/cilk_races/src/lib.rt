@@ -21,10 +21,14 @@
 //! Last come the further races, a line for each two places of the text, by the same labels of strands
 //! as the checker's.
 //!
+//! Of a program without races [`push_why`] says what orders the accesses of a line with those of other
+//! strands: a sync, or the order of the text.
+//!
 //! | Call | Result |
 //! |---|---|
 //! | [`races::of_race`] | the report on a race |
 //! | [`races::script_of_race`] | the script of the schedule in that report |
+//! | [`push_why`] | what orders the accesses of a line |
 //!
 //! ```text
 //! let case = Case::of(alloc, "race.c", text, input)?;
@@ -35,8 +39,12 @@
 
 mod beside;
 mod cures;
+mod orders;
 mod pair;
 pub mod races;
 mod schedules;
 mod texts;
 mod uses;
+mod why;
+
+pub use why::push_why;

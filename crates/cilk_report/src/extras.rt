@@ -5,7 +5,8 @@ use crate::flags::{Extras, explains_itself};
 use cilk_commands::reply::{Answer, Failure};
 use cilk_findings::fault::CaseFault;
 use cilk_messages::words::Order;
-use cilk_profile::{Kept, push_trace, push_why};
+use cilk_profile::{Kept, push_trace};
+use cilk_races::push_why;
 use std::alloc::Global;
 
 /// Returns the text that follows an answer.

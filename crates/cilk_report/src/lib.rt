@@ -11,10 +11,11 @@
 //! judged. A trace isn't kept, since it may be larger than memory: its file is read again. A command
 //! line of `serve` without an explanation keeps no copies.
 //!
-//! `measure` prints what a run costs; `--trace` of `play` adds what each worker does, and `--why
-//! LINE` of `settle` what orders the accesses of a line (`cilk_profile`). `schedule` prints a script
-//! for `play` that shows a race. `settle` with several programs, `--short` or `--json` shows one
-//! reply after the other. `help`, `explain 103` and `--version` are about the tool itself.
+//! `measure` prints what a run costs; `--trace` of `play` adds what each worker does
+//! (`cilk_profile`), and `--why LINE` of `settle` what orders the accesses of a line (`cilk_races`).
+//! `schedule` prints a script for `play` that shows a race. `settle` with several programs, `--short`
+//! or `--json` shows one reply after the other. `help`, `explain 103` and `--version` are about the
+//! tool itself.
 //!
 //! | Call | Purpose |
 //! |---|---|

@@ -1,7 +1,7 @@
 //! Copies of what was read, and a program with its input among them.
 
-use cilk_findings::case::Case;
-use cilk_findings::fault::CaseFault;
+use crate::case::Case;
+use crate::fault::CaseFault;
 use cilk_messages::words::Origin;
 use std::alloc::{AllocError, Global};
 
