@@ -4,13 +4,12 @@
 use cilk_types::event::Event;
 use cilk_types::trace::Trace;
 use std::alloc::{AllocError, Global};
-use std::mem;
 
 /// A chain: its length, and its last event, counted from 0.
 #[derive(Clone, Copy)]
-struct Chain {
-    length: usize,
-    last: usize,
+pub struct Chain {
+    pub length: usize,
+    pub last: usize,
 }
 
 const NO_CHAIN: Chain = Chain { length: 0, last: 0 };
@@ -18,19 +17,19 @@ const NO_CHAIN: Chain = Chain { length: 0, last: 0 };
 /// A running or waiting frame: the longest chain up to its last event, and up to the ends of the
 /// children that it spawned in its sync block.
 #[derive(Clone, Copy)]
-struct Depth {
-    own: Chain,
+pub struct Depth {
+    pub own: Chain,
     spawned: Chain,
     is_spawned: bool,
 }
 
 /// The chains of a run: for each event its step, which is the length of the longest chain before it,
-/// and the event before it on such a chain, if there is one.
+/// and the event before it on such a chain, if there is one. In the end `depth` has a longest chain.
 pub struct Chains {
     pub steps: Vec<usize>,
-    before: Vec<usize>,
+    pub before: Vec<usize>,
     waiting: Vec<Depth>,
-    depth: Depth,
+    pub depth: Depth,
 }
 
 // Written out, so that a proof follows one call where chains are dropped.
@@ -43,16 +42,6 @@ impl Drop for Chains {
             depth: _depth,
         } = self;
     }
-}
-
-/// Returns the events of a longest chain, in order. Events count from 0. Cost and memory: linear in
-/// the events.
-pub fn critical_path(alloc: Global, trace: &Trace) -> Result<Vec<usize>, AllocError> {
-    let chains = Chains::of(alloc, trace)?;
-    let mut path = Vec::new(alloc);
-    chains.push_path(&mut path)?;
-    path.reverse();
-    Ok(path)
 }
 
 /// Returns for each step of the span of a run that has ended the number of events there. With enough workers all events of a
@@ -70,7 +59,7 @@ pub fn profile(alloc: Global, trace: &Trace) -> Result<Vec<u32>, AllocError> {
 }
 
 impl Chains {
-    /// Finds the chains of a run's events.
+    /// Finds the chains of a run's events. Cost and memory: linear in the events.
     pub fn of(alloc: Global, trace: &Trace) -> Result<Chains, AllocError> {
         let mut chains = Chains {
             steps: Vec::new(alloc),
@@ -88,59 +77,46 @@ impl Chains {
         Ok(chains)
     }
 
-    // Adds an event to its frame's chain.
+    // Adds an event to its frame's chain. Code after a call follows the child; code after a spawn runs
+    // beside it.
     fn meet(&mut self, event: &Event) -> Result<(), AllocError> {
-        if let Event::Sync = event {
-            self.depth.own = longer(self.depth.own, self.depth.spawned);
-            self.depth.spawned = NO_CHAIN;
-        }
-        let Chain { length, last } = self.depth.own;
-        self.depth.own = Chain {
-            length: length.saturating_add(1),
+        let Depth {
+            own,
+            spawned,
+            is_spawned,
+        } = self.depth;
+        let (ahead, spawned) = match event {
+            Event::Sync => (longer(own, spawned), NO_CHAIN),
+            _ => (own, spawned),
+        };
+        let own = Chain {
+            length: ahead.length.saturating_add(1),
             last: self.before.len(),
         };
-        self.steps.push(length)?;
-        self.before.push(last)?;
-        match event {
-            Event::Spawn { .. } => self.enter(true)?,
-            Event::Call { .. } => self.enter(false)?,
-            Event::End => self.leave(),
-            _ => {}
-        }
-        Ok(())
-    }
-
-    fn enter(&mut self, is_spawned: bool) -> Result<(), AllocError> {
-        let child = Depth {
-            own: self.depth.own,
-            spawned: NO_CHAIN,
+        self.steps.push(ahead.length)?;
+        self.before.push(ahead.last)?;
+        self.depth = Depth {
+            own,
+            spawned,
             is_spawned,
         };
-        let parent = mem::replace(&mut self.depth, child);
-        self.waiting.push(parent)?;
-        Ok(())
-    }
-
-    // Code after a call follows the child; code after a spawn runs beside it.
-    fn leave(&mut self) {
-        let child = self.depth;
-        if let Some(parent) = self.waiting.pop() {
-            self.depth = parent;
-            if child.is_spawned {
-                self.depth.spawned = longer(parent.spawned, child.own);
-            } else {
-                self.depth.own = child.own;
+        match event {
+            Event::Spawn { .. } | Event::Call { .. } => {
+                self.waiting.push(self.depth)?;
+                self.depth.spawned = NO_CHAIN;
+                self.depth.is_spawned = matches!(event, Event::Spawn { .. });
             }
-        }
-    }
-
-    // Adds the events of the first frame's chain, the last one first.
-    fn push_path(&self, path: &mut Vec<usize>) -> Result<(), AllocError> {
-        let Chain { length, last } = self.depth.own;
-        let mut event = last;
-        for _event in 0..length {
-            path.push(event)?;
-            event = self.before.get(event).copied().unwrap_or(0);
+            Event::End => {
+                if let Some(parent) = self.waiting.pop() {
+                    self.depth = parent;
+                    if is_spawned {
+                        self.depth.spawned = longer(parent.spawned, own);
+                    } else {
+                        self.depth.own = own;
+                    }
+                }
+            }
+            _ => {}
         }
         Ok(())
     }

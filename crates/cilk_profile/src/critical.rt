@@ -1,9 +1,8 @@
 //! What the critical path of a run goes through: spawns and lines of the text.
 
+use crate::chains::{Chain, Chains};
 use crate::rows::{Table, push_cells, title_at};
 use cilk_findings::case::Case;
-use crate::chains::critical_path;
-use cilk_findings::replay::FrameNote;
 use cilk_findings::scene::Scene;
 use cilk_messages::sentence::{printed, say};
 use cilk_program::program::Body;
@@ -20,7 +19,6 @@ const SHOWN: usize = 60;
 /// the events of the critical path inside its frames.
 #[derive(Clone, Copy)]
 struct Site {
-    at: usize,
     body: Body,
     spawned: u64,
     // The end of its last frame that is in no other frame of it.
@@ -42,17 +40,16 @@ const SITE: &str = "spawned";
 
 const LINE: &str = "line";
 
-/// The critical path of a run: its events, and what it goes through.
+/// The critical path of a run: the number of its events, and what it goes through.
 struct Critical<'a> {
     table: Table<'a>,
-    path: Vec<usize>,
+    length: u64,
     // For each event, and the end, the number of events of the path that come before it.
     ahead: Vec<u64>,
-    // By the byte of the text.
-    sites: Vec<Option<Site>>,
     // For each byte of the text, the events of the path there.
     counts: Vec<u64>,
-    lines: Vec<Line>,
+    // By the byte of the text.
+    sites: Vec<Option<Site>>,
 }
 
 // Written out, so that a proof follows one call where it is dropped.
@@ -60,11 +57,10 @@ impl Drop for Critical<'_> {
     fn drop(self) {
         let Critical {
             table: _table,
-            path: _path,
+            length: _length,
             ahead: _ahead,
-            sites: _sites,
             counts: _counts,
-            lines: _lines,
+            sites: _sites,
         } = self;
     }
 }
@@ -75,11 +71,10 @@ impl Table<'_> {
         let alloc = self.scene.case.alloc;
         let mut critical = Critical {
             table: *self,
-            path: critical_path(alloc, &self.scene.run.trace)?,
+            length: 0,
             ahead: Vec::new(alloc),
-            sites: Vec::new(alloc),
             counts: Vec::new(alloc),
-            lines: Vec::new(alloc),
+            sites: Vec::new(alloc),
         };
         critical.push(text)
     }
@@ -99,71 +94,72 @@ impl Table<'_> {
 
 impl Critical<'_> {
     fn push(&mut self, text: &mut String) -> Result<(), AllocError> {
-        self.find_ahead()?;
+        self.find_path()?;
         self.find_sites()?;
         self.push_sites(text)?;
-        self.find_counts()?;
-        self.find_lines()?;
         self.push_lines(text)
     }
 
-    fn find_ahead(&mut self) -> Result<(), AllocError> {
-        let mut count: u64 = 0;
-        let mut next: usize = 0;
-        for event in 0..self.table.scene.run.replay.steps.len().saturating_add(1) {
-            self.ahead.push(count)?;
-            if self.path.get(next) == Some(&event) {
-                count = count.saturating_add(1);
-                next = next.saturating_add(1);
-            }
-        }
-        Ok(())
-    }
-
-    fn find_sites(&mut self) -> Result<(), AllocError> {
-        let scene = self.table.scene;
-        self.sites.resize(scene.case.text.len(), None)?;
-        for note in &scene.run.replay.frames {
-            if let Some(at) = site_at(&scene, note)
-                && let Some(site) = self.sites.get_mut(at)
-            {
-                *site = Some(counted(*site, note, at, self.ahead.as_slice()));
-            }
-        }
-        Ok(())
-    }
-
-    fn find_counts(&mut self) -> Result<(), AllocError> {
+    // Counts the events of the path: those before each event, and those at each byte.
+    fn find_path(&mut self) -> Result<(), AllocError> {
         let Scene { case, run } = self.table.scene;
         self.counts.resize(case.text.len(), 0)?;
-        for event in &self.path {
-            if let Some(step) = run.replay.steps.get(*event)
+        self.ahead
+            .resize(run.replay.steps.len().saturating_add(1), 0)?;
+        let chains = Chains::of(case.alloc, &run.trace)?;
+        let Chain { length, last } = chains.depth.own;
+        self.length = length as u64;
+        let mut event = last;
+        for _event in 0..length {
+            if let Some(step) = run.replay.steps.get(event)
                 && let Some(count) = self.counts.get_mut(step.at)
             {
                 *count = count.saturating_add(1);
             }
+            // Its place among the numbers, which are added up below, is the one of the next event.
+            if let Some(mark) = self.ahead.get_mut(event.saturating_add(1)) {
+                *mark = 1;
+            }
+            event = chains.before.get(event).copied().unwrap_or(0);
+        }
+        let mut sum: u64 = 0;
+        for place in 0..self.ahead.len() {
+            if let Some(count) = self.ahead.get_mut(place) {
+                sum = sum.saturating_add(*count);
+                *count = sum;
+            }
         }
         Ok(())
     }
 
-    // The lines of the text, with the events there.
-    fn find_lines(&mut self) -> Result<(), AllocError> {
-        let text = self.table.scene.case.text;
-        let mut number: usize = 1;
-        let mut first: usize = 0;
-        let mut on_path: u64 = 0;
-        for end in 0..text.len().saturating_add(1) {
-            on_path = on_path.saturating_add(count_at(self.counts.as_slice(), end));
-            if text.get(end).copied().unwrap_or(b'\n') == b'\n' {
-                self.lines.push(Line {
-                    number,
-                    first,
-                    end,
-                    on_path,
-                })?;
-                number = number.saturating_add(1);
-                first = end.saturating_add(1);
-                on_path = 0;
+    // Finds each byte at which a frame is spawned, or at which there is the `cilk_for` that it runs
+    // turns of. A frame inside another one of the same place adds no events.
+    fn find_sites(&mut self) -> Result<(), AllocError> {
+        let scene = self.table.scene;
+        self.sites.resize(scene.case.text.len(), None)?;
+        for note in &scene.run.replay.frames {
+            let at = match (note.body, note.how) {
+                (Body::Loop(_), _) => scene.named_at(note.body),
+                (Body::Function(_), Invocation::Spawn) => note.invoked_at,
+                (Body::Function(_), Invocation::Call) => usize::MAX,
+            };
+            if let Some(place) = self.sites.get_mut(at) {
+                let mut site = place.unwrap_or(Site {
+                    body: note.body,
+                    spawned: 0,
+                    upto: 0,
+                    on_path: 0,
+                });
+                if let Invocation::Spawn = note.how {
+                    site.spawned = site.spawned.saturating_add(1);
+                }
+                if note.begun >= site.upto {
+                    site.upto = note.ended.unwrap_or(note.begun).saturating_add(1);
+                    let ahead = count_at(self.ahead.as_slice(), note.begun.saturating_add(1));
+                    let inside = count_at(self.ahead.as_slice(), site.upto).saturating_sub(ahead);
+                    site.on_path = site.on_path.saturating_add(inside);
+                }
+                *place = Some(site);
             }
         }
         Ok(())
@@ -173,27 +169,30 @@ impl Critical<'_> {
     fn push_sites(&self, text: &mut String) -> Result<(), AllocError> {
         let Table { scene, commas } = self.table;
         let mut width: usize = 0;
+        let mut at: usize = 0;
         for site in &self.sites {
             if let Some(site) = site {
-                let title = title_at(&scene, site.body, site.at);
+                let title = title_at(&scene, site.body, at);
                 width = width.max(self.table.length_of(&title)?);
             }
+            at = at.saturating_add(1);
         }
         if width == 0 {
             return Ok(());
         }
-        let width = width.max(SITE.len());
+        width = width.max(SITE.len());
         text.push('\n')?;
         push_cells(text, SITE, &["spawns", "on span", "share"], width, commas)?;
+        at = 0;
         for site in &self.sites {
             if let Some(site) = site {
-                let title = title_at(&scene, site.body, site.at);
+                let title = title_at(&scene, site.body, at);
                 self.table.push_title(text, &title, width)?;
                 self.table.push_number(text, site.spawned)?;
-                self.table
-                    .push_percent(text, site.on_path, self.path.len() as u64)?;
+                self.table.push_percent(text, site.on_path, self.length)?;
                 text.push('\n')?;
             }
+            at = at.saturating_add(1);
         }
         Ok(())
     }
@@ -204,11 +203,17 @@ impl Critical<'_> {
         text.push('\n')?;
         push_cells(text, LINE, &["on span", "share"], LINE.len(), table.commas)?;
         for _line in 0..LINES {
-            let Some(line) = self.take_greatest() else {
+            let line = self.greatest();
+            if line.on_path == 0 {
                 break;
-            };
+            }
+            for place in line.first..line.end.saturating_add(1) {
+                if let Some(count) = self.counts.get_mut(place) {
+                    *count = 0;
+                }
+            }
             table.push_title(text, &say("{}").count(line.number), LINE.len())?;
-            table.push_percent(text, line.on_path, self.path.len() as u64)?;
+            table.push_percent(text, line.on_path, self.length)?;
             if !table.commas {
                 push_words(text, table.scene.case, &line)?;
             }
@@ -217,22 +222,31 @@ impl Critical<'_> {
         Ok(())
     }
 
-    // Removes the line with the most events, the first of several. None if no line has any.
-    fn take_greatest(&mut self) -> Option<Line> {
-        let mut found: Option<Line> = None;
-        let mut greatest: u64 = 0;
-        let mut place: usize = 0;
-        for (number, line) in self.lines.iter().enumerate() {
-            if line.on_path > greatest {
-                found = Some(*line);
-                greatest = line.on_path;
-                place = number;
+    // The line with the most events that are left, the first of several.
+    fn greatest(&self) -> Line {
+        let text = self.table.scene.case.text;
+        let mut line = Line {
+            number: 1,
+            first: 0,
+            end: 0,
+            on_path: 0,
+        };
+        let mut greatest = line;
+        for end in 0..text.len().saturating_add(1) {
+            line.end = end;
+            line.on_path = line
+                .on_path
+                .saturating_add(count_at(self.counts.as_slice(), end));
+            if text.get(end).copied().unwrap_or(b'\n') == b'\n' {
+                if line.on_path > greatest.on_path {
+                    greatest = line;
+                }
+                line.number = line.number.saturating_add(1);
+                line.first = end.saturating_add(1);
+                line.on_path = 0;
             }
         }
-        if let Some(line) = self.lines.get_mut(place) {
-            line.on_path = 0;
-        }
-        found
+        greatest
     }
 }
 
@@ -250,38 +264,6 @@ fn push_words(text: &mut String, case: &Case<'_>, line: &Line) -> Result<(), All
         count = count.saturating_add(1);
     }
     Ok(())
-}
-
-// A place with one frame more. A frame inside another one of the same place adds no events.
-fn counted(site: Option<Site>, note: &FrameNote, at: usize, ahead: &[u64]) -> Site {
-    let mut site = site.unwrap_or(Site {
-        at,
-        body: note.body,
-        spawned: 0,
-        upto: 0,
-        on_path: 0,
-    });
-    if let Invocation::Spawn = note.how {
-        site.spawned = site.spawned.saturating_add(1);
-    }
-    if note.begun >= site.upto {
-        let end = note.ended.unwrap_or(note.begun).saturating_add(1);
-        let first = note.begun.saturating_add(1);
-        site.upto = end;
-        site.on_path = site.on_path.saturating_add(count_at(ahead, end).saturating_sub(count_at(
-            ahead, first,
-        )));
-    }
-    site
-}
-
-// The byte of the text at which a frame is spawned, or of the `cilk_for` that it runs turns of.
-fn site_at(scene: &Scene<'_>, note: &FrameNote) -> Option<usize> {
-    match (note.body, note.how) {
-        (Body::Loop(_), _) => Some(scene.named_at(note.body)),
-        (Body::Function(_), Invocation::Spawn) => Some(note.invoked_at),
-        (Body::Function(_), Invocation::Call) => None,
-    }
 }
 
 fn count_at(counts: &[u64], place: usize) -> u64 {

@@ -13,13 +13,17 @@ use std::alloc::{AllocError, Global};
 /// The most lines that are shown.
 const SHOWN: usize = 200;
 
-/// A frame of the run: its parent, its twin, and the event of the serial run that is its next one.
+// The place of no event of the serial run. So is the one after it.
+const NOWHERE: usize = usize::MAX;
+
+/// A frame of the run: its parent, its twin, and the place of the event of the serial run that is its
+/// next one, if it is still like its twin.
 #[derive(Clone, Copy)]
 struct Seat {
     parent: usize,
     is_spawned: bool,
     twin: Option<usize>,
-    next: Option<usize>,
+    next: usize,
 }
 
 /// A continuation that a worker offers: its frame, and the byte of the spawn.
@@ -30,8 +34,8 @@ struct Offer {
     at: Option<usize>,
 }
 
-/// What a worker is at: its frame, the strand of its last event there, if it is known, and the deed
-/// in which that event is.
+/// What a worker is at: its frame, the strand of its last event there, and the deed in which that
+/// event is.
 #[derive(Clone, Copy)]
 struct Hand {
     frame: usize,
@@ -58,17 +62,23 @@ struct Stretch {
     upto: usize,
 }
 
-/// Words with a gap for a line, and those where the line isn't known.
+/// Words with a gap for the worker and one for a line, and those where the line isn't known.
 type Words = (&'static str, &'static str);
 
 const STEALS: Words = (
-    " steals the continuation of line {}",
-    " steals a continuation",
+    "worker {} steals the continuation of line {}",
+    "worker {} steals a continuation",
 );
 
-const WAITS: Words = (" waits at the sync of line {}", " waits at a sync");
+const WAITS: Words = (
+    "worker {} waits at the sync of line {}",
+    "worker {} waits at a sync",
+);
 
-const STOPS: Words = (" stops at line {} by fault {}", " stops by fault {}");
+const STOPS: Words = (
+    "worker {} stops at line {} by fault {}",
+    "worker {} stops by fault {}",
+);
 
 #[derive(Clone, Copy)]
 enum Deed {
@@ -108,9 +118,9 @@ impl Drop for Deeds<'_> {
 }
 
 impl<'a> Deeds<'a> {
-    /// Begins with the first frame, which the first of the workers holds.
-    pub fn new(alloc: Global, scene: Scene<'a>, workers: u32) -> Result<Deeds<'a>, AllocError> {
-        let mut deeds = Deeds {
+    /// Deeds of no workers yet.
+    pub fn new(alloc: Global, scene: Scene<'a>) -> Deeds<'a> {
+        Deeds {
             scene,
             strands: Vec::new(alloc),
             seats: Vec::new(alloc),
@@ -118,25 +128,21 @@ impl<'a> Deeds<'a> {
             hands: Vec::new(alloc),
             deeds: Vec::new(alloc),
             more: 0,
-        };
-        deeds.open(workers as usize)?;
-        Ok(deeds)
+        }
     }
 
-    fn open(&mut self, workers: usize) -> Result<(), AllocError> {
-        self.hands.resize(workers, IDLE)?;
+    /// Begins with the first frame, which the first of the workers holds.
+    pub fn open(&mut self, workers: u32) -> Result<(), AllocError> {
+        self.hands.resize(workers as usize, IDLE)?;
         self.seats.push(Seat {
             parent: 0,
             is_spawned: false,
             twin: Some(0),
-            next: Some(0),
+            next: 0,
         })?;
         let mut strand: u32 = 0;
         for event in self.scene.run.trace.as_slice() {
-            if matches!(
-                event,
-                Event::Begin { .. } | Event::Resume { .. } | Event::Sync
-            ) {
+            if let Event::Begin { .. } | Event::Resume { .. } | Event::Sync = event {
                 strand = strand.saturating_add(1);
             }
             self.strands.push(strand)?;
@@ -144,64 +150,57 @@ impl<'a> Deeds<'a> {
         Ok(())
     }
 
-    /// Notes what came of a choice.
-    pub fn note(&mut self, choice: Choice, told: Told) -> Result<(), AllocError> {
-        let worker = worker_of(choice);
-        match (choice, told) {
-            (Choice::Run(_), Told::Did(act)) => {
+    /// Notes what came of a choice, or the number of the fault that stops the worker.
+    pub fn note(&mut self, choice: Choice, told: Result<Told, u16>) -> Result<(), AllocError> {
+        let (worker, place) = match choice {
+            Choice::Run(worker) => (worker, SHOWN),
+            Choice::Steal(worker, place) => (worker, place),
+        };
+        let worker = (worker as usize).saturating_sub(1);
+        let hand = self.hands.get(worker).copied().unwrap_or(IDLE);
+        match told {
+            Ok(Told::Did(act)) => {
                 let frame = (act.frame as usize).saturating_sub(1);
                 self.make(worker, frame, &act.event)
             }
-            (Choice::Run(_), Told::Waits) => {
-                let at = self.next_byte(worker);
+            Ok(Told::Waits) => {
+                let at = self.byte_of(self.next_of(hand.frame));
                 self.add(worker, Deed::Tells(WAITS, at, 0))
             }
-            (Choice::Steal(_, place), Told::Stole) => self.steal(worker, place),
-            _ => Ok(()),
-        }
-    }
-
-    /// Notes that a fault stops a worker.
-    pub fn stop(&mut self, choice: Choice, number: u16) -> Result<(), AllocError> {
-        let worker = worker_of(choice);
-        let at = self.next_byte(worker);
-        self.add(worker, Deed::Tells(STOPS, at, number))
-    }
-
-    fn make(&mut self, worker: usize, frame: usize, event: &Event) -> Result<(), AllocError> {
-        let made = self.counterpart(frame, event);
-        self.work(worker, frame, made)?;
-        match event {
-            Event::Spawn { .. } => self.invoke(worker, frame, made, true),
-            Event::Call { .. } => self.invoke(worker, frame, made, false),
-            Event::End => self.end(worker, frame),
-            _ => {
-                self.move_behind(frame, made);
-                Ok(())
+            Err(number) => {
+                let at = self.byte_of(self.next_of(hand.frame));
+                self.add(worker, Deed::Tells(STOPS, at, number))
             }
+            Ok(Told::Stole) => self.steal(worker, place),
+            Ok(Told::Skipped) => Ok(()),
         }
     }
 
-    // The event of the serial run that a frame's event is, if the frame is still like its twin.
-    fn counterpart(&self, frame: usize, event: &Event) -> Option<usize> {
-        let index = self.seats.get(frame)?.next?;
-        let serial = self.scene.run.event(index)?;
+    // Makes an event of a frame. It is the one of the serial run if the frame is still like its twin.
+    fn make(&mut self, worker: usize, frame: usize, event: &Event) -> Result<(), AllocError> {
         let globals = self.scene.case.program.globals.len();
-        if form_of(&serial, globals) == form_of(event, globals) {
-            Some(index)
-        } else {
-            None
+        let next = self.next_of(frame);
+        let made = match self.scene.run.event(next) {
+            Some(serial) if form_of(&serial, globals) == form_of(event, globals) => next,
+            _ => NOWHERE,
+        };
+        self.work(worker, frame, made)?;
+        let behind = match event {
+            Event::Spawn { .. } => self.invoke(worker, frame, made, true)?,
+            Event::Call { .. } => self.invoke(worker, frame, made, false)?,
+            Event::End => self.end(worker, frame)?,
+            _ => made,
+        };
+        if let Some(seat) = self.seats.get_mut(frame) {
+            seat.next = behind.saturating_add(1);
         }
+        Ok(())
     }
 
     // Adds an event to the worker's stretch, or begins another one with it.
-    fn work(&mut self, worker: usize, frame: usize, made: Option<usize>) -> Result<(), AllocError> {
-        let index = made.unwrap_or(0);
+    fn work(&mut self, worker: usize, frame: usize, made: usize) -> Result<(), AllocError> {
         let at = self.byte_of(made).unwrap_or(0);
-        let strand = match made {
-            Some(index) => self.strands.get(index).copied().unwrap_or(0),
-            None => 0,
-        };
+        let strand = self.strands.get(made).copied().unwrap_or(0);
         let hand = self.hands.get(worker).copied().unwrap_or(IDLE);
         if hand.frame != frame || hand.strand != Some(strand) {
             let place = self.deeds.len();
@@ -209,8 +208,8 @@ impl<'a> Deeds<'a> {
             let stretch = Stretch {
                 strand,
                 count: 1,
-                first: index,
-                last: index,
+                first: made,
+                last: made,
                 from: at,
                 upto: at,
             };
@@ -223,7 +222,7 @@ impl<'a> Deeds<'a> {
                 strand,
                 count: stretch.count.saturating_add(1),
                 first: stretch.first,
-                last: index,
+                last: made,
                 from: stretch.from.min(at),
                 upto: stretch.upto.max(at),
             });
@@ -231,18 +230,24 @@ impl<'a> Deeds<'a> {
         Ok(())
     }
 
-    // Notes a child, with which the worker continues.
+    // Notes a child, with which the worker continues. Its twin is the frame that the serial run begins
+    // by the next event. Returns the last event of that one, behind which the parent continues. An
+    // offer comes after those of the same worker.
     fn invoke(
         &mut self,
         worker: usize,
         frame: usize,
-        made: Option<usize>,
+        made: usize,
         is_spawned: bool,
-    ) -> Result<(), AllocError> {
-        let next = behind(made);
-        let twin = match next {
-            Some(first) => self.scene.frame_of(first),
-            None => None,
+    ) -> Result<usize, AllocError> {
+        let next = made.saturating_add(1);
+        let twin = self.scene.frame_of(next);
+        let (ended, at) = match twin {
+            Some(twin) => {
+                let note = self.scene.note(twin);
+                (note.ended.unwrap_or(NOWHERE), Some(note.invoked_at))
+            }
+            None => (NOWHERE, None),
         };
         let child = self.seats.len();
         self.seats.push(Seat {
@@ -251,33 +256,19 @@ impl<'a> Deeds<'a> {
             twin,
             next,
         })?;
-        let (ended, at) = match twin {
-            Some(twin) => {
-                let note = self.scene.note(twin);
-                (note.ended, Some(note.invoked_at))
-            }
-            None => (None, None),
-        };
-        self.move_behind(frame, ended);
         if is_spawned {
-            self.offer(Offer { worker, frame, at })?;
+            let mut place = self.offers.len();
+            for _offer in 0..self.offers.len() {
+                match self.offers.get(place.saturating_sub(1)) {
+                    Some(other) if other.worker > worker => place = place.saturating_sub(1),
+                    _ => break,
+                }
+            }
+            let place = place.min(self.offers.len());
+            self.offers.insert(place, Offer { worker, frame, at })?;
         }
         self.hold(worker, child, None, SHOWN);
-        Ok(())
-    }
-
-    // Adds an offer after those of the same worker.
-    fn offer(&mut self, offer: Offer) -> Result<(), AllocError> {
-        let mut behind: usize = 0;
-        for other in self.offers.iter().rev() {
-            if other.worker <= offer.worker {
-                break;
-            }
-            behind = behind.saturating_add(1);
-        }
-        let place = self.offers.len().saturating_sub(behind);
-        self.offers.insert(place, offer)?;
-        Ok(())
+        Ok(ended)
     }
 
     fn steal(&mut self, worker: usize, place: usize) -> Result<(), AllocError> {
@@ -289,33 +280,28 @@ impl<'a> Deeds<'a> {
         self.add(worker, Deed::Tells(STEALS, at, 0))
     }
 
-    // Ends a frame. The worker continues its parent, whose continuation it no longer offers.
-    fn end(&mut self, worker: usize, frame: usize) -> Result<(), AllocError> {
+    // Ends a frame: no event comes after it. The worker continues its parent, whose continuation it no
+    // longer offers.
+    fn end(&mut self, worker: usize, frame: usize) -> Result<usize, AllocError> {
         let Some(seat) = self.seats.get(frame).copied() else {
-            return Ok(());
+            return Ok(NOWHERE);
         };
-        self.move_behind(frame, None);
         self.hold(worker, seat.parent, None, SHOWN);
-        if !seat.is_spawned && frame > 0 {
-            return Ok(());
-        }
-        self.withdraw(worker, seat.parent);
-        self.add(worker, Deed::Ends(seat.twin))
-    }
-
-    fn withdraw(&mut self, worker: usize, frame: usize) {
-        let mut behind: usize = 0;
-        for offer in self.offers.iter().rev() {
-            behind = behind.saturating_add(1);
-            if offer.worker == worker && offer.frame == frame {
-                break;
+        if seat.is_spawned || frame == 0 {
+            let mut place = self.offers.len();
+            for _offer in 0..self.offers.len() {
+                place = place.saturating_sub(1);
+                if let Some(offer) = self.offers.get(place)
+                    && offer.worker == worker
+                    && offer.frame == seat.parent
+                {
+                    self.offers.remove(place);
+                    break;
+                }
             }
+            self.add(worker, Deed::Ends(seat.twin))?;
         }
-        let place = self.offers.len().saturating_sub(behind);
-        if matches!(self.offers.get(place), Some(offer) if offer.worker == worker && offer.frame == frame)
-        {
-            self.offers.remove(place);
-        }
+        Ok(NOWHERE)
     }
 
     fn add(&mut self, worker: usize, deed: Deed) -> Result<(), AllocError> {
@@ -337,103 +323,104 @@ impl<'a> Deeds<'a> {
         }
     }
 
-    // The frame's next event is the one after an event of the serial run.
-    fn move_behind(&mut self, frame: usize, made: Option<usize>) {
-        if let Some(seat) = self.seats.get_mut(frame) {
-            seat.next = behind(made);
+    // The place of a frame's next event in the serial run.
+    fn next_of(&self, frame: usize) -> usize {
+        match self.seats.get(frame) {
+            Some(seat) => seat.next,
+            None => NOWHERE,
         }
     }
 
-    // The byte of the next event of the worker's frame.
-    fn next_byte(&self, worker: usize) -> Option<usize> {
-        let hand = self.hands.get(worker).copied().unwrap_or(IDLE);
-        self.byte_of(self.seats.get(hand.frame)?.next)
-    }
-
     // The byte of an event of the serial run.
-    fn byte_of(&self, made: Option<usize>) -> Option<usize> {
-        Some(self.scene.run.replay.steps.get(made?)?.at)
+    fn byte_of(&self, made: usize) -> Option<usize> {
+        match self.scene.run.replay.steps.get(made) {
+            Some(step) => Some(step.at),
+            None => None,
+        }
     }
 
     /// Adds a line for each deed.
     pub fn push(&self, report: &mut String) -> Result<(), AllocError> {
         for (worker, deed) in &self.deeds {
             let worker = worker.saturating_add(1);
-            write!(report, "worker {worker}")?;
             match *deed {
-                Deed::Makes(stretch) => self.push_stretch(report, &stretch)?,
-                Deed::Tells((words, _), Some(at), number) => {
-                    let line = self.scene.line(at);
-                    let words = say(words).count(line).count(number as usize);
-                    self.scene.push(report, &words)?;
+                Deed::Makes(stretch) => self.push_stretch(report, worker, &stretch)?,
+                Deed::Tells(words, at, number) => {
+                    let words = match at {
+                        Some(at) => say(words.0).count(worker).count(self.scene.line(at)),
+                        None => say(words.1).count(worker),
+                    };
+                    self.scene.push(report, &words.count(number as usize))?;
                 }
-                Deed::Tells((_, words), None, number) => {
-                    self.scene.push(report, &say(words).count(number as usize))?;
-                }
-                Deed::Ends(twin) => self.push_end(report, twin)?,
+                Deed::Ends(twin) => self.push_end(report, worker, twin)?,
             }
             report.push('\n')?;
         }
-        let more = self.more;
-        if more > 0 {
-            write!(report, "and {more} more lines\n")?;
+        if self.more > 0 {
+            let more = say("and {} more lines\n").count(self.more);
+            self.scene.push(report, &more)?;
         }
         Ok(())
     }
 
     // The strand, its lines and its events.
-    fn push_stretch(&self, report: &mut String, stretch: &Stretch) -> Result<(), AllocError> {
-        let Stretch { strand, count, .. } = *stretch;
+    fn push_stretch(
+        &self,
+        report: &mut String,
+        worker: usize,
+        stretch: &Stretch,
+    ) -> Result<(), AllocError> {
+        let scene = &self.scene;
+        let strand = stretch.strand as usize;
         if strand == 0 {
-            let departs = say(": {} event{} that the serial run doesn't have there");
-            return self.scene.push(report, &departs.counted(count));
+            let departs = say("worker {}: {} event{} that the serial run doesn't have there");
+            return scene.push(report, &departs.count(worker).counted(stretch.count));
         }
-        let from = self.scene.line(stretch.from);
-        let upto = self.scene.line(stretch.upto);
-        if from == upto {
-            write!(report, ": strand {strand}, line {from} ")?;
+        let from = scene.line(stretch.from);
+        let upto = scene.line(stretch.upto);
+        let lines = say(if from == upto {
+            "worker {}: strand {}, line {} "
         } else {
-            write!(report, ": strand {strand}, lines {from} to {upto} ")?;
-        }
+            "worker {}: strand {}, lines {} to {} "
+        });
+        scene.push(
+            report,
+            &lines.count(worker).count(strand).count(from).count(upto),
+        )?;
         let first = stretch.first.saturating_add(1);
         let last = stretch.last.saturating_add(1);
-        if first == last {
-            write!(report, "(event {first})")
+        let events = say(if first == last {
+            "(event {})"
         } else {
-            write!(report, "(events {first} to {last})")
-        }
+            "(events {} to {})"
+        });
+        scene.push(report, &events.count(first).count(last))
     }
 
     // The frame that ends, and where it was spawned.
-    fn push_end(&self, report: &mut String, twin: Option<usize>) -> Result<(), AllocError> {
+    fn push_end(
+        &self,
+        report: &mut String,
+        worker: usize,
+        twin: Option<usize>,
+    ) -> Result<(), AllocError> {
+        let scene = &self.scene;
         let Some(frame) = twin else {
-            return report.push_str(" ends a child");
+            return scene.push(report, &say("worker {} ends a child").count(worker));
         };
-        report.push_str(" ends ")?;
-        if self.scene.halves(frame) {
-            report.push_str("some turns of ")?;
-        }
-        self.scene.push_frame(report, frame)?;
-        if frame == 0 || self.scene.is_of_loop(frame) {
+        let ends = say(if scene.halves(frame) {
+            "worker {} ends some turns of "
+        } else {
+            "worker {} ends "
+        });
+        scene.push(report, &ends.count(worker))?;
+        scene.push_frame(report, frame)?;
+        if frame == 0 || scene.is_of_loop(frame) {
             return Ok(());
         }
-        let line = self.scene.line(self.scene.note(frame).invoked_at);
-        write!(report, ", spawned on line {line}")
+        let line = scene.line(scene.note(frame).invoked_at);
+        scene.push(report, &say(", spawned on line {}").count(line))
     }
-}
-
-// The place of a choice's worker among the hands.
-fn worker_of(choice: Choice) -> usize {
-    let worker = match choice {
-        Choice::Run(worker) => worker,
-        Choice::Steal(worker, _) => worker,
-    };
-    (worker as usize).saturating_sub(1)
-}
-
-// The place after an event.
-fn behind(made: Option<usize>) -> Option<usize> {
-    Some(made?.saturating_add(1))
 }
 
 // The form of an event, and its cell if a global has it: other cells, and frames, are numbered as a

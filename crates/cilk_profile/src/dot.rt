@@ -3,7 +3,8 @@
 use crate::chart::push_escaped;
 use cilk_findings::scene::Scene;
 use cilk_messages::sentence::say;
-use cilk_tree::tree::{Node, SpTree};
+use cilk_tree::building::tree_of;
+use cilk_tree::tree::Node;
 use std::alloc::AllocError;
 
 /// The most nodes that [`dot`] draws.
@@ -28,21 +29,22 @@ struct Position {
 /// Returns the tree of a run in the language of Graphviz's `dot`; none for more than [`MAX_NODES`]
 /// nodes. Strands are boxes with their number, their function, the line of their first event and
 /// their count of events; S nodes are diamonds; P nodes are circles with the line of their spawn.
-pub fn dot(scene: &Scene<'_>, tree: &SpTree) -> Result<Option<String>, AllocError> {
+pub fn dot(scene: &Scene<'_>) -> Result<Option<String>, AllocError> {
+    let tree = tree_of(scene.case.alloc, &scene.run.trace)?;
     if tree.as_slice().len() > MAX_NODES {
         return Ok(None);
     }
     let mut text = String::new(scene.case.alloc);
-    push_graph(&mut text, scene, tree)?;
+    push_graph(&mut text, scene, tree.as_slice())?;
     Ok(Some(text))
 }
 
-fn push_graph(text: &mut String, scene: &Scene<'_>, tree: &SpTree) -> Result<(), AllocError> {
+fn push_graph(text: &mut String, scene: &Scene<'_>, nodes: &[Node]) -> Result<(), AllocError> {
     text.push_str(HEAD)?;
     push_escaped(text, scene.case.file, false)?;
     text.push_str(LABEL)?;
     let mut open = Vec::new(scene.case.alloc);
-    push_nodes(text, scene, tree.as_slice(), &mut open)
+    push_nodes(text, scene, nodes, &mut open)
 }
 
 // The nodes. `open` has those that still miss a child, once for each missing child.
@@ -57,8 +59,8 @@ fn push_nodes(
         strand: 1,
         event: 0,
     };
-    for (number, node) in nodes.iter().enumerate() {
-        position.number = number;
+    for node in nodes {
+        let number = position.number;
         push_node(text, scene, node, position)?;
         if let Some(above) = open.pop() {
             write!(text, "  n{above} -> n{number};\n")?;
@@ -73,6 +75,7 @@ fn push_nodes(
                 open.push(number)?;
             }
         }
+        position.number = number.saturating_add(1);
     }
     text.push_str("}\n")
 }

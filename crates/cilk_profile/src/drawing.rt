@@ -2,18 +2,17 @@
 //! series-parallel tree.
 
 use crate::burdened::BURDEN;
-use cilk_findings::case::Case;
+use crate::chains::profile;
 use crate::chart::{
     BOUND, ESTIMATE, HEAD, HEIGHT, KEYS, LEFT, OUTLINE, OUTLINE_END, STEPS_WORDS, WIDTH,
     WORKERS_AXES, push_column, push_escaped, push_hundredths, push_level, scaled,
 };
-use crate::chains::profile;
 use crate::dot::dot;
+use crate::totals::{Totals, totals_of};
+use cilk_findings::case::Case;
 use cilk_findings::fault::CaseFault;
 use cilk_findings::runs::Run;
 use cilk_findings::scene::Scene;
-use crate::totals::{Totals, totals_of};
-use cilk_tree::building::tree_of;
 use cilk_types::trace::Trace;
 use std::alloc::AllocError;
 
@@ -63,7 +62,14 @@ fn push_speed_up(text: &mut String, totals: &Totals) -> Result<(), AllocError> {
         <text x=\"80\" y=\"46\" text-anchor=\"start\" fill=\"#222222\">burdened span {burdened_span}: \
         a burden of {BURDEN} events for each spawn that a steal may take</text>\n"
     )?;
-    let most = greatest_speed_up(totals);
+    // The least end of the scale, in hundredths, that holds the greatest speed-up.
+    let bound = totals.speed_up_bound(WORKERS as u64) as usize;
+    let mut most: usize = 100;
+    for _octave in 0..5 {
+        if most < bound {
+            most = most.saturating_mul(2);
+        }
+    }
     push_workers(text, most)?;
     text.push_str(WORKERS_AXES)?;
     push_curve(text, totals, most, true)?;
@@ -82,18 +88,6 @@ fn push_workers(text: &mut String, most: usize) -> Result<(), AllocError> {
         push_column(text, SPEED_UP, column_of(workers), workers)?;
     }
     Ok(())
-}
-
-// The least end of the scale, in hundredths, that holds the greatest speed-up.
-fn greatest_speed_up(totals: &Totals) -> usize {
-    let bound = totals.speed_up_bound(WORKERS as u64) as usize;
-    let mut most: usize = 100;
-    for _octave in 0..5 {
-        if most < bound {
-            most = most.saturating_mul(2);
-        }
-    }
-    most
 }
 
 fn push_curve(
@@ -223,17 +217,11 @@ fn logarithm(number: usize) -> (usize, usize) {
 /// case's run has to end without a fault; otherwise the error is [`CaseFault::Unfit`].
 pub fn tree_of_run(case: &Case<'_>) -> Result<Option<String>, CaseFault> {
     let run = ended(case)?;
-    let drawn = drawn(&Scene { case, run: &run })?;
-    Ok(drawn)
+    Ok(dot(&Scene { case, run: &run })?)
 }
 
-fn drawn(scene: &Scene<'_>) -> Result<Option<String>, AllocError> {
-    let tree = tree_of(scene.case.alloc, &scene.run.trace)?;
-    dot(scene, &tree)
-}
-
-// The run of a case that no fault stops.
-fn ended(case: &Case<'_>) -> Result<Run, CaseFault> {
+/// Returns the run of a case. If a fault stops it, the error is [`CaseFault::Unfit`].
+pub fn ended(case: &Case<'_>) -> Result<Run, CaseFault> {
     let run = Run::of(case)?;
     match run.fault {
         None => Ok(run),

@@ -1,11 +1,11 @@
 //! The rows of `measure` by function and loop.
 
+use crate::drawing::ended;
+use crate::shares::{Share, find_shares};
+use crate::totals::Totals;
 use cilk_findings::case::Case;
 use cilk_findings::fault::CaseFault;
-use cilk_findings::runs::Run;
 use cilk_findings::scene::Scene;
-use crate::shares::{Share, shares};
-use crate::totals::Totals;
 use cilk_messages::place::{Location, locate};
 use cilk_messages::sentence::{Sentence, say};
 use cilk_program::program::Body;
@@ -33,10 +33,7 @@ pub fn push_tables(
     totals: &Totals,
     commas: bool,
 ) -> Result<u64, CaseFault> {
-    let run = Run::of(case)?;
-    if run.fault.is_some() {
-        return Err(CaseFault::Unfit);
-    }
+    let run = ended(case)?;
     let scene = Scene { case, run: &run };
     Table { scene, commas }.push(totals, text)?;
     Ok(u64::from(run.replay.ticks))
@@ -51,47 +48,36 @@ impl Table<'_> {
 
     // The functions and loops that ran: functions first, each in the text's order.
     fn push_rows(&self, text: &mut String) -> Result<(), AllocError> {
-        let Scene { case, run } = self.scene;
-        let members = members_of(case, run)?;
-        let count = case
-            .map
-            .functions
-            .len()
-            .saturating_add(case.map.loops.len());
-        let shares = shares(case.alloc, run, members.as_slice(), count)?;
-        self.push_shares(text, shares.as_slice())
+        let mut shares = Vec::new(self.scene.case.alloc);
+        self.push_shares(text, &mut shares)
     }
 
-    fn push_shares(&self, text: &mut String, shares: &[Share]) -> Result<(), AllocError> {
+    fn push_shares(&self, text: &mut String, shares: &mut Vec<Share>) -> Result<(), AllocError> {
+        find_shares(&self.scene, shares)?;
         let mut width: usize = 4;
-        for (number, share) in shares.iter().enumerate() {
+        let mut number: usize = 0;
+        for share in shares.as_slice() {
             if share.frames > 0 {
                 width = width.max(self.length_of(&title_of(&self.scene, number))?);
             }
+            number = number.saturating_add(1);
         }
         text.push('\n')?;
         push_cells(text, "body", &HEADINGS, width, self.commas)?;
-        for (number, share) in shares.iter().enumerate() {
+        number = 0;
+        for share in shares.as_slice() {
             if share.frames > 0 {
                 self.push_title(text, &title_of(&self.scene, number), width)?;
-                self.push_share(text, share)?;
+                self.push_number(text, share.frames)?;
+                self.push_number(text, share.strands)?;
+                self.push_number(text, share.events)?;
+                self.push_number(text, share.work)?;
+                self.push_number(text, share.span)?;
+                text.push('\n')?;
             }
+            number = number.saturating_add(1);
         }
         Ok(())
-    }
-
-    fn push_share(&self, text: &mut String, share: &Share) -> Result<(), AllocError> {
-        let Share {
-            frames,
-            strands,
-            events,
-            work,
-            span,
-        } = *share;
-        for number in [frames, strands, events, work, span] {
-            self.push_number(text, number)?;
-        }
-        text.push('\n')
     }
 
     /// Returns the length of a title.
@@ -171,17 +157,4 @@ pub fn title_at<'a>(scene: &Scene<'a>, body: Body, at: usize) -> Sentence<'a> {
     let Location { line, column } = locate(scene.case.text, at);
     let name = say("{} at {}:{}").word(scene.body_name(body));
     name.count(line).count(column)
-}
-
-// The body of each frame, by its place: functions first, then loops.
-fn members_of(case: &Case<'_>, run: &Run) -> Result<Vec<usize>, AllocError> {
-    let functions = case.map.functions.len();
-    let mut members: Vec<usize> = Vec::new(case.alloc);
-    for note in &run.replay.frames {
-        members.push(match note.body {
-            Body::Function(number) => number as usize,
-            Body::Loop(number) => functions.saturating_add(number as usize),
-        })?;
-    }
-    Ok(members)
 }

@@ -4,16 +4,16 @@ ghost use Rattle.std.specs.Prelude.{◌≡◌, IfErr, IfOk};
 ghost use Rattle.cilk_profile.specs.Measured.{IsAboutPictures, IsMeasureText, IsTable, is_drawn, mark_in};
 ghost use Rattle.cilk_messages.specs.Words.{texts};
 
-use cilk_findings::kept::{CaseTexts, Kept};
+use crate::drawing::{profile_of, tree_of_run};
 use crate::rows::push_tables;
 use crate::table::{BLANK, COMMA, totals_text};
+use crate::totals::Totals;
 use crate::words::asks;
 use cilk_findings::case::Case;
-use crate::drawing::{profile_of, tree_of_run};
 use cilk_findings::fault::CaseFault;
-use crate::totals::Totals;
+use cilk_findings::kept::{CaseTexts, Kept};
 use cilk_messages::words::Origin;
-use std::alloc::{AllocError, Global};
+use std::alloc::Global;
 
 /// The reason why nothing is shown of a run that ended.
 #[derive(Clone, Copy)]
@@ -26,12 +26,6 @@ pub enum NoText {
 impl From<CaseFault> for NoText {
     fn from(fault: CaseFault) -> NoText {
         NoText::Fault(fault)
-    }
-}
-
-impl From<AllocError> for NoText {
-    fn from(_: AllocError) -> NoText {
-        NoText::Fault(CaseFault::Memory)
     }
 }
 

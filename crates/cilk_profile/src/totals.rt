@@ -56,11 +56,13 @@ pub fn totals_of(alloc: Global, trace: &Trace) -> Result<Totals, AllocError>
     })
 }
 
-/// The speed-up by a number of workers, in hundredths, rounded down (He, Leiserson and Leiserson 2010).
+/// The speed-up by a number of workers, in hundredths, rounded down, and 0 for a span of 0 (He, Leiserson
+/// and Leiserson 2010).
 impl Totals {
     /// Returns the parallelism: work over span.
     pub fn parallelism(&self) -> u64 {
-        quotient((self.work as u64).saturating_mul(100), self.span)
+        let scaled = (self.work as u64).saturating_mul(100);
+        scaled.checked_div(self.span).unwrap_or(0)
     }
 
     /// Returns an estimate: work over the time of a greedy schedule in which 1.7 burdened spans are
@@ -75,7 +77,7 @@ impl Totals {
             .saturating_mul(workers)
             .saturating_mul(17);
         let scaled = share.saturating_mul(100).saturating_mul(workers);
-        quotient(scaled, share.saturating_add(spans))
+        scaled.checked_div(share.saturating_add(spans)).unwrap_or(0)
     }
 
     /// Returns the most that work and span allow: the number of workers, or the parallelism if that
@@ -83,9 +85,4 @@ impl Totals {
     pub fn speed_up_bound(&self, workers: u64) -> u64 {
         workers.saturating_mul(100).min(self.parallelism())
     }
-}
-
-// 0 for the divisor 0.
-fn quotient(number: u64, divisor: u64) -> u64 {
-    number.checked_div(divisor).unwrap_or(0)
 }

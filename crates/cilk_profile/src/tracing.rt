@@ -4,9 +4,9 @@ ghost use Rattle.std.specs.Prelude.{◌≡◌};
 ghost use Rattle.cilk_schedule.specs.Played.{IsUnstopped};
 
 use crate::deeds::Deeds;
-use cilk_findings::kept::{CaseTexts, Kept};
 use cilk_findings::case::Case;
 use cilk_findings::fault::CaseFault;
+use cilk_findings::kept::{CaseTexts, Kept};
 use cilk_findings::runs::Run;
 use cilk_findings::scene::Scene;
 use cilk_messages::words::Origin;
@@ -29,7 +29,8 @@ struct Left<'a> {
 }
 
 impl Left<'_> {
-    // The next choice on a machine. A round of an `all` is begun unless the run has ended.
+    // The next choice on a machine. A round of an `all` is begun unless the run has ended: each worker
+    // continues its frame, or steals the first continuation that is offered.
     fn next(&mut self, machine: &Machine<'_>) -> Option<Choice> {
         if self.worker >= self.workers {
             self.worker = 0;
@@ -38,29 +39,25 @@ impl Left<'_> {
         if self.worker == 0 && machine.ended() {
             self.rounds = 0;
         }
-        if self.rounds > 0 {
-            self.worker = self.worker.saturating_add(1);
-            return Some(turn_of(machine, self.worker));
-        }
-        match self.choices.next()? {
-            Next::Run(worker) => Some(Choice::Run(worker)),
-            Next::Steal(worker, place) => Some(Choice::Steal(worker, place as usize)),
-            Next::Rounds => {
-                self.rounds = ROUNDS;
-                self.worker = 1;
-                Some(turn_of(machine, 1))
+        if self.rounds == 0 {
+            match self.choices.next() {
+                Some(Next::Run(worker)) => return Some(Choice::Run(worker)),
+                Some(Next::Steal(worker, place)) => {
+                    return Some(Choice::Steal(worker, place as usize));
+                }
+                Some(Next::Rounds) => {
+                    self.rounds = ROUNDS;
+                    self.worker = 0;
+                }
+                Some(Next::Past(_)) | None => return None,
             }
-            Next::Past(_) => None,
         }
-    }
-}
-
-// A worker's turn: it continues its frame, or steals the first continuation that is offered.
-fn turn_of(machine: &Machine<'_>, worker: u32) -> Choice {
-    if machine.holds(worker) {
-        Choice::Run(worker)
-    } else {
-        Choice::Steal(worker, 0)
+        self.worker = self.worker.saturating_add(1);
+        if machine.holds(self.worker) {
+            Some(Choice::Run(self.worker))
+        } else {
+            Some(Choice::Steal(self.worker, 0))
+        }
     }
 }
 
@@ -76,23 +73,23 @@ pub fn push_trace(
     let Some(texts) = CaseTexts::of(Origin::File(program), input, kept)? else {
         return Err(CaseFault::Unfit);
     };
+    let script = kept.last()?;
     let case = texts.case(alloc)?;
-    match read(case.alloc, kept.last()?) {
-        Ok(steps) => push_steps(report, &case, workers, steps.as_slice()),
-        Err(ScriptFault::Line(_)) => Err(CaseFault::Unfit),
-        Err(ScriptFault::Memory) => Err(CaseFault::Memory),
-    }
+    push_script(report, &case, workers, script)
 }
 
-fn push_steps(
+fn push_script(
     report: &mut String,
     case: &Case<'_>,
     workers: u32,
-    steps: &[Step],
+    script: &[u8],
 ) -> Result<(), CaseFault> {
     let run = Run::of(case)?;
-    push_run(report, Scene { case, run: &run }, workers, steps)?;
-    Ok(())
+    match read(case.alloc, script) {
+        Ok(steps) => push_run(report, Scene { case, run: &run }, workers, steps.as_slice()),
+        Err(ScriptFault::Line(_)) => Err(CaseFault::Unfit),
+        Err(ScriptFault::Memory) => Err(CaseFault::Memory),
+    }
 }
 
 // Makes the choices of a script, from the run's beginning, and tells what comes of them.
@@ -101,21 +98,24 @@ fn push_run(
     scene: Scene<'_>,
     workers: u32,
     steps: &[Step],
-) -> Result<(), AllocError> {
+) -> Result<(), CaseFault> {
     let Scene { case, run } = scene;
-    let mut deeds = Deeds::new(case.alloc, scene, workers)?;
     let mut machine = Machine::new(case.alloc, &run.code, &case.input, workers)?;
+    let mut deeds = Deeds::new(case.alloc, scene);
     let mut left = Left {
         choices: Choices::new(steps),
         workers,
         rounds: 0,
         worker: 0,
     };
-    follow_on(case.alloc, &mut machine, &mut left, &mut deeds)?;
-    deeds.push(report)
+    match follow_on(report, case.alloc, &mut machine, &mut left, &mut deeds) {
+        Ok(()) => Ok(()),
+        Err(_memory) => Err(CaseFault::Memory),
+    }
 }
 
 fn follow_on(
+    report: &mut String,
     alloc: Global,
     machine: &mut Machine<'_>,
     left: &mut Left<'_>,
@@ -123,15 +123,19 @@ fn follow_on(
 ) -> Result<(), AllocError>
     requires { IsUnstopped machine.old }
 {
+    deeds.open(left.workers)?;
     'choices: for _ in 0..u64::MAX {
         let Some(choice) = left.next(machine) else {
             break;
         };
         match machine.choose(alloc, choice) {
-            Ok(told) => deeds.note(choice, told)?,
-            Err(Stop::At { fault, strand: _ }) => return deeds.stop(choice, fault.number()),
+            Ok(told) => deeds.note(choice, Ok(told))?,
+            Err(Stop::At { fault, strand: _ }) => {
+                deeds.note(choice, Err(fault.number()))?;
+                return deeds.push(report);
+            }
             Err(Stop::Memory) => return Err(AllocError),
         }
     }
-    Ok(())
+    deeds.push(report)
 }
