@@ -187,8 +187,7 @@ impl Critical<'_> {
         for site in &self.sites {
             if let Some(site) = site {
                 let title = title_at(&scene, site.body, at);
-                self.table.push_title(text, &title, width)?;
-                self.table.push_number(text, site.spawned)?;
+                self.table.push_title(text, &title, width, &[site.spawned])?;
                 self.table.push_percent(text, site.on_path, self.length)?;
                 text.push('\n')?;
             }
@@ -212,7 +211,7 @@ impl Critical<'_> {
                     *count = 0;
                 }
             }
-            table.push_title(text, &say("{}").count(line.number), LINE.len())?;
+            table.push_title(text, &say("{}").count(line.number), LINE.len(), &[])?;
             table.push_percent(text, line.on_path, self.length)?;
             if !table.commas {
                 push_words(text, table.scene.case, &line)?;

@@ -231,7 +231,7 @@ impl<'a> Deeds<'a> {
     }
 
     // Notes a child, with which the worker continues. Its twin is the frame that the serial run begins
-    // by the next event. Returns the last event of that one, behind which the parent continues. An
+    // by the next event. Returns the last event of that one, after which the parent continues. An
     // offer comes after those of the same worker.
     fn invoke(
         &mut self,

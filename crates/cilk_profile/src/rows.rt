@@ -67,12 +67,16 @@ impl Table<'_> {
         number = 0;
         for share in shares.as_slice() {
             if share.frames > 0 {
-                self.push_title(text, &title_of(&self.scene, number), width)?;
-                self.push_number(text, share.frames)?;
-                self.push_number(text, share.strands)?;
-                self.push_number(text, share.events)?;
-                self.push_number(text, share.work)?;
-                self.push_number(text, share.span)?;
+                let Share {
+                    frames,
+                    strands,
+                    events,
+                    work,
+                    span,
+                    ..
+                } = *share;
+                let numbers = [frames, strands, events, work, span];
+                self.push_title(text, &title_of(&self.scene, number), width, &numbers)?;
                 text.push('\n')?;
             }
             number = number.saturating_add(1);
@@ -87,28 +91,27 @@ impl Table<'_> {
         Ok(text.len())
     }
 
-    /// Adds the first cell of a line, in a column of this width.
+    /// Adds the first cell of a line, in a column of this width, and cells with these numbers.
     pub fn push_title(
         &self,
         text: &mut String,
         title: &Sentence<'_>,
         width: usize,
+        numbers: &[u64],
     ) -> Result<(), AllocError> {
         let end = text.len().saturating_add(width);
         self.scene.push(text, title)?;
-        if self.commas {
-            return Ok(());
+        if !self.commas {
+            push_blanks(text, end.saturating_sub(text.len()))?;
         }
-        push_blanks(text, end.saturating_sub(text.len()))
-    }
-
-    /// Adds a cell with a number.
-    pub fn push_number(&self, text: &mut String, number: u64) -> Result<(), AllocError> {
-        if self.commas {
-            write!(text, ",{number}")
-        } else {
-            write!(text, " {number:>9}")
+        for number in numbers {
+            if self.commas {
+                write!(text, ",{number}")?;
+            } else {
+                write!(text, " {number:>9}")?;
+            }
         }
+        Ok(())
     }
 }
 

@@ -24,7 +24,7 @@ impl Table<'_> {
             self.commas,
         )?;
         for workers in WORKERS {
-            self.push_title(text, &say("{}").count(workers), HEAD.len())?;
+            self.push_title(text, &say("{}").count(workers), HEAD.len(), &[])?;
             self.push_point(text, totals.speed_up_estimate(workers as u64))?;
             self.push_point(text, totals.speed_up_bound(workers as u64))?;
             text.push('\n')?;
