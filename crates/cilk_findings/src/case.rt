@@ -6,6 +6,7 @@ use cilk_names::resolve::resolve;
 use cilk_parser::input::parse_input;
 use cilk_parser::parse::parse;
 use cilk_program::program::Program;
+use cilk_syntax::tree::Tree;
 use cilk_types::input::Input;
 use std::alloc::Global;
 
@@ -41,17 +42,27 @@ impl<'a> Case<'a> {
         text: &'a [u8],
         input: &[u8],
     ) -> Result<Case<'a>, CaseFault> {
-        let input = parse_input(alloc, input)?;
         let tree = parse(alloc, text)?;
-        let map = TextMap::of(alloc, &tree)?;
-        let program = resolve(alloc, &tree)?;
-        Ok(Case {
-            alloc,
-            file,
-            text,
-            program,
-            input,
-            map,
-        })
+        of_tree(alloc, file, text, &tree, input)
     }
+}
+
+fn of_tree<'a>(
+    alloc: Global,
+    file: &'a str,
+    text: &'a [u8],
+    tree: &Tree,
+    input: &[u8],
+) -> Result<Case<'a>, CaseFault> {
+    let input = parse_input(alloc, input)?;
+    let map = TextMap::of(alloc, tree)?;
+    let program = resolve(alloc, tree)?;
+    Ok(Case {
+        alloc,
+        file,
+        text,
+        program,
+        input,
+        map,
+    })
 }

@@ -79,7 +79,7 @@ const INPUT_OUTSIDE: &str = "the input has {} number{}, counted from 0, and numb
 // An array, given by its first cell, and an index outside it.
 fn outside<'a>(scene: &Scene<'a>, first: i64, index: i64) -> Sentence<'a> {
     let array = match usize::try_from(first) {
-        Ok(first) => scene.case.map.array(first),
+        Ok(first) => scene.case.map.global(first),
         Err(_) => None,
     };
     let Some(array) = array else {

@@ -28,14 +28,8 @@ struct Access {
     next: usize,
 }
 
-/// Two bytes of the text, in order, with an event from each: they race.
-#[derive(Clone, Copy, PartialEq, Eq, PartialOrd, Ord)]
-struct Found {
-    first: usize,
-    second: usize,
-    one: usize,
-    other: usize,
-}
+/// Two bytes of the text, in order, and an event from each: they race.
+type Found = ((usize, usize), (usize, usize));
 
 /// The accesses so far, linked by their cells, and the races. The first race isn't shown.
 struct Search<'a> {
@@ -73,6 +67,16 @@ pub fn push_further(
     }
     let tree = tree_of(alloc, &scene.run.trace)?;
     let labels = label(alloc, &tree)?;
+    push_labelled(scene, report, &labels, (earlier, later))
+}
+
+fn push_labelled(
+    scene: &Scene<'_>,
+    report: &mut String,
+    labels: &Labels,
+    first: (usize, usize),
+) -> Result<(), AllocError> {
+    let alloc = scene.case.alloc;
     let mut search = Search {
         scene: *scene,
         heads: Vec::new(alloc),
@@ -80,12 +84,21 @@ pub fn push_further(
         found: Vec::new(alloc),
         tries: TRIES,
     };
-    search.note(earlier, later)?;
-    search.pass(&labels)?;
-    search.push(report)
+    search.push_all(report, labels, first)
 }
 
 impl Search<'_> {
+    fn push_all(
+        &mut self,
+        report: &mut String,
+        labels: &Labels,
+        first: (usize, usize),
+    ) -> Result<(), AllocError> {
+        self.note(first.0, first.1)?;
+        self.pass(labels)?;
+        self.push(report)
+    }
+
     fn pass(&mut self, labels: &Labels) -> Result<(), AllocError> {
         let mut strand: u32 = 0;
         for index in 0..self.scene.run.trace.len() {
@@ -158,28 +171,18 @@ impl Search<'_> {
     // Notes two events that race, unless others do from the same bytes.
     fn note(&mut self, earlier: usize, later: usize) -> Result<(), AllocError> {
         let (at, behind) = (self.scene.byte_of(earlier), self.scene.byte_of(later));
-        let race = if at <= behind {
-            Found {
-                first: at,
-                second: behind,
-                one: earlier,
-                other: later,
-            }
+        let (places, events) = if at <= behind {
+            ((at, behind), (earlier, later))
         } else {
-            Found {
-                first: behind,
-                second: at,
-                one: later,
-                other: earlier,
-            }
+            ((behind, at), (later, earlier))
         };
-        for found in &self.found {
+        for ((first, second), _) in &self.found {
             self.tries = self.tries.saturating_sub(1);
-            if found.first == race.first && found.second == race.second {
+            if *first == places.0 && *second == places.1 {
                 return Ok(());
             }
         }
-        self.found.push(race)?;
+        self.found.push((places, events))?;
         Ok(())
     }
 
@@ -202,20 +205,20 @@ impl Search<'_> {
 
     fn push_race(&self, report: &mut String, found: &Found) -> Result<(), AllocError> {
         let scene = &self.scene;
-        let (Some(one), Some(other)) = (scene.run.event(found.one), scene.run.event(found.other))
-        else {
+        let ((first, second), (one, other)) = *found;
+        let (Some(one), Some(other)) = (scene.run.event(one), scene.run.event(other)) else {
             return Ok(());
         };
-        let place = scene.place(found.first);
+        let place = scene.place(first);
         scene.push(report, &say("{}: note: another race: ").with(place))?;
         scene.push(report, &scene.accessed(&one))?;
-        let words = if found.first == found.second {
+        let words = if first == second {
             say(" is {} here, and {} here too\n")
         } else {
             say(" is {} here, and {} at {}\n")
         };
         let words = words.with(done_by(&one)).with(done_by(&other));
-        scene.push(report, &words.with(scene.place(found.second)))
+        scene.push(report, &words.with(scene.place(second)))
     }
 }
 

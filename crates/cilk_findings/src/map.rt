@@ -71,16 +71,21 @@ impl TextMap {
             functions: Vec::new(alloc),
             loops: Vec::new(alloc),
         };
+        map.add_items(alloc, tree)?;
+        Ok(map)
+    }
+
+    fn add_items(&mut self, alloc: Global, tree: &Tree) -> Result<(), AllocError> {
         for item in tree.items.as_slice() {
             match item {
-                Item::Globals(variables) => map.add_globals(variables)?,
-                Item::Reducer(reducer) => map.reducers.push(reducer.name)?,
+                Item::Globals(variables) => self.add_globals(variables)?,
+                Item::Reducer(reducer) => self.reducers.push(reducer.name)?,
                 Item::Function(_, name, parameters, body, _) => {
-                    map.add_function(alloc, *name, parameters, body)?;
+                    self.add_function(alloc, *name, parameters, body)?;
                 }
             }
         }
-        Ok(map)
+        Ok(())
     }
 
     // Adds the variables of a line.
@@ -111,7 +116,7 @@ impl TextMap {
         parameters: &[Parameter],
         statements: &[Stmt],
     ) -> Result<(), AllocError> {
-        let body = Body::Function(count_of(self.functions.len()));
+        let body = Body::Function(u32::try_from(self.functions.len()).unwrap_or(u32::MAX));
         self.functions.push(BodyMap::new(alloc, name))?;
         for parameter in parameters {
             if let Parameter::Variable(name) = parameter {
@@ -160,20 +165,14 @@ impl TextMap {
                 self.add(alloc, body, inner)
             }
             Stmt::ParallelFor(at, bounds, inner) => {
-                let turn = self.add_loop(alloc, *at, bounds.variable)?;
+                let end = at.saturating_add(8);
+                let turn = Body::Loop(u32::try_from(self.loops.len()).unwrap_or(u32::MAX));
+                self.loops.push(BodyMap::new(alloc, Name { at: *at, end }))?;
+                self.add_cell(turn, bounds.variable)?;
                 self.add(alloc, turn, inner)
             }
             _ => Ok(()),
         }
-    }
-
-    // Adds a loop, whose word is at byte `at`.
-    fn add_loop(&mut self, alloc: Global, at: usize, variable: Name) -> Result<Body, AllocError> {
-        let body = Body::Loop(count_of(self.loops.len()));
-        let end = at.saturating_add(8);
-        self.loops.push(BodyMap::new(alloc, Name { at, end }))?;
-        self.add_cell(body, variable)?;
-        Ok(body)
     }
 
     fn add_cell(&mut self, body: Body, name: Name) -> Result<(), AllocError> {
@@ -208,19 +207,4 @@ impl TextMap {
         }
         found
     }
-
-    /// Returns the array with this first cell.
-    pub fn array(&self, first: usize) -> Option<GlobalName> {
-        for global in &self.globals {
-            if global.first == first && global.length.is_some() {
-                return Some(*global);
-            }
-        }
-        None
-    }
-}
-
-// The number of a body. A text has no more than fit.
-fn count_of(number: usize) -> u32 {
-    u32::try_from(number).unwrap_or(u32::MAX)
 }

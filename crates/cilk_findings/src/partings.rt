@@ -5,9 +5,8 @@ use cilk_messages::sentence::{Sentence, say};
 use cilk_messages::sites::{closed_head, is_condition};
 use cilk_messages::tokens::Tokens;
 use cilk_syntax::token::Kind;
-use std::alloc::AllocError;
 
-/// Where a sync separates a spawn from later code: in words, with a byte of the text.
+/// Where a sync separates a spawn from later code: in words, with a token.
 type Parting = (&'static str, usize);
 
 // Before a statement.
@@ -29,26 +28,34 @@ const BETWEEN: &str = "put a `cilk_sync;` before {}, where a declaration of its 
 /// byte `at`.
 pub fn parted_at<'a>(
     scene: &Scene<'a>,
+    tokens: &Tokens<'_>,
     spawn: usize,
     at: usize,
-) -> Result<Sentence<'a>, AllocError> {
-    let tokens = Tokens::new(scene.case.alloc, scene.case.text)?;
-    let (words, place) = parting_of(&tokens, tokens.number_at(spawn), tokens.number_at(at));
-    Ok(say(words).with(scene.place(place)))
+) -> Sentence<'a> {
+    let (words, number) = parting_of(tokens, tokens.number_at(spawn), tokens.number_at(at));
+    say(words).with(scene.place(tokens.place(number)))
 }
 
 // The place, by numbers of tokens.
 fn parting_of(tokens: &Tokens<'_>, spawn: usize, access: usize) -> Parting {
     let first = statement_of(tokens, access);
-    if is_repeated(tokens, first, access) && stands_in(tokens, first, spawn) {
-        return at_end(tokens, first);
-    }
-    if let Some(name) = declared_at(tokens, first, access) {
-        if first <= spawn && spawn < name {
-            return (BETWEEN, tokens.place(name));
+    let is_spawn_in = first <= spawn && spawn < end_of(tokens, first);
+    let (mut name, mut depth, mut parts): (usize, usize, usize) = (0, 0, 0);
+    for earlier in first..access {
+        match tokens.kind(earlier) {
+            Some(Kind::Open | Kind::OpenBracket) => depth = depth.saturating_add(1),
+            Some(Kind::Close | Kind::CloseBracket) => depth = depth.saturating_sub(1),
+            Some(Kind::Comma) if depth == 0 => name = earlier.saturating_add(1),
+            Some(Kind::Semicolon) => parts = parts.saturating_add(1),
+            _ => {}
         }
     }
-    ahead(tokens, first, spawn)
+    match tokens.kind(first) {
+        Some(Kind::While) if is_spawn_in => at_end(tokens, first),
+        Some(Kind::For) if is_spawn_in && parts > 0 => at_end(tokens, first),
+        Some(Kind::Int) if first <= spawn && spawn < name => (BETWEEN, name),
+        _ => ahead(tokens, first, spawn),
+    }
 }
 
 /// Returns the first token of the innermost statement around a token. The head of a loop or condition
@@ -81,8 +88,8 @@ pub fn statement_of(tokens: &Tokens<'_>, number: usize) -> usize {
     first
 }
 
-// The token after a statement.
-fn end_of(tokens: &Tokens<'_>, first: usize) -> usize {
+/// Returns the token after a statement that begins with token `first`.
+pub fn end_of(tokens: &Tokens<'_>, first: usize) -> usize {
     let mut depth: usize = 0;
     for number in first..tokens.count() {
         let kind = tokens.kind(number);
@@ -99,17 +106,12 @@ fn end_of(tokens: &Tokens<'_>, first: usize) -> usize {
     tokens.count()
 }
 
-/// Returns whether a token is in the statement that begins with token `first`.
-pub fn stands_in(tokens: &Tokens<'_>, first: usize, number: usize) -> bool {
-    first <= number && number < end_of(tokens, first)
-}
-
 /// Returns the first token of the innermost `while` or `for` around a token.
 pub fn loop_round(tokens: &Tokens<'_>, number: usize) -> Option<usize> {
     let mut found = None;
     for first in 0..number {
         if matches!(tokens.kind(first), Some(Kind::While | Kind::For))
-            && stands_in(tokens, first, number)
+            && number < end_of(tokens, first)
         {
             found = Some(first);
         }
@@ -117,30 +119,12 @@ pub fn loop_round(tokens: &Tokens<'_>, number: usize) -> Option<usize> {
     found
 }
 
-// Whether a token is in the part of a loop's head that runs again after each turn.
-fn is_repeated(tokens: &Tokens<'_>, first: usize, number: usize) -> bool {
-    let mut parts: usize = 0;
-    for earlier in first..number {
-        if let Some(Kind::Semicolon) = tokens.kind(earlier) {
-            parts = parts.saturating_add(1);
-        }
-    }
-    match tokens.kind(first) {
-        Some(Kind::While) => true,
-        Some(Kind::For) => parts > 0,
-        _ => false,
-    }
-}
-
 // The end of the body of the loop that begins at a token.
 fn at_end(tokens: &Tokens<'_>, first: usize) -> Parting {
     let body = behind_head(tokens, first);
     match tokens.kind(body) {
-        Some(Kind::OpenBrace) => {
-            let brace = end_of(tokens, body).saturating_sub(1);
-            (AT_END, tokens.place(brace))
-        }
-        _ => (BEHIND, tokens.place(body)),
+        Some(Kind::OpenBrace) => (AT_END, end_of(tokens, body).saturating_sub(1)),
+        _ => (BEHIND, body),
     }
 }
 
@@ -158,37 +142,18 @@ pub fn behind_head(tokens: &Tokens<'_>, first: usize) -> usize {
     tokens.count()
 }
 
-// The name after the last comma of the declaration around a token.
-fn declared_at(tokens: &Tokens<'_>, first: usize, number: usize) -> Option<usize> {
-    if !matches!(tokens.kind(first), Some(Kind::Int)) {
-        return None;
-    }
-    let mut name = None;
-    let mut depth: usize = 0;
-    for earlier in first..number {
-        match tokens.kind(earlier) {
-            Some(Kind::Open | Kind::OpenBracket) => depth = depth.saturating_add(1),
-            Some(Kind::Close | Kind::CloseBracket) => depth = depth.saturating_sub(1),
-            Some(Kind::Comma) if depth == 0 => name = Some(earlier.saturating_add(1)),
-            _ => {}
-        }
-    }
-    name
-}
-
 // Before a statement. Where the statement is a body without braces and the spawn is outside of its
 // loop or condition, before that one.
 fn ahead(tokens: &Tokens<'_>, first: usize, spawn: usize) -> Parting {
     let mut start = first;
     for _level in 0..tokens.count() {
         match closed_head(tokens, start) {
-            Some(outer) if !stands_in(tokens, outer, spawn) => start = outer,
+            Some(outer) if spawn < outer || end_of(tokens, outer) <= spawn => start = outer,
             _ => break,
         }
     }
-    let place = tokens.place(start);
     match tokens.kind_back(start, 1) {
-        Some(Kind::Close | Kind::Else) => (WITHIN, place),
-        _ => (AHEAD, place),
+        Some(Kind::Close | Kind::Else) => (WITHIN, start),
+        _ => (AHEAD, start),
     }
 }

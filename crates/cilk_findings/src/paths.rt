@@ -1,5 +1,6 @@
 //! The frames from an event up to the first one, in a report.
 
+use crate::replay::FrameNote;
 use crate::scene::Scene;
 use cilk_messages::sentence::{Part, say};
 use cilk_program::program::Body;
@@ -13,14 +14,6 @@ const SHOWN: usize = 10;
 // A frame writes its arguments among this many of its first events.
 const ARRIVING: usize = 100;
 
-/// Frames of a path, each the caller of the one before, that were invoked at one place.
-#[derive(Clone, Copy)]
-struct Row {
-    first: usize,
-    last: usize,
-    count: usize,
-}
-
 /// Paths from a frame up to `top`, without `top`. Frames above the first one that only halve turns
 /// are left out.
 impl<'a> Scene<'a> {
@@ -28,10 +21,10 @@ impl<'a> Scene<'a> {
     fn next_above(&self, frame: usize, top: Option<usize>) -> Option<usize> {
         let mut at = frame;
         for _level in 0..self.run.replay.frames.len() {
-            at = self.above(at)?;
-            if Some(at) == top {
+            if at == 0 || Some(self.note(at).parent) == top {
                 return None;
             }
+            at = self.note(at).parent;
             if !self.halves(at) {
                 return Some(at);
             }
@@ -76,37 +69,43 @@ impl<'a> Scene<'a> {
                 let more = say("  and {} frame{} more\n").counted(length.saturating_sub(passed));
                 return self.push(report, &more);
             }
-            let row = self.row_from(at, top);
-            self.push_row(report, &row)?;
-            passed = passed.saturating_add(row.count);
-            at = self.next_above(row.last, top).unwrap_or(0);
+            let (last, count) = self.row_from(at, top);
+            self.push_row(report, at, last, count)?;
+            passed = passed.saturating_add(count);
+            at = self.next_above(last, top).unwrap_or(0);
         }
         Ok(())
     }
 
-    // The longest row that begins with a frame.
-    fn row_from(&self, first: usize, top: Option<usize>) -> Row {
+    // The last frame of the longest row that begins with a frame, and their number: each runs one function
+    // and is invoked at one place.
+    fn row_from(&self, first: usize, top: Option<usize>) -> (usize, usize) {
+        let FrameNote {
+            body,
+            invoked_at,
+            ..
+        } = self.note(first);
         let mut last = first;
         let mut count: usize = 1;
         for _level in 0..self.run.replay.frames.len() {
-            match self.next_above(last, top) {
-                Some(next) if self.are_alike(first, next) => last = next,
-                _ => break,
+            let next = self.next_above(last, top).unwrap_or(0);
+            let note = self.note(next);
+            if next == 0 || note.body != body || note.invoked_at != invoked_at {
+                break;
             }
+            last = next;
             count = count.saturating_add(1);
         }
-        Row { first, last, count }
+        (last, count)
     }
 
-    // Whether two frames run one function and were invoked at one place.
-    fn are_alike(&self, one: usize, other: usize) -> bool {
-        other != 0
-            && self.note(one).body == self.note(other).body
-            && self.note(one).invoked_at == self.note(other).invoked_at
-    }
-
-    fn push_row(&self, report: &mut String, row: &Row) -> Result<(), AllocError> {
-        let Row { first, last, count } = *row;
+    fn push_row(
+        &self,
+        report: &mut String,
+        first: usize,
+        last: usize,
+        count: usize,
+    ) -> Result<(), AllocError> {
         report.push_str("  in ")?;
         self.push_frame(report, first)?;
         if count > 1 && self.words_of(first) > 0 {
@@ -114,19 +113,14 @@ impl<'a> Scene<'a> {
             self.push_frame(report, last)?;
         }
         let note = self.note(first);
-        let words = match (note.body, note.how) {
+        let invoked = match (note.body, note.how) {
             (Body::Function(_), Invocation::Call) if first > 0 => ", called at {}",
             (Body::Function(_), Invocation::Spawn) if first > 0 => ", spawned at {}",
             _ => "",
         };
-        self.push(
-            report,
-            &say(words).with(self.place(self.note(first).invoked_at)),
-        )?;
-        if count > 1 {
-            self.push(report, &say(" ({} times)").count(count))?;
-        }
-        report.push('\n')
+        self.push(report, &say(invoked).with(self.place(note.invoked_at)))?;
+        let times = if count > 1 { " ({} times)\n" } else { "\n" };
+        self.push(report, &say(times).count(count))
     }
 
     /// Adds what a frame runs: a call with its arguments, a turn, or a loop.

@@ -1,6 +1,6 @@
 //! A `cilk_for` that a loop around it begins again and again.
 
-use crate::partings::{loop_round, stands_in};
+use crate::partings::{end_of, loop_round};
 use crate::replay::StepNote;
 use crate::scene::Scene;
 use cilk_messages::sentence::{Sentence, say};
@@ -20,18 +20,15 @@ pub fn of_repeated<'a>(
 }
 
 fn repeated<'a>(scene: &Scene<'a>, tokens: &Tokens<'a>, step: StepNote) -> Option<Sentence<'a>> {
-    let number = loop_at(scene, step)?;
-    let begun = scene.case.map.loops.get(number)?;
-    let round = loop_round(tokens, tokens.number_at(begun.name.at))?;
-    let times = times_of(scene, number);
-    if times < 2 {
+    let begun = loop_at(scene, step);
+    let round = loop_round(tokens, tokens.number_at(scene.named_at(begun)))?;
+    let times = times_of(scene, begun);
+    if times < 2 || !matches!(begun, Body::Loop(_)) {
         return None;
     }
-    let kept = kept_in(tokens, round);
-    let begins = say(if kept.is_some() { KEPT } else { REPEATED });
-    let begins = begins.word(tokens.word(round));
+    let name = kept_in(tokens, round);
+    let begins = say(if name.is_empty() { REPEATED } else { KEPT }).word(tokens.word(round));
     let begins = begins.with(scene.place(tokens.place(round))).count(times);
-    let name = kept.unwrap_or(&[]);
     Some(begins.word(name).word(name))
 }
 
@@ -44,57 +41,45 @@ const KEPT: &str =
     "the `{}` at {} has begun this `cilk_for` {} times, and reads `{}`, which keeps what was added in earlier turns: \
      let each turn begin with `set({}, 0);`";
 
-// A reducer that a loop reads and never sets.
-fn kept_in<'a>(tokens: &Tokens<'a>, round: usize) -> Option<&'a [u8]> {
-    let mut found = None;
-    for number in round..tokens.count() {
-        if matches!(tokens.kind(number), Some(Kind::Value)) && stands_in(tokens, round, number) {
-            found = Some(tokens.word(number.saturating_add(2)));
+// A reducer that a loop reads and never sets; an empty name if there is none.
+fn kept_in<'a>(tokens: &Tokens<'a>, round: usize) -> &'a [u8] {
+    let end = end_of(tokens, round);
+    let mut name: &[u8] = &[];
+    for number in round..end {
+        if let Some(Kind::Value) = tokens.kind(number) {
+            name = tokens.word(number.saturating_add(2));
         }
     }
-    let name = found?;
-    for number in round..tokens.count() {
+    for number in round..end {
         if matches!(tokens.kind(number), Some(Kind::Set))
             && tokens.word(number.saturating_add(2)) == name
-            && stands_in(tokens, round, number)
         {
-            return None;
+            return &[];
         }
     }
-    Some(name)
+    name
 }
 
-// The `cilk_for` of a step, whether the step halves its turns, begins it or belongs to a turn.
-fn loop_at(scene: &Scene<'_>, step: StepNote) -> Option<usize> {
-    let own = loop_of(scene, step.frame);
-    if scene.halves(step.frame) {
-        return own;
-    }
-    for (number, map) in scene.case.map.loops.iter().enumerate() {
-        if map.name.at == step.at {
-            return Some(number);
+// The `cilk_for` of a step, whether the step halves its turns, begins it or belongs to a turn; otherwise the
+// function of the step.
+fn loop_at(scene: &Scene<'_>, step: StepNote) -> Body {
+    if !scene.halves(step.frame) {
+        for number in 0..scene.case.map.loops.len() {
+            let body = Body::Loop(u32::try_from(number).unwrap_or(u32::MAX));
+            if scene.named_at(body) == step.at {
+                return body;
+            }
         }
     }
-    own
-}
-
-// The loop whose turns a frame runs.
-fn loop_of(scene: &Scene<'_>, frame: usize) -> Option<usize> {
-    match scene.note(frame).body {
-        Body::Loop(number) => Some(number as usize),
-        Body::Function(_) => None,
-    }
+    scene.note(step.frame).body
 }
 
 // How often a run has begun a `cilk_for`: its frames whose parents aren't of that loop.
-fn times_of(scene: &Scene<'_>, number: usize) -> usize {
+fn times_of(scene: &Scene<'_>, body: Body) -> usize {
     let mut times: usize = 0;
     for frame in 0..scene.run.replay.frames.len() {
-        let parent = match scene.above(frame) {
-            Some(parent) => loop_of(scene, parent),
-            None => None,
-        };
-        if loop_of(scene, frame) == Some(number) && parent != Some(number) {
+        let note = scene.note(frame);
+        if note.body == body && scene.note(note.parent).body != body {
             times = times.saturating_add(1);
         }
     }

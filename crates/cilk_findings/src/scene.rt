@@ -63,20 +63,20 @@ impl<'a> Scene<'a> {
 
 /// Frames. Parents have smaller numbers than their children.
 impl<'a> Scene<'a> {
-    /// Returns the note of a frame, if the run has that frame.
-    pub fn frame(&self, number: usize) -> Option<FrameNote> {
-        self.run.replay.frames.get(number).copied()
-    }
-
     /// Returns the note of a frame.
     pub fn note(&self, number: usize) -> FrameNote {
-        self.frame(number).unwrap_or(NO_FRAME)
+        match self.run.replay.frames.get(number) {
+            Some(note) => *note,
+            None => NO_FRAME,
+        }
     }
 
     /// Returns the frame of an event.
     pub fn frame_of(&self, index: usize) -> Option<usize> {
-        let step = self.run.replay.steps.get(index)?;
-        Some(step.frame)
+        match self.run.replay.steps.get(index) {
+            Some(step) => Some(step.frame),
+            None => None,
+        }
     }
 
     /// Returns the parent of a frame; none for the first frame.
@@ -97,9 +97,9 @@ impl<'a> Scene<'a> {
                 break;
             }
             if one > other {
-                one = self.above(one).unwrap_or(0);
+                one = self.note(one).parent;
             } else {
-                other = self.above(other).unwrap_or(0);
+                other = self.note(other).parent;
             }
         }
         one
@@ -109,7 +109,10 @@ impl<'a> Scene<'a> {
     pub fn child_of(&self, outer: usize, frame: usize) -> Option<usize> {
         let mut at = frame;
         for _level in 0..self.run.replay.frames.len() {
-            let parent = self.above(at)?;
+            let parent = self.note(at).parent;
+            if at == 0 {
+                break;
+            }
             if parent == outer {
                 return Some(at);
             }
@@ -206,9 +209,9 @@ impl<'a> Scene<'a> {
 
     /// Returns the cell that an event reads or writes, and whether it writes.
     pub fn access(&self, index: usize) -> Option<(usize, bool)> {
-        match self.run.event(index)? {
-            Event::Read { cell, .. } => Some((cell as usize, false)),
-            Event::Write { cell, .. } => Some((cell as usize, true)),
+        match self.run.event(index) {
+            Some(Event::Read { cell, .. }) => Some((cell as usize, false)),
+            Some(Event::Write { cell, .. }) => Some((cell as usize, true)),
             _ => None,
         }
     }
@@ -216,34 +219,36 @@ impl<'a> Scene<'a> {
     /// Returns the variable, element or reducer that an event accesses, in words: none for other
     /// events.
     pub fn accessed(&self, event: &Event) -> Sentence<'a> {
-        match *event {
-            Event::Read { cell, .. } | Event::Write { cell, .. } => self.of_cell(cell as usize),
+        let cell = match *event {
+            Event::Read { cell, .. } | Event::Write { cell, .. } => cell as usize,
             Event::Create { instance }
             | Event::Update { instance, .. }
             | Event::Set { instance, .. }
-            | Event::Value { instance, .. } => match self.reducer(instance) {
-                Some(name) => say("the reducer `{}`").word(self.word(name)),
-                None => say(""),
+            | Event::Value { instance, .. } => {
+                return match self.reducer(instance) {
+                    Some(name) => say("the reducer `{}`").word(self.word(name)),
+                    None => say(""),
+                };
+            }
+            _ => return say(""),
+        };
+        if let Some(
+            GlobalName {
+                name,
+                first,
+                length,
             },
-            _ => say(""),
-        }
-    }
-
-    fn of_cell(&self, cell: usize) -> Sentence<'a> {
-        if let Some(global) = self.global(cell) {
-            let name = self.word(global.name);
-            return match global.length {
-                Some(_) => say("`{}[{}]`")
-                    .word(name)
-                    .count(cell.saturating_sub(global.first)),
-                None => say("`{}`").word(name),
-            };
+        ) = self.global(cell)
+        {
+            let words = if length.is_some() { "`{}[{}]`" } else { "`{}`" };
+            return say(words)
+                .word(self.word(name))
+                .count(cell.saturating_sub(first));
         }
         match self.variable(cell) {
             Some((frame, name)) => {
-                say("`{}` of `{}`")
-                    .word(self.word(name))
-                    .word(self.function_of(frame))
+                let words = say("`{}` of `{}`").word(self.word(name));
+                words.word(self.function_of(frame))
             }
             None => say(""),
         }

@@ -1,19 +1,22 @@
 //! The cure of a race: a change of the program, a place for a `cilk_sync`, or a choice of both.
+//!
+//! What is known of a race is a set of facts. The first rule that fits them names the words of the cure.
 
 use crate::pair::{Pair, Race, name_of};
 use crate::texts::text;
 use crate::uses::{
-    Most, Swap, Taken, adds, behind_place, filled, has_name, has_part, kept_by, multiplies,
+    NOTHING, Taken, adds, behind_place, filled, has_name, has_part, kept_by, multiplies,
     semicolon_at, swap_of, takes, text_of,
 };
-use cilk_findings::partings::{loop_round, parted_at, stands_in, statement_of};
+use cilk_findings::partings::{end_of, loop_round, parted_at, statement_of};
+use cilk_findings::replay::{FrameNote, NO_FRAME};
 use cilk_findings::scene::Scene;
 use cilk_messages::reasons::cure_of as cure_of_number;
-use cilk_messages::sentence::{Part, say};
+use cilk_messages::sentence::{Part, Sentence, say};
 use cilk_messages::sites::head_kind;
 use cilk_messages::tokens::Tokens;
 use cilk_syntax::token::Kind;
-use cilk_types::event::{Cell, Event};
+use cilk_types::invocation::Invocation;
 use std::alloc::AllocError;
 
 // The most events of a swap.
@@ -22,7 +25,130 @@ const NEAR: usize = 100;
 /// A cure, by the names of its words: first one text, then another one, if it has one.
 type Way = (&'static str, &'static str);
 
-const BY_SYNC: Way = ("SYNC", "");
+/// The facts that have to hold and those that must not, and the cure where that is so.
+type Rule = (u32, u32, &'static str, &'static str);
+
+// Facts of a read or set reducer: the text sets it, it isn't in turns and is the later event, the
+// spawned function is the one around both, the monoid adds.
+const VIEW: u32 = 1;
+
+const SET: u32 = 1 << 1;
+
+const BEHIND: u32 = 1 << 2;
+
+const RECURSION: u32 = 1 << 3;
+
+const SUM: u32 = 1 << 4;
+
+// Facts of accesses: both are in turns of one loop, the later one is in a function that a turn calls, it
+// is in another call of the spawned function or in another spawn, the innermost loop around the spawn
+// is around it too, which of them write, and a reducer can take what their statements do.
+const TURNS: u32 = 1 << 5;
+
+const CALLED: u32 = 1 << 6;
+
+const BESIDE: u32 = 1 << 7;
+
+const LOOP: u32 = 1 << 8;
+
+const EARLIER: u32 = 1 << 9;
+
+const LATER: u32 = 1 << 10;
+
+const TAKEN: u32 = 1 << 11;
+
+// Facts of a variable: it is none of the globals or has no name, the earlier write is the result of a
+// spawned call and the later one too, a turn sets it before it reads it, by the head of a `for`, it
+// counts what an array has, it is multiplied, and turns read it elsewhere than where they change it.
+const LOCAL: u32 = 1 << 12;
+
+const NAMELESS: u32 = 1 << 13;
+
+const SPAWNED: u32 = 1 << 14;
+
+const RESULT: u32 = 1 << 15;
+
+const OWN: u32 = 1 << 16;
+
+const HEAD: u32 = 1 << 17;
+
+const FILLED: u32 = 1 << 18;
+
+const PRODUCT: u32 = 1 << 19;
+
+const RUNNING: u32 = 1 << 20;
+
+// Facts of an array: both statements add to an element, and all writes are of one element; two turns
+// swap the same elements, in an inner loop; an `if` asks for the element; the index has the turn; the
+// later statement is a spawn; calls work on ranges that overlap, and of different functions.
+const ARRAY: u32 = 1 << 21;
+
+const ADDED: u32 = 1 << 22;
+
+const SINGLE: u32 = 1 << 23;
+
+const SWAP: u32 = 1 << 24;
+
+const INNER: u32 = 1 << 25;
+
+const ASKED: u32 = 1 << 26;
+
+const INDEXED: u32 = 1 << 27;
+
+const SPAWN: u32 = 1 << 28;
+
+const RANGES: u32 = 1 << 29;
+
+const OTHER: u32 = 1 << 30;
+
+// A rule without words is for what a reducer takes: where it is declared, and how it takes that.
+const RULES: [Rule; 45] = [
+    (VIEW | TAKEN, 0, "KEPT", ""),
+    (VIEW | SET, BEHIND, "OWN_SUM", "OWN_REDUCER"),
+    (VIEW | TURNS, 0, "AFTER_LOOP", ""),
+    (VIEW | BEHIND, 0, "SYNC", ""),
+    (VIEW | RECURSION | SUM, 0, "IN_RECURSION", "OWN_PART"),
+    (VIEW | RECURSION, 0, "IN_RECURSION", ""),
+    (VIEW | SUM, 0, "IN_PARENT", "OWN_PART"),
+    (VIEW, 0, "IN_PARENT", ""),
+    (ARRAY | ADDED | SINGLE | TURNS, 0, "SINGLE", "SUM"),
+    (ARRAY | ADDED | TURNS, 0, "ROWS", "ROWS_ADDED"),
+    (ARRAY | TURNS | SWAP | INNER, 0, "SWAPPED", "SWAPPED_INNER"),
+    (ARRAY | TURNS | SWAP, 0, "SWAPPED", "SWAPPED_HALF"),
+    (ARRAY | TURNS | ASKED, 0, "CLAIMED", ""),
+    (ARRAY | TURNS | CALLED, 0, "WORK", ""),
+    (ARRAY | TURNS | EARLIER | LATER | INDEXED, 0, "APART", ""),
+    (ARRAY | TURNS | EARLIER | LATER, 0, "ROW", ""),
+    (ARRAY | TURNS, INDEXED, "ORDER", ""),
+    (ARRAY | TURNS, EARLIER, "COPIED", ""),
+    (ARRAY | TURNS, 0, "FLOW", ""),
+    (ARRAY | LOOP | LATER, BESIDE, "WORK", "OR_SYNC"),
+    (ARRAY | LOOP, BESIDE | SPAWN, "SYNC", "SECOND_LOOP"),
+    (ARRAY, BESIDE, "SYNC", ""),
+    (ARRAY | ADDED | SINGLE, 0, "SINGLE", "SUM"),
+    (ARRAY | ADDED, 0, "CALL_ROWS", ""),
+    (ARRAY | RANGES | OTHER, 0, "SYNC", "ORDERED"),
+    (ARRAY | RANGES, 0, "RANGES", "OR_SYNC"),
+    (ARRAY | EARLIER, LATER, "TABLE", "OR_SYNC"),
+    (ARRAY, 0, "WORK", "OR_SYNC"),
+    (LOCAL | NAMELESS, 0, "SYNC", ""),
+    (LOCAL | SPAWNED | RESULT, 0, "RESULTS", "OR_SYNC"),
+    (LOCAL | SPAWNED, 0, "SYNC", "RESULT"),
+    (OWN | HEAD, 0, "OWN_HEAD", ""),
+    (OWN | LOCAL, 0, "OWN", ""),
+    (OWN | CALLED, 0, "CALLED_GLOBAL", ""),
+    (OWN, 0, "OWN_GLOBAL", ""),
+    (FILLED, 0, "FILLED", ""),
+    (PRODUCT, 0, "PRODUCT", ""),
+    (RUNNING, 0, "RUNNING", ""),
+    (TAKEN, 0, "", ""),
+    (TURNS | LOCAL, 0, "OWN", ""),
+    (TURNS | CALLED, 0, "CALLED_GLOBAL", ""),
+    (TURNS, 0, "OWN_GLOBAL", ""),
+    (BESIDE, 0, "PASSED", "OR_SYNC"),
+    (LOOP | LATER, EARLIER, "PASSED", "OR_SYNC"),
+    (0, 0, "SYNC", ""),
+];
 
 /// Adds the cure of a race: its number's general one where the run has no pair of events.
 pub fn push_cure(
@@ -35,10 +161,13 @@ pub fn push_cure(
         return scene.push(report, &say(cure_of_number(race.number)));
     };
     let tokens = Tokens::new(scene.case.alloc, scene.case.text)?;
-    let site = Site::of(scene, &tokens, *pair, race.later);
-    let (first, second) = site.way_of(race.later);
-    site.push(report, first)?;
-    site.push(report, second)
+    push_of(&Site::of(scene, &tokens, *pair, race.later), report)
+}
+
+fn push_of(site: &Site<'_, '_>, report: &mut String) -> Result<(), AllocError> {
+    let (first, second) = site.way();
+    site.push(report, text(first))?;
+    site.push(report, text(second))
 }
 
 /// Two events of a race, and the tokens of the text.
@@ -47,133 +176,168 @@ struct Site<'a, 't> {
     scene: Scene<'a>,
     tokens: &'t Tokens<'a>,
     pair: Pair,
+    child: FrameNote,
     /// The name of the variable, array or reducer.
     name: &'a [u8],
     /// The index in the array, and its length.
     index: usize,
     length: usize,
+    /// The facts that the frames and events alone tell.
+    facts: u32,
     /// The statements of both events.
     later: usize,
     earlier: usize,
     /// The token from which the race's later event comes.
     at: usize,
-    in_turns: bool,
+    /// The child of the common frame that the later event is in, its function, and where it leaves
+    /// the common frame.
+    branch: Option<usize>,
+    beside: &'a [u8],
+    leaving: usize,
+    /// The variable of the loop whose turns race, its first number, and that after its last one.
+    variable: &'a [u8],
+    low: usize,
+    high: usize,
+}
+
+/// The facts that hold.
+fn sum_of(facts: &[(u32, bool)]) -> u32 {
+    let mut sum = 0;
+    for &(fact, holds) in facts {
+        if holds {
+            sum |= fact;
+        }
+    }
+    sum
 }
 
 impl<'a, 't> Site<'a, 't> {
     fn of(scene: &Scene<'a>, tokens: &'t Tokens<'a>, pair: Pair, event: usize) -> Site<'a, 't> {
         let at = tokens.number_at(scene.byte_of(event));
-        let (mut name, mut index, mut length) = (tokens.word(at), 0, 0);
-        if let Some((cell, _)) = scene.access(event) {
-            name = match name_of(scene, event) {
-                Some(name) => scene.word(name),
-                None => &[],
-            };
-            if let Some(array) = scene.global(cell) {
-                index = cell.saturating_sub(array.first);
-                length = array.length.unwrap_or(0);
-            }
-        }
+        let branch = scene.child_of(pair.common, pair.second);
+        let (beside, leaving) = match branch {
+            Some(branch) => (branch, scene.note(branch).invoked_at),
+            None => (0, scene.byte_of(pair.later)),
+        };
+        let (variable, low, high) = turns_of(scene, pair.common);
+        let (name, index, length, kind) = named(scene, event);
         Site {
             scene: *scene,
             tokens,
             pair,
-            name,
+            child: scene.note(pair.child),
+            name: if kind == VIEW { tokens.word(at) } else { name },
             index,
             length,
+            facts: kind | facts_of(scene, &pair, event, branch),
             later: statement_of(tokens, tokens.number_at(scene.byte_of(pair.later))),
             earlier: statement_of(tokens, tokens.number_at(scene.byte_of(pair.earlier))),
             at,
-            in_turns: pair.is_in_turns(scene),
+            branch,
+            beside: scene.function_of(beside),
+            leaving,
+            variable,
+            low,
+            high,
         }
     }
 
-    fn way_of(&self, event: usize) -> Way {
-        let Some((cell, _)) = self.scene.access(event) else {
-            return self.of_view(event);
-        };
-        match self.scene.global(cell) {
-            None if self.name.is_empty() => BY_SYNC,
-            None if !self.is_spawned_result() => self.of_variable("OWN"),
-            None if self.scene.run.gives_result(self.pair.later) => ("RESULTS", "OR_SYNC"),
-            None => ("SYNC", "RESULT"),
-            Some(_) if self.length > 0 && self.in_turns => self.of_turns(),
-            Some(_) if self.length > 0 => self.of_calls(),
-            Some(_) if self.is_in_called() => self.of_variable("CALLED_GLOBAL"),
-            Some(_) => self.of_variable("OWN_GLOBAL"),
-        }
-    }
-
-    // Whether the earlier event takes the result of a spawned call.
-    fn is_spawned_result(&self) -> bool {
-        match self.scene.frame_of(self.pair.earlier) {
-            Some(frame) => {
-                self.scene.is_spawned(frame) && self.scene.run.gives_result(self.pair.earlier)
-            }
-            None => false,
-        }
-    }
-
-    // A single variable.
-    fn of_variable(&self, own: &'static str) -> Way {
-        let (tokens, name) = (self.tokens, self.name);
-        if let (true, Some(set)) = (self.in_turns, self.own_at()) {
-            return match tokens.kind_back(set, 2) {
-                Some(Kind::For) => ("OWN_HEAD", ""),
-                _ => (own, ""),
-            };
-        }
-        if filled(tokens, name).is_some() {
-            return ("FILLED", "");
-        }
-        if multiplies(tokens, self.later, name) || multiplies(tokens, self.earlier, name) {
-            return ("PRODUCT", "");
-        }
-        if self.in_turns && self.is_running() {
-            return ("RUNNING", "");
-        }
-        match (self.taken_at(self.later), self.taken_at(self.earlier)) {
-            (Some(taken), Some(_)) => return (self.declared(self.later), taken.words),
-            (Some(taken), None) if self.in_turns => {
-                return (self.declared(self.later), taken.words);
-            }
-            (None, Some(taken)) if self.in_turns => {
-                return (self.declared(self.earlier), taken.words);
-            }
-            _ => {}
-        }
-        if self.in_turns {
-            (own, "")
-        } else if self.is_beside_call() || self.is_in_one_loop() && self.writes() == (false, true) {
-            ("PASSED", "OR_SYNC")
-        } else {
-            BY_SYNC
-        }
-    }
-
-    // Where a turn of the loop sets a variable, if it does so before it reads it.
-    fn own_at(&self) -> Option<usize> {
-        let tokens = self.tokens;
-        let first = self.loop_token();
-        let mut set = None;
-        for number in first..tokens.count() {
-            if tokens.word(number) == self.name && stands_in(tokens, first, number) {
-                let right = number.saturating_add(2);
-                let is_set = matches!(tokens.kind_behind(number), Some(Kind::Assign))
-                    && !has_name(tokens, right, semicolon_at(tokens, right), self.name);
-                match set {
-                    None if is_set => set = Some(number),
-                    Some(_) if !is_set => return set,
-                    None => return None,
-                    _ => {}
-                }
+    // The first cure whose rule fits the facts.
+    fn way(&self) -> Way {
+        let facts = self.facts | self.facts_of_accesses() | self.facts_of_variable();
+        for (needs, bars, first, second) in RULES {
+            if facts & needs == needs && facts & bars == 0 {
+                return if needs == TAKEN {
+                    self.taken_way()
+                } else {
+                    (first, second)
+                };
             }
         }
-        None
+        ("SYNC", "")
     }
 
-    // How a reducer takes what the statements of both events make of a variable.
+    // What the statements and the array tell.
+    fn facts_of_accesses(&self) -> u32 {
+        let Site {
+            scene,
+            tokens,
+            facts,
+            name,
+            later,
+            earlier,
+            ..
+        } = *self;
+        let is_view = facts & VIEW != 0;
+        let is_array = facts & ARRAY != 0;
+        let is_added = is_array
+            && adds(tokens, later, name).is_some()
+            && adds(tokens, earlier, name).is_some();
+        let (at, behind) = self.written();
+        let place = text_of(tokens, at, behind.saturating_add(1));
+        let common = scene.function_of(self.pair.common);
+        let called = scene.function_of(self.pair.child);
+        sum_of(&[
+            (SET, is_view && self.is_set()),
+            (RECURSION, is_view && common == called),
+            (SUM, is_view && self.monoid() == b"add".as_slice()),
+            (LOOP, self.is_in_one_loop()),
+            (ADDED, is_added),
+            (SINGLE, is_added && self.is_single()),
+            (SWAP, is_array && self.is_swap()),
+            (INNER, is_array && !self.inner_variable().is_empty()),
+            (ASKED, is_array && self.is_asked(place)),
+            (
+                INDEXED,
+                has_name(tokens, at.saturating_add(2), behind, self.variable),
+            ),
+            (SPAWN, matches!(tokens.kind(later), Some(Kind::CilkSpawn))),
+            (RANGES, is_array && self.is_in_ranges()),
+            (OTHER, called != self.beside),
+        ])
+    }
+
+    // What the uses of a variable tell, and how a reducer takes a variable, or keeps a number.
+    fn facts_of_variable(&self) -> u32 {
+        let Site {
+            tokens,
+            facts,
+            name,
+            later,
+            earlier,
+            ..
+        } = *self;
+        if facts & (VIEW | ARRAY) != 0 {
+            return if self.taken().is_some() { TAKEN } else { 0 };
+        }
+        let is_turn = facts & TURNS != 0;
+        let (own, is_running) = self.in_loop();
+        let is_taken = self.taken_at(later).is_some();
+        let was_taken = self.taken_at(earlier).is_some();
+        let is_head = matches!(tokens.kind_back(own, 2), Some(Kind::For));
+        sum_of(&[
+            (NAMELESS, name.is_empty()),
+            (OWN, is_turn && own > 0),
+            (HEAD, is_head),
+            (FILLED, !filled(tokens, name).is_empty()),
+            (
+                PRODUCT,
+                multiplies(tokens, later, name) || multiplies(tokens, earlier, name),
+            ),
+            (RUNNING, is_turn && is_running),
+            (
+                TAKEN,
+                is_taken && was_taken || is_turn && (is_taken || was_taken),
+            ),
+        ])
+    }
+
+    // How a reducer takes what the statements of both events make of a variable, or how it keeps the number
+    // for which it is read.
     fn taken(&self) -> Option<Taken<'a>> {
+        if self.facts & VIEW != 0 {
+            return kept_by(self.tokens, self.at);
+        }
         match self.taken_at(self.later) {
             None => self.taken_at(self.earlier),
             taken => taken,
@@ -185,166 +349,150 @@ impl<'a, 't> Site<'a, 't> {
     fn taken_at(&self, first: usize) -> Option<Taken<'a>> {
         let taken = takes(self.tokens, first, self.name)?;
         let number = taken.amount;
-        match taken.words {
-            "ONCE" | "LAST" if self.in_turns && !self.is_in_called() => {
-                let (variable, _, _) = self.turns();
-                Some(if number == variable {
-                    taken
-                } else {
-                    Taken {
-                        words: "TURN",
-                        amount: variable,
-                        again: number,
-                        ..taken
-                    }
-                })
-            }
-            "LAST" => None,
-            "ONCE" if has_part(number, b"[") => None,
-            "FLAG" if !self.in_turns && !self.is_beside_call() => None,
-            _ => Some(taken),
+        let (is_once, is_last) = (taken.words == "ONCE", taken.words == "LAST");
+        if (is_once || is_last) && self.facts & (TURNS | CALLED) == TURNS {
+            let turn = Taken {
+                words: "TURN",
+                amount: self.variable,
+                again: number,
+                ..taken
+            };
+            return Some(if number == self.variable { taken } else { turn });
+        }
+        let is_alone = self.facts & (TURNS | BESIDE) == 0 && taken.words == "FLAG";
+        if is_last || is_once && has_part(number, b"[") || is_alone {
+            None
+        } else {
+            Some(taken)
         }
     }
 
-    // Where a reducer in place of a variable is declared, which a statement changes.
-    fn declared(&self, first: usize) -> &'static str {
-        let at = match self.tokens.kind(first) {
-            Some(Kind::Increment | Kind::Decrement | Kind::If) => self.named_from(first),
-            _ => first,
+    // Where a reducer in place of a variable is declared, which a statement changes, and how it takes that.
+    fn taken_way(&self) -> Way {
+        let (tokens, is_later) = (self.tokens, self.taken_at(self.later).is_some());
+        let mut at = if is_later { self.later } else { self.earlier };
+        for number in at..tokens.count() {
+            if tokens.word(number) == self.name {
+                at = number;
+                break;
+            }
+        }
+        let declared = match tokens.declaration_of(at) {
+            Some((declared, _)) => declared,
+            None => 0,
         };
-        match self.tokens.declaration_of(at) {
-            Some((declared, _)) => match depth_of(self.tokens, declared) {
-                0 => "GLOBAL",
-                1 => "FIRST",
-                _ => "INNER",
-            },
-            None => "GLOBAL",
-        }
-    }
-
-    // The first token from a place on with the name.
-    fn named_from(&self, first: usize) -> usize {
-        for number in first..self.tokens.count() {
-            if self.tokens.word(number) == self.name {
-                return number;
+        let mut depth: usize = 0;
+        for earlier in 0..declared {
+            match tokens.kind(earlier) {
+                Some(Kind::OpenBrace) => depth = depth.saturating_add(1),
+                Some(Kind::CloseBrace) => depth = depth.saturating_sub(1),
+                _ => {}
             }
         }
-        first
+        let words = match self.taken() {
+            Some(taken) => taken.words,
+            None => "",
+        };
+        match depth {
+            0 => ("GLOBAL", words),
+            1 => ("FIRST", words),
+            _ => ("INNER", words),
+        }
     }
 
-    // Whether turns of the loop read a variable elsewhere than where they change it.
-    fn is_running(&self) -> bool {
+    // Where a turn of the loop sets a variable before it reads it, 0 if it doesn't, and whether turns
+    // read it elsewhere than where they change it.
+    fn in_loop(&self) -> (usize, bool) {
+        let (tokens, name) = (self.tokens, self.name);
         let first = self.loop_token();
-        for number in first..self.tokens.count() {
-            if self.tokens.word(number) == self.name && stands_in(self.tokens, first, number) {
-                let start = statement_of(self.tokens, number);
-                let is_first = start == number || number == start.saturating_add(1);
-                if !is_first && takes(self.tokens, start, self.name).is_none() {
-                    return true;
+        let mut set: usize = 0;
+        let (mut is_read, mut is_running) = (false, false);
+        for number in first..end_of(tokens, first) {
+            if tokens.word(number) == name {
+                let right = number.saturating_add(2);
+                let is_set = matches!(tokens.kind_behind(number), Some(Kind::Assign))
+                    && !has_name(tokens, right, semicolon_at(tokens, right), name);
+                if is_set && set == 0 && !is_read {
+                    set = number;
                 }
+                is_read = is_read || !is_set;
+                let start = statement_of(tokens, number);
+                let is_first = start == number || start.saturating_add(1) == number;
+                is_running = is_running || !is_first && takes(tokens, start, name).is_none();
             }
         }
-        false
+        (if is_read { set } else { 0 }, is_running)
     }
 
     // The token of the loop whose turns race.
     fn loop_token(&self) -> usize {
-        let body = self.scene.note(self.pair.child).body;
-        self.tokens.number_at(self.scene.named_at(body))
+        self.tokens.number_at(self.scene.named_at(self.child.body))
     }
 }
 
 /// Arrays.
 impl<'a> Site<'a, '_> {
-    // Elements that turns of a loop share.
-    fn of_turns(&self) -> Way {
-        let tokens = self.tokens;
-        if self.adds_up() {
-            return if self.is_single() {
-                ("SINGLE", "SUM")
-            } else {
-                ("ROWS", "ROWS_ADDED")
-            };
-        }
-        if let Some(way) = self.swapped() {
-            return way;
-        }
-        let (at, behind) = self.written();
-        if self.is_asked(text_of(tokens, at, behind.saturating_add(1))) {
-            return ("CLAIMED", "");
-        }
-        if self.is_in_called() {
-            return ("WORK", "");
-        }
-        let is_own = has_name(tokens, at.saturating_add(2), behind, self.turns().0);
-        let words = match self.writes() {
-            (true, true) if is_own => "APART",
-            (true, true) => "ROW",
-            _ if !is_own => "ORDER",
-            (false, _) => "COPIED",
-            (true, false) => "FLOW",
-        };
-        (words, "")
-    }
-
-    // Whether both statements add to an element of the array.
-    fn adds_up(&self) -> bool {
-        adds(self.tokens, self.later, self.name).is_some()
-            && adds(self.tokens, self.earlier, self.name).is_some()
-    }
-
     // The name of the written array, and the bracket that ends its index.
     fn written(&self) -> (usize, usize) {
-        let written = match self.writes() {
-            (true, false) => self.earlier,
-            _ => self.later,
-        };
-        let at = behind_mark(self.tokens, written);
-        (at, behind_place(self.tokens, at).saturating_sub(1))
-    }
-
-    // Two turns that swap the same two elements.
-    fn swapped(&self) -> Option<Way> {
-        let swap = swap_of(self.tokens, self.later, self.name)?;
-        let (one, other) = self.cells_of(swap, self.pair.earlier)?;
-        let pair = self.cells_of(swap, self.pair.later)?;
-        if swap_of(self.tokens, self.earlier, self.name)?.one != swap.one
-            || pair != (one, other) && pair != (other, one)
-        {
-            return None;
-        }
-        Some(match self.inner_variable() {
-            Some(_) => ("SWAPPED", "SWAPPED_INNER"),
-            None => ("SWAPPED", "SWAPPED_HALF"),
-        })
-    }
-
-    // The variable of a loop in the turns that is around a swap.
-    fn inner_variable(&self) -> Option<&'a [u8]> {
         let tokens = self.tokens;
-        let at = if self.is_in_called() {
-            let called = self.scene.around(self.pair.second).0;
-            tokens.number_at(self.scene.note(called).invoked_at)
+        let at = if self.facts & (EARLIER | LATER) == EARLIER {
+            self.earlier
         } else {
-            swap_of(tokens, self.later, self.name)?.one
+            self.later
         };
-        let inner = loop_round(tokens, at)?;
-        if inner <= self.loop_token() {
-            return None;
-        }
-        let named = inner.saturating_add(match tokens.kind(inner.saturating_add(2)) {
-            Some(Kind::Int) => 3,
-            _ => 2,
-        });
-        Some(tokens.word(named))
+        let at = match tokens.kind(at) {
+            Some(Kind::Increment | Kind::Decrement) => at.saturating_add(1),
+            _ => at,
+        };
+        (at, behind_place(tokens, at).saturating_sub(1))
     }
 
-    // The two elements that a swap writes, if an event accesses one of them.
-    fn cells_of(&self, swap: Swap, index: usize) -> Option<(usize, usize)> {
+    // Whether two turns swap the same two elements.
+    fn is_swap(&self) -> bool {
+        let (tokens, name) = (self.tokens, self.name);
+        let (Some((one, other)), Some((before, _))) = (
+            swap_of(tokens, self.later, name),
+            swap_of(tokens, self.earlier, name),
+        ) else {
+            return false;
+        };
+        let earlier = self.cells_of(one, other, self.pair.earlier);
+        let later = self.cells_of(one, other, self.pair.later);
+        match (earlier, later) {
+            (Some((a, b)), Some((c, d))) => {
+                one == before && (a == c && b == d || a == d && b == c)
+            }
+            _ => false,
+        }
+    }
+
+    // The variable of a loop in the turns that is around a swap, if there is one.
+    fn inner_variable(&self) -> &'a [u8] {
+        let (tokens, scene) = (self.tokens, &self.scene);
+        let at = if self.facts & CALLED != 0 {
+            let called = scene.around(self.pair.second).0;
+            tokens.number_at(scene.note(called).invoked_at)
+        } else {
+            match swap_of(tokens, self.later, self.name) {
+                Some((one, _)) => one,
+                None => 0,
+            }
+        };
+        match loop_round(tokens, at) {
+            Some(inner) if inner > self.loop_token() => {
+                let declared = matches!(tokens.kind(inner.saturating_add(2)), Some(Kind::Int));
+                tokens.word(inner.saturating_add(if declared { 3 } else { 2 }))
+            }
+            _ => &[],
+        }
+    }
+
+    // The two elements that the statements of a swap write, if an event accesses one of them.
+    fn cells_of(&self, one: usize, other: usize, index: usize) -> Option<(usize, usize)> {
         for second in index..index.saturating_add(NEAR) {
-            if let Some(other) = self.written_at(swap.other, second) {
+            if let Some(other) = self.written_at(other, second) {
                 for back in 1..NEAR {
-                    if let Some(one) = self.written_at(swap.one, second.saturating_sub(back)) {
+                    if let Some(one) = self.written_at(one, second.saturating_sub(back)) {
                         return Some((one, other));
                     }
                 }
@@ -355,23 +503,11 @@ impl<'a> Site<'a, '_> {
 
     // The cell that an event writes by a statement.
     fn written_at(&self, statement: usize, index: usize) -> Option<usize> {
-        let (cell, writes) = self.scene.access(index)?;
         let at = self.tokens.number_at(self.scene.byte_of(index));
-        if writes && statement_of(self.tokens, at) == statement {
-            Some(cell)
-        } else {
-            None
+        match self.scene.access(index) {
+            Some((cell, true)) if statement_of(self.tokens, at) == statement => Some(cell),
+            _ => None,
         }
-    }
-
-    // Whether the later event is in a function that a turn calls.
-    fn is_in_called(&self) -> bool {
-        let second = if self.scene.run.gives_result(self.pair.later) {
-            self.scene.above(self.pair.second).unwrap_or(0)
-        } else {
-            self.pair.second
-        };
-        self.scene.around(second).0 != self.scene.around(self.pair.common).0
     }
 
     // Whether an `if` compares this element of an array with a constant.
@@ -379,65 +515,37 @@ impl<'a> Site<'a, '_> {
         let tokens = self.tokens;
         for number in 0..tokens.count() {
             let behind = behind_place(tokens, number);
-            let is_if = matches!(head_kind(tokens, number), Some(Kind::If));
-            if is_if
-                && tokens.word(number) == self.name
+            if tokens.word(number) == self.name
+                && matches!(head_kind(tokens, number), Some(Kind::If))
                 && text_of(tokens, number, behind) == place
             {
-                let is_not = matches!(tokens.kind_back(number, 1), Some(Kind::Not));
                 let compared = tokens.kind_behind(behind);
                 return match tokens.kind(behind) {
                     Some(Kind::Equal) => true,
                     Some(Kind::Less) => matches!(compared, Some(Kind::Number(_) | Kind::Minus)),
-                    _ => is_not,
+                    _ => matches!(tokens.kind_back(number, 1), Some(Kind::Not)),
                 };
             }
         }
         false
     }
 
-    // Whether the events are writes, the earlier one first.
-    fn writes(&self) -> (bool, bool) {
-        (
-            is_write(self.scene.run.event(self.pair.earlier)),
-            is_write(self.scene.run.event(self.pair.later)),
-        )
-    }
-
-    // The variable of the loop whose turns race, its first number, and that after its last one.
-    fn turns(&self) -> (&'a [u8], usize, usize) {
-        let scene = &self.scene;
-        let mut top = self.pair.common;
-        for _level in 0..scene.run.replay.frames.len() {
-            match scene.above(top) {
-                Some(above) if scene.halves(above) => top = above,
-                _ => break,
-            }
-        }
-        let note = scene.note(top);
-        (
-            scene.turn_variable(note.body),
-            usize::try_from(note.low).unwrap_or(0),
-            usize::try_from(note.high).unwrap_or(0),
-        )
-    }
-
     // Whether the write of the race writes one element alone in all of the run.
     fn is_single(&self) -> bool {
-        let (written, cell) = match (
-            self.scene.run.event(self.pair.earlier),
-            self.scene.run.event(self.pair.later),
-        ) {
-            (Some(Event::Write { cell, .. }), _) => (self.pair.earlier, cell),
-            (_, Some(Event::Write { cell, .. })) => (self.pair.later, cell),
-            _ => return false,
+        let (scene, pair) = (&self.scene, &self.pair);
+        let written = if self.facts & EARLIER != 0 {
+            pair.earlier
+        } else {
+            pair.later
         };
-        let at = self.scene.byte_of(written);
-        let events = self.scene.run.trace.as_slice();
-        for (index, event) in events.iter().enumerate() {
-            if is_write(Some(*event))
-                && self.scene.byte_of(index) == at
-                && !is_write_of(event, cell)
+        let Some((cell, true)) = scene.access(written) else {
+            return false;
+        };
+        let at = scene.byte_of(written);
+        for index in 0..scene.run.trace.len() {
+            if let Some((other, true)) = scene.access(index)
+                && other != cell
+                && scene.byte_of(index) == at
             {
                 return false;
             }
@@ -445,114 +553,40 @@ impl<'a> Site<'a, '_> {
         true
     }
 
-    // An element that a spawned call and what runs beside it share.
-    fn of_calls(&self) -> Way {
-        let is_spawn = matches!(self.tokens.kind(self.later), Some(Kind::CilkSpawn));
-        if !self.is_beside_call() {
-            return match (self.is_in_one_loop(), self.writes().1) {
-                (true, true) => ("WORK", "OR_SYNC"),
-                (true, false) if !is_spawn => ("SYNC", "SECOND_LOOP"),
-                _ => BY_SYNC,
-            };
-        }
-        if self.adds_up() {
-            return if self.is_single() {
-                ("SINGLE", "SUM")
-            } else {
-                ("CALL_ROWS", "")
-            };
-        }
-        let called = self.scene.function_of(self.pair.child);
-        match self.is_in_ranges() {
-            true if called != self.beside() => ("SYNC", "ORDERED"),
-            true => ("RANGES", "OR_SYNC"),
-            false if self.writes() == (true, false) => ("TABLE", "OR_SYNC"),
-            false => ("WORK", "OR_SYNC"),
-        }
-    }
-
-    // The child of the common frame that the later event is in.
-    fn branch(&self) -> Option<usize> {
-        self.scene.child_of(self.pair.common, self.pair.second)
-    }
-
-    // The function of that child.
-    fn beside(&self) -> &'a [u8] {
-        self.scene.function_of(self.branch().unwrap_or(0))
-    }
-
-    // Whether the later event is in another call of the spawned function, or in another spawn.
-    fn is_beside_call(&self) -> bool {
-        match self.branch() {
-            Some(branch) => {
-                self.scene.note(branch).body == self.scene.note(self.pair.child).body
-                    || self.scene.is_spawned(branch)
-            }
-            None => false,
-        }
-    }
-
     // Whether the innermost loop around the spawn is around the later path as well.
     fn is_in_one_loop(&self) -> bool {
         let tokens = self.tokens;
-        let spawn = tokens.number_at(self.scene.note(self.pair.child).invoked_at);
-        let leaving = tokens.number_at(self.pair.leaving(&self.scene));
-        match loop_round(tokens, spawn) {
-            Some(round) => stands_in(tokens, round, leaving),
+        let leaving = tokens.number_at(self.leaving);
+        match loop_round(tokens, tokens.number_at(self.child.invoked_at)) {
+            Some(round) => round <= leaving && leaving < end_of(tokens, round),
             None => false,
         }
     }
 
     // Whether both calls have the index between two of their arguments, one after the other.
     fn is_in_ranges(&self) -> bool {
-        match self.branch() {
-            Some(branch) => self.is_in_range(self.pair.child) && self.is_in_range(branch),
-            None => false,
-        }
-    }
-
-    fn is_in_range(&self, frame: usize) -> bool {
+        let Some(branch) = self.branch else {
+            return false;
+        };
         let index = i64::try_from(self.index).unwrap_or(i64::MAX);
-        for place in 1..self.scene.words_of(frame) {
-            let from = self.scene.argument(frame, place.saturating_sub(1));
-            if let (Some(from), Some(upto)) = (from, self.scene.argument(frame, place)) {
-                if from <= index && index <= upto {
-                    return true;
+        for frame in [self.pair.child, branch] {
+            let mut is_in = false;
+            for place in 1..self.scene.words_of(frame) {
+                let from = self.scene.argument(frame, place.saturating_sub(1));
+                if let (Some(from), Some(upto)) = (from, self.scene.argument(frame, place)) {
+                    is_in = is_in || from <= index && index <= upto;
                 }
             }
+            if !is_in {
+                return false;
+            }
         }
-        false
+        true
     }
 }
 
 /// Reducers.
 impl<'a> Site<'a, '_> {
-    // A reducer that is read or set.
-    fn of_view(&self, event: usize) -> Way {
-        let is_behind = event == self.pair.later && !self.in_turns;
-        let parent = self.scene.function_of(self.pair.common);
-        let is_recursion = parent == self.scene.function_of(self.pair.child);
-        let is_sum = self.monoid() == b"add".as_slice();
-        if kept_by(self.tokens, self.at).is_some() {
-            ("KEPT", "")
-        } else if !is_behind && self.is_set() {
-            ("OWN_SUM", "OWN_REDUCER")
-        } else if self.in_turns {
-            ("AFTER_LOOP", "")
-        } else if is_behind {
-            BY_SYNC
-        } else {
-            (
-                if is_recursion {
-                    "IN_RECURSION"
-                } else {
-                    "IN_PARENT"
-                },
-                if is_sum { "OWN_PART" } else { "" },
-            )
-        }
-    }
-
     // The name of the reducer's monoid.
     fn monoid(&self) -> &'a [u8] {
         match self.tokens.declaration_of(self.at) {
@@ -576,9 +610,9 @@ impl<'a> Site<'a, '_> {
 
 /// Words.
 impl<'a> Site<'a, '_> {
-    // Adds the words with this name, and what its letters stand for.
-    fn push(&self, report: &mut String, named: &str) -> Result<(), AllocError> {
-        let mut rest = text(named);
+    // Adds words, and what their letters stand for.
+    fn push(&self, report: &mut String, words: &str) -> Result<(), AllocError> {
+        let mut rest = words;
         for _gap in 0..rest.len() {
             let Some((ahead, behind)) = rest.split_once('{') else {
                 break;
@@ -587,93 +621,109 @@ impl<'a> Site<'a, '_> {
                 break;
             };
             report.push_str(ahead)?;
-            self.push_fact(report, letter)?;
+            self.scene.push(report, &self.fact(letter.as_bytes()))?;
             rest = after;
         }
         report.push_str(rest)
     }
 
-    fn push_fact(&self, report: &mut String, letter: &str) -> Result<(), AllocError> {
-        let scene = &self.scene;
-        let letter = letter.as_bytes().first().copied().unwrap_or(0);
-        match letter {
-            b'y' => {
-                let spawn = scene.note(self.pair.child).invoked_at;
-                let parted = parted_at(scene, spawn, self.pair.leaving(scene))?;
-                scene.push(report, &parted)
-            }
-            b'a' => match self.taken() {
-                Some(taken) => scene.push(report, &say(taken.form).word(taken.amount)),
-                None => Ok(()),
-            },
-            _ => scene.push(report, &say("{}").with(self.fact(letter))),
-        }
-    }
-
     // What a letter stands for.
-    fn fact(&self, letter: u8) -> Part<'a> {
-        let scene = &self.scene;
-        let (variable, low, high) = self.turns();
-        match letter {
+    fn fact(&self, letter: &[u8]) -> Sentence<'a> {
+        let [letter] = letter else {
+            return say("");
+        };
+        let (scene, tokens) = (&self.scene, self.tokens);
+        let taken = self.taken().unwrap_or(NOTHING);
+        let (at, behind) = self.written();
+        say("{}").with(match *letter {
+            b'y' => return parted_at(scene, tokens, self.child.invoked_at, self.leaving),
+            b'a' => return say(taken.form).word(taken.amount),
+            b'm' => Part::Text(taken.monoid),
+            b'g' => Part::Word(taken.again),
             b'n' => Part::Word(self.name),
             b'i' => Part::Count(self.index),
             b'l' => Part::Count(self.length),
             b'd' => Part::Count(self.length.saturating_mul(2)),
-            b't' => Part::Count(self.length.saturating_mul(high)),
-            b'v' => Part::Word(variable),
-            b'h' => Part::Count(low.saturating_add(high) / 2),
-            b'w' => Part::Word(self.inner_variable().unwrap_or(&[])),
-            b'f' => Part::Word(filled(self.tokens, self.name).unwrap_or(&[])),
-            b'p' => {
-                let (at, behind) = self.written();
-                Part::Word(text_of(self.tokens, at.saturating_add(2), behind))
-            }
-            b'b' => Part::Word(self.beside()),
+            b't' => Part::Count(self.length.saturating_mul(self.high)),
+            b'v' => Part::Word(self.variable),
+            b'h' => Part::Count(self.low.saturating_add(self.high) / 2),
+            b'w' => Part::Word(self.inner_variable()),
+            b'f' => Part::Word(filled(tokens, self.name)),
+            b'p' => Part::Word(text_of(tokens, at.saturating_add(2), behind)),
+            b'b' => Part::Word(self.beside),
             b'c' => Part::Word(scene.function_of(self.pair.child)),
             b'e' => Part::Word(scene.function_of(self.pair.common)),
-            b's' => scene.place(scene.note(self.pair.child).invoked_at),
-            b'r' => Part::Word(self.monoid()),
-            _ => self.kept(letter),
+            b's' => scene.place(self.child.invoked_at),
+            _ => Part::Word(self.monoid()),
+        })
+    }
+}
+
+// The name, index and length of what an event accesses, and of which kind that is.
+fn named<'a>(scene: &Scene<'a>, event: usize) -> (&'a [u8], usize, usize, u32) {
+    let name = match name_of(scene, event) {
+        Some(name) => scene.word(name),
+        None => &[],
+    };
+    let Some((cell, _)) = scene.access(event) else {
+        return (name, 0, 0, VIEW);
+    };
+    match scene.global(cell) {
+        Some(array) => {
+            let length = array.length.unwrap_or(0);
+            let kind = if length > 0 { ARRAY } else { 0 };
+            (name, cell.saturating_sub(array.first), length, kind)
+        }
+        None => (name, 0, 0, LOCAL),
+    }
+}
+
+// What the frames and events tell.
+fn facts_of(scene: &Scene<'_>, pair: &Pair, event: usize, branch: Option<usize>) -> u32 {
+    let is_turn = pair.is_in_turns(scene);
+    let is_result = scene.run.gives_result(pair.later);
+    let second = if is_result {
+        scene.note(pair.second).parent
+    } else {
+        pair.second
+    };
+    let beside = match branch {
+        Some(branch) => scene.note(branch),
+        None => NO_FRAME,
+    };
+    let is_again = beside.body == scene.note(pair.child).body && branch.is_some();
+    sum_of(&[
+        (BEHIND, event == pair.later && !is_turn),
+        (TURNS, is_turn),
+        (
+            CALLED,
+            scene.around(second).0 != scene.around(pair.common).0,
+        ),
+        (BESIDE, is_again || beside.how == Invocation::Spawn),
+        (
+            EARLIER,
+            matches!(scene.access(pair.earlier), Some((_, true))),
+        ),
+        (LATER, matches!(scene.access(pair.later), Some((_, true)))),
+        (
+            SPAWNED,
+            scene.is_spawned(pair.beside) && scene.run.gives_result(pair.earlier),
+        ),
+        (RESULT, is_result),
+    ])
+}
+
+// The variable of the loop whose turns are in a frame, its first number, and that after its last one.
+fn turns_of<'a>(scene: &Scene<'a>, common: usize) -> (&'a [u8], usize, usize) {
+    let mut top = common;
+    for _level in 0..scene.run.replay.frames.len() {
+        match scene.above(top) {
+            Some(above) if scene.halves(above) => top = above,
+            _ => break,
         }
     }
-
-    // The same for how a reducer takes something.
-    fn kept(&self, letter: u8) -> Part<'a> {
-        match (letter, self.taken(), kept_by(self.tokens, self.at)) {
-            (b'm', Some(taken), _) => Part::Text(taken.monoid),
-            (b'g', Some(taken), _) => Part::Word(taken.again),
-            (b'k', _, Some(Most { monoid, .. })) => Part::Text(monoid),
-            (b'u', _, Some(Most { number, .. })) => Part::Word(number),
-            _ => Part::Text(""),
-        }
-    }
-}
-
-fn is_write_of(event: &Event, wanted: Cell) -> bool {
-    matches!(*event, Event::Write { cell, .. } if cell == wanted)
-}
-
-fn is_write(event: Option<Event>) -> bool {
-    matches!(event, Some(Event::Write { .. }))
-}
-
-// The token after `++` or `--`, if one of these stands at a token.
-fn behind_mark(tokens: &Tokens<'_>, number: usize) -> usize {
-    match tokens.kind(number) {
-        Some(Kind::Increment | Kind::Decrement) => number.saturating_add(1),
-        _ => number,
-    }
-}
-
-// The number of blocks around a token.
-fn depth_of(tokens: &Tokens<'_>, number: usize) -> usize {
-    let mut depth: usize = 0;
-    for earlier in 0..number {
-        match tokens.kind(earlier) {
-            Some(Kind::OpenBrace) => depth = depth.saturating_add(1),
-            Some(Kind::CloseBrace) => depth = depth.saturating_sub(1),
-            _ => {}
-        }
-    }
-    depth
+    let note = scene.note(top);
+    let low = usize::try_from(note.low).unwrap_or(0);
+    let high = usize::try_from(note.high).unwrap_or(0);
+    (scene.turn_variable(note.body), low, high)
 }

@@ -1,6 +1,6 @@
 //! The two events of a race, and the frames that they are in.
 
-use crate::beside::{Beside, Change};
+use crate::beside::change_of;
 use cilk_findings::scene::Scene;
 use cilk_syntax::tree::Name;
 use cilk_types::event::{Event, Instance};
@@ -54,35 +54,27 @@ pub fn pair_of(scene: &Scene<'_>, race: Race) -> Result<Option<Pair>, AllocError
     if race.is_of_cell() {
         return Ok(of_events(scene, race.earlier, race.later));
     }
+    let Some(viewed) = viewed_at(scene, race.later) else {
+        return Ok(None);
+    };
+    let byte = scene.byte_of(race.later);
     let mut left = VIEWS;
-    for at in race.later..scene.run.trace.as_slice().len() {
-        if left > 0 && is_again(scene, race.later, at) {
+    for at in race.later..scene.run.trace.len() {
+        let is_again = viewed_at(scene, at) == Some(viewed) && scene.byte_of(at) == byte;
+        if left > 0 && is_again {
             left = left.saturating_sub(1);
-            if let Some(pair) = of_view(scene, at, true)? {
+            if let Some(pair) = of_view(scene, at, viewed, true)? {
                 return Ok(Some(pair));
             }
         }
     }
-    of_view(scene, race.later, false)
-}
-
-// Whether an event reads or sets the reducer of another one, and comes from the same place.
-fn is_again(scene: &Scene<'_>, first: usize, at: usize) -> bool {
-    match (viewed_at(scene, first), viewed_at(scene, at)) {
-        (Some(one), Some(other)) => {
-            one.frame == other.frame
-                && one.place == other.place
-                && scene.byte_of(first) == scene.byte_of(at)
-        }
-        _ => false,
-    }
+    of_view(scene, race.later, viewed, false)
 }
 
 /// Returns the reducer that an event reads or sets.
 pub fn viewed_at(scene: &Scene<'_>, index: usize) -> Option<Instance> {
-    match scene.run.event(index)? {
-        Event::Set { instance, .. } => Some(instance),
-        Event::Value { instance, .. } => Some(instance),
+    match scene.run.event(index) {
+        Some(Event::Set { instance, .. } | Event::Value { instance, .. }) => Some(instance),
         _ => None,
     }
 }
@@ -99,62 +91,57 @@ pub fn name_of(scene: &Scene<'_>, index: usize) -> Option<Name> {
 }
 
 fn of_events(scene: &Scene<'_>, earlier: usize, later: usize) -> Option<Pair> {
-    let beside = scene.frame_of(earlier)?;
-    let second = scene.frame_of(later)?;
+    let (beside, second) = (scene.frame_of(earlier)?, scene.frame_of(later)?);
     let common = scene.common(scene.above(beside)?, second);
+    let child = scene.child_of(common, beside)?;
     Some(Pair {
         earlier,
         later,
         beside,
         second,
         common,
-        child: scene.child_of(common, beside)?,
+        child,
     })
 }
 
 // A read or set of a reducer, with the last update before it, or else the first one after it, that
 // runs in parallel. A schedule can change a read only by an update before it.
-fn of_view(scene: &Scene<'_>, at: usize, is_before: bool) -> Result<Option<Pair>, AllocError> {
-    let (Some(instance), Some(frame)) = (viewed_at(scene, at), scene.frame_of(at)) else {
+fn of_view(
+    scene: &Scene<'_>,
+    at: usize,
+    viewed: Instance,
+    is_before: bool,
+) -> Result<Option<Pair>, AllocError> {
+    let frame = scene.frame_of(at).unwrap_or(0);
+    let Some((change, child)) = change_of(scene, frame, at, viewed, is_before)? else {
         return Ok(None);
     };
-    let beside = Beside::of(scene.case.alloc, scene, frame, at)?;
-    if is_before {
-        return Ok(match beside.changing(scene, instance) {
-            Some(Change { at: earlier, child }) => with_child(scene, earlier, at, child),
-            None => None,
-        });
-    }
-    Ok(match beside.changed(scene, instance) {
-        Some(Change { at: later, child }) => with_child(scene, at, later, child),
-        None => None,
-    })
-}
-
-fn with_child(scene: &Scene<'_>, earlier: usize, later: usize, child: usize) -> Option<Pair> {
-    Some(Pair {
+    let other = scene.frame_of(change).unwrap_or(0);
+    let (earlier, later) = if is_before {
+        (change, at)
+    } else {
+        (at, change)
+    };
+    let (beside, second) = if is_before {
+        (other, frame)
+    } else {
+        (frame, other)
+    };
+    let common = scene.note(child).parent;
+    Ok(Some(Pair {
         earlier,
         later,
-        beside: scene.frame_of(earlier)?,
-        second: scene.frame_of(later)?,
-        common: scene.above(child)?,
+        beside,
+        second,
+        common,
         child,
-    })
+    }))
 }
 
 impl Pair {
     /// Returns whether both events are in turns of one loop.
     pub fn is_in_turns(&self, scene: &Scene<'_>) -> bool {
         scene.is_of_loop(self.child)
-    }
-
-    /// Returns the byte in the common frame of the later event, or of the invocation on the path to
-    /// it.
-    pub fn leaving(&self, scene: &Scene<'_>) -> usize {
-        match scene.child_of(self.common, self.second) {
-            Some(child) => scene.note(child).invoked_at,
-            None => scene.byte_of(self.later),
-        }
     }
 
     /// Returns the frame of the turn of the common loop that a frame is in.

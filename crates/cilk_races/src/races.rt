@@ -23,12 +23,15 @@ pub fn of_race(
     later: u64,
 ) -> Result<String, CaseFault> {
     let run = Run::of(case)?;
-    let race = Race::of(number, earlier, later);
-    if run.event(race.earlier).is_none() || run.event(race.later).is_none() {
+    report_of(&Scene { case, run: &run }, Race::of(number, earlier, later))
+}
+
+fn report_of(scene: &Scene<'_>, race: Race) -> Result<String, CaseFault> {
+    if scene.run.event(race.earlier).is_none() || scene.run.event(race.later).is_none() {
         return Err(CaseFault::Unfit);
     }
-    let mut report = String::new(case.alloc);
-    push_race(&Scene { case, run: &run }, &mut report, race)?;
+    let mut report = String::new(scene.case.alloc);
+    push_race(scene, &mut report, race)?;
     Ok(report)
 }
 
@@ -41,42 +44,44 @@ pub fn script_of_race(
     later: u64,
 ) -> Result<Option<String>, CaseFault> {
     let run = Run::of(case)?;
-    let scene = Scene { case, run: &run };
-    let Some(pair) = pair_of(&scene, Race::of(number, earlier, later))? else {
+    script_of(&Scene { case, run: &run }, Race::of(number, earlier, later))
+}
+
+fn script_of(scene: &Scene<'_>, race: Race) -> Result<Option<String>, CaseFault> {
+    let Some(pair) = pair_of(scene, race)? else {
         return Ok(None);
     };
-    match search(&scene, &pair)? {
-        Some(found) => Ok(Some(found.script(case)?)),
+    match search(scene, &pair)? {
+        Some(found) => Ok(Some(found.script(scene.case)?)),
         None => Ok(None),
     }
 }
 
+// The race of a reducer is shown by the first of its reads that a schedule can change.
 fn push_race(scene: &Scene<'_>, report: &mut String, race: Race) -> Result<(), AllocError> {
     let pair = pair_of(scene, race)?;
-    let race = shown_by(race, &pair);
+    let later = match pair {
+        Some(pair) if !race.is_of_cell() && pair.earlier != race.later => pair.later,
+        _ => race.later,
+    };
+    let race = Race { later, ..race };
     push_events(scene, report, race, &pair)?;
     report.push_str("hint: ")?;
     push_cure(scene, report, race, &pair)?;
-    report.push('\n')?;
-    push_declared(scene, report, race)?;
+    match name_of(scene, later) {
+        Some(name) => {
+            let declared = say("\ndeclared: `{}` at {}\n").word(scene.word(name));
+            scene.push(report, &declared.with(scene.place(name.at)))?;
+        }
+        None => report.push('\n')?,
+    }
     if let Some(pair) = pair {
         push_pair(scene, report, &pair)?;
     }
     if race.is_of_cell() {
-        push_further(scene, report, race.earlier, race.later)
+        push_further(scene, report, race.earlier, later)
     } else {
         Ok(())
-    }
-}
-
-// The race that is shown: of a reducer's reads the first one that a schedule can change.
-fn shown_by(race: Race, pair: &Option<Pair>) -> Race {
-    match pair {
-        Some(pair) if !race.is_of_cell() && pair.earlier != race.later => Race {
-            later: pair.later,
-            ..race
-        },
-        _ => race,
     }
 }
 
@@ -144,29 +149,19 @@ fn done_by(event: &Event) -> Sentence<'static> {
     say(words).with(Part::Number(value))
 }
 
-// Where the variable, array or reducer is declared.
-fn push_declared(scene: &Scene<'_>, report: &mut String, race: Race) -> Result<(), AllocError> {
-    match name_of(scene, race.later) {
-        Some(name) => {
-            let declared = say("declared: `{}` at {}\n").word(scene.word(name));
-            scene.push(report, &declared.with(scene.place(name.at)))
-        }
-        None => Ok(()),
-    }
-}
-
 // Both paths up to the common frame, the spawn, and a schedule.
 fn push_pair(scene: &Scene<'_>, report: &mut String, pair: &Pair) -> Result<(), AllocError> {
     let common = pair.common;
-    push_way(
-        scene,
-        report,
-        "the earlier one:\n",
-        pair.beside,
-        Some(common),
-    )?;
-    push_way(scene, report, "the later one:\n", pair.second, Some(common))?;
-    push_way(scene, report, "around both:\n", common, None)?;
+    for (words, frame, top) in [
+        ("the earlier one:\n", pair.beside, Some(common)),
+        ("the later one:\n", pair.second, Some(common)),
+        ("around both:\n", common, None),
+    ] {
+        if Some(frame) != top {
+            report.push_str(words)?;
+            scene.push_path(report, frame, top)?;
+        }
+    }
     let parallel = if pair.is_in_turns(scene) {
         say("parallel: the turns of a `cilk_for` run in parallel\n")
     } else {
@@ -178,19 +173,4 @@ fn push_pair(scene: &Scene<'_>, report: &mut String, pair: &Pair) -> Result<(), 
         Some(found) => found.push(scene.case, report),
         None => Ok(()),
     }
-}
-
-// The path from a frame up to another one. Nothing if both are the same.
-fn push_way(
-    scene: &Scene<'_>,
-    report: &mut String,
-    what: &str,
-    frame: usize,
-    top: Option<usize>,
-) -> Result<(), AllocError> {
-    if Some(frame) == top {
-        return Ok(());
-    }
-    report.push_str(what)?;
-    scene.push_path(report, frame, top)
 }

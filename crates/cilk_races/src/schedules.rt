@@ -4,10 +4,11 @@ use crate::pair::Pair;
 use cilk_findings::case::Case;
 use cilk_findings::scene::Scene;
 use cilk_messages::sentence::{Part, Sentence, push_line, say};
-use cilk_parser::script::{ScriptFault, Step, read};
+use cilk_parser::script::{LineOrder, Step};
 use cilk_schedule::{PlayFault, play_steps};
 use cilk_serial::fault::RunFault;
 use cilk_serial::run::run;
+use cilk_types::invocation::Invocation;
 use cilk_types::outcome::{Final, Outcome};
 use std::alloc::AllocError;
 
@@ -21,35 +22,32 @@ const NEAR: [usize; 6] = [usize::MAX, 1, 0, 2, 4, 8];
 // The events that the second worker makes after the later access, before the first one continues.
 const BEYOND: [usize; 7] = [0, 1, 2, 4, 8, 16, usize::MAX];
 
-/// A schedule of two workers. The first makes `ahead` events, up to a spawn or into its child. The
-/// second steals the continuation at `place` and makes `behind` events. Then the first makes the
-/// `child` events that are left of the child, and both continue in turn.
+/// A schedule of two workers, and how its outcome differs from that of the serial run.
+///
+/// The first worker makes `ahead` events, up to a spawn or into its child. The second steals the
+/// continuation at `place` and makes `behind` events. Then the first makes the `child` events that are
+/// left of the child, and both continue in turn.
 #[derive(Clone, Copy)]
-struct Schedule {
+pub struct Found {
     ahead: usize,
     place: usize,
     behind: usize,
     child: usize,
-}
-
-/// How the outcome of a schedule differs from that of the serial run.
-#[derive(Clone, Copy)]
-enum Difference {
-    Nothing,
-    Globals,
-    Reducer,
-    Output,
-    Result(i64, i64),
-    Stops(u16),
-}
-
-/// The schedule that was found, its outcome, and the number of those that were played.
-#[derive(Clone, Copy)]
-pub struct Found {
-    schedule: Schedule,
-    difference: Difference,
+    // How much the outcome tells a reader, in words, and how many schedules were played.
+    told: u8,
+    words: Sentence<'static>,
     played: usize,
 }
+
+// `play` doesn't take the schedule, or its outcome is the serial run's, has other globals, or another
+// result or output.
+const NONE: u8 = 0;
+
+const SAME: u8 = 1;
+
+const OTHER: u8 = 2;
+
+const MOST: u8 = 3;
 
 /// Plays schedules near a race, until one shows something else than the serial run. Returns the one
 /// whose outcome differs most, if `play` takes any. The first makes the later event first.
@@ -63,85 +61,30 @@ pub fn search(scene: &Scene<'_>, pair: &Pair) -> Result<Option<Found>, AllocErro
 }
 
 fn best_of(scene: &Scene<'_>, pair: &Pair, serial: &Outcome) -> Result<Option<Found>, AllocError> {
-    let mut best: Option<Found> = None;
+    let mut best = schedule_of(scene, pair, 0, 0);
     let mut played: usize = 0;
-    for near in NEAR {
+    'search: for near in NEAR {
         for beyond in BEYOND {
-            let schedule = schedule_of(scene, pair, near, beyond);
-            let difference = schedule.play(scene.case, serial)?;
+            let found = schedule_of(scene, pair, near, beyond);
+            let (told, words) = found.play(scene.case, serial)?;
             played = played.saturating_add(1);
-            best = better(best, schedule, difference, played);
-            if scene.run.trace.len() > SEARCHED || telling(&difference) == MOST_TELLING {
-                return Ok(best);
+            if told > best.told {
+                best = Found {
+                    told,
+                    words,
+                    ..found
+                };
+            }
+            if scene.run.trace.len() > SEARCHED || told == MOST {
+                break 'search;
             }
         }
     }
-    Ok(best)
-}
-
-// The more telling one of two outcomes, or the first.
-fn better(
-    best: Option<Found>,
-    schedule: Schedule,
-    difference: Option<Difference>,
-    played: usize,
-) -> Option<Found> {
-    match (best, difference) {
-        (Some(found), difference) if telling(&difference) <= telling(&Some(found.difference)) => {
-            Some(Found { played, ..found })
-        }
-        (_, Some(difference)) => Some(Found {
-            schedule,
-            difference,
-            played,
-        }),
-        (_, None) => None,
-    }
-}
-
-// How much an outcome tells a reader.
-fn telling(difference: &Option<Difference>) -> u8 {
-    match difference {
-        None => 0,
-        Some(Difference::Nothing) => 1,
-        Some(Difference::Globals) => 2,
-        Some(_) => MOST_TELLING,
-    }
-}
-
-const MOST_TELLING: u8 = 3;
-
-impl Found {
-    /// Returns the script of the schedule.
-    pub fn script(&self, case: &Case<'_>) -> Result<String, AllocError> {
-        self.schedule.script(case)
-    }
-
-    /// Adds the outcome in words, and the script.
-    pub fn push(&self, case: &Case<'_>, report: &mut String) -> Result<(), AllocError> {
-        push_line(case.alloc, report, "schedule", &self.words())?;
-        self.schedule.say(SHOWN).push(case.alloc, report)
-    }
-
-    fn words(&self) -> Sentence<'static> {
-        match self.difference {
-            Difference::Stops(number) => {
-                say("by this script for `play` the run stops by fault {}").count(number as usize)
-            }
-            Difference::Result(result, serial) => {
-                say("this script for `play` leaves the result {}, where `run` shows {}")
-                    .with(Part::Number(result))
-                    .with(Part::Number(serial))
-            }
-            Difference::Output => say("this script for `play` prints other numbers than `run`"),
-            Difference::Reducer => {
-                say("this script for `play` leaves another value in a reducer than `run`")
-            }
-            Difference::Globals => say(GLOBALS).count(self.played),
-            Difference::Nothing if self.played > 1 => say(NOTHING).count(self.played),
-            Difference::Nothing => say(ONE),
-        }
-    }
+    Ok(if best.told == NONE {
+        None
+    } else {
+        Some(Found { played, ..best })
+    })
 }
 
 const GLOBALS: &str =
@@ -156,92 +99,125 @@ const ONE: &str =
     "this script for `play` makes the later access first, and leaves what `run` leaves; no other was tried, as the \
      run is long";
 
+const STOPS: &str = "by this script for `play` the run stops by fault {}";
+
+const RESULT: &str = "this script for `play` leaves the result {}, where `run` shows {}";
+
+const OUTPUT: &str = "this script for `play` prints other numbers than `run`";
+
+const REDUCER: &str = "this script for `play` leaves another value in a reducer than `run`";
+
 const SCRIPT: &str = "run 1 {}\nsteal 2 {}\nrun 2 {}\nrun 1 {}\nall\n";
 
 const SHOWN: &str = "  run 1 {}\n  steal 2 {}\n  run 2 {}\n  run 1 {}\n  all\n";
 
-impl Schedule {
-    fn say(&self, words: &'static str) -> Sentence<'static> {
-        let steal = say(words).count(self.ahead).count(self.place);
-        steal.count(self.behind).count(self.child)
-    }
-
-    fn script(&self, case: &Case<'_>) -> Result<String, AllocError> {
+impl Found {
+    /// Returns the script of the schedule.
+    pub fn script(&self, case: &Case<'_>) -> Result<String, AllocError> {
         let mut script = String::new(case.alloc);
         self.say(SCRIPT).push(case.alloc, &mut script)?;
         Ok(script)
     }
 
+    /// Adds the outcome in words, and the script.
+    pub fn push(&self, case: &Case<'_>, report: &mut String) -> Result<(), AllocError> {
+        let is_one = self.told == SAME && self.played == 1;
+        let words = if is_one {
+            say(ONE)
+        } else {
+            self.words.count(self.played)
+        };
+        push_line(case.alloc, report, "schedule", &words)?;
+        self.say(SHOWN).push(case.alloc, report)
+    }
+
+    fn say(&self, words: &'static str) -> Sentence<'static> {
+        let steal = say(words).count(self.ahead).count(self.place);
+        steal.count(self.behind).count(self.child)
+    }
+
     // How its outcome differs, if `play` takes it and reaches the run's end.
-    fn play(&self, case: &Case<'_>, serial: &Outcome) -> Result<Option<Difference>, AllocError> {
-        let script = self.script(case)?;
-        match read(case.alloc, script.as_bytes()) {
-            Ok(steps) => played(case, steps.as_slice(), serial),
-            Err(ScriptFault::Line(_)) => Ok(None),
-            Err(ScriptFault::Memory) => Err(AllocError),
+    fn play(
+        &self,
+        case: &Case<'_>,
+        serial: &Outcome,
+    ) -> Result<(u8, Sentence<'static>), AllocError> {
+        let place = u32::try_from(self.place).unwrap_or(u32::MAX);
+        let steps = [
+            step(1, self.ahead),
+            Step {
+                line: 2,
+                order: LineOrder::Steal { worker: 2, place },
+            },
+            step(2, self.behind),
+            step(1, self.child),
+            Step {
+                line: 5,
+                order: LineOrder::All,
+            },
+        ];
+        match play_steps(case.alloc, &case.program, &case.input, 2, &steps) {
+            Ok(Some(outcome)) => Ok(differing(&outcome, serial)),
+            Ok(None) | Err(PlayFault::Line(_)) => Ok((NONE, say(""))),
+            Err(PlayFault::Stop { fault, .. }) => {
+                Ok((MOST, say(STOPS).count(fault.number() as usize)))
+            }
+            Err(PlayFault::Memory) => Err(AllocError),
         }
     }
 }
 
-fn played(
-    case: &Case<'_>,
-    steps: &[Step],
-    serial: &Outcome,
-) -> Result<Option<Difference>, AllocError> {
-    match play_steps(case.alloc, &case.program, &case.input, 2, steps) {
-        Ok(Some(outcome)) => Ok(Some(differing(&outcome, serial))),
-        Ok(None) | Err(PlayFault::Line(_)) => Ok(None),
-        Err(PlayFault::Stop { fault, .. }) => Ok(Some(Difference::Stops(fault.number()))),
-        Err(PlayFault::Memory) => Err(AllocError),
+fn step(worker: u32, count: usize) -> Step {
+    let count = u32::try_from(count).unwrap_or(u32::MAX);
+    Step {
+        line: 1,
+        order: LineOrder::Run { worker, count },
     }
 }
 
 // A schedule near the one that makes the later event first.
-fn schedule_of(scene: &Scene<'_>, pair: &Pair, near: usize, beyond: usize) -> Schedule {
+fn schedule_of(scene: &Scene<'_>, pair: &Pair, near: usize, beyond: usize) -> Found {
     let child = scene.note(pair.child);
-    let (begun, ended) = (child.begun, child.ended.unwrap_or(pair.later));
+    let ended = child.ended.unwrap_or(pair.later);
     let made = pair.earlier.saturating_add(1).saturating_sub(near);
-    let ahead = made.max(begun.saturating_add(1));
+    let ahead = made.max(child.begun.saturating_add(1));
     let left = scene.run.trace.len().saturating_sub(pair.later);
-    Schedule {
+    let mut spawns: usize = 0;
+    let mut at = pair.child;
+    for _level in 0..scene.run.replay.frames.len() {
+        let note = scene.note(at);
+        if note.how == Invocation::Spawn {
+            spawns = spawns.saturating_add(1);
+        }
+        at = note.parent;
+    }
+    Found {
         ahead,
-        place: spawns_above(scene, pair.child).saturating_sub(1),
+        place: spawns.saturating_sub(1),
         behind: pair
             .later
             .saturating_sub(ended)
             .saturating_add(beyond.min(left)),
         child: ended.saturating_add(1).saturating_sub(ahead),
+        told: NONE,
+        words: say(""),
+        played: 0,
     }
-}
-
-// The number of spawned frames from a frame up to the first one.
-fn spawns_above(scene: &Scene<'_>, frame: usize) -> usize {
-    let mut spawns: usize = 0;
-    let mut at = Some(frame);
-    for _level in 0..scene.run.replay.frames.len() {
-        let Some(frame) = at else {
-            break;
-        };
-        if scene.is_spawned(frame) {
-            spawns = spawns.saturating_add(1);
-        }
-        at = scene.above(frame);
-    }
-    spawns
 }
 
 // The difference between an outcome and the serial run's.
-fn differing(outcome: &Outcome, serial: &Outcome) -> Difference {
+fn differing(outcome: &Outcome, serial: &Outcome) -> (u8, Sentence<'static>) {
     if outcome.result != serial.result {
-        Difference::Result(outcome.result, serial.result)
+        let left = say(RESULT).with(Part::Number(outcome.result));
+        (MOST, left.with(Part::Number(serial.result)))
     } else if outcome.output.as_slice() != serial.output.as_slice() {
-        Difference::Output
+        (MOST, say(OUTPUT))
     } else if !are_same(outcome.reducers.as_slice(), serial.reducers.as_slice()) {
-        Difference::Reducer
+        (MOST, say(REDUCER))
     } else if outcome.globals.as_slice() != serial.globals.as_slice() {
-        Difference::Globals
+        (OTHER, say(GLOBALS))
     } else {
-        Difference::Nothing
+        (SAME, say(NOTHING))
     }
 }
 

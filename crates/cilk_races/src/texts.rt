@@ -5,9 +5,8 @@
 // braces stands for
 //
 // - `y` a place for a `cilk_sync`, `n` the name of the variable, array or reducer, `r` the reducer's monoid;
-// - `m` the monoid that takes a number, `a` the number, `g` the part of a condition that goes
+// - `m` the monoid that takes or keeps a number, `a` the number, `g` the part of a condition that goes
 //   away, the variable again, or the number of a turn;
-// - `k` the monoid that keeps a number by itself, `u` the number;
 // - `i` the index of the element, `p` the words of the index, `f` the array that a counter fills;
 // - `l` the length of the array, `d` twice that, `t` that for each turn;
 // - `v` the variable of the loop, `h` half of its turns, `w` the variable of a loop in it;
@@ -55,7 +54,7 @@ ORDERED: : `{b}` works on what the spawned `{c}` does with `{n}`
 SECOND_LOOP: ; or, with more in parallel, read `{n}` in a second loop, after the `cilk_sync` behind this one
 TABLE: calls in parallel can't fill a table for each other: fill `{n}` before them, in order, by a `for`, and let the calls only read it
 WORK: pass what the call has to know as a parameter in place of `{n}`, of several numbers a digit each (`examples/gallery/queens.c`); or give each call a part of `{n}` of its own, whose first place is a parameter
-KEPT: a reducer compares by itself, without a read: `int cilk_reducer({k}) {n};`, and `update({n}, {u});` in place of this `if`
+KEPT: a reducer compares by itself, without a read: `int cilk_reducer({m}) {n};`, and `update({n}, {a});` in place of this `if`
 OWN_SUM: what one turn or call adds up for itself is a variable: declare `int {n};` there, with `{n} += ..;` in place of `update({n}, ..);` and `{n}` in place of `value({n})`
 OWN_REDUCER: ; where an inner `cilk_for` or spawn updates it, a function of its own, whose first line is `int cilk_reducer({r}) {n};`
 AFTER_LOOP: read `{n}` after the loop: other turns may still update it here

@@ -1,28 +1,16 @@
 //! How a statement of a text uses a variable or element: it adds to it, keeps a number in it, sets
 //! it as a flag, or swaps it with another one.
 
-use cilk_findings::partings::{behind_head, stands_in, statement_of};
+use cilk_findings::partings::{behind_head, end_of, statement_of};
 use cilk_messages::around::is_among;
+use cilk_messages::place::between;
 use cilk_messages::sites::head_of;
 use cilk_messages::tokens::Tokens;
 use cilk_syntax::token::Kind;
 
-/// What a statement adds: the text of a number, and a form with a gap for it.
-#[derive(Clone, Copy)]
-pub struct Added<'a> {
-    pub form: &'static str,
-    pub amount: &'a [u8],
-}
-
-/// The monoid of a comparison, and the text of the number that is kept.
-#[derive(Clone, Copy)]
-pub struct Most<'a> {
-    pub monoid: &'static str,
-    pub number: &'a [u8],
-}
-
-/// How a reducer takes what a statement makes of a variable: the name of the words that say so, the
-/// number as in [`Added`], and the part of a condition that goes away, or the variable again.
+/// How a reducer takes what a statement makes of a variable: its monoid, the name of the words that say
+/// so, the text of a number and a form with a gap for it, and the part of a condition that goes away, or
+/// the variable again.
 #[derive(Clone, Copy)]
 pub struct Taken<'a> {
     pub monoid: &'static str,
@@ -32,28 +20,20 @@ pub struct Taken<'a> {
     pub again: &'a [u8],
 }
 
-/// The two statements by which two elements of an array swap their numbers.
-#[derive(Clone, Copy)]
-pub struct Swap {
-    pub one: usize,
-    pub other: usize,
-}
-
-// A range of tokens.
-#[derive(Clone, Copy)]
-struct Side {
-    from: usize,
-    upto: usize,
-}
+/// What no reducer takes.
+pub const NOTHING: Taken<'static> = Taken {
+    monoid: "",
+    words: "",
+    form: "{}",
+    amount: &[],
+    again: &[],
+};
 
 /// Returns the text from a token up to, but without, another one.
 pub fn text_of<'a>(tokens: &Tokens<'a>, from: usize, upto: usize) -> &'a [u8] {
     let last = upto.saturating_sub(1);
     let end = tokens.place(last).saturating_add(tokens.word(last).len());
-    match tokens.text.get(tokens.place(from)..end) {
-        Some(text) => text,
-        None => &[],
-    }
+    between(tokens.text, tokens.place(from), end)
 }
 
 /// Returns the first semicolon from a token on.
@@ -91,8 +71,12 @@ pub fn behind_place(tokens: &Tokens<'_>, named: usize) -> usize {
 }
 
 /// Returns what the statement at a token adds to the variable, or to an element of the array, with
-/// this name.
-pub fn adds<'a>(tokens: &Tokens<'a>, first: usize, name: &[u8]) -> Option<Added<'a>> {
+/// this name: a form with a gap for a number, and the number's text.
+pub fn adds<'a>(
+    tokens: &Tokens<'a>,
+    first: usize,
+    name: &[u8],
+) -> Option<(&'static str, &'a [u8])> {
     let is_ahead = matches!(tokens.kind(first), Some(Kind::Increment | Kind::Decrement));
     let named = if is_ahead {
         first.saturating_add(1)
@@ -104,135 +88,130 @@ pub fn adds<'a>(tokens: &Tokens<'a>, first: usize, name: &[u8]) -> Option<Added<
     }
     let behind = behind_place(tokens, named);
     let rest = behind.saturating_add(1);
-    let right = Side {
-        from: rest,
-        upto: semicolon_at(tokens, rest),
-    };
-    let (form, side) = match tokens.kind(if is_ahead { first } else { behind }) {
-        Some(Kind::Increment) => return Some(Added {
-            form: "1",
-            amount: &[],
-        }),
-        Some(Kind::Decrement) => return Some(Added {
-            form: "-1",
-            amount: &[],
-        }),
-        Some(Kind::PlusAssign) => ("{}", right),
-        Some(Kind::MinusAssign) => ("-({})", right),
-        Some(Kind::Assign) => match joined(tokens, named, rest)? {
-            (mark, side) if matches!(tokens.kind(mark), Some(Kind::Plus)) => ("{}", side),
-            _ => return None,
-        },
+    let end = semicolon_at(tokens, rest);
+    let (mark, again, close) = joined(tokens, named, rest);
+    let (form, from, upto) = match tokens.kind(if is_ahead { first } else { behind }) {
+        Some(Kind::Increment) => ("1", rest, rest),
+        Some(Kind::Decrement) => ("-1", rest, rest),
+        Some(Kind::PlusAssign) => ("{}", rest, end),
+        Some(Kind::MinusAssign) => ("-({})", rest, end),
+        Some(Kind::Assign) if matches!(mark, Some(Kind::Plus)) => ("{}", again, close),
         _ => return None,
     };
-    if has_name(tokens, side.from, side.upto, name) {
+    if has_name(tokens, from, upto, name) {
         return None;
     }
-    let amount = text_of(tokens, side.from, side.upto);
-    Some(Added { form, amount })
+    Some((form, text_of(tokens, from, upto)))
 }
 
-// The operator, and what it joins with the place, of `PLACE = PLACE OPERATOR ..` or of
-// `PLACE = .. OPERATOR PLACE`. The right side begins at a token.
-fn joined(tokens: &Tokens<'_>, named: usize, right: usize) -> Option<(usize, Side)> {
+// The operator, and the tokens that it joins with the place, of `PLACE = PLACE OPERATOR ..` or of
+// `PLACE = .. OPERATOR PLACE`; no operator for others. The right side begins at a token.
+fn joined(tokens: &Tokens<'_>, named: usize, right: usize) -> (Option<Kind>, usize, usize) {
     let place = text_of(tokens, named, right.saturating_sub(1));
     let again = behind_place(tokens, right);
     let upto = semicolon_at(tokens, right);
     let last = upto.saturating_sub(2);
     if text_of(tokens, right, again) == place {
-        let from = again.saturating_add(1);
-        return Some((again, Side { from, upto }));
+        return (tokens.kind(again), again.saturating_add(1), upto);
     }
     if tokens.word(upto.saturating_sub(1)) == place {
-        let from = right;
-        return Some((last, Side { from, upto: last }));
+        return (tokens.kind(last), right, last);
     }
-    None
+    (None, right, right)
 }
 
 /// Returns whether the statement at a token multiplies a variable.
 pub fn multiplies(tokens: &Tokens<'_>, first: usize, name: &[u8]) -> bool {
     let mark = match tokens.kind_behind(first) {
-        Some(Kind::Assign) => match joined(tokens, first, first.saturating_add(2)) {
-            Some((mark, _)) => mark,
-            None => first,
-        },
-        _ => first.saturating_add(1),
+        Some(Kind::Assign) => joined(tokens, first, first.saturating_add(2)).0,
+        mark => mark,
     };
-    tokens.word(first) == name && matches!(tokens.kind(mark), Some(Kind::Star | Kind::StarAssign))
+    matches!(mark, Some(Kind::Star | Kind::StarAssign)) && tokens.word(first) == name
 }
 
 /// Returns how a reducer takes what the statement at a token makes of a variable. The statement may
 /// be the `if` around an assignment.
 pub fn takes<'a>(tokens: &Tokens<'a>, first: usize, name: &'a [u8]) -> Option<Taken<'a>> {
-    if let Some(Added { form, amount }) = adds(tokens, first, name) {
-        let taken = by_reducer("add", "UPDATED", amount, name);
-        return Some(Taken { form, ..taken });
+    let taken = Taken {
+        monoid: "add",
+        words: "UPDATED",
+        again: name,
+        ..NOTHING
+    };
+    if let Some((form, amount)) = adds(tokens, first, name) {
+        return Some(Taken {
+            form,
+            amount,
+            ..taken
+        });
     }
     let start = assignment_of(tokens, first, name)?;
     let right = start.saturating_add(2);
-    let side = Side {
-        from: right,
-        upto: semicolon_at(tokens, right),
-    };
-    if let Some((mark, side)) = joined(tokens, start, right) {
-        let monoid = match tokens.kind(mark) {
+    let end = semicolon_at(tokens, right);
+    let (mark, from, upto) = joined(tokens, start, right);
+    if mark.is_some() {
+        let monoid = match mark {
             Some(Kind::And) => "min",
             Some(Kind::Or) => "max",
             _ => return None,
         };
-        let amount = text_of(tokens, side.from, side.upto);
-        let form = truth(tokens, side);
-        let taken = by_reducer(monoid, "FLAG", amount, name);
-        return Some(Taken { form, ..taken });
+        let (form, amount) = (truth(tokens, from, upto), text_of(tokens, from, upto));
+        return Some(Taken {
+            monoid,
+            words: "FLAG",
+            form,
+            amount,
+            ..taken
+        });
     }
-    if let Some(most) = called(tokens, side, name) {
-        return Some(most);
+    if let Some((monoid, amount)) = called(tokens, right, end, name) {
+        return Some(Taken {
+            monoid,
+            words: "MOST",
+            amount,
+            ..taken
+        });
     }
-    if has_name(tokens, right, side.upto, name) {
+    if has_name(tokens, right, end, name) {
         return None;
     }
-    match (asked_at(tokens, start, name), flag(tokens, side, name)) {
-        (Some(asked), _) if has_name(tokens, asked, start, b"else") => None,
-        (Some(asked), _) => compared(tokens, asked, side),
-        (None, None) => {
-            let amount = text_of(tokens, right, side.upto);
-            Some(by_reducer("max", "LAST", amount, name))
-        }
-        (None, flag) => flag,
-    }
-}
-
-fn by_reducer<'a>(
-    monoid: &'static str,
-    words: &'static str,
-    amount: &'a [u8],
-    again: &'a [u8],
-) -> Taken<'a> {
-    Taken {
-        monoid,
-        words,
-        form: "{}",
+    let amount = text_of(tokens, right, end);
+    let set = Taken {
+        monoid: set_by(tokens, right),
+        words: "FLAG",
         amount,
-        again,
+        ..taken
+    };
+    let is_flag = is_constant(tokens, right, end);
+    match asked_at(tokens, start, name) {
+        Some(asked) if has_name(tokens, asked, start, b"else") => None,
+        Some(asked) => compared(tokens, asked, right, end, set),
+        None if is_flag => Some(set),
+        None => Some(Taken {
+            monoid: "max",
+            words: "LAST",
+            ..set
+        }),
     }
 }
 
 // The name in an assignment to it: the statement at a token, or the first one in that `if`.
 fn assignment_of(tokens: &Tokens<'_>, first: usize, name: &[u8]) -> Option<usize> {
-    let is_if = matches!(tokens.kind(first), Some(Kind::If));
-    for number in first..tokens.count() {
+    let upto = match tokens.kind(first) {
+        Some(Kind::If) => end_of(tokens, first),
+        _ => first.saturating_add(1),
+    };
+    for number in first..upto {
         if tokens.word(number) == name && matches!(tokens.kind_behind(number), Some(Kind::Assign)) {
-            let is_here = number == first || is_if && stands_in(tokens, first, number);
-            return if is_here { Some(number) } else { None };
+            return Some(number);
         }
     }
     None
 }
 
 // The form of a number that is used as true or false, as 0 or 1.
-fn truth(tokens: &Tokens<'_>, side: Side) -> &'static str {
-    for number in side.from..side.upto {
+fn truth(tokens: &Tokens<'_>, from: usize, upto: usize) -> &'static str {
+    for number in from..upto {
         if is_among("! < > <= >= == !=", tokens.word(number)) {
             return "{}";
         }
@@ -240,34 +219,33 @@ fn truth(tokens: &Tokens<'_>, side: Side) -> &'static str {
     "!!({})"
 }
 
-// The other argument of a call of a function for the greater or lesser of two numbers.
-fn called<'a>(tokens: &Tokens<'a>, side: Side, name: &'a [u8]) -> Option<Taken<'a>> {
-    let monoid = if has_part(tokens.word(side.from), b"max") {
-        "max"
-    } else if has_part(tokens.word(side.from), b"min") {
-        "min"
-    } else {
-        return None;
-    };
-    let first = side.from.saturating_add(2);
-    let close = side.upto.saturating_sub(1);
+// The other argument of a call of a function for the greater or lesser of two numbers, after its monoid.
+fn called<'a>(
+    tokens: &Tokens<'a>,
+    from: usize,
+    upto: usize,
+    name: &[u8],
+) -> Option<(&'static str, &'a [u8])> {
+    let word = tokens.word(from);
+    let monoid = if has_part(word, b"max") { "max" } else { "min" };
+    let first = from.saturating_add(2);
+    let close = upto.saturating_sub(1);
     let last = close.saturating_sub(1);
-    let amount = if tokens.word(first) == name {
-        text_of(tokens, first.saturating_add(2), close)
+    if !has_part(word, monoid.as_bytes()) {
+        None
+    } else if tokens.word(first) == name {
+        Some((monoid, text_of(tokens, first.saturating_add(2), close)))
     } else if tokens.word(last) == name {
-        text_of(tokens, first, last.saturating_sub(1))
+        Some((monoid, text_of(tokens, first, last.saturating_sub(1))))
     } else {
-        return None;
-    };
-    Some(by_reducer(monoid, "MOST", amount, name))
+        None
+    }
 }
 
 /// Returns whether a word or a text has a part.
 pub fn has_part(word: &[u8], part: &[u8]) -> bool {
     for at in 0..word.len() {
-        if let Some(found) = word.get(at..at.saturating_add(part.len()))
-            && found == part
-        {
+        if between(word, at, at.saturating_add(part.len())) == part {
             return true;
         }
     }
@@ -278,7 +256,7 @@ pub fn has_part(word: &[u8], part: &[u8]) -> bool {
 fn asked_at(tokens: &Tokens<'_>, start: usize, name: &[u8]) -> Option<usize> {
     let mut found = None;
     for head in 0..start {
-        if matches!(tokens.kind(head), Some(Kind::If)) && stands_in(tokens, head, start) {
+        if matches!(tokens.kind(head), Some(Kind::If)) && start < end_of(tokens, head) {
             for number in head..behind_head(tokens, head) {
                 if tokens.word(number) == name {
                     found = Some(number);
@@ -291,67 +269,80 @@ fn asked_at(tokens: &Tokens<'_>, start: usize, name: &[u8]) -> Option<usize> {
 
 // What an `if` keeps that compares a variable at a token and sets it to a number: the greatest or
 // least where it is that number, otherwise the first.
-fn compared<'a>(tokens: &Tokens<'a>, asked: usize, number: Side) -> Option<Taken<'a>> {
-    let name = tokens.word(asked);
+fn compared<'a>(
+    tokens: &Tokens<'a>,
+    asked: usize,
+    right: usize,
+    end: usize,
+    set: Taken<'a>,
+) -> Option<Taken<'a>> {
     let ahead = tokens.kind_back(asked, 1);
     let behind = tokens.kind_behind(asked);
-    let side = match monoid_of(None, behind) {
-        None if !matches!(behind, Some(Kind::Equal)) => {
-            part_at(tokens, asked.saturating_sub(1), true)
-        }
-        _ => part_at(tokens, asked.saturating_add(2), false),
+    let (is_behind, is_equal) = match behind {
+        Some(Kind::Less | Kind::LessEqual | Kind::Greater | Kind::GreaterEqual) => (true, false),
+        Some(Kind::Equal) => (true, true),
+        _ => (false, false),
     };
-    let is_equal = matches!(ahead, Some(Kind::Not | Kind::Equal))
-        || matches!(behind, Some(Kind::Equal));
-    let amount = text_of(tokens, number.from, number.upto);
-    if is_same(tokens, side, number) || !is_equal && !is_constant(tokens, side) {
-        return Some(by_reducer(monoid_of(ahead, behind)?, "COMPARED", amount, name));
-    }
-    if let Some(flag) = flag(tokens, number, name) {
+    let is_equal = is_equal || matches!(ahead, Some(Kind::Not | Kind::Equal));
+    let (from, upto) = if is_behind {
+        part_at(tokens, asked.saturating_add(2), false)
+    } else {
+        part_at(tokens, asked.saturating_sub(1), true)
+    };
+    let is_same = are_same(tokens, (from, upto), (right, end));
+    if is_same || !is_equal && !is_constant(tokens, from, upto) {
+        let monoid = monoid_of(ahead, behind)?;
         return Some(Taken {
-            words: "ONCE_FLAG",
-            ..flag
+            monoid,
+            words: "COMPARED",
+            ..set
         });
     }
-    let upto = side.upto.max(asked.saturating_add(1));
-    let asked = text_of(tokens, side.from.min(asked), upto);
-    Some(by_reducer("min", "ONCE", amount, asked))
+    if is_constant(tokens, right, end) {
+        return Some(Taken {
+            words: "ONCE_FLAG",
+            ..set
+        });
+    }
+    let again = text_of(tokens, from.min(asked), upto.max(asked.saturating_add(1)));
+    Some(Taken {
+        monoid: "min",
+        words: "ONCE",
+        again,
+        ..set
+    })
 }
 
-// A constant that a statement sets: the least where it is false, otherwise the greatest.
-fn flag<'a>(tokens: &Tokens<'a>, number: Side, name: &'a [u8]) -> Option<Taken<'a>> {
-    if !is_constant(tokens, number) {
-        return None;
-    }
-    let amount = text_of(tokens, number.from, number.upto);
-    let monoid = match tokens.kind(number.from) {
+// The monoid of a constant that a statement sets: of the least where it is false, otherwise of the greatest.
+fn set_by(tokens: &Tokens<'_>, number: usize) -> &'static str {
+    match tokens.kind(number) {
         Some(Kind::Number(0) | Kind::Minus) => "min",
         _ => "max",
-    };
-    Some(by_reducer(monoid, "FLAG", amount, name))
+    }
 }
 
-fn is_constant(tokens: &Tokens<'_>, side: Side) -> bool {
-    let from = match tokens.kind(side.from) {
-        Some(Kind::Minus) => side.from.saturating_add(1),
-        _ => side.from,
+fn is_constant(tokens: &Tokens<'_>, from: usize, upto: usize) -> bool {
+    let from = match tokens.kind(from) {
+        Some(Kind::Minus) => from.saturating_add(1),
+        _ => from,
     };
-    matches!(tokens.kind(from), Some(Kind::Number(_))) && from.saturating_add(1) == side.upto
+    matches!(tokens.kind(from), Some(Kind::Number(_))) && from.saturating_add(1) == upto
 }
 
 // Whether two ranges have the same words.
-fn is_same(tokens: &Tokens<'_>, one: Side, other: Side) -> bool {
-    for number in one.from..one.upto {
-        let at = number.saturating_sub(one.from);
-        if tokens.word(number) != tokens.word(other.from.saturating_add(at)) {
+fn are_same(tokens: &Tokens<'_>, one: (usize, usize), other: (usize, usize)) -> bool {
+    let (length, count) = (one.1.saturating_sub(one.0), other.1.saturating_sub(other.0));
+    for at in 0..length {
+        let word = tokens.word(one.0.saturating_add(at));
+        if word != tokens.word(other.0.saturating_add(at)) {
             return false;
         }
     }
-    one.upto.saturating_sub(one.from) == other.upto.saturating_sub(other.from)
+    length == count
 }
 
 // The part of a condition before a token, or from it on: to an end of the condition, `&&` or `||`.
-fn part_at(tokens: &Tokens<'_>, at: usize, is_ahead: bool) -> Side {
+fn part_at(tokens: &Tokens<'_>, at: usize, is_ahead: bool) -> (usize, usize) {
     let (ends, opens, closes) = if is_ahead {
         ("( && ||", ") ]", "( [")
     } else {
@@ -379,39 +370,32 @@ fn part_at(tokens: &Tokens<'_>, at: usize, is_ahead: bool) -> Side {
             upto = upto.saturating_add(1);
         }
     }
-    Side { from, upto }
+    (from, upto)
 }
 
-/// Returns the swap of two elements of an array that a statement belongs to: `t = a[i];`,
-/// `a[i] = a[j];` and `a[j] = t;`.
-pub fn swap_of(tokens: &Tokens<'_>, statement: usize, name: &[u8]) -> Option<Swap> {
+/// Returns the two writes of the swap of two elements of an array that a statement belongs to:
+/// `t = a[i];`, `a[i] = a[j];` and `a[j] = t;`.
+pub fn swap_of(tokens: &Tokens<'_>, statement: usize, name: &[u8]) -> Option<(usize, usize)> {
     for one in 0..tokens.count() {
-        if let Some(other) = swap_at(tokens, one, name) {
+        let mark = behind_place(tokens, one);
+        let right = mark.saturating_add(1);
+        let end = behind_place(tokens, right);
+        let other = end.saturating_add(1);
+        let set = behind_place(tokens, other);
+        let is_swap = tokens.word(one) == name
+            && tokens.word(right) == name
+            && matches!(tokens.kind(mark), Some(Kind::Assign))
+            && matches!(tokens.kind(end), Some(Kind::Semicolon))
+            && matches!(tokens.kind(set), Some(Kind::Assign))
+            && text_of(tokens, right, end) == text_of(tokens, other, set);
+        if is_swap {
             let kept = statement_of(tokens, one.saturating_sub(1));
             if statement == kept || statement == one || statement == other {
-                return Some(Swap { one, other });
+                return Some((one, other));
             }
         }
     }
     None
-}
-
-// The second write of a swap whose first one begins at a token.
-fn swap_at(tokens: &Tokens<'_>, one: usize, name: &[u8]) -> Option<usize> {
-    if tokens.word(one) != name {
-        return None;
-    }
-    let mark = behind_place(tokens, one);
-    let right = mark.saturating_add(1);
-    let end = behind_place(tokens, right);
-    let other = end.saturating_add(1);
-    let set = behind_place(tokens, other);
-    let is_swap = matches!(tokens.kind(mark), Some(Kind::Assign))
-        && matches!(tokens.kind(end), Some(Kind::Semicolon))
-        && matches!(tokens.kind(set), Some(Kind::Assign))
-        && tokens.word(right) == name
-        && text_of(tokens, right, end) == text_of(tokens, other, set);
-    if is_swap { Some(other) } else { None }
 }
 
 // The monoid that keeps the same number as a comparison, by the marks before and after what is
@@ -428,28 +412,29 @@ fn monoid_of(ahead: Option<Kind>, behind: Option<Kind>) -> Option<&'static str> 
 
 /// Returns what an `if` keeps in a reducer: it compares the value of the reducer at a token, and
 /// then sets the reducer or updates it.
-pub fn kept_by<'a>(tokens: &Tokens<'a>, reducer: usize) -> Option<Most<'a>> {
-    let monoid = monoid_of(
-        tokens.kind_back(reducer, 3),
-        tokens.kind(reducer.saturating_add(2)),
-    )?;
+pub fn kept_by<'a>(tokens: &Tokens<'a>, reducer: usize) -> Option<Taken<'a>> {
+    let ahead = tokens.kind_back(reducer, 3);
+    let monoid = monoid_of(ahead, tokens.kind(reducer.saturating_add(2)))?;
     let body = behind_head(tokens, condition_of(tokens, reducer)?);
     let first = match tokens.kind(body) {
         Some(Kind::OpenBrace) => body.saturating_add(1),
         _ => body,
     };
     let named = first.saturating_add(2);
-    if !matches!(tokens.kind(first), Some(Kind::Set | Kind::Update))
-        || tokens.word(named) != tokens.word(reducer)
-    {
-        return None;
-    }
+    let is_kept = matches!(tokens.kind(first), Some(Kind::Set | Kind::Update))
+        && tokens.word(named) == tokens.word(reducer);
     let number = named.saturating_add(2);
     let close = semicolon_at(tokens, number).saturating_sub(1);
-    Some(Most {
-        monoid,
-        number: text_of(tokens, number, close),
-    })
+    let amount = text_of(tokens, number, close);
+    if is_kept {
+        Some(Taken {
+            monoid,
+            amount,
+            ..NOTHING
+        })
+    } else {
+        None
+    }
 }
 
 // The `if` whose condition a token is in.
@@ -464,9 +449,10 @@ fn condition_of(tokens: &Tokens<'_>, number: usize) -> Option<usize> {
     None
 }
 
-/// Returns the array that is written at an index that has this name, where the name is a counter.
-pub fn filled<'a>(tokens: &Tokens<'a>, name: &[u8]) -> Option<&'a [u8]> {
-    let mut array = None;
+/// Returns the array that is written at an index that has this name, where the name is a counter; an
+/// empty name where none is.
+pub fn filled<'a>(tokens: &Tokens<'a>, name: &[u8]) -> &'a [u8] {
+    let mut array: &[u8] = &[];
     let mut is_counted = false;
     for number in 0..tokens.count() {
         let behind = behind_place(tokens, number);
@@ -474,9 +460,9 @@ pub fn filled<'a>(tokens: &Tokens<'a>, name: &[u8]) -> Option<&'a [u8]> {
             && matches!(tokens.kind(behind), Some(Kind::Assign))
             && has_name(tokens, number.saturating_add(1), behind, name)
         {
-            array = Some(tokens.word(number));
+            array = tokens.word(number);
         }
         is_counted = is_counted || adds(tokens, number, name).is_some();
     }
-    if is_counted { array } else { None }
+    if is_counted { array } else { &[] }
 }
