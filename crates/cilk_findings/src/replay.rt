@@ -5,13 +5,12 @@ ghost use Rattle.cilk_program.specs.Sources.{source};
 ghost use Rattle.cilk_serial.specs.SoFar.{IsIntact};
 ghost use Rattle.std.specs.Prelude.{OnOk};
 
-use crate::map::{BodyMap, TextMap};
+use crate::map::TextMap;
 use cilk_frames::operands::LastOperands;
 use cilk_lower::code::{Code, Instr};
 use cilk_program::program::{Body, Program};
 use cilk_program::syntax::ReducerPlace;
 use cilk_serial::serial_run::{Next, SerialRun, Target};
-use cilk_syntax::tree::Name;
 use cilk_types::event::Event;
 use cilk_types::fault::Fault;
 use cilk_types::input::Input;
@@ -170,31 +169,28 @@ impl<'a> Notes<'a> {
         Err(AllocError)
     }
 
-    // The step of an instruction of the current frame, by its place in the code.
+    // The step of an instruction of the current frame, by its place in the code. That of a parameter or
+    // reducer is where it is declared.
     fn step(&self, place: usize) -> StepNote {
-        let at = match self.declared_by(place) {
-            Some(name) => name.at,
-            None => self.code.origin(place),
+        let frame = self.frame;
+        let body = match self.replay.frames.get(frame) {
+            Some(note) => note.body,
+            None => NO_FRAME.body,
         };
-        StepNote {
-            frame: self.frame,
-            at,
-        }
-    }
-
-    // The parameter or reducer whose instruction is at a place.
-    fn declared_by(&self, place: usize) -> Option<Name> {
-        let note = self.replay.frames.get(self.frame)?;
-        let map: &BodyMap = self.map.body(note.body)?;
-        match self.code.instrs().get(place)? {
-            Instr::Word(number) => map.cells.get(*number as usize).copied(),
-            Instr::Create(reducer) => match reducer.place {
-                ReducerPlace::Global(number) => self.map.reducers.get(number as usize).copied(),
-                ReducerPlace::Own(_, number) => map.reducers.get(number as usize).copied(),
+        let named = match (self.code.instrs().get(place), self.map.body(body)) {
+            (Some(Instr::Word(number)), Some(map)) => map.cells.get(*number as usize),
+            (Some(Instr::Create(reducer)), Some(map)) => match reducer.place {
+                ReducerPlace::Global(number) => self.map.reducers.get(number as usize),
+                ReducerPlace::Own(_, number) => map.reducers.get(number as usize),
                 ReducerPlace::Given(_, _) => None,
             },
             _ => None,
-        }
+        };
+        let at = match named {
+            Some(name) => name.at,
+            None => self.code.origin(place),
+        };
+        StepNote { frame, at }
     }
 
     // Notes an event, with the place of its instruction and what the frame that it begins runs.

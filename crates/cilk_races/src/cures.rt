@@ -9,7 +9,7 @@ use crate::uses::{
     semicolon_at, swap_of, takes, text_of,
 };
 use cilk_findings::partings::{end_of, loop_round, parted_at, statement_of};
-use cilk_findings::replay::{FrameNote, NO_FRAME};
+use cilk_findings::replay::FrameNote;
 use cilk_findings::scene::Scene;
 use cilk_messages::reasons::cure_of as cure_of_number;
 use cilk_messages::sentence::{Part, Sentence, say};
@@ -102,7 +102,7 @@ const RANGES: u32 = 1 << 29;
 const OTHER: u32 = 1 << 30;
 
 // A rule without words is for what a reducer takes: where it is declared, and how it takes that.
-const RULES: [Rule; 45] = [
+const RULES: &[Rule] = &[
     (VIEW | TAKEN, 0, "KEPT", ""),
     (VIEW | SET, BEHIND, "OWN_SUM", "OWN_REDUCER"),
     (VIEW | TURNS, 0, "AFTER_LOOP", ""),
@@ -189,9 +189,9 @@ struct Site<'a, 't> {
     earlier: usize,
     /// The token from which the race's later event comes.
     at: usize,
-    /// The child of the common frame that the later event is in, its function, and where it leaves
-    /// the common frame.
-    branch: Option<usize>,
+    /// The child of the common frame that the later event is in, 0 for none, its function, and where it
+    /// leaves the common frame.
+    branch: usize,
     beside: &'a [u8],
     leaving: usize,
     /// The variable of the loop whose turns race, its first number, and that after its last one.
@@ -214,10 +214,11 @@ fn sum_of(facts: &[(u32, bool)]) -> u32 {
 impl<'a, 't> Site<'a, 't> {
     fn of(scene: &Scene<'a>, tokens: &'t Tokens<'a>, pair: Pair, event: usize) -> Site<'a, 't> {
         let at = tokens.number_at(scene.byte_of(event));
-        let branch = scene.child_of(pair.common, pair.second);
-        let (beside, leaving) = match branch {
-            Some(branch) => (branch, scene.note(branch).invoked_at),
-            None => (0, scene.byte_of(pair.later)),
+        let branch = scene.child_of(pair.common, pair.second).unwrap_or(0);
+        let leaving = if branch > 0 {
+            scene.note(branch).invoked_at
+        } else {
+            scene.byte_of(pair.later)
         };
         let (variable, low, high) = turns_of(scene, pair.common);
         let (name, index, length, kind) = named(scene, event);
@@ -234,7 +235,7 @@ impl<'a, 't> Site<'a, 't> {
             earlier: statement_of(tokens, tokens.number_at(scene.byte_of(pair.earlier))),
             at,
             branch,
-            beside: scene.function_of(beside),
+            beside: scene.function_of(branch),
             leaving,
             variable,
             low,
@@ -245,7 +246,7 @@ impl<'a, 't> Site<'a, 't> {
     // The first cure whose rule fits the facts.
     fn way(&self) -> Way {
         let facts = self.facts | self.facts_of_accesses() | self.facts_of_variable();
-        for (needs, bars, first, second) in RULES {
+        for &(needs, bars, first, second) in RULES {
             if facts & needs == needs && facts & bars == 0 {
                 return if needs == TAKEN {
                     self.taken_way()
@@ -266,6 +267,7 @@ impl<'a, 't> Site<'a, 't> {
             name,
             later,
             earlier,
+            branch,
             ..
         } = *self;
         let is_view = facts & VIEW != 0;
@@ -292,7 +294,10 @@ impl<'a, 't> Site<'a, 't> {
                 has_name(tokens, at.saturating_add(2), behind, self.variable),
             ),
             (SPAWN, matches!(tokens.kind(later), Some(Kind::CilkSpawn))),
-            (RANGES, is_array && self.is_in_ranges()),
+            (
+                RANGES,
+                is_array && self.is_in_range(self.pair.child) && self.is_in_range(branch),
+            ),
             (OTHER, called != self.beside),
         ])
     }
@@ -563,25 +568,18 @@ impl<'a> Site<'a, '_> {
         }
     }
 
-    // Whether both calls have the index between two of their arguments, one after the other.
-    fn is_in_ranges(&self) -> bool {
-        let Some(branch) = self.branch else {
-            return false;
-        };
+    // Whether a call has the index between two of its arguments, one after the other.
+    fn is_in_range(&self, frame: usize) -> bool {
         let index = i64::try_from(self.index).unwrap_or(i64::MAX);
-        for frame in [self.pair.child, branch] {
-            let mut is_in = false;
-            for place in 1..self.scene.words_of(frame) {
-                let from = self.scene.argument(frame, place.saturating_sub(1));
-                if let (Some(from), Some(upto)) = (from, self.scene.argument(frame, place)) {
-                    is_in = is_in || from <= index && index <= upto;
+        for place in 1..self.scene.words_of(frame) {
+            let from = self.scene.argument(frame, place.saturating_sub(1));
+            if let (Some(from), Some(upto)) = (from, self.scene.argument(frame, place)) {
+                if from <= index && index <= upto {
+                    return true;
                 }
             }
-            if !is_in {
-                return false;
-            }
         }
-        true
+        false
     }
 }
 
@@ -679,7 +677,7 @@ fn named<'a>(scene: &Scene<'a>, event: usize) -> (&'a [u8], usize, usize, u32) {
 }
 
 // What the frames and events tell.
-fn facts_of(scene: &Scene<'_>, pair: &Pair, event: usize, branch: Option<usize>) -> u32 {
+fn facts_of(scene: &Scene<'_>, pair: &Pair, event: usize, branch: usize) -> u32 {
     let is_turn = pair.is_in_turns(scene);
     let is_result = scene.run.gives_result(pair.later);
     let second = if is_result {
@@ -687,11 +685,8 @@ fn facts_of(scene: &Scene<'_>, pair: &Pair, event: usize, branch: Option<usize>)
     } else {
         pair.second
     };
-    let beside = match branch {
-        Some(branch) => scene.note(branch),
-        None => NO_FRAME,
-    };
-    let is_again = beside.body == scene.note(pair.child).body && branch.is_some();
+    let beside = scene.note(branch);
+    let is_again = beside.body == scene.note(pair.child).body;
     sum_of(&[
         (BEHIND, event == pair.later && !is_turn),
         (TURNS, is_turn),
@@ -699,7 +694,10 @@ fn facts_of(scene: &Scene<'_>, pair: &Pair, event: usize, branch: Option<usize>)
             CALLED,
             scene.around(second).0 != scene.around(pair.common).0,
         ),
-        (BESIDE, is_again || beside.how == Invocation::Spawn),
+        (
+            BESIDE,
+            branch > 0 && (is_again || beside.how == Invocation::Spawn),
+        ),
         (
             EARLIER,
             matches!(scene.access(pair.earlier), Some((_, true))),
