@@ -5,7 +5,7 @@
 use crate::pair::{Pair, Race, name_of};
 use crate::texts::text;
 use crate::uses::{
-    NOTHING, Taken, adds, behind_place, filled, has_name, has_part, kept_by, multiplies,
+    NOTHING, Taken, adds, behind_place, filled, has_name, has_part, is_at, kept_by, multiplies,
     semicolon_at, swap_of, takes, text_of,
 };
 use cilk_findings::partings::{end_of, loop_round, parted_at, statement_of};
@@ -293,7 +293,7 @@ impl<'a, 't> Site<'a, 't> {
                 INDEXED,
                 has_name(tokens, at.saturating_add(2), behind, self.variable),
             ),
-            (SPAWN, matches!(tokens.kind(later), Some(Kind::CilkSpawn))),
+            (SPAWN, is_at(tokens, later, "cilk_spawn")),
             (
                 RANGES,
                 is_array && self.is_in_range(self.pair.child) && self.is_in_range(branch),
@@ -319,11 +319,10 @@ impl<'a, 't> Site<'a, 't> {
         let (own, is_running) = self.in_loop();
         let is_taken = self.taken_at(later).is_some();
         let was_taken = self.taken_at(earlier).is_some();
-        let is_head = matches!(tokens.kind_back(own, 2), Some(Kind::For));
         sum_of(&[
             (NAMELESS, name.is_empty()),
             (OWN, is_turn && own > 0),
-            (HEAD, is_head),
+            (HEAD, is_at(tokens, own.saturating_sub(2), "for")),
             (FILLED, !filled(tokens, name).is_empty()),
             (
                 PRODUCT,
@@ -415,7 +414,7 @@ impl<'a, 't> Site<'a, 't> {
         for number in first..end_of(tokens, first) {
             if tokens.word(number) == name {
                 let right = number.saturating_add(2);
-                let is_set = matches!(tokens.kind_behind(number), Some(Kind::Assign))
+                let is_set = is_at(tokens, number.saturating_add(1), "=")
                     && !has_name(tokens, right, semicolon_at(tokens, right), name);
                 if is_set && set == 0 && !is_read {
                     set = number;
@@ -445,9 +444,10 @@ impl<'a> Site<'a, '_> {
         } else {
             self.later
         };
-        let at = match tokens.kind(at) {
-            Some(Kind::Increment | Kind::Decrement) => at.saturating_add(1),
-            _ => at,
+        let at = if is_at(tokens, at, "++ --") {
+            at.saturating_add(1)
+        } else {
+            at
         };
         (at, behind_place(tokens, at).saturating_sub(1))
     }
@@ -485,8 +485,12 @@ impl<'a> Site<'a, '_> {
         };
         match loop_round(tokens, at) {
             Some(inner) if inner > self.loop_token() => {
-                let declared = matches!(tokens.kind(inner.saturating_add(2)), Some(Kind::Int));
-                tokens.word(inner.saturating_add(if declared { 3 } else { 2 }))
+                let named = inner.saturating_add(2);
+                tokens.word(if is_at(tokens, named, "int") {
+                    named.saturating_add(1)
+                } else {
+                    named
+                })
             }
             _ => &[],
         }
@@ -525,10 +529,10 @@ impl<'a> Site<'a, '_> {
                 && text_of(tokens, number, behind) == place
             {
                 let compared = tokens.kind_behind(behind);
-                return match tokens.kind(behind) {
-                    Some(Kind::Equal) => true,
-                    Some(Kind::Less) => matches!(compared, Some(Kind::Number(_) | Kind::Minus)),
-                    _ => matches!(tokens.kind_back(number, 1), Some(Kind::Not)),
+                return if is_at(tokens, behind, "<") {
+                    matches!(compared, Some(Kind::Number(_) | Kind::Minus))
+                } else {
+                    is_at(tokens, behind, "==") || is_at(tokens, number.saturating_sub(1), "!")
                 };
             }
         }
@@ -596,7 +600,7 @@ impl<'a> Site<'a, '_> {
     // Whether the text sets a reducer with this name.
     fn is_set(&self) -> bool {
         for number in 0..self.tokens.count() {
-            if matches!(self.tokens.kind(number), Some(Kind::Set))
+            if is_at(self.tokens, number, "set")
                 && self.tokens.word(number.saturating_add(2)) == self.name
             {
                 return true;

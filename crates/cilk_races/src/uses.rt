@@ -29,6 +29,11 @@ pub const NOTHING: Taken<'static> = Taken {
     again: &[],
 };
 
+/// Returns whether a token is one of these words, which blanks separate.
+pub fn is_at(tokens: &Tokens<'_>, number: usize, words: &str) -> bool {
+    is_among(words, tokens.word(number))
+}
+
 /// Returns the text from a token up to, but without, another one.
 pub fn text_of<'a>(tokens: &Tokens<'a>, from: usize, upto: usize) -> &'a [u8] {
     let last = upto.saturating_sub(1);
@@ -77,7 +82,7 @@ pub fn adds<'a>(
     first: usize,
     name: &[u8],
 ) -> Option<(&'static str, &'a [u8])> {
-    let is_ahead = matches!(tokens.kind(first), Some(Kind::Increment | Kind::Decrement));
+    let is_ahead = is_at(tokens, first, "++ --");
     let named = if is_ahead {
         first.saturating_add(1)
     } else {
@@ -197,12 +202,13 @@ pub fn takes<'a>(tokens: &Tokens<'a>, first: usize, name: &'a [u8]) -> Option<Ta
 
 // The name in an assignment to it: the statement at a token, or the first one in that `if`.
 fn assignment_of(tokens: &Tokens<'_>, first: usize, name: &[u8]) -> Option<usize> {
-    let upto = match tokens.kind(first) {
-        Some(Kind::If) => end_of(tokens, first),
-        _ => first.saturating_add(1),
+    let upto = if is_at(tokens, first, "if") {
+        end_of(tokens, first)
+    } else {
+        first.saturating_add(1)
     };
     for number in first..upto {
-        if tokens.word(number) == name && matches!(tokens.kind_behind(number), Some(Kind::Assign)) {
+        if tokens.word(number) == name && is_at(tokens, number.saturating_add(1), "=") {
             return Some(number);
         }
     }
@@ -256,7 +262,7 @@ pub fn has_part(word: &[u8], part: &[u8]) -> bool {
 fn asked_at(tokens: &Tokens<'_>, start: usize, name: &[u8]) -> Option<usize> {
     let mut found = None;
     for head in 0..start {
-        if matches!(tokens.kind(head), Some(Kind::If)) && start < end_of(tokens, head) {
+        if is_at(tokens, head, "if") && start < end_of(tokens, head) {
             for number in head..behind_head(tokens, head) {
                 if tokens.word(number) == name {
                     found = Some(number);
@@ -276,15 +282,10 @@ fn compared<'a>(
     end: usize,
     set: Taken<'a>,
 ) -> Option<Taken<'a>> {
-    let ahead = tokens.kind_back(asked, 1);
-    let behind = tokens.kind_behind(asked);
-    let (is_behind, is_equal) = match behind {
-        Some(Kind::Less | Kind::LessEqual | Kind::Greater | Kind::GreaterEqual) => (true, false),
-        Some(Kind::Equal) => (true, true),
-        _ => (false, false),
-    };
-    let is_equal = is_equal || matches!(ahead, Some(Kind::Not | Kind::Equal));
-    let (from, upto) = if is_behind {
+    let ahead = tokens.word_back(asked, 1);
+    let behind = tokens.word(asked.saturating_add(1));
+    let is_equal = is_among("==", behind) || is_among("! ==", ahead);
+    let (from, upto) = if is_among("< <= > >= ==", behind) {
         part_at(tokens, asked.saturating_add(2), false)
     } else {
         part_at(tokens, asked.saturating_sub(1), true)
@@ -384,9 +385,9 @@ pub fn swap_of(tokens: &Tokens<'_>, statement: usize, name: &[u8]) -> Option<(us
         let set = behind_place(tokens, other);
         let is_swap = tokens.word(one) == name
             && tokens.word(right) == name
-            && matches!(tokens.kind(mark), Some(Kind::Assign))
-            && matches!(tokens.kind(end), Some(Kind::Semicolon))
-            && matches!(tokens.kind(set), Some(Kind::Assign))
+            && is_at(tokens, mark, "=")
+            && is_at(tokens, end, ";")
+            && is_at(tokens, set, "=")
             && text_of(tokens, right, end) == text_of(tokens, other, set);
         if is_swap {
             let kept = statement_of(tokens, one.saturating_sub(1));
@@ -400,29 +401,33 @@ pub fn swap_of(tokens: &Tokens<'_>, statement: usize, name: &[u8]) -> Option<(us
 
 // The monoid that keeps the same number as a comparison, by the marks before and after what is
 // compared.
-fn monoid_of(ahead: Option<Kind>, behind: Option<Kind>) -> Option<&'static str> {
-    match (ahead, behind) {
-        (Some(Kind::Greater | Kind::GreaterEqual), _) => Some("max"),
-        (Some(Kind::Less | Kind::LessEqual), _) => Some("min"),
-        (_, Some(Kind::Less | Kind::LessEqual)) => Some("max"),
-        (_, Some(Kind::Greater | Kind::GreaterEqual)) => Some("min"),
-        _ => None,
+fn monoid_of(ahead: &[u8], behind: &[u8]) -> Option<&'static str> {
+    if is_among("> >=", ahead) {
+        Some("max")
+    } else if is_among("< <=", ahead) {
+        Some("min")
+    } else if is_among("< <=", behind) {
+        Some("max")
+    } else if is_among("> >=", behind) {
+        Some("min")
+    } else {
+        None
     }
 }
 
 /// Returns what an `if` keeps in a reducer: it compares the value of the reducer at a token, and
 /// then sets the reducer or updates it.
 pub fn kept_by<'a>(tokens: &Tokens<'a>, reducer: usize) -> Option<Taken<'a>> {
-    let ahead = tokens.kind_back(reducer, 3);
-    let monoid = monoid_of(ahead, tokens.kind(reducer.saturating_add(2)))?;
+    let ahead = tokens.word_back(reducer, 3);
+    let monoid = monoid_of(ahead, tokens.word(reducer.saturating_add(2)))?;
     let body = behind_head(tokens, condition_of(tokens, reducer)?);
-    let first = match tokens.kind(body) {
-        Some(Kind::OpenBrace) => body.saturating_add(1),
-        _ => body,
+    let first = if is_at(tokens, body, "{") {
+        body.saturating_add(1)
+    } else {
+        body
     };
     let named = first.saturating_add(2);
-    let is_kept = matches!(tokens.kind(first), Some(Kind::Set | Kind::Update))
-        && tokens.word(named) == tokens.word(reducer);
+    let is_kept = is_at(tokens, first, "set update") && tokens.word(named) == tokens.word(reducer);
     let number = named.saturating_add(2);
     let close = semicolon_at(tokens, number).saturating_sub(1);
     let amount = text_of(tokens, number, close);
@@ -442,7 +447,7 @@ fn condition_of(tokens: &Tokens<'_>, number: usize) -> Option<usize> {
     let mut at = number;
     for _level in 0..number {
         at = head_of(tokens, at)?;
-        if let Some(Kind::If) = tokens.kind(at) {
+        if is_at(tokens, at, "if") {
             return Some(at);
         }
     }
@@ -456,9 +461,10 @@ pub fn filled<'a>(tokens: &Tokens<'a>, name: &[u8]) -> &'a [u8] {
     let mut is_counted = false;
     for number in 0..tokens.count() {
         let behind = behind_place(tokens, number);
-        if matches!(tokens.kind_behind(number), Some(Kind::OpenBracket))
-            && matches!(tokens.kind(behind), Some(Kind::Assign))
-            && has_name(tokens, number.saturating_add(1), behind, name)
+        let next = number.saturating_add(1);
+        if is_at(tokens, next, "[")
+            && is_at(tokens, behind, "=")
+            && has_name(tokens, next, behind, name)
         {
             array = tokens.word(number);
         }
