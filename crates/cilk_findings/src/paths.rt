@@ -58,28 +58,31 @@ impl<'a> Scene<'a> {
         frame: usize,
         top: Option<usize>,
     ) -> Result<(), AllocError> {
-        let length = self.length(frame, top);
-        let mut at = frame;
-        let mut passed: usize = 0;
-        for line in 0..length {
-            if passed >= length {
-                break;
-            }
-            if line == SHOWN {
-                let more = say("  and {} frame{} more\n").counted(length.saturating_sub(passed));
-                return self.push(report, &more);
-            }
-            let (last, count) = self.row_from(at, top);
-            self.push_row(report, at, last, count)?;
-            passed = passed.saturating_add(count);
-            at = self.next_above(last, top).unwrap_or(0);
+        let mut at = if Some(frame) == top {
+            None
+        } else {
+            Some(frame)
+        };
+        for _line in 0..SHOWN {
+            let Some(first) = at else {
+                return Ok(());
+            };
+            let (last, count, next) = self.row_from(first, top);
+            self.push_row(report, first, last, count)?;
+            at = next;
         }
-        Ok(())
+        match at {
+            Some(first) => {
+                let more = say("  and {} frame{} more\n").counted(self.length(first, top));
+                self.push(report, &more)
+            }
+            None => Ok(()),
+        }
     }
 
     // The last frame of the longest row that begins with a frame, and their number: each runs one function
-    // and is invoked at one place.
-    fn row_from(&self, first: usize, top: Option<usize>) -> (usize, usize) {
+    // and is invoked at one place. Then the frame after the row.
+    fn row_from(&self, first: usize, top: Option<usize>) -> (usize, usize, Option<usize>) {
         let FrameNote {
             body,
             invoked_at,
@@ -87,16 +90,18 @@ impl<'a> Scene<'a> {
         } = self.note(first);
         let mut last = first;
         let mut count: usize = 1;
+        let mut next = self.next_above(first, top);
         for _level in 0..self.run.replay.frames.len() {
-            let next = self.next_above(last, top).unwrap_or(0);
-            let note = self.note(next);
-            if next == 0 || note.body != body || note.invoked_at != invoked_at {
+            let above = next.unwrap_or(0);
+            let note = self.note(above);
+            if above == 0 || note.body != body || note.invoked_at != invoked_at {
                 break;
             }
-            last = next;
+            last = above;
             count = count.saturating_add(1);
+            next = self.next_above(last, top);
         }
-        (last, count)
+        (last, count, next)
     }
 
     fn push_row(
@@ -162,10 +167,9 @@ impl<'a> Scene<'a> {
     pub fn argument(&self, frame: usize, place: usize) -> Option<i64> {
         let note = self.note(frame);
         let wanted = note.cell.saturating_add(place);
-        let events = self.run.trace.as_slice().iter();
-        for event in events.skip(note.begun).take(ARRIVING) {
-            match *event {
-                Event::Write { cell, value } if cell as usize == wanted => return Some(value),
+        for index in note.begun..note.begun.saturating_add(ARRIVING) {
+            match self.run.event(index) {
+                Some(Event::Write { cell, value }) if cell as usize == wanted => return Some(value),
                 _ => {}
             }
         }

@@ -260,18 +260,3 @@ impl<'a> Notes<'a> {
         }
     }
 }
-
-impl Replay {
-    /// Returns the frame that has a cell, and the cell's number within that frame.
-    pub fn owner(&self, cell: usize) -> Option<(usize, usize)> {
-        let mut found = None;
-        let mut number: usize = 0;
-        for frame in &self.frames {
-            if frame.cell <= cell {
-                found = Some((number, cell.saturating_sub(frame.cell)));
-            }
-            number = number.saturating_add(1);
-        }
-        found
-    }
-}

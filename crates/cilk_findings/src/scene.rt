@@ -1,11 +1,11 @@
 //! A case with its run: the frames, places and names that a report speaks of.
 
 use crate::case::Case;
-use crate::map::{BodyMap, GlobalName};
+use crate::map::GlobalName;
 use crate::replay::{FrameNote, NO_FRAME};
 use crate::runs::Run;
 use cilk_messages::excerpt::push_excerpt;
-use cilk_messages::place::locate;
+use cilk_messages::place::{between, locate};
 use cilk_messages::sentence::{Part, Sentence, say};
 use cilk_program::program::Body;
 use cilk_syntax::tree::Name;
@@ -155,10 +155,7 @@ impl<'a> Scene<'a> {
 impl<'a> Scene<'a> {
     /// Returns the bytes of a name.
     pub fn word(&self, name: Name) -> &'a [u8] {
-        match self.case.text.get(name.at..name.end) {
-            Some(word) => word,
-            None => &[],
-        }
+        between(self.case.text, name.at, name.end)
     }
 
     /// Returns the name of a body; `cilk_for` for a loop.
@@ -176,9 +173,21 @@ impl<'a> Scene<'a> {
 
     /// Returns the frame that has the variable of a cell, and the variable's name.
     pub fn variable(&self, cell: usize) -> Option<(usize, Name)> {
-        let (frame, number) = self.run.replay.owner(cell)?;
-        let map: &BodyMap = self.case.map.body(self.note(frame).body)?;
-        Some((frame, map.cells.get(number).copied()?))
+        let mut owner: usize = 0;
+        for frame in 0..self.run.replay.frames.len() {
+            if self.note(frame).cell <= cell {
+                owner = frame;
+            }
+        }
+        let note = self.note(owner);
+        let name = match self.case.map.body(note.body) {
+            Some(map) => map.cells.get(cell.saturating_sub(note.cell)),
+            None => None,
+        };
+        match name {
+            Some(name) => Some((owner, *name)),
+            None => None,
+        }
     }
 
     /// Returns the global that has a cell, if a global has it.
@@ -193,8 +202,8 @@ impl<'a> Scene<'a> {
     /// Returns the name with which a reducer is declared. The first frame numbers the global
     /// reducers before its own.
     pub fn reducer(&self, instance: Instance) -> Option<Name> {
-        let place = (instance.place as usize).checked_sub(1)?;
-        let frame = (instance.frame as usize).checked_sub(1)?;
+        let place = (instance.place as usize).saturating_sub(1);
+        let frame = (instance.frame as usize).saturating_sub(1);
         let globals = if frame == 0 {
             self.case.map.reducers.len()
         } else {
@@ -203,8 +212,10 @@ impl<'a> Scene<'a> {
         if place < globals {
             return self.case.map.reducers.get(place).copied();
         }
-        let map: &BodyMap = self.case.map.body(self.note(frame).body)?;
-        map.reducers.get(place.saturating_sub(globals)).copied()
+        match self.case.map.body(self.note(frame).body) {
+            Some(map) => map.reducers.get(place.saturating_sub(globals)).copied(),
+            None => None,
+        }
     }
 
     /// Returns the cell that an event reads or writes, and whether it writes.
@@ -265,11 +276,11 @@ impl<'a> Scene<'a> {
     /// Returns the name of a loop's variable.
     pub fn turn_variable(&self, body: Body) -> &'a [u8] {
         let variable = match self.case.map.body(body) {
-            Some(BodyMap { cells, .. }) => cells.first().copied(),
+            Some(map) => map.cells.first(),
             None => None,
         };
         match variable {
-            Some(name) => self.word(name),
+            Some(name) => self.word(*name),
             None => &[],
         }
     }
