@@ -169,20 +169,33 @@ pub fn takes<'a>(tokens: &Tokens<'a>, first: usize, name: &'a [u8]) -> Option<Ta
             ..taken
         });
     }
-    if let Some((monoid, amount)) = called(tokens, right, end, name) {
-        return Some(Taken {
+    match called(tokens, right, end, name) {
+        Some((monoid, amount)) => Some(Taken {
             monoid,
             words: "MOST",
             amount,
             ..taken
-        });
+        }),
+        None => set_to(tokens, start, right, end, taken),
     }
+}
+
+// The same for an assignment at a token, whose right side doesn't have the variable.
+fn set_to<'a>(
+    tokens: &Tokens<'a>,
+    start: usize,
+    right: usize,
+    end: usize,
+    taken: Taken<'a>,
+) -> Option<Taken<'a>> {
+    let name = taken.again;
     if has_name(tokens, right, end, name) {
         return None;
     }
     let amount = text_of(tokens, right, end);
+    let monoid = set_by(tokens, right);
     let set = Taken {
-        monoid: set_by(tokens, right),
+        monoid,
         words: "FLAG",
         amount,
         ..taken
