@@ -1,5 +1,5 @@
 #!/usr/bin/env python3
-"""Makes docs/man/cilk.1 of the help that the program writes (crates/cilk_report/src/help.rt).
+"""Makes docs/man/cilk.1 of the help that the program writes (crates/cilk_messages/src/help.rt).
 
 man_page.py            says whether the page is that of the help; its status is 0 where it is
 man_page.py --write    writes it
@@ -11,7 +11,7 @@ import sys
 import textwrap
 
 TOP = os.path.dirname(os.path.dirname(os.path.realpath(__file__)))
-SOURCE = f"{TOP}/crates/cilk_report/src/help.rt"
+SOURCE = f"{TOP}/crates/cilk_messages/src/help.rt"
 PAGE = f"{TOP}/docs/man/cilk.1"
 FORMATTED = ("Status", "Limits of a run")
 TEXT = r'"((?:[^"\\]|\\.)*)"'

@@ -1,1 +1,3 @@
 pub mod Entered
+pub mod Formed
+pub mod Plain

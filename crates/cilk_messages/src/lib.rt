@@ -28,6 +28,9 @@
 //! | [`sentence::say`] | a sentence with gaps, and the parts that fill them |
 //! | [`sites::enclosing`] and others | the surroundings of a token |
 //! | [`words::read`] | the command line as an order: `run`, `certify`, `check`, `play`, `settle` or `judge` |
+//! | [`asked`], [`flags`], [`batch`] | command lines of `measure`, `schedule` and `settle`, and words that add a text |
+//! | [`about::answer_about`] | the answer to a command line about the tool: its help, a number, its version |
+//! | [`raced::Raced`] | the race of a trace, by a table of sites ([`table::Sites`]) |
 //!
 //! ```text
 //! match read(alloc, &["run", "fib.c"])? {
@@ -38,19 +41,27 @@
 //! model of simple commands.
 #![tactic(auto)]
 
+pub mod about;
 pub mod around;
+pub mod asked;
 mod at_hand;
+pub mod batch;
 mod certain;
 mod cleaned;
 pub mod excerpt;
+pub mod flags;
 mod forms;
 mod further;
 mod gone;
+pub mod help;
 pub mod hints;
 mod kinds;
 mod marks;
+pub mod named;
+pub mod numbered;
 mod numbers;
 pub mod place;
+pub mod raced;
 pub mod reasons;
 pub mod report;
 mod rules;
@@ -58,7 +69,9 @@ pub mod sentence;
 mod sentences;
 mod site;
 pub mod sites;
+pub mod sizes;
 mod spelling;
+pub mod table;
 pub mod tokens;
 mod unended;
 mod uses;

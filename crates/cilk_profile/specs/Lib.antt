@@ -2,4 +2,3 @@ pub mod Burdened
 pub mod Measured
 pub mod Measures
 pub mod Table
-pub mod Words

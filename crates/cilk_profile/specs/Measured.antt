@@ -2,7 +2,7 @@
 use Rattle.std.specs.Prelude.{◌≡◌, ℕ, Bool, true, ◌||◌, IsFalse, List, ◌++◌, cond, Option, codes}
 use Rattle.cilk_profile.specs.declared.totals.Totals.{Totals}
 use Rattle.cilk_profile.specs.Table.{totals_text}
-use Rattle.cilk_profile.specs.Words.{Text, asks}
+use Rattle.cilk_messages.specs.Asked.{Text, asks}
 use Rattle.cilk_profile.specs.declared.table.TheConstants.{BLANK, COMMA}
 use Rattle.cilk_profile.specs.declared.text.NoText.{NoText}
 use Rattle.cilk_profile.specs.declared.text.NoText.TheVariants as reasons

@@ -46,11 +46,10 @@ mod table;
 mod text;
 mod totals;
 mod tracing;
-mod words;
 
 pub use cilk_findings::kept::{CaseTexts, Kept};
+pub use cilk_messages::asked::asks;
 pub use rows::push_cells;
 pub use text::{NoText, text_of};
 pub use totals::{Totals, measure, totals_of};
 pub use tracing::push_trace;
-pub use words::asks;

@@ -4,11 +4,11 @@ ghost use Rattle.std.specs.Prelude.{◌≡◌, IfErr, IfOk};
 ghost use Rattle.cilk_profile.specs.Measured.{IsAboutPictures, IsMeasureText, IsTable, is_drawn, mark_in};
 ghost use Rattle.cilk_messages.specs.Words.{texts};
 
+use crate::asks;
 use crate::drawing::{profile_of, tree_of_run};
 use crate::rows::push_tables;
 use crate::table::{BLANK, COMMA, totals_text};
 use crate::totals::Totals;
-use crate::words::asks;
 use cilk_findings::case::Case;
 use cilk_findings::fault::CaseFault;
 use cilk_findings::kept::{CaseTexts, Kept};

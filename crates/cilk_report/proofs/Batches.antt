@@ -19,9 +19,10 @@ use Rattle.cilk_commands.specs.declared.reply.Failure.TheVariants as failures
 use Rattle.cilk_report.proofs.Measuring.{Told, complains}
 use Rattle.cilk_report.proofs.Replies.{of_kept, silence}
 use Rattle.cilk_report.specs.Explained.{NoPrograms, NoRoom, Settles}
-use Rattle.cilk_report.specs.Settling.{Done, Fails, Last, Next, SettlesEach, Shows, State, batch_in, reply_view}
+use Rattle.cilk_report.specs.Settling.{Done, Fails, Last, Next, SettlesEach, Shows, State, reply_view}
+use Rattle.cilk_messages.specs.Batches.{batch_in}
 use Rattle.cilk_messages.specs.Words.{texts}
-use Rattle.cilk_report.specs.declared.settling.Form.{Form}
+use Rattle.cilk_messages.specs.declared.batch.Form.{Form}
 
 pub greatest : (a b r : ℕ) → r ≡ ord_max nat_cmp a b → r ≡ max a b
 greatest a b r is = grind (arith, is)

@@ -10,7 +10,7 @@
 use Rattle.std.proofs.Common.{◌≡◌, ℕ, List, Bool, true, Option, Some, None, refl, sym, ap, subst, inl, inr, ◌∙◌}
 use Rattle.std.proofs.lemmas.Bool.{true≢false}
 use Rattle.std.specs.Prelude.{IsSome}
-use Rattle.cilk_report.specs.Words.{measured_run, run_of, words_of_run}
+use Rattle.cilk_messages.specs.Asked.{measured_run, run_of, words_of_run}
 use Rattle.cilk_report.specs.Explained.{Complains, Follows, IsNoOutcome, Measures, OutOfMemory, Undrawn, Unmeasured, Unnamed}
 use Rattle.cilk_report.specs.Measured.{AreTotalsOf, TellsWhy}
 use Rattle.cilk_profile.specs.Measured.{IsAboutPictures, is_drawn}

@@ -10,7 +10,8 @@
 -- - `of_kept`: a call of `keep` changes nothing that is stated of the files;
 -- - `reread`: a reply after which a trace is read again doesn't depend on failed reads.
 use Rattle.std.proofs.Common.{◌≡◌, ℕ, Bool, true, false, Option, Some, None, [], List, refl, sym, ap, subst, ◌∙◌}
-use Rattle.cilk_report.specs.Explained.{Follows, IsReadAgain, Served, ServesExplained, Settling, explains_itself}
+use Rattle.cilk_report.specs.Explained.{Follows, IsReadAgain, Served, ServesExplained, Settling}
+use Rattle.cilk_messages.specs.Asked.{explains_itself}
 use Rattle.cilk_commands.proofs.Replying.{ends, fails, keeps, no_memory}
 use Rattle.cilk_commands.specs.Files.{Failures}
 use Rattle.cilk_commands.specs.Replies.{Accepted, BadInput, BadProgram, BadScript, BadTrace, BadWords, Certified, Changed, Ended, Faulted, FaultedIn, NoMemory, NotEnded, RaceFree, Refused, Reply, Settled, Text, Unreadable, failure_view, status_of}

@@ -13,20 +13,11 @@ use Rattle.cilk_commands.specs.declared.reply.TheConstants.{NO_MEMORY}
 use Rattle.cilk_messages.specs.Words.{Judge, Origin, Requested, Settle, order_in}
 use Rattle.cilk_profile.specs.Measured.{IsMeasureText, is_drawn}
 use Rattle.cilk_report.specs.Measured.{AreTotalsOf}
-use Rattle.cilk_report.specs.Settling.{Batch, SettlesEach, batch_in, is_settling, state}
-use Rattle.cilk_report.specs.Words.{behind_first, is_help as asks_help, is_measure, is_option, measured_run}
-use Rattle.cilk_report.specs.declared.about.About.{About as AboutAnswer}
-use Rattle.cilk_report.specs.declared.about.About.TheVariants as answers
-
--- the word `--explain`
-abbrev pub is_flag : Text → Bool
-is_flag word = bytes_eq word (codes "--explain")
-
--- an order that is explained without `--explain`: to settle a program, or to judge a trace with a table of its sites
-abbrev pub explains_itself : Option Requested → Bool
-explains_itself (Some (Settle program input)) = true
-explains_itself (Some (Judge trace (Some sites))) = true
-explains_itself _ = false
+use Rattle.cilk_report.specs.Settling.{SettlesEach, state}
+use Rattle.cilk_messages.specs.Batches.{Batch, batch_in, is_settling}
+use Rattle.cilk_messages.specs.Asked.{behind_first, is_help as asks_help, is_measure, is_option, measured_run}
+use Rattle.cilk_messages.specs.declared.about.About.{About as AboutAnswer}
+use Rattle.cilk_messages.specs.declared.about.About.TheVariants as answers
 
 -- a trace has a fault
 abbrev pub IsTraceFault : Reply → Type 0
@@ -38,76 +29,6 @@ abbrev pub IsReadAgain : Option Requested → Reply → Type 0
 IsReadAgain (Some (Judge trace sites)) (Refused number places) = Unit {0}
 IsReadAgain (Some (Judge trace sites)) (BadTrace number at) = Unit {0}
 IsReadAgain _ _ = ⊥
-
--- a word of a command adds a text: `--explain`, `--trace` of `play`, `--stats` of `threads`
-abbrev pub marks : Text → Text → Bool
-marks command word =
-    is_flag word || ((bytes_eq command (codes "play") && bytes_eq word (codes "--trace"))
-    || (bytes_eq command (codes "threads") && bytes_eq word (codes "--stats")))
-
--- these words of a command without each of those
-abbrev pub unmarked : Text → List Text → List Text
-unmarked command words = filter (λ w. not (marks command w)) words
-
--- the word `--why` of `settle`, followed by a number
-abbrev pub is_why : Text → Text → List Text → Bool
-is_why command word [] = false
-is_why command word (number ∷ words) = bytes_eq command (codes "settle") && (bytes_eq word (codes "--why") && all_digits number)
-
--- these words of a command without the first `--why` and its number
-abbrev pub without_why : Text → List Text → List Text
-without_why command [] = []
-without_why command (word ∷ words) = cond (is_why command word words) (behind_first words) (word ∷ without_why command words)
-
--- the first word, or an empty one
-abbrev pub first_word : List Text → Text
-first_word [] = []
-first_word (word ∷ words) = word
-
--- the words without those that add a text
-abbrev pub unflagged : List Text → List Text
-unflagged words = unmarked (first_word words) (without_why (first_word words) words)
-
--- a word that requests help
-abbrev pub is_help : Text → Bool
-is_help word = bytes_eq word (codes "--help") || bytes_eq word (codes "-h")
-
--- the name of a command
-abbrev pub is_command : Text → Bool
-is_command word =
-    bytes_eq word (codes "run") || (bytes_eq word (codes "certify") || (bytes_eq word (codes "check") || (bytes_eq word (codes "threads")
-    || (bytes_eq word (codes "play") || (bytes_eq word (codes "measure") || (bytes_eq word (codes "schedule") || (bytes_eq word (codes "settle")
-    || (bytes_eq word (codes "judge") || bytes_eq word (codes "explain")))))))))
-
--- a word that alone is about the tool: a request for help, the version, or all numbers
-abbrev pub is_question : Text → Bool
-is_question word =
-    bytes_eq word (codes "help") || (is_help word || (bytes_eq word (codes "--version") || (bytes_eq word (codes "-V")
-    || bytes_eq word (codes "explain"))))
-
--- two words about the tool: a request for help on a command, or for the meaning of a number
-abbrev pub is_question_on : Text → Text → Bool
-is_question_on word other =
-    (bytes_eq word (codes "explain") && not (is_option other)) || ((bytes_eq word (codes "help") && is_command other)
-    || (is_command word && is_help other))
-
--- the words are about the tool itself
-abbrev pub is_about : List Text → Bool
-is_about [] = false
-is_about (word ∷ []) = is_question word
-is_about (word ∷ other ∷ []) = is_question_on word other
-is_about (word ∷ other ∷ more ∷ words) = false
-
--- any answer but that the words aren't about the tool
-abbrev pub IsAnswer : AboutAnswer → Type 0
-IsAnswer answers.Other = ⊥
-IsAnswer _ = Unit {0}
-
--- an answer about the tool, if the words are about the tool, and none otherwise
-abbrev pub IsAskedFor : List Text → AboutAnswer → Type 0
-IsAskedFor words answers.Other = is_about words ≡ false
-IsAskedFor words (answers.Text text) = is_about words ≡ true
-IsAskedFor words (answers.Wrong text) = is_about words ≡ true
 
 -- some text follows the old one, all of it or a beginning
 abbrev pub ComesBehind : Option Text → Option Text → Type 0
@@ -180,15 +101,6 @@ pub data Settles (words : List Text) (files : Text → Option Text) (input : Opt
       → Settles words files input failed failed' status out out' err err'
   -- out of memory
   NoRoom : Complains NoMemory status out out' err err' → Settles words files input failed failed' status out out' err err'
-
--- the first word is `schedule`, and more follows than one request for help
-abbrev pub is_schedule : List Text → Bool
-is_schedule [] = false
-is_schedule (word ∷ words) = bytes_eq word (codes "schedule") && not (asks_help words)
-
--- the words of the check for which a schedule is requested: `check`, then the words after the first
-abbrev pub words_of_check : List Text → List Text
-words_of_check words = codes "check" ∷ unmarked (codes "schedule") (behind_first words)
 
 -- the refusal of a certificate
 abbrev pub IsRefusal : Reply → Type 0

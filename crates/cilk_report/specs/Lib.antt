@@ -1,4 +1,3 @@
 pub mod Explained
 pub mod Measured
 pub mod Settling
-pub mod Words

@@ -12,70 +12,12 @@ use Rattle.cilk_commands.specs.declared.reply.Answer.{Answer}
 use Rattle.cilk_commands.specs.declared.reply.Failure.{Failure}
 use Rattle.cilk_commands.specs.declared.reply.TheConstants.{NO_MEMORY, WRONG}
 use Rattle.cilk_messages.specs.Words.{texts}
-use Rattle.cilk_profile.specs.Words.{asks}
-use Rattle.cilk_report.specs.Words.{behind_first, is_help, is_option}
-use Rattle.cilk_report.specs.declared.settling.Batch as code
-use Rattle.cilk_report.specs.declared.settling.Form.{Form}
-use Rattle.cilk_report.specs.declared.settling.Form.TheVariants.{Full, Json, Short}
-
--- ---- the words
-
--- the first word is `settle`, the rest isn't just a request for help, and no word is `--explain` or
--- `--why`
-abbrev pub is_settling : List Text → Bool
-is_settling [] = false
-is_settling (word ∷ words) =
-    bytes_eq word (codes "settle") && (not (is_help words) && (not (asks (codes "--explain") (word ∷ words)) && not (asks (codes "--why") (word ∷ words))))
-
--- what words name: programs, the file of their input and the form of the replies; and whether the
--- next word has to name the input
-pub record Batch : Type 0 where
-  pub programs : List Text
-  pub input : Option Text
-  pub form : Form
-  pub awaits : Bool
-
-abbrev pub batch : List Text → Option Text → Form → Bool → Batch
-batch programs input form awaits = record { programs = programs; input = input; form = form; awaits = awaits }
-
--- a form is chosen once
-abbrev pub with_form : Batch → Form → Form → Option Batch
-with_form b form Full = Some (batch b.programs b.input form b.awaits)
-with_form b form _ = None
-
--- one word more
-abbrev pub with_word : Batch → Text → Option Batch
-with_word b word =
-    cond b.awaits (cond (is_option word) None (Some (batch b.programs (Some word) b.form false)))
-    (cond (bytes_eq word (codes "--input")) (cond (is_some b.input) None (Some (batch b.programs b.input b.form true)))
-    (cond (bytes_eq word (codes "--short")) (with_form b Short b.form)
-    (cond (bytes_eq word (codes "--json")) (with_form b Json b.form)
-    (cond (is_option word) None (Some (batch (b.programs ++ word ∷ []) b.input b.form b.awaits))))))
-
--- these words more
-abbrev pub with_words : Batch → List Text → Option Batch
-with_words b [] = Some b
-with_words b (word ∷ words) = option_and_then (λ c. with_words c words) (with_word b word)
-
--- some program is named
-abbrev pub are_named : List Text → Bool
-are_named [] = false
-are_named (program ∷ programs) = true
-
--- some program is named, and no input is missing
-abbrev pub is_whole : Batch → Bool
-is_whole b = not b.awaits && are_named b.programs
-
--- what the words after the first name
-abbrev pub batch_in : List Text → Option Batch
-batch_in words = option_and_then (λ b. cond (is_whole b) (Some b) None) (with_words (batch [] None Full false) (behind_first words))
+use Rattle.cilk_messages.specs.Asked.{asks, behind_first, is_help, is_option}
+use Rattle.cilk_messages.specs.declared.batch.Batch as code
+use Rattle.cilk_messages.specs.declared.batch.Form.{Form}
+use Rattle.cilk_messages.specs.declared.batch.Form.TheVariants.{Full, Json, Short}
 
 -- ---- a reply
-
--- a text up to its first line's end
-abbrev pub first_line : Text → Text
-first_line [] = []
-first_line (byte ∷ bytes) = cond (byte == 10) [] (byte ∷ first_line bytes)
 
 -- `PROGRAM:`
 abbrev pub heading : Text → Text
@@ -144,9 +86,6 @@ pub data SettlesEach (form : Form) (files : Text → Option Text) (standard inpu
       → SettlesEach form files standard input (program ∷ programs) s t
 
 -- ---- the values of the code
-
-abbrev pub batch_view : code.Batch → Batch
-batch_view b = batch (texts b.programs.items) (option_map (λ path. path.now) b.input) b.form b.awaits
 
 abbrev pub reply_view : Result Answer Failure → Reply
 reply_view (Ok answer) = answer_view answer

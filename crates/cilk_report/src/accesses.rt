@@ -2,27 +2,34 @@
 
 use crate::again::Seeks;
 use cilk_findings::fault::CaseFault;
-use cilk_trace::line::Line;
+use cilk_messages::raced::{Access, CallLines};
+use cilk_trace::line::{Cells, Line};
 use cilk_trace::reader::TraceReader;
 use std::alloc::{AllocError, Global};
 
 /// The most numbers of a frame's path that are shown.
 const SHOWN: usize = 16;
 
-/// A line of a trace, and the path of the frame that it is in.
+/// A line of a trace: its number and site, its deed in words that `here` follows, and the path of
+/// the frame that it is in.
 #[derive(Drop)]
-pub struct Access {
-    pub number: u32,
-    pub line: Line,
-    pub frame: String,
+pub struct Found {
+    number: u32,
+    pub site: u32,
+    deed: String,
+    frame: String,
 }
 
-/// A call, from its `enter` to its `spawned` or `called`.
-#[derive(Clone, Copy)]
-pub struct CallLines {
-    pub site: u32,
-    pub first: u32,
-    pub last: u32,
+impl Found {
+    /// Returns the access in words.
+    pub fn access(&self) -> Access<'_> {
+        Access {
+            number: self.number,
+            site: self.site,
+            frame: self.frame.as_str(),
+            deed: self.deed.as_str(),
+        }
+    }
 }
 
 /// A frame that is open: its number among its parent's children, and the number of its own.
@@ -46,9 +53,9 @@ pub struct Accesses {
     // The fewest frames that were open since the earlier line.
     fewest: usize,
     /// The earlier line, once it is found.
-    pub first: Option<Access>,
+    pub first: Option<Found>,
     /// The later line, once it is found.
-    pub second: Option<Access>,
+    pub second: Option<Found>,
     /// The last call on the way from the earlier line to the later one that ended: it is the child
     /// in which the earlier line is, of the last frame on both ways.
     pub parted: Option<CallLines>,
@@ -95,9 +102,9 @@ impl Accesses {
             Line::Spawned | Line::Called => self.leave(number),
             _ if number == self.earlier => {
                 self.fewest = self.open.len();
-                self.first = Some(self.access(number, line)?);
+                self.first = Some(self.found(number, line)?);
             }
-            _ if number == self.later => self.second = Some(self.access(number, line)?),
+            _ if number == self.later => self.second = Some(self.found(number, line)?),
             _ => {}
         }
         Ok(())
@@ -127,14 +134,16 @@ impl Accesses {
         }
     }
 
-    fn access(&self, number: u32, line: Line) -> Result<Access, AllocError> {
-        let mut frame = String::new(self.alloc);
-        self.push_path(&mut frame)?;
-        Ok(Access {
+    fn found(&self, number: u32, line: Line) -> Result<Found, AllocError> {
+        let mut found = Found {
             number,
-            line,
-            frame,
-        })
+            site: 0,
+            deed: String::new(self.alloc),
+            frame: String::new(self.alloc),
+        };
+        found.site = push_deed(&mut found.deed, line)?;
+        self.push_path(&mut found.frame)?;
+        Ok(found)
     }
 
     // Adds the path of the current frame: `r`, and the number of each frame on the way among its
@@ -150,6 +159,45 @@ impl Accesses {
         }
         Ok(())
     }
+}
+
+// Adds the deed of a line, and returns its site; 0 for one without a site.
+fn push_deed(deed: &mut String, line: Line) -> Result<u32, AllocError> {
+    match line {
+        Line::Read { cells, site } => {
+            push_cells(deed, cells, "read")?;
+            Ok(site)
+        }
+        Line::Write { cells, site } => {
+            push_cells(deed, cells, "written")?;
+            Ok(site)
+        }
+        Line::Create { reducer, site, .. } => {
+            write!(deed, "reducer {reducer} is created")?;
+            Ok(site)
+        }
+        Line::Value { reducer, site } => {
+            write!(deed, "the view of reducer {reducer} is read or set")?;
+            Ok(site)
+        }
+        Line::Enter { site } | Line::Update { site, .. } | Line::Retire { site, .. } => {
+            deed.push_str("something is done")?;
+            Ok(site)
+        }
+        Line::Spawned | Line::Called | Line::Sync | Line::Clear { .. } | Line::End => {
+            deed.push_str("something is done")?;
+            Ok(0)
+        }
+    }
+}
+
+fn push_cells(deed: &mut String, cells: Cells, done: &str) -> Result<(), AllocError> {
+    let Cells { first, count } = cells;
+    if count == 1 {
+        return write!(deed, "cell {first} is {done}");
+    }
+    let last = first.saturating_add(count.saturating_sub(1));
+    write!(deed, "cells {first} to {last} are {done}")
 }
 
 // Counts one more, and returns the count.

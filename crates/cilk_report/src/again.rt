@@ -5,7 +5,8 @@ ghost use Rattle.std.specs.Prelude.{◌≤◌, IfOk, length};
 use crate::Keeps;
 use cilk_commands::files::FileFault;
 use cilk_findings::fault::CaseFault;
-use std::alloc::AllocError;
+use cilk_messages::numbered::LineAt;
+use cilk_messages::table::Sites;
 
 /// The bytes of a part. Large, since a file is opened anew for each part.
 const PART: usize = 32_768;
@@ -53,8 +54,15 @@ fn next_part<F: Keeps>(
     }
 }
 
-/// Adds a byte.
-pub fn put(bytes: &mut Vec<u8>, byte: u8) -> Result<(), AllocError> {
-    bytes.push(byte)?;
-    Ok(())
+impl Seeks for Sites {
+    fn take(&mut self, part: &[u8]) -> Result<bool, CaseFault> {
+        self.read(part)?;
+        Ok(true)
+    }
+}
+
+impl Seeks for LineAt {
+    fn take(&mut self, part: &[u8]) -> Result<bool, CaseFault> {
+        Ok(self.read(part)?)
+    }
 }

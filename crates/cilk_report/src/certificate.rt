@@ -1,15 +1,7 @@
 //! The line of a certificate that a refusal is about.
 
 use cilk_checker::refusal::Refusal;
-use cilk_syntax::lexer::{all_digits, value_of};
-
-/// The numbers of events, frames and strands in a certificate's second line.
-#[derive(Clone, Copy)]
-struct Sizes {
-    events: u64,
-    frames: u64,
-    strands: u64,
-}
+use cilk_messages::sizes::{Sizes, sizes_of};
 
 /// Returns the line, counted from 1, if it is known. `front` is the beginning of the certificate
 /// with at least its first two lines.
@@ -38,28 +30,5 @@ pub fn line_of(front: &[u8], refusal: Refusal) -> Option<u64> {
                 .saturating_add(1),
         ),
         _ => None,
-    }
-}
-
-fn sizes_of(front: &[u8]) -> Option<Sizes> {
-    let text = str::from_utf8(front).ok()?;
-    let line = text.lines().nth(1)?;
-    let mut words = line.split_whitespace().skip(1);
-    let events = number_of(words.next()?)?;
-    let frames = number_of(words.next()?)?;
-    let strands = number_of(words.next()?)?;
-    Some(Sizes {
-        events,
-        frames,
-        strands,
-    })
-}
-
-// The number that a word spells.
-fn number_of(word: &str) -> Option<u64> {
-    if all_digits(word.as_bytes()) {
-        value_of(word.as_bytes())
-    } else {
-        None
     }
 }

@@ -6,75 +6,13 @@ use cilk_checker::refusal::Refusal;
 use cilk_commands::reply::{Answer, Failure};
 use cilk_findings::fault::CaseFault;
 use cilk_findings::faults::of_fault;
+use cilk_messages::named::{Named, of_unreadable};
 use cilk_messages::report::{Finding, Wanted, of_line, of_script, of_text};
 use cilk_messages::words::{Order, Origin};
 use cilk_profile::{CaseTexts, Kept};
 use cilk_races::races::of_race;
 use cilk_types::event::Pos;
 use std::alloc::{AllocError, Global};
-
-/// The files in an order: its program, its input, and its certificate or script.
-#[derive(Clone, Copy)]
-struct Named<'a> {
-    program: Origin<'a>,
-    input: Option<&'a str>,
-    other: &'a str,
-}
-
-impl<'a> Named<'a> {
-    // The program's path, or `-` for standard input.
-    fn file(&self) -> &'a str {
-        match self.program {
-            Origin::Standard => "-",
-            Origin::File(path) => path,
-        }
-    }
-}
-
-/// The files in an order.
-fn files_of<'a>(order: &Order<'a>) -> Named<'a> {
-    match *order {
-        Order::Run { program, input } => Named {
-            program,
-            input,
-            other: "",
-        },
-        Order::Certify { program, input } => Named {
-            program: Origin::File(program),
-            input,
-            other: "",
-        },
-        Order::Check {
-            program,
-            certificate,
-            input,
-        } => Named {
-            program: Origin::File(program),
-            input,
-            other: certificate,
-        },
-        Order::Play {
-            program,
-            script,
-            input,
-            ..
-        } => Named {
-            program: Origin::File(program),
-            input,
-            other: script,
-        },
-        Order::Settle { program, input } => Named {
-            program: Origin::File(program),
-            input,
-            other: "",
-        },
-        Order::Judge { trace, .. } => Named {
-            program: Origin::File(trace),
-            input: None,
-            other: "",
-        },
-    }
-}
 
 /// Returns the explanation of an answer: the reason of a refusal, and nothing for other answers.
 /// `kept` has the files as they were read. A trace isn't kept, so that of `judge` is
@@ -106,7 +44,7 @@ fn of_refusal(
             return in_text(alloc, &texts, number, found);
         }
     }
-    let path = files_of(order).other;
+    let path = Named::of(order).other;
     let line = line_of(kept.front()?, refusal);
     Ok(of_line(alloc, path, line, number)?)
 }
@@ -140,7 +78,7 @@ pub(crate) fn texts_of<'a>(
     order: &Order<'a>,
     kept: &'a Kept,
 ) -> Result<Option<CaseTexts<'a>>, CaseFault> {
-    let Named { program, input, .. } = files_of(order);
+    let Named { program, input, .. } = Named::of(order);
     CaseTexts::of(program, input, kept)
 }
 
@@ -152,7 +90,7 @@ pub fn of_failure(
     failure: &Failure<'_>,
     kept: &Kept,
 ) -> Result<String, CaseFault> {
-    let named = files_of(order);
+    let named = Named::of(order);
     match failure {
         Failure::Program { number, place } => of_program(alloc, &named, kept, *number, *place),
         Failure::Input { number, place } => {
@@ -189,23 +127,6 @@ fn of_other(alloc: Global, named: &Named<'_>, failure: &Failure<'_>) -> Result<S
     }
 }
 
-// Explains that the program or another file can't be read.
-fn of_unreadable(alloc: Global, named: &Named<'_>, path: &str) -> Result<String, AllocError> {
-    match named.program {
-        Origin::Standard if path == "-" => String::from_str(
-            alloc,
-            "hint: the program comes from standard input, which can't be read\n",
-        ),
-        Origin::File(program) if path == program => format!(in alloc;
-            "hint: is `{path}` a file that can be read? A program has at most 262,144 bytes: a longer one is refused by \
-             106, and a file of more than 268,435,456 bytes isn't read\n"
-        ),
-        _ => format!(in alloc;
-            "hint: is `{path}` a file that can be read, of at most 268,435,456 bytes?\n"
-        ),
-    }
-}
-
 // Explains a fault that stops a run.
 fn of_stop(
     alloc: Global,
@@ -215,7 +136,7 @@ fn of_stop(
 ) -> Result<String, CaseFault> {
     match texts_of(order, kept)? {
         Some(texts) => in_text(alloc, &texts, number, None),
-        None => Ok(of_line(alloc, files_of(order).file(), None, number)?),
+        None => Ok(of_line(alloc, Named::of(order).file(), None, number)?),
     }
 }
 

@@ -1,9 +1,9 @@
 //! The texts that follow a reply: its explanation, and what `--trace` and `--why` add.
 
 use crate::explaining::{of_answer, of_failure};
-use crate::flags::{Extras, explains_itself};
 use cilk_commands::reply::{Answer, Failure};
 use cilk_findings::fault::CaseFault;
+use cilk_messages::flags::{Extras, explains_itself};
 use cilk_messages::words::Order;
 use cilk_profile::{Kept, push_trace};
 use cilk_races::push_why;

@@ -5,15 +5,16 @@ ghost use Rattle.cilk_report.specs.Explained.{IsTraceFault};
 ghost use Rattle.cilk_commands.specs.Replies.{failure_view};
 
 use crate::Keeps;
-use crate::accesses::{Access, Accesses, CallLines};
+use crate::accesses::Accesses;
 use crate::again::seek;
 use crate::explaining::race_of;
-use crate::numbered::LineAt;
-use crate::sites::Sites;
 use cilk_checker::refusal::Refusal;
 use cilk_commands::reply::Failure;
 use cilk_findings::fault::CaseFault;
-use cilk_trace::line::{Cells, Line};
+use cilk_messages::numbered::LineAt;
+use cilk_messages::raced::Raced;
+use cilk_messages::table::Sites;
+use cilk_trace::line::Line;
 use cilk_trace::reader::TraceReader;
 use std::alloc::{AllocError, Global};
 
@@ -24,9 +25,6 @@ const APART: &str =
 const VIEWED: &str =
     "reason: not the same strands run in parallel to both, so the schedule decides which updates the view has\n\
     hint: set a reducer and read it before the first spawn, or after the `cilk_sync`\n";
-
-const NO_TABLE: &str =
-    "hint: `--sites FILE` gives the file, line and function of each site; a program made by `cilkrec` writes this FILE too, if it records with CILK_SITES=FILE\n";
 
 const HEADER: &str = "the first line of a trace is `cilktrace 1`";
 
@@ -84,6 +82,7 @@ pub fn of_trace_race<F: Keeps>(
     of_accesses(alloc, judged, refusal, &found, files)
 }
 
+// The explanation of the accesses that were found.
 fn of_accesses<F: Keeps>(
     alloc: Global,
     judged: Judged<'_>,
@@ -94,28 +93,30 @@ fn of_accesses<F: Keeps>(
     let (Some(first), Some(second)) = (&found.first, &found.second) else {
         return Err(CaseFault::Unfit);
     };
-    let (one, other) = (site_of(first.line), site_of(second.line));
     let call = match found.parted {
         Some(call) => call.site,
-        None => other,
+        None => second.site,
     };
-    let mut sites = Sites::new(alloc, [one, other, call]);
+    let mut sites = Sites::new(alloc, [first.site, second.site, call]);
     let lacks = read_sites(judged, &mut sites, files)?;
     let (title, parted, end) = match refusal {
         Refusal::Race { .. } => (": error 311: a determinacy race: ", found.parted, APART),
         _ => (": error 312: a view-read race: ", None, VIEWED),
     };
-    let race = Accessed {
-        judged,
-        sites: &sites,
+    let raced = Raced {
+        trace: judged.trace,
+        table: judged.sites,
         lacks,
+        sites: &sites,
         title,
-        first,
-        second,
+        first: first.access(),
+        second: second.access(),
         parted,
         end,
     };
-    Ok(race.explained(alloc)?)
+    let mut text = String::new(alloc);
+    raced.push(alloc, &mut text)?;
+    Ok(text)
 }
 
 // Reads the table, and returns whether it can't be read. An explanation without one has the numbers
@@ -133,139 +134,6 @@ fn read_sites<F: Keeps>(
         Err(CaseFault::Unfit) => Ok(true),
         Err(fault) => Err(fault),
     }
-}
-
-/// Two accesses that race, the call that is parted from what follows its spawn, which makes the
-/// earlier one, and what the table of sites says.
-#[derive(Clone, Copy)]
-struct Accessed<'a> {
-    judged: Judged<'a>,
-    sites: &'a Sites,
-    // Whether there is a table that can't be read.
-    lacks: bool,
-    title: &'static str,
-    first: &'a Access,
-    second: &'a Access,
-    parted: Option<CallLines>,
-    end: &'static str,
-}
-
-impl Accessed<'_> {
-    fn explained(&self, alloc: Global) -> Result<String, AllocError> {
-        let mut report = String::new(alloc);
-        self.push(&mut report)?;
-        Ok(report)
-    }
-
-    fn push(&self, report: &mut String) -> Result<(), AllocError> {
-        self.push_access(report, self.title, self.second)?;
-        self.push_access(report, ": note: earlier in the serial run ", self.first)?;
-        if let Some(CallLines { site, first, .. }) = self.parted {
-            self.push_place(report, site, first)?;
-            report.push_str(": note: the call or turn with the earlier access is spawned")?;
-            self.push_site(report, site)?;
-        }
-        self.push_lines(report)?;
-        report.push_str(self.end)?;
-        self.push_hint(report)
-    }
-
-    fn push_access(
-        &self,
-        report: &mut String,
-        title: &str,
-        access: &Access,
-    ) -> Result<(), AllocError> {
-        let site = site_of(access.line);
-        self.push_place(report, site, access.number)?;
-        report.push_str(title)?;
-        push_done(report, access.line)?;
-        self.push_site(report, site)
-    }
-
-    // Begins a line: the place of a site in the source, or that of a line in the trace.
-    fn push_place(&self, report: &mut String, site: u32, number: u32) -> Result<(), AllocError> {
-        let trace = self.judged.trace;
-        match self.sites.of(site) {
-            Some((place, _)) => report.push_str(place),
-            None => write!(report, "{trace}:{number}:1"),
-        }
-    }
-
-    // Ends a line: the function of a site, or its number.
-    fn push_site(&self, report: &mut String, site: u32) -> Result<(), AllocError> {
-        match self.sites.of(site) {
-            Some((_, function)) => write!(report, " here, in `{function}`\n"),
-            None => write!(report, " here, at site {site}\n"),
-        }
-    }
-
-    // Writes where in the trace the accesses are, and the call.
-    fn push_lines(&self, report: &mut String) -> Result<(), AllocError> {
-        let (p, one) = (self.first.number, self.first.frame.as_str());
-        let (q, other) = (self.second.number, self.second.frame.as_str());
-        write!(
-            report,
-            "in the trace: the earlier one is trace line {p}, in frame {one}, the later one trace line {q}, in frame {other}"
-        )?;
-        if let Some(CallLines { first, last, .. }) = self.parted {
-            write!(
-                report,
-                "; the call is from trace line {first} to trace line {last}"
-            )?;
-        }
-        report.push('\n')
-    }
-
-    fn push_hint(&self, report: &mut String) -> Result<(), AllocError> {
-        match self.judged.sites {
-            None => report.push_str(NO_TABLE),
-            Some(path) if self.lacks => {
-                write!(report, "hint: the table of sites `{path}` can't be read\n")
-            }
-            Some(path) if self.sites.is_empty() => write!(
-                report,
-                "hint: the table of sites `{path}` has none of these sites: is it this trace's, of the same run?\n"
-            ),
-            Some(_) => Ok(()),
-        }
-    }
-}
-
-// The site of a line; 0 for one without a site.
-fn site_of(line: Line) -> u32 {
-    match line {
-        Line::Read { site, .. }
-        | Line::Write { site, .. }
-        | Line::Enter { site }
-        | Line::Create { site, .. }
-        | Line::Update { site, .. }
-        | Line::Value { site, .. }
-        | Line::Retire { site, .. } => site,
-        Line::Spawned | Line::Called | Line::Sync | Line::Clear { .. } | Line::End => 0,
-    }
-}
-
-// Writes the deed of a line, in words that `here` follows.
-fn push_done(report: &mut String, line: Line) -> Result<(), AllocError> {
-    match line {
-        Line::Read { cells, .. } => push_cells(report, cells, "read"),
-        Line::Write { cells, .. } => push_cells(report, cells, "written"),
-        Line::Create { reducer, .. } => write!(report, "reducer {reducer} is created"),
-        Line::Value { reducer, .. } => {
-            write!(report, "the view of reducer {reducer} is read or set")
-        }
-        _ => report.push_str("something is done"),
-    }
-}
-
-fn push_cells(report: &mut String, cells: Cells, done: &str) -> Result<(), AllocError> {
-    let Cells { first, count } = cells;
-    if count == 1 {
-        return write!(report, "cell {first} is {done}");
-    }
-    let last = first.saturating_add(count.saturating_sub(1));
-    write!(report, "cells {first} to {last} are {done}")
 }
 
 /// Returns the explanation of a trace that isn't judged. It is read again for a malformed line.
@@ -327,7 +195,7 @@ fn line_at<F: Keeps>(
 ) -> Result<String, CaseFault> {
     let mut found = LineAt::new(alloc, number);
     seek(path, files, &mut found)?;
-    Ok(found.text()?)
+    Ok(found.text(alloc)?)
 }
 
 // The line of the text form that this spells.

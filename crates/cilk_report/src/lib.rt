@@ -35,29 +35,23 @@
 //! ```
 #![tactic(auto)]
 
-mod about;
 mod accesses;
 mod again;
 mod certificate;
 mod explaining;
 mod extras;
-mod flags;
-mod help;
 mod judging;
 mod kept;
-mod numbered;
 mod scheduling;
 mod serving;
 mod settling;
-mod sites;
 mod totals;
 mod wanted;
-mod words;
 
-pub use cilk_profile::{CaseTexts, Kept, asks, push_cells};
+pub use cilk_messages::asked::{asks, behind_first, is_help, is_measure, run_of, run_words};
+pub use cilk_messages::flags::unflagged;
+pub use cilk_profile::{CaseTexts, Kept, push_cells};
 pub use explaining::{of_answer, of_failure};
-pub use flags::unflagged;
 pub use kept::{Keeps, KeptFiles};
 pub use serving::{follow, serve_explained};
 pub use totals::totals_of;
-pub use words::{behind_first, is_help, is_measure, run_of, run_words};

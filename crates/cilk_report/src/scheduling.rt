@@ -1,46 +1,27 @@
 //! The command `schedule`: a script for `play` that shows a race.
 
 ghost use Rattle.std.specs.Prelude.{◌≡◌, ◌<◌, IfOk, IfSome};
-ghost use Rattle.cilk_report.specs.Words.{behind_first};
-ghost use Rattle.cilk_report.specs.Explained.{IsRefusal, Schedules, is_schedule, words_of_check};
+ghost use Rattle.cilk_messages.specs.Asked.{behind_first, is_schedule, words_of_check};
+ghost use Rattle.cilk_report.specs.Explained.{IsRefusal, Schedules};
 ghost use Rattle.cilk_commands.specs.Replies.{answer_view};
 ghost use Rattle.cilk_commands.specs.Streams.{TakesAtMost};
 ghost use Rattle.cilk_commands.specs.declared.streams.TheConstants.{MAX_READ};
 ghost use Rattle.cilk_messages.specs.Words.{texts};
 
+use crate::Keeps;
 use crate::explaining::{of_answer, of_failure, race_of, texts_of};
-use crate::flags::unmarked;
 use crate::serving::{follow, tell_text};
-use crate::words::wrong_words;
-use crate::{Keeps, behind_first, is_help};
+use crate::totals::wrong_words;
 use cilk_checker::refusal::Refusal;
 use cilk_commands::reply::{Answer, Failure};
 use cilk_commands::{carry_out, complain, show};
 use cilk_findings::fault::CaseFault;
+use cilk_messages::asked::{asks, check_words};
 use cilk_messages::words::{Order, WordsFault, read};
-use cilk_profile::{Kept, asks};
+use cilk_profile::Kept;
 use cilk_races::races::script_of_race;
 use std::alloc::{AllocError, Global};
 use std::io::{Read, Write};
-
-/// Returns whether the first word is `schedule` and more follows than one request for help.
-pub fn is_schedule(words: &[&str]) -> bool
-    ensures { result ≡ is_schedule (texts words.now) }
-{
-    match words {
-        [first, behind @ ..] => *first == "schedule" && !is_help(behind),
-        [] => false,
-    }
-}
-
-// The command line with `check` in place of `schedule`, without each `--explain`.
-fn check_words<'a>(alloc: Global, words: &[&'a str]) -> Result<Vec<&'a str>, AllocError>
-    ensures { IfOk result (λ plain. texts plain.items ≡ words_of_check (texts words.now)) }
-{
-    let mut plain = unmarked(alloc, "schedule", behind_first(words))?;
-    plain.insert(0, "check")?;
-    Ok(plain)
-}
 
 /// Serves the command `schedule`.
 #[tactic(auto, using(cilk_commands::proofs::Reading::takes_same))]

@@ -1,32 +1,34 @@
 //! From a command line to its reply and explanation.
 
 ghost use Rattle.std.specs.Prelude.{◌≡◌, ◌<◌, None, Some, false, length, option_map, true};
-ghost use Rattle.cilk_report.specs.Explained.{ComesBehind, Follows, IsReadAgain, Measures, Schedules, ServesExplained, ServesThenExplains, Settles, WritesText, explains_itself, is_about, is_schedule, unflagged, words_of_check};
-ghost use Rattle.cilk_report.specs.Settling.{is_settling};
-ghost use Rattle.cilk_report.specs.Words.{is_measure, measured_run, words_of_run};
+ghost use Rattle.cilk_report.specs.Explained.{ComesBehind, Follows, IsReadAgain, Measures, Schedules, ServesExplained, ServesThenExplains, Settles, WritesText};
+ghost use Rattle.cilk_messages.specs.Asked.{explains_itself, is_measure, is_schedule, measured_run, unflagged, words_of_check, words_of_run};
+ghost use Rattle.cilk_messages.specs.About.{is_about};
+ghost use Rattle.cilk_messages.specs.Batches.{is_settling};
 ghost use Rattle.cilk_commands.specs.Replies.{answer_view, failure_view};
 ghost use Rattle.cilk_commands.specs.Serving.{WordsFail};
 ghost use Rattle.cilk_commands.specs.Streams.{TakesAtMost};
 ghost use Rattle.cilk_commands.specs.declared.streams.TheConstants.{MAX_READ};
 ghost use Rattle.cilk_messages.specs.Words.{order_in, order_view, origin_view, texts};
 
-use crate::about::{About, answer_about};
+use crate::Keeps;
 use crate::explaining::of_failure;
 use crate::extras::{behind_answer, behind_failure};
-use crate::flags::{Extras, explains_itself, extras_of, unflagged};
-use crate::help::{help_on, push_advice};
 use crate::judging::{Judged, of_trace_failure, of_trace_race};
-use crate::scheduling::{is_schedule, serve_schedule};
-use crate::settling::{is_settling, serve_settling};
-use crate::totals::undrawn;
-use crate::words::wrong_words;
-use crate::{Keeps, is_measure, run_of, run_words, totals_of};
+use crate::scheduling::serve_schedule;
+use crate::settling::serve_settling;
+use crate::totals::{totals_of, undrawn, wrong_words};
 use cilk_commands::reply::{Answer, Failure, NO_MEMORY, WRONG};
 use cilk_commands::streams::send;
 use cilk_commands::{Served, carry_out, complain, serve, show, tell};
 use cilk_findings::fault::CaseFault;
+use cilk_messages::about::{About, answer_about};
+use cilk_messages::asked::{asks, is_measure, is_schedule, run_of, run_words};
+use cilk_messages::batch::is_settling;
+use cilk_messages::flags::{Extras, explains_itself, extras_of, unflagged};
+use cilk_messages::help::{help_on, push_advice};
 use cilk_messages::words::{Order, Origin, WordsFault, read};
-use cilk_profile::{Kept, asks, text_of};
+use cilk_profile::{Kept, text_of};
 use std::alloc::{AllocError, Global};
 use std::io::{Read, Write};
 

@@ -10,118 +10,22 @@ ghost use Rattle.cilk_commands.specs.declared.reply.TheConstants.{NO_MEMORY};
 ghost use Rattle.cilk_commands.specs.declared.streams.TheConstants.{MAX_READ};
 ghost use Rattle.cilk_messages.specs.Words.{texts};
 ghost use Rattle.cilk_report.specs.Explained.{Settles};
-ghost use Rattle.cilk_report.specs.Settling.{Fails, IsShown, SettlesEach, Shows, batch_in, batch_view, first_line, heading, is_settling, object_line, reply_view, short_line, state, with_form, with_word};
+ghost use Rattle.cilk_report.specs.Settling.{Fails, IsShown, SettlesEach, Shows, heading, object_line, reply_view, short_line, state};
+ghost use Rattle.cilk_messages.specs.Batches.{batch_in, batch_view, first_line, is_settling, with_form, with_word};
 
-use crate::about::is_option;
+use crate::Keeps;
 use crate::explaining::{of_answer, of_failure};
 use crate::serving::missing;
-use crate::words::wrong_words;
-use crate::{Keeps, behind_first, is_help};
+use crate::totals::wrong_words;
 use cilk_commands::reply::{Answer, Failure, NO_MEMORY, WRONG};
 use cilk_commands::streams::send;
 use cilk_commands::{complain, settle, tell};
+use cilk_messages::batch::{Batch, Form, batch_of, push_first_line};
 use cilk_messages::words::Order;
-use cilk_profile::{Kept, asks};
+use cilk_profile::Kept;
 use json::Writer;
 use std::alloc::{AllocError, Global};
 use std::io::{Read, Write};
-
-/// The form of the replies to several programs.
-#[derive(Clone, Copy)]
-pub enum Form {
-    /// Under a heading, with an explanation on standard error.
-    Full,
-    /// A line each.
-    Short,
-    /// A JSON object each.
-    Json,
-}
-
-/// The programs to settle, the file of their input, and the form of the replies.
-#[derive(Drop)]
-pub struct Batch<'a> {
-    programs: Vec<&'a str>,
-    input: Option<&'a str>,
-    form: Form,
-    // Whether the next word has to name the input.
-    awaits: bool,
-}
-
-impl<'a> Batch<'a> {
-    // Takes a word, and returns whether it fits.
-    fn take(&mut self, word: &'a str) -> Result<bool, AllocError>
-        ensures { IfOk result (λ fits. cond fits (Some (batch_view self.new)) None ≡ with_word (batch_view self.old) word.now) }
-    {
-        if self.awaits {
-            self.awaits = false;
-            self.input = Some(word);
-            return Ok(!is_option(word));
-        }
-        if word == "--input" {
-            self.awaits = true;
-            return Ok(self.input.is_none());
-        }
-        if word == "--short" {
-            return Ok(self.choose(Form::Short));
-        }
-        if word == "--json" {
-            return Ok(self.choose(Form::Json));
-        }
-        if is_option(word) {
-            return Ok(false);
-        }
-        self.programs.push(word)?;
-        Ok(true)
-    }
-
-    // Chooses a form, and returns whether none was chosen before.
-    fn choose(&mut self, form: Form) -> bool
-        ensures { cond result (Some (batch_view self.new)) None ≡ with_form (batch_view self.old) form self.old.form }
-    {
-        let is_first = self.form == Form::Full;
-        self.form = form;
-        is_first
-    }
-}
-
-/// Returns whether the first word is `settle`, the rest isn't just a request for help, and no word is
-/// `--explain` or `--why`.
-pub fn is_settling(words: &[&str]) -> bool
-    ensures { result ≡ is_settling (texts words.now) }
-{
-    match words {
-        [first, behind @ ..] => {
-            *first == "settle"
-                && !is_help(behind)
-                && !asks(words, "--explain")
-                && !asks(words, "--why")
-        }
-        [] => false,
-    }
-}
-
-// What the words after the first name.
-fn batch_of<'a>(alloc: Global, words: &[&'a str]) -> Result<Option<Batch<'a>>, AllocError>
-    ensures { IfOk result (λ named. option_map batch_view named ≡ batch_in (texts words.now)) }
-{
-    let mut batch = Batch {
-        programs: Vec::new(alloc),
-        input: None,
-        form: Form::Full,
-        awaits: false,
-    };
-    let mut rest = behind_first(words);
-    'each: while let [word, behind @ ..] = rest {
-        if !batch.take(word)? {
-            return Ok(None);
-        }
-        rest = behind;
-    }
-    if batch.awaits || batch.programs.is_empty() {
-        return Ok(None);
-    }
-    Ok(Some(batch))
-}
 
 // The error of `settle` for words that name no programs.
 const USAGE: &str =
@@ -409,21 +313,6 @@ fn short(alloc: Global, program: &str, reply: &[u8]) -> Result<Vec<u8>, AllocErr
     push_first_line(&mut text, reply)?;
     text.push(b'\n')?;
     Ok(text)
-}
-
-// Adds the first line of a reply.
-fn push_first_line(text: &mut Vec<u8>, reply: &[u8]) -> Result<(), AllocError>
-    ensures { OnOk result (text.new.items ≡ text.old.items ++ first_line reply.now) }
-{
-    let mut rest = reply;
-    'line: while let [byte, behind @ ..] = rest {
-        if *byte == b'\n' {
-            return Ok(());
-        }
-        text.push(*byte)?;
-        rest = behind;
-    }
-    Ok(())
 }
 
 // A JSON object of the program, the status and the reply. A reply is text, so nothing else fails

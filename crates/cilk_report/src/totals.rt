@@ -3,18 +3,17 @@
 ghost use Rattle.std.specs.Prelude.{◌≡◌, ◌<◌, IfErr, IfOk, option_map};
 ghost use Rattle.cilk_report.specs.Measured.{AreTotalsOf, TellsWhy};
 ghost use Rattle.cilk_commands.specs.Replies.{failure_view};
-ghost use Rattle.cilk_commands.specs.Serving.{RunReply, world};
+ghost use Rattle.cilk_commands.specs.Serving.{RunReply, WordsFail, world};
 ghost use Rattle.cilk_commands.specs.Streams.{TakesAtMost};
 ghost use Rattle.cilk_commands.specs.declared.streams.TheConstants.{MAX_READ};
 ghost use Rattle.cilk_messages.specs.Words.{origin_view};
 
-use crate::words::wrong_words;
 use cilk_commands::files::Files;
 use cilk_commands::reply::Failure;
 use cilk_commands::{given, stopped};
 use cilk_messages::words::Origin;
 use cilk_profile::{NoText, Totals, measure};
-use std::alloc::Global;
+use std::alloc::{AllocError, Global};
 use std::io::Read;
 
 /// Returns the totals of a program's run on its input. Its failures are those of `run`.
@@ -37,6 +36,16 @@ pub fn totals_of<'a, F: Files, R: Read>(
     match measure(alloc, &program, &numbers) {
         Ok((totals, _trace)) => Ok(totals),
         Err(fault) => Err(stopped(&fault)),
+    }
+}
+
+/// Returns the failure of a command line by a text about it, if there was memory for the text.
+pub fn wrong_words<'a>(text: Result<String, AllocError>) -> Failure<'a>
+    ensures { WordsFail (failure_view result) }
+{
+    match text {
+        Ok(text) => Failure::Words(text),
+        Err(_) => Failure::Memory,
     }
 }
 

@@ -1,6 +1,7 @@
 -- The replies of `check` with `--helpers`.
 use Rattle.std.specs.Prelude.{◌≡◌, ◌<◌, ℕ, Bool, List, Option, Some, None, length}
-use Rattle.cilk_report.specs.Explained.{Follows, unflagged}
+use Rattle.cilk_report.specs.Explained.{Follows}
+use Rattle.cilk_messages.specs.Asked.{unflagged}
 use Rattle.cilk_commands.specs.Replies.{Reply, Text}
 use Rattle.cilk_commands.specs.Serving as tool
 use Rattle.cilk_commands.specs.Serving.{Shows, Surroundings, WordsFail}

@@ -1,9 +1,10 @@
 -- The replies of `serve`.
 use Rattle.std.specs.Prelude.{◌≡◌, ◌<◌, ◌&&◌, ℕ, Bool, true, false, not, List, [], ◌∷◌, length, Option, Some, None, codes}
 use Rattle.std.specs.Str.{bytes_eq}
-use Rattle.cilk_report.specs.Words.{is_help, is_measure}
-use Rattle.cilk_report.specs.Explained.{Follows, Measures, Schedules, ServesExplained, ServesThenExplains, Settles, explains_itself, is_about, is_schedule, unflagged, words_of_check}
-use Rattle.cilk_report.specs.Settling.{is_settling}
+use Rattle.cilk_messages.specs.Asked.{explains_itself, is_help, is_measure, is_schedule, unflagged, words_of_check}
+use Rattle.cilk_report.specs.Explained.{Follows, Measures, Schedules, ServesExplained, ServesThenExplains, Settles}
+use Rattle.cilk_messages.specs.About.{is_about}
+use Rattle.cilk_messages.specs.Batches.{is_settling}
 use Rattle.cilk_commands.specs.Files.{Failures}
 use Rattle.cilk_commands.specs.Replies.{Reply, Text}
 use Rattle.cilk_commands.specs.Serving.{JudgedReply, Shows, Surroundings, WordsFail, world}

@@ -1,7 +1,7 @@
 //! From a command line of `check` with `--helpers` to its reply.
 
 ghost use Rattle.std.specs.Prelude.{◌≡◌, ◌<◌, None, length};
-ghost use Rattle.cilk_report.specs.Explained.{unflagged};
+ghost use Rattle.cilk_messages.specs.Asked.{unflagged};
 ghost use Rattle.cilk_commands.specs.Replies.{failure_view};
 ghost use Rattle.cilk_commands.specs.Serving.{WordsFail, world};
 ghost use Rattle.cilk_commands.specs.Streams.{TakesAtMost};

@@ -1,7 +1,7 @@
 //! From a command line to its reply.
 
 ghost use Rattle.std.specs.Prelude.{◌≡◌, ◌<◌, ◌++◌, IfOk, None, OnOk, flat_map, length};
-ghost use Rattle.cilk_report.specs.Explained.{unflagged};
+ghost use Rattle.cilk_messages.specs.Asked.{unflagged};
 ghost use Rattle.cilk_commands.specs.Replies.{Refused, Reply, failure_view, place_text, refused_line};
 ghost use Rattle.cilk_commands.specs.Serving.{IsOrNoMemory, Shows, WordsFail};
 ghost use Rattle.cilk_commands.specs.Streams.{TakesAtMost};

@@ -3,7 +3,7 @@ use Rattle.std.proofs.lemmas.Bool.{true≢false}
 use Rattle.std.specs.Prelude.{IfErr, IfOk, IsFalse, List, Result, Ok, Err}
 use Rattle.cilk_messages.specs.Words.{texts}
 use Rattle.cilk_profile.specs.Measured.{IsAboutPictures, is_drawn}
-use Rattle.cilk_profile.specs.Words.{Text}
+use Rattle.cilk_messages.specs.Asked.{Text}
 use Rattle.cilk_profile.specs.declared.text.NoText.{NoText}
 use Rattle.cilk_profile.specs.declared.text.NoText.TheVariants as reasons
 use Rattle.cilk_profile.proofs.text.text_of.Goals as goal

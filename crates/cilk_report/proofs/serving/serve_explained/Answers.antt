@@ -3,7 +3,8 @@ use Rattle.std.proofs.lemmas.Bool.{true≢false}
 use Rattle.cilk_report.proofs.Batches as batches
 use Rattle.cilk_report.proofs.Measuring as measuring
 use Rattle.cilk_report.proofs.Replies.{IsUsage, of_kept, other, silence, starved, starved_or_settled, unasked, yes}
-use Rattle.cilk_report.specs.Explained.{Checked, Measures, Schedules, Served, ServesExplained, ServesThenExplains, Settles, Settling, explains_itself, unflagged, words_of_check}
+use Rattle.cilk_report.specs.Explained.{Checked, Measures, Schedules, Served, ServesExplained, ServesThenExplains, Settles, Settling}
+use Rattle.cilk_messages.specs.Asked.{explains_itself, unflagged, words_of_check}
 use Rattle.cilk_messages.specs.Words.{texts}
 use Rattle.cilk_messages.specs.declared.words.WordsFault.{WordsFault}
 use Rattle.cilk_report.proofs.serving.serve_explained.Goals as goal

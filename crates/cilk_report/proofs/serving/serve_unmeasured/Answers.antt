@@ -1,6 +1,6 @@
 use Rattle.std.proofs.Common.{sym, ◌∙◌}
 use Rattle.std.proofs.lemmas.Bool.{true≢false}
-use Rattle.cilk_report.proofs.Plain.{unasked}
+use Rattle.cilk_messages.proofs.Plain.{unasked}
 use Rattle.cilk_report.specs.Explained.{Scheduling, SettlingEach}
 use Rattle.cilk_report.proofs.serving.serve_unmeasured.Goals as goal
 

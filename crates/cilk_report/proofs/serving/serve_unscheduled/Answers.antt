@@ -1,8 +1,9 @@
 use Rattle.std.proofs.Common.{◌≡◌, ◌<◌, ◌≤◌, List, ap, length, rules, subst, sym, ◌∙◌}
 use Rattle.std.proofs.lemmas.Bool.{true≢false}
-use Rattle.cilk_report.proofs.Plain.{as_many, fewer}
+use Rattle.cilk_messages.proofs.Plain.{as_many, fewer}
 use Rattle.cilk_report.proofs.Replies.{refused, silence, starved}
-use Rattle.cilk_report.specs.Explained.{About, Explained, Served, ServesThenExplains, explains_itself, unflagged}
+use Rattle.cilk_report.specs.Explained.{About, Explained, Served, ServesThenExplains}
+use Rattle.cilk_messages.specs.Asked.{explains_itself, unflagged}
 use Rattle.cilk_commands.specs.Replies.{Text}
 use Rattle.cilk_messages.specs.Words.{texts}
 use Rattle.cilk_commands.specs.declared.reply.Failure.TheVariants as failures

@@ -1,7 +1,7 @@
 use Rattle.std.proofs.Common.{sym}
 use Rattle.cilk_report.proofs.Batches.{starved, unnamed}
 use Rattle.cilk_report.specs.Explained.{SettledEach}
-use Rattle.cilk_report.specs.Settling.{batch_view}
+use Rattle.cilk_messages.specs.Batches.{batch_view}
 use Rattle.cilk_report.proofs.settling.serve_settling.Goals as goal
 
 pub returns-in-Ok-Some-clause-shown : goal.returns-in-Ok-Some-clause-shown

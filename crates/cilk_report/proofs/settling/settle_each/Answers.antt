@@ -2,7 +2,8 @@ use Rattle.std.proofs.Common.{List, ap, subst, ◌∙◌}
 use Rattle.std.proofs.lemmas.Bool.{not-false, not-true}
 use Rattle.std.specs.Borrow.{Bor}
 use Rattle.cilk_commands.specs.Replies.{Text}
-use Rattle.cilk_report.specs.Settling.{SettlesEach, batch_view, state}
+use Rattle.cilk_report.specs.Settling.{SettlesEach, state}
+use Rattle.cilk_messages.specs.Batches.{batch_view}
 use Rattle.cilk_messages.specs.Words.{texts}
 use Rattle.cilk_report.proofs.Batches.{greatest, last, next, nothing_left}
 use Rattle.cilk_report.proofs.settling.settle_each.Goals as goal

@@ -1,5 +1,6 @@
 use Rattle.std.proofs.Common.{◌≡◌, length}
-use Rattle.cilk_report.specs.Settling.{SettlesEach, State, batch_view, state}
+use Rattle.cilk_report.specs.Settling.{SettlesEach, State, state}
+use Rattle.cilk_messages.specs.Batches.{batch_view}
 use Rattle.cilk_messages.specs.Words.{texts}
 use Rattle.cilk_report.proofs.settling.settle_each.Given as goal
 

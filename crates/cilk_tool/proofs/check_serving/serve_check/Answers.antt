@@ -1,7 +1,7 @@
 use Rattle.std.proofs.Common.{subst, sym}
 use Rattle.cilk_messages.specs.declared.words.WordsFault.{WordsFault}
 use Rattle.cilk_report.proofs.Replies.{IsUsage, of_kept, silence}
-use Rattle.cilk_report.specs.Explained.{unflagged}
+use Rattle.cilk_messages.specs.Asked.{unflagged}
 use Rattle.cilk_commands.specs.Serving.{world}
 use Rattle.cilk_messages.specs.Words.{texts}
 use Rattle.cilk_tool.specs.Helped.{HelpedThenExplains, IsHelpedReply, Plain}

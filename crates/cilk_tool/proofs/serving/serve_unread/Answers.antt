@@ -1,7 +1,7 @@
 use Rattle.std.proofs.Common.{◌≡◌, ◌<◌, ◌≤◌, List, ap, length, rules, subst, ◌∙◌}
-use Rattle.cilk_report.proofs.Plain.{as_many, fewer}
+use Rattle.cilk_messages.proofs.Plain.{as_many, fewer}
 use Rattle.cilk_report.proofs.Replies.{silence}
-use Rattle.cilk_report.specs.Explained.{unflagged}
+use Rattle.cilk_messages.specs.Asked.{unflagged}
 use Rattle.cilk_commands.specs.Replies.{Text}
 use Rattle.cilk_messages.specs.Words.{texts}
 use Rattle.cilk_tool.proofs.Showing.{fails, no_words, starved}

@@ -1,0 +1,47 @@
+-- Command lines about the tool itself.
+use Rattle.std.specs.Prelude.{◌≡◌, ◌&&◌, ◌||◌, Bool, true, false, not, List, [], ◌∷◌, codes}
+use Rattle.std.specs.Str.{bytes_eq}
+use Rattle.cilk_messages.specs.Asked.{Text, is_option}
+use Rattle.cilk_messages.specs.declared.about.About.{About as AboutAnswer}
+use Rattle.cilk_messages.specs.declared.about.About.TheVariants as answers
+
+-- a word that requests help
+abbrev pub is_help : Text → Bool
+is_help word = bytes_eq word (codes "--help") || bytes_eq word (codes "-h")
+
+-- the name of a command
+abbrev pub is_command : Text → Bool
+is_command word =
+    bytes_eq word (codes "run") || (bytes_eq word (codes "certify") || (bytes_eq word (codes "check") || (bytes_eq word (codes "threads")
+    || (bytes_eq word (codes "play") || (bytes_eq word (codes "measure") || (bytes_eq word (codes "schedule") || (bytes_eq word (codes "settle")
+    || (bytes_eq word (codes "judge") || bytes_eq word (codes "explain")))))))))
+
+-- a word that alone is about the tool: a request for help, the version, or all numbers
+abbrev pub is_question : Text → Bool
+is_question word =
+    bytes_eq word (codes "help") || (is_help word || (bytes_eq word (codes "--version") || (bytes_eq word (codes "-V")
+    || bytes_eq word (codes "explain"))))
+
+-- two words about the tool: a request for help on a command, or for the meaning of a number
+abbrev pub is_question_on : Text → Text → Bool
+is_question_on word other =
+    (bytes_eq word (codes "explain") && not (is_option other)) || ((bytes_eq word (codes "help") && is_command other)
+    || (is_command word && is_help other))
+
+-- the words are about the tool itself
+abbrev pub is_about : List Text → Bool
+is_about [] = false
+is_about (word ∷ []) = is_question word
+is_about (word ∷ other ∷ []) = is_question_on word other
+is_about (word ∷ other ∷ more ∷ words) = false
+
+-- any answer but that the words aren't about the tool
+abbrev pub IsAnswer : AboutAnswer → Type 0
+IsAnswer answers.Other = ⊥
+IsAnswer _ = Unit {0}
+
+-- an answer about the tool, if the words are about the tool, and none otherwise
+abbrev pub IsAskedFor : List Text → AboutAnswer → Type 0
+IsAskedFor words answers.Other = is_about words ≡ false
+IsAskedFor words (answers.Text text) = is_about words ≡ true
+IsAskedFor words (answers.Wrong text) = is_about words ≡ true
