@@ -28,6 +28,7 @@
 //! | [`sentence::say`] | a sentence with gaps, and the parts that fill them |
 //! | [`sites::enclosing`] and others | the surroundings of a token |
 //! | [`words::read`] | the command line as an order: `run`, `certify`, `check`, `play`, `settle` or `judge` |
+//! | [`threads_words::read`], [`check_words::read_check`] | the command lines of `threads`, and of `check` with `--helpers` |
 //! | [`asked`], [`flags`], [`batch`] | command lines of `measure`, `schedule` and `settle`, and words that add a text |
 //! | [`about::answer_about`] | the answer to a command line about the tool: its help, a number, its version |
 //! | [`raced::Raced`] | the race of a trace, by a table of sites ([`table::Sites`]) |
@@ -47,6 +48,7 @@ pub mod asked;
 mod at_hand;
 pub mod batch;
 mod certain;
+pub mod check_words;
 mod cleaned;
 pub mod excerpt;
 pub mod flags;
@@ -72,6 +74,7 @@ pub mod sites;
 pub mod sizes;
 mod spelling;
 pub mod table;
+pub mod threads_words;
 pub mod tokens;
 mod unended;
 mod uses;

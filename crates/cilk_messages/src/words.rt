@@ -100,7 +100,7 @@ impl From<AllocError> for WordsFault {
 }
 
 // A command of this name, without words of its own.
-fn named<'a>(alloc: Global, name: &'a str) -> Command<'a>
+pub(crate) fn named<'a>(alloc: Global, name: &'a str) -> Command<'a>
     ensures { HasShape result (new_app name.entry.now) }
 {
     Command::new(alloc, name)
@@ -108,7 +108,7 @@ fn named<'a>(alloc: Global, name: &'a str) -> Command<'a>
 
 // Adds an argument that has to be given. This and what follows take a command as a result, so that
 // a failure leaves one value to drop.
-fn needing<'a>(
+pub(crate) fn needing<'a>(
     alloc: Global,
     command: Result<Command<'a>, AllocError>,
     name: &'a str,
@@ -122,7 +122,7 @@ fn needing<'a>(
 }
 
 // Adds an option `--NAME VALUE`.
-fn taking<'a>(
+pub(crate) fn taking<'a>(
     alloc: Global,
     command: Result<Command<'a>, AllocError>,
     name: &'a str,
@@ -144,7 +144,7 @@ fn program_command<'a>(alloc: Global, name: &'a str) -> Result<Command<'a>, Allo
 }
 
 // `check PROGRAM CERTIFICATE [--input FILE]`
-fn check_command<'a>(alloc: Global) -> Result<Command<'a>, AllocError>
+pub(crate) fn check_command<'a>(alloc: Global) -> Result<Command<'a>, AllocError>
     ensures { IfOk result (λ c. HasShape c check_app) }
 {
     let program = needing(alloc, Ok(named(alloc, "check")), "program");

@@ -31,7 +31,7 @@ use Rattle.cilk_tool.specs.Endings.{AreNotGiven, IsVerdict, StaysBeside, ending_
 use Rattle.cilk_tool.specs.declared.running.Verdict.{Verdict}
 use Rattle.cilk_tool.specs.declared.running.Verdict.TheVariants as verdicts
 use Rattle.cilk_tool.specs.Shown.{AcceptedShow, DepartsFrom, GivesNumbers, IsAcceptedRun, NumbersRefused, NumbersUnread, Ran, RunShows, ThreadsShow, Unaccepted, WithRun, departed}
-use Rattle.cilk_tool.specs.Words.{Requested}
+use Rattle.cilk_messages.specs.ThreadsWords.{Requested}
 use Rattle.cilk_tool.specs.declared.running.Ending.{Ending}
 
 -- numbers that depart from the plan of an accepted run depart from the run

@@ -20,7 +20,7 @@ use Rattle.cilk_messages.specs.declared.words.WordsFault.TheVariants as faults
 use Rattle.cilk_report.proofs.Replies.{IsUsage}
 use Rattle.cilk_commands.proofs.Replying.{keeps}
 use Rattle.cilk_tool.specs.Serving.{Answers, ServesThreads}
-use Rattle.cilk_tool.specs.Words.{IsWordsFault, Requested, order_in}
+use Rattle.cilk_messages.specs.ThreadsWords.{IsWordsFault, Requested, order_in}
 
 no_memory : (w : Surroundings) (asked : Option Requested) → Answers w asked NoMemory
 no_memory w None = tt

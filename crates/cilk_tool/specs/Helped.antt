@@ -5,7 +5,7 @@ use Rattle.cilk_messages.specs.Asked.{unflagged}
 use Rattle.cilk_commands.specs.Replies.{Reply, Text}
 use Rattle.cilk_commands.specs.Serving as tool
 use Rattle.cilk_commands.specs.Serving.{Shows, Surroundings, WordsFail}
-use Rattle.cilk_tool.specs.CheckWords.{Helped, check_in}
+use Rattle.cilk_messages.specs.CheckWords.{Helped, check_in}
 
 -- the answer to an order with helpers: that of `check` without them
 abbrev pub Answers : Surroundings → Option Helped → Reply → Type 0

@@ -10,10 +10,10 @@ use Rattle.cilk_commands.specs.Replies.{Reply, Text}
 use Rattle.cilk_commands.specs.Serving.{JudgedReply, Shows, Surroundings, WordsFail, world}
 use Rattle.cilk_messages.specs.Words as tool
 use Rattle.cilk_messages.specs.Words.{File}
-use Rattle.cilk_tool.specs.CheckWords.{check_in, is_helped}
+use Rattle.cilk_messages.specs.CheckWords.{check_in, is_helped}
 use Rattle.cilk_tool.specs.Helped.{HelpedThenExplains, IsHelpedReply}
 use Rattle.cilk_tool.specs.Shown.{ThreadsShow}
-use Rattle.cilk_tool.specs.Words.{Requested, order_in}
+use Rattle.cilk_messages.specs.ThreadsWords.{Requested, order_in}
 
 -- the first word is `threads`, and more follows than one request for help
 abbrev pub is_threads : List Text → Bool

@@ -12,7 +12,7 @@ use Rattle.cilk_commands.specs.Files.{Failures, IsHeld, IsUnfailed}
 use Rattle.cilk_commands.specs.Replies.{Accepted, Ended, NoMemory, Refused, Reply, Text}
 use Rattle.cilk_commands.specs.Serving.{InputFileFails}
 use Rattle.cilk_commands.specs.Shown.{CheckShows, InputFails}
-use Rattle.cilk_tool.specs.Words.{Requested}
+use Rattle.cilk_messages.specs.ThreadsWords.{Requested}
 
 -- the refusal for a number of workers that isn't 1 to 64
 abbrev pub no_pool : ℕ

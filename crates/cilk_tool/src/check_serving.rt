@@ -7,13 +7,14 @@ ghost use Rattle.cilk_commands.specs.Serving.{WordsFail, world};
 ghost use Rattle.cilk_commands.specs.Streams.{TakesAtMost};
 ghost use Rattle.cilk_commands.specs.declared.streams.TheConstants.{MAX_READ};
 ghost use Rattle.cilk_messages.specs.Words.{texts};
-ghost use Rattle.cilk_tool.specs.CheckWords.{check_in};
+ghost use Rattle.cilk_messages.specs.CheckWords.{check_in};
 ghost use Rattle.cilk_tool.specs.Helped.{HelpedThenExplains, IsHelpedReply};
 
-use crate::check_words::read_check;
 use crate::helping::check_by_helpers;
+use crate::serving::System;
 use cilk_commands::reply::Failure;
 use cilk_commands::{complain, show};
+use cilk_messages::check_words::read_check;
 use cilk_messages::words::WordsFault;
 use cilk_report::{Keeps, follow, of_answer, of_failure, unflagged};
 use std::alloc::Global;
@@ -49,7 +50,7 @@ pub fn serve_check<H: Threads + Sync, F: Keeps, R: Read, O: Write, E: Write>(
         },
         Err(WordsFault::Usage(usage)) => {
             files.keep();
-            serve_unread(rt, alloc, words, usage, files, input, out, err)
+            serve_unread(&System { rt, alloc }, words, usage, files, input, out, err)
         }
         Err(WordsFault::Memory) => complain(alloc, &Failure::Memory, err).status,
     }
@@ -59,8 +60,7 @@ pub fn serve_check<H: Threads + Sync, F: Keeps, R: Read, O: Write, E: Write>(
 /// are served.
 #[tactic(auto, using(cilk_commands::proofs::Reading::takes_same))]
 fn serve_unread<H: Threads + Sync, F: Keeps, R: Read, O: Write, E: Write>(
-    rt: &H,
-    alloc: Global,
+    system: &System<'_, H>,
     words: &[&str],
     usage: String,
     files: &mut F,
@@ -77,20 +77,19 @@ fn serve_unread<H: Threads + Sync, F: Keeps, R: Read, O: Write, E: Write>(
         result (O.contents out.old) (O.contents out.new) (E.contents err.old) (E.contents err.new) }
     ensures most { TakesAtMost MAX_READ (R.remaining input.old) (R.remaining input.new) }
 {
-    match unflagged(alloc, words) {
+    match unflagged(system.alloc, words) {
         Ok(plain) if plain.len() < words.len() => {
-            serve_flagged(rt, alloc, plain.as_slice(), files, input, out, err)
+            serve_flagged(system, plain.as_slice(), files, input, out, err)
         }
-        Ok(_) => complain(alloc, &advised(usage), err).status,
-        Err(_) => complain(alloc, &Failure::Memory, err).status,
+        Ok(_) => complain(system.alloc, &advised(usage), err).status,
+        Err(_) => complain(system.alloc, &Failure::Memory, err).status,
     }
 }
 
 /// Serves the command, then explains what was shown.
 #[tactic(auto, using(cilk_commands::proofs::Reading::takes_same))]
 fn serve_flagged<H: Threads + Sync, F: Keeps, R: Read, O: Write, E: Write>(
-    rt: &H,
-    alloc: Global,
+    system: &System<'_, H>,
     words: &[&str],
     files: &mut F,
     input: &mut R,
@@ -102,27 +101,27 @@ fn serve_flagged<H: Threads + Sync, F: Keeps, R: Read, O: Write, E: Write>(
         result (O.contents out.old) (O.contents out.new) (E.contents err.old) (E.contents err.new) }
     ensures most { TakesAtMost MAX_READ (R.remaining input.old) (R.remaining input.new) }
 {
-    match read_check(alloc, words) {
-        Ok(order) => match check_by_helpers(rt, alloc, &order, files, input) {
+    match read_check(system.alloc, words) {
+        Ok(order) => match check_by_helpers(system.rt, system.alloc, &order, files, input) {
             Ok(answer) => {
-                let served = show(alloc, &answer, out, err);
+                let served = show(system.alloc, &answer, out, err);
                 follow(
                     served,
-                    of_answer(alloc, &order.alone(), &answer, files.kept()),
+                    of_answer(system.alloc, &order.alone(), &answer, files.kept()),
                     err,
                 )
             }
             Err(failure) => {
-                let served = complain(alloc, &failure, err);
+                let served = complain(system.alloc, &failure, err);
                 follow(
                     served,
-                    of_failure(alloc, &order.alone(), &failure, files.kept()),
+                    of_failure(system.alloc, &order.alone(), &failure, files.kept()),
                     err,
                 )
             }
         },
-        Err(WordsFault::Usage(usage)) => complain(alloc, &advised(usage), err).status,
-        Err(WordsFault::Memory) => complain(alloc, &Failure::Memory, err).status,
+        Err(WordsFault::Usage(usage)) => complain(system.alloc, &advised(usage), err).status,
+        Err(WordsFault::Memory) => complain(system.alloc, &Failure::Memory, err).status,
     }
 }
 

@@ -2,10 +2,10 @@
 
 use crate::running::Ending;
 use crate::serving::DEPARTED;
-use crate::words::Order;
 use cilk_commands::reply::Failure;
 use cilk_findings::fault::CaseFault;
 use cilk_messages::report::of_line;
+use cilk_messages::threads_words::Order;
 use cilk_messages::words::Order as Asked;
 use cilk_report::{Kept, of_answer, of_failure};
 use std::alloc::Global;

@@ -16,14 +16,13 @@
 //! is read for hints, which nothing trusts, and then checked. A single helper starts no thread.
 //! Then the file is read in parts, as by `check` alone.
 //!
-//! All other command lines are served by [`cilk_report::serve_explained`], without threads or
-//! waiting. `--explain` adds an explanation on standard error to both commands.
+//! Both command lines are read in `cilk_messages`. All others are served by
+//! [`cilk_report::serve_explained`], without threads or waiting. `--explain` adds an explanation on
+//! standard error to both commands.
 //!
 //! | Call | Purpose |
 //! |---|---|
 //! | [`serve`] | serves a command line and returns the exit status |
-//! | [`words::read`] | reads the command line of `threads` |
-//! | [`check_words::read_check`] | reads the command line of `check` with `--helpers` |
 //!
 //! ```text
 //! cilk certify fib.c > fib.cert
@@ -33,13 +32,11 @@
 #![tactic(auto)]
 
 mod check_serving;
-pub mod check_words;
 mod explaining;
 mod helping;
 mod running;
 mod serving;
 mod stats;
-pub mod words;
 
 pub use cilk_commands::files::{FileFault, Files};
 pub use cilk_report::{Keeps, KeptFiles};

@@ -11,9 +11,8 @@ ghost use Rattle.cilk_commands.specs.declared.streams.TheConstants.{MAX_READ};
 ghost use Rattle.cilk_tool.specs.Endings.{AreNotGiven, IsVerdict, StaysBeside, ending_view};
 ghost use Rattle.cilk_tool.specs.Serving.{Answers};
 ghost use Rattle.cilk_tool.specs.Shown.{AcceptedShow, GivesNumbers, RunShows, ThreadsShow};
-ghost use Rattle.cilk_tool.specs.Words.{order_view};
+ghost use Rattle.cilk_messages.specs.ThreadsWords.{order_view};
 
-use crate::words::Order;
 use cilk_checker::accepted::Accepted;
 use cilk_checker::check::check_run;
 use cilk_checker::refusal::Unaccepted;
@@ -21,6 +20,7 @@ use cilk_commands::files::Files;
 use cilk_commands::parts::PartSource;
 use cilk_commands::reply::{Answer, Failure};
 use cilk_commands::{given, input as judge_input, names, read_file, refused};
+use cilk_messages::threads_words::Order;
 use cilk_messages::words::Origin;
 use cilk_plan::program_plan::plan;
 use cilk_program::program::Program;

@@ -9,16 +9,16 @@ ghost use Rattle.cilk_commands.specs.declared.streams.TheConstants.{MAX_READ};
 ghost use Rattle.cilk_messages.specs.Words.{texts};
 ghost use Rattle.cilk_tool.specs.Endings.{ending_view, place_of};
 ghost use Rattle.cilk_tool.specs.Serving.{IsThreadsReply, ServesParallel, ThreadsThenExplains, is_threads};
-ghost use Rattle.cilk_tool.specs.Words.{order_in};
+ghost use Rattle.cilk_messages.specs.ThreadsWords.{order_in};
 
 use crate::check_serving::serve_check;
-use crate::check_words::is_helped;
 use crate::running::{Ending, carry_out};
 use crate::stats::{Tally, Watch};
-use crate::words::read;
 use cilk_commands::reply::{Failure, REFUSED, WRONG};
 use cilk_commands::streams::send;
 use cilk_commands::{Served, complain, show, tell};
+use cilk_messages::check_words::is_helped;
+use cilk_messages::threads_words::read;
 use cilk_messages::words::WordsFault;
 use cilk_report::{Keeps, asks, follow, is_help, serve_explained, unflagged};
 use cilk_types::event::Pos;
@@ -38,6 +38,13 @@ pub const DEPARTED: u32 = 502;
 
 // Follows the error of a command line that isn't valid.
 const HINT: &str = "\nhint: `cilk help threads` describes `threads` and its options\n";
+
+/// The threads and the memory that a call may use.
+#[derive(Drop)]
+pub struct System<'a, H> {
+    pub rt: &'a H,
+    pub alloc: Global,
+}
 
 /// Serves the words after the program's name and returns the exit status. `threads` runs an
 /// accepted program by workers on threads, and `check` with `--helpers` checks a certificate by
@@ -103,7 +110,7 @@ fn serve_threads<H: Threads + Wait + Clock + Sync, F: Keeps, R: Read, O: Write, 
         },
         Err(WordsFault::Usage(usage)) => {
             files.keep();
-            serve_unread(rt, alloc, words, usage, files, input, out, err)
+            serve_unread(&System { rt, alloc }, words, usage, files, input, out, err)
         }
         Err(WordsFault::Memory) => complain(alloc, &Failure::Memory, err).status,
     }
@@ -113,8 +120,7 @@ fn serve_threads<H: Threads + Wait + Clock + Sync, F: Keeps, R: Read, O: Write, 
 /// the others are served.
 #[tactic(auto, using(cilk_commands::proofs::Reading::takes_same))]
 fn serve_unread<H: Threads + Wait + Clock + Sync, F: Keeps, R: Read, O: Write, E: Write>(
-    rt: &H,
-    alloc: Global,
+    system: &System<'_, H>,
     words: &[&str],
     usage: String,
     files: &mut F,
@@ -131,20 +137,19 @@ fn serve_unread<H: Threads + Wait + Clock + Sync, F: Keeps, R: Read, O: Write, E
         result (O.contents out.old) (O.contents out.new) (E.contents err.old) (E.contents err.new) }
     ensures most { TakesAtMost MAX_READ (R.remaining input.old) (R.remaining input.new) }
 {
-    match unflagged(alloc, words) {
+    match unflagged(system.alloc, words) {
         Ok(plain) if plain.len() < words.len() => {
-            serve_flagged(rt, alloc, words, plain.as_slice(), files, input, out, err)
+            serve_flagged(system, words, plain.as_slice(), files, input, out, err)
         }
-        Ok(_) => complain(alloc, &advised(usage), err).status,
-        Err(_) => complain(alloc, &Failure::Memory, err).status,
+        Ok(_) => complain(system.alloc, &advised(usage), err).status,
+        Err(_) => complain(system.alloc, &Failure::Memory, err).status,
     }
 }
 
 /// Serves `threads` by the words without those that add a text, then adds it.
 #[tactic(auto, using(cilk_commands::proofs::Reading::takes_same))]
 fn serve_flagged<H: Threads + Wait + Clock + Sync, F: Keeps, R: Read, O: Write, E: Write>(
-    rt: &H,
-    alloc: Global,
+    system: &System<'_, H>,
     words: &[&str],
     plain: &[&str],
     files: &mut F,
@@ -158,19 +163,18 @@ fn serve_flagged<H: Threads + Wait + Clock + Sync, F: Keeps, R: Read, O: Write, 
     ensures most { TakesAtMost MAX_READ (R.remaining input.old) (R.remaining input.new) }
 {
     if !asks(words, "--stats") {
-        return serve_watched(rt, alloc, plain, &Open, files, input, out, err);
+        return serve_watched(system, plain, &Open, files, input, out, err);
     }
-    match Tally::new(rt, alloc, asks(words, "--explain")) {
-        Ok(tally) => serve_watched(rt, alloc, plain, &tally, files, input, out, err),
-        Err(_) => complain(alloc, &Failure::Memory, err).status,
+    match Tally::new(system.rt, system.alloc, asks(words, "--explain")) {
+        Ok(tally) => serve_watched(system, plain, &tally, files, input, out, err),
+        Err(_) => complain(system.alloc, &Failure::Memory, err).status,
     }
 }
 
 /// Serves `threads`, then adds what is known of the run.
 #[tactic(auto, using(cilk_commands::proofs::Reading::takes_same))]
 fn serve_watched<H: Threads + Wait + Sync, W: Watch, F: Keeps, R: Read, O: Write, E: Write>(
-    rt: &H,
-    alloc: Global,
+    system: &System<'_, H>,
     words: &[&str],
     watch: &W,
     files: &mut F,
@@ -183,27 +187,27 @@ fn serve_watched<H: Threads + Wait + Sync, W: Watch, F: Keeps, R: Read, O: Write
         result (O.contents out.old) (O.contents out.new) (E.contents err.old) (E.contents err.new) }
     ensures most { TakesAtMost MAX_READ (R.remaining input.old) (R.remaining input.new) }
 {
-    match read(alloc, words) {
-        Ok(order) => match carry_out(rt, alloc, &order, watch, files, input) {
+    match read(system.alloc, words) {
+        Ok(order) => match carry_out(system.rt, system.alloc, &order, watch, files, input) {
             Ok(ending) => {
-                let served = show_ending(alloc, &ending, out, err);
+                let served = show_ending(system.alloc, &ending, out, err);
                 follow(
                     served,
-                    watch.behind_ending(alloc, &order, &ending, files.kept()),
+                    watch.behind_ending(system.alloc, &order, &ending, files.kept()),
                     err,
                 )
             }
             Err(failure) => {
-                let served = complain(alloc, &failure, err);
+                let served = complain(system.alloc, &failure, err);
                 follow(
                     served,
-                    watch.behind_fault(alloc, &order, &failure, files.kept()),
+                    watch.behind_fault(system.alloc, &order, &failure, files.kept()),
                     err,
                 )
             }
         },
-        Err(WordsFault::Usage(usage)) => complain(alloc, &advised(usage), err).status,
-        Err(WordsFault::Memory) => complain(alloc, &Failure::Memory, err).status,
+        Err(WordsFault::Usage(usage)) => complain(system.alloc, &advised(usage), err).status,
+        Err(WordsFault::Memory) => complain(system.alloc, &Failure::Memory, err).status,
     }
 }
 

@@ -2,15 +2,16 @@
 
 use crate::explaining::{of_ending, of_fault};
 use crate::running::Ending;
-use crate::words::Order;
 use cilk_commands::reply::{Answer, Failure};
 use cilk_findings::fault::CaseFault;
 use cilk_findings::runs::Run;
+use cilk_messages::threads_words::Order;
 use cilk_messages::words::Origin;
 use cilk_report::{CaseTexts, Kept, push_cells};
 use cilk_shared::yard::Segment;
 use cilk_types::event::{Event, StrandNo};
 use cilk_workers::gate::{Gate, Open};
+use itoa::Buffer;
 use std::alloc::{AllocError, Global};
 use std::sync::atomic::{AtomicU32, AtomicU64, Ordering};
 use std::time::{Clock, Instant};
@@ -138,7 +139,9 @@ impl<H: Clock + Sync> Watch for Tally<'_, H> {
         };
         if matches!(ending, Ending::Answer(Answer::Outcome { .. })) {
             self.push_table(alloc, &mut text, order, kept)?;
-            self.push_seconds(alloc, &mut text, ended)?;
+            if let Some(ended) = ended {
+                self.push_seconds(&mut text, ended)?;
+            }
         }
         Ok(text)
     }
@@ -170,6 +173,24 @@ const NOTHING: Count = Count {
     stolen: 0,
 };
 
+/// The counts of a run's strands.
+struct Counting {
+    // By workers; in the first place all of them.
+    counts: Vec<Count>,
+    // The strand of each spawn whose child is open, and 0 for a call.
+    spawns: Vec<usize>,
+}
+
+// Written out, so that a proof follows one call where a count is dropped.
+impl Drop for Counting {
+    fn drop(self) {
+        let Counting {
+            counts: _counts,
+            spawns: _spawns,
+        } = self;
+    }
+}
+
 impl<H: Clock> Tally<'_, H> {
     // A row for each worker, and one for all. `kept` has the program and its input.
     fn push_table(
@@ -184,63 +205,54 @@ impl<H: Clock> Tally<'_, H> {
         };
         let case = texts.case(alloc)?;
         let run = Run::of(&case)?;
-        let mut counts = Vec::new(alloc);
-        counts.resize((order.workers as usize).saturating_add(1), NOTHING)?;
-        let mut spawns = Vec::new(alloc);
-        self.count(&run, &mut counts, &mut spawns)?;
-        push_counts(alloc, text, counts.as_slice())?;
-        Ok(())
+        let mut counting = Counting {
+            counts: Vec::new(alloc),
+            spawns: Vec::new(alloc),
+        };
+        self.count(&run, order.workers, &mut counting)?;
+        Ok(push_counts(text, counting.counts.as_slice())?)
     }
 
-    // Counts the strands of a run by their workers; in the first place all of them. `spawns` has the
-    // strand of each spawn whose child is open, and 0 for a call.
-    fn count(
-        &self,
-        run: &Run,
-        counts: &mut Vec<Count>,
-        spawns: &mut Vec<usize>,
-    ) -> Result<(), AllocError> {
+    // Counts the strands of a run by their workers.
+    fn count(&self, run: &Run, workers: u32, counting: &mut Counting) -> Result<(), AllocError> {
+        counting
+            .counts
+            .resize((workers as usize).saturating_add(1), NOTHING)?;
         let mut strand: usize = 0;
         for event in run.trace.as_slice() {
             let spawn = match event {
                 Event::Spawn { .. } => {
-                    spawns.push(strand)?;
+                    counting.spawns.push(strand)?;
                     continue;
                 }
                 Event::Call { .. } => {
-                    spawns.push(0)?;
+                    counting.spawns.push(0)?;
                     continue;
                 }
-                Event::Resume { .. } => spawns.pop().unwrap_or(0),
+                Event::Resume { .. } => counting.spawns.pop().unwrap_or(0),
                 Event::Begin { .. } | Event::Sync => 0,
                 _ => continue,
             };
             strand = strand.saturating_add(1);
             let worker = self.worker_of(strand);
             let is_stolen = spawn > 0 && self.worker_of(spawn) != worker;
-            raise(counts, worker, is_stolen);
+            raise(&mut counting.counts, worker, is_stolen);
             if worker > 0 {
-                raise(counts, 0, is_stolen);
+                raise(&mut counting.counts, 0, is_stolen);
             }
         }
         Ok(())
     }
 
     // The seconds from the run's begin to its end.
-    fn push_seconds(
-        &self,
-        alloc: Global,
-        text: &mut String,
-        ended: Option<u64>,
-    ) -> Result<(), AllocError> {
-        let Some(ended) = ended else {
-            return Ok(());
-        };
+    fn push_seconds(&self, text: &mut String, ended: u64) -> Result<(), AllocError> {
         let passed = ended.saturating_sub(self.begun.load(Ordering::SeqCst));
         let seconds = passed / 1_000_000;
-        let rest = 1_000_000 + passed % 1_000_000;
-        let rest = format!(in alloc; "{rest}")?;
-        let rest = rest.as_str().strip_prefix("1").unwrap_or("");
+        let mut buffer = Buffer::new();
+        let rest = buffer
+            .format(1_000_000 + passed % 1_000_000)
+            .strip_prefix("1")
+            .unwrap_or("");
         write!(text, "seconds {seconds}.{rest}\n")
     }
 }
@@ -254,36 +266,27 @@ fn raise(counts: &mut Vec<Count>, worker: usize, is_stolen: bool) {
     }
 }
 
-fn push_counts(alloc: Global, text: &mut String, counts: &[Count]) -> Result<(), AllocError> {
-    push_cells(text, "worker", &["strands", "stolen"], WIDTH, false)?;
-    let [all, workers @ ..] = counts else {
-        return Ok(());
-    };
-    for (number, count) in workers.iter().enumerate() {
-        let number = number.saturating_add(1);
-        let name = format!(in alloc; "{number}")?;
-        push_count(alloc, text, name.as_str(), count)?;
-    }
-    push_count(alloc, text, "all", all)
-}
-
 // The width of the first column.
 const WIDTH: usize = 6;
 
-fn push_count(
-    alloc: Global,
-    text: &mut String,
-    name: &str,
-    count: &Count,
-) -> Result<(), AllocError> {
-    let Count { strands, stolen } = *count;
-    let strands = format!(in alloc; "{strands}")?;
-    let stolen = format!(in alloc; "{stolen}")?;
-    push_cells(
-        text,
-        name,
-        &[strands.as_str(), stolen.as_str()],
-        WIDTH,
-        false,
-    )
+// Adds a row for each worker, then one for all of them, which is the first count.
+fn push_counts(text: &mut String, counts: &[Count]) -> Result<(), AllocError> {
+    push_cells(text, "worker", &["strands", "stolen"], WIDTH, false)?;
+    for number in 1..counts.len() {
+        let mut name = Buffer::new();
+        push_count(text, name.format(number as u64), counts[number])?;
+    }
+    match counts {
+        [all, ..] => push_count(text, "all", *all),
+        [] => Ok(()),
+    }
+}
+
+fn push_count(text: &mut String, name: &str, count: Count) -> Result<(), AllocError> {
+    let (mut strands, mut stolen) = (Buffer::new(), Buffer::new());
+    let cells = [
+        strands.format(count.strands as u64),
+        stolen.format(count.stolen as u64),
+    ];
+    push_cells(text, name, &cells, WIDTH, false)
 }

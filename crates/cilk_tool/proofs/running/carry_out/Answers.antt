@@ -2,7 +2,7 @@ use Rattle.cilk_checker.specs.Judging.{meant}
 use Rattle.cilk_commands.specs.Serving.{Unjudged}
 use Rattle.cilk_commands.proofs.Replying.{given_later, handed, judged_err}
 use Rattle.cilk_tool.specs.Shown.{ThreadsShow}
-use Rattle.cilk_tool.specs.Words.{order_view}
+use Rattle.cilk_messages.specs.ThreadsWords.{order_view}
 use Rattle.cilk_tool.proofs.Accepted.{earlier_err, earlier_ok, judged_ok}
 use Rattle.cilk_tool.proofs.running.carry_out.Goals as goal
 

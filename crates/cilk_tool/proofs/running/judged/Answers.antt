@@ -1,4 +1,4 @@
-use Rattle.cilk_tool.specs.Words.{order_view}
+use Rattle.cilk_messages.specs.ThreadsWords.{order_view}
 use Rattle.cilk_checker.specs.Judging.{meant}
 use Rattle.cilk_tool.proofs.Accepted.{accepts, beside, with_run_err, with_run_ok}
 use Rattle.cilk_tool.proofs.running.judged.Goals as goal

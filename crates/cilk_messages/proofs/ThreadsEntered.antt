@@ -20,8 +20,8 @@ use Rattle.clap.proofs.WalkLemmas.{first_value-rows}
 use Rattle.cilk_messages.specs.Words.{IsRefusal, texts, workers_in}
 use Rattle.cilk_messages.specs.declared.words.WordsFault.{WordsFault}
 use Rattle.cilk_messages.specs.declared.words.WordsFault.TheVariants.{Usage, Memory}
-use Rattle.cilk_tool.specs.Words.{IsWordsFault, Requested, order_by, order_in, order_view, parallel_app, requested, texts_in, texts_view, threads_with}
-use Rattle.cilk_tool.specs.declared.words.Order.{Order}
+use Rattle.cilk_messages.specs.ThreadsWords.{IsWordsFault, Requested, order_by, order_in, order_view, parallel_app, requested, texts_in, texts_view, threads_with}
+use Rattle.cilk_messages.specs.declared.threads_words.Order.{Order}
 
 -- the text of a name in the matches
 pub named : (f : Found) (name : Text) (o : Option (Bor Text)) → option_map (λ s. s.now) o ≡ first_value f name → first_of name (rows_of f) ≡ option_map (λ s. s.now) o

@@ -3,10 +3,10 @@
 ghost use Rattle.std.specs.Prelude.{◌≡◌, IfOk, IfErr, Some, option_map};
 ghost use Rattle.clap.specs.Words.{found_of, rows_of, subcommand_rows_of};
 ghost use Rattle.cilk_messages.specs.Words.{HasShape, texts};
-ghost use Rattle.cilk_tool.specs.Words.{IsWordsFault, checked_app, order_by, order_in, order_view, parallel_app, texts_in, texts_view, threads_app, threads_with, two_texts_app};
+ghost use Rattle.cilk_messages.specs.ThreadsWords.{IsWordsFault, order_by, order_in, order_view, parallel_app, texts_in, texts_view, threads_app, threads_with};
 
-use cilk_messages::words::{WordsFault, empty, refusal, with, workers_in};
-use clap::{Arg, ArgAction, ArgMatches, Command};
+use crate::words::{WordsFault, empty, named, needing, refusal, taking, with, workers_in};
+use clap::{ArgMatches, Command};
 use std::alloc::{AllocError, Global};
 
 // The error of a command line that clap accepts but whose number of workers isn't valid.
@@ -28,40 +28,17 @@ pub struct Order<'a> {
     pub on: Option<&'a str>,
 }
 
-/// `NAME PROGRAM CERTIFICATE`.
-pub(crate) fn two_texts<'a>(alloc: Global, name: &'a str) -> Result<Command<'a>, AllocError>
-    ensures { IfOk result (λ c. HasShape c (two_texts_app name.entry.now)) }
-{
-    Command::new(alloc, name)
-        .arg(Arg::new(alloc, "program").required(true))?
-        .arg(Arg::new(alloc, "certificate").required(true))
-}
-
-/// `threads PROGRAM CERTIFICATE [--workers N] [--input FILE]`.
-fn checked_texts<'a>(alloc: Global) -> Result<Command<'a>, AllocError>
-    ensures { IfOk result (λ c. HasShape c checked_app) }
-{
-    two_texts(alloc, "threads")?
-        .arg(
-            Arg::new(alloc, "workers")
-                .long("workers")
-                .action(ArgAction::Set),
-        )?
-        .arg(
-            Arg::new(alloc, "input")
-                .long("input")
-                .action(ArgAction::Set),
-        )
-}
-
-/// `threads PROGRAM CERTIFICATE [--workers N] [--input FILE] [--on FILE]`.
+// `threads PROGRAM CERTIFICATE [--workers N] [--input FILE] [--on FILE]`
 fn threads_command<'a>(alloc: Global) -> Result<Command<'a>, AllocError>
     ensures { IfOk result (λ c. HasShape c threads_app) }
 {
-    checked_texts(alloc)?.arg(Arg::new(alloc, "on").long("on").action(ArgAction::Set))
+    let program = needing(alloc, Ok(named(alloc, "threads")), "program");
+    let workers = taking(alloc, needing(alloc, program, "certificate"), "workers");
+    let input = taking(alloc, workers, "input");
+    taking(alloc, input, "on")
 }
 
-/// The command line as clap reads it.
+// The command line as clap reads it.
 fn command<'a>(alloc: Global) -> Result<Command<'a>, AllocError>
     ensures { IfOk result (λ c. HasShape c parallel_app) }
 {
@@ -77,7 +54,7 @@ pub(crate) fn two_paths<'a>(matches: &ArgMatches<'a>) -> Option<(&'a str, &'a st
     Some((program, certificate))
 }
 
-/// Returns the order of the matches of `threads`.
+// The order of the matches of `threads`.
 fn threads_order<'a>(threads: &ArgMatches<'a>) -> Option<Order<'a>>
     ensures { option_map order_view result ≡ threads_with (rows_of (found_of threads.now)) }
 {
@@ -95,7 +72,7 @@ fn threads_order<'a>(threads: &ArgMatches<'a>) -> Option<Order<'a>>
     })
 }
 
-/// Returns the order of the matches.
+// The order of the matches.
 fn order_of<'a>(matches: &ArgMatches<'a>) -> Option<Order<'a>>
     ensures { option_map order_view result ≡ order_by (subcommand_rows_of matches.now) }
 {

@@ -1,6 +1,6 @@
 use Rattle.std.proofs.Common.{◌∙◌, sym}
-use Rattle.cilk_tool.proofs.CheckEntered.{free_shape, order_found, order_lost, order_of_matches, order_of_refused}
-use Rattle.cilk_tool.proofs.check_words.read_check.Goals as goal
+use Rattle.cilk_messages.proofs.ThreadsEntered.{free_shape, order_found, order_lost, order_of_matches, order_of_refused}
+use Rattle.cilk_messages.proofs.threads_words.read.Goals as goal
 
 pub returns-in-Some-clause-order : goal.returns-in-Some-clause-order
 returns-in-Some-clause-order c =

@@ -8,7 +8,7 @@ use Rattle.clap.specs.declared.builder.action.ArgAction.TheVariants.{Set}
 use Rattle.cilk_messages.specs.Words.{certificate_rule, empty_app, input_rule, program_rule, workers_in, workers_rule}
 use Rattle.cilk_messages.specs.declared.words.WordsFault.{WordsFault}
 use Rattle.cilk_messages.specs.declared.words.WordsFault.TheVariants.{Usage, Memory}
-use Rattle.cilk_tool.specs.declared.words.Order.{Order}
+use Rattle.cilk_messages.specs.declared.threads_words.Order.{Order}
 
 -- An order to check a program's certificate, whose input is that of a file or empty, and to run the
 -- program by `workers` workers, on that input or on that of another file.

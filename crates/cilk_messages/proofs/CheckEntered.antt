@@ -17,10 +17,10 @@ use Rattle.clap.proofs.OnLiterals.{clap_on_literals}
 use Rattle.cilk_messages.specs.Words.{IsRefusal, texts}
 use Rattle.cilk_messages.specs.declared.words.WordsFault.{WordsFault}
 use Rattle.cilk_messages.specs.declared.words.WordsFault.TheVariants.{Usage, Memory}
-use Rattle.cilk_tool.proofs.Entered.{among, named}
-use Rattle.cilk_tool.specs.CheckWords.{Helped, IsWordsFault, check_by, check_in, check_view, checked_with, commands_app, helped, helpers_in}
-use Rattle.cilk_tool.specs.Words.{texts_in, texts_view}
-use Rattle.cilk_tool.specs.declared.check_words.CheckOrder.{CheckOrder}
+use Rattle.cilk_messages.proofs.ThreadsEntered.{among, named}
+use Rattle.cilk_messages.specs.CheckWords.{Helped, IsWordsFault, check_by, check_in, check_view, checked_with, commands_app, helped, helpers_in}
+use Rattle.cilk_messages.specs.ThreadsWords.{texts_in, texts_view}
+use Rattle.cilk_messages.specs.declared.check_words.CheckOrder.{CheckOrder}
 
 -- the order of these texts
 abbrev pub with_texts : List Row → Option ℕ → Option (Text × Text) → Option Helped

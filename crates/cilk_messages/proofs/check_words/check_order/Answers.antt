@@ -1,8 +1,8 @@
 use Rattle.std.proofs.Common.{ap, option_map, ◌∙◌, sym}
 use Rattle.clap.specs.Words.{found_of, rows_of}
-use Rattle.cilk_tool.specs.CheckWords.{check_view}
-use Rattle.cilk_tool.proofs.CheckEntered.{by_file, by_helpers, no_texts}
-use Rattle.cilk_tool.proofs.check_words.check_order.Goals as goal
+use Rattle.cilk_messages.specs.CheckWords.{check_view}
+use Rattle.cilk_messages.proofs.CheckEntered.{by_file, by_helpers, no_texts}
+use Rattle.cilk_messages.proofs.check_words.check_order.Goals as goal
 
 pub returns-in_err-program : goal.returns-in_err-program
 returns-in_err-program c =

@@ -1,8 +1,8 @@
 use Rattle.std.proofs.Common.{ap, option_map, ◌∙◌, sym}
 use Rattle.clap.specs.Words.{found_of}
-use Rattle.cilk_tool.specs.Words.{texts_view}
-use Rattle.cilk_tool.proofs.Entered.{both_texts, no_certificate, no_program}
-use Rattle.cilk_tool.proofs.words.two_paths.Goals as goal
+use Rattle.cilk_messages.specs.ThreadsWords.{texts_view}
+use Rattle.cilk_messages.proofs.ThreadsEntered.{both_texts, no_certificate, no_program}
+use Rattle.cilk_messages.proofs.threads_words.two_paths.Goals as goal
 
 pub returns-in_err-program : goal.returns-in_err-program
 returns-in_err-program c =

@@ -2,15 +2,17 @@
 
 ghost use Rattle.std.specs.Prelude.{◌≡◌, IfOk, IfErr, Some, option_map};
 ghost use Rattle.clap.specs.Words.{found_of, rows_of, subcommand_rows_of};
-ghost use Rattle.cilk_messages.specs.Words.{HasShape, check_app, order_view, texts};
-ghost use Rattle.cilk_tool.specs.CheckWords.{IsWordsFault, check_by, check_in, check_view, checked_with, commands_app, helped_app, helper_count, helpers_in, is_helped, is_helpers, name_helpers};
+ghost use Rattle.cilk_messages.specs.Words.{HasShape, order_view, texts};
+ghost use Rattle.cilk_messages.specs.CheckWords.{IsWordsFault, check_by, check_in, check_view, checked_with, commands_app, helped_app, helper_count, helpers_in, is_helped, is_helpers, name_helpers};
 
-use crate::words::{two_paths, two_texts};
-use cilk_helpers::many::MAX_HELPERS;
-use cilk_messages::words::{Order, WordsFault, empty, refusal, with};
+use crate::threads_words::two_paths;
+use crate::words::{Order, WordsFault, check_command, empty, refusal, taking, with};
 use cilk_syntax::lexer::{all_digits, value_of};
-use clap::{Arg, ArgAction, ArgMatches, Command};
+use clap::{ArgMatches, Command};
 use std::alloc::{AllocError, Global};
+
+/// The greatest number of helpers.
+pub const MAX_HELPERS: u32 = 16;
 
 // The error of a command line that clap accepts but whose number of helpers isn't valid.
 const NO_ORDER: &str = "error: the number of helpers is 1 to 16\n";
@@ -51,7 +53,7 @@ pub fn is_helped(words: &[&str]) -> bool
     }
 }
 
-/// Returns whether one of the words is an option for helpers.
+// Returns whether one of the words is an option for helpers.
 fn name_helpers(words: &[&str]) -> bool
     ensures { result ≡ name_helpers (texts words.now) }
 {
@@ -65,43 +67,28 @@ fn name_helpers(words: &[&str]) -> bool
     false
 }
 
-/// Returns whether a word is the option for helpers, with or without its number.
+// Returns whether a word is the option for helpers, with or without its number.
 fn is_helpers(word: &str) -> bool
     ensures { result ≡ is_helpers word.now }
 {
     word == "--helpers" || word.starts_with("--helpers=")
 }
 
-/// `check PROGRAM CERTIFICATE [--input FILE]`.
-fn check_command<'a>(alloc: Global) -> Result<Command<'a>, AllocError>
-    ensures { IfOk result (λ c. HasShape c check_app) }
-{
-    two_texts(alloc, "check")?.arg(
-        Arg::new(alloc, "input")
-            .long("input")
-            .action(ArgAction::Set),
-    )
-}
-
-/// `check PROGRAM CERTIFICATE [--input FILE] [--helpers N]`.
+// `check PROGRAM CERTIFICATE [--input FILE] [--helpers N]`
 fn helped_command<'a>(alloc: Global) -> Result<Command<'a>, AllocError>
     ensures { IfOk result (λ c. HasShape c helped_app) }
 {
-    check_command(alloc)?.arg(
-        Arg::new(alloc, "helpers")
-            .long("helpers")
-            .action(ArgAction::Set),
-    )
+    taking(alloc, check_command(alloc), "helpers")
 }
 
-/// The command line as clap reads it.
+// The command line as clap reads it.
 fn command<'a>(alloc: Global) -> Result<Command<'a>, AllocError>
     ensures { IfOk result (λ c. HasShape c commands_app) }
 {
     with(empty(alloc)?, helped_command(alloc), CHECK)
 }
 
-/// Returns the number that digits spell, if it is 1 to 16.
+// Returns the number that digits spell, if it is 1 to 16.
 fn helper_count(digits: &[u8]) -> Option<u32>
     ensures { result ≡ helper_count digits.now }
 {
@@ -114,7 +101,7 @@ fn helper_count(digits: &[u8]) -> Option<u32>
     }
 }
 
-/// Returns the number of helpers for the option's value; 1 without the option.
+// Returns the number of helpers for the option's value; 1 without the option.
 fn helpers_in(word: Option<&str>) -> Option<u32>
     ensures { result ≡ helpers_in (option_map (λ w. w.now) word.entry) }
 {
@@ -124,7 +111,7 @@ fn helpers_in(word: Option<&str>) -> Option<u32>
     }
 }
 
-/// Returns the order of the matches of `check`.
+// Returns the order of the matches of `check`.
 fn check_order<'a>(check: &ArgMatches<'a>) -> Option<CheckOrder<'a>>
     ensures { option_map check_view result ≡ checked_with (rows_of (found_of check.now)) }
 {
@@ -140,7 +127,7 @@ fn check_order<'a>(check: &ArgMatches<'a>) -> Option<CheckOrder<'a>>
     })
 }
 
-/// Returns the order of the matches.
+// Returns the order of the matches.
 fn order_of<'a>(matches: &ArgMatches<'a>) -> Option<CheckOrder<'a>>
     ensures { option_map check_view result ≡ check_by (subcommand_rows_of matches.now) }
 {

@@ -1,8 +1,8 @@
 use Rattle.std.proofs.Common.{ap, option_map, ◌∙◌, sym}
 use Rattle.clap.specs.Words.{found_of, rows_of}
-use Rattle.cilk_tool.specs.Words.{order_view}
-use Rattle.cilk_tool.proofs.Entered.{by_files, by_workers, no_texts}
-use Rattle.cilk_tool.proofs.words.threads_order.Goals as goal
+use Rattle.cilk_messages.specs.ThreadsWords.{order_view}
+use Rattle.cilk_messages.proofs.ThreadsEntered.{by_files, by_workers, no_texts}
+use Rattle.cilk_messages.proofs.threads_words.threads_order.Goals as goal
 
 pub returns-in_err-program : goal.returns-in_err-program
 returns-in_err-program c =

@@ -1,4 +1,4 @@
-use Rattle.cilk_tool.proofs.check_words.command.Goals as goal
+use Rattle.cilk_messages.proofs.check_words.command.Goals as goal
 
 pub returns : goal.returns
 returns c = c.with.ensures _ _ c.in_ok-empty.ensures c.helped_command.ensures
