@@ -13,7 +13,7 @@ use Rattle.std.specs.Borrow.{Bor}
 use Rattle.cilk_syntax.specs.Lexing.{all_digits}
 use Rattle.cilk_messages.specs.Asked.{Text}
 use Rattle.cilk_messages.specs.Words.{texts}
-use Rattle.cilk_messages.specs.Asked.{asks, behind_first, is_flag, marks, unflagged, unmarked, without_why}
+use Rattle.cilk_messages.specs.Asked.{asks, is_flag, unflagged, unmarked, without_why}
 use Rattle.cilk_messages.specs.Batches.{is_settling}
 
 pub one_more : (plain : List (Bor Text)) (w : Bor Text) (words : List Text) → texts (plain ++ w ∷ []) ++ words ≡ texts plain ++ w.now ∷ words

@@ -1,6 +1,8 @@
--- The words of `settle` for several programs, or in a short form.
-use Rattle.std.specs.Prelude.{◌==◌, ◌&&◌, ◌||◌, Bool, true, false, not, List, [], ◌∷◌, ◌++◌, cond, Option, Some, None, is_some, option_and_then, option_map, codes}
+-- `settle` for several programs, or in a short form: its words, and the lines of its replies.
+use Rattle.std.specs.Prelude.{ℕ, ◌==◌, ◌&&◌, ◌||◌, Bool, true, false, not, List, [], ◌∷◌, ◌++◌, cond, Option, Some, None, is_some, option_and_then, option_map, codes, decimal}
 use Rattle.std.specs.Str.{bytes_eq}
+use Rattle.json.specs.Print.{print}
+use Rattle.json.specs.Token.{begin_object, end_object, key, number, string}
 use Rattle.cilk_messages.specs.Asked.{Text, asks, behind_first, is_help, is_option}
 use Rattle.cilk_messages.specs.Words.{texts}
 use Rattle.cilk_messages.specs.declared.batch.Batch as code
@@ -61,6 +63,24 @@ batch_in words = option_and_then (λ b. cond (is_whole b) (Some b) None) (with_w
 abbrev pub first_line : Text → Text
 first_line [] = []
 first_line (byte ∷ bytes) = cond (byte == 10) [] (byte ∷ first_line bytes)
+
+-- a text and the end of its line
+abbrev pub line : Text → Text
+line text = text ++ 10 ∷ []
+
+-- `PROGRAM:`
+abbrev pub heading : Text → Text
+heading program = line (program ++ codes ":")
+
+-- `PROGRAM: ` and the first line of a reply
+abbrev pub short_line : Text → Text → Text
+short_line program reply = line (program ++ codes ": " ++ first_line reply)
+
+-- a JSON object of the program, the status and the whole reply
+abbrev pub object_line : Text → ℕ → Text → Text
+object_line program status reply =
+    line (print (begin_object ∷ key (codes "program") ∷ string program ∷ key (codes "status") ∷ number (decimal status)
+    ∷ key (codes "reply") ∷ string reply ∷ end_object ∷ []))
 
 abbrev pub batch_view : code.Batch → Batch
 batch_view b = batch (texts b.programs.items) (option_map (λ path. path.now) b.input) b.form b.awaits

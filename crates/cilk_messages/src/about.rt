@@ -92,7 +92,10 @@ pub fn answer_about(alloc: Global, words: &[&str]) -> Result<About, AllocError>
 fn explained(alloc: Global, word: &str) -> Result<About, AllocError>
     ensures { IfOk result (λ answer. IsAnswer answer) }
 {
-    let number = number_of(word.as_bytes()).unwrap_or(0).min(65_535) as u16;
+    let number = match number_of(word.as_bytes()) {
+        Some(number) if number <= 65_535 => number as u16,
+        _ => 0,
+    };
     if let Some(text) = of_number(alloc, number)? {
         return Ok(About::Text(text));
     }

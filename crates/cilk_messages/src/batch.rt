@@ -1,10 +1,12 @@
-//! The words of `settle` for several programs, or in a short form.
+//! `settle` for several programs, or in a short form: its words, and the lines of its replies.
 
-ghost use Rattle.std.specs.Prelude.{◌≡◌, ◌++◌, IfOk, None, OnOk, Some, cond, option_map};
-ghost use Rattle.cilk_messages.specs.Batches.{batch_in, batch_view, first_line, is_settling, with_form, with_word};
+ghost use Rattle.std.specs.Prelude.{◌≡◌, ◌++◌, ◌∷◌, [], IfOk, None, OnOk, Some, codes, cond, decimal, option_map};
+ghost use Rattle.json.specs.Token.{begin_object, end_object, key, number, string};
+ghost use Rattle.cilk_messages.specs.Batches.{batch_in, batch_view, first_line, is_settling, object_line, short_line, with_form, with_word};
 ghost use Rattle.cilk_messages.specs.Words.{texts};
 
 use crate::asked::{asks, behind_first, is_help, is_option};
+use json::Writer;
 use std::alloc::{AllocError, Global};
 
 /// The form of the replies to several programs.
@@ -104,8 +106,8 @@ pub fn batch_of<'a>(alloc: Global, words: &[&'a str]) -> Result<Option<Batch<'a>
     Ok(Some(batch))
 }
 
-/// Adds the first line of a reply.
-pub fn push_first_line(text: &mut Vec<u8>, reply: &[u8]) -> Result<(), AllocError>
+// Adds the first line of a reply.
+fn push_first_line(text: &mut Vec<u8>, reply: &[u8]) -> Result<(), AllocError>
     ensures { OnOk result (text.new.items ≡ text.old.items ++ first_line reply.now) }
 {
     let mut rest = reply;
@@ -116,5 +118,53 @@ pub fn push_first_line(text: &mut Vec<u8>, reply: &[u8]) -> Result<(), AllocErro
         text.push(*byte)?;
         rest = behind;
     }
+    Ok(())
+}
+
+/// Returns the line `PROGRAM: REPLY`, with the first line of the reply.
+pub fn short(alloc: Global, program: &str, reply: &[u8]) -> Result<Vec<u8>, AllocError>
+    ensures { IfOk result (λ text. text.items ≡ short_line program.now reply.now) }
+{
+    let mut text = program.as_bytes().to_vec(alloc)?;
+    text.extend_from_slice(b": ")?;
+    push_first_line(&mut text, reply)?;
+    text.push(b'\n')?;
+    Ok(text)
+}
+
+/// Returns a JSON object of the program, the status and the reply. A reply is text, so nothing else
+/// fails than memory.
+pub fn object(alloc: Global, program: &str, status: u8, reply: &[u8]) -> Result<Vec<u8>, AllocError>
+    ensures { IfOk result (λ text. text.items ≡ object_line program.now status reply.now) }
+{
+    let Ok(reply) = str::from_utf8(reply) else {
+        return Err(AllocError);
+    };
+    let mut writer = Writer::new(Vec::new(alloc));
+    write_object(&mut writer, program, status, reply)?;
+    let mut text = writer.into_inner();
+    text.push(b'\n')?;
+    Ok(text)
+}
+
+fn write_object(
+    writer: &mut Writer<Global>,
+    program: &str,
+    status: u8,
+    reply: &str,
+) -> Result<(), AllocError>
+    requires { writer.old.tokens ≡ [] }
+    ensures tokens { OnOk result (writer.new.tokens ≡ begin_object ∷ key (codes "program") ∷ string program.now ∷ key (codes "status")
+        ∷ number (decimal status) ∷ key (codes "reply") ∷ string reply.now ∷ end_object ∷ []) }
+    ensures before { OnOk result (writer.new.before ≡ writer.old.before) }
+{
+    writer.begin_object()?;
+    writer.key("program")?;
+    writer.string(program)?;
+    writer.key("status")?;
+    writer.u64(u64::from(status))?;
+    writer.key("reply")?;
+    writer.string(reply)?;
+    writer.end_object()?;
     Ok(())
 }

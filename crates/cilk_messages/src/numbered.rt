@@ -27,6 +27,11 @@ impl LineAt {
         String::from_utf8_lossy(alloc, self.bytes.as_slice())
     }
 
+    /// Returns whether the beginning of the line is this.
+    pub fn is(&self, words: &str) -> bool {
+        self.bytes.as_slice() == words.as_bytes()
+    }
+
     /// Takes the file's next bytes, and returns whether more are wanted.
     pub fn read(&mut self, part: &[u8]) -> Result<bool, AllocError> {
         for byte in part {

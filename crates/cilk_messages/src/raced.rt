@@ -7,6 +7,14 @@ use std::alloc::{AllocError, Global};
 const NO_TABLE: &str =
     "hint: `--sites FILE` gives the file, line and function of each site; a program made by `cilkrec` writes this FILE too, if it records with CILK_SITES=FILE\n";
 
+const APART: &str =
+    "hint: put a `cilk_sync` between the spawn and the later access; where both are in turns of one `cilk_for`, \
+    or have to run in parallel, give each memory of its own, or let a reducer take what they add up\n";
+
+const VIEWED: &str =
+    "reason: not the same strands run in parallel to both, so the schedule decides which updates the view has\n\
+    hint: set a reducer and read it before the first spawn, or after the `cilk_sync`\n";
+
 /// A line of a trace: its number and site, the path of its frame, and its deed in words.
 #[derive(Clone, Copy)]
 pub struct Access<'a> {
@@ -34,25 +42,32 @@ pub struct Raced<'a> {
     /// Whether there is a table that can't be read.
     pub lacks: bool,
     pub sites: &'a Sites,
-    pub title: &'static str,
+    /// Whether the race is a view-read race.
+    pub is_of_view: bool,
     pub first: Access<'a>,
     pub second: Access<'a>,
     pub parted: Option<CallLines>,
-    /// What follows the accesses.
-    pub end: &'static str,
 }
 
 impl Raced<'_> {
     /// Adds the explanation.
     pub fn push(&self, alloc: Global, text: &mut String) -> Result<(), AllocError> {
-        (&*self).push_line(alloc, text, self.title, &self.second)?;
+        let (title, parted, end) = if self.is_of_view {
+            (": error 312: a view-read race: ", None, VIEWED)
+        } else {
+            (": error 311: a determinacy race: ", self.parted, APART)
+        };
+        (&*self).push_line(alloc, text, title, &self.second)?;
         (&*self).push_line(
             alloc,
             text,
             ": note: earlier in the serial run ",
             &self.first,
         )?;
-        if let Some(CallLines { site, first, .. }) = self.parted {
+        let p = Part::Count(self.first.number as usize);
+        let q = Part::Count(self.second.number as usize);
+        let (one, other) = (Part::Text(self.first.frame), Part::Text(self.second.frame));
+        if let Some(CallLines { site, first, last }) = parted {
             let call = Access {
                 number: first,
                 site,
@@ -60,9 +75,17 @@ impl Raced<'_> {
                 deed: "the call or turn with the earlier access is spawned",
             };
             (&*self).push_line(alloc, text, ": note: ", &call)?;
+            let (first, last) = (Part::Count(first as usize), Part::Count(last as usize));
+            push_said(
+                alloc,
+                text,
+                PLACES_AND_CALL,
+                &[p, one, q, other, first, last],
+            )?;
+        } else {
+            push_said(alloc, text, PLACES, &[p, one, q, other])?;
         }
-        self.push_places(alloc, text)?;
-        text.push_str(self.end)?;
+        text.push_str(end)?;
         let hint = match self.table {
             None => NO_TABLE,
             Some(_) if self.lacks => "hint: the table of sites `{}` can't be read\n",
@@ -94,25 +117,12 @@ impl Raced<'_> {
             }
         }
     }
-
-    // Adds where in the trace the accesses are, and the call.
-    fn push_places(&self, alloc: Global, text: &mut String) -> Result<(), AllocError> {
-        let accesses = [
-            Part::Count(self.first.number as usize),
-            Part::Text(self.first.frame),
-            Part::Count(self.second.number as usize),
-            Part::Text(self.second.frame),
-        ];
-        push_said(alloc, text, PLACES, &accesses)?;
-        if let Some(CallLines { first, last, .. }) = self.parted {
-            let lines = [Part::Count(first as usize), Part::Count(last as usize)];
-            push_said(alloc, text, CALL, &lines)?;
-        }
-        text.push('\n')
-    }
 }
 
+// Where in the trace the accesses are, and the call.
 const PLACES: &str =
-    "in the trace: the earlier one is trace line {}, in frame {}, the later one trace line {}, in frame {}";
+    "in the trace: the earlier one is trace line {}, in frame {}, the later one trace line {}, in frame {}\n";
 
-const CALL: &str = "; the call is from trace line {} to trace line {}";
+const PLACES_AND_CALL: &str =
+    "in the trace: the earlier one is trace line {}, in frame {}, the later one trace line {}, in frame {}; \
+    the call is from trace line {} to trace line {}\n";

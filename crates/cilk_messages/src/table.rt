@@ -82,9 +82,11 @@ impl Sites {
         let (Some(number), [_, rest @ ..]) = (number_of(digits), behind) else {
             return Ok(());
         };
-        let is_wanted = number <= 4_294_967_295 && self.wanted.contains(&(number as u32));
-        if is_wanted && !rest.starts_with(b"?:0 ") {
-            self.found.push(site_of(self.alloc, number as u32, rest)?)?;
+        if number <= 4_294_967_295 {
+            let number = number as u32;
+            if self.wanted.contains(&number) && !rest.starts_with(b"?:0 ") {
+                self.found.push(site_of(self.alloc, number, rest)?)?;
+            }
         }
         Ok(())
     }

@@ -1,23 +1,20 @@
 -- The replies of `serve_explained` to command lines that `serve` doesn't have, and its
 -- explanations.
-use Rattle.std.specs.Prelude.{◌≡◌, ◌⊎◌, ◌<◌, ◌&&◌, ◌||◌, ℕ, Bool, true, false, not, List, [], ◌∷◌, length, filter, cond, Option, Some, None, codes}
-use Rattle.std.specs.Str.{bytes_eq}
+use Rattle.std.specs.Prelude.{◌≡◌, ◌⊎◌, ◌<◌, ℕ, Bool, true, false, List, [], ◌∷◌, length, Option, Some, None, codes}
 use Rattle.std.specs.Io.KnownBytes.{Appends}
 use Rattle.cilk_profile.specs.declared.totals.Totals.{Totals}
-use Rattle.cilk_syntax.specs.Lexing.{all_digits}
 use Rattle.cilk_commands.specs.Files.{Failures}
 use Rattle.cilk_commands.specs.Replies.{BadTrace, Ended, NoMemory, Refused, Reply, Text, line, status_of}
 use Rattle.cilk_commands.specs.Serving.{Answers, RunReply, Serves, ShowsError, WordsFail, world}
 use Rattle.cilk_commands.specs.Streams.{AppendsFront, AppendsPart}
 use Rattle.cilk_commands.specs.declared.reply.TheConstants.{NO_MEMORY}
-use Rattle.cilk_messages.specs.Words.{Judge, Origin, Requested, Settle, order_in}
+use Rattle.cilk_messages.specs.About.{is_about}
+use Rattle.cilk_messages.specs.Asked.{explains_itself, is_measure, is_schedule, measured_run, unflagged, words_of_check}
+use Rattle.cilk_messages.specs.Batches.{Batch, batch_in, is_settling}
+use Rattle.cilk_messages.specs.Words.{Judge, Origin, Requested, order_in}
 use Rattle.cilk_profile.specs.Measured.{IsMeasureText, is_drawn}
 use Rattle.cilk_report.specs.Measured.{AreTotalsOf}
 use Rattle.cilk_report.specs.Settling.{SettlesEach, state}
-use Rattle.cilk_messages.specs.Batches.{Batch, batch_in, is_settling}
-use Rattle.cilk_messages.specs.Asked.{behind_first, is_help as asks_help, is_measure, is_option, measured_run}
-use Rattle.cilk_messages.specs.declared.about.About.{About as AboutAnswer}
-use Rattle.cilk_messages.specs.declared.about.About.TheVariants as answers
 
 -- a trace has a fault
 abbrev pub IsTraceFault : Reply → Type 0

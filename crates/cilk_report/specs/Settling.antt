@@ -1,9 +1,6 @@
 -- `settle` for several programs, or in a short form.
-use Rattle.std.specs.Prelude.{◌≡◌, ◌≢◌, ◌==◌, ◌&&◌, ◌||◌, ℕ, max, Bool, true, false, not, List, [], ◌∷◌, ◌++◌, cond, Option, Some, None, is_some, option_and_then, option_map, Result, Ok, Err, codes, decimal}
-use Rattle.std.specs.Str.{bytes_eq}
+use Rattle.std.specs.Prelude.{◌≡◌, ◌≢◌, ℕ, max, Bool, List, [], ◌∷◌, ◌++◌, Option, Result, Ok, Err, codes}
 use Rattle.std.specs.Io.KnownBytes.{Appends}
-use Rattle.json.specs.Print.{print}
-use Rattle.json.specs.Token.{begin_object, end_object, key, number, string}
 use Rattle.cilk_commands.specs.Files.{Failures}
 use Rattle.cilk_commands.specs.Replies.{IsErrorText, NoMemory, Reply, Text, answer_view, failure_view, line, out_text, status_of}
 use Rattle.cilk_commands.specs.Serving.{SettleReply, ShowsError, Surroundings, world}
@@ -11,27 +8,11 @@ use Rattle.cilk_commands.specs.Streams.{AppendsFront, AppendsPart}
 use Rattle.cilk_commands.specs.declared.reply.Answer.{Answer}
 use Rattle.cilk_commands.specs.declared.reply.Failure.{Failure}
 use Rattle.cilk_commands.specs.declared.reply.TheConstants.{NO_MEMORY, WRONG}
-use Rattle.cilk_messages.specs.Words.{texts}
-use Rattle.cilk_messages.specs.Asked.{asks, behind_first, is_help, is_option}
-use Rattle.cilk_messages.specs.declared.batch.Batch as code
+use Rattle.cilk_messages.specs.Batches.{heading, object_line, short_line}
 use Rattle.cilk_messages.specs.declared.batch.Form.{Form}
 use Rattle.cilk_messages.specs.declared.batch.Form.TheVariants.{Full, Json, Short}
 
 -- ---- a reply
-
--- `PROGRAM:`
-abbrev pub heading : Text → Text
-heading program = line (program ++ codes ":")
-
--- `PROGRAM: ` and the first line of a reply
-abbrev pub short_line : Text → Text → Text
-short_line program reply = line (program ++ codes ": " ++ first_line reply)
-
--- a JSON object of the program, the status and the whole reply
-abbrev pub object_line : Text → ℕ → Text → Text
-object_line program status reply =
-    line (print (begin_object ∷ key (codes "program") ∷ string program ∷ key (codes "status") ∷ number (decimal status)
-    ∷ key (codes "reply") ∷ string reply ∷ end_object ∷ []))
 
 -- The texts for standard output and standard error that show a program's reply: the reply under a
 -- heading, with some explanation after its text for standard error; or one line.

@@ -3,6 +3,7 @@
 use crate::again::Seeks;
 use cilk_findings::fault::CaseFault;
 use cilk_messages::raced::{Access, CallLines};
+use cilk_messages::sentence::{Part, push_said};
 use cilk_trace::line::{Cells, Line};
 use cilk_trace::reader::TraceReader;
 use std::alloc::{AllocError, Global};
@@ -141,63 +142,61 @@ impl Accesses {
             deed: String::new(self.alloc),
             frame: String::new(self.alloc),
         };
-        found.site = push_deed(&mut found.deed, line)?;
-        self.push_path(&mut found.frame)?;
+        self.fill(&mut found, line)?;
         Ok(found)
     }
 
-    // Adds the path of the current frame: `r`, and the number of each frame on the way among its
-    // parent's children.
-    fn push_path(&self, path: &mut String) -> Result<(), AllocError> {
-        path.push('r')?;
-        for (depth, frame) in self.open.iter().enumerate() {
+    // Fills in the site of a line, its deed, and the path of the current frame: `r`, and the number
+    // of each frame on the way among its parent's children.
+    fn fill(&self, found: &mut Found, line: Line) -> Result<(), AllocError> {
+        let (words, one, other, site) = deed_of(line);
+        found.site = site;
+        let parts = [Part::Count(one as usize), Part::Count(other as usize)];
+        push_said(self.alloc, &mut found.deed, words, &parts)?;
+        found.frame.push('r')?;
+        for depth in 0..self.open.len() {
             if depth == SHOWN {
-                return path.push_str("..");
+                return found.frame.push_str("..");
             }
-            let ordinal = frame.ordinal;
-            write!(path, ".{ordinal}")?;
+            let ordinal = self.open[depth].ordinal;
+            write!(found.frame, ".{ordinal}")?;
         }
         Ok(())
     }
 }
 
-// Adds the deed of a line, and returns its site; 0 for one without a site.
-fn push_deed(deed: &mut String, line: Line) -> Result<u32, AllocError> {
+// The deed of a line in words with gaps for two numbers, these numbers, and its site; 0 for one
+// without a site.
+fn deed_of(line: Line) -> (&'static str, u32, u32, u32) {
     match line {
-        Line::Read { cells, site } => {
-            push_cells(deed, cells, "read")?;
-            Ok(site)
-        }
-        Line::Write { cells, site } => {
-            push_cells(deed, cells, "written")?;
-            Ok(site)
-        }
-        Line::Create { reducer, site, .. } => {
-            write!(deed, "reducer {reducer} is created")?;
-            Ok(site)
-        }
+        Line::Read { cells, site } => match cells.count {
+            1 => ("cell {} is read", cells.first, 0, site),
+            _ => ("cells {} to {} are read", cells.first, last_of(cells), site),
+        },
+        Line::Write { cells, site } => match cells.count {
+            1 => ("cell {} is written", cells.first, 0, site),
+            _ => (
+                "cells {} to {} are written",
+                cells.first,
+                last_of(cells),
+                site,
+            ),
+        },
+        Line::Create { reducer, site } => ("reducer {} is created", reducer, 0, site),
         Line::Value { reducer, site } => {
-            write!(deed, "the view of reducer {reducer} is read or set")?;
-            Ok(site)
+            ("the view of reducer {} is read or set", reducer, 0, site)
         }
         Line::Enter { site } | Line::Update { site, .. } | Line::Retire { site, .. } => {
-            deed.push_str("something is done")?;
-            Ok(site)
+            ("something is done", 0, 0, site)
         }
         Line::Spawned | Line::Called | Line::Sync | Line::Clear { .. } | Line::End => {
-            deed.push_str("something is done")?;
-            Ok(0)
+            ("something is done", 0, 0, 0)
         }
     }
 }
 
-fn push_cells(deed: &mut String, cells: Cells, done: &str) -> Result<(), AllocError> {
-    let Cells { first, count } = cells;
-    if count == 1 {
-        return write!(deed, "cell {first} is {done}");
-    }
-    let last = first.saturating_add(count.saturating_sub(1));
-    write!(deed, "cells {first} to {last} are {done}")
+fn last_of(cells: Cells) -> u32 {
+    cells.first.saturating_add(cells.count.saturating_sub(1))
 }
 
 // Counts one more, and returns the count.

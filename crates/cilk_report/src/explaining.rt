@@ -1,7 +1,7 @@
 //! Explanations of answers and failures.
 
 use crate::certificate::line_of;
-use crate::wanted::{Expected, expected_at};
+use crate::wanted::push_expected;
 use cilk_checker::refusal::Refusal;
 use cilk_commands::reply::{Answer, Failure};
 use cilk_findings::fault::CaseFault;
@@ -17,36 +17,27 @@ use std::alloc::{AllocError, Global};
 /// Returns the explanation of an answer: the reason of a refusal, and nothing for other answers.
 /// `kept` has the files as they were read. A trace isn't kept, so that of `judge` is
 /// [`crate::judging::of_trace_race`].
+///
+/// A race, or a fault that stops the run, is explained in the program's text. For other refusals the
+/// line of the certificate is shown.
 pub fn of_answer(
     alloc: Global,
     order: &Order<'_>,
     answer: &Answer,
     kept: &Kept,
 ) -> Result<String, CaseFault> {
-    match answer {
-        Answer::Refused(refusal) => of_refusal(alloc, order, *refusal, kept),
-        _ => Ok(String::new(alloc)),
-    }
-}
-
-// A race, or a fault that stops the run, is explained in the program's text. For other refusals the
-// line of the certificate is shown.
-fn of_refusal(
-    alloc: Global,
-    order: &Order<'_>,
-    refusal: Refusal,
-    kept: &Kept,
-) -> Result<String, CaseFault> {
+    let Answer::Refused(refusal) = answer else {
+        return Ok(String::new(alloc));
+    };
     let number = refusal.number();
-    let found = race_of(refusal);
+    let found = race_of(*refusal);
     if found.is_some() || number == 310 {
         if let Some(texts) = texts_of(order, kept)? {
             return in_text(alloc, &texts, number, found);
         }
     }
-    let path = Named::of(order).other;
-    let line = line_of(kept.front()?, refusal);
-    Ok(of_line(alloc, path, line, number)?)
+    let line = line_of(kept.front()?, *refusal);
+    Ok(of_line(alloc, Named::of(order).other, line, number)?)
 }
 
 /// Returns the two events of a race, if the refusal is about one.
@@ -83,7 +74,8 @@ pub(crate) fn texts_of<'a>(
 }
 
 /// Returns the explanation of a failure. `kept` has the files as they were read. A fault of a text
-/// is in the one that was read last.
+/// is in the one that was read last. Only the number of a fault is known if the program came from
+/// standard input.
 pub fn of_failure(
     alloc: Global,
     order: &Order<'_>,
@@ -91,53 +83,27 @@ pub fn of_failure(
     kept: &Kept,
 ) -> Result<String, CaseFault> {
     let named = Named::of(order);
-    match failure {
-        Failure::Program { number, place } => of_program(alloc, &named, kept, *number, *place),
+    let is_file = matches!(named.program, Origin::File(_));
+    let text = match failure {
+        Failure::Program { number, place } if is_file => {
+            at_byte(alloc, named.file(), kept.last()?, *number, *place)
+        }
         Failure::Input { number, place } => {
             let path = named.input.unwrap_or("-");
-            Ok(at_byte(alloc, path, kept.last()?, *number, *place)?)
+            at_byte(alloc, path, kept.last()?, *number, *place)
         }
-        Failure::Run { number, .. } => of_stop(alloc, order, *number, kept),
-        _ => Ok(of_other(alloc, &named, failure)?),
-    }
-}
-
-// Explains a fault at a byte of the program. Only its number is known if the program came from
-// standard input.
-fn of_program(
-    alloc: Global,
-    named: &Named<'_>,
-    kept: &Kept,
-    number: u16,
-    at: usize,
-) -> Result<String, CaseFault> {
-    match named.program {
-        Origin::Standard => Ok(of_line(alloc, named.file(), None, number)?),
-        Origin::File(path) => Ok(at_byte(alloc, path, kept.last()?, number, at)?),
-    }
-}
-
-// Explains a failure without a look at the texts.
-fn of_other(alloc: Global, named: &Named<'_>, failure: &Failure<'_>) -> Result<String, AllocError> {
-    match failure {
-        Failure::Strand { number, .. } => of_line(alloc, named.file(), None, *number),
+        Failure::Run { number, .. } => match texts_of(order, kept)? {
+            Some(texts) => return in_text(alloc, &texts, *number, None),
+            None => of_line(alloc, named.file(), None, *number),
+        },
+        Failure::Program { number, .. } | Failure::Strand { number, .. } => {
+            of_line(alloc, named.file(), None, *number)
+        }
         Failure::Script(line) => of_script(alloc, named.other, *line),
-        Failure::Unreadable(path) => of_unreadable(alloc, named, path),
-        _ => Ok(String::new(alloc)),
-    }
-}
-
-// Explains a fault that stops a run.
-fn of_stop(
-    alloc: Global,
-    order: &Order<'_>,
-    number: u16,
-    kept: &Kept,
-) -> Result<String, CaseFault> {
-    match texts_of(order, kept)? {
-        Some(texts) => in_text(alloc, &texts, number, None),
-        None => Ok(of_line(alloc, Named::of(order).file(), None, number)?),
-    }
+        Failure::Unreadable(path) => of_unreadable(alloc, &named, path),
+        _ => return Ok(String::new(alloc)),
+    };
+    Ok(text?)
 }
 
 // Explains a fault at a byte of a text.
@@ -148,14 +114,8 @@ fn at_byte(
     number: u16,
     at: usize,
 ) -> Result<String, AllocError> {
-    let Expected { words, semicolon } = if number == 103 {
-        expected_at(alloc, text, at)?
-    } else {
-        Expected {
-            words: String::new(alloc),
-            semicolon: false,
-        }
-    };
+    let mut words = String::new(alloc);
+    let semicolon = number == 103 && push_expected(alloc, &mut words, text, at)?;
     let finding = Finding {
         file,
         text,

@@ -18,14 +18,6 @@ use cilk_trace::line::Line;
 use cilk_trace::reader::TraceReader;
 use std::alloc::{AllocError, Global};
 
-const APART: &str =
-    "hint: put a `cilk_sync` between the spawn and the later access; where both are in turns of one `cilk_for`, \
-    or have to run in parallel, give each memory of its own, or let a reducer take what they add up\n";
-
-const VIEWED: &str =
-    "reason: not the same strands run in parallel to both, so the schedule decides which updates the view has\n\
-    hint: set a reducer and read it before the first spawn, or after the `cilk_sync`\n";
-
 const HEADER: &str = "the first line of a trace is `cilktrace 1`";
 
 const PROGRAM: &str =
@@ -74,22 +66,25 @@ pub fn of_trace_race<F: Keeps>(
     refusal: Refusal,
     files: &mut F,
 ) -> Result<String, CaseFault> {
-    let Some((earlier, later)) = race_of(refusal) else {
-        return Ok(String::new(alloc));
-    };
-    let mut found = Accesses::new(alloc, earlier, later);
-    seek(judged.trace, files, &mut found)?;
-    of_accesses(alloc, judged, refusal, &found, files)
+    let mut text = String::new(alloc);
+    if let Some((earlier, later)) = race_of(refusal) {
+        let mut found = Accesses::new(alloc, earlier, later);
+        seek(judged.trace, files, &mut found)?;
+        push_accesses(alloc, &mut text, judged, refusal, &found, files)?;
+    }
+    Ok(text)
 }
 
-// The explanation of the accesses that were found.
-fn of_accesses<F: Keeps>(
+// Adds the explanation of the accesses that were found. One without a table that can be read has the
+// numbers of sites.
+fn push_accesses<F: Keeps>(
     alloc: Global,
+    text: &mut String,
     judged: Judged<'_>,
     refusal: Refusal,
     found: &Accesses,
     files: &mut F,
-) -> Result<String, CaseFault> {
+) -> Result<(), CaseFault> {
     let (Some(first), Some(second)) = (&found.first, &found.second) else {
         return Err(CaseFault::Unfit);
     };
@@ -98,42 +93,24 @@ fn of_accesses<F: Keeps>(
         None => second.site,
     };
     let mut sites = Sites::new(alloc, [first.site, second.site, call]);
-    let lacks = read_sites(judged, &mut sites, files)?;
-    let (title, parted, end) = match refusal {
-        Refusal::Race { .. } => (": error 311: a determinacy race: ", found.parted, APART),
-        _ => (": error 312: a view-read race: ", None, VIEWED),
+    let sought = match judged.sites {
+        Some(path) => seek(path, files, &mut sites),
+        None => Ok(()),
     };
+    if matches!(sought, Err(CaseFault::Memory)) {
+        return sought;
+    }
     let raced = Raced {
         trace: judged.trace,
         table: judged.sites,
-        lacks,
+        lacks: sought.is_err(),
         sites: &sites,
-        title,
+        is_of_view: !matches!(refusal, Refusal::Race { .. }),
         first: first.access(),
         second: second.access(),
-        parted,
-        end,
+        parted: found.parted,
     };
-    let mut text = String::new(alloc);
-    raced.push(alloc, &mut text)?;
-    Ok(text)
-}
-
-// Reads the table, and returns whether it can't be read. An explanation without one has the numbers
-// of sites.
-fn read_sites<F: Keeps>(
-    judged: Judged<'_>,
-    sites: &mut Sites,
-    files: &mut F,
-) -> Result<bool, CaseFault> {
-    let Some(path) = judged.sites else {
-        return Ok(false);
-    };
-    match seek(path, files, sites) {
-        Ok(()) => Ok(false),
-        Err(CaseFault::Unfit) => Ok(true),
-        Err(fault) => Err(fault),
-    }
+    Ok(raced.push(alloc, text)?)
 }
 
 /// Returns the explanation of a trace that isn't judged. It is read again for a malformed line.
@@ -165,15 +142,15 @@ fn of_malformed<F: Keeps>(
     number: u32,
     files: &mut F,
 ) -> Result<String, CaseFault> {
-    if is_binary(alloc, trace, files)? {
+    let mut found = LineAt::new(alloc, 1);
+    seek(trace, files, &mut found)?;
+    if found.is(BINARY_HEADER) {
         return Ok(format!(in alloc; "{trace}:{number}:1{MALFORMED}{BINARY}")?);
     }
-    let text = line_at(alloc, trace, number, files)?;
+    found = LineAt::new(alloc, number);
+    seek(trace, files, &mut found)?;
+    let text = found.text(alloc)?;
     Ok(of_text(alloc, trace, number, text.as_str())?)
-}
-
-fn is_binary<F: Keeps>(alloc: Global, trace: &str, files: &mut F) -> Result<bool, CaseFault> {
-    Ok(line_at(alloc, trace, 1, files)?.as_str() == BINARY_HEADER)
 }
 
 fn of_text(alloc: Global, trace: &str, number: u32, text: &str) -> Result<String, AllocError> {
@@ -184,18 +161,6 @@ fn of_text(alloc: Global, trace: &str, number: u32, text: &str) -> Result<String
         Some(line) => misplaced(line),
     };
     format!(in alloc; "{trace}:{number}:1{MALFORMED}{text}\n^\nreason: {reason}\n")
-}
-
-// The beginning of a line of a file.
-fn line_at<F: Keeps>(
-    alloc: Global,
-    path: &str,
-    number: u32,
-    files: &mut F,
-) -> Result<String, CaseFault> {
-    let mut found = LineAt::new(alloc, number);
-    seek(path, files, &mut found)?;
-    Ok(found.text(alloc)?)
 }
 
 // The line of the text form that this spells.

@@ -1,7 +1,7 @@
 //! The command `schedule`: a script for `play` that shows a race.
 
 ghost use Rattle.std.specs.Prelude.{◌≡◌, ◌<◌, IfOk, IfSome};
-ghost use Rattle.cilk_messages.specs.Asked.{behind_first, is_schedule, words_of_check};
+ghost use Rattle.cilk_messages.specs.Asked.{words_of_check};
 ghost use Rattle.cilk_report.specs.Explained.{IsRefusal, Schedules};
 ghost use Rattle.cilk_commands.specs.Replies.{answer_view};
 ghost use Rattle.cilk_commands.specs.Streams.{TakesAtMost};
@@ -12,7 +12,6 @@ use crate::Keeps;
 use crate::explaining::{of_answer, of_failure, race_of, texts_of};
 use crate::serving::{follow, tell_text};
 use crate::totals::wrong_words;
-use cilk_checker::refusal::Refusal;
 use cilk_commands::reply::{Answer, Failure};
 use cilk_commands::{carry_out, complain, show};
 use cilk_findings::fault::CaseFault;
@@ -103,19 +102,10 @@ fn script_of(
 ) -> Result<Option<String>, CaseFault>
     ensures { IfOk result (λ script. IfSome script (λ _. IsRefusal (answer_view answer.now))) }
 {
-    match answer {
-        Answer::Refused(refusal) => script_against(alloc, order, *refusal, kept),
-        _ => Ok(None),
-    }
-}
-
-fn script_against(
-    alloc: Global,
-    order: &Order<'_>,
-    refusal: Refusal,
-    kept: &Kept,
-) -> Result<Option<String>, CaseFault> {
-    let Some((earlier, later)) = race_of(refusal) else {
+    let Answer::Refused(refusal) = answer else {
+        return Ok(None);
+    };
+    let Some((earlier, later)) = race_of(*refusal) else {
         return Ok(None);
     };
     let Some(texts) = texts_of(order, kept)? else {
@@ -152,8 +142,8 @@ fn unscheduled(
     Ok(text)
 }
 
-// The explanation of a failure, if requested.
-fn unchecked(
+/// Returns the explanation of a failure, if requested.
+pub fn unchecked(
     alloc: Global,
     explains: bool,
     order: &Order<'_>,

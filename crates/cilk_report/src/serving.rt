@@ -12,10 +12,9 @@ ghost use Rattle.cilk_commands.specs.declared.streams.TheConstants.{MAX_READ};
 ghost use Rattle.cilk_messages.specs.Words.{order_in, order_view, origin_view, texts};
 
 use crate::Keeps;
-use crate::explaining::of_failure;
 use crate::extras::{behind_answer, behind_failure};
 use crate::judging::{Judged, of_trace_failure, of_trace_race};
-use crate::scheduling::serve_schedule;
+use crate::scheduling::{serve_schedule, unchecked};
 use crate::settling::serve_settling;
 use crate::totals::{totals_of, undrawn, wrong_words};
 use cilk_commands::reply::{Answer, Failure, NO_MEMORY, WRONG};
@@ -345,9 +344,7 @@ fn serve_run<F: Keeps, R: Read, O: Write, E: Write>(
 {
     match read(alloc, plain) {
         Ok(order) => match run_of(order) {
-            Some((program, numbers)) => {
-                show_measured(alloc, words, program, numbers, files, input, out, err)
-            }
+            Some(run) => show_measured(alloc, words, run, files, input, out, err),
             None => complain(alloc, &wrong_words(String::from_str(alloc, USAGE)), err).status,
         },
         Err(WordsFault::Usage(_)) => complain(
@@ -364,51 +361,33 @@ fn serve_run<F: Keeps, R: Read, O: Write, E: Write>(
 fn show_measured<F: Keeps, R: Read, O: Write, E: Write>(
     alloc: Global,
     words: &[&str],
-    program: Origin<'_>,
-    numbers: Option<&str>,
+    run: (Origin<'_>, Option<&str>),
     files: &mut F,
     input: &mut R,
     out: &mut O,
     err: &mut E,
 ) -> u8
     requires room { (F.failed files.old).count < 18446744073709551615 }
-    requires named { measured_run (texts words.now) ≡ Some (origin_view program, option_map (λ p. p.now) numbers) }
+    requires named { measured_run (texts words.now) ≡ Some (origin_view run.0, option_map (λ p. p.now) run.1) }
     ensures shown { Measures (texts words.now) (F.holds files.old) (R.remaining input.old) (F.failed files.old) (F.failed files.new)
         result (O.contents out.old) (O.contents out.new) (E.contents err.old) (E.contents err.new) }
     ensures most { TakesAtMost MAX_READ (R.remaining input.old) (R.remaining input.new) }
 {
     let order = Order::Run {
-        program,
-        input: numbers,
+        program: run.0,
+        input: run.1,
     };
-    match totals_of(alloc, program, numbers, files, input) {
-        Ok(totals) => match text_of(alloc, words, &totals, program, numbers, files.kept()) {
+    match totals_of(alloc, run.0, run.1, files, input) {
+        Ok(totals) => match text_of(alloc, words, &totals, run.0, run.1, files.kept()) {
             Ok(text) => tell_text(text.as_slice(), out, err),
             Err(reason) => complain(alloc, &undrawn(alloc, reason), err).status,
         },
         Err(failure) => {
             let served = complain(alloc, &failure, err);
-            follow(
-                served,
-                why(alloc, words, &order, &failure, files.kept()),
-                err,
-            )
+            let explains = asks(words, "--explain");
+            let text = unchecked(alloc, explains, &order, &failure, files.kept());
+            follow(served, text, err)
         }
-    }
-}
-
-/// Returns the explanation of a failure, if requested.
-fn why(
-    alloc: Global,
-    words: &[&str],
-    order: &Order<'_>,
-    failure: &Failure<'_>,
-    kept: &Kept,
-) -> Result<String, CaseFault> {
-    if asks(words, "--explain") {
-        of_failure(alloc, order, failure, kept)
-    } else {
-        Ok(String::new(alloc))
     }
 }
 

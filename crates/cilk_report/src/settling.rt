@@ -1,8 +1,7 @@
 //! The command `settle` for several programs, or in a short form.
 
-ghost use Rattle.std.specs.Prelude.{◌≡◌, ◌++◌, ◌∷◌, ◌⊎◌, [], Bool, IfOk, IsFalse, IsTrue, None, OnOk, Option, Some, codes, cond, decimal, option_map};
+ghost use Rattle.std.specs.Prelude.{◌≡◌, ◌++◌, ◌⊎◌, Bool, IfOk, IsFalse, IsTrue, Option, codes};
 ghost use Rattle.std.specs.Io.KnownBytes.{Appends};
-ghost use Rattle.json.specs.Token.{begin_object, end_object, key, number, string};
 ghost use Rattle.cilk_commands.specs.Replies.{IsErrorText, NoMemory, Text, line, out_text, status_of};
 ghost use Rattle.cilk_commands.specs.Serving.{SettleReply, ShowsError, Surroundings, world};
 ghost use Rattle.cilk_commands.specs.Streams.{AppendsFront, AppendsPart, TakesAtMost};
@@ -10,8 +9,8 @@ ghost use Rattle.cilk_commands.specs.declared.reply.TheConstants.{NO_MEMORY};
 ghost use Rattle.cilk_commands.specs.declared.streams.TheConstants.{MAX_READ};
 ghost use Rattle.cilk_messages.specs.Words.{texts};
 ghost use Rattle.cilk_report.specs.Explained.{Settles};
-ghost use Rattle.cilk_report.specs.Settling.{Fails, IsShown, SettlesEach, Shows, heading, object_line, reply_view, short_line, state};
-ghost use Rattle.cilk_messages.specs.Batches.{batch_in, batch_view, first_line, is_settling, with_form, with_word};
+ghost use Rattle.cilk_report.specs.Settling.{Fails, IsShown, SettlesEach, Shows, reply_view, state};
+ghost use Rattle.cilk_messages.specs.Batches.{batch_view, heading};
 
 use crate::Keeps;
 use crate::explaining::{of_answer, of_failure};
@@ -20,10 +19,9 @@ use crate::totals::wrong_words;
 use cilk_commands::reply::{Answer, Failure, NO_MEMORY, WRONG};
 use cilk_commands::streams::send;
 use cilk_commands::{complain, settle, tell};
-use cilk_messages::batch::{Batch, Form, batch_of, push_first_line};
+use cilk_messages::batch::{Batch, Form, batch_of, object, short};
 use cilk_messages::words::Order;
 use cilk_profile::Kept;
-use json::Writer;
 use std::alloc::{AllocError, Global};
 use std::io::{Read, Write};
 
@@ -302,52 +300,4 @@ fn explanation(
         Ok(text) => Ok(text),
         Err(fault) => String::from_str(alloc, missing(fault)),
     }
-}
-
-// The line `PROGRAM: REPLY`.
-fn short(alloc: Global, program: &str, reply: &[u8]) -> Result<Vec<u8>, AllocError>
-    ensures { IfOk result (λ text. text.items ≡ short_line program.now reply.now) }
-{
-    let mut text = program.as_bytes().to_vec(alloc)?;
-    text.extend_from_slice(b": ")?;
-    push_first_line(&mut text, reply)?;
-    text.push(b'\n')?;
-    Ok(text)
-}
-
-// A JSON object of the program, the status and the reply. A reply is text, so nothing else fails
-// than memory.
-fn object(alloc: Global, program: &str, status: u8, reply: &[u8]) -> Result<Vec<u8>, AllocError>
-    ensures { IfOk result (λ text. text.items ≡ object_line program.now status reply.now) }
-{
-    let Ok(reply) = str::from_utf8(reply) else {
-        return Err(AllocError);
-    };
-    let mut writer = Writer::new(Vec::new(alloc));
-    write_object(&mut writer, program, status, reply)?;
-    let mut text = writer.into_inner();
-    text.push(b'\n')?;
-    Ok(text)
-}
-
-fn write_object(
-    writer: &mut Writer<Global>,
-    program: &str,
-    status: u8,
-    reply: &str,
-) -> Result<(), AllocError>
-    requires { writer.old.tokens ≡ [] }
-    ensures tokens { OnOk result (writer.new.tokens ≡ begin_object ∷ key (codes "program") ∷ string program.now ∷ key (codes "status")
-        ∷ number (decimal status) ∷ key (codes "reply") ∷ string reply.now ∷ end_object ∷ []) }
-    ensures before { OnOk result (writer.new.before ≡ writer.old.before) }
-{
-    writer.begin_object()?;
-    writer.key("program")?;
-    writer.string(program)?;
-    writer.key("status")?;
-    writer.u64(u64::from(status))?;
-    writer.key("reply")?;
-    writer.string(reply)?;
-    writer.end_object()?;
-    Ok(())
 }

@@ -5,18 +5,28 @@ use cilk_parser::parse::parse;
 use cilk_types::limits::MAX_TEXT;
 use std::alloc::{AllocError, Global};
 
-/// The possible tokens in words, and whether a semicolon is among them.
-#[derive(Drop)]
-pub struct Expected {
-    pub words: String,
-    pub semicolon: bool,
-}
+// Tokens that are listed by themselves where no group has them, each with its words, and with another
+// token that is listed by its own words where the first isn't possible.
+const TOKENS: &[[&str; 4]] = &[
+    [")", "`)`", "", ""],
+    ["}", "`}`", "", ""],
+    ["]", "`]`", "", ""],
+    [",", "`,`", "", ""],
+    ["else", "`else`", "", ""],
+    ["cilk_reducer", "`cilk_reducer`", "", ""],
+    ["%", "an operator", "<", "`<`"],
+    ["*=", "an assignment", "=", "`=`"],
+    ["(", "`(`", "", ""],
+    ["{", "`{`", "", ""],
+    ["[", "`[`", "", ""],
+    ["++", "`++`", "", ""],
+    ["int", "`int`", "", ""],
+    ["void", "`void`", "", ""],
+    ["cilk_spawn", "`cilk_spawn`", "", ""],
+];
 
-// Tokens that are listed by themselves where no group has them.
-const MARKS: &str = "`)` `}` `]` `,` `else` `cilk_reducer`";
-
-// Such tokens that also begin a statement or an expression.
-const BEGINNINGS: &str = "`(` `{` `[` `++` `int` `void` `cilk_spawn`";
+// How many of them are listed beside a statement, an expression or a number too.
+const ALWAYS: usize = 6;
 
 /// The beginning of a text, after which tokens are tried, and what is listed of them.
 struct Trial {
@@ -38,9 +48,15 @@ impl Drop for Trial {
     }
 }
 
-/// Returns the tokens that can follow the first `at` bytes of a text, whose tokens the parser
-/// accepts. The list is empty for a text that is too long for a trial.
-pub fn expected_at(alloc: Global, text: &[u8], at: usize) -> Result<Expected, AllocError> {
+/// Adds the tokens, in words, that can follow the first `at` bytes of a text, whose tokens the parser
+/// accepts, and returns whether a semicolon is among them. Nothing is added for a text that is too
+/// long for a trial.
+pub fn push_expected(
+    alloc: Global,
+    words: &mut String,
+    text: &[u8],
+    at: usize,
+) -> Result<bool, AllocError> {
     match text.get(..at) {
         Some(front) if front.len() < MAX_TEXT - 32 => {
             let mut trial = Trial {
@@ -49,23 +65,28 @@ pub fn expected_at(alloc: Global, text: &[u8], at: usize) -> Result<Expected, Al
                 at,
                 listed: Vec::new(alloc),
             };
-            trial.expected()
+            trial.push(words)
         }
-        _ => Ok(Expected {
-            words: String::new(alloc),
-            semicolon: false,
-        }),
+        _ => Ok(false),
     }
 }
 
 impl Trial {
-    fn expected(&mut self) -> Result<Expected, AllocError> {
+    // Adds the list in words, with commas and a final `or`.
+    fn push(&mut self, words: &mut String) -> Result<bool, AllocError> {
         let semicolon = self.takes(";")?;
         self.list(semicolon)?;
-        Ok(Expected {
-            words: self.joined()?,
-            semicolon,
-        })
+        let count = self.listed.len();
+        for place in 0..count {
+            let mark = match place {
+                0 => "",
+                _ if place + 1 == count => " or ",
+                _ => ", ",
+            };
+            words.push_str(mark)?;
+            words.push_str(self.listed[place])?;
+        }
+        Ok(semicolon)
     }
 
     // Whether this token can follow the beginning.
@@ -88,62 +109,31 @@ impl Trial {
         let has_name = self.takes("x")?;
         let has_number = self.takes("0")?;
         let group = match (has_name, has_number) {
-            _ if is_statement => Some("a statement"),
-            (true, true) => Some("an expression"),
-            (true, false) => Some("a name"),
-            (false, true) => Some("a number"),
-            (false, false) => None,
+            _ if is_statement => "a statement",
+            (true, true) => "an expression",
+            (true, false) => "a name",
+            (false, true) => "a number",
+            (false, false) => "",
         };
-        if let Some(group) = group {
+        if !group.is_empty() {
             self.listed.push(group)?;
         }
         if semicolon && !is_statement {
             self.listed.push("`;`")?;
         }
-        self.list_each(MARKS)?;
-        if !is_statement && !has_number {
-            self.list_first("% an operator|< `<`")?;
-            self.list_first("*= an assignment|= `=`")?;
-            self.list_each(BEGINNINGS)?;
-        }
-        Ok(())
-    }
-
-    // Lists the first of these tokens that is possible, by the words after it.
-    fn list_first(&mut self, tokens: &'static str) -> Result<(), AllocError> {
-        for row in tokens.split("|") {
-            if let Some((token, words)) = row.split_once(" ")
-                && self.takes(token)?
-            {
+        let rows = if is_statement || has_number {
+            TOKENS.get(..ALWAYS).unwrap_or(&[])
+        } else {
+            TOKENS
+        };
+        for row in rows {
+            let [token, words, other, others] = *row;
+            if self.takes(token)? {
                 self.listed.push(words)?;
-                break;
+            } else if !other.is_empty() && self.takes(other)? {
+                self.listed.push(others)?;
             }
         }
         Ok(())
-    }
-
-    // Lists the possible ones of these tokens.
-    fn list_each(&mut self, tokens: &'static str) -> Result<(), AllocError> {
-        for token in tokens.split_whitespace() {
-            if self.takes(token.trim_matches('`'))? {
-                self.listed.push(token)?;
-            }
-        }
-        Ok(())
-    }
-
-    // The list in words, with commas and a final `or`.
-    fn joined(&self) -> Result<String, AllocError> {
-        let mut words = String::new(self.alloc);
-        let last = self.listed.len().saturating_sub(1);
-        for (place, item) in self.listed.iter().enumerate() {
-            let mark = match place {
-                0 => "",
-                _ if place == last => " or ",
-                _ => ", ",
-            };
-            write!(words, "{mark}{item}")?;
-        }
-        Ok(words)
     }
 }

@@ -1,8 +1,7 @@
 use Rattle.std.proofs.Common.{◌++◌, ap, ap₂, ◌∙◌}
 use Rattle.json.specs.Print.{print}
-use Rattle.cilk_commands.specs.Replies.{line}
-use Rattle.cilk_report.specs.Settling.{object_line}
-use Rattle.cilk_report.proofs.settling.object.Goals as goal
+use Rattle.cilk_messages.specs.Batches.{line, object_line}
+use Rattle.cilk_messages.proofs.batch.object.Goals as goal
 
 pub returns : goal.returns
 returns c =
