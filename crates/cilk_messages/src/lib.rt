@@ -28,8 +28,8 @@
 //! | [`sentence::say`] | a sentence with gaps, and the parts that fill them |
 //! | [`sites::enclosing`] and others | the surroundings of a token |
 //! | [`words::read`] | the command line as an order: `run`, `certify`, `check`, `play`, `settle` or `judge` |
-//! | [`threads_words::read`], [`check_words::read_check`] | the command lines of `threads`, and of `check` with `--helpers` |
-//! | [`asked`], [`flags`], [`batch`] | command lines of `measure`, `schedule` and `settle`, and words that add a text |
+//! | [`threads_words::read`], [`check_words::read_check`] | the same of `threads`, and of `check` with `--helpers` |
+//! | [`asked`], [`batch`], [`flags`] | `measure`, `schedule`, `settle` of several; words that add a text |
 //! | [`about::answer_about`] | the answer to a command line about the tool: its help, a number, its version |
 //! | [`raced::Raced`] | the race of a trace, by a table of sites ([`table::Sites`]) |
 //!
