@@ -121,12 +121,13 @@ impl Trial {
         if semicolon && !is_statement {
             self.listed.push("`;`")?;
         }
-        let rows = if is_statement || has_number {
-            TOKENS.get(..ALWAYS).unwrap_or(&[])
-        } else {
-            TOKENS
-        };
-        for row in rows {
+        let is_grouped = is_statement || has_number;
+        let mut count: usize = 0;
+        for row in TOKENS {
+            if is_grouped && count >= ALWAYS {
+                break;
+            }
+            count = count.saturating_add(1);
             let [token, words, other, others] = *row;
             if self.takes(token)? {
                 self.listed.push(words)?;
