@@ -74,7 +74,12 @@ fn served<H: Threads + Wait + Clock + Sync>(
         &mut err,
     );
     let reads = folder.files.reads;
-    Ok(Shown { status, reads, out, err })
+    Ok(Shown {
+        status,
+        reads,
+        out,
+        err,
+    })
 }
 
 /// Makes the file of a case's own call, if it has one: the standard output of that call.

@@ -28,7 +28,7 @@ certificate_held known text P held g = record {
   certificate = g.certificate;
   fits = g.fits;
   text_is = g.text_is;
-  holds = g.holds
+  holds = g.holds;
 }
 
 fault_held : (known : Option Text) (text : Text) (f : CertFault) → IsHeld known text → HasTextFault (Some text) f → HasTextFault known f
