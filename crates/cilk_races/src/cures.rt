@@ -28,8 +28,8 @@ type Way = (&'static str, &'static str);
 /// The facts that have to hold and those that must not, and the cure where that is so.
 type Rule = (u32, u32, &'static str, &'static str);
 
-// Facts of a read or set reducer: the text sets it, it isn't in turns and is the later event, the
-// spawned function is the one around both, the monoid adds.
+// Facts of a read or set reducer: the text sets it, it isn't in turns and is the later event, in what
+// isn't spawned, the spawned function is the one around both, the monoid adds.
 const VIEW: u32 = 1;
 
 const SET: u32 = 1 << 1;
@@ -691,17 +691,15 @@ fn facts_of(scene: &Scene<'_>, pair: &Pair, event: usize, branch: usize) -> u32 
     };
     let beside = scene.note(branch);
     let is_again = beside.body == scene.note(pair.child).body;
+    let is_spawned = branch > 0 && beside.how == Invocation::Spawn;
     sum_of(&[
-        (BEHIND, event == pair.later && !is_turn),
+        (BEHIND, event == pair.later && !is_turn && !is_spawned),
         (TURNS, is_turn),
         (
             CALLED,
             scene.around(second).0 != scene.around(pair.common).0,
         ),
-        (
-            BESIDE,
-            branch > 0 && (is_again || beside.how == Invocation::Spawn),
-        ),
+        (BESIDE, is_spawned || branch > 0 && is_again),
         (
             EARLIER,
             matches!(scene.access(pair.earlier), Some((_, true))),
