@@ -80,13 +80,13 @@ impl Kept {
         self.text(self.count().saturating_sub(1))
     }
 
-    /// Returns the front of the file that was read in parts. Fails if there was no memory for a
-    /// copy.
+    /// Returns the front of the file that was read in parts, or the text that was read last where none
+    /// was: a certificate. Fails if there was no memory for a copy.
     pub fn front(&self) -> Result<&[u8], CaseFault> {
-        if self.lacks {
-            Err(CaseFault::Memory)
-        } else {
-            Ok(self.front.as_slice())
+        match self.front.as_slice() {
+            [] => self.last(),
+            _ if self.lacks => Err(CaseFault::Memory),
+            front => Ok(front),
         }
     }
 }
