@@ -2,7 +2,8 @@
 --
 -- - `expression_words` to `loops_words`: by what a program is made of;
 -- - `numbers_are`, `program_words`: with the words that its globals open with.
-use Rattle.std.proofs.Common.{ℤ, List, [], ◌∷◌, map, Option, Some, None}
+use Rattle.std.proofs.Common.{ℤ, List, [], ◌∷◌, map, Option, Some, None, Box}
+use Rattle.std.specs.declared.alloc.Global.{Global}
 use Rattle.std.specs.List.{All}
 use Rattle.std.proofs.lemmas.List.Elements.{All-head, All-tail}
 use Rattle.cilk_types.specs.Word.{IsWord}
@@ -36,13 +37,13 @@ expressions_words : (es : List exprs.Expr) → ExpressionsWords (map expression 
 expressions_words [] = tt
 expressions_words (e ∷ es) = (expression_words e, expressions_words es)
 
-optional_words : (o : Option exprs.Expr) → OptionWords (optional o)
+optional_words : (o : Option (Box exprs.Expr Global)) → OptionWords (optional o)
 optional_words None = tt
-optional_words (Some e) = expression_words e
+optional_words (Some e) = expression_words e.value
 
 target_words : (t : declared_targets.Target) → TargetWords (target t)
 target_words (targets.Variable at x) = tt
-target_words (targets.Element at a e) = expression_words e
+target_words (targets.Element at a e) = expression_words e.value
 
 declaration_words : (d : declared_declarations.Declaration) → DeclarationWords (declaration d)
 declaration_words (declarations.Zero at n) = tt
@@ -59,14 +60,14 @@ mutual
   statement_words (stmts.Block' at shape row) = row_words row
   statement_words (stmts.Declare row) = declarations_words row.items
   statement_words (stmts.Assign t e) = (target_words t, expression_words e)
-  statement_words (stmts.Change t at op e) = (target_words t, expression_words e)
+  statement_words (stmts.Change op t at e) = (target_words t, expression_words e)
   statement_words (stmts.Step t n) = target_words t
   statement_words (stmts.Invoke i) = expressions_words i.arguments.items
   statement_words (stmts.Sync at) = tt
   statement_words (stmts.If' at e p s) = (expression_words e, statement_words s)
   statement_words (stmts.IfElse' at e p s q other) = (expression_words e, statement_words s, statement_words other)
   statement_words (stmts.For' at shape row test shape2 row2 p s) = (row_words row, optional_words test, row_words row2, statement_words s)
-  statement_words (stmts.ParallelFor at a b n) = (expression_words a, expression_words b)
+  statement_words (stmts.ParallelFor at a b n) = (expression_words a.value, expression_words b.value)
   statement_words (stmts.Print at e) = expression_words e
   statement_words (stmts.Update at r e) = expression_words e
   statement_words (stmts.Set at r e) = expression_words e

@@ -158,8 +158,8 @@ impl TextMap {
                 self.add(alloc, body, other)
             }
             Stmt::While(_, _, inner) => self.add(alloc, body, inner),
-            Stmt::For(_, beginning, _, _, inner) => {
-                if let Some(Beginning::Declares(name, _)) = beginning {
+            Stmt::For(_, head, inner) => {
+                if let Some(Beginning::Declares(name, _)) = &head.beginning {
                     self.add_cell(body, *name)?;
                 }
                 self.add(alloc, body, inner)

@@ -103,7 +103,7 @@ impl Emitter {
             }
             Stmt::Declare(row) => self.emit_declarations(row),
             Stmt::Assign(to, e) => emit_assign(&mut self.instrs, &mut self.room, to, e),
-            Stmt::Change(to, mark, op, e) => {
+            Stmt::Change(op, to, mark, e) => {
                 emit_change(&mut self.instrs, &mut self.room, to, *mark, *op, e)
             }
             Stmt::Step(to, n) => emit_step(&mut self.instrs, &mut self.room, to, *n),

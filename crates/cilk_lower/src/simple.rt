@@ -53,7 +53,7 @@ pub fn emit_test(
     code: &mut Listing,
     room: &mut usize,
     at: usize,
-    test: &Option<Expr>,
+    test: &Option<Box<Expr>>,
 ) -> Result<(), AllocError>
     ensures code { OnOk result (code.new.items ≡ code.old.items ++ test_code (optional test.now)) }
     ensures room { OnOk result (room.new ≡ max room.old (optional_depth (optional test.now))) }
@@ -73,7 +73,7 @@ pub fn end_turn(
     code: &mut Listing,
     room: &mut usize,
     at: usize,
-    test: &Option<Expr>,
+    test: &Option<Box<Expr>>,
     start: usize,
 ) -> Result<(), AllocError>
     requires first { 0 < start }
@@ -184,7 +184,7 @@ pub fn emit_return(
     code: &mut Listing,
     room: &mut usize,
     at: usize,
-    e: &Option<Expr>,
+    e: &Option<Box<Expr>>,
 ) -> Result<(), AllocError>
     ensures code { OnOk result (code.new.items ≡ code.old.items ++ (Instr.Tick ∷ return_code (optional e.now))) }
     ensures room { OnOk result (room.new ≡ max room.old (optional_depth (optional e.now))) }

@@ -32,7 +32,7 @@ pub resolved_list : (v : Vec resolved.Stmt Global) → programs.row_view (given.
 resolved_list v =
     resolved_row _ (given.hidden-the_row-Stmt-0 v) ∙ ap programs.statements {x = resolved.items-the_row-Stmt _ (given.hidden-the_row-Stmt-0 v)} {y = v.items} (search (rules, resolved.the_lemmas))
 
-pub for_is : (at : ℕ) (b : Vec resolved.Stmt Global) (e : Option Expr) (a : Vec resolved.Stmt Global) (s : Box resolved.Stmt Global)
+pub for_is : (at : ℕ) (b : Vec resolved.Stmt Global) (e : Option (Box Expr Global)) (a : Vec resolved.Stmt Global) (s : Box resolved.Stmt Global)
     → programs.statement (resolved.For at b e a s) ≡ For (programs.statements b.items) (programs.optional e) (programs.statements a.items) (programs.statement s.value)
 for_is at b e a s =
     ap (λ x. For x (programs.optional e) (programs.row_view (given.hidden-the_row-Stmt-0 a)) (programs.statement s.value)) (resolved_list b)

@@ -52,7 +52,7 @@ fn value(at: usize, reducer: Option<Reducer>) -> Expr
 
 /// Resolves an expression that is a part of another.
 #[cycle(expressions)]
-fn part(
+pub(crate) fn part(
     alloc: Global,
     table: &Table,
     tree: &tree::Expr,
@@ -107,12 +107,12 @@ pub(crate) fn optional(
     table: &Table,
     tree: &Option<Box<tree::Expr>>,
     first: &mut Option<Misnaming>,
-) -> Result<Option<Expr>, AllocError>
+) -> Result<Option<Box<Expr>>, AllocError>
     ensures faults { OnOk result (first.new ≡ earliest first.old (optional_faults (names_of table.now) (trees.optional tree.now))) }
     ensures value { IfOk result (λ r. optional r ≡ optional_of (names_of table.now) (trees.optional tree.now)) }
 {
     match tree {
-        Some(tree) => Ok(Some(expression(alloc, table, tree, first)?)),
+        Some(tree) => Ok(Some(part(alloc, table, tree, first)?)),
         None => Ok(None),
     }
 }
@@ -135,7 +135,7 @@ fn target(
         },
         tree::Lvalue::Element(name, index) => {
             let array = array(table, *name, first);
-            let index = expression(alloc, table, index, first)?;
+            let index = part(alloc, table, index, first)?;
             match array {
                 Some(array) => Ok(Some(Target::Element(name.at, array, index))),
                 None => Ok(None),
@@ -168,7 +168,7 @@ fn change(at: usize, place: Option<Target>, mark: usize, operator: Compound, val
     ensures { statement result ≡ or_empty (option_map target place) (λ t. Change t operator (expression value)) }
 {
     match place {
-        Some(place) => Stmt::Change(place, mark, operator, value),
+        Some(place) => Stmt::Change(operator, place, mark, value),
         None => Stmt::Empty(at),
     }
 }

@@ -16,7 +16,7 @@ ghost use Rattle.cilk_names.specs.Tables.{names_of};
 ghost use Rattle.cilk_names.specs.States.{context_of};
 
 use crate::calls::call;
-use crate::expressions::{assignment, expression, optional};
+use crate::expressions::{assignment, expression, optional, part};
 use crate::kind::{Misnaming, NameErrorKind};
 use crate::scene::{Frame, Resolver, number_of, row_of_one};
 use crate::sights::{note_unless, reducer, written};
@@ -24,7 +24,7 @@ use crate::table::{Meaning, Table, bytes_of};
 use cilk_program::program::{Body, Loop};
 use cilk_program::syntax::{Expr, Invoke, Stmt};
 use cilk_syntax::tree;
-use cilk_syntax::tree::{Beginning, Bounds, Name, ReturnType};
+use cilk_syntax::tree::{Bounds, Head, Name, ReturnType};
 use cilk_types::invocation::Invocation;
 use std::alloc::{AllocError, Global};
 
@@ -183,7 +183,7 @@ fn set(
 fn for_of(
     at: usize,
     beginning: Vec<Stmt>,
-    test: Option<Expr>,
+    test: Option<Box<Expr>>,
     step: Vec<Stmt>,
     body: Box<Stmt>,
 ) -> Stmt
@@ -193,10 +193,11 @@ fn for_of(
 }
 
 /// Makes a `while` at a place of the text: a `for` with a condition alone.
-fn while_of(alloc: Global, at: usize, test: Expr, body: Box<Stmt>) -> Stmt
-    ensures { statement result ≡ For Nothing (Some (expression test)) Nothing (statement body.value) }
+fn while_of(alloc: Global, at: usize, test: Expr, body: Box<Stmt>) -> Result<Stmt, AllocError>
+    ensures { IfOk result (λ r. statement r ≡ For Nothing (Some (expression test)) Nothing (statement body.value)) }
 {
-    for_of(at, Vec::new(alloc), Some(test), Vec::new(alloc), body)
+    let test = Some(Box::new(alloc, test)?);
+    Ok(for_of(at, Vec::new(alloc), test, Vec::new(alloc), body))
 }
 
 /// Notes a fault unless two names in a head are equal.
@@ -214,14 +215,14 @@ fn bounds(
     table: &Table,
     head: &Bounds,
     first: &mut Option<Misnaming>,
-) -> Result<(Expr, Expr), AllocError>
+) -> Result<(Box<Expr>, Box<Expr>), AllocError>
     ensures faults { OnOk result (first.new ≡ earliest first.old (head_faults (names_of table.now) (trees.bounds head.now))) }
-    ensures low { IfOk result (λ r. expression r.0 ≡ (let b = trees.bounds head.now in expression_of (names_of table.now) b.low)) }
-    ensures high { IfOk result (λ r. expression r.1 ≡ (let b = trees.bounds head.now in expression_of (names_of table.now) b.high)) }
+    ensures low { IfOk result (λ r. expression r.0.value ≡ (let b = trees.bounds head.now in expression_of (names_of table.now) b.low)) }
+    ensures high { IfOk result (λ r. expression r.1.value ≡ (let b = trees.bounds head.now in expression_of (names_of table.now) b.high)) }
 {
-    let low = expression(alloc, table, &head.low, first)?;
+    let low = part(alloc, table, &head.low, first)?;
     same(table, head.variable, head.tested, first);
-    let high = expression(alloc, table, &head.high, first)?;
+    let high = part(alloc, table, &head.high, first)?;
     same(table, head.variable, head.stepped, first);
     Ok((low, high))
 }
@@ -355,29 +356,23 @@ impl Resolver<'_> {
         &mut self,
         alloc: Global,
         at: usize,
-        beginning: &Option<Beginning>,
-        test: &Option<Box<tree::Expr>>,
-        tree: &Option<tree::Assignment>,
+        head: &Head,
         body: &tree::Stmt,
     ) -> Result<Stmt, AllocError>
         ensures context { OnOk result (context_of self.new
-            ≡ behind (context_of self.old) (trees.For (trees.optional_beginning beginning.now)
-            (trees.optional test.now) (trees.optional_assignment tree.now) (trees.statement body.now))) }
+            ≡ behind (context_of self.old) (trees.repetition head.now (trees.statement body.now))) }
         ensures faults { OnOk result (self.new.first
             ≡ earliest self.old.first (statement_faults (context_of self.old)
-            (trees.For (trees.optional_beginning beginning.now) (trees.optional test.now)
-            (trees.optional_assignment tree.now) (trees.statement body.now)))) }
+            (trees.repetition head.now (trees.statement body.now)))) }
         ensures loops { OnOk result (map loop self.new.loops.items ≡ map loop self.old.loops.items
-            ++ loops_of (context_of self.old) (trees.For (trees.optional_beginning beginning.now)
-            (trees.optional test.now) (trees.optional_assignment tree.now) (trees.statement body.now))) }
+            ++ loops_of (context_of self.old) (trees.repetition head.now (trees.statement body.now))) }
         ensures value { IfOk result (λ r. statement r
-            ≡ statement_of (context_of self.old) (trees.For (trees.optional_beginning beginning.now)
-            (trees.optional test.now) (trees.optional_assignment tree.now) (trees.statement body.now))) }
+            ≡ statement_of (context_of self.old) (trees.repetition head.now (trees.statement body.now))) }
     {
         self.open(alloc)?;
-        let row = self.beginning(alloc, beginning)?;
-        let test = optional(alloc, &self.table, test, &mut self.first)?;
-        let step = step(alloc, &self.table, tree, &mut self.first)?;
+        let row = self.beginning(alloc, &head.beginning)?;
+        let test = optional(alloc, &self.table, &head.test, &mut self.first)?;
+        let step = step(alloc, &self.table, &head.step, &mut self.first)?;
         let body = self.scoped(alloc, body)?;
         self.close();
         Ok(for_of(at, row, test, step, body))
@@ -462,11 +457,9 @@ impl Resolver<'_> {
             }
             tree::Stmt::While(at, test, body) => {
                 let (test, body) = self.guarded(alloc, body, test)?;
-                Ok(while_of(alloc, *at, test, body))
+                while_of(alloc, *at, test, body)
             }
-            tree::Stmt::For(at, beginning, test, step, body) => {
-                self.repeated(alloc, *at, beginning, test, step, body)
-            }
+            tree::Stmt::For(at, head, body) => self.repeated(alloc, *at, head, body),
             tree::Stmt::ParallelFor(at, head, body) => self.parallel(alloc, *at, head, body),
             tree::Stmt::Return(place, value) => {
                 let returns = self.frame.returns;

@@ -5,4 +5,4 @@ use Rattle.cilk_syntax.specs.Trees.{LocalInitializer, expression, call}
 
 abbrev pub source : sources.Source → LocalInitializer
 source (variants.Value e) = LocalInitializer.Value (expression e.value)
-source (variants.Invoke how c) = LocalInitializer.Invoke how (call c)
+source (variants.Invoke how c) = LocalInitializer.Invoke how (call c.value)

@@ -22,7 +22,7 @@ use std::alloc::Global;
 #[derive(Drop)]
 pub enum Source {
     Value(Box<Expr>),
-    Invoke(Invocation, Call),
+    Invoke(Invocation, Box<Call>),
 }
 
 /// Reads an argument of a call.
@@ -111,8 +111,8 @@ pub fn call<'a>(
     at: usize,
     tokens: &'a [Token],
     depth: u32,
-) -> Result<(Call, &'a [Token]), Stop<'a>>
-    ensures tree { IfOk result (λ x. SpellsCall (trees.call x.0) tokens.now x.1.now) }
+) -> Result<(Box<Call>, &'a [Token]), Stop<'a>>
+    ensures tree { IfOk result (λ x. SpellsCall (trees.call x.0.value) tokens.now x.1.now) }
     ensures shorter { IfOk result (λ x. length x.1.now < length tokens.now) }
     ensures reads { IfOk result (λ x. (stack : List Symbol) →
         run tokens.now (Named ∷ One Punct.Open ∷ Arguments depth ∷ stack) 0 ≡ run x.1.now stack 0) }
@@ -127,7 +127,7 @@ pub fn call<'a>(
         name,
         arguments,
     };
-    Ok((call, rest))
+    Ok((Box::new(alloc, call)?, rest))
 }
 
 /// Reads a right side, after its `=`.

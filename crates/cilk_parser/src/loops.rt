@@ -12,16 +12,8 @@ use crate::expressions::{ended, optional};
 use cilk_syntax::marks::{Punct, name, one, single, then_one};
 use cilk_syntax::stop::Stop;
 use cilk_syntax::token::{Kind, Token};
-use cilk_syntax::tree::{Assignment, Beginning, Bounds, Expr, Name};
+use cilk_syntax::tree::{Assignment, Beginning, Bounds, Expr, Head, Name};
 use std::alloc::Global;
-
-/// The three parts of the head of a `for`.
-#[derive(Drop)]
-pub struct Head {
-    pub beginning: Option<Beginning>,
-    pub test: Option<Box<Expr>>,
-    pub step: Option<Assignment>,
-}
 
 /// Reads a variable with its value, and the semicolon.
 #[tactic(auto, unfolding(cilk_syntax::specs::Grammar::SpellsDefined))]

@@ -65,7 +65,7 @@ fn called<'a>(
         name,
         arguments,
     };
-    Ok((Stmt::Invoke(Invocation::Call, call), rest))
+    Ok((Stmt::Invoke(Invocation::Call, Box::new(alloc, call)?), rest))
 }
 
 /// Reads the right side of an assignment to the variable with this name, after its `=`.
@@ -88,7 +88,7 @@ fn taken<'a>(
     match source {
         Source::Value(value) => {
             let assignment = Assignment::Set(Lvalue::Variable(name), value);
-            Ok((Stmt::Assign(assignment), rest))
+            Ok((Stmt::Assign(Box::new(alloc, assignment)?), rest))
         }
         Source::Invoke(how, call) => Ok((Stmt::AssignCall(name, how, call), rest)),
     }
@@ -128,7 +128,7 @@ fn named<'a>(
         _ => {
             let (assignment, rest) = assigned(alloc, name, tokens, depth)?;
             let rest = one(rest, Punct::Semicolon)?;
-            Ok((Stmt::Assign(assignment), rest))
+            Ok((Stmt::Assign(Box::new(alloc, assignment)?), rest))
         }
     }
 }
@@ -218,11 +218,13 @@ fn simple<'a>(
         }
         Kind::Increment => {
             let (target, rest) = ended_target(alloc, rest, depth)?;
-            Ok((Stmt::Assign(Assignment::Increment(target)), rest))
+            let assignment = Box::new(alloc, Assignment::Increment(target))?;
+            Ok((Stmt::Assign(assignment), rest))
         }
         Kind::Decrement => {
             let (target, rest) = ended_target(alloc, rest, depth)?;
-            Ok((Stmt::Assign(Assignment::Decrement(target)), rest))
+            let assignment = Box::new(alloc, Assignment::Decrement(target))?;
+            Ok((Stmt::Assign(assignment), rest))
         }
         Kind::CilkSpawn => spawned(alloc, first.at, rest, depth),
         Kind::CilkSync => {
@@ -325,8 +327,9 @@ fn parallel_loop<'a>(
         ∷ Named ∷ One Punct.Less ∷ Operand depth ∷ Tail depth ∷ Anew ∷ One Punct.Semicolon ∷ UnitStep ∷ One Punct.Close ∷ Statement (depth + 1) ∷ stack) 0)) }
 {
     let (bounds, rest) = bounds(alloc, tokens, depth)?;
+    let head = Box::new(alloc, bounds)?;
     let (body, rest) = statement(alloc, rest, depth + 1)?;
-    Ok((Stmt::ParallelFor(at, bounds, Box::new(alloc, body)?), rest))
+    Ok((Stmt::ParallelFor(at, head, Box::new(alloc, body)?), rest))
 }
 
 /// Reads the rest of a `for` at this place.
@@ -346,12 +349,9 @@ fn for_loop<'a>(
         IsStop e (run tokens.now (One Punct.Open ∷ Expected.Beginning depth ∷ Optional depth ∷ Step depth ∷ Statement (depth + 1) ∷ stack) 0)) }
 {
     let (head, rest) = loop_head(alloc, tokens, depth)?;
+    let head = Box::new(alloc, head)?;
     let (body, rest) = statement(alloc, rest, depth + 1)?;
-    let body = Box::new(alloc, body)?;
-    Ok((
-        Stmt::For(at, head.beginning, head.test, head.step, body),
-        rest,
-    ))
+    Ok((Stmt::For(at, head, Box::new(alloc, body)?), rest))
 }
 
 /// Reads the rest of an `if` at this place, with its `else` if one follows.

@@ -1,5 +1,6 @@
 -- The meaning of the code's programs as sources.
-use Rattle.std.specs.Prelude.{ℕ, ℤ, List, [], ◌∷◌, map, Option, Some, None}
+use Rattle.std.specs.Prelude.{ℕ, ℤ, List, [], ◌∷◌, map, Option, Some, None, Box}
+use Rattle.std.specs.declared.alloc.Global.{Global}
 use Rattle.cilk_monoid.specs.declared.kind.MonoidKind.{MonoidKind}
 use Rattle.cilk_program.specs.declared.syntax.Expr as exprs
 use Rattle.cilk_program.specs.declared.syntax.Stmt as stmts
@@ -26,13 +27,13 @@ expression (exprs.Value at r) = Value r
 expression (exprs.Input' at p e) = Input (expression e)
 expression (exprs.InputCount at) = InputCount
 
-abbrev pub optional : Option exprs.Expr → Option Expression
+abbrev pub optional : Option (Box exprs.Expr Global) → Option Expression
 optional None = None
-optional (Some e) = Some (expression e)
+optional (Some e) = Some (expression e.value)
 
 abbrev pub target : declared_targets.Target → Target
 target (targets.Variable at x) = ToVariable x
-target (targets.Element at a e) = ToElement a (expression e)
+target (targets.Element at a e) = ToElement a (expression e.value)
 
 abbrev pub invoke : declared_invokes.Invoke → Invoke
 invoke i = record { how = i.how; function = i.function; arguments = map expression i.arguments.items; reducers = i.reducers.items; result = i.result }
@@ -48,14 +49,14 @@ abbrev mutual
   statement (stmts.Block' at shape row) = Block (row_view row)
   statement (stmts.Declare row) = Declare (map declaration row.items)
   statement (stmts.Assign t e) = Assign (target t) (expression e)
-  statement (stmts.Change t at op e) = Change (target t) op (expression e)
+  statement (stmts.Change op t at e) = Change (target t) op (expression e)
   statement (stmts.Step t n) = Step (target t) n
   statement (stmts.Invoke i) = Invokes (invoke i)
   statement (stmts.Sync at) = Sync
   statement (stmts.If' at e p s) = If (expression e) (statement s)
   statement (stmts.IfElse' at e p s q other) = IfElse (expression e) (statement s) (statement other)
   statement (stmts.For' at shape row test shape2 row2 p s) = For (row_view row) (optional test) (row_view row2) (statement s)
-  statement (stmts.ParallelFor at a b n) = ParallelFor (expression a) (expression b) n
+  statement (stmts.ParallelFor at a b n) = ParallelFor (expression a.value) (expression b.value) n
   statement (stmts.Print at e) = Print (expression e)
   statement (stmts.Update at r e) = Update r (expression e)
   statement (stmts.Set at r e) = Set r (expression e)

@@ -112,7 +112,7 @@ impl Drop for Expr {
 /// The target of an assignment.
 pub enum Target {
     Variable(usize, Place),
-    Element(usize, Array, Expr),
+    Element(usize, Array, Box<Expr>),
 }
 
 impl Drop for Target {
@@ -167,7 +167,8 @@ impl Drop for Declaration {
     }
 }
 
-/// A statement.
+/// A statement. Each variant is at most 88 bytes: a list has room for the largest one at each of its
+/// statements, so what is larger is in a box.
 pub enum Stmt {
     /// Does nothing. A local reducer's declaration is empty too: the reducer is created when its
     /// frame begins.
@@ -176,7 +177,7 @@ pub enum Stmt {
     Declare(Vec<Declaration>),
     Assign(Target, Expr),
     /// A compound assignment, with the place of its mark.
-    Change(Target, usize, Compound, Expr),
+    Change(Compound, Target, usize, Expr),
     /// Adds 1 for `++`, -1 for `--`.
     Step(Target, i64),
     Invoke(Invoke),
@@ -185,15 +186,15 @@ pub enum Stmt {
     IfElse(usize, Expr, Box<Stmt>, Box<Stmt>),
     /// A `for`: its initial statements, its condition (true if absent), its step and its body. A
     /// `while` has only a condition and a body.
-    For(usize, Vec<Stmt>, Option<Expr>, Vec<Stmt>, Box<Stmt>),
+    For(usize, Vec<Stmt>, Option<Box<Expr>>, Vec<Stmt>, Box<Stmt>),
     /// A `cilk_for` from the first bound up to, but not including, the second, and the loop's index
     /// in the program.
-    ParallelFor(usize, Expr, Expr, u32),
+    ParallelFor(usize, Box<Expr>, Box<Expr>, u32),
     Print(usize, Expr),
     Update(usize, Reducer, Expr),
     Set(usize, Reducer, Expr),
     /// Returns a value, or 0 if there is none.
-    Return(usize, Option<Expr>),
+    Return(usize, Option<Box<Expr>>),
 }
 
 impl Drop for Stmt {
@@ -203,7 +204,7 @@ impl Drop for Stmt {
             Stmt::Block(_, _list) => {}
             Stmt::Declare(_list) => {}
             Stmt::Assign(_target, _value) => {}
-            Stmt::Change(_target, _, _, _value) => {}
+            Stmt::Change(_, _target, _, _value) => {}
             Stmt::Step(_target, _) => {}
             Stmt::Invoke(_invoke) => {}
             Stmt::Sync(_) => {}

@@ -26,6 +26,7 @@ use Rattle.cilk_syntax.specs.declared.tree.LocalInitializer.TheVariants as local
 use Rattle.cilk_syntax.specs.declared.tree.Local as declared_locals
 use Rattle.cilk_syntax.specs.declared.tree.Beginning as declared_beginnings
 use Rattle.cilk_syntax.specs.declared.tree.Beginning.TheVariants as beginnings
+use Rattle.cilk_syntax.specs.declared.tree.Head as declared_heads
 use Rattle.cilk_syntax.specs.declared.tree.Bounds as declared_bounds
 use Rattle.cilk_syntax.specs.declared.tree.Stmt as stmts
 use Rattle.cilk_syntax.specs.declared.tree.Item as declared
@@ -159,7 +160,7 @@ optional_assignment (Some a) = Some (assignment a)
 abbrev pub local_initializer : declared_initializers.LocalInitializer → LocalInitializer
 local_initializer local_initializers.Absent = Absent
 local_initializer (local_initializers.Value e) = LocalInitializer.Value (expression e.value)
-local_initializer (local_initializers.Invoke how c) = LocalInitializer.Invoke how (call c)
+local_initializer (local_initializers.Invoke how c) = LocalInitializer.Invoke how (call c.value)
 
 abbrev pub local : declared_locals.Local → Local
 local l = record { name = l.name; initializer = local_initializer l.initializer }
@@ -176,6 +177,10 @@ abbrev pub optional_beginning : Option declared_beginnings.Beginning → Option 
 optional_beginning None = None
 optional_beginning (Some b) = Some (beginning b)
 
+-- a `for` of a head and a body
+abbrev pub repetition : declared_heads.Head → Statement → Statement
+repetition h body = For (optional_beginning h.beginning) (optional h.test) (optional_assignment h.step) body
+
 abbrev pub bounds : declared_bounds.Bounds → Bounds
 bounds b = record { variable = b.variable; low = expression b.low.value; tested = b.tested; high = expression b.high.value; stepped = b.stepped }
 
@@ -185,15 +190,15 @@ abbrev mutual
   statement (stmts.Block' at shape row) = Block (row_view row)
   statement (stmts.Declare locals) = Declare (locals_of locals.items)
   statement (stmts.Reducer r) = Statement.Reducer r
-  statement (stmts.Assign a) = Assign (assignment a)
-  statement (stmts.Invoke how c) = Statement.Invoke how (call c)
-  statement (stmts.AssignCall name how c) = AssignCall name how (call c)
+  statement (stmts.Assign a) = Assign (assignment a.value)
+  statement (stmts.Invoke how c) = Statement.Invoke how (call c.value)
+  statement (stmts.AssignCall name how c) = AssignCall name how (call c.value)
   statement (stmts.Sync at) = Sync
   statement (stmts.If' at e p s) = If (expression e.value) (statement s)
   statement (stmts.IfElse' at e p s q other) = IfElse (expression e.value) (statement s) (statement other)
   statement (stmts.While' at e p s) = While (expression e.value) (statement s)
-  statement (stmts.For' at b e a p s) = For (optional_beginning b) (optional e) (optional_assignment a) (statement s)
-  statement (stmts.ParallelFor' at b p s) = ParallelFor (bounds b) (statement s)
+  statement (stmts.For' at h p s) = repetition h.value (statement s)
+  statement (stmts.ParallelFor' at b p s) = ParallelFor (bounds b.value) (statement s)
   statement (stmts.Return at e) = Return at (optional e)
   statement (stmts.Print at e) = Print (expression e.value)
   statement (stmts.Update name e) = Update name (expression e.value)

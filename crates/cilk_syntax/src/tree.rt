@@ -196,7 +196,7 @@ impl Drop for Assignment {
 pub enum LocalInitializer {
     Absent,
     Value(Box<Expr>),
-    Invoke(Invocation, Call),
+    Invoke(Invocation, Box<Call>),
 }
 
 impl Drop for LocalInitializer {
@@ -231,6 +231,23 @@ impl Drop for Beginning {
     }
 }
 
+/// The head of a `for`: its three parts.
+pub struct Head {
+    pub beginning: Option<Beginning>,
+    pub test: Option<Box<Expr>>,
+    pub step: Option<Assignment>,
+}
+
+impl Drop for Head {
+    fn drop(self) {
+        let Head {
+            beginning: _beginning,
+            test: _test,
+            step: _step,
+        } = self;
+    }
+}
+
 /// The head of a `cilk_for`: `int variable = low; tested < high; stepped++`. The three names must
 /// be equal, which names resolution checks and the grammar doesn't.
 pub struct Bounds {
@@ -254,21 +271,22 @@ impl Drop for Bounds {
 }
 
 /// A statement. Those without a name of their own have the place of their first byte. `AssignCall`
-/// assigns a call's result to a variable.
+/// assigns a call's result to a variable. Each variant is at most 40 bytes: a list has room for the
+/// largest one at each of its statements, so what is larger is in a box.
 pub enum Stmt {
     Empty(usize),
     Block(usize, Vec<Stmt>),
     Declare(Vec<Local>),
     Reducer(Reducer),
-    Assign(Assignment),
-    Invoke(Invocation, Call),
-    AssignCall(Name, Invocation, Call),
+    Assign(Box<Assignment>),
+    Invoke(Invocation, Box<Call>),
+    AssignCall(Name, Invocation, Box<Call>),
     Sync(usize),
     If(usize, Box<Expr>, Box<Stmt>),
     IfElse(usize, Box<Expr>, Box<Stmt>, Box<Stmt>),
     While(usize, Box<Expr>, Box<Stmt>),
-    For(usize, Option<Beginning>, Option<Box<Expr>>, Option<Assignment>, Box<Stmt>),
-    ParallelFor(usize, Bounds, Box<Stmt>),
+    For(usize, Box<Head>, Box<Stmt>),
+    ParallelFor(usize, Box<Bounds>, Box<Stmt>),
     Return(usize, Option<Box<Expr>>),
     Print(usize, Box<Expr>),
     Update(Name, Box<Expr>),
@@ -289,7 +307,7 @@ impl Drop for Stmt {
             Stmt::If(_, _test, _then) => {}
             Stmt::IfElse(_, _test, _then, _other) => {}
             Stmt::While(_, _test, _body) => {}
-            Stmt::For(_, _first, _test, _step, _body) => {}
+            Stmt::For(_, _head, _body) => {}
             Stmt::ParallelFor(_, _bounds, _body) => {}
             Stmt::Return(_, _value) => {}
             Stmt::Print(_, _value) => {}

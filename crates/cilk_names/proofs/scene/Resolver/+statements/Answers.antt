@@ -96,5 +96,5 @@ parallel-returns-clause-loops t c =
 pub repeated-returns-clause-context : goal.repeated-returns-clause-context
 repeated-returns-clause-context t c =
     head_closed (context_of c.args.self.now) (context_of c.open.new.self) (context_of c.beginning.new.self) (context_of c.scoped.new.self) (context_of c.close.new.self)
-    (trees.optional_beginning c.args.beginning.now) (trees.statement c.args.body.now)
+    (trees.optional_beginning c.args.head.now.beginning) (trees.statement c.args.body.now)
     c.in_ok-open.ensures.context c.in_ok-row.ensures.context c.in_ok-body.ensures.context c.close.ensures.context
