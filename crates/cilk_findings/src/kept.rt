@@ -80,11 +80,14 @@ impl Kept {
         self.text(self.count().saturating_sub(1))
     }
 
-    /// Returns the front of the file that was read in parts, or the text that was read last where none
+    /// Returns the front of the file that was read in parts, or of the text that was read last where none
     /// was: a certificate. Fails if there was no memory for a copy.
     pub fn front(&self) -> Result<&[u8], CaseFault> {
         match self.front.as_slice() {
-            [] => self.last(),
+            [] => {
+                let text = self.last()?;
+                Ok(&text[..text.len().min(FRONT)])
+            }
             _ if self.lacks => Err(CaseFault::Memory),
             front => Ok(front),
         }

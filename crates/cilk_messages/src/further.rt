@@ -2,6 +2,7 @@
 
 use crate::certain::{Look, form_at, own_words};
 use crate::cleaned::cleaned;
+use crate::gone;
 use crate::gone::end_of_gone;
 use crate::kinds::is_foreign;
 use crate::place::{between, line_at, locate};
@@ -91,12 +92,15 @@ impl<'a, 'h> Further<'a, 'h> {
         }
     }
 
-    // Forgets the forms that stand in a part of the text alone.
+    // Forgets the forms that stand in a part of the text alone. The others keep their order.
     fn forget(&mut self, from: usize, upto: usize) {
+        let mut kept: usize = 0;
         for place in 0..KEPT {
             let form = self.forms[place];
-            if form.at > from && form.at < upto && form.more == 0 {
-                self.forms[place] = NO_FORM;
+            self.forms[place] = NO_FORM;
+            if !(form.at > from && form.at < upto && form.more == 0) && kept <= place {
+                self.forms[kept] = form;
+                kept = kept.saturating_add(1);
             }
         }
     }
@@ -173,17 +177,21 @@ fn find(alloc: Global, text: &[u8], further: &mut Further<'_, '_>) -> Result<(),
     let rest = cleaned(alloc, text, further)?;
     let tokens = Tokens::new(alloc, rest.as_slice())?;
     let own = own_words(alloc, &tokens)?;
-    look_over(&tokens, own.as_slice(), further, is_foreign(text));
+    let gone = gone::gone_functions(alloc, &tokens)?;
+    let names = (own.as_slice(), gone.as_slice());
+    look_over(&tokens, names, further, is_foreign(text));
     Ok(())
 }
 
-// Notes the forms among the tokens.
+// Notes the forms among the tokens, by the names that the text declares, and those of the functions that
+// its reducers name.
 fn look_over<'a>(
     tokens: &Tokens<'a>,
-    own: &[&'a [u8]],
+    names: (&[&'a [u8]], &[&'a [u8]]),
     further: &mut Further<'_, '_>,
     is_foreign: bool,
 ) {
+    let (own, gone_functions) = names;
     let mut look = Look {
         is_word: false,
         upto: 0,
@@ -194,7 +202,7 @@ fn look_over<'a>(
             continue;
         }
         let (place, length) = (tokens.place(number), tokens.word(number).len());
-        if let Some(end) = end_of_gone(tokens, number) {
+        if let Some(end) = end_of_gone(tokens, number, gone_functions) {
             further.forget(place, tokens.place(end));
             further.note(place, length, sentence("GONE"), false);
             gone = end;

@@ -3,14 +3,32 @@
 use crate::sites::closing;
 use crate::tokens::Tokens;
 use cilk_syntax::token::Kind;
+use std::alloc::{AllocError, Global};
 
-/// Returns the last token of the function whose name is at a token, if a reducer names it.
-pub fn end_of_gone(tokens: &Tokens<'_>, number: usize) -> Option<usize> {
+/// Returns the functions that the reducers of a text name: `cilk_reducer(identity, reduce)`.
+pub fn gone_functions<'a>(alloc: Global, tokens: &Tokens<'a>) -> Result<Vec<&'a [u8]>, AllocError> {
+    let mut names = Vec::new(alloc);
+    for number in 0..tokens.count() {
+        let comma = number.saturating_add(3);
+        if matches!(tokens.kind(number), Some(Kind::CilkReducer))
+            && matches!(tokens.kind(comma), Some(Kind::Comma))
+        {
+            names.push(tokens.word(comma.saturating_sub(1)))?;
+            names.push(tokens.word(comma.saturating_add(1)))?;
+        }
+    }
+    Ok(names)
+}
+
+/// Returns the last token of the function whose name is at a token, if it is one of these.
+pub fn end_of_gone(tokens: &Tokens<'_>, number: usize, names: &[&[u8]]) -> Option<usize> {
+    if !matches!(tokens.kind_behind(number), Some(Kind::Open))
+        || !names.contains(&tokens.word(number))
+    {
+        return None;
+    }
     let brace = closing(tokens, number).saturating_add(1);
-    let is_function = matches!(tokens.kind(number), Some(Kind::Name))
-        && matches!(tokens.kind_behind(number), Some(Kind::Open))
-        && matches!(tokens.kind(brace), Some(Kind::OpenBrace));
-    if !is_function || !is_named(tokens, tokens.word(number)) {
+    if !matches!(tokens.kind(brace), Some(Kind::OpenBrace)) {
         return None;
     }
     let mut depth: usize = 0;
@@ -23,18 +41,4 @@ pub fn end_of_gone(tokens: &Tokens<'_>, number: usize) -> Option<usize> {
         }
     }
     None
-}
-
-// Whether a reducer of OpenCilk names this function: `cilk_reducer(identity, reduce)`.
-fn is_named(tokens: &Tokens<'_>, name: &[u8]) -> bool {
-    for number in 0..tokens.count() {
-        if matches!(tokens.kind(number), Some(Kind::CilkReducer)) {
-            let identity = tokens.word(number.saturating_add(2));
-            let reduce = tokens.word(number.saturating_add(4));
-            if identity == name || reduce == name {
-                return true;
-            }
-        }
-    }
-    false
 }

@@ -288,7 +288,10 @@ impl<'a, 't> Site<'a, 't> {
             (SINGLE, is_added && self.is_single()),
             (SWAP, is_array && self.is_swap()),
             (INNER, is_array && !self.inner_variable().is_empty()),
-            (ASKED, is_array && self.is_asked(place)),
+            (
+                ASKED,
+                is_array && facts & TURNS != 0 && !is_added && self.is_asked(place),
+            ),
             (
                 INDEXED,
                 has_name(tokens, at.saturating_add(2), behind, self.variable),
@@ -316,19 +319,19 @@ impl<'a, 't> Site<'a, 't> {
             return if self.taken().is_some() { TAKEN } else { 0 };
         }
         let is_turn = facts & TURNS != 0;
-        let (own, is_running) = self.in_loop();
+        let (own, is_running) = if is_turn { self.in_loop() } else { (0, false) };
         let is_taken = self.taken_at(later).is_some();
         let was_taken = self.taken_at(earlier).is_some();
         sum_of(&[
             (NAMELESS, name.is_empty()),
-            (OWN, is_turn && own > 0),
+            (OWN, own > 0),
             (HEAD, is_at(tokens, own.saturating_sub(2), "for")),
             (FILLED, !filled(tokens, name).is_empty()),
             (
                 PRODUCT,
                 multiplies(tokens, later, name) || multiplies(tokens, earlier, name),
             ),
-            (RUNNING, is_turn && is_running),
+            (RUNNING, is_running),
             (
                 TAKEN,
                 is_taken && was_taken || is_turn && (is_taken || was_taken),
@@ -420,9 +423,11 @@ impl<'a, 't> Site<'a, 't> {
                     set = number;
                 }
                 is_read = is_read || !is_set;
-                let start = statement_of(tokens, number);
-                let is_first = start == number || start.saturating_add(1) == number;
-                is_running = is_running || !is_first && takes(tokens, start, name).is_none();
+                if !is_running {
+                    let start = statement_of(tokens, number);
+                    let is_first = start == number || start.saturating_add(1) == number;
+                    is_running = !is_first && takes(tokens, start, name).is_none();
+                }
             }
         }
         (if is_read { set } else { 0 }, is_running)
