@@ -29,7 +29,7 @@ type Way = (&'static str, &'static str);
 type Rule = (u32, u32, &'static str, &'static str);
 
 // Facts of a read or set reducer: the text sets it, it isn't in turns and is the later event, in what
-// isn't spawned, the spawned function is the one around both, the monoid adds.
+// isn't spawned and isn't of the function that is, the spawned function is the one around both, the monoid adds.
 const VIEW: u32 = 1;
 
 const SET: u32 = 1 << 1;
@@ -80,7 +80,8 @@ const RUNNING: u32 = 1 << 20;
 
 // Facts of an array: both statements add to an element, and all writes are of one element; two turns
 // swap the same elements, in an inner loop; an `if` asks for the element; the index has the turn; the
-// later statement is a spawn; calls work on ranges that overlap, and of different functions.
+// later statement is a spawn; calls work on ranges that overlap, and of different functions; the index
+// is a single token.
 const ARRAY: u32 = 1 << 21;
 
 const ADDED: u32 = 1 << 22;
@@ -100,6 +101,8 @@ const SPAWN: u32 = 1 << 28;
 const RANGES: u32 = 1 << 29;
 
 const OTHER: u32 = 1 << 30;
+
+const NAMED: u32 = 1 << 31;
 
 // A rule without words is for what a reducer takes: where it is declared, and how it takes that.
 const RULES: &[Rule] = &[
@@ -126,6 +129,7 @@ const RULES: &[Rule] = &[
     (ARRAY | LOOP, BESIDE | SPAWN, "SYNC", "SECOND_LOOP"),
     (ARRAY, BESIDE, "SYNC", ""),
     (ARRAY | ADDED | SINGLE, 0, "SINGLE", "SUM"),
+    (ARRAY | ADDED | RANGES | NAMED, 0, "RANGES", "OR_SYNC"),
     (ARRAY | ADDED, 0, "CALL_ROWS", ""),
     (ARRAY | RANGES | OTHER, 0, "SYNC", "ORDERED"),
     (ARRAY | RANGES, 0, "RANGES", "OR_SYNC"),
@@ -302,6 +306,7 @@ impl<'a, 't> Site<'a, 't> {
                 is_array && self.is_in_range(self.pair.child) && self.is_in_range(branch),
             ),
             (OTHER, called != self.beside),
+            (NAMED, at.saturating_add(3) == behind),
         ])
     }
 
@@ -695,16 +700,19 @@ fn facts_of(scene: &Scene<'_>, pair: &Pair, event: usize, branch: usize) -> u32 
         pair.second
     };
     let beside = scene.note(branch);
-    let is_again = beside.body == scene.note(pair.child).body;
+    let is_again = branch > 0 && beside.body == scene.note(pair.child).body;
     let is_spawned = branch > 0 && beside.how == Invocation::Spawn;
     sum_of(&[
-        (BEHIND, event == pair.later && !is_turn && !is_spawned),
+        (
+            BEHIND,
+            event == pair.later && !is_turn && !is_spawned && !is_again,
+        ),
         (TURNS, is_turn),
         (
             CALLED,
             scene.around(second).0 != scene.around(pair.common).0,
         ),
-        (BESIDE, is_spawned || branch > 0 && is_again),
+        (BESIDE, is_spawned || is_again),
         (
             EARLIER,
             matches!(scene.access(pair.earlier), Some((_, true))),

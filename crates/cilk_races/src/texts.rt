@@ -17,13 +17,13 @@ OR_SYNC: ; or, with less in parallel, {y}
 GLOBAL: let a reducer take it: `int cilk_reducer({m}) {n};` in place of `int {n}`
 FIRST: let a reducer take it: `int cilk_reducer({m}) {n};` as the first line of the function, in place of `int {n}`
 INNER: move this inner `cilk_for` to a function of its own (or write `for` for it), whose first line is `int cilk_reducer({m}) {n};` and whose last is `return value({n});`
-UPDATED: , `update({n}, {a});` here, and `value({n})` where it is read, after the loop or the `cilk_sync`
+UPDATED: , `update({n}, {a});` here, and `value({n})` where it is read, after the loop or the `cilk_sync`; if what it begins with counts, that is an `update` of its own
 COMPARED: , `update({n}, {a});` here without the comparison, and `value({n})` where it is read, after the loop or the `cilk_sync`; if what it begins with counts, that is an `update` of its own; what else the `if` sets, a second loop finds, where the number is `value({g})`
 MOST: , `update({n}, {a});` here in place of the call, and `value({n})` where it is read, after the loop or the `cilk_sync`; if what it begins with counts, that is an `update` of its own
 ONCE: , `update({n}, {a});` here, and `value({n})` where it is read, after the loop or the `cilk_sync`: the first that is found is meant, so leave `{g}` out of the condition; where none is found it is 9223372036854775807; what else is set here is read after the loop, at that turn
 LAST: , `update({n}, {a});` here, and `value({n})` where it is read, after the loop: the last that is found is meant; where none is found it is -9223372036854775808
 TURN: , `update({n}, {a});` here, without asking for it first: after the loop `value({n})` is the turn that counts, and `{g}` in that turn the number
-FLAG: , `update({n}, {a});` here, `value({n})` where it is read, after the loop or the `cilk_sync`, and `set({g}, ..);` where it gets a number ahead of that, its first one too
+FLAG: , `update({n}, {a});` here, `value({n})` where it is read, after the loop or the `cilk_sync`, and `set({g}, ..);` where it gets a number ahead of that, its first one too, which is 0 if none is written
 ONCE_FLAG: , `update({n}, {a});` here without asking for it first, `value({n})` where it is read, after the loop or the `cilk_sync`, and `set({g}, ..);` where it gets a number ahead of that, its first one too; an index that is set with it is the first one: `min` keeps it
 PRODUCT: no reducer multiplies: let each turn or call leave its factor in an element of its own, and multiply `{n}` by them after the loop or the `cilk_sync`, by a `for`; or split by halves, each call returning its product
 SINGLE: let a reducer take it: a global `int cilk_reducer(add) all;` in place of this one element of `{n}`
@@ -49,7 +49,7 @@ SWAPPED_INNER: , by an inner loop that begins behind the turn: `for (int {w} = {
 SWAPPED_HALF: , by a loop that ends at the half: `{v} < {h}`
 COPIED: copy `{n}` to a second array before the loop, and let the turns read the copy where they read what others write
 FLOW: if `{n}[{i}]` as it was before the loop is meant here, copy `{n}` to a second array before the loop, and read the copy; if what the other turn writes is meant, the turns go in order: write `for` (the sums of all beginnings are made in parallel by halves, `examples/gallery/prefix_sum.c`)
-RANGES: the parts of `{n}` that two calls of `{c}` work on overlap in `{n}[{i}]`: let the one end where the other begins
+RANGES: the parts of `{n}` that two calls of `{c}` work on overlap in `{n}[{i}]`: mend their bounds, so that one of the two alone has that element
 ORDERED: : `{b}` works on what the spawned `{c}` does with `{n}`
 SECOND_LOOP: ; or, with more in parallel, read `{n}` in a second loop, after the `cilk_sync` behind this one
 TABLE: calls in parallel can't fill a table for each other: fill `{n}` before them, in order, by a `for`, and let the calls only read it
