@@ -130,7 +130,7 @@ const FORMS: &str = "\
 0 @ | -1 ( | in cilk_for => DECLARES
 0 @ | +1 ( | -1 int void | own | prototyped => PROTOTYPE
 0 @ | +1 ( | -1 , | own | in ? => CALL
-0 @ | +1 ( | -1 cilk_spawn | -3 ] | own => SPAWN
+0 @ | +1 ( | -1 cilk_spawn | -2 = | -3 ] | own => SPAWN
 0 @ | +1 ( | -1 ^ = | -1 ~ ( | own => CALL
 0 @ | +1 ( | -1 = | -2 ] | own => CALL
 0 @ | +1 ( | -1 = | own | in ? => CALL

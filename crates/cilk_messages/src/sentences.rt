@@ -10,7 +10,7 @@ REDUCER_FUNCTIONS => a reducer has a monoid in place of functions, `int cilk_red
 REDUCER_ARRAY => there are no arrays of reducers: a reducer for each, or a row of a global array for each block of turns, and the rows added up after the loop
 REDUCER_USE => `value(r)` reads a reducer, and `update(r, e)` takes a number into it
 REDUCER_ARGUMENT => an argument for a reducer is the bare name of a reducer of the same monoid
-REDUCER_OPENS => a reducer opens with the unit of its monoid, 0 for `add`: leave the first value out
+REDUCER_OPENS => a reducer opens with the unit of its monoid, 0 for `add`: leave the first value out, or, where it counts, `update(r, v);` takes it in before the loop
 VIEW_MEMBERS => `value(r)` reads a reducer, and is one number: of two parts take `1000 * one + other`, and `/` and `%` to part them; of an array, let each block of turns add up in a row of its own of a global one, and add the rows up after the loop (`examples/gallery/histogram.c`)
 KEPT => for `if (e > r) r = e;` write `update(r, e);` alone, with `max` as the monoid of `r`, or `min` for the least; elsewhere `value(r)` reads it
 UPDATE => `update(r, e)` takes a number into a reducer, and joins it by the reducer's own monoid

@@ -76,7 +76,7 @@ enum => in place of `enum { N = 8 };` write the number 8 wherever `N` stands; a 
 struct union class => STRUCTURES
 typedef => `int` is the only type, and needs no other name
 REDUCER_VIEW => REDUCER_USE
-CILK_C_.. cilk_reducer_.. reducer_op.. => REDUCER
+CILK_C_.. cilk_reducer_.. reducer_op.. cilk_op.. => REDUCER
 const => leave `const` out
 static => leave `static` out
 inline => leave `inline` out

@@ -29,7 +29,8 @@ type Way = (&'static str, &'static str);
 type Rule = (u32, u32, &'static str, &'static str);
 
 // Facts of a read or set reducer: the text sets it, it isn't in turns and is the later event, in what
-// isn't spawned and isn't of the function that is, the spawned function is the one around both, the monoid adds.
+// isn't spawned and isn't of the function that is, the spawned function is the one around both, the
+// monoid adds.
 const VIEW: u32 = 1;
 
 const SET: u32 = 1 << 1;
