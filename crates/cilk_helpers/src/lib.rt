@@ -18,6 +18,7 @@
 //! |---|---|
 //! | [`check_many`] | the verdict of `cilk_checker::texts::check` on three texts |
 //! | [`run_many`] | the end and the events of a serial run, with hints |
+//! | [`many::listed_run`] | the same, with the hints in a certificate's text |
 //! | [`replay::replay`] | the notes of one frame that is given the values it reads |
 //! | [`whole::retell`] | the serial run made from the replays of its frames, or None |
 //! | [`watch::Watch`] | is called for each frame as a helper begins it |
