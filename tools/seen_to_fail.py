@@ -126,6 +126,7 @@ def main():
         cases.DATA = shutil.copytree(cases.DATA, f"{room}/data")
         slow = {name.decode() for name in cases.lines(f"{cases.DATA}/slow")} if given.light else ()
         names = [name for name in cases.names() if re.search(given.form, name) and name not in slow]
+        names = [name for name in names if not os.path.exists(f"{cases.DATA}/{name}/unread")]
         told = [f"{name}: isn't listed, so it isn't run" for name in sorted(folders.difference(cases.names()))]
         print("".join(f"{line}\n" for line in told), end="")
         told += all_found(given, names)
