@@ -19,7 +19,8 @@
 //! | `measure` | prints work, span and parallelism |
 //! | `explain`, `help` | explains a number; describes a command |
 //!
-//! Arguments that aren't valid text are refused with a line on standard error.
+//! Arguments that aren't valid text are refused with a line on standard error. `--color` may stand
+//! anywhere among them: explanations then have colours.
 //!
 //! ```text
 //! cilk run fib.c
@@ -30,7 +31,7 @@
 
 use cilk_commands::disk::Disk;
 use cilk_commands::reply::{NO_MEMORY, NO_MEMORY_LINE, WRONG};
-use cilk_report::KeptFiles;
+use cilk_report::{KeptFiles, without_color};
 use cilk_tool::serve;
 use std::alloc::{AllocError, Global};
 use std::io::ErrorKind;
@@ -46,8 +47,12 @@ fn arguments(rt: &HostRuntime) -> io::Result<Vec<String>> {
     Ok(words)
 }
 
-fn as_texts<'a>(alloc: Global, words: &'a [String]) -> Result<Vec<&'a str>, AllocError> {
-    words.iter().map(|word| word.as_str()).collect(alloc)
+/// The arguments without each `--color`, and whether explanations have colours.
+fn as_texts<'a>(alloc: Global, words: &'a [String]) -> Result<(Vec<&'a str>, bool), AllocError> {
+    let all: Vec<&str> = words.iter().map(|word| word.as_str()).collect(alloc)?;
+    let plain = without_color(alloc, all.as_slice())?;
+    let has_colors = plain.len() < all.len();
+    Ok((plain, has_colors))
 }
 
 /// Reports that the arguments couldn't be read: out of memory, or an argument isn't text.
@@ -65,15 +70,15 @@ fn main(rt: HostRuntime) -> ExitCode {
         Ok(words) => words,
         Err(error) => return refused(&rt, error),
     };
-    let words = match as_texts(rt.alloc(), words.as_slice()) {
-        Ok(words) => words,
+    let (words, has_colors) = match as_texts(rt.alloc(), words.as_slice()) {
+        Ok(found) => found,
         Err(error) => return refused(&rt, io::Error::from(error)),
     };
     let status = serve(
         &rt,
         rt.alloc(),
         words.as_slice(),
-        &mut KeptFiles::new(rt.alloc(), Disk::new(&rt)),
+        &mut KeptFiles::new(rt.alloc(), Disk::new(&rt), has_colors),
         &mut rt.reader(),
         &mut rt.stdout(),
         &mut rt.stderr(),

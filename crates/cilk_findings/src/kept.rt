@@ -10,9 +10,10 @@ use std::alloc::{AllocError, Global};
 const FRONT: usize = 256;
 
 /// Copies of what was read: each text that was read whole, in order, and the front of the file that
-/// was read in parts.
+/// was read in parts; and whether explanations have colours.
 #[derive(Drop)]
 pub struct Kept {
+    pub has_colors: bool,
     texts: Vec<Vec<u8>>,
     front: Vec<u8>,
     // Whether there was no memory for a copy.
@@ -21,8 +22,9 @@ pub struct Kept {
 
 impl Kept {
     /// Begins without copies.
-    pub fn new(alloc: Global) -> Kept {
+    pub fn new(alloc: Global, has_colors: bool) -> Kept {
         Kept {
+            has_colors,
             texts: Vec::new(alloc),
             front: Vec::new(alloc),
             lacks: false,

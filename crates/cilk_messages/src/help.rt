@@ -47,6 +47,9 @@ Options of settle, run, certify, check, threads, play, schedule and measure:
   --explain       after a refusal, say on standard error at which line and column it is, why, and what to write instead;
                   `settle` does so without it
 
+Option of all commands:
+  --color         show explanations with colours; `./cilk` adds it where standard error is a terminal, unless NO_COLOR is set
+
 Options of settle:
   --short, --json
                   a line for each program: its name and the first line of the answer, or a JSON object with its name, the

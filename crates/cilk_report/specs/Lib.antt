@@ -1,3 +1,4 @@
+pub mod Colors
 pub mod Explained
 pub mod Measured
 pub mod Settling

@@ -1,6 +1,7 @@
 //! Explanations of answers and failures.
 
 use crate::certificate::line_of;
+use crate::colors::shown;
 use crate::wanted::push_expected;
 use cilk_checker::refusal::Refusal;
 use cilk_commands::reply::{Answer, Failure};
@@ -21,6 +22,16 @@ use std::alloc::{AllocError, Global};
 /// A race, or a fault that stops the run, is explained in the program's text. For other refusals the
 /// line of the certificate is shown.
 pub fn of_answer(
+    alloc: Global,
+    order: &Order<'_>,
+    answer: &Answer,
+    kept: &Kept,
+) -> Result<String, CaseFault> {
+    let text = answer_text(alloc, order, answer, kept)?;
+    shown(alloc, text, kept)
+}
+
+fn answer_text(
     alloc: Global,
     order: &Order<'_>,
     answer: &Answer,
@@ -77,6 +88,16 @@ pub(crate) fn texts_of<'a>(
 /// is in the one that was read last. Only the number of a fault is known if the program came from
 /// standard input.
 pub fn of_failure(
+    alloc: Global,
+    order: &Order<'_>,
+    failure: &Failure<'_>,
+    kept: &Kept,
+) -> Result<String, CaseFault> {
+    let text = failure_text(alloc, order, failure, kept)?;
+    shown(alloc, text, kept)
+}
+
+fn failure_text(
     alloc: Global,
     order: &Order<'_>,
     failure: &Failure<'_>,

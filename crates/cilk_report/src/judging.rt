@@ -7,6 +7,7 @@ ghost use Rattle.cilk_commands.specs.Replies.{failure_view};
 use crate::Keeps;
 use crate::accesses::Accesses;
 use crate::again::seek;
+use crate::colors::shown;
 use crate::explaining::race_of;
 use cilk_checker::refusal::Refusal;
 use cilk_commands::reply::Failure;
@@ -72,7 +73,7 @@ pub fn of_trace_race<F: Keeps>(
         seek(judged.trace, files, &mut found)?;
         push_accesses(alloc, &mut text, judged, refusal, &found, files)?;
     }
-    Ok(text)
+    shown(alloc, text, files.kept())
 }
 
 // Adds the explanation of the accesses that were found. One without a table that can be read has the
@@ -115,6 +116,18 @@ fn push_accesses<F: Keeps>(
 
 /// Returns the explanation of a trace that isn't judged. It is read again for a malformed line.
 pub fn of_trace_failure<F: Keeps>(
+    alloc: Global,
+    trace: &str,
+    failure: &Failure<'_>,
+    files: &mut F,
+) -> Result<String, CaseFault>
+    ensures { (IsTraceFault (failure_view failure.now) → ⊥) → F.failed files.new ≡ F.failed files.old }
+{
+    let text = failure_text(alloc, trace, failure, files)?;
+    shown(alloc, text, files.kept())
+}
+
+fn failure_text<F: Keeps>(
     alloc: Global,
     trace: &str,
     failure: &Failure<'_>,

@@ -26,13 +26,13 @@ pub struct KeptFiles<F> {
 }
 
 impl<F: Files> KeptFiles<F> {
-    /// Wraps files. No copies are kept yet.
-    pub fn new(alloc: Global, files: F) -> Self
+    /// Wraps files. No copies are kept yet. Explanations have colours on request.
+    pub fn new(alloc: Global, files: F, has_colors: bool) -> Self
         ensures { result.files ≡ files }
     {
         KeptFiles {
             files,
-            kept: Kept::new(alloc),
+            kept: Kept::new(alloc, has_colors),
             keeps: false,
         }
     }

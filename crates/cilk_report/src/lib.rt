@@ -24,6 +24,7 @@
 //! | [`follow`] | writes an explanation after what was shown |
 //! | [`totals_of`] | the totals of a run, which `measure` shows |
 //! | [`KeptFiles`] | files with copies of what was read |
+//! | [`without_color`] | the words without `--color`, which asks for explanations with colours |
 //!
 //! ```text
 //! program 103 at 61
@@ -38,6 +39,7 @@
 mod accesses;
 mod again;
 mod certificate;
+mod colors;
 mod explaining;
 mod extras;
 mod judging;
@@ -51,6 +53,7 @@ mod wanted;
 pub use cilk_messages::asked::{asks, behind_first, is_help, is_measure, run_of, run_words};
 pub use cilk_messages::flags::unflagged;
 pub use cilk_profile::{CaseTexts, Kept, push_cells};
+pub use colors::without_color;
 pub use explaining::{of_answer, of_failure};
 pub use kept::{Keeps, KeptFiles};
 pub use serving::{follow, serve_explained};
