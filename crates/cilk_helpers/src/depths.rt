@@ -208,6 +208,14 @@ fn keep(
     Ok(())
 }
 
+/// The threads, the number of helpers, and what is called for each frame as a helper begins it.
+#[derive(Clone, Copy)]
+pub struct Team<'a, R, W> {
+    pub rt: &'a R,
+    pub helpers: u32,
+    pub watch: &'a W,
+}
+
 /// Replays all listed frames and returns their replays, the last frame first.
 ///
 /// A round has all frames of one depth of invocation. Frame K belongs to helper 1 + (K - 1) %
@@ -215,18 +223,16 @@ fn keep(
 /// empty replay. No frame begins once the replayed ones cost more ticks than a run may. So whatever
 /// the hints say, a helper makes at most the ticks of three runs.
 pub fn replays<R: Threads + Sync, W: Watch + Sync>(
-    rt: &R,
+    team: Team<'_, R, W>,
     alloc: Global,
     program: &Program,
     code: &Code,
     input: &Input,
     hints: &Hints,
-    helpers: u32,
-    watch: &W,
 ) -> Result<Vec<Replay>, AllocError>
     requires behaves { Behaves (source program.now) code.now }
-    requires some { 0 < helpers }
-    requires most { helpers ≤ 16 }
+    requires some { 0 < team.helpers }
+    requires most { team.helpers ≤ 16 }
     ensures { IfOk result (λ list. All (IsKept code.now (source program.now) input.now) list.items) }
 {
     let mut replays = blanks(alloc, hints.frames.len())?;
@@ -237,15 +243,15 @@ pub fn replays<R: Threads + Sync, W: Watch + Sync>(
             break;
         }
         let frames = numbers(alloc, dues.as_slice())?;
-        let shares = dealt(alloc, dues, helpers, spent)?;
+        let shares = dealt(alloc, dues, team.helpers, spent)?;
         let replayed = round(
-            rt,
+            team.rt,
             alloc,
             code,
             input,
             hints.words.as_slice(),
             shares,
-            watch,
+            team.watch,
         )?;
         spent = spent.saturating_add(ticks_of(replayed.as_slice()));
         keep(&mut replays, replayed)?;

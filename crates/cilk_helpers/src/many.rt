@@ -8,7 +8,7 @@ ghost use Rattle.cilk_checker.specs.Answers.{IsCertified};
 ghost use Rattle.cilk_checker.specs.OneVerdict.{AnswersOne, AnswersOnly, IsNoVerdict};
 ghost use Rattle.cilk_checker.specs.Texts.{AreTexts, IsTrueAnswer, IsTrueRefusal};
 
-use crate::depths::replays;
+use crate::depths::{Team, replays};
 use crate::hints::hints;
 use crate::listing::Hints;
 use crate::watch::Watch;
@@ -47,7 +47,8 @@ pub fn run_many<H: Threads + Sync, W: Watch + Sync>(
     ensures { IfOk result (λ r. EndsWith (source_of program.now) input.now r.0 r.1) }
 {
     let code = lower(alloc, program)?;
-    let replays = replays(rt, alloc, program, &code, input, &hints, helpers, watch)?;
+    let team = Team { rt, helpers, watch };
+    let replays = replays(team, alloc, program, &code, input, &hints)?;
     drop(hints);
     if let Some(run) = retell(alloc, program, &code, input, replays)? {
         return Ok(run);

@@ -8,7 +8,7 @@ use cilk_checker::judge::program;
 use cilk_checker::refusal::Refusal;
 use cilk_checker::source::Whole;
 use cilk_helpers::check_many;
-use cilk_helpers::depths::replays;
+use cilk_helpers::depths::{Team, replays};
 use cilk_helpers::hints::hints;
 use cilk_helpers::watch::Watch;
 use cilk_helpers::whole::retell;
@@ -158,7 +158,12 @@ fn retells<R: Abort + Threads + Sync>(
     let hints = hints(alloc, &mut Whole::new(certificate))?;
     let counting = Counting::new(alloc, hints.frames.len())?;
     let code = lower(alloc, program)?;
-    let replays = replays(rt, alloc, program, &code, input, &hints, helpers, &counting)?;
+    let team = Team {
+        rt,
+        helpers,
+        watch: &counting,
+    };
+    let replays = replays(team, alloc, program, &code, input, &hints)?;
     let is_once = counting.count(1) == hints.frames.len();
     Ok(retell(alloc, program, &code, input, replays)?.is_some() && is_once)
 }
