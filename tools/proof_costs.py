@@ -1,97 +1,91 @@
 #!/usr/bin/env python3
-"""The functions whose proofs cost most, by what their proofs have to show: no proof is run.
+"""The functions whose proofs take longest, by watching the prover: it writes a file for each part of a proof that it has checked.
 
-proof_costs.py CRATE .. [--top N]    functions of these crates (all that are built, without a name), dearest first
+proof_costs.py watch FOLDER       watches each prover that runs or begins, with `strace`, until it is stopped; a file for each in FOLDER
+proof_costs.py show FOLDER [--top N] [--parts] [CRATE ..]
+                                  the seconds of each function in these files (of these crates alone), most first
 
-A crate's library (crates/CRATE/out/rlib, which `rt check` leaves there) lists the goals of each function. Most of them are
-found by the prover itself, and cost time nevertheless: a goal some 0.14 seconds, and a value that is dropped on the way out
-0.45 more, since each field of each value that a function owns is dropped at each of its returns. A function with many drops
-gets cheap by an `impl Drop` of its types that is written manually (one call in place of each field), or where an outer function
-owns and an inner one borrows.
+A second counts for the part that is written at its end, so that a prover which waits for a processor shows more than it takes:
+watch one that runs alone. With --parts the parts stand one by one: `Lts` is the function's code, `Proof` its goals, `Tie` that
+both fit. A function with many drops gets cheap by an `impl Drop` of its types that is written manually, or where an outer function
+owns and an inner one borrows; one with many arms, by a table.
 """
 
 import argparse
-import json
+import collections
+import glob
 import os
 import re
+import subprocess
 import sys
+import time
 
-TOP = os.path.dirname(os.path.dirname(os.path.realpath(__file__)))
-SECONDS_A_GOAL, SECONDS_A_DROP = 0.14, 0.45
+sys.dont_write_bytecode = True
+
+from gate_times import kind_of
+
+WRITTEN = re.compile(r'^\d+ +(\d+\.\d+) openat\(AT_FDCWD, "([^"]*)\.oantt[^"]*", O_WRONLY', re.M)
+PART = re.compile(r"\.(Lts|Proof|Tie|Layout|Reads|Named|Kinds|Statement|Met|Code|Symbol|TheLink|Given|Goals|TheLaws|Key)(-\w+|\.\w+)*$")
 
 
-def values_of(path):
-    """The JSON values of a file that has one after another; lines that are none are passed over."""
-    with open(path, encoding="utf-8") as file:
-        text = file.read()
-    decoder, at, found = json.JSONDecoder(), 0, []
-    while at < len(text):
-        if text[at].isspace():
-            at += 1
-            continue
-        try:
-            value, at = decoder.raw_decode(text, at)
-        except ValueError:
-            at = text.find("\n", at) + 1 or len(text)
-            continue
-        found.append(value)
+def watch(folder):
+    """Watches provers until this is stopped."""
+    os.makedirs(folder, exist_ok=True)
+    begun = {}
+    try:
+        while True:
+            for process in set(filter(str.isdigit, os.listdir("/proc"))) - set(begun):
+                try:
+                    with open(f"/proc/{process}/cmdline", "rb") as file:
+                        kind = kind_of([word.decode(errors="replace") for word in file.read().split(b"\0")])
+                except OSError:
+                    continue
+                begun[process] = kind and subprocess.Popen(
+                    ["strace", "-f", "-ttt", "-e", "trace=openat", "-p", process, "-o", f"{folder}/{kind[0]}.{process}"],
+                    stderr=subprocess.DEVNULL,
+                )
+            time.sleep(0.5)
+    except KeyboardInterrupt:
+        for work in filter(None, begun.values()):
+            work.terminate()
+    return 0
+
+
+def seconds_in(path, crate, with_parts):
+    """The seconds of each function, or of each part, that a prover wrote."""
+    found, last = collections.Counter(), None
+    with open(path, encoding="utf-8", errors="replace") as file:
+        for at, name in WRITTEN.findall(file.read()):
+            name = os.path.basename(name).removeprefix(f"Rattle-{crate}-")
+            if last is not None:
+                found[name if with_parts else PART.sub("", name)] += float(at) - last
+            last = float(at)
     return found
 
 
-def needs_in(value):
-    """The goals that a function's proof lists, wherever they lie in it."""
-    if isinstance(value, dict):
-        for key, inner in value.items():
-            if key == "needs" and isinstance(inner, list):
-                yield from inner
-            else:
-                yield from needs_in(inner)
-    elif isinstance(value, list):
-        for inner in value:
-            yield from needs_in(inner)
-
-
-def counts_of(proof):
-    """How many goals, drops, returns and clauses a function's proof has."""
-    names = [str(need.get("name", "")).replace("Need-", "") for need in needs_in(proof)]
-    returns = [name for name in names if name.startswith("returns")]
-    clauses = {found[1] for name in returns if (found := re.search(r"-clause-(\w+)", name))}
-    drops = [name for name in names if re.match(r"drop\b", name) or "+drop" in name or "-drop-" in name]
-    return len(names), len(drops), len({re.sub(r"-clause-\w+", "", name) for name in returns}), max(1, len(clauses))
-
-
-def proofs_of(crate):
-    """The proofs of a built crate's functions, by name."""
-    path = f"{TOP}/crates/{crate}/out/rlib/{crate}.rlib/lang/antt/made.json"
-    if not os.path.isfile(path):
-        return None
-    found = {}
-    for value in values_of(path):
-        if isinstance(value, dict) and "MadeProof" in value:
-            proof = value["MadeProof"]
-            found[str(proof.get("symbol"))] = counts_of(proof)
-    return found
+def show(folder, crates, top, with_parts):
+    """Prints the functions of a folder's files, those that took longest first."""
+    found = collections.Counter()
+    for path in glob.glob(f"{folder}/*"):
+        crate = os.path.basename(path).split(".")[0]
+        if not crates or crate in crates:
+            for name, seconds in seconds_in(path, crate, with_parts).items():
+                found[f"{crate} {name}"] += seconds
+    for name, seconds in found.most_common(top):
+        print(f"{seconds:8.1f}  {name}")
+    print(f"{sum(found.values()):8.1f}  in all")
+    return 0
 
 
 def main():
     asked = argparse.ArgumentParser(description=__doc__.splitlines()[0])
+    asked.add_argument("verb", choices=("watch", "show"))
+    asked.add_argument("folder", metavar="FOLDER")
     asked.add_argument("crates", nargs="*", metavar="CRATE")
-    asked.add_argument("--top", type=int, default=30, metavar="N", help="how many functions are shown")
+    asked.add_argument("--top", type=int, default=30, metavar="N", help="how many are shown")
+    asked.add_argument("--parts", action="store_true", help="each part of a proof by itself")
     words = asked.parse_args()
-    rows = []
-    for crate in words.crates or sorted(os.listdir(f"{TOP}/crates")):
-        found = proofs_of(crate)
-        if found is None:
-            if words.crates:
-                print(f"{crate}: no library is built: run `rt check` in crates/{crate}", file=sys.stderr)
-            continue
-        for name, (goals, drops, returns, clauses) in found.items():
-            rows.append((goals * SECONDS_A_GOAL + drops * SECONDS_A_DROP, goals, drops, returns, clauses, name))
-    print(f"{'seconds':>8} {'goals':>6} {'drops':>6} {'returns':>8} {'clauses':>8}  function")
-    for seconds, goals, drops, returns, clauses, name in sorted(rows, reverse=True)[: words.top]:
-        print(f"{seconds:8.1f} {goals:6} {drops:6} {returns:8} {clauses:8}  {name}")
-    print(f"{sum(row[0] for row in rows):8.1f} {sum(row[1] for row in rows):6} {sum(row[2] for row in rows):6}  in all")
-    return 0
+    return watch(words.folder) if words.verb == "watch" else show(words.folder, words.crates, words.top, words.parts)
 
 
 if __name__ == "__main__":

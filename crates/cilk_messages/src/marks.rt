@@ -40,6 +40,7 @@ struct Spot<'a> {
 const MARKS: &str = "\
 on \"\\n\".. | called printf puts print => LINE_END
 on '\\n'.. | called putchar print => LINE_END
+on '\\n'.. => `print` ends each line itself: leave this away; where it is compared, write 10
 on '.. => there are no characters: write their numbers
 on \".. | called scanf => INPUT
 on \".. => there are no strings: `print(e);` writes a number on a line of its own

@@ -6,7 +6,7 @@ use crate::around::is_among;
 const SENTENCES: &str = "\
 REDUCER => a reducer is a global or stands first in its function, with its monoid alone, `int cilk_reducer(add) r;`: add, min, max, append or affine; `update(r, e);` takes a number into it, and `value(r)` reads it
 GONE => a reducer has a monoid in place of functions: this one goes away, with all in it
-REDUCER_FUNCTIONS => a reducer has a monoid in place of functions, `int cilk_reducer(add) r;`: `add` for a sum, `max` or `min` for the greatest or the least; the functions that it names go away
+REDUCER_FUNCTIONS => a reducer has a monoid in place of functions, `int cilk_reducer(add) r;` as the first line of its function or as a global: `add` for a sum, `max` or `min` for the greatest or the least; `update(r, e);` takes a number into it, `value(r)` reads it, and the functions that it names go away
 REDUCER_ARRAY => there are no arrays of reducers: a reducer for each, or a row of a global array for each block of turns, and the rows added up after the loop
 REDUCER_USE => `value(r)` reads a reducer, and `update(r, e)` takes a number into it
 REDUCER_ARGUMENT => an argument for a reducer is the bare name of a reducer of the same monoid
@@ -39,13 +39,13 @@ LENGTH => an array's length is a number, and no name or sum: work it out, and wr
 ONE_INDEX => an array has one index: `a[i * columns + j]`
 THREE_INDICES => an array has one index: `a[(i * rows + j) * columns + k]` for `a[i][j][k]`
 ZEROS => an array opens with zeros: write its elements in `main`, or read them from the input
-POINTER => there are no pointers: pass the place of an element in a global array, `sort(first + n)` for `sort(a + n)`, and write `a[p]` for `*p`; one to a single structure goes away
+POINTER => there are no pointers: one to memory of its own is a global array, `int a[1000];`; else pass the place of an element in one, `sort(first + n)` for `sort(a + n)`, and write `a[p]` for `*p` and `a[p + i]` for `p[i]`; two that are swapped are places in one array of twice the length; one to a single structure goes away
 ARROW => there are no pointers and no structures: an array for each member, and an index for the pointer; of a single structure, globals, and no pointer
 REFERENCES => there are no references: pass the place of an element in a global array, or return the number
 BITS => there are no operators on bits: `x % 2` stands for `x & 1`, and `x % 8` for `x & 7`, where `x` isn't below 0
-SHIFT_UP => there are no operators on bits: `x * 8` stands for `x << 3`
-SHIFT_DOWN => there are no operators on bits: `x / 8` stands for `x >> 3`, where `x` isn't below 0
-DIVIDED => `+=`, `-=` and `*=` are the only such assignments: write `x = x / e`, or `x = x * 1000 / e` in thousandths
+SHIFT_UP => there are no operators on bits: `x * 8` stands for `x << 3`, and `x = x * 8;` for `x <<= 3;`
+SHIFT_DOWN => there are no operators on bits: `x / 8` stands for `x >> 3`, and `x = x / 8;` for `x >>= 3;`, where `x` isn't below 0; below 0 it is `(x - 7) / 8`
+DIVIDED => `+=`, `-=` and `*=` are the only such assignments: write `x = x / e` or `x = x % e`; in thousandths a quotient is `x = x * 1000 / e`
 ASSIGNMENT => an assignment is a statement of its own, and stands in no expression
 LOCKS => there are no locks and no atomics: what turns or calls add up, or the greatest of it, goes to a reducer (`int cilk_reducer(add) r;`); what they find, to an element that each has for itself
 LEAST => a global opens with a number: with `-9223372036854775807`, or `main` sets the least one, `-9223372036854775807 - 1`

@@ -54,6 +54,7 @@ in value => REDUCER_USE
 0 ) | in update set => REDUCER_USE
 -1 ( | in update set => REDUCER_USE
 -2 ( | in update set => REDUCER_USE
+0 ( | +1 void | +2 ) => nothing is cast: leave `(void)` out, and where no call follows it, the whole statement
 0 ( | -1 @ | -2 int void | global no => NESTED
 0 ( | -1 @ => CALL
 0 + - * / % < <= > >= == != && || [ | of @ | of-1 cilk_spawn => SPAWN
@@ -82,6 +83,7 @@ in value => REDUCER_USE
 0 [ | in :function :procedure => ARRAY_PARAMETER
 0 [ => ARRAYS
 0 ; | -1 ) | of :function :procedure => PROTOTYPE
+0 ; | -1 @ | -2 ; { } => a name alone does nothing: leave this statement out, or call it, `f();`
 0 < <= | -1 < => SHIFT_UP
 0 > >= | -1 > => SHIFT_DOWN
 0 < | +1 < <= => SHIFT_UP

@@ -61,7 +61,8 @@ pub fn cast_to(word: &[u8]) -> &'static str {
 const CASTS: &str = "\
 unsigned char uint8_t uint16_t uint32_t => `int` is the only type, and has a sign: write `x % 256` for `(unsigned char)x`, and `x % 4294967296` for `(unsigned)x`, where `x` isn't below 0; below 0 add 256 or 4294967296 to that
 float double => numbers are whole: leave the cast out; before a division multiply first, `a * 1000 / b` for `(double)a / b` in thousandths
-int long short int64_t int32_t size_t => `int` is the only type, and has 64 bits: leave the cast out";
+int long short int64_t int32_t size_t => `int` is the only type, and has 64 bits: leave the cast out
+void => nothing is cast: leave `(void)` out, and where no call follows it, the whole statement";
 
 // Types, words of reducers, and words before a declaration, a statement or an operand.
 const OTHER_WORDS: &str = "\
@@ -87,7 +88,7 @@ using template => LINE_AWAY
 do => write `while`, with its body once before it
 switch case => CASES
 goto => there is no `goto`: a flag in the loop's condition ends it, and an `if` skips what is left
-break => there is no `break`: let the loop's condition end it; that of a `switch` goes away
+break => there is no `break`: let the loop's condition end it; as a `break` leaves the step of a `for` head out, that goes to the end of the body, under an `if`; that of a `switch` goes away
 continue => there is no `continue`: put the rest of the body under an `if`
 cilk_scope => there is no `cilk_scope`: leave the word away, and let a `cilk_sync;` end the block
 sizeof => NO_LENGTH

@@ -28,8 +28,8 @@ ONCE_FLAG: , `update({n}, {a});` here without asking for it first, `value({n})` 
 PRODUCT: no reducer multiplies: let each turn or call leave its factor in an element of its own, and multiply `{n}` by them after the loop or the `cilk_sync`, by a `for`; or split by halves, each call returning its product
 SINGLE: let a reducer take it: a global `int cilk_reducer(add) all;` in place of this one element of `{n}`
 SUM: , `update(all, {a});` here, and `value(all)` where it is read, after the loop or the `cilk_sync`
-OWN: declare `{n}` inside the `cilk_for`, so that each turn has its own; if its number is wanted after the loop, a reducer keeps it: `int cilk_reducer(max) {n};` (or `min`, `add`)
-OWN_GLOBAL: declare a variable inside the `cilk_for` in place of the global `{n}`, so that each turn has its own; if its number is wanted after the loop, a reducer keeps it: `int cilk_reducer(max) {n};` (or `min`, `add`)
+OWN: declare `{n}` inside the `cilk_for` of `{v}`, so that each turn has its own; if its number is wanted after the loop, a reducer keeps it: `int cilk_reducer(max) {n};` (or `min`, `add`)
+OWN_GLOBAL: declare a variable inside the `cilk_for` of `{v}` in place of the global `{n}`, so that each turn has its own; if its number is wanted after the loop, a reducer keeps it: `int cilk_reducer(max) {n};` (or `min`, `add`)
 OWN_HEAD: declare `{n}` inside, so that each turn has its own: `for (int {n} = ..` in place of `for ({n} = ..`, and so for each other variable that a turn sets before it reads it
 CALLED_GLOBAL: declare a variable in the function that the loop calls, in place of the global `{n}`; if it goes from call to call, as a seed does, make it a parameter, let the function return the next one, and let each turn begin with one of its own
 PASSED: give each call a `{n}` of its own: a parameter, or a variable of the function, which returns what it found
@@ -38,10 +38,10 @@ RUNNING: each turn reads what the turns before it made of `{n}`, so they go in o
 RESULT: : what a spawned call leaves in `{n}` is there only then
 RESULTS: give each spawned call a variable of its own; or an element of an array, which it writes by its number, a parameter (`docs/FROM-CILK.md`, \"Work arrays\")
 ROWS: let each turn add up in a row of its own: `int rows[{t}];`, with `rows[{l} * {v} + {p}]` in place of `{n}[{p}]`
-ROWS_ADDED: , and add the rows up after the loop by a `for`; for few elements, a reducer each (`examples/gallery/histogram.c`)
-CALL_ROWS: let each call add up in a row of its own: `int rows[{d}];` for two calls, with `rows[row + {p}]` in place of `{n}[{p}]`, where `row` is a parameter, 0, {l} and so on, and add the rows up after the `cilk_sync` by a `for`; for few elements, a reducer each (`examples/gallery/histogram.c`)
-ROW: write `for` for this loop, and `cilk_for` for a loop in it whose turns write different elements; or, if this loop only writes `{n}`, give each turn a row of its own, `int {n}[{t}];`, with `{l} * {v}` added to each index, and put the rows together after the loop by a `for`
-ORDER: the turns work on what others leave in `{n}`: write `for` for this loop, and `cilk_for` for a loop in it whose turns write different elements
+ROWS_ADDED: ; add the rows up after the loop by a `for`, and where the loop runs again, set them back to 0; for few elements, a reducer each (`examples/gallery/histogram.c`)
+CALL_ROWS: let each call add up in a row of its own: `int rows[{d}];` for two calls, with `rows[row + {p}]` in place of `{n}[{p}]`, where `row` is a parameter, 0, {l} and so on, and add the rows up after the `cilk_sync` by a `for`, where they are set back to 0 if the calls come again; for few elements, a reducer each (`examples/gallery/histogram.c`)
+ROW: write `for` for this loop, and `cilk_for` for a loop in it whose turns write different elements (it counts up by 1: for `i += step` from `first` to `end` it counts `int k = 0; k < (end - first + step - 1) / step; k++`); or, if this loop only writes `{n}`, give each turn a row of its own, `int {n}[{t}];`, with `{l} * {v}` added to each index, and put the rows together after the loop by a `for`
+ORDER: the turns work on what others leave in `{n}`: write `for` for this loop, and `cilk_for` for a loop in it whose turns write different elements (it counts up by 1: for `i += step` from `first` to `end` it counts `int k = 0; k < (end - first + step - 1) / step; k++`)
 CLAIMED: let no two turns set one element of `{n}`: let each element look itself whether it is found, and read what was found before from a copy (`examples/gallery/bfs.c`)
 APART: let no two turns write one element: mend the index of `{n}[{p}]`, or the bounds of what it is made of; where turns find the same, let each element look itself whether it is found (`examples/gallery/bfs.c`)
 SWAPPED: two turns swap the same two elements of `{n}`, there and back: let one turn swap each pair
