@@ -32,6 +32,7 @@ pub mod Standing
 pub mod Started
 pub mod Stealing
 pub mod Stepping
+pub mod Strands
 pub mod Syncing
 pub mod Turns
 pub mod Whole

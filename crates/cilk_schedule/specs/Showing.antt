@@ -170,3 +170,20 @@ joins_child k (shows.Update r v ∷ es) = joins_child k es
 joins_child k (shows.Set r v ∷ es) = joins_child k es
 joins_child k (shows.Value r v ∷ es) = joins_child k es
 joins_child k (shows.Print v ∷ es) = joins_child k es
+
+-- the number of strands that these events begin
+abbrev pub strands_shown : List ShownEvent → ℕ
+strands_shown [] = 0
+strands_shown (shows.Begin ∷ es) = suc (strands_shown es)
+strands_shown (shows.Spawn q ∷ es) = strands_shown es
+strands_shown (shows.Call q ∷ es) = strands_shown es
+strands_shown (shows.Resume ∷ es) = suc (strands_shown es)
+strands_shown (shows.Sync ∷ es) = suc (strands_shown es)
+strands_shown (shows.End ∷ es) = strands_shown es
+strands_shown (shows.Read c v ∷ es) = strands_shown es
+strands_shown (shows.Write c v ∷ es) = strands_shown es
+strands_shown (shows.Create r ∷ es) = strands_shown es
+strands_shown (shows.Update r v ∷ es) = strands_shown es
+strands_shown (shows.Set r v ∷ es) = strands_shown es
+strands_shown (shows.Value r v ∷ es) = strands_shown es
+strands_shown (shows.Print v ∷ es) = strands_shown es

@@ -27,6 +27,7 @@
 //! machine.choose(alloc, Choice::Run(1))?;                     // Did(begin)
 //! machine.choose(alloc, Choice::Steal(2, 0))?;                // Skipped: nothing is offered
 //! machine.shown(alloc)?.events(&[])                           // the first frame's events: [Begin]
+//! machine.shown(alloc)?.strand(&[], 0)                        // the strand of its first event: 1
 //! ```
 #![tactic(auto)]
 

@@ -12,7 +12,7 @@ use cilk_types::event::{Cell, Event, FrameNo, Instance};
 use std::alloc::{AllocError, Global};
 
 /// A global cell by its number; or a frame's cell by the place of the frame and its own place
-/// there, from 0.
+/// there, from 0. [`Shown::path`](crate::showing::Shown::path) is the frame's path.
 #[derive(Clone, Copy, PartialEq, Eq)]
 pub enum CellName {
     Global(u32),

@@ -1,18 +1,18 @@
 //! A run by frames: the events of each frame, which children were joined, and the outcome. Frames
 //! are found by paths, which no schedule changes.
 
-ghost use Rattle.std.specs.Prelude.{◌≡◌, ◌<◌, ◌++◌, ◌∷◌, [], ℕ, None, Some, cond, false, length, slice_get, IfOk, IfSome, MatchOption, OnOk};
+ghost use Rattle.std.specs.Prelude.{◌≡◌, ◌<◌, ◌≤◌, ◌++◌, ◌∷◌, [], ℕ, None, Some, suc, cond, false, length, slice_get, take, IfOk, IfSome, MatchOption, OnOk};
 ghost use Rattle.std.specs.Option.{option_map};
 ghost use Rattle.cilk_program.specs.Syntax.{Source};
 ghost use Rattle.cilk_determinacy.specs.Cuts.{times};
-ghost use Rattle.cilk_determinacy.specs.Machine.{Frame, HasEnd, State, deeds_at};
+ghost use Rattle.cilk_determinacy.specs.Machine.{Frame, HasEnd, State, deeds_at, strands};
 ghost use Rattle.cilk_determinacy.specs.Runs.{Name};
 ghost use Rattle.cilk_determinacy.specs.Reducers.{View};
 ghost use Rattle.cilk_determinacy.specs.Steps.{outcome_in};
 ghost use Rattle.cilk_determinacy.specs.FrameEnvs.{FrameEnv};
 ghost use Rattle.cilk_schedule.specs.Gathering.{AddsChild, AreGathered, Gathers, HaveLinks};
 ghost use Rattle.cilk_schedule.specs.Links.{links_in, links_of};
-ghost use Rattle.cilk_schedule.specs.Showing.{AreLinked, AreShown, ShowsScheduler, ShowsRun, joins_child};
+ghost use Rattle.cilk_schedule.specs.Showing.{AreLinked, AreShown, ShowsScheduler, ShowsRun, joins_child, strands_shown};
 ghost use Rattle.cilk_schedule.specs.declared.showing.ShownFrame.{ShownFrame};
 
 use crate::naming::{ShownEvent, named};
@@ -111,6 +111,38 @@ impl Shown {
         Some(place)
     }
 
+    /// Returns the path of the frame at a place, which no schedule changes. The time is linear in
+    /// the path.
+    pub fn path(&self, alloc: Global, place: usize) -> Result<Vec<u32>, AllocError>
+        ensures { (name : ℕ → Name) → AreLinked self.now.frames.items name → place < length self.now.frames.items → IfOk result (λ path. path.items ≡ name place) }
+    {
+        let mut path = Vec::new(alloc);
+        let mut at = place;
+        'each: for _ in 0..self.frames.len() {
+            if at == 0 {
+                break;
+            }
+            let Some(frame) = self.frames.get(at) else {
+                break;
+            };
+            path.push(frame.link.ordinal)?;
+            at = frame.link.parent as usize;
+        }
+        path.reverse();
+        Ok(path)
+    }
+
+    /// Returns the strand of the event at an index among the events of the frame with this path, or
+    /// `None` if there is no such event. Strands count from 1 in their frame, and no schedule
+    /// changes their numbers.
+    pub fn strand(&self, path: &[u32], index: usize) -> Option<usize>
+        ensures { (p : Source) (name : ℕ → Name) (s : State FrameEnv View) → ShowsRun p name s self.now →
+            MatchOption result (length (deeds_at (s.frames path.now)) ≤ index) (λ number. (index < length (deeds_at (s.frames path.now))) × (number ≡ strands (take (suc index) (deeds_at (s.frames path.now))))) }
+    {
+        let upto = self.events(path)?.get(..=index)?;
+        Some(strands(upto))
+    }
+
     // The place of a frame's child with this ordinal.
     fn child(&self, parent: usize, ordinal: u32) -> Option<usize>
         ensures { (name : ℕ → Name) → AreLinked self.now.frames.items name → parent < length self.now.frames.items
@@ -136,6 +168,20 @@ fn joins_child(events: &[ShownEvent], ordinal: u32) -> bool
         }
     }
     false
+}
+
+// The number of strands that these events begin.
+fn strands(events: &[ShownEvent]) -> usize
+    ensures { result ≡ strands_shown events.now }
+{
+    let mut begun = 0;
+    'each: for event in events {
+        match *event {
+            ShownEvent::Begin | ShownEvent::Resume | ShownEvent::Sync => begun += 1,
+            _ => {}
+        }
+    }
+    begun
 }
 
 /// Returns what the scheduler's state shows. The first `globals` cells are global. The time is

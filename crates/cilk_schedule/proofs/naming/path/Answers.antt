@@ -1,6 +1,6 @@
 use Rattle.std.proofs.Common.{◌≡◌, ◌+◌, ◌<◌, [], length, sym, ◌∙◌, subst, arith, reverse, rules}
 use Rattle.std.proofs.lemmas.Bool.{ltb-false}
-use Rattle.cilk_schedule.proofs.Paths.{IsOnWay, begins, ended, onward}
+use Rattle.cilk_schedule.proofs.Paths.{IsOnWay, begins, ended, named_step, onward}
 use Rattle.cilk_scheduler.proofs.Placed.{there_at}
 use Rattle.cilk_schedule.proofs.naming.path.Goals.{else-each-test, then-each-test+then-place-eq0, then-each-test+else-place-eq0+in_default}
 use Rattle.cilk_schedule.proofs.naming.path.Goals as goal
@@ -16,7 +16,7 @@ each-preserved c = λ name named low.
     let ne = c.if-place-eq0.false in
     let some : 0 < c.each.place = omega (arith, ne) in
     subst (λ l. IsOnWay name c.args.frame l frame_state.cursor.parent (c.each.counter + 1)) (sym c.in_ok-push.ensures.items)
-    (onward c.args.frames.now name named c.args.frame c.each.path.items c.each.place c.each.counter (c.each.invariant name named low) some frame_state here)
+    (onward name c.args.frame c.each.path.items c.each.place c.each.counter frame_state.cursor.parent frame_state.cursor.ordinal (c.each.invariant name named low) (named_step c.args.frames.now name named c.each.place some frame_state here))
 
 pub returns : goal.returns
 returns c = λ name named low.
@@ -24,7 +24,7 @@ returns c = λ name named low.
     let near = h.near in
     let told : reverse c.each.path.items ≡ name c.args.frame = elim c.each-test.branch [
       | else-each-test w ↦ let q = w.each-test in absurd (omega (arith, q, near, low))
-      | then-each-test+then-place-eq0 w ↦ ended c.args.frames.now name named c.args.frame c.each.path.items c.each.place c.each.counter h (let q = w.if-place-eq0 in omega (arith, q))
+      | then-each-test+then-place-eq0 w ↦ ended name c.args.frame c.each.path.items c.each.place c.each.counter h (let q = w.if-place-eq0 in omega (arith, q)) named.root
       | then-each-test+else-place-eq0+in_default w ↦ let q = w.in_default in let e = q.ensures in let l = e.lookup in let far = ltb-false c.each.place (length c.args.frames.now) (sym l.0) in absurd (omega (arith, near, low, far))
     ] in
     c.reverse.ensures.items ∙ told
