@@ -6,7 +6,7 @@ proof_costs.py show FOLDER [--top N] [--parts] [CRATE ..]
                                   the seconds of each function in these files (of these crates alone), most first
 
 A second counts for the part that is written at its end, so that a prover which waits for a processor shows more than it takes:
-watch one that runs alone. With --parts the parts stand one by one: `Lts` is the function's code, `Proof` its goals, `Tie` that
+watch one that runs alone. `strace` slows it, so the shares tell more than the seconds. With --parts the parts stand one by one: `Lts` is the function's code, `Proof` its goals, `Tie` that
 both fit. A function with many drops gets cheap by an `impl Drop` of its types that is written manually, or where an outer function
 owns and an inner one borrows; one with many arms, by a table.
 """
