@@ -1,6 +1,6 @@
 //! Calls that no command makes.
 
-use crate::playing::{LIST, PRINTS, code_of, no_input};
+use crate::playing::{LIST, LOCAL, PRINTS, code_of, no_input, rounds};
 use cilk_cert_text::certificate::Certificate;
 use cilk_cert_text::read::{read, read_pieces};
 use cilk_cert_text::write::write;
@@ -200,4 +200,59 @@ fn turns_in_reverse(rt: HostRuntime) -> Result<(), AllocError> {
     let code = code_of(&rt, rt.alloc(), LIST);
     assert!(rt; are_made(rt.alloc(), &code, choices.as_slice(), &[4, 3, 2, 1, 0]));
     Ok(())
+}
+
+// The run by rounds of these workers.
+fn by_rounds(alloc: Global, code: &Code, workers: u32) -> Result<Shown, Stop> {
+    let input = no_input(alloc);
+    let mut machine = Machine::new(alloc, code, &input, workers)?;
+    rounds(alloc, &mut machine, workers)?;
+    Ok(machine.shown(alloc)?)
+}
+
+// Whether the frame at a place has the same name in another run, and its events the same strands.
+fn is_named_alike(alloc: Global, one: &Shown, other: &Shown, place: usize) -> bool {
+    let Ok(path) = one.path(alloc, place) else {
+        return false;
+    };
+    let path = path.as_slice();
+    let Some(elsewhere) = other.place(path) else {
+        return false;
+    };
+    let Some(events) = one.events(path) else {
+        return false;
+    };
+    let are_alike = (0..events.len()).all(|index| one.strand(path, index)
+        == other.strand(path, index));
+    match other.path(alloc, elsewhere) {
+        Ok(name) => are_alike && name.as_slice() == path,
+        Err(_) => false,
+    }
+}
+
+// Whether two runs have the same frames by name, though the second child began at another place in
+// each, and the first frame has five strands: its begin, two resumes and two syncs.
+fn are_named_alike(alloc: Global, one: &Shown, other: &Shown) -> bool {
+    let Some(events) = one.events(&[]) else {
+        return false;
+    };
+    one.frames() == other.frames()
+        && one.place(&[2]) != other.place(&[2])
+        && one.strand(&[], 0) == Some(1)
+        && one.strand(&[], events.len().saturating_sub(1)) == Some(5)
+        && one.strand(&[], events.len()).is_none()
+        && (0..one.frames()).all(|place| is_named_alike(alloc, one, other, place))
+}
+
+fn schedules_name_alike(alloc: Global, code: &Code) -> bool {
+    let (Ok(serial), Ok(stolen)) = (by_rounds(alloc, code, 1), by_rounds(alloc, code, 2)) else {
+        return false;
+    };
+    are_named_alike(alloc, &serial, &stolen)
+}
+
+#[test]
+fn names_by_two_schedules(rt: HostRuntime) {
+    let code = code_of(&rt, rt.alloc(), LOCAL);
+    assert!(rt; schedules_name_alike(rt.alloc(), &code));
 }

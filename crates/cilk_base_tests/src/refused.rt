@@ -110,9 +110,8 @@ fn stays_stopped(rt: &impl Abort, alloc: Global, machine: &mut Machine<'_>)
 
 // Whether the events of each frame shown are the first events of that frame in the other run.
 fn is_beginning(alloc: Global, shown: &Shown, whole: &Shown) -> Result<bool, AllocError> {
-    let mut place: u32 = 0;
-    for _ in 0..shown.frames() {
-        let path = path_of(alloc, shown, place)?;
+    for place in 0..shown.frames() {
+        let path = shown.path(alloc, place)?;
         let Some(begun) = shown.events(path.as_slice()) else {
             return Ok(false);
         };
@@ -122,27 +121,8 @@ fn is_beginning(alloc: Global, shown: &Shown, whole: &Shown) -> Result<bool, All
         if !are_first(shown, begun, whole, all) {
             return Ok(false);
         }
-        place = place.saturating_add(1);
     }
     Ok(true)
-}
-
-// The path of the frame at an index: the ordinals from the first frame down to it.
-fn path_of(alloc: Global, shown: &Shown, place: u32) -> Result<Vec<u32>, AllocError> {
-    let mut path = Vec::new(alloc);
-    let mut at = place;
-    for _ in 0..shown.frames() {
-        if at == 0 {
-            break;
-        }
-        let Some(link) = shown.link(at) else {
-            break;
-        };
-        path.push(link.ordinal)?;
-        at = link.parent;
-    }
-    path.reverse();
-    Ok(path)
 }
 
 // Whether these events of one run are the first of those of another.
