@@ -122,6 +122,7 @@ fn turn(alloc: Global, machine: &mut Machine<'_>, worker: u32) -> Result<(), Pla
 }
 
 // Makes a choice. A stop is reported with the name of its strand.
+#[inline(always)]
 fn choose(alloc: Global, machine: &mut Machine<'_>, choice: Choice) -> Result<(), PlayFault>
     requires { IsUnstopped machine.old }
     ensures going { OnOk result (IsUnstopped machine.new) }
@@ -134,7 +135,8 @@ fn choose(alloc: Global, machine: &mut Machine<'_>, choice: Choice) -> Result<()
     }
 }
 
-// The error that reports a stop.
+// The error that reports a stop. Apart, so that a choice that doesn't stop is short.
+#[inline(never)]
 fn stopped(alloc: Global, machine: &Machine<'_>, stop: Stop) -> PlayFault
     ensures { IsFaultOf machine.now.scheduler stop result }
 {
