@@ -1,4 +1,7 @@
--- The replay of a plan on an input: `is_replay`, `are_entries`.
+-- The replay of a plan on an input.
+--
+-- - `is_replay`, `are_entries`: it is one, with the frames' entries;
+-- - `resumes_on`: a frame that requests a spawn requests the `resume` after it.
 use Rattle.std.proofs.Common.{◌≡◌, ◌-◌, ℤ, List, map, slice_get, option_map, sym, ap, ◌∙◌, subst}
 use Rattle.std.proofs.lemmas.Option.{slice_get-map}
 use Rattle.cilk_types.specs.declared.limits.TheConstants.{MAX_EVENTS, MAX_TICKS}
@@ -12,31 +15,46 @@ use Rattle.cilk_tree.specs.declared.event_order.EventOrder.{EventOrder}
 use Rattle.cilk_tree.specs.Orders.{IsOrderly}
 use Rattle.cilk_tree.specs.Along.{IsAlong}
 use Rattle.cilk_tree.specs.Planned.{planned}
-use Rattle.cilk_shared.specs.Values.{YardValue}
+use Rattle.cilk_tree.proofs.AlongPlans.{along_orderly}
+use Rattle.cilk_shared.specs.Values.{SpawnsResume, YardValue}
 use Rattle.cilk_determinacy.specs.Words.{InputsAreWords}
 use Rattle.cilk_replay.specs.EventOrders.{event_order_on, IsPlannedRun, EventOrdersAlongHaveValues}
 use Rattle.cilk_replay.specs.declared.replay.FrameEntry.{FrameEntry}
-use Rattle.cilk_replay.specs.Replays.{AreEntriesOf, IsReplay, replay_with}
+use Rattle.cilk_replay.specs.Replays.{AreEntriesOf, IsOfProgram, IsReplay, Setting, replay_with}
+use Rattle.cilk_replay.proofs.Resumes.{resumes_asked}
 use Rattle.cilk_checker.specs.Determinate.{AcceptedRun, HasDeterminateRun}
 use Rattle.cilk_checker.specs.Frames.{FramesStandAtTheirNumbers, frames_of}
 use Rattle.cilk_plan.specs.Plans.{IsPlanOf, IsEventOrderOn}
 use Rattle.cilk_plan.proofs.Telling.{along_it}
 use Rattle.cilk_plan.specs.Replays.{AreEntriesIn, entry_in}
 
+abbrev setting : AcceptedRun → List ℤ → Transcript → EventOrder → CodeView → Setting
+setting a inputs run s code = record { program = source a.program; code = code; own = a.input; inputs = inputs; run = run; event_order = s }
+
+of_program : EventOrdersAlongHaveValues → (a : AcceptedRun) (plan : EventOrder) → IsPlanOf a plan → (inputs : List ℤ) → InputsAreWords inputs → (s : EventOrder) → IsOrderly s → (told : IsEventOrderOn a plan.opening inputs s)
+    → (code : CodeView) → Behaves (source a.program) code → IsOfProgram (setting a inputs told.run s code)
+of_program law a plan is inputs words s orderly told code behaves =
+    let opening : s.opening ≡ plan.opening = ap (λ (s : EventOrder). s.opening) told.is in
+    record {
+      behaves = behaves;
+      events = a.trace;
+      is = subst (IsPlannedRun (source a.program) a.input told.run a.trace) (sym opening) told.of_run;
+      told = told.is ∙ ap (event_order_on (source a.program) inputs told.run a.trace) (sym opening);
+      orderly = orderly;
+      along = subst (λ (z : EventOrder). IsAlong z s) (is.event_order ∙ ap (planned a.trace) (sym opening)) (along_it law a plan is inputs words s told).0;
+    }
+
+pub resumes_on : EventOrdersAlongHaveValues → (a : AcceptedRun) (plan : EventOrder) → IsPlanOf a plan → IsOrderly plan → (inputs : List ℤ) → InputsAreWords inputs → (s : EventOrder) → IsEventOrderOn a plan.opening inputs s
+    → (code : CodeView) → Behaves (source a.program) code → SpawnsResume s
+resumes_on law a plan is orderly inputs words s told code behaves =
+    let order = along_orderly plan s orderly (along_it law a plan is inputs words s told).0 in
+    let asked = resumes_asked (setting a inputs told.run s code) (of_program law a plan is inputs words s order told code behaves) in
+    asked.spawned
+
 pub is_replay : EventOrdersAlongHaveValues → (a : AcceptedRun) (plan : EventOrder) → IsPlanOf a plan → (inputs : List ℤ) → InputsAreWords inputs → (y : YardValue) → IsOrderly y.event_order → IsEventOrderOn a plan.opening inputs y.event_order
     → (code : CodeView) → Behaves (source a.program) code → IsReplay (replay_with y a.program code a.input inputs)
 is_replay law a plan is inputs words y orderly told code behaves =
-    let opening : (let s = y.event_order in s.opening) ≡ plan.opening = ap (λ (s : EventOrder). s.opening) told.is in (
-      told.run,
-      record {
-        behaves = behaves;
-        events = a.trace;
-        is = subst (IsPlannedRun (source a.program) a.input told.run a.trace) (sym opening) told.of_run;
-        told = told.is ∙ ap (event_order_on (source a.program) inputs told.run a.trace) (sym opening);
-        orderly = orderly;
-        along = subst (λ (z : EventOrder). IsAlong z y.event_order) (is.event_order ∙ ap (planned a.trace) (sym opening)) (along_it law a plan is inputs words y.event_order told).0;
-      },
-    )
+    (told.run, of_program law a plan is inputs words y.event_order orderly told code behaves)
 
 pub are_entries : FramesStandAtTheirNumbers → (a : AcceptedRun) → HasDeterminateRun a → (entries : List FrameEntry) → AreEntriesIn a entries → (y : YardValue) (code : CodeView) (inputs : List ℤ)
     → AreEntriesOf (replay_with y a.program code a.input inputs) entries

@@ -6,7 +6,7 @@ ghost use Rattle.cilk_checker.specs.Determinate.{AcceptedRun};
 ghost use Rattle.cilk_tree.specs.Along.{IsAlong};
 ghost use Rattle.cilk_tree.specs.Resumptions.{AreResumptions};
 ghost use Rattle.cilk_plan.specs.Plans.{HasEventOrderOn, IsEventOrderOn};
-ghost use Rattle.cilk_shared.specs.Values.{OfYard};
+ghost use Rattle.cilk_shared.specs.Values.{OfYard, SpawnsResume};
 ghost use Rattle.cilk_tree.specs.declared.event_order.EventOrder.{EventOrder};
 ghost use Rattle.cilk_tree.specs.Values.{HasValues};
 
@@ -60,6 +60,8 @@ pub fn yard(alloc: Global, plan: &ProgramPlan, input: &Input) -> Result<(Yard, S
     inputs_are_words(plan.input());
     inputs_are_words(input);
     let told = tell(plan, input);
+    // That frames resume after their spawns is known of a program with code.
+    let _code = plan.code();
     yard_of(alloc, plan.events(), plan.resumptions(), input, &told)
 }
 
@@ -84,6 +86,7 @@ fn yard_of(
     requires told { along input.now ≡ told.now.event_order }
     requires plan { IsAlong plan.now told.now.event_order }
     requires values { HasValues told.now.event_order }
+    requires resumes { SpawnsResume told.now.event_order }
     requires column { AreResumptions plan.now resumptions.now }
     ensures event_order { IfOk result (λ r. r.0.event_order ≡ told.now.event_order) }
     ensures segment { IfOk result (λ r. OfYard r.0 r.1 × (r.1.from ≡ 1) × (r.1.upto ≡ 2)) }

@@ -54,9 +54,9 @@ NextFinish y g = GoesOn y g × (word_step y.event_order g.upto ≡ finish)
 abbrev pub CanTake : YardValue → SegmentValue → ℕ → Type 0
 CanTake y g k = (p : ℕ) → word_step y.event_order p ≡ resume k → (g.upto ≤ g.from) ⊎ ((g.from < g.upto) × (p ≡ g.upto))
 
--- a frame that requests the spawn at k requests the `resume` after it
-abbrev pub IsResumed : EventOrder → ℕ → Type 0
-IsResumed s k = (p : ℕ) → word_step s p ≡ resume k → IsAsked s k → IsAsked s p
+-- a frame that requests a spawn requests the `resume` after it
+abbrev pub SpawnsResume : EventOrder → Type 0
+SpawnsResume s = (k p : ℕ) → word_step s p ≡ resume k → IsAsked s k → IsAsked s p
 
 -- the segment continued at p
 abbrev pub taken_at : SegmentValue → ℕ → SegmentValue

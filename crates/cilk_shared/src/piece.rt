@@ -4,7 +4,7 @@ ghost use Rattle.std.specs.Prelude.{◌≡◌, ◌<◌, ℤ, [], length, Some, I
 ghost use Rattle.cilk_types.specs.declared.event.Event.TheVariants.{Read, Create, Update, Set, Value, Print, End};
 ghost use Rattle.cilk_hypermap.specs.Ranges.{ShowsRange};
 ghost use Rattle.cilk_tree.specs.Frames.{IsInFrame};
-ghost use Rattle.cilk_shared.specs.Values.{OfYard, NextRead, NextWrite, NextSpawn, NextFinish, CanTake, CanPass, IsResumed};
+ghost use Rattle.cilk_shared.specs.Values.{OfYard, NextRead, NextWrite, NextSpawn, NextFinish, CanTake, CanPass};
 ghost use Rattle.cilk_tree.specs.Runs.{IsFollowed};
 ghost use Rattle.cilk_tree.specs.Word.{event};
 ghost use Rattle.cilk_shared.specs.Pieces.{AreOfOne, Adjoining, IsPieceOf, IsPieceTaken, PassesOn, grown, joined, none_beside, number_ahead, piece_of, segment_of};
@@ -160,12 +160,10 @@ impl Piece {
     }
 
     /// Takes the continuation of the spawn at `ticket`, unless it was taken. On success the piece
-    /// continues with its `resume`. As in each program, a frame that requests the spawn requests the
-    /// `resume`.
+    /// continues with its `resume`.
     pub fn take(&mut self, yard: &Yard, ticket: Pos) -> Taken
         requires yard { IsPieceOf yard.now self.old }
         requires next { CanTake yard.now (segment_of self.old) ticket }
-        requires resumed { IsResumed yard.now.event_order ticket }
         ensures { IsPieceTaken yard.now self.old ticket self.new result }
     {
         yard.laws();

@@ -107,13 +107,13 @@ impl Model for Yard {
     ghost use Rattle.cilk_tree.specs.Orders.{IsOrderly};
     ghost use Rattle.cilk_tree.specs.Values.{HasValues};
     ghost use Rattle.cilk_tree.specs.Resumptions.{AreResumptions};
-    ghost use Rattle.cilk_shared.specs.Values.{YardValue};
+    ghost use Rattle.cilk_shared.specs.Values.{SpawnsResume, YardValue};
 
     ghost Value = { YardValue };
 
     ghost view = { λ y. record { of = y.table.shared.table_id; event_order = y.table.shared.key.event_order } };
 
-    ghost invariant = { λ y. IsOrderly y.table.shared.key.event_order × (0 < y.table.shared.table_id.words) × (y.table.shared.table_id.slots ≡ 0) × (y.table.shared.table_id.words ≡ length y.table.shared.key.event_order.opening + (length y.table.shared.key.event_order.events + 1)) × (y.cells ≡ length y.table.shared.key.event_order.opening) × (y.cells + length y.table.shared.key.event_order.events + 1 < 2 ^ 34) × HasValues y.table.shared.key.event_order × AreResumptions y.table.shared.key.event_order y.resumptions.items };
+    ghost invariant = { λ y. IsOrderly y.table.shared.key.event_order × (0 < y.table.shared.table_id.words) × (y.table.shared.table_id.slots ≡ 0) × (y.table.shared.table_id.words ≡ length y.table.shared.key.event_order.opening + (length y.table.shared.key.event_order.events + 1)) × (y.cells ≡ length y.table.shared.key.event_order.opening) × (y.cells + length y.table.shared.key.event_order.events + 1 < 2 ^ 34) × HasValues y.table.shared.key.event_order × AreResumptions y.table.shared.key.event_order y.resumptions.items × SpawnsResume y.table.shared.key.event_order };
 }
 
 /// A range of the run's positions that one worker has done.
@@ -137,14 +137,16 @@ impl Model for Segment {
 }
 
 impl Yard {
-    ghost use Rattle.cilk_shared.specs.Values.{AreLastValues, OfYard, NextRead, NextWrite, NextSpawn, NextFinish, CanTake, IsResumed, IsTaken, moved_on, empty_beside, Adjoin, both_of};
+    ghost use Rattle.cilk_shared.specs.Values.{AreLastValues, OfYard, NextRead, NextWrite, NextSpawn, NextFinish, CanTake, IsTaken, SpawnsResume, moved_on, empty_beside, Adjoin, both_of};
 
     /// Makes the words of a run along the plan on this input, and the segment of its first event.
-    /// `along` gives the event order of the run on each input.
+    /// `along` gives the event order of the run on each input. As in each program, a frame that
+    /// requests a spawn requests the `resume` after it.
     pub fn new(alloc: Global, plan: &Plan, input: &Input) -> Result<(Yard, Segment), AllocError>
         ghost along: { List ℤ → EventOrder }
         requires plan { IsAlong plan.now (along input.now) }
         requires values { HasValues (along input.now) }
+        requires resumes { SpawnsResume (along input.now) }
         ensures event_order { IfOk result (λ r. r.0.event_order ≡ along input.now) }
         ensures segment { IfOk result (λ r. OfYard r.0 r.1 × (r.1.from ≡ 1) × (r.1.upto ≡ 2)) }
     {
@@ -162,6 +164,7 @@ impl Yard {
         ghost along: { List ℤ → EventOrder }
         requires plan { IsAlong plan.now (along input.now) }
         requires values { HasValues (along input.now) }
+        requires resumes { SpawnsResume (along input.now) }
         requires column { AreResumptions plan.now column.items }
         ensures event_order { IfOk result (λ r. r.0.event_order ≡ along input.now) }
         ensures segment { IfOk result (λ r. OfYard r.0 r.1 × (r.1.from ≡ 1) × (r.1.upto ≡ 2)) }
@@ -237,12 +240,10 @@ impl Yard {
     }
 
     /// Takes the continuation of the spawn at `ticket`, unless it was taken. On success the segment
-    /// continues with its `resume`. Nothing is taken if the plan has no spawn there. As in each
-    /// program, a frame that requests the spawn requests the `resume`.
+    /// continues with its `resume`. Nothing is taken if the plan has no spawn there.
     pub fn take(&self, segment: &mut Segment, ticket: Pos) -> Taken
         requires yard { OfYard self.now segment.old }
         requires next { CanTake self.now segment.old ticket }
-        requires resumed { IsResumed self.now.event_order ticket }
         ensures { IsTaken self.now segment.old ticket segment.new result }
     {
         let Some(at) = self.resumption(ticket) else {

@@ -1,7 +1,9 @@
 -- Facts that are shown by computation.
 --
 -- - `right_reads`: each read has the value last written to its cell, if a test of each event holds;
--- - `valued`: an event order that begins has values.
+-- - `valued`: an event order that begins has values;
+-- - `met_resumes`, `none_resumes`: a frame that requests a spawn requests the `resume` after it, if
+--   each `resume` is requested or there is no spawn.
 use Rattle.std.proofs.Common.{◌≡◌, ℕ, zero, suc, ◌+◌, ◌-◌, ◌^◌, ◌<◌, ◌⊎◌, ⊎_elim, ℤ, pos, negsuc, nat_lt, Bool, true, false, ◌&&◌, List, [], ◌∷◌, Option, Some, None, slice_get, slice_index_or, refl, sym, ap, ◌∙◌, subst, arith}
 use Rattle.std.specs.Prelude.{FitsSigned}
 use Rattle.std.specs.Int.{w64}
@@ -10,12 +12,15 @@ use Rattle.std.proofs.lemmas.Bool.{and_parts, ltb-true}
 use Rattle.std.proofs.lemmas.Bool.Decides.{Decides-int_eq}
 use Rattle.std.proofs.lemmas.Int.{fits_signed_from_abs}
 use Rattle.cilk_types.specs.declared.event.Event.{Event}
-use Rattle.cilk_types.specs.declared.event.Event.TheVariants.{Read, Write}
+use Rattle.cilk_types.specs.declared.event.Event.TheVariants.{Read, Resume, Spawn, Write}
+use Rattle.cilk_tree.specs.declared.mark.Mark.TheVariants as mark
 use Rattle.cilk_tree.specs.Races.{event_at, Writes}
 use Rattle.cilk_tree.specs.Sources.{last_write}
 use Rattle.cilk_tree.proofs.Sources.{sources_last}
 use Rattle.cilk_tree.specs.declared.event_order.EventOrder.{EventOrder}
-use Rattle.cilk_tree.specs.Word.{event}
+use Rattle.cilk_tree.specs.Word.{event, is_spawn, predecessors_of}
+use Rattle.cilk_tree.proofs.Events.{mark_at, resume_mark}
+use Rattle.cilk_shared.specs.Values.{SpawnsResume}
 use Rattle.cilk_tree.specs.Values.{HasValue, HasValues}
 use Rattle.cilk_tree.specs.Runs.{IsAsked}
 
@@ -101,3 +106,34 @@ valued s plan same values begins right words = record {
   written_words = λ p c v is. small v (here (λ n. has_word) s.events p (Write c v) words is);
   opening_words = λ c. subst (λ (opening : List ℤ). FitsSigned w64 (slice_index_or opening c (pos 0))) (sym same) (values.opening_words c);
 }
+
+-- ---- after each spawn
+
+abbrev is_met : EventOrder → ℕ → Event → Bool
+is_met s n (Resume f) = slice_index_or s.asked n false
+is_met s n _ = true
+
+abbrev is_no_spawn : Event → Bool
+is_no_spawn (Spawn f) = false
+is_no_spawn _ = true
+
+resume_there : (o : Option Event) → mark_at o ≡ mark.Resume → (f : ℕ) × (o ≡ Some (Resume f))
+resume_there (Some (Resume f)) is = (f, refl)
+resume_there o is = absurd (cc is)
+
+spawn_there : (o : Option Event) → is_spawn o ≡ true → (f : ℕ) × (o ≡ Some (Spawn f))
+spawn_there (Some (Spawn f)) is = (f, refl)
+spawn_there o is = absurd (cc is)
+
+pub met_resumes : (s : EventOrder) → each (is_met s) s.events 0 ≡ true → SpawnsResume s
+met_resumes s h k p is asked =
+    let r = resume_mark s.events p (event s p) (predecessors_of s p) k is in
+    let e = resume_there (event s p) r.mark in
+    here (is_met s) s.events p (Resume e.0) h e.1
+
+pub none_resumes : (s : EventOrder) → each (λ n. is_no_spawn) s.events 0 ≡ true → SpawnsResume s
+none_resumes s h k p is asked =
+    let r = resume_mark s.events p (event s p) (predecessors_of s p) k is in
+    let e = spawn_there (event s k) r.spawned in
+    let no : false ≡ true = here (λ n. is_no_spawn) s.events k (Spawn e.0) h e.1 in
+    absurd (cc no)

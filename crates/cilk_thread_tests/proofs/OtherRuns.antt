@@ -1,4 +1,5 @@
--- Both programs have a plan, and their runs on other inputs have values along it.
+-- Both programs have a plan. Their runs on other inputs have values along it, and resume after each
+-- spawn.
 use Rattle.std.proofs.Common.{◌≡◌, ◌⊎◌, inl, inr, ℤ, pos, List, [], ◌∷◌, false, true, lit≤, refl, sym, subst}
 use Rattle.cilk_types.specs.declared.invocation.Invocation.TheVariants.{Call, Spawn}
 use Rattle.cilk_tree.specs.Shape.{Shape, finish, act, sync, child}
@@ -7,10 +8,11 @@ use Rattle.cilk_tree.specs.Races.{HasNoRace}
 use Rattle.cilk_tree.specs.declared.event_order.EventOrder.{EventOrder}
 use Rattle.cilk_tree.specs.Values.{HasValues}
 use Rattle.cilk_tree.specs.Along.{IsAlong}
+use Rattle.cilk_shared.specs.Values.{SpawnsResume}
 use Rattle.cilk_determinacy.specs.Tested.{none}
 use Rattle.cilk_determinacy.proofs.Decided.{tests_tell}
 use Rattle.cilk_thread_tests.specs.Others.{four, squares_on, squares_plan, three, turns_on, turns_plan, SquaresHavePlan, TurnsHavePlan}
-use Rattle.cilk_thread_tests.proofs.Checked.{right_reads, valued}
+use Rattle.cilk_thread_tests.proofs.Checked.{met_resumes, none_resumes, right_reads, valued}
 
 abbrev square : Shape
 square = act (act (act (act (act (sync finish)))))
@@ -53,26 +55,26 @@ turns_have_plan = record {
 }
 
 -- ---- on other inputs
-pub squares_along : (plan : EventOrder) (xs : List ℤ) → plan ≡ squares_plan → (xs ≡ four) ⊎ (xs ≡ three) → HasValues plan → IsAlong plan (squares_on xs) × HasValues (squares_on xs)
-squares_along plan xs own some values = subst (λ (z : EventOrder). IsAlong z (squares_on xs) × HasValues (squares_on xs)) (sym own) (by some)
+pub squares_along : (plan : EventOrder) (xs : List ℤ) → plan ≡ squares_plan → (xs ≡ four) ⊎ (xs ≡ three) → HasValues plan → IsAlong plan (squares_on xs) × HasValues (squares_on xs) × SpawnsResume (squares_on xs)
+squares_along plan xs own some values = subst (λ (z : EventOrder). IsAlong z (squares_on xs) × HasValues (squares_on xs) × SpawnsResume (squares_on xs)) (sym own) (by some)
   where
     of_plan : HasValues squares_plan
     of_plan = subst HasValues own values
 
-    by : (xs ≡ four) ⊎ (xs ≡ three) → IsAlong squares_plan (squares_on xs) × HasValues (squares_on xs)
-    by (inl e) = subst (λ (ys : List ℤ). IsAlong squares_plan (squares_on ys) × HasValues (squares_on ys)) (sym e)
-        (record { kinds = refl; preceding = refl; opening = refl }, valued (squares_on four) squares_plan refl of_plan refl refl refl)
-    by (inr e) = subst (λ (ys : List ℤ). IsAlong squares_plan (squares_on ys) × HasValues (squares_on ys)) (sym e)
-        (record { kinds = refl; preceding = refl; opening = refl }, valued (squares_on three) squares_plan refl of_plan refl refl refl)
+    by : (xs ≡ four) ⊎ (xs ≡ three) → IsAlong squares_plan (squares_on xs) × HasValues (squares_on xs) × SpawnsResume (squares_on xs)
+    by (inl e) = subst (λ (ys : List ℤ). IsAlong squares_plan (squares_on ys) × HasValues (squares_on ys) × SpawnsResume (squares_on ys)) (sym e)
+        (record { kinds = refl; preceding = refl; opening = refl }, valued (squares_on four) squares_plan refl of_plan refl refl refl, met_resumes (squares_on four) refl)
+    by (inr e) = subst (λ (ys : List ℤ). IsAlong squares_plan (squares_on ys) × HasValues (squares_on ys) × SpawnsResume (squares_on ys)) (sym e)
+        (record { kinds = refl; preceding = refl; opening = refl }, valued (squares_on three) squares_plan refl of_plan refl refl refl, met_resumes (squares_on three) refl)
 
-pub turns_along : (plan : EventOrder) (xs : List ℤ) → plan ≡ turns_plan → (xs ≡ pos 0 ∷ []) ⊎ (xs ≡ pos 7 ∷ []) → HasValues plan → IsAlong plan (turns_on xs) × HasValues (turns_on xs)
-turns_along plan xs own some values = subst (λ (z : EventOrder). IsAlong z (turns_on xs) × HasValues (turns_on xs)) (sym own) (by some)
+pub turns_along : (plan : EventOrder) (xs : List ℤ) → plan ≡ turns_plan → (xs ≡ pos 0 ∷ []) ⊎ (xs ≡ pos 7 ∷ []) → HasValues plan → IsAlong plan (turns_on xs) × HasValues (turns_on xs) × SpawnsResume (turns_on xs)
+turns_along plan xs own some values = subst (λ (z : EventOrder). IsAlong z (turns_on xs) × HasValues (turns_on xs) × SpawnsResume (turns_on xs)) (sym own) (by some)
   where
     of_plan : HasValues turns_plan
     of_plan = subst HasValues own values
 
-    by : (xs ≡ pos 0 ∷ []) ⊎ (xs ≡ pos 7 ∷ []) → IsAlong turns_plan (turns_on xs) × HasValues (turns_on xs)
-    by (inl e) = subst (λ (ys : List ℤ). IsAlong turns_plan (turns_on ys) × HasValues (turns_on ys)) (sym e)
-        (record { kinds = refl; preceding = refl; opening = refl }, valued (turns_on (pos 0 ∷ [])) turns_plan refl of_plan refl refl refl)
-    by (inr e) = subst (λ (ys : List ℤ). IsAlong turns_plan (turns_on ys) × HasValues (turns_on ys)) (sym e)
-        (record { kinds = refl; preceding = refl; opening = refl }, valued (turns_on (pos 7 ∷ [])) turns_plan refl of_plan refl refl refl)
+    by : (xs ≡ pos 0 ∷ []) ⊎ (xs ≡ pos 7 ∷ []) → IsAlong turns_plan (turns_on xs) × HasValues (turns_on xs) × SpawnsResume (turns_on xs)
+    by (inl e) = subst (λ (ys : List ℤ). IsAlong turns_plan (turns_on ys) × HasValues (turns_on ys) × SpawnsResume (turns_on ys)) (sym e)
+        (record { kinds = refl; preceding = refl; opening = refl }, valued (turns_on (pos 0 ∷ [])) turns_plan refl of_plan refl refl refl, none_resumes (turns_on (pos 0 ∷ [])) refl)
+    by (inr e) = subst (λ (ys : List ℤ). IsAlong turns_plan (turns_on ys) × HasValues (turns_on ys) × SpawnsResume (turns_on ys)) (sym e)
+        (record { kinds = refl; preceding = refl; opening = refl }, valued (turns_on (pos 7 ∷ [])) turns_plan refl of_plan refl refl refl, none_resumes (turns_on (pos 7 ∷ [])) refl)

@@ -14,14 +14,14 @@ use Rattle.cilk_workers.specs.Rows.{IsGood, OfRun, RunValue, yard_of}
 use Rattle.cilk_replay.specs.Asking.{Follows, IsAnswered, IsAnswerTo}
 use Rattle.cilk_replay.specs.Chains.{ChainValue, standing}
 use Rattle.cilk_frames.specs.declared.cursor.Answer.{Answer}
-use Rattle.cilk_frames.specs.declared.cursor.Answer.TheVariants.{Done, Value}
+use Rattle.cilk_frames.specs.declared.cursor.Answer.TheVariants.{Done}
 use Rattle.cilk_monoid.specs.Kinds.{structure_of}
 use Rattle.cilk_monoid.specs.Ranges.{view_of}
 use Rattle.cilk_shared.specs.Pieces.{PieceValue, IsPieceOf, PassesOn, grown, number_ahead, piece_of, segment_of}
 use Rattle.cilk_shared.specs.Reducers.{events_over, kind_in}
 use Rattle.cilk_shared.specs.declared.reducers.Reducers.{Reducers}
 use Rattle.cilk_tree.specs.declared.kind.Kind.{Kind}
-use Rattle.cilk_shared.specs.Values.{CanPass, CanTake, IsAhead, IsResumed, SegmentValue, YardValue, taken_at}
+use Rattle.cilk_shared.specs.Values.{CanPass, CanTake, IsAhead, SegmentValue, YardValue, taken_at}
 use Rattle.cilk_tree.specs.declared.event_order.EventOrder.{EventOrder}
 use Rattle.cilk_tree.specs.Orders.{IsOrderly}
 use Rattle.cilk_tree.specs.Runs.{IsAsked, IsFollowed}
@@ -158,11 +158,6 @@ pub can_take : (y : SharedValue) (z : YardValue) (p : PieceValue) (ticket at : �
 can_take y z p ticket at same order is where_to =
     in_yard (λ (s : EventOrder). (q : ℕ) → word_step s q ≡ resume ticket → (p.upto ≤ p.from) ⊎ ((p.from < p.upto) × (q ≡ p.upto))) y z same
     (λ q there. let one = order.once at q ticket is there in subst (λ (n : ℕ). (p.upto ≤ p.from) ⊎ ((p.from < p.upto) × (n ≡ p.upto))) one where_to)
-
--- a frame that requests the spawn requests the `resume` after it, if it requests that in any case
-pub resumed_where_asked : (y : SharedValue) (z : YardValue) (ticket at : ℕ) → z ≡ yard_of y.run → IsOrderly (event_order_in y) → IsAsked (event_order_in y) at → word_step (event_order_in y) at ≡ resume ticket → IsResumed z.event_order ticket
-resumed_where_asked y z ticket at same order asked is =
-    in_yard (λ (s : EventOrder). IsResumed s ticket) y z same (λ q there _. subst (IsAsked (event_order_in y)) (order.once at q ticket is there) asked)
 
 -- the chain after the piece's next event
 pub moved : (y : SharedValue) (w : Work) (k : ChainValue) → Works y w → (let c = w.chain in k ≡ standing c.of (c.at + 1)) → (let p = w.piece in k ≡ standing y.replay (p.upto + 1))

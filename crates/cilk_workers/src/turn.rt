@@ -112,7 +112,6 @@ pub fn begin(shared: &Shared<'_>, mut piece: Piece, task: Task) -> Result<Work, 
     ensures { MatchResult result (IsThief shared.now task.ticket) (λ r. (r.0 ≡ piece) × (r.1 ≡ task.ticket)) }
 {
     shared.laws();
-    shared.replay().resumes();
     let ticket = task.ticket();
     let rest = task.rest();
     match piece.take(shared.yard(), ticket) {

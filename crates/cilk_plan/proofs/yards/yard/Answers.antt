@@ -6,6 +6,7 @@ use Rattle.cilk_tree.specs.Resumptions.{AreResumptions}
 use Rattle.cilk_determinacy.specs.Words.{HasWords, InputsAreWords}
 use Rattle.cilk_tree.specs.declared.event_order.EventOrder.{EventOrder}
 use Rattle.cilk_plan.specs.Plans.{IsEventOrderOn}
+use Rattle.cilk_plan.proofs.Making.{resumes_on}
 use Rattle.cilk_plan.proofs.Telling.{has_event_order, along_it, own_is_the_plan, for_ok}
 use Rattle.cilk_plan.proofs.yards.yard.Goals as goal
 
@@ -21,7 +22,13 @@ yard_of-requires c =
       refl,
       (
         subst (λ (s : EventOrder). IsAlong s c.tell-told.result.event_order) (sym c.events.ensures.event_order) told.0,
-        (told.1, subst (λ (s : EventOrder). AreResumptions s c.resumptions.result.now) (sym c.events.ensures.event_order) c.resumptions.ensures),
+        (
+          told.1,
+          (
+            resumes_on c.event_orders_along_have_values.ensures c.args.plan.now.run c.args.plan.now.event_order c.laws.ensures.plan c.laws.ensures.order c.args.input.now c.inputs_are_words-2.ensures c.tell-told.result.event_order c.tell-told.ensures _ c.code-code.ensures.asks,
+            subst (λ (s : EventOrder). AreResumptions s c.resumptions.result.now) (sym c.events.ensures.event_order) c.resumptions.ensures,
+          ),
+        ),
       ),
     )
 

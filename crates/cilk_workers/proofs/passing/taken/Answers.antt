@@ -1,5 +1,5 @@
 use Rattle.std.proofs.Common.{inr, refl}
-use Rattle.cilk_workers.proofs.Due.{answered_done, can_take, resumed_where_asked, took}
+use Rattle.cilk_workers.proofs.Due.{answered_done, can_take, took}
 use Rattle.cilk_workers.proofs.OfKind.{silent_done}
 use Rattle.cilk_workers.proofs.passing.taken.Goals as goal
 
@@ -9,12 +9,6 @@ take-requires-clause-next c =
     let works = due.works in
     let p = c.args.work.now.piece in
     can_take c.args.shared.now _ p c.args.ticket p.upto c.yard.ensures c.laws.ensures.order c.requires.resumes (inr (works.good.1, refl))
-
-pub take-requires-clause-resumed : goal.take-requires-clause-resumed
-take-requires-clause-resumed c =
-    let due = c.requires.due.1 in
-    let p = c.args.work.now.piece in
-    resumed_where_asked c.args.shared.now _ c.args.ticket p.upto c.yard.ensures c.laws.ensures.order due.asked c.requires.resumes
 
 pub answer-requires-clause-answer : goal.answer-requires-clause-answer
 answer-requires-clause-answer c =

@@ -6,15 +6,14 @@ use Rattle.cilk_workers.specs.Rows.{yard_of}
 use Rattle.cilk_replay.specs.Asking.{IsAnswered}
 use Rattle.cilk_replay.specs.Chains.{ChainValue, TaskValue, standing}
 use Rattle.cilk_replay.specs.Replays.{ReplayValue}
-use Rattle.cilk_replay.specs.Resumes.{ResumesAreAsked}
 use Rattle.cilk_frames.specs.declared.cursor.Answer.TheVariants.{Done}
-use Rattle.cilk_shared.specs.Values.{IsResumed, SegmentValue, YardValue}
+use Rattle.cilk_shared.specs.Values.{SegmentValue, YardValue}
 use Rattle.cilk_tree.specs.declared.event_order.EventOrder.{EventOrder}
 use Rattle.cilk_tree.specs.Orders.{IsOrderly}
 use Rattle.cilk_tree.specs.Runs.{IsAsked}
 use Rattle.cilk_tree.specs.Word.{IsWord, predecessors_of, event, finish, resume, word_step}
 use Rattle.cilk_workers.specs.Shared.{SharedValue, event_order_in}
-use Rattle.cilk_workers.proofs.Due.{began, began_there, begun_asked, begun_good, can_take, in_yard, on_standing}
+use Rattle.cilk_workers.proofs.Due.{began, began_there, begun_asked, begun_good, can_take, on_standing}
 use Rattle.cilk_workers.proofs.OfKind.{resume_event}
 use Rattle.cilk_workers.proofs.turn.begin.Goals as goal
 
@@ -43,12 +42,6 @@ take-requires-clause-next c =
     let at = resumes y t c.requires.task c.laws.ensures.same c.rest-rest.ensures.resumption in
     can_take y _ c.args.piece c.ticket-ticket.result t.at c.yard.ensures c.laws.ensures.order (subst (λ (n : ℕ). word_step (event_order_in y) t.at ≡ resume n) (sym c.ticket-ticket.ensures) at)
     (inl c.requires.piece.1)
-
-pub take-requires-clause-resumed : goal.take-requires-clause-resumed
-take-requires-clause-resumed c =
-    let y = c.args.shared.now in
-    let r = subst (λ (u : ReplayValue). let z = u.yard in ResumesAreAsked z.event_order) c.replay.ensures.replay c.resumes.ensures in
-    in_yard (λ (s : EventOrder). IsResumed s c.ticket-ticket.result) y _ c.yard.ensures (λ p is. (subst (λ (z : YardValue). ResumesAreAsked z.event_order) c.laws.ensures.same r).spawned c.ticket-ticket.result p is)
 
 pub has_followed-requires : goal.has_followed-requires
 has_followed-requires c =

@@ -11,6 +11,7 @@ use Rattle.cilk_tree.proofs.AlongPlans.{along_orderly, many, same_resume}
 use Rattle.cilk_shared.specs.declared.key.EventOrderKey.{EventOrderKey}
 use Rattle.cilk_shared.specs.declared.view.View.{View}
 use Rattle.cilk_shared.specs.Rule.{view, Kept, Sits}
+use Rattle.cilk_shared.specs.Values.{SpawnsResume}
 use Rattle.cilk_shared.proofs.Seats.{starts, first_sits}
 use Rattle.cilk_shared.proofs.yard.Yard.with_resumptions.Goals as goal
 
@@ -47,9 +48,9 @@ invariant_of-yard g c =
     let one = length-map s.opening word in
     let two = length-replicate {A = ℕ} (length s.events + 1) 0 in
     let wide : c.in_ok-table.table.shared.table_id.words ≡ length s.opening + (length s.events + 1) = omega (arith, t.0, all, one, two) in
-    let Goal : EventOrder → Type 0 = λ k. IsOrderly k × (0 < c.in_ok-table.table.shared.table_id.words) × (c.in_ok-table.table.shared.table_id.slots ≡ 0) × (c.in_ok-table.table.shared.table_id.words ≡ length k.opening + (length k.events + 1)) × (length c.opening-cells.result.now ≡ length k.opening) × (length c.opening-cells.result.now + length k.events + 1 < 2 ^ 34) × HasValues k × AreResumptions k c.args.column.items in
+    let Goal : EventOrder → Type 0 = λ k. IsOrderly k × (0 < c.in_ok-table.table.shared.table_id.words) × (c.in_ok-table.table.shared.table_id.slots ≡ 0) × (c.in_ok-table.table.shared.table_id.words ≡ length k.opening + (length k.events + 1)) × (length c.opening-cells.result.now ≡ length k.opening) × (length c.opening-cells.result.now + length k.events + 1 < 2 ^ 34) × HasValues k × AreResumptions k c.args.column.items × SpawnsResume k in
     let count : length c.opening-cells.result.now ≡ length s.opening = ap length (c.opening-cells.ensures ∙ sym c.requires.0.opening) in
-    let h : Goal s = (law, omega (arith, wide), t.1, wide, count, omega (arith, law.small, count), c.requires.1.0, resumptions plan s c.requires.0 c.args.column.items c.requires.1.1) in
+    let h : Goal s = (law, omega (arith, wide), t.1, wide, count, omega (arith, law.small, count), c.requires.1.0, resumptions plan s c.requires.0 c.args.column.items c.requires.1.1.1, c.requires.1.1.0) in
     let key : c.in_ok-table.table.shared.key.event_order ≡ s = ap (λ (k : EventOrderKey). k.event_order) t.5 ∙ c.of-key.ensures in
     subst Goal (sym key) h
 
