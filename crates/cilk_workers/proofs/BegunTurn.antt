@@ -9,7 +9,6 @@ use Rattle.cilk_types.specs.declared.event.Event.{Event}
 use Rattle.cilk_types.specs.declared.event.Event.TheVariants as events
 use Rattle.cilk_types.specs.declared.event.Instance as numbered
 use Rattle.cilk_types.specs.declared.invocation.Invocation.{Invocation}
-use Rattle.cilk_types.specs.declared.invocation.Invocation.TheVariants.{Call, Spawn}
 use Rattle.cilk_tree.specs.Kinds.{kind_of, kind_of_event}
 use Rattle.cilk_tree.specs.declared.kind.Asked.{Asked}
 use Rattle.cilk_tree.specs.declared.kind.Asked.TheVariants.{Next, Nothing}

@@ -14,4 +14,5 @@ pub mod Planned
 pub mod RackKeys
 pub mod Rows
 pub mod Shelves
+pub mod Spawned
 pub mod Waits

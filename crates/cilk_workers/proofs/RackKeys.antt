@@ -1,9 +1,9 @@
 -- Each move keeps the rule of a shelf's queue: `begins`, `unlocks`, `locks`, `forks`. The queue is
 -- empty while a key holds its shelf: `empty`, `no_room`.
-use Rattle.std.proofs.Common.{◌≡◌, ◌+◌, ◌<◌, ◌≤◌, ℕ, zero, suc, Bool, true, false, List, [], ◌∷◌, ◌++◌, length, set, refl, sym, ap, ◌∙◌, subst, arith, length-append}
+use Rattle.std.proofs.Common.{◌≡◌, ◌+◌, ◌≤◌, ℕ, zero, suc, Bool, true, false, List, [], ◌∷◌, ◌++◌, length, set, refl, ap, arith, length-append}
 use mathlib.Core.Option.{some, none}
 use lib.ListN.{get_elem?}
-use Rattle.std.specs.Prelude.{All, ⊤}
+use Rattle.std.specs.Prelude.{All}
 use Rattle.std.proofs.lemmas.List.Elements.{All-append}
 use Rattle.crossbeam_queue.specs.Fifo.{Pushes, Pops, Forks, Learns, Held}
 use Rattle.cilk_workers.specs.Rows.{RunValue}

@@ -1,5 +1,5 @@
 -- The view of a rack in contracts.
-use Rattle.std.specs.Prelude.{◌≡◌, ℕ, ◌+◌, ◌≤◌, Bool, true, false, List, [], ◌∷◌, ◌++◌, Result, MatchResult}
+use Rattle.std.specs.Prelude.{◌≡◌, ℕ, ◌+◌, ◌≤◌, Bool, true, false, List, [], ◌∷◌, ◌++◌, All, Result, MatchResult}
 use Rattle.crossbeam_deque.specs.Handles.{worker_deque, worker_view, worker_capacity, worker_index, stealer_deque}
 use Rattle.cilk_replay.specs.declared.chain.Task.{Task}
 use Rattle.cilk_workers.specs.declared.rack.Rack.{Rack}
@@ -13,6 +13,10 @@ module _ {N : Type 0} where
   -- no picker has been made
   abbrev pub IsAlone : Rack N → Type 0
   IsAlone r = (worker_view r.worker).alone ≡ true
+
+  -- each task that waits is taken; if no picker has been made, none waits
+  abbrev pub AreTaken : (Task → Type 0) → Rack N → Type 0
+  AreTaken taken r = All taken (waiting r) × (IsAlone r → waiting r ≡ [])
 
   -- the number of offers that there is room for
   abbrev pub room : Rack N → ℕ

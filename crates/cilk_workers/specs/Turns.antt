@@ -55,12 +55,12 @@ pub record HasEnded (y : SharedValue) (p : PieceValue) (value : ℤ) : Type 0 wh
 abbrev pub IsHeldUp : SharedValue → PieceValue → Type 0
 IsHeldUp y p = (event (event_order_in y) p.upto ≡ Some events.Sync) × (MayPass (segment_of p) → ⊥)
 
--- the worker can't continue: the piece has the next event, the `end` of a spawned child; or it is
--- unchanged, and that event is the `resume` after a spawn
+-- the worker can't continue: the piece's next event is the `resume` after a spawn; and the piece has
+-- one event more, the `end` of the spawned child, or is unchanged
 abbrev pub GoesNoFurther : SharedValue → PieceValue → PieceValue → Type 0
 GoesNoFurther y before p =
-    ((p ≡ grown before) × (event (event_order_in y) before.upto ≡ Some events.End))
-    ⊎ ((p ≡ before) × ((k : ℕ) × (word_step (event_order_in y) before.upto ≡ resume k)))
+    ((k : ℕ) × (word_step (event_order_in y) p.upto ≡ resume k))
+    × (((p ≡ grown before) × (event (event_order_in y) before.upto ≡ Some events.End)) ⊎ (p ≡ before))
 
 -- The outcomes of a turn. Either the work is good and has one event more, or the worker has an end.
 -- An offered task is the continuation of the spawn that was made. The piece is unchanged where it

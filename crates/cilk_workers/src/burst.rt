@@ -1,12 +1,12 @@
 //! The turns of a worker that holds a piece.
 
-ghost use Rattle.std.specs.Prelude.{◌≡◌, IfSome};
+ghost use Rattle.std.specs.Prelude.{◌≡◌, ◌⊎◌, IfNone, IfSome, IsTrue};
 ghost use Rattle.cilk_workers.specs.Rows.{IsGood};
 ghost use Rattle.cilk_replay.specs.Chains.{standing};
 ghost use Rattle.cilk_workers.specs.Racks.{Of};
 ghost use Rattle.cilk_workers.specs.Turns.{Works};
 ghost use Rattle.cilk_workers.specs.Activities.{IsActivity};
-ghost use Rattle.cilk_workers.specs.Held.{IsOfferedIf, IsSameRack};
+ghost use Rattle.cilk_workers.specs.Held.{AreTaken, IsOfferedIf, IsSameRack};
 ghost use Rattle.cilk_workers.specs.Keys.{AreKeys};
 ghost use Rattle.cilk_workers.specs.WorkerContexts.{IsWorkerContext};
 
@@ -29,7 +29,8 @@ const TURNS: u32 = 256;
 // The worker's own newest task, unless a thief took the continuation that this worker was to
 // resume.
 fn behind<N: Naming>(rack: &mut Rack<N>, taken: bool) -> Option<Task>
-    ensures { IfSome result (λ t. Of N.replay t) }
+    ensures task { IfSome result (λ t. Of N.replay t) }
+    ensures none { IfNone result (IsTrue taken ⊎ AreTaken N.taken rack.old) }
 {
     if taken { None } else { rack.newest() }
 }

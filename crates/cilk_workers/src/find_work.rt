@@ -1,8 +1,9 @@
 //! A turn of a worker without work.
 
-ghost use Rattle.std.specs.Prelude.{◌≡◌, ◌≤◌, IfSome};
+ghost use Rattle.std.specs.Prelude.{◌≡◌, ◌≤◌, IfNone, IfSome};
 ghost use Rattle.cilk_tree.specs.Word.{resume, word_step};
 ghost use Rattle.cilk_workers.specs.Rows.{OfRun};
+ghost use Rattle.cilk_workers.specs.Held.{AreTaken};
 ghost use Rattle.cilk_workers.specs.Racks.{MayPick, Of};
 ghost use Rattle.cilk_workers.specs.Activities.{IsActivity};
 ghost use Rattle.cilk_workers.specs.Keys.{AreKeys};
@@ -39,7 +40,8 @@ fn another<N: Naming>(pickers: &mut Vec<Picker<N>>) -> Option<Task>
 // The worker's own newest task, or else the oldest of another.
 fn found<N: Naming>(rack: &mut Rack<N>, pickers: &mut Vec<Picker<N>>) -> Option<Task>
     requires { MayPick N.taken }
-    ensures { IfSome result (λ t. Of N.replay t) }
+    ensures task { IfSome result (λ t. Of N.replay t) }
+    ensures none { IfNone result (AreTaken N.taken rack.old) }
 {
     match rack.newest() {
         Some(task) => Some(task),

@@ -1,4 +1,4 @@
-use Rattle.cilk_workers.proofs.RackKeys.{begins, empty, no_room, unlocks}
+use Rattle.cilk_workers.proofs.RackKeys.{begins, empty, unlocks}
 use Rattle.cilk_workers.proofs.lock.new_locked.Goals as goal
 
 pub ruled-requires-clause-rule : goal.ruled-requires-clause-rule

@@ -1,4 +1,4 @@
-use Rattle.cilk_workers.proofs.RackKeys.{empty, no_room, unlocks}
+use Rattle.cilk_workers.proofs.RackKeys.{empty, unlocks}
 use Rattle.cilk_workers.proofs.lock.unlock.Goals as goal
 
 pub push_as-requires-clause-rule : goal.push_as-requires-clause-rule

@@ -1,9 +1,11 @@
+use Rattle.std.proofs.Common.{inl}
 use Rattle.cilk_types.specs.declared.event.Event.TheVariants.{End}
 use Rattle.cilk_tree.specs.declared.kind.Kind.TheVariants as kinds
 use Rattle.cilk_tree.specs.Word.{event}
 use Rattle.cilk_workers.specs.Shared.{event_order_in}
-use Rattle.cilk_workers.proofs.Due.{can_pass, chain_follows, here, passes}
+use Rattle.cilk_workers.proofs.Due.{can_pass, chain_follows, grown_good, here, passes}
 use Rattle.cilk_workers.proofs.OfKind.{no_sync, what_end}
+use Rattle.cilk_workers.proofs.Spawned.{stuck}
 use Rattle.cilk_workers.proofs.passing.ended.Goals as goal
 
 pub end-requires-clause-next : goal.end-requires-clause-next
@@ -22,3 +24,17 @@ end-requires-2-clause-end c =
     let y = c.args.shared.now in
     let due = c.requires.due in
     chain_follows y c.args.work.now kinds.End due c.requires.more c.laws.ensures.same End (here y c.args.work.now kinds.End due c.requires.more c.laws.ensures.same).1
+
+pub returns-else-end : goal.returns-else-end
+returns-else-end c =
+    let y = c.args.shared.now in
+    let w = c.args.work.now in
+    let due = c.requires.due in
+    let works = due.works in
+    let is = (here y w kinds.End due c.requires.more c.laws.ensures.same).1 in (
+      (grown_good y w.piece c.end.new.self works.good c.end.ensures).0,
+      (
+        stuck y w works c.laws.ensures.same (c.end-2.ensures.outermost c.if-end.false).1 is c.requires.more c.end.new.self c.end.ensures,
+        inl (c.end.ensures, is),
+      ),
+    )
