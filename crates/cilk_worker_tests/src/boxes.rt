@@ -1,8 +1,10 @@
 //! A join box: the pieces of a block's children arrive in another order than the run's, and the
 //! piece at the `sync` arrives last.
 
-ghost use Rattle.std.specs.Prelude.{◌≡◌, IfSome, None};
+ghost use Rattle.std.specs.Prelude.{◌≡◌, IfSome, IsTrue, None};
+ghost use Rattle.cilk_workers.specs.Boxes.{EndsAtKey};
 ghost use Rattle.cilk_workers.specs.Rows.{IsGood};
+ghost use Rattle.cilk_workers.specs.Shared.{event_order_in};
 ghost use Rattle.cilk_replay.specs.Chains.{standing};
 ghost use Rattle.cilk_workers.specs.Turns.{Works};
 
@@ -123,6 +125,20 @@ fn prints(piece: Piece, numbers: &[i64]) -> bool {
     }
 }
 
+// Whether a piece ends where its key says. `last` says whether it is the sync's own.
+fn ends_at(shared: &Shared<'_>, by: Pos, piece: &Piece, last: bool) -> bool
+    ensures { IsTrue result → EndsAtKey (event_order_in shared.now) by piece.now last }
+{
+    let at = piece.upto();
+    if last {
+        return at == by;
+    }
+    match shared.resumed_by(at) {
+        Some(child) => child == by,
+        None => false,
+    }
+}
+
 // A piece arrives at the box. Returns the number of pieces that the box keeps. Returns `None` if
 // the block passes; then all output up to the `sync` is in the run's order.
 fn arrive<R: Abort>(
@@ -139,6 +155,7 @@ fn arrive<R: Abort>(
 {
     let Arrival { by, piece, chain } = arrival;
     assert!(rt; found.fits(by, &piece, chain.is_some()));
+    assert!(rt; ends_at(shared, by, &piece, chain.is_some()));
     match found.arrive(alloc, shared.yard(), by, piece, chain) {
         Ok(Boxed::Waits) => Some(found.parts()),
         Ok(Boxed::Passes(piece, _)) => {

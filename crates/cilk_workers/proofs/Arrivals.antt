@@ -1,11 +1,17 @@
 -- A box that is taken off its shelf, changed, and put back: `arrives`; `records`, where that
--- succeeds.
-use Rattle.std.proofs.Common.{◌≡◌, ℕ, Bool, true, false, sym, ◌∙◌, subst}
+-- succeeds. Where a piece ends: `at_key`.
+use Rattle.std.proofs.Common.{◌≡◌, ℕ, Bool, true, false, Option, Some, None, sym, ap, ◌∙◌, subst}
+use Rattle.cilk_types.specs.declared.event.Event.{Event}
+use Rattle.cilk_types.specs.declared.event.Event.TheVariants.{Sync}
+use Rattle.cilk_shared.specs.Pieces.{PieceValue}
+use Rattle.cilk_replay.specs.Chains.{ChainValue}
+use Rattle.cilk_tree.specs.declared.event_order.EventOrder.{EventOrder}
+use Rattle.cilk_tree.specs.Word.{event, plain, predecessors_of, resume, word_event, word_step}
 use Rattle.std.specs.Prelude.{IsTrue, OnOk, Result, Ok, Err}
 use Rattle.std.specs.Result.{is_ok}
-use Rattle.cilk_workers.specs.Boxes.{BoxValue, stolen_at}
+use Rattle.cilk_workers.specs.Boxes.{BoxValue, EndsAtKey, is_some, stolen_at}
 use Rattle.cilk_workers.specs.Shelves.{PutsBack, ShelfValue, TakesOff}
-use Rattle.cilk_workers.specs.Arrivals.{AnswersBy, HasArrived, Records}
+use Rattle.cilk_workers.specs.Arrivals.{AnswersBy, EndsWhereItWaits, HasArrived, Records}
 use Rattle.cilk_workers.specs.declared.locks.Arrival.{Arrival}
 use Rattle.cilk_workers.specs.declared.locks.Met.{Met}
 use Rattle.cilk_workers.specs.declared.locks.Met.TheVariants as mets
@@ -28,3 +34,11 @@ records s rest new sync k goes_on found after r told off stolen is back so = rec
   off = off;
   back = subst (λ (b : BoxValue). PutsBack rest b new) (if_ok (after ≡ stolen_at found k goes_on) r told is so stolen) back;
 }
+
+no_resume : (s : EventOrder) (p k : ℕ) → event s p ≡ Some Sync → word_step s p ≡ resume k → ⊥
+no_resume s p k is there = let z : plain ≡ resume k = ap (λ (o : Option Event). word_event s.events p o (predecessors_of s p)) (sym is) ∙ there in cc z
+
+pub at_key : (s : EventOrder) (p : PieceValue) (chain : Option ChainValue) (by : ℕ) → EndsWhereItWaits s p chain → ((k : ℕ) → word_step s p.upto ≡ resume k → by ≡ k)
+    → (((k : ℕ) → word_step s p.upto ≡ resume k → ⊥) → by ≡ p.upto) → EndsAtKey s by p (is_some chain)
+at_key s p None by ends child own = subst (λ n. word_step s p.upto ≡ resume n) (sym (child ends.0 ends.1)) ends.1
+at_key s p (Some c) by ends child own = sym (own (λ k there. no_resume s p.upto k ends there))

@@ -1,5 +1,10 @@
 -- Steals and arrivals at the boxes of a shelf.
-use Rattle.std.specs.Prelude.{◌≡◌, ℕ}
+use Rattle.std.specs.Prelude.{◌≡◌, ℕ, Option, Some, None}
+use Rattle.cilk_types.specs.declared.event.Event.TheVariants.{Sync}
+use Rattle.cilk_shared.specs.Pieces.{PieceValue}
+use Rattle.cilk_tree.specs.declared.event_order.EventOrder.{EventOrder}
+use Rattle.cilk_tree.specs.Word.{event, resume, word_step}
+use Rattle.cilk_replay.specs.Chains.{ChainValue}
 use Rattle.cilk_workers.specs.Answers.{Answers}
 use Rattle.cilk_workers.specs.Boxes.{BoxValue, arrived_at, is_some, stolen_at}
 use Rattle.cilk_workers.specs.Shelves.{PutsBack, ShelfValue, TakesOff}
@@ -7,6 +12,11 @@ use Rattle.cilk_workers.specs.declared.join.Boxed.TheVariants as boxes
 use Rattle.cilk_workers.specs.declared.locks.Arrival.{Arrival}
 use Rattle.cilk_workers.specs.declared.locks.Met.{Met}
 use Rattle.cilk_workers.specs.declared.locks.Met.TheVariants as mets
+
+-- a piece without a chain ends right before the `resume` after a spawn, one with a chain at a `sync`
+abbrev pub EndsWhereItWaits : EventOrder → PieceValue → Option ChainValue → Type 0
+EndsWhereItWaits s p None = (k : ℕ) × (word_step s p.upto ≡ resume k)
+EndsWhereItWaits s p (Some c) = event s p.upto ≡ Some Sync
 
 -- In the box of the block, and in no other, it is recorded that the continuation of the spawn at k,
 -- which continues at a, is stolen.

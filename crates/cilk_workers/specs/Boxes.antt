@@ -1,5 +1,7 @@
 -- The state of a join box, at a sync block.
 use Rattle.std.specs.Prelude.{◌≡◌, ◌<◌, ◌≤◌, ◌⊎◌, ℕ, nat_eq, nat_lt, Bool, true, false, if◌then◌else◌, List, [], ◌∷◌, Option, Some, None}
+use Rattle.cilk_tree.specs.declared.event_order.EventOrder.{EventOrder}
+use Rattle.cilk_tree.specs.Word.{resume, word_step}
 use Rattle.cilk_shared.specs.Pieces.{PieceValue}
 use Rattle.cilk_replay.specs.Chains.{ChainValue}
 use Rattle.cilk_replay.specs.Replays.{ReplayValue}
@@ -85,6 +87,12 @@ IsOpen j k a = (j.closed ≡ false) × (j.stolen < k) × (j.arrived ≤ k) × (e
 abbrev pub MayArrive : BoxValue → ℕ → PieceValue → Option ChainValue → Type 0
 MayArrive j k x None = (let r = j.rows in let w = r.row in Stands w.waits k) ⊎ IsFresh j k
 MayArrive j k x (Some c) = IsFresh j k × (let r = j.rows in let w = r.row in (c.of ≡ j.replay) × (c.at ≡ j.sync) × (x.upto ≡ j.sync) × IsAbsent w.waits k)
+
+-- a child's piece ends right before the `resume` after its spawn, its key; the sync's own ends at its
+-- key
+abbrev pub EndsAtKey : EventOrder → ℕ → PieceValue → Bool → Type 0
+EndsAtKey s k x false = word_step s x.upto ≡ resume k
+EndsAtKey s k x true = x.upto ≡ k
 
 -- the state after k is stolen: k is awaited, unless it has arrived
 abbrev pub stolen_at : BoxValue → ℕ → ℕ → BoxValue

@@ -1,6 +1,9 @@
 //! The turns of a worker that holds a piece.
 
-ghost use Rattle.std.specs.Prelude.{◌≡◌, ◌⊎◌, IfNone, IfSome, IsTrue};
+ghost use Rattle.std.specs.Prelude.{◌≡◌, ◌⊎◌, ℕ, IfNone, IfSome, IsTrue};
+ghost use Rattle.cilk_tree.specs.Word.{resume, word_step};
+ghost use Rattle.cilk_workers.specs.Arrivals.{EndsWhereItWaits};
+ghost use Rattle.cilk_workers.specs.Shared.{event_order_in};
 ghost use Rattle.cilk_workers.specs.Rows.{IsGood};
 ghost use Rattle.cilk_replay.specs.Chains.{standing};
 ghost use Rattle.cilk_workers.specs.Racks.{Of};
@@ -17,10 +20,12 @@ use crate::lock::{Key, never};
 use crate::locks::{Arrival, Met};
 use crate::naming::Naming;
 use crate::rack::Rack;
+use crate::shared::Shared;
 use crate::turn::act;
 use crate::work::{Turn, Work};
 use cilk_replay::chain::{Chain, Task};
 use cilk_shared::piece::Piece;
+use cilk_types::event::Pos;
 use std::sync::Wait;
 
 /// The greatest number of turns before a worker checks whether another has stopped the run.
@@ -33,6 +38,17 @@ fn behind<N: Naming>(rack: &mut Rack<N>, taken: bool) -> Option<Task>
     ensures none { IfNone result (IsTrue taken ⊎ AreTaken N.taken rack.old) }
 {
     if taken { None } else { rack.newest() }
+}
+
+// The key of a piece that ends at `at`: the spawn whose `resume` is there, or else `at`.
+fn key_at(shared: &Shared<'_>, at: Pos) -> Pos
+    ensures child { (k : ℕ) → word_step (event_order_in shared.now) at ≡ resume k → result ≡ k }
+    ensures own { ((k : ℕ) → word_step (event_order_in shared.now) at ≡ resume k → ⊥) → result ≡ at }
+{
+    match shared.resumed_by(at) {
+        Some(child) => child,
+        None => at,
+    }
 }
 
 impl<'a, 'b, N: Naming, R: Wait, G: Gate> WorkerContext<'a, 'b, N, R, G> {
@@ -55,15 +71,13 @@ impl<'a, 'b, N: Naming, R: Wait, G: Gate> WorkerContext<'a, 'b, N, R, G> {
         requires keys { AreKeys self.now.locks.now.items keys.old.items }
         requires piece { IsGood self.now.shared.now.run piece }
         requires chain { IfSome chain (λ c. c ≡ standing self.now.shared.now.replay piece.upto) }
+        requires ends { EndsWhereItWaits (event_order_in self.now.shared.now) piece chain }
         ensures keys { AreKeys self.now.locks.now.items keys.new.items }
         ensures hand { IsActivity self.now.shared.now result }
     {
         let shared = self.shared;
         let at = piece.upto();
-        let by = match shared.resumed_by(at) {
-            Some(child) => child,
-            None => at,
-        };
+        let by = key_at(shared, at);
         let Some(block) = shared.block_at(at) else {
             never(self.rt);
             unreachable!()

@@ -3,11 +3,11 @@
 //! A key is the position of a spawn, or that of the sync for the block's own piece, which arrives
 //! last.
 
-ghost use Rattle.std.specs.Prelude.{nat_lt, if◌then◌else◌, Some, None, ◌≡◌, ◌<◌, ◌↔◌, IfOk, IfErr, OnOk, OnErr, IsTrue, true, false};
+ghost use Rattle.std.specs.Prelude.{nat_lt, if◌then◌else◌, Some, None, ◌≡◌, ◌<◌, ◌≤◌, ◌↔◌, IfOk, IfErr, OnOk, OnErr, IsTrue, true, false};
 ghost use Rattle.cilk_types.specs.declared.event.Event.TheVariants.{Sync};
 ghost use Rattle.cilk_tree.specs.Word.{event};
 ghost use Rattle.cilk_workers.specs.Rows.{FitsIn, IsGood, PiecesLieApart, parts_in, yard_of};
-ghost use Rattle.cilk_workers.specs.Boxes.{is_some, later, opening, Comes, IsFresh, IsOpen, IsUnused, MayArrive, stolen_at, arrived_at};
+ghost use Rattle.cilk_workers.specs.Boxes.{is_some, later, opening, Comes, EndsAtKey, IsFresh, IsOpen, IsUnused, MayArrive, stolen_at, arrived_at};
 ghost use Rattle.cilk_workers.specs.Answers.{Answers};
 ghost use Rattle.cilk_workers.specs.Shared.{event_order_in};
 
@@ -166,12 +166,12 @@ impl JoinBox {
         Ok(())
     }
 
-    /// Returns whether the piece may arrive with this key. `last` says whether it is the sync's
-    /// own.
+    /// Returns whether the piece may arrive with this key, before which it begins. `last` says
+    /// whether it is the sync's own.
     pub fn fits(&self, key: Pos, piece: &Piece, last: bool) -> bool
-        ensures { IsTrue result ↔ (FitsIn self.now.rows key piece.now × Comes self.now key piece.now last) }
+        ensures { IsTrue result ↔ (FitsIn self.now.rows key piece.now × Comes self.now key piece.now last × (piece.now.from ≤ key)) }
     {
-        if !self.runs.fits(key, piece) {
+        if piece.from() > key || !self.runs.fits(key, piece) {
             return false;
         }
         if last {
@@ -213,6 +213,8 @@ impl JoinBox {
         requires good { IsGood self.old.rows.of piece }
         requires fits { FitsIn self.old.rows key piece }
         requires comes { MayArrive self.old key piece chain }
+        requires begins { piece.from ≤ key }
+        requires ends { EndsAtKey self.old.rows.of.event_order key piece (is_some chain) }
         ensures ok { IfOk result (λ b. Answers (arrived_at self.old key piece (is_some chain)) b self.new) }
         ensures err { IfErr result (λ r. (r.0 ≡ piece) × (r.1 ≡ chain)) }
         ensures unchanged { OnErr result (self.new ≡ self.old) }

@@ -10,6 +10,7 @@ ghost use Rattle.cilk_tree.specs.Columns.{IsOfBlock};
 ghost use Rattle.cilk_tree.specs.Word.{event, resume, word_step};
 ghost use Rattle.cilk_workers.specs.Shared.{IsNumberOf, event_order_in};
 ghost use Rattle.cilk_workers.specs.Activities.{IsMet};
+ghost use Rattle.cilk_workers.specs.Boxes.{EndsAtKey, is_some};
 ghost use Rattle.cilk_workers.specs.Arrivals.{AnswersBy, HasArrived, Records};
 ghost use Rattle.cilk_workers.specs.Keys.{AreKeys, IsFree};
 ghost use Rattle.cilk_workers.specs.WorkerContexts.{IsWorkerContext};
@@ -28,8 +29,8 @@ use cilk_types::event::Pos;
 use std::alloc::AllocError;
 use std::sync::Wait;
 
-/// A piece that comes to a block: a child's with the position of its spawn, or the `sync`'s own
-/// with that of the `sync` and its chain.
+/// A piece that comes to a block: a child's up to its `end`, with the position of its spawn, or the
+/// `sync`'s own with that of the `sync` and its chain.
 #[derive(Drop)]
 pub struct Arrival {
     pub by: Pos,
@@ -62,6 +63,7 @@ impl<'a, 'b, N: Naming, R: Wait, G: Gate> WorkerContext<'a, 'b, N, R, G> {
         requires run { (found.old.rows.of ≡ self.now.shared.now.run) × (found.old.replay ≡ self.now.shared.now.replay) }
         requires good { IsGood self.now.shared.now.run arrival.piece }
         requires chain { IfSome arrival.chain (λ c. c ≡ standing self.now.shared.now.replay arrival.piece.upto) }
+        requires ends { EndsAtKey (event_order_in self.now.shared.now) arrival.by arrival.piece (is_some arrival.chain) }
         ensures met { IsMet self.now.shared.now result }
         ensures answers { AnswersBy found.old arrival result found.new }
         ensures same { (found.new.rows.of ≡ found.old.rows.of) × (found.new.replay ≡ found.old.replay) × (found.new.sync ≡ found.old.sync) }
@@ -98,6 +100,7 @@ impl<'a, 'b, N: Naming, R: Wait, G: Gate> WorkerContext<'a, 'b, N, R, G> {
         requires sync { event (event_order_in self.now.shared.now) sync ≡ Some Sync }
         requires good { IsGood self.now.shared.now.run arrival.piece }
         requires chain { IfSome arrival.chain (λ c. c ≡ standing self.now.shared.now.replay arrival.piece.upto) }
+        requires ends { EndsAtKey (event_order_in self.now.shared.now) arrival.by arrival.piece (is_some arrival.chain) }
         ensures shelf { IsSameShelf shelf.old shelf.new }
         ensures arrived { HasArrived shelf.old sync arrival result shelf.new }
         ensures met { IsMet self.now.shared.now result }
@@ -138,6 +141,7 @@ impl<'a, 'b, N: Naming, R: Wait, G: Gate> WorkerContext<'a, 'b, N, R, G> {
         requires sync { event (event_order_in self.now.shared.now) sync ≡ Some Sync }
         requires good { IsGood self.now.shared.now.run arrival.piece }
         requires chain { IfSome arrival.chain (λ c. c ≡ standing self.now.shared.now.replay arrival.piece.upto) }
+        requires ends { EndsAtKey (event_order_in self.now.shared.now) arrival.by arrival.piece (is_some arrival.chain) }
         ensures key { IsFree shelf_lock.now key.new }
         ensures met { IsMet self.now.shared.now result }
     {
@@ -178,6 +182,7 @@ impl<'a, 'b, N: Naming, R: Wait, G: Gate> WorkerContext<'a, 'b, N, R, G> {
         requires sync { event (event_order_in self.now.shared.now) block.sync ≡ Some Sync }
         requires good { IsGood self.now.shared.now.run arrival.piece }
         requires chain { IfSome arrival.chain (λ c. c ≡ standing self.now.shared.now.replay arrival.piece.upto) }
+        requires ends { EndsAtKey (event_order_in self.now.shared.now) arrival.by arrival.piece (is_some arrival.chain) }
         ensures keys { AreKeys self.now.locks.now.items keys.new.items }
         ensures met { IsMet self.now.shared.now result }
     {

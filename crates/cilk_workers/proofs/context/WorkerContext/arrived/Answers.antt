@@ -1,9 +1,12 @@
-use Rattle.std.proofs.Common.{◌≡◌, sym, subst}
+use Rattle.std.proofs.Common.{◌≡◌, ◌∙◌, sym, subst}
 use Rattle.std.specs.Prelude.{IfSome}
 use Rattle.cilk_replay.specs.Chains.{standing}
 use Rattle.cilk_tree.specs.Columns.{IsOfBlock}
 use Rattle.cilk_workers.specs.Shared.{event_order_in}
 use Rattle.cilk_shared.specs.Pieces.{PieceValue}
+use Rattle.cilk_tree.specs.Word.{resume, word_step}
+use Rattle.cilk_workers.specs.Boxes.{EndsAtKey, is_some}
+use Rattle.cilk_workers.proofs.Arrivals.{at_key}
 use Rattle.cilk_workers.proofs.context.WorkerContext.arrived.Goals as goal
 
 pub arrive-requires-clause-chain : goal.arrive-requires-clause-chain
@@ -12,5 +15,14 @@ arrive-requires-clause-chain g c = subst (λ (p : PieceValue). IfSome c.args.cha
 pub arrive-requires-clause-block : goal.arrive-requires-clause-block
 arrive-requires-clause-block g c =
     let s = event_order_in c.args.self.now.shared.now in
-    let sync = c.in-Some-block_at.block.sync in
-    subst (λ (p : PieceValue). IsOfBlock s sync p.upto) (sym c.apart-piece.ensures.first) (subst (IsOfBlock s sync) c.upto-at.ensures c.in-Some-block_at.ensures.block)
+    let sync = c.in-Some.block.sync in
+    subst (λ (p : PieceValue). IsOfBlock s sync p.upto) (sym c.apart-piece.ensures.first) (subst (IsOfBlock s sync) c.upto-at.ensures c.in-Some.ensures.block)
+
+pub arrive-requires-clause-ends : goal.arrive-requires-clause-ends
+arrive-requires-clause-ends g c =
+    let s = event_order_in c.args.self.now.shared.now in
+    let by = c.key_at-by.result in
+    subst (λ (p : PieceValue). EndsAtKey s by p (is_some c.args.chain)) (sym c.apart-piece.ensures.first)
+    (at_key s c.args.piece c.args.chain by c.requires.ends
+    (λ k is. c.key_at-by.ensures.child k (subst (λ n. word_step s n ≡ resume k) (sym c.upto-at.ensures) is))
+    (λ none. c.key_at-by.ensures.own (λ k is. none k (subst (λ n. word_step s n ≡ resume k) c.upto-at.ensures is)) ∙ c.upto-at.ensures))
