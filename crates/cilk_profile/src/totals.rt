@@ -66,9 +66,10 @@ impl Totals {
     }
 
     /// Returns an estimate: work over the time of a greedy schedule in which 1.7 burdened spans are
-    /// added to each worker's share of the work. One worker steals nothing.
+    /// added to each worker's share of the work. One worker steals nothing, and where nothing runs in
+    /// parallel there is nothing to steal.
     pub fn speed_up_estimate(&self, workers: u64) -> u64 {
-        if workers <= 1 {
+        if workers <= 1 || self.parallelism() <= 100 {
             return 100;
         }
         let share = (self.work as u64).saturating_mul(10);

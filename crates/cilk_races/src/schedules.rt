@@ -12,8 +12,8 @@ use cilk_types::invocation::Invocation;
 use cilk_types::outcome::{Final, Outcome};
 use std::alloc::AllocError;
 
-// A run of more events is played by one schedule only.
-const SEARCHED: usize = 20_000;
+// Schedules are played until they have made about this many events.
+const MADE: usize = 120_000;
 
 // The events of the child that the first worker makes before the steal: none, or all up to this many
 // before the event after the earlier access.
@@ -21,6 +21,12 @@ const NEAR: [usize; 6] = [usize::MAX, 1, 0, 2, 4, 8];
 
 // The events that the second worker makes after the later access, before the first one continues.
 const BEYOND: [usize; 7] = [0, 1, 2, 4, 8, 16, usize::MAX];
+
+// The events that the second worker makes where it steals an earlier continuation, and how many of
+// these are tried.
+const AROUND: [usize; 5] = [1, 5, 20, 60, usize::MAX];
+
+const PLACES: usize = 16;
 
 /// A schedule of two workers, and how its outcome differs from that of the serial run.
 ///
@@ -62,22 +68,23 @@ pub fn search(scene: &Scene<'_>, pair: &Pair) -> Result<Option<Found>, AllocErro
 
 fn best_of(scene: &Scene<'_>, pair: &Pair, serial: &Outcome) -> Result<Option<Found>, AllocError> {
     let mut best = schedule_of(scene, pair, 0, 0);
+    let most = MADE / scene.run.trace.len().max(1);
     let mut played: usize = 0;
-    'search: for near in NEAR {
-        for beyond in BEYOND {
-            let found = schedule_of(scene, pair, near, beyond);
-            let (told, words) = found.play(scene.case, serial)?;
-            played = played.saturating_add(1);
-            if told > best.told {
-                best = Found {
-                    told,
-                    words,
-                    ..found
-                };
-            }
-            if scene.run.trace.len() > SEARCHED || told == MOST {
-                break 'search;
-            }
+    for number in 0..NEAR.len() * BEYOND.len() + PLACES * AROUND.len() {
+        let Some(found) = numbered(scene, pair, number) else {
+            break;
+        };
+        let (told, words) = found.play(scene.case, serial)?;
+        played = played.saturating_add(1);
+        if told > best.told {
+            best = Found {
+                told,
+                words,
+                ..found
+            };
+        }
+        if played >= most || told == MOST {
+            break;
         }
     }
     Ok(if best.told == NONE {
@@ -173,6 +180,26 @@ fn step(worker: u32, count: usize) -> Step {
         line: 1,
         order: LineOrder::Run { worker, count },
     }
+}
+
+// The schedule with this number: first those near the one that makes the later event first, then
+// those that steal the continuation of an earlier spawn, the outermost one first.
+fn numbered(scene: &Scene<'_>, pair: &Pair, number: usize) -> Option<Found> {
+    if let Some(near) = NEAR.get(number / BEYOND.len()) {
+        return Some(schedule_of(scene, pair, *near, BEYOND[number % BEYOND.len()]));
+    }
+    let rest = number.saturating_sub(NEAR.len() * BEYOND.len());
+    let found = schedule_of(scene, pair, 0, 0);
+    let place = rest / AROUND.len();
+    if place >= found.place {
+        return None;
+    }
+    let behind = AROUND[rest % AROUND.len()].min(scene.run.trace.len());
+    Some(Found {
+        place,
+        behind,
+        ..found
+    })
 }
 
 // A schedule near the one that makes the later event first.
