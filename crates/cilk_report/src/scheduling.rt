@@ -4,9 +4,8 @@ ghost use Rattle.std.specs.Prelude.{◌≡◌, ◌<◌, IfOk, IfSome};
 ghost use Rattle.cilk_messages.specs.Asked.{words_of_check};
 ghost use Rattle.cilk_report.specs.Explained.{IsRefusal, Schedules};
 ghost use Rattle.cilk_commands.specs.Replies.{answer_view};
-ghost use Rattle.cilk_commands.specs.Streams.{TakesAtMost};
-ghost use Rattle.cilk_commands.specs.declared.streams.TheConstants.{MAX_READ};
-ghost use Rattle.cilk_messages.specs.Words.{texts};
+ghost use Rattle.cilk_commands.specs.Serving.{ReadsStandard};
+ghost use Rattle.cilk_messages.specs.Words.{order_in, texts};
 
 use crate::Keeps;
 use crate::explaining::{of_answer, of_failure, race_of, texts_of};
@@ -23,7 +22,6 @@ use std::alloc::{AllocError, Global};
 use std::io::{Read, Write};
 
 /// Serves the command `schedule`.
-#[tactic(auto, using(cilk_commands::proofs::Reading::takes_same))]
 pub fn serve_schedule<F: Keeps, R: Read, O: Write, E: Write>(
     alloc: Global,
     words: &[&str],
@@ -35,7 +33,7 @@ pub fn serve_schedule<F: Keeps, R: Read, O: Write, E: Write>(
     requires { (F.failed files.old).count < 18446744073709551615 }
     ensures shown { Schedules (words_of_check (texts words.now)) (F.holds files.old) (R.remaining input.old) (F.failed files.old) (F.failed files.new)
         result (O.contents out.old) (O.contents out.new) (E.contents err.old) (E.contents err.new) }
-    ensures most { TakesAtMost MAX_READ (R.remaining input.old) (R.remaining input.new) }
+    ensures untouched { input.new ≡ input.old }
 {
     match check_words(alloc, words) {
         Ok(plain) => {
@@ -52,7 +50,6 @@ const USAGE: &str =
     hint: the script goes to standard output: `cilk schedule prog.c prog.certificate > prog.script`\n";
 
 // Serves the command by the words of the check.
-#[tactic(auto, using(cilk_commands::proofs::Reading::takes_same))]
 fn serve_checked<F: Keeps, R: Read, O: Write, E: Write>(
     alloc: Global,
     words: &[&str],
@@ -65,7 +62,7 @@ fn serve_checked<F: Keeps, R: Read, O: Write, E: Write>(
     requires { (F.failed files.old).count < 18446744073709551615 }
     ensures shown { Schedules (texts words.now) (F.holds files.old) (R.remaining input.old) (F.failed files.old) (F.failed files.new)
         result (O.contents out.old) (O.contents out.new) (E.contents err.old) (E.contents err.new) }
-    ensures most { TakesAtMost MAX_READ (R.remaining input.old) (R.remaining input.new) }
+    ensures untouched { (ReadsStandard (order_in (texts words.now)) → ⊥) → input.new ≡ input.old }
 {
     match read(alloc, words) {
         Ok(order) => match carry_out(alloc, order, files, input) {

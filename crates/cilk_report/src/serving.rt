@@ -1,12 +1,12 @@
 //! From a command line to its reply and explanation.
 
-ghost use Rattle.std.specs.Prelude.{◌≡◌, ◌<◌, None, Some, false, length, option_map, true};
+ghost use Rattle.std.specs.Prelude.{◌≡◌, ◌≢◌, ◌<◌, [], None, Some, false, length, option_map, true};
 ghost use Rattle.cilk_report.specs.Explained.{ComesBehind, Follows, IsReadAgain, Measures, Schedules, ServesExplained, ServesThenExplains, Settles, WritesText};
 ghost use Rattle.cilk_messages.specs.Asked.{explains_itself, is_measure, is_schedule, measured_run, unflagged, words_of_check, words_of_run};
 ghost use Rattle.cilk_messages.specs.About.{is_about};
 ghost use Rattle.cilk_messages.specs.Batches.{is_settling};
 ghost use Rattle.cilk_commands.specs.Replies.{answer_view, failure_view};
-ghost use Rattle.cilk_commands.specs.Serving.{WordsFail};
+ghost use Rattle.cilk_commands.specs.Serving.{ReadsStandard, WordsFail};
 ghost use Rattle.cilk_commands.specs.Streams.{TakesAtMost};
 ghost use Rattle.cilk_commands.specs.declared.streams.TheConstants.{MAX_READ};
 ghost use Rattle.cilk_messages.specs.Words.{order_in, order_view, origin_view, texts};
@@ -35,7 +35,8 @@ use std::io::{Read, Write};
 /// [`cilk_commands::serve`] are served as that function does. With `--explain` an explanation
 /// follows the same reply; it follows that of `settle`, and that of `judge` with a table of sites,
 /// in any case. `measure`, `schedule`, `settle` for several programs or in a short form, and
-/// questions about the tool are answered as well.
+/// questions about the tool are answered as well. Standard input is read only if there are no words
+/// but those that add a text.
 #[tactic(auto, using(cilk_commands::proofs::Reading::takes_same))]
 pub fn serve_explained<F: Keeps, R: Read, O: Write, E: Write>(
     alloc: Global,
@@ -65,6 +66,7 @@ pub fn serve_explained<F: Keeps, R: Read, O: Write, E: Write>(
     ensures settled { explains_itself (order_in (texts words.now)) ≡ true
         → ServesThenExplains (texts words.now) (F.holds files.old) (R.remaining input.old) (F.failed files.old) (F.failed files.new)
         result (O.contents out.old) (O.contents out.new) (E.contents err.old) (E.contents err.new) }
+    ensures untouched { unflagged (texts words.now) ≢ [] → input.new ≡ input.old }
     ensures most { TakesAtMost MAX_READ (R.remaining input.old) (R.remaining input.new) }
 {
     match read(alloc, words) {
@@ -109,6 +111,7 @@ fn serve_other<F: Keeps, R: Read, O: Write, E: Write>(
         → length (unflagged (texts words.now)) < length (texts words.now)
         → ServesThenExplains (unflagged (texts words.now)) (F.holds files.old) (R.remaining input.old) (F.failed files.old) (F.failed files.new)
         result (O.contents out.old) (O.contents out.new) (E.contents err.old) (E.contents err.new) }
+    ensures untouched { unflagged (texts words.now) ≢ [] → input.new ≡ input.old }
     ensures most { TakesAtMost MAX_READ (R.remaining input.old) (R.remaining input.new) }
 {
     if is_measure(words) {
@@ -143,6 +146,7 @@ fn serve_unmeasured<F: Keeps, R: Read, O: Write, E: Write>(
         → length (unflagged (texts words.now)) < length (texts words.now)
         → ServesThenExplains (unflagged (texts words.now)) (F.holds files.old) (R.remaining input.old) (F.failed files.old) (F.failed files.new)
         result (O.contents out.old) (O.contents out.new) (E.contents err.old) (E.contents err.new) }
+    ensures untouched { unflagged (texts words.now) ≢ [] → input.new ≡ input.old }
     ensures most { TakesAtMost MAX_READ (R.remaining input.old) (R.remaining input.new) }
 {
     if is_schedule(words) {
@@ -173,6 +177,7 @@ fn serve_unscheduled<F: Keeps, R: Read, O: Write, E: Write>(
     ensures explained { is_about (texts words.now) ≡ false → length (unflagged (texts words.now)) < length (texts words.now)
         → ServesThenExplains (unflagged (texts words.now)) (F.holds files.old) (R.remaining input.old) (F.failed files.old) (F.failed files.new)
         result (O.contents out.old) (O.contents out.new) (E.contents err.old) (E.contents err.new) }
+    ensures untouched { unflagged (texts words.now) ≢ [] → input.new ≡ input.old }
     ensures most { TakesAtMost MAX_READ (R.remaining input.old) (R.remaining input.new) }
 {
     match answer_about(alloc, words) {
@@ -224,6 +229,7 @@ fn serve_flagged<F: Keeps, R: Read, O: Write, E: Write>(
     requires { (F.failed files.old).count < 18446744073709551615 }
     ensures shown { ServesThenExplains (texts words.now) (F.holds files.old) (R.remaining input.old) (F.failed files.old) (F.failed files.new)
         result (O.contents out.old) (O.contents out.new) (E.contents err.old) (E.contents err.new) }
+    ensures untouched { (ReadsStandard (order_in (texts words.now)) → ⊥) → input.new ≡ input.old }
     ensures most { TakesAtMost MAX_READ (R.remaining input.old) (R.remaining input.new) }
 {
     match read(alloc, words) {
@@ -300,7 +306,6 @@ fn failed<F: Keeps>(
 }
 
 /// Serves `measure`.
-#[tactic(auto, using(cilk_commands::proofs::Reading::takes_same))]
 fn serve_measure<F: Keeps, R: Read, O: Write, E: Write>(
     alloc: Global,
     words: &[&str],
@@ -312,7 +317,7 @@ fn serve_measure<F: Keeps, R: Read, O: Write, E: Write>(
     requires { (F.failed files.old).count < 18446744073709551615 }
     ensures shown { Measures (texts words.now) (F.holds files.old) (R.remaining input.old) (F.failed files.old) (F.failed files.new)
         result (O.contents out.old) (O.contents out.new) (E.contents err.old) (E.contents err.new) }
-    ensures most { TakesAtMost MAX_READ (R.remaining input.old) (R.remaining input.new) }
+    ensures untouched { input.new ≡ input.old }
 {
     match run_words(alloc, words) {
         Ok(plain) => serve_run(alloc, words, plain.as_slice(), files, input, out, err),
@@ -326,7 +331,6 @@ const USAGE: &str =
     hint: what it shows goes to standard output, a picture too: `cilk measure prog.c --svg > prog.svg`\n";
 
 /// Serves `measure` by the words of the run.
-#[tactic(auto, using(cilk_commands::proofs::Reading::takes_same))]
 fn serve_run<F: Keeps, R: Read, O: Write, E: Write>(
     alloc: Global,
     words: &[&str],
@@ -340,7 +344,7 @@ fn serve_run<F: Keeps, R: Read, O: Write, E: Write>(
     requires plain { texts plain.now ≡ words_of_run (texts words.now) }
     ensures shown { Measures (texts words.now) (F.holds files.old) (R.remaining input.old) (F.failed files.old) (F.failed files.new)
         result (O.contents out.old) (O.contents out.new) (E.contents err.old) (E.contents err.new) }
-    ensures most { TakesAtMost MAX_READ (R.remaining input.old) (R.remaining input.new) }
+    ensures untouched { input.new ≡ input.old }
 {
     match read(alloc, plain) {
         Ok(order) => match run_of(order) {
@@ -357,7 +361,7 @@ fn serve_run<F: Keeps, R: Read, O: Write, E: Write>(
 }
 
 /// Shows the measures of a run. If the run fails, shows why, with an explanation if requested.
-#[tactic(auto, using(cilk_commands::proofs::Reading::takes_same))]
+#[tactic(auto, using(crate::proofs::Standard::measured_file))]
 fn show_measured<F: Keeps, R: Read, O: Write, E: Write>(
     alloc: Global,
     words: &[&str],
@@ -371,7 +375,7 @@ fn show_measured<F: Keeps, R: Read, O: Write, E: Write>(
     requires named { measured_run (texts words.now) ≡ Some (origin_view run.0, option_map (λ p. p.now) run.1) }
     ensures shown { Measures (texts words.now) (F.holds files.old) (R.remaining input.old) (F.failed files.old) (F.failed files.new)
         result (O.contents out.old) (O.contents out.new) (E.contents err.old) (E.contents err.new) }
-    ensures most { TakesAtMost MAX_READ (R.remaining input.old) (R.remaining input.new) }
+    ensures untouched { input.new ≡ input.old }
 {
     let order = Order::Run {
         program: run.0,

@@ -4,9 +4,8 @@ ghost use Rattle.std.specs.Prelude.{◌≡◌, ◌++◌, ◌⊎◌, Bool, IfOk, 
 ghost use Rattle.std.specs.Io.KnownBytes.{Appends};
 ghost use Rattle.cilk_commands.specs.Replies.{IsErrorText, NoMemory, Text, line, out_text, status_of};
 ghost use Rattle.cilk_commands.specs.Serving.{SettleReply, ShowsError, Surroundings, world};
-ghost use Rattle.cilk_commands.specs.Streams.{AppendsFront, AppendsPart, TakesAtMost};
+ghost use Rattle.cilk_commands.specs.Streams.{AppendsFront, AppendsPart};
 ghost use Rattle.cilk_commands.specs.declared.reply.TheConstants.{NO_MEMORY};
-ghost use Rattle.cilk_commands.specs.declared.streams.TheConstants.{MAX_READ};
 ghost use Rattle.cilk_messages.specs.Words.{texts};
 ghost use Rattle.cilk_report.specs.Explained.{Settles};
 ghost use Rattle.cilk_report.specs.Settling.{Fails, IsShown, SettlesEach, Shows, reply_view, state};
@@ -31,7 +30,6 @@ const USAGE: &str =
     hint: `cilk help settle` describes `settle` and its options\n";
 
 /// Serves `settle` for several programs, or in a short form.
-#[tactic(auto, using(cilk_commands::proofs::Reading::takes_same))]
 pub fn serve_settling<F: Keeps, R: Read, O: Write, E: Write>(
     alloc: Global,
     words: &[&str],
@@ -42,7 +40,7 @@ pub fn serve_settling<F: Keeps, R: Read, O: Write, E: Write>(
 ) -> u8
     ensures shown { Settles (texts words.now) (F.holds files.old) (R.remaining input.old) (F.failed files.old) (F.failed files.new)
         result (O.contents out.old) (O.contents out.new) (E.contents err.old) (E.contents err.new) }
-    ensures most { TakesAtMost MAX_READ (R.remaining input.old) (R.remaining input.new) }
+    ensures untouched { input.new ≡ input.old }
 {
     match batch_of(alloc, words) {
         Ok(Some(batch)) => settle_each(alloc, &batch, files, input, out, err),

@@ -3,7 +3,7 @@
 ghost use Rattle.std.specs.Prelude.{◌≡◌, ◌<◌, IfErr, IfOk, option_map};
 ghost use Rattle.cilk_report.specs.Measured.{AreTotalsOf, TellsWhy};
 ghost use Rattle.cilk_commands.specs.Replies.{failure_view};
-ghost use Rattle.cilk_commands.specs.Serving.{RunReply, WordsFail, world};
+ghost use Rattle.cilk_commands.specs.Serving.{IsStandard, RunReply, WordsFail, world};
 ghost use Rattle.cilk_commands.specs.Streams.{TakesAtMost};
 ghost use Rattle.cilk_commands.specs.declared.streams.TheConstants.{MAX_READ};
 ghost use Rattle.cilk_messages.specs.Words.{origin_view};
@@ -30,6 +30,7 @@ pub fn totals_of<'a, F: Files, R: Read>(
         (origin_view program.entry) (option_map (λ p. p.now) numbers.entry) t) }
     ensures failure { IfErr result (λ e. RunReply (world (F.holds files.old) (R.remaining input.old) (F.failed files.old) (F.failed files.new))
         (origin_view program.entry) (option_map (λ p. p.now) numbers.entry) (failure_view e)) }
+    ensures untouched { (IsStandard (origin_view program.entry) → ⊥) → input.new ≡ input.old }
     ensures most { TakesAtMost MAX_READ (R.remaining input.old) (R.remaining input.new) }
 {
     let (program, numbers) = given(alloc, program, numbers, files, input)?;

@@ -4,8 +4,6 @@ ghost use Rattle.std.specs.Prelude.{◌≡◌, ◌<◌, None, length};
 ghost use Rattle.cilk_messages.specs.Asked.{unflagged};
 ghost use Rattle.cilk_commands.specs.Replies.{failure_view};
 ghost use Rattle.cilk_commands.specs.Serving.{WordsFail, world};
-ghost use Rattle.cilk_commands.specs.Streams.{TakesAtMost};
-ghost use Rattle.cilk_commands.specs.declared.streams.TheConstants.{MAX_READ};
 ghost use Rattle.cilk_messages.specs.Words.{texts};
 ghost use Rattle.cilk_messages.specs.CheckWords.{check_in};
 ghost use Rattle.cilk_tool.specs.Helped.{HelpedThenExplains, IsHelpedReply};
@@ -25,7 +23,6 @@ use std::thread::Threads;
 const HINT: &str = "\nhint: `cilk help check` describes `check` and its options\n";
 
 /// Serves `check` with `--helpers`, and waits for the helpers.
-#[tactic(auto, using(cilk_commands::proofs::Reading::takes_same))]
 pub fn serve_check<H: Threads + Sync, F: Keeps, R: Read, O: Write, E: Write>(
     rt: &H,
     alloc: Global,
@@ -41,7 +38,7 @@ pub fn serve_check<H: Threads + Sync, F: Keeps, R: Read, O: Write, E: Write>(
     ensures explained { check_in (texts words.now) ≡ None → length (unflagged (texts words.now)) < length (texts words.now)
         → HelpedThenExplains (unflagged (texts words.now)) (world (F.holds files.old) (R.remaining input.old) (F.failed files.old) (F.failed files.new))
         result (O.contents out.old) (O.contents out.new) (E.contents err.old) (E.contents err.new) }
-    ensures most { TakesAtMost MAX_READ (R.remaining input.old) (R.remaining input.new) }
+    ensures untouched { input.new ≡ input.old }
 {
     match read_check(alloc, words) {
         Ok(order) => match check_by_helpers(rt, alloc, &order, files, input) {
@@ -58,7 +55,6 @@ pub fn serve_check<H: Threads + Sync, F: Keeps, R: Read, O: Write, E: Write>(
 
 /// Serves a command line that can't be read as it is. If `--explain` is among the words, the others
 /// are served.
-#[tactic(auto, using(cilk_commands::proofs::Reading::takes_same))]
 fn serve_unread<H: Threads + Sync, F: Keeps, R: Read, O: Write, E: Write>(
     system: &System<'_, H>,
     words: &[&str],
@@ -75,7 +71,7 @@ fn serve_unread<H: Threads + Sync, F: Keeps, R: Read, O: Write, E: Write>(
     ensures explained { length (unflagged (texts words.now)) < length (texts words.now)
         → HelpedThenExplains (unflagged (texts words.now)) (world (F.holds files.old) (R.remaining input.old) (F.failed files.old) (F.failed files.new))
         result (O.contents out.old) (O.contents out.new) (E.contents err.old) (E.contents err.new) }
-    ensures most { TakesAtMost MAX_READ (R.remaining input.old) (R.remaining input.new) }
+    ensures untouched { input.new ≡ input.old }
 {
     match unflagged(system.alloc, words) {
         Ok(plain) if plain.len() < words.len() => {
@@ -87,7 +83,6 @@ fn serve_unread<H: Threads + Sync, F: Keeps, R: Read, O: Write, E: Write>(
 }
 
 /// Serves the command, then explains what was shown.
-#[tactic(auto, using(cilk_commands::proofs::Reading::takes_same))]
 fn serve_flagged<H: Threads + Sync, F: Keeps, R: Read, O: Write, E: Write>(
     system: &System<'_, H>,
     words: &[&str],
@@ -99,7 +94,7 @@ fn serve_flagged<H: Threads + Sync, F: Keeps, R: Read, O: Write, E: Write>(
     requires { (F.failed files.old).count < 18446744073709551615 }
     ensures shown { HelpedThenExplains (texts words.now) (world (F.holds files.old) (R.remaining input.old) (F.failed files.old) (F.failed files.new))
         result (O.contents out.old) (O.contents out.new) (E.contents err.old) (E.contents err.new) }
-    ensures most { TakesAtMost MAX_READ (R.remaining input.old) (R.remaining input.new) }
+    ensures untouched { input.new ≡ input.old }
 {
     match read_check(system.alloc, words) {
         Ok(order) => match check_by_helpers(system.rt, system.alloc, &order, files, input) {

@@ -1,13 +1,11 @@
 //! The command `check` by helpers. The certificate's text is kept: its hints come first, then the
 //! check.
 
-ghost use Rattle.std.specs.Prelude.{◌<◌, ◌≤◌, IfOk, IfErr, Some};
+ghost use Rattle.std.specs.Prelude.{◌≡◌, ◌<◌, ◌≤◌, IfOk, IfErr, Some};
 ghost use Rattle.cilk_checker.specs.Judging.{meant};
 ghost use Rattle.cilk_commands.specs.Replies.{answer_view, failure_view};
 ghost use Rattle.cilk_commands.specs.Serving.{world};
 ghost use Rattle.cilk_commands.specs.Shown.{CheckShows};
-ghost use Rattle.cilk_commands.specs.Streams.{TakesAtMost};
-ghost use Rattle.cilk_commands.specs.declared.streams.TheConstants.{MAX_READ};
 ghost use Rattle.cilk_messages.specs.CheckWords.{check_view};
 ghost use Rattle.cilk_tool.specs.Helped.{Answers};
 
@@ -61,7 +59,6 @@ fn checked<'a, H: Threads + Sync, F: Files>(
 /// Checks the certificate of a program's run on an input by helpers. The program is read and judged
 /// first, then its input, then the whole certificate. A single helper checks as `check` does, a part of the
 /// file at a time, without a thread.
-#[tactic(auto, using(cilk_commands::proofs::Reading::takes_same))]
 pub fn check_by_helpers<'a, H: Threads + Sync, F: Files, R: Read>(
     rt: &H,
     alloc: Global,
@@ -74,7 +71,7 @@ pub fn check_by_helpers<'a, H: Threads + Sync, F: Files, R: Read>(
         (Some (check_view order.now)) (answer_view a)) }
     ensures failure { IfErr result (λ e. Answers (world (F.holds files.old) (R.remaining reader.old) (F.failed files.old) (F.failed files.new))
         (Some (check_view order.now)) (failure_view e)) }
-    ensures most { TakesAtMost MAX_READ (R.remaining reader.old) (R.remaining reader.new) }
+    ensures untouched { reader.new ≡ reader.old }
 {
     if order.helpers < 2 {
         return carry_out(alloc, order.alone(), files, reader);

@@ -6,8 +6,6 @@ ghost use Rattle.cilk_commands.specs.Replies as replies;
 ghost use Rattle.cilk_commands.specs.Replies.{failure_view};
 ghost use Rattle.cilk_commands.specs.Serving.{world};
 ghost use Rattle.cilk_commands.specs.Shown.{CheckShows};
-ghost use Rattle.cilk_commands.specs.Streams.{TakesAtMost};
-ghost use Rattle.cilk_commands.specs.declared.streams.TheConstants.{MAX_READ};
 ghost use Rattle.cilk_tool.specs.Endings.{AreNotGiven, IsVerdict, StaysBeside, ending_view};
 ghost use Rattle.cilk_tool.specs.Serving.{Answers};
 ghost use Rattle.cilk_tool.specs.Shown.{AcceptedShow, GivesNumbers, RunShows, ThreadsShow};
@@ -176,7 +174,6 @@ fn judged<'a, H: Threads + Wait + Sync, G: Gate + Sync, F: Files>(
 
 /// Carries out an order of `threads`. The program is read and judged first, then its input, then
 /// the certificate, then the input of `--on`. The gate is called as each strand of a run begins.
-#[tactic(auto, using(cilk_commands::proofs::Reading::takes_same))]
 pub fn carry_out<'a, H: Threads + Wait + Sync, G: Gate + Sync, F: Files, R: Read>(
     rt: &H,
     alloc: Global,
@@ -190,7 +187,7 @@ pub fn carry_out<'a, H: Threads + Wait + Sync, G: Gate + Sync, F: Files, R: Read
         (Some (order_view order.now)) (ending_view e)) }
     ensures failure { IfErr result (λ e. Answers (world (F.holds files.old) (R.remaining reader.old) (F.failed files.old) (F.failed files.new))
         (Some (order_view order.now)) (failure_view e)) }
-    ensures most { TakesAtMost MAX_READ (R.remaining reader.old) (R.remaining reader.new) }
+    ensures untouched { reader.new ≡ reader.old }
 {
     let (program, input) = given(
         alloc,

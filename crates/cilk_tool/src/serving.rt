@@ -1,6 +1,6 @@
 //! From a command line to its reply.
 
-ghost use Rattle.std.specs.Prelude.{◌≡◌, ◌<◌, ◌++◌, IfOk, None, OnOk, flat_map, length};
+ghost use Rattle.std.specs.Prelude.{◌≡◌, ◌≢◌, ◌<◌, ◌++◌, [], IfOk, None, OnOk, flat_map, length};
 ghost use Rattle.cilk_messages.specs.Asked.{unflagged};
 ghost use Rattle.cilk_commands.specs.Replies.{Refused, Reply, failure_view, place_text, refused_line};
 ghost use Rattle.cilk_commands.specs.Serving.{IsOrNoMemory, Shows, WordsFail};
@@ -49,7 +49,8 @@ pub struct System<'a, H> {
 /// Serves the words after the program's name and returns the exit status. `threads` runs an
 /// accepted program by workers on threads, and `check` with `--helpers` checks a certificate by
 /// helpers on threads. Both wait for their threads. Other command lines are served by
-/// [`cilk_report::serve_explained`].
+/// [`cilk_report::serve_explained`]. Standard input is read only if there are no words but those
+/// that add a text.
 #[tactic(auto, using(cilk_commands::proofs::Reading::takes_same))]
 pub fn serve<H: Threads + Wait + Clock + Sync, F: Keeps, R: Read, O: Write, E: Write>(
     rt: &H,
@@ -63,6 +64,7 @@ pub fn serve<H: Threads + Wait + Clock + Sync, F: Keeps, R: Read, O: Write, E: W
     requires { (F.failed files.old).count < 18446744073709551615 }
     ensures shown { ServesParallel (texts words.now) (F.holds files.old) (R.remaining input.old) (F.failed files.old) (F.failed files.new)
         result (O.contents out.old) (O.contents out.new) (E.contents err.old) (E.contents err.new) }
+    ensures untouched { unflagged (texts words.now) ≢ [] → input.new ≡ input.old }
     ensures most { TakesAtMost MAX_READ (R.remaining input.old) (R.remaining input.new) }
 {
     if is_threads(words) {
@@ -85,7 +87,6 @@ fn is_threads(words: &[&str]) -> bool
 }
 
 /// Serves `threads`.
-#[tactic(auto, using(cilk_commands::proofs::Reading::takes_same))]
 fn serve_threads<H: Threads + Wait + Clock + Sync, F: Keeps, R: Read, O: Write, E: Write>(
     rt: &H,
     alloc: Global,
@@ -101,7 +102,7 @@ fn serve_threads<H: Threads + Wait + Clock + Sync, F: Keeps, R: Read, O: Write, 
     ensures explained { order_in (texts words.now) ≡ None → length (unflagged (texts words.now)) < length (texts words.now)
         → ThreadsThenExplains (unflagged (texts words.now)) (F.holds files.old) (R.remaining input.old) (F.failed files.old) (F.failed files.new)
         result (O.contents out.old) (O.contents out.new) (E.contents err.old) (E.contents err.new) }
-    ensures most { TakesAtMost MAX_READ (R.remaining input.old) (R.remaining input.new) }
+    ensures untouched { input.new ≡ input.old }
 {
     match read(alloc, words) {
         Ok(order) => match carry_out(rt, alloc, &order, &Open, files, input) {
@@ -118,7 +119,6 @@ fn serve_threads<H: Threads + Wait + Clock + Sync, F: Keeps, R: Read, O: Write, 
 
 /// Serves a command line that can't be read as it is. If `--explain` or `--stats` is among the words,
 /// the others are served.
-#[tactic(auto, using(cilk_commands::proofs::Reading::takes_same))]
 fn serve_unread<H: Threads + Wait + Clock + Sync, F: Keeps, R: Read, O: Write, E: Write>(
     system: &System<'_, H>,
     words: &[&str],
@@ -135,7 +135,7 @@ fn serve_unread<H: Threads + Wait + Clock + Sync, F: Keeps, R: Read, O: Write, E
     ensures explained { length (unflagged (texts words.now)) < length (texts words.now)
         → ThreadsThenExplains (unflagged (texts words.now)) (F.holds files.old) (R.remaining input.old) (F.failed files.old) (F.failed files.new)
         result (O.contents out.old) (O.contents out.new) (E.contents err.old) (E.contents err.new) }
-    ensures most { TakesAtMost MAX_READ (R.remaining input.old) (R.remaining input.new) }
+    ensures untouched { input.new ≡ input.old }
 {
     match unflagged(system.alloc, words) {
         Ok(plain) if plain.len() < words.len() => {
@@ -147,7 +147,6 @@ fn serve_unread<H: Threads + Wait + Clock + Sync, F: Keeps, R: Read, O: Write, E
 }
 
 /// Serves `threads` by the words without those that add a text, then adds it.
-#[tactic(auto, using(cilk_commands::proofs::Reading::takes_same))]
 fn serve_flagged<H: Threads + Wait + Clock + Sync, F: Keeps, R: Read, O: Write, E: Write>(
     system: &System<'_, H>,
     words: &[&str],
@@ -160,7 +159,7 @@ fn serve_flagged<H: Threads + Wait + Clock + Sync, F: Keeps, R: Read, O: Write, 
     requires { (F.failed files.old).count < 18446744073709551615 }
     ensures shown { ThreadsThenExplains (texts plain.now) (F.holds files.old) (R.remaining input.old) (F.failed files.old) (F.failed files.new)
         result (O.contents out.old) (O.contents out.new) (E.contents err.old) (E.contents err.new) }
-    ensures most { TakesAtMost MAX_READ (R.remaining input.old) (R.remaining input.new) }
+    ensures untouched { input.new ≡ input.old }
 {
     if !asks(words, "--stats") {
         return serve_watched(system, plain, &Open, files, input, out, err);
@@ -172,7 +171,6 @@ fn serve_flagged<H: Threads + Wait + Clock + Sync, F: Keeps, R: Read, O: Write, 
 }
 
 /// Serves `threads`, then adds what is known of the run.
-#[tactic(auto, using(cilk_commands::proofs::Reading::takes_same))]
 fn serve_watched<H: Threads + Wait + Sync, W: Watch, F: Keeps, R: Read, O: Write, E: Write>(
     system: &System<'_, H>,
     words: &[&str],
@@ -185,7 +183,7 @@ fn serve_watched<H: Threads + Wait + Sync, W: Watch, F: Keeps, R: Read, O: Write
     requires { (F.failed files.old).count < 18446744073709551615 }
     ensures shown { ThreadsThenExplains (texts words.now) (F.holds files.old) (R.remaining input.old) (F.failed files.old) (F.failed files.new)
         result (O.contents out.old) (O.contents out.new) (E.contents err.old) (E.contents err.new) }
-    ensures most { TakesAtMost MAX_READ (R.remaining input.old) (R.remaining input.new) }
+    ensures untouched { input.new ≡ input.old }
 {
     match read(system.alloc, words) {
         Ok(order) => match carry_out(system.rt, system.alloc, &order, watch, files, input) {

@@ -1,5 +1,6 @@
-use Rattle.std.proofs.Common.{List, ap, subst, ◌∙◌}
+use Rattle.std.proofs.Common.{List, ap, subst, sym, ◌∙◌}
 use Rattle.cilk_report.proofs.Replies.{silence, starved}
+use Rattle.cilk_report.proofs.Standard.{some_check, some_words}
 use Rattle.cilk_report.specs.Explained.{Checked, Schedules}
 use Rattle.cilk_commands.specs.Replies.{Text}
 use Rattle.cilk_messages.specs.Words.{texts}
@@ -18,3 +19,7 @@ returns-in-Err-clause-shown g c = Checked (
   starved _ _ _ _ _ _ _ c.complain.ensures,
   silence _ _,
 )
+
+pub returns-in-Ok-clause-untouched : goal.returns-in-Ok-clause-untouched
+returns-in-Ok-clause-untouched g c =
+    c.serve_checked.ensures.untouched (some_words _ (λ none. some_check (texts c.args.words.now) (sym (ap texts c.as_slice.ensures.value ∙ c.in-Ok.ensures) ∙ none)))

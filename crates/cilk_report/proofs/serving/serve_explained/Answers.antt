@@ -3,6 +3,7 @@ use Rattle.std.proofs.lemmas.Bool.{true≢false}
 use Rattle.cilk_report.proofs.Batches as batches
 use Rattle.cilk_report.proofs.Measuring as measuring
 use Rattle.cilk_report.proofs.Replies.{IsUsage, of_kept, other, silence, starved, starved_or_settled, unasked, yes}
+use Rattle.cilk_report.proofs.Standard.{some_left, some_words}
 use Rattle.cilk_report.specs.Explained.{Checked, Measures, Schedules, Served, ServesExplained, ServesThenExplains, Settles, Settling}
 use Rattle.cilk_messages.specs.Asked.{explains_itself, unflagged, words_of_check}
 use Rattle.cilk_messages.specs.Words.{texts}
@@ -124,3 +125,9 @@ returns-in-Err-Usage-clause-settles g c = λ _ isnt other held.
 
 pub returns-in-Err-Memory-clause-settles : goal.returns-in-Err-Memory-clause-settles
 returns-in-Err-Memory-clause-settles g c = λ _ _ _ _. batches.starved _ _ _ _ _ _ _ _ _ _ c.complain.ensures
+
+pub returns-in-Ok-clause-untouched : goal.returns-in-Ok-clause-untouched
+returns-in-Ok-clause-untouched g c = λ some. c.serve_flagged.ensures.untouched (some_words _ (some_left _ some))
+
+pub returns-in-Ok-2-clause-untouched : goal.returns-in-Ok-2-clause-untouched
+returns-in-Ok-2-clause-untouched g c = λ some. c.serve.ensures.untouched (some_words _ (some_left _ some))

@@ -1,5 +1,8 @@
-use Rattle.std.proofs.Common.{sym, ◌∙◌}
+use Rattle.std.proofs.Common.{ℕ, List, Option, ap, subst, sym, ◌∙◌}
 use Rattle.std.proofs.lemmas.Bool.{true≢false}
+use Rattle.cilk_commands.proofs.Reading.{takes_same}
+use Rattle.cilk_commands.specs.Streams.{TakesAtMost}
+use Rattle.cilk_commands.specs.declared.streams.TheConstants.{MAX_READ}
 use Rattle.cilk_report.specs.Explained.{Measuring}
 use Rattle.cilk_report.proofs.serving.serve_other.Goals as goal
 
@@ -36,3 +39,8 @@ returns-then-is_measure-clause-settles g c =
 
 pub returns-else-is_measure-clause-settles : goal.returns-else-is_measure-clause-settles
 returns-else-is_measure-clause-settles g c = λ _. c.serve_unmeasured.ensures.settles
+
+pub returns-then-is_measure-clause-most : goal.returns-then-is_measure-clause-most
+returns-then-is_measure-clause-most g c =
+    subst (λ (o : Option (List ℕ)). TakesAtMost MAX_READ (g.R.Read.remaining c.args.input.now) o) (sym (ap g.R.Read.remaining c.serve_measure.ensures.untouched))
+    (takes_same MAX_READ (g.R.Read.remaining c.args.input.now))

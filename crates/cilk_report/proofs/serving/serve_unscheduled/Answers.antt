@@ -2,6 +2,7 @@ use Rattle.std.proofs.Common.{◌≡◌, ◌<◌, ◌≤◌, List, ap, length, r
 use Rattle.std.proofs.lemmas.Bool.{true≢false}
 use Rattle.cilk_messages.proofs.Plain.{as_many, fewer}
 use Rattle.cilk_report.proofs.Replies.{refused, silence, starved}
+use Rattle.cilk_report.proofs.Standard.{some_words}
 use Rattle.cilk_report.specs.Explained.{About, Explained, Served, ServesThenExplains}
 use Rattle.cilk_messages.specs.Asked.{explains_itself, unflagged}
 use Rattle.cilk_commands.specs.Replies.{Text}
@@ -75,3 +76,7 @@ returns-in-Err-clause-explained g c = λ _ _. (
   starved _ _ _ _ _ _ _ c.complain-in-Err.ensures,
   silence _ _,
 )
+
+pub returns-in-Ok-clause-untouched : goal.returns-in-Ok-clause-untouched
+returns-in-Ok-clause-untouched g c = λ some.
+    c.serve_flagged.ensures.untouched (some_words _ (λ none. some (sym (ap texts c.as_slice.ensures.value ∙ c.in-Ok.ensures) ∙ none)))
