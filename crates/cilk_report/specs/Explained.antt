@@ -1,7 +1,9 @@
 -- The replies of `serve_explained` to command lines that `serve` doesn't have, and its
 -- explanations.
-use Rattle.std.specs.Prelude.{◌≡◌, ◌⊎◌, ◌<◌, ℕ, Bool, true, false, List, [], ◌∷◌, length, Option, Some, None, codes}
+use Rattle.std.specs.Prelude.{◌≡◌, ◌⊎◌, ◌<◌, ℕ, Bool, true, false, List, [], ◌∷◌, length, Option, Some, None, Result, Ok, Err, String, codes, string_bytes}
 use Rattle.std.specs.Io.KnownBytes.{Appends}
+use Rattle.cilk_findings.specs.declared.fault.CaseFault.{CaseFault}
+use Rattle.cilk_findings.specs.declared.fault.CaseFault.TheVariants as faults
 use Rattle.cilk_profile.specs.declared.totals.Totals.{Totals}
 use Rattle.cilk_commands.specs.Files.{Failures}
 use Rattle.cilk_commands.specs.Replies.{BadTrace, Ended, NoMemory, Refused, Reply, Text, line, status_of}
@@ -30,6 +32,16 @@ IsReadAgain _ _ = ⊥
 -- some text follows the old one, all of it or a beginning
 abbrev pub ComesBehind : Option Text → Option Text → Type 0
 ComesBehind old new = (text : Text) × (is_whole : Bool) × AppendsFront is_whole old new text
+
+-- the line in place of an explanation
+abbrev pub missing_line : CaseFault → Text
+missing_line faults.Memory = line (codes "explanation: no memory")
+missing_line faults.Unfit = line (codes "explanation: the texts aren't those of this answer")
+
+-- the explanation, or the line in its place
+abbrev pub explanation_text : {A : Type 0} → Result (String A) CaseFault → Text
+explanation_text (Ok text) = string_bytes text
+explanation_text (Err fault) = missing_line fault
 
 -- some text follows a reply with this status, but none follows a reply that is out of memory
 abbrev pub Follows : ℕ → Option Text → Option Text → Type 0

@@ -1,13 +1,14 @@
 //! From a command line to its reply and explanation.
 
-ghost use Rattle.std.specs.Prelude.{◌≡◌, ◌≢◌, ◌<◌, [], None, Some, false, length, option_map, true};
-ghost use Rattle.cilk_report.specs.Explained.{ComesBehind, Follows, IsReadAgain, Measures, Schedules, ServesExplained, ServesThenExplains, Settles, WritesText};
+ghost use Rattle.std.specs.Prelude.{◌≡◌, ◌≢◌, ◌<◌, [], Bool, IsTrue, None, Some, false, length, option_map, true};
+ghost use Rattle.cilk_report.specs.Explained.{Follows, IsReadAgain, Measures, Schedules, ServesExplained, ServesThenExplains, Settles, WritesText, explanation_text, missing_line};
 ghost use Rattle.cilk_messages.specs.Asked.{explains_itself, is_measure, is_schedule, measured_run, unflagged, words_of_check, words_of_run};
 ghost use Rattle.cilk_messages.specs.About.{is_about};
 ghost use Rattle.cilk_messages.specs.Batches.{is_settling};
 ghost use Rattle.cilk_commands.specs.Replies.{answer_view, failure_view};
 ghost use Rattle.cilk_commands.specs.Serving.{ReadsStandard, WordsFail};
-ghost use Rattle.cilk_commands.specs.Streams.{TakesAtMost};
+ghost use Rattle.cilk_commands.specs.Streams.{AppendsFront, TakesAtMost};
+ghost use Rattle.cilk_commands.specs.declared.reply.TheConstants.{NO_MEMORY};
 ghost use Rattle.cilk_commands.specs.declared.streams.TheConstants.{MAX_READ};
 ghost use Rattle.cilk_messages.specs.Words.{order_in, order_view, origin_view, texts};
 
@@ -399,6 +400,8 @@ fn show_measured<F: Keeps, R: Read, O: Write, E: Write>(
 /// failed or if the reply was out of memory. Returns the reply's status.
 pub fn follow<E: Write>(served: Served, text: Result<String, CaseFault>, err: &mut E) -> u8
     ensures status { result ≡ served.status }
+    ensures explains { IsTrue served.told → served.status ≢ NO_MEMORY
+        → (is_whole : Bool) × AppendsFront is_whole (E.contents err.old) (E.contents err.new) (explanation_text text) }
     ensures follows { Follows result (E.contents err.old) (E.contents err.new) }
 {
     if served.told {
@@ -411,7 +414,7 @@ pub fn follow<E: Write>(served: Served, text: Result<String, CaseFault>, err: &m
 
 /// Writes an explanation, or a line why there is none.
 fn explain<E: Write>(text: Result<String, CaseFault>, err: &mut E)
-    ensures { ComesBehind (E.contents err.old) (E.contents err.new) }
+    ensures { (is_whole : Bool) × AppendsFront is_whole (E.contents err.old) (E.contents err.new) (explanation_text text) }
 {
     let _ = match text {
         Ok(text) => tell(err, text.as_bytes()),
@@ -420,7 +423,9 @@ fn explain<E: Write>(text: Result<String, CaseFault>, err: &mut E)
 }
 
 // The line in place of an explanation.
-pub(crate) fn missing(fault: CaseFault) -> &'static str {
+pub(crate) fn missing(fault: CaseFault) -> &'static str
+    ensures { result.now ≡ missing_line fault }
+{
     match fault {
         CaseFault::Memory => "explanation: no memory\n",
         CaseFault::Unfit => "explanation: the texts aren't those of this answer\n",
