@@ -10,6 +10,10 @@ use Rattle.cilk_commands.specs.Replies.{BadTrace, Ended, NoMemory, Refused, Repl
 use Rattle.cilk_commands.specs.Serving.{Answers, RunReply, Serves, ShowsError, WordsFail, world}
 use Rattle.cilk_commands.specs.Streams.{AppendsFront, AppendsPart}
 use Rattle.cilk_commands.specs.declared.reply.TheConstants.{NO_MEMORY}
+use Rattle.cilk_parser.specs.Scripts.{IsScript}
+use Rattle.cilk_parser.specs.declared.script.LineOrder.{LineOrder}
+use Rattle.cilk_parser.specs.declared.script.LineOrder.TheVariants.{Steal}
+use Rattle.cilk_parser.specs.declared.script.Step.{Step}
 use Rattle.cilk_messages.specs.About.{is_about}
 use Rattle.cilk_messages.specs.Asked.{explains_itself, is_measure, is_schedule, measured_run, unflagged, words_of_check}
 use Rattle.cilk_messages.specs.Batches.{Batch, batch_in, is_settling}
@@ -116,11 +120,26 @@ abbrev pub IsRefusal : Reply → Type 0
 IsRefusal (Refused number places) = Unit {0}
 IsRefusal _ = ⊥
 
+-- an order to steal
+abbrev pub is_steal : LineOrder → Bool
+is_steal (Steal worker place) = true
+is_steal _ = false
+
+-- the second step is a steal
+abbrev pub steals : List Step → Bool
+steals [] = false
+steals (first ∷ []) = false
+steals (first ∷ second ∷ steps) = is_steal second.order
+
+-- the text is a script, and its second step is a steal
+abbrev pub IsStealingScript : Text → Type 0
+IsStealingScript script = (steps : List Step) × IsScript script steps × (steals steps ≡ true)
+
 -- the replies of `schedule`, by the words of the check
 pub data Schedules (words : List Text) (files : Text → Option Text) (input : Option Text) (failed failed' : Failures)
     (status : ℕ) (out out' err err' : Option Text) : Type 0 where
-  -- the certificate is refused, and a script is shown
-  Told : (r : Reply) (script : Text) → Answers (world files input failed failed') (order_in words) r → IsRefusal r
+  -- the certificate is refused, and a script with a steal is shown
+  Told : (r : Reply) (script : Text) → Answers (world files input failed failed') (order_in words) r → IsRefusal r → IsStealingScript script
       → WritesText script status out out' err err' → Schedules words files input failed failed' status out out' err err'
   -- the reply of `check`, then a text
   Checked : ServesThenExplains words files input failed failed' status out out' err err'

@@ -1,8 +1,9 @@
 //! The command `schedule`: a script for `play` that shows a race.
 
 ghost use Rattle.std.specs.Prelude.{◌≡◌, ◌<◌, IfOk, IfSome};
+ghost use Rattle.std.specs.String.{string_bytes};
 ghost use Rattle.cilk_messages.specs.Asked.{words_of_check};
-ghost use Rattle.cilk_report.specs.Explained.{IsRefusal, Schedules};
+ghost use Rattle.cilk_report.specs.Explained.{IsRefusal, IsStealingScript, Schedules, steals};
 ghost use Rattle.cilk_commands.specs.Replies.{answer_view};
 ghost use Rattle.cilk_commands.specs.Serving.{ReadsStandard};
 ghost use Rattle.cilk_messages.specs.Words.{order_in, texts};
@@ -16,6 +17,7 @@ use cilk_commands::{carry_out, complain, show};
 use cilk_findings::fault::CaseFault;
 use cilk_messages::asked::{asks, check_words};
 use cilk_messages::words::{Order, WordsFault, read};
+use cilk_parser::script::{LineOrder, ScriptFault, Step, read as read_script};
 use cilk_profile::Kept;
 use cilk_races::races::script_of_race;
 use std::alloc::{AllocError, Global};
@@ -97,7 +99,7 @@ fn script_of(
     answer: &Answer,
     kept: &Kept,
 ) -> Result<Option<String>, CaseFault>
-    ensures { IfOk result (λ script. IfSome script (λ _. IsRefusal (answer_view answer.now))) }
+    ensures { IfOk result (λ script. IfSome script (λ text. IsRefusal (answer_view answer.now) × IsStealingScript (string_bytes text))) }
 {
     let Answer::Refused(refusal) = answer else {
         return Ok(None);
@@ -109,12 +111,37 @@ fn script_of(
         return Err(CaseFault::Unfit);
     };
     let case = texts.case(alloc)?;
-    script_of_race(
+    let script = script_of_race(
         &case,
         refusal.number(),
         u64::from(earlier),
         u64::from(later),
-    )
+    )?;
+    readable(alloc, script)
+}
+
+// The same script, if `play` can read it and its second step is a steal.
+fn readable(alloc: Global, script: Option<String>) -> Result<Option<String>, CaseFault>
+    ensures { IfOk result (λ script. IfSome script (λ text. IsStealingScript (string_bytes text))) }
+{
+    let Some(text) = script else {
+        return Ok(None);
+    };
+    match read_script(alloc, text.as_bytes()) {
+        Ok(steps) if steals(steps.as_slice()) => Ok(Some(text)),
+        Ok(_) | Err(ScriptFault::Line(_)) => Ok(None),
+        Err(ScriptFault::Memory) => Err(CaseFault::Memory),
+    }
+}
+
+/// Returns whether the second step is a steal.
+fn steals(steps: &[Step]) -> bool
+    ensures { result ≡ steals steps.now }
+{
+    match steps {
+        [_, second, ..] => matches!(second.order, LineOrder::Steal { .. }),
+        _ => false,
+    }
 }
 
 // The explanation of a refusal, if requested, and a hint that there is no script.

@@ -1,14 +1,18 @@
 use Rattle.std.proofs.Common.{subst, sym}
 use Rattle.cilk_report.proofs.Replies.{IsUsage, asked_for, ended, failed, refused, silence, starved, unasked}
-use Rattle.cilk_report.specs.Explained.{Checked, Told}
+use Rattle.std.specs.String.{string_bytes}
+use Rattle.cilk_report.specs.Explained.{Checked, IsRefusal, IsStealingScript, Told}
 use Rattle.cilk_commands.specs.Replies.{answer_view}
 use Rattle.cilk_messages.specs.declared.words.WordsFault.{WordsFault}
 use Rattle.cilk_report.proofs.scheduling.serve_checked.Goals as goal
 
 pub returns-in-Ok-Some-clause-shown : goal.returns-in-Ok-Some-clause-shown
 returns-in-Ok-Some-clause-shown g c =
+    let found : IsRefusal (answer_view c.in-Ok-carry_out.answer) × IsStealingScript (string_bytes c.in-Ok-Some.script) =
+    rw c.in-Ok-Some.field-0-is at c.in-Ok-Some.ensures in
     Told (answer_view c.in-Ok-carry_out.answer) c.as_bytes.result.now
-    (asked_for _ _ _ _ c.in-Ok.ensures.order c.in-Ok-carry_out.ensures.answer) (rw c.in-Ok-Some.field-0-is at c.in-Ok-Some.ensures) c.tell_text.ensures
+    (asked_for _ _ _ _ c.in-Ok.ensures.order c.in-Ok-carry_out.ensures.answer) found.0 (subst IsStealingScript (sym c.as_bytes.ensures.value) found.1)
+    c.tell_text.ensures
 
 pub returns-in-Ok-None-clause-shown : goal.returns-in-Ok-None-clause-shown
 returns-in-Ok-None-clause-shown g c = Checked (
