@@ -1,5 +1,8 @@
 //! Copies of what was read, and a program with its input among them.
 
+ghost use Rattle.std.specs.Prelude.{◌≡◌, [], IfOk, IfSome, Some, option_map};
+ghost use Rattle.cilk_findings.specs.Keeping.{AddsCopy, AreCopies, IsCopy, KeepsCopies, copies_in};
+
 use crate::case::Case;
 use crate::fault::CaseFault;
 use cilk_messages::words::Origin;
@@ -22,7 +25,9 @@ pub struct Kept {
 
 impl Kept {
     /// Begins without copies.
-    pub fn new(alloc: Global, has_colors: bool) -> Kept {
+    pub fn new(alloc: Global, has_colors: bool) -> Kept
+        ensures { copies_in result ≡ Some [] }
+    {
         Kept {
             has_colors,
             texts: Vec::new(alloc),
@@ -32,26 +37,34 @@ impl Kept {
     }
 
     /// Forgets all copies.
-    pub fn clear(&mut self) {
+    pub fn clear(&mut self)
+        ensures { copies_in self.new ≡ Some [] }
+    {
         self.texts.clear();
         self.front.clear();
         self.lacks = false;
     }
 
     /// Adds a copy of a text that was read whole.
-    pub fn add(&mut self, alloc: Global, text: &[u8]) {
+    pub fn add(&mut self, alloc: Global, text: &[u8])
+        ensures { AddsCopy self.old self.new text.now }
+    {
         if self.copy(alloc, text).is_err() {
             self.lacks = true;
         }
     }
 
-    fn copy(&mut self, alloc: Global, text: &[u8]) -> Result<(), AllocError> {
+    fn copy(&mut self, alloc: Global, text: &[u8]) -> Result<(), AllocError>
+        ensures { IfOk result (λ _. AddsCopy self.old self.new text.now) }
+    {
         self.texts.push(text.to_vec(alloc)?)?;
         Ok(())
     }
 
     /// Keeps what belongs to the front of a part that begins at byte `at`.
-    pub fn add_part(&mut self, at: u64, part: &[u8]) {
+    pub fn add_part(&mut self, at: u64, part: &[u8])
+        ensures { KeepsCopies self.old self.new }
+    {
         let length = self.front.len();
         if at != length as u64 {
             return;
@@ -69,7 +82,9 @@ impl Kept {
 
     /// Returns a text by the order of reading, from 0. Fails if it wasn't read, or if there was no
     /// memory for a copy.
-    pub fn text(&self, number: usize) -> Result<&[u8], CaseFault> {
+    pub fn text(&self, number: usize) -> Result<&[u8], CaseFault>
+        ensures { IfOk result (λ text. IsCopy self.now number text.now) }
+    {
         match self.texts.get(number) {
             _ if self.lacks => Err(CaseFault::Memory),
             Some(text) => Ok(text.as_slice()),
@@ -111,7 +126,9 @@ impl<'a> CaseTexts<'a> {
         program: Origin<'a>,
         input: Option<&str>,
         kept: &'a Kept,
-    ) -> Result<Option<CaseTexts<'a>>, CaseFault> {
+    ) -> Result<Option<CaseTexts<'a>>, CaseFault>
+        ensures { IfOk result (λ texts. IfSome texts (λ t. AreCopies kept.entry.now (option_map (λ p. p.now) input.entry) t.program.now t.input.now)) }
+    {
         let Origin::File(file) = program else {
             return Ok(None);
         };

@@ -1,6 +1,9 @@
 //! Files with copies of what was read, so that an explanation is about the texts that were judged.
 
-ghost use Rattle.std.specs.Prelude.{◌≡◌};
+ghost use Rattle.std.specs.Prelude.{◌≡◌, ◌+◌, ◌<◌, ◌≤◌, ℕ, [], Err, IfErr, IfOk, IsFalse, IsTrue, List, OnOk, Some, length};
+ghost use Rattle.cilk_commands.specs.Files.{EndsAt, IsHeld, IsPart};
+ghost use Rattle.cilk_commands.specs.declared.disk.TheConstants.{MAX_FILE};
+ghost use Rattle.cilk_findings.specs.Keeping.{AddsCopy, KeepsCopies, copies_in};
 
 use cilk_commands::files::{FileFault, Files};
 use cilk_profile::Kept;
@@ -28,7 +31,8 @@ pub struct KeptFiles<F> {
 impl<F: Files> KeptFiles<F> {
     /// Wraps files. No copies are kept yet. Explanations have colours on request.
     pub fn new(alloc: Global, files: F, has_colors: bool) -> Self
-        ensures { result.files ≡ files }
+        ensures files { result.files ≡ files }
+        ensures none { IsFalse result.keeps }
     {
         KeptFiles {
             files,
@@ -43,7 +47,17 @@ impl<F: Files> Files for KeptFiles<F> {
 
     ghost holds = { λ k. F.holds k.files };
 
-    fn read(&mut self, alloc: Global, path: &str) -> Result<Vec<u8>, FileFault> {
+    fn read(&mut self, alloc: Global, path: &str) -> Result<Vec<u8>, FileFault>
+        requires { (F.failed self.old.files).count < 18446744073709551615 }
+        ensures held { IfOk result (λ bytes. IsHeld (F.holds self.old.files path.now) bytes.items) }
+        ensures counted { result ≡ Err FileFault.Device → (F.failed self.old.files).count < (F.failed self.new.files).count }
+        ensures uncounted { OnOk result (F.failed self.new.files ≡ F.failed self.old.files) }
+        ensures elsewhere { (F.failed self.new.files).elsewhere path.now ≡ (F.failed self.old.files).elsewhere path.now }
+        ensures same { (p : List ℕ) → F.holds self.new.files p ≡ F.holds self.old.files p }
+        ensures keeps { self.new.keeps ≡ self.old.keeps }
+        ensures copied { IfOk result (λ bytes. IsTrue self.old.keeps → AddsCopy self.old.kept self.new.kept bytes.items) }
+        ensures unread { IfErr result (λ _. self.new.kept ≡ self.old.kept) }
+    {
         match self.files.read(alloc, path) {
             Ok(text) => {
                 if self.keeps {
@@ -55,7 +69,19 @@ impl<F: Files> Files for KeptFiles<F> {
         }
     }
 
-    fn part(&mut self, path: &str, at: u64, into: &mut [u8]) -> Result<usize, FileFault> {
+    fn part(&mut self, path: &str, at: u64, into: &mut [u8]) -> Result<usize, FileFault>
+        requires { (F.failed self.old.files).count < 18446744073709551615 }
+        ensures within { IfOk result (λ n. n ≤ length into.old) }
+        ensures small { IfOk result (λ n. at + n ≤ MAX_FILE) }
+        ensures held { IfOk result (λ n. IsPart (F.holds self.old.files path.now) at n into.new) }
+        ensures last { IfOk result (λ n. n ≡ 0 → 0 < length into.old → EndsAt (F.holds self.old.files path.now) at) }
+        ensures counted { result ≡ Err FileFault.Device → (F.failed self.old.files).count < (F.failed self.new.files).count }
+        ensures uncounted { OnOk result (F.failed self.new.files ≡ F.failed self.old.files) }
+        ensures elsewhere { (F.failed self.new.files).elsewhere path.now ≡ (F.failed self.old.files).elsewhere path.now }
+        ensures same { (p : List ℕ) → F.holds self.new.files p ≡ F.holds self.old.files p }
+        ensures keeps { self.new.keeps ≡ self.old.keeps }
+        ensures copied { KeepsCopies self.old.kept self.new.kept }
+    {
         match self.files.part(path, at, into) {
             Ok(count) => {
                 if self.keeps {
@@ -73,12 +99,19 @@ impl<F: Files> Files for KeptFiles<F> {
 }
 
 impl<F: Files> Keeps for KeptFiles<F> {
-    fn keep(&mut self) {
+    fn keep(&mut self)
+        ensures failures { F.failed self.new.files ≡ F.failed self.old.files }
+        ensures same { F.holds self.new.files ≡ F.holds self.old.files }
+        ensures keeps { IsTrue self.new.keeps }
+        ensures copied { copies_in self.new.kept ≡ Some [] }
+    {
         self.kept.clear();
         self.keeps = true;
     }
 
-    fn kept(&self) -> &Kept {
+    fn kept(&self) -> &Kept
+        ensures { result.now ≡ self.now.kept }
+    {
         &self.kept
     }
 }
