@@ -47,7 +47,7 @@ def made(source):
     """The two texts, of the lines `Usage: cilk COMMAND .. [--OPTION ..]`."""
     usages = dict(re.findall(r"\nUsage: cilk ([a-z]+) ([^\n]*)\n", source))
     usages_of_files = {name: text for name, text in usages.items() if re.match("PROGRAM|TRACE", text)}
-    options = {name: " ".join([*re.findall(r"--[a-z]+", text), "--help"]) for name, text in usages_of_files.items()}
+    options = {name: " ".join([*re.findall(r"--[a-z]+", text), "--color", "--help"]) for name, text in usages_of_files.items()}
     texts = {}
     for end, form, variable in (("bash", BASH, "words"), ("zsh", ZSH, "words_of")):
         cases = "\n".join(f'        *:{name}:*) {variable}="{words}" ;;' for name, words in options.items())

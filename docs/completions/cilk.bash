@@ -6,15 +6,15 @@ _cilk() {
         2:help:*) words="explain settle run certify check threads play schedule measure judge" files= ;;
         *:--input | *:--on | *:--sites) ;;
         *:--workers | *:--helpers | *:--why | *:explain:*) files= ;;
-        *:settle:*) words="--input --short --json --why --help" ;;
-        *:run:*) words="--input --explain --help" ;;
-        *:certify:*) words="--input --explain --help" ;;
-        *:check:*) words="--input --helpers --explain --help" ;;
-        *:threads:*) words="--workers --input --on --stats --explain --help" ;;
-        *:play:*) words="--workers --input --trace --explain --help" ;;
-        *:schedule:*) words="--input --explain --help" ;;
-        *:measure:*) words="--input --csv --svg --dot --explain --help" ;;
-        *:judge:*) words="--sites --explain --help" ;;
+        *:settle:*) words="--input --short --json --why --color --help" ;;
+        *:run:*) words="--input --explain --color --help" ;;
+        *:certify:*) words="--input --explain --color --help" ;;
+        *:check:*) words="--input --helpers --explain --color --help" ;;
+        *:threads:*) words="--workers --input --on --stats --explain --color --help" ;;
+        *:play:*) words="--workers --input --trace --explain --color --help" ;;
+        *:schedule:*) words="--input --explain --color --help" ;;
+        *:measure:*) words="--input --csv --svg --dot --explain --color --help" ;;
+        *:judge:*) words="--sites --explain --color --help" ;;
     esac
     [ -n "$files" ] && [ "${word#-}" = "$word" ] && words=
     mapfile -t COMPREPLY < <(compgen $files -W "$words" -- "$word")

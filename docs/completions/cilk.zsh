@@ -7,15 +7,15 @@ _cilk() {
         3:help:*) compadd -- explain settle run certify check threads play schedule measure judge; return ;;
         *:--input | *:--on | *:--sites) _files; return ;;
         *:--workers | *:--helpers | *:--why | *:explain:*) return ;;
-        *:settle:*) words_of="--input --short --json --why --help" ;;
-        *:run:*) words_of="--input --explain --help" ;;
-        *:certify:*) words_of="--input --explain --help" ;;
-        *:check:*) words_of="--input --helpers --explain --help" ;;
-        *:threads:*) words_of="--workers --input --on --stats --explain --help" ;;
-        *:play:*) words_of="--workers --input --trace --explain --help" ;;
-        *:schedule:*) words_of="--input --explain --help" ;;
-        *:measure:*) words_of="--input --csv --svg --dot --explain --help" ;;
-        *:judge:*) words_of="--sites --explain --help" ;;
+        *:settle:*) words_of="--input --short --json --why --color --help" ;;
+        *:run:*) words_of="--input --explain --color --help" ;;
+        *:certify:*) words_of="--input --explain --color --help" ;;
+        *:check:*) words_of="--input --helpers --explain --color --help" ;;
+        *:threads:*) words_of="--workers --input --on --stats --explain --color --help" ;;
+        *:play:*) words_of="--workers --input --trace --explain --color --help" ;;
+        *:schedule:*) words_of="--input --explain --color --help" ;;
+        *:measure:*) words_of="--input --csv --svg --dot --explain --color --help" ;;
+        *:judge:*) words_of="--sites --explain --color --help" ;;
     esac
     [[ $PREFIX == -* ]] && compadd -- ${=words_of} || _files
 }
