@@ -18,6 +18,7 @@
 //! |---|---|
 //! | [`play`] | Makes a list of choices and returns what the run shows. |
 //! | [`play_steps`] | Makes the choices of a script (`cilk_parser`) and returns the outcome. |
+//! | [`play_steps_on`] | The same on code that is there already. |
 //! | [`machine::Machine::choose`] | Makes one choice. |
 //! | [`showing::Shown`] | The events of each frame, joined children and the outcome, by paths. |
 //! | [`laws`], [`play_laws`] | A list of choices, and a script, has at most one end. |
@@ -50,4 +51,4 @@ mod thieves;
 pub use cilk_scheduler::choice::{Act, Choice, Stop, Strand, Told};
 pub use fault::PlayFault;
 pub use machine::{Machine, play};
-pub use player::play as play_steps;
+pub use player::{play as play_steps, play_on as play_steps_on};

@@ -3,11 +3,14 @@
 ghost use Rattle.std.specs.Prelude.{◌≡◌, ◌<◌, ℕ, ◌∷◌, [], IfOk, IfErr, OnOk};
 ghost use Rattle.cilk_schedule.specs.Playing.{Choose, ComesToFault, Ends, FailsAsSettled, IsFault, IsFaultOf, IsLeft, Leads, LeavesAsSettled};
 ghost use Rattle.cilk_schedule.specs.Playing.{Rounds, Turn, task_of, tasks_of, turns};
+ghost use Rattle.cilk_lower.specs.Behaves.{IsCodeOf};
 ghost use Rattle.cilk_program.specs.Sources.{source};
+ghost use Rattle.cilk_program.specs.Syntax.{Source};
 ghost use Rattle.cilk_schedule.specs.Played.{IsUnstopped};
 
 use crate::fault::PlayFault;
 use crate::machine::Machine;
+use cilk_lower::code::Code;
 use cilk_lower::lower::lower;
 use cilk_parser::script::Step;
 use cilk_parser::script_choices::{Choices, Next};
@@ -39,7 +42,24 @@ pub fn play(
     ensures no_stop { IfErr result (λ f. 0 < workers → FailsAsSettled (source program.now) input.now f) }
 {
     let code = lower(alloc, program)?;
-    let mut machine = Machine::new(alloc, &code, input, workers)?;
+    play_on(alloc, &code, input, workers, steps)
+}
+
+/// Returns what [`play`] does of each program that has this code: for several scripts of one program,
+/// which is lowered once.
+pub fn play_on(
+    alloc: Global,
+    code: &Code,
+    input: &Input,
+    workers: u32,
+    steps: &[Step],
+) -> Result<Option<Outcome>, PlayFault>
+    ensures left { IfOk result (λ o. 0 < workers → (p : Source) → IsCodeOf p code.now → IsLeft p input.now workers steps.now o) }
+    ensures fault { IfErr result (λ f. 0 < workers → (p : Source) → IsCodeOf p code.now → IsFault (Ends p input.now workers steps.now) f) }
+    ensures settled { IfOk result (λ left. 0 < workers → (p : Source) → IsCodeOf p code.now → LeavesAsSettled p input.now left) }
+    ensures no_stop { IfErr result (λ f. 0 < workers → (p : Source) → IsCodeOf p code.now → FailsAsSettled p input.now f) }
+{
+    let mut machine = Machine::new(alloc, code, input, workers)?;
     make_all(alloc, &mut machine, workers, steps)?;
     Ok(machine.into_outcome())
 }

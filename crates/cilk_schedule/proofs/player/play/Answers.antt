@@ -1,41 +1,20 @@
-use Rattle.std.proofs.Common.{◌<◌}
+use Rattle.std.proofs.lemmas.Result.{IfOk-weaker}
 use Rattle.cilk_program.specs.Sources.{source}
 use Rattle.cilk_lower.specs.Behaves.{IsCodeOf}
-use Rattle.cilk_schedule.specs.Playing.{Ends, FailsAsSettled, IsFault}
-use Rattle.cilk_schedule.proofs.Following.{handed}
-use Rattle.cilk_schedule.proofs.OneEnd.{settled_end, settled_fault}
-use Rattle.cilk_schedule.proofs.Whole.{failed_by, left_by}
+use Rattle.cilk_schedule.proofs.Following.{if_err}
 use Rattle.cilk_schedule.proofs.player.play.Goals as goal
 
-pub returns-in_err-make_all-clause-fault : goal.returns-in_err-make_all-clause-fault
-returns-in_err-make_all-clause-fault c =
-    let p = source c.args.program.now in
-    let made = c.in_ok-machine.ensures in
-    let f = c.in_err-make_all.field-0.0 in
-    let is : IsCodeOf p c.in_ok-code.code = record { well = c.args.program.now.well_named; behaves = c.in_ok-code.ensures.asks; lays = c.in_ok-code.ensures.layout } in
-    handed c.from_residual-in_err-make_all.result f (λ f. 0 < c.args.workers → IsFault (Ends p c.args.input.now c.args.workers c.args.steps.now) f) c.from_residual-in_err-make_all.ensures.1
-    (λ some. failed_by c.in_ok-code.code p c.args.input.now c.args.workers c.args.steps.now c.in_ok-machine.machine f is made.of.0 made.of.1 (made.opened some p is) c.in_err-make_all.ensures.fault)
-
-pub returns-in_err-make_all-clause-no_stop : goal.returns-in_err-make_all-clause-no_stop
-returns-in_err-make_all-clause-no_stop c =
-    let p = source c.args.program.now in
-    let made = c.in_ok-machine.ensures in
-    let f = c.in_err-make_all.field-0.0 in
-    let is : IsCodeOf p c.in_ok-code.code = record { well = c.args.program.now.well_named; behaves = c.in_ok-code.ensures.asks; lays = c.in_ok-code.ensures.layout } in
-    handed c.from_residual-in_err-make_all.result f (λ f. 0 < c.args.workers → FailsAsSettled p c.args.input.now f) c.from_residual-in_err-make_all.ensures.1
-    (λ some. settled_fault p c.args.input.now c.args.workers c.args.steps.now f (failed_by c.in_ok-code.code p c.args.input.now c.args.workers c.args.steps.now c.in_ok-machine.machine f is made.of.0 made.of.1 (made.opened some p is) c.in_err-make_all.ensures.fault))
+of_program : (c : goal.After-play_on) → IsCodeOf (source c.args.program.now) c.in_ok-code.code
+of_program c = record { well = c.args.program.now.well_named; behaves = c.in_ok-code.ensures.asks; lays = c.in_ok-code.ensures.layout }
 
 pub returns-clause-left : goal.returns-clause-left
-returns-clause-left c = λ some.
-    let p = source c.args.program.now in
-    let made = c.in_ok-machine.ensures in
-    let is : IsCodeOf p c.in_ok-code.code = record { well = c.args.program.now.well_named; behaves = c.in_ok-code.ensures.asks; lays = c.in_ok-code.ensures.layout } in
-    left_by c.in_ok-code.code p c.args.input.now c.args.workers c.args.steps.now c.in_ok-machine.machine c.make_all.new.machine c.into_outcome.result is made.of.0 made.of.1 (made.opened some p is) c.in_ok-make_all.ensures.made c.into_outcome.ensures
+returns-clause-left c = IfOk-weaker c.play_on.result _ _ (λ o h some. h some (source c.args.program.now) (of_program c)) c.play_on.ensures.left
+
+pub returns-clause-fault : goal.returns-clause-fault
+returns-clause-fault c = if_err c.play_on.result _ _ (λ f h some. h some (source c.args.program.now) (of_program c)) c.play_on.ensures.fault
 
 pub returns-clause-settled : goal.returns-clause-settled
-returns-clause-settled c = λ some.
-    let p = source c.args.program.now in
-    let made = c.in_ok-machine.ensures in
-    let is : IsCodeOf p c.in_ok-code.code = record { well = c.args.program.now.well_named; behaves = c.in_ok-code.ensures.asks; lays = c.in_ok-code.ensures.layout } in
-    let l = left_by c.in_ok-code.code p c.args.input.now c.args.workers c.args.steps.now c.in_ok-machine.machine c.make_all.new.machine c.into_outcome.result is made.of.0 made.of.1 (made.opened some p is) c.in_ok-make_all.ensures.made c.into_outcome.ensures in
-    settled_end p c.args.input.now c.args.workers c.args.steps.now l.0 l.1 l.2 c.into_outcome.result l.3
+returns-clause-settled c = IfOk-weaker c.play_on.result _ _ (λ left h some. h some (source c.args.program.now) (of_program c)) c.play_on.ensures.settled
+
+pub returns-clause-no_stop : goal.returns-clause-no_stop
+returns-clause-no_stop c = if_err c.play_on.result _ _ (λ f h some. h some (source c.args.program.now) (of_program c)) c.play_on.ensures.no_stop
