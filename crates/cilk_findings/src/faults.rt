@@ -24,37 +24,37 @@ const DEEP: usize = 1000;
 /// the case's run; otherwise the error is [`CaseFault::Unfit`].
 pub fn of_fault(case: &Case<'_>) -> Result<String, CaseFault> {
     let run = Run::of(case)?;
-    let (Some(fault), Some(stop)) = (run.fault, run.replay.stop) else {
+    let Some(stop) = run.replay.stop else {
         return Err(CaseFault::Unfit);
     };
     let mut report = String::new(case.alloc);
-    push_fault(&Scene { case, run: &run }, &mut report, fault, &stop)?;
+    push_fault(&Scene { case, run: &run }, &mut report, &stop)?;
     Ok(report)
 }
 
-fn push_fault(
-    scene: &Scene<'_>,
-    report: &mut String,
-    fault: Fault,
-    stop: &StopNote,
-) -> Result<(), AllocError> {
+fn push_fault(scene: &Scene<'_>, report: &mut String, stop: &StopNote) -> Result<(), AllocError> {
     let alloc = scene.case.alloc;
-    let number = fault.number();
+    let number = stop.fault.number();
     let at = stop.step.at;
     let head = say("{}: error {}: {}")
         .with(scene.place(at))
         .count(number as usize);
     scene.push(report, &head.with(Part::Text(title_of(number))))?;
     scene.push_excerpt(report, at)?;
-    push_line(alloc, report, "reason", &reason(scene, fault, stop))?;
+    push_line(alloc, report, "reason", &reason(scene, stop))?;
     scene.push_path(report, stop.step.frame, None)?;
     push_so_far(scene, report)?;
-    push_line(alloc, report, "hint", &cure(scene, fault, stop.step)?)
+    push_line(alloc, report, "hint", &cure(scene, stop.fault, stop.step)?)
 }
 
 // The values that cause the fault, or the limit that the run met.
-fn reason<'a>(scene: &Scene<'a>, fault: Fault, stop: &StopNote) -> Sentence<'a> {
-    let StopNote { left, right, .. } = *stop;
+fn reason<'a>(scene: &Scene<'a>, stop: &StopNote) -> Sentence<'a> {
+    let StopNote {
+        fault,
+        left,
+        right,
+        ..
+    } = *stop;
     match fault {
         Fault::DivisionByZero => say("{} is divided by 0").with(Part::Number(left)),
         Fault::IndexOutside => outside(scene, left, right),

@@ -62,7 +62,7 @@ pub fn push_further(
     later: usize,
 ) -> Result<(), AllocError> {
     let alloc = scene.case.alloc;
-    if scene.run.fault.is_some() {
+    if scene.run.outcome.is_none() {
         return Ok(());
     }
     let tree = tree_of(alloc, &scene.run.trace)?;

@@ -2,8 +2,6 @@
 
 ghost use Rattle.cilk_lower.specs.Behaves.{Behaves};
 ghost use Rattle.cilk_program.specs.Sources.{source};
-ghost use Rattle.cilk_serial.specs.SoFar.{IsIntact};
-ghost use Rattle.std.specs.Prelude.{OnOk};
 
 use crate::map::TextMap;
 use cilk_frames::operands::LastOperands;
@@ -15,6 +13,7 @@ use cilk_types::event::Event;
 use cilk_types::fault::Fault;
 use cilk_types::input::Input;
 use cilk_types::invocation::Invocation;
+use cilk_types::outcome::Outcome;
 use cilk_types::trace::Trace;
 use std::alloc::{AllocError, Global};
 
@@ -57,9 +56,10 @@ pub struct StepNote {
     pub at: usize,
 }
 
-/// The step at which a run stops without an end, and the last two operands there.
+/// The fault that stops a run, its step, and the last two operands there.
 #[derive(Clone, Copy)]
 pub struct StopNote {
+    pub fault: Fault,
     pub step: StepNote,
     pub left: i64,
     pub right: i64,
@@ -86,20 +86,21 @@ impl Drop for Replay {
     }
 }
 
-/// Makes the serial run of a program, and notes its frames and the place of each event. The map has
-/// to be that of the program's text.
+/// Makes the serial run of a program, and notes its frames and the place of each event. Returns its
+/// events, its outcome, unless a fault stops it, and the notes. The map has to be that of the
+/// program's text.
 pub fn follow(
     alloc: Global,
     program: &Program,
     code: &Code,
     input: &Input,
     map: &TextMap,
-) -> Result<(Trace, Option<Fault>, Replay), AllocError>
+) -> Result<(Trace, Option<Outcome>, Replay), AllocError>
     requires { Behaves (source program.now) code.now }
 {
-    let mut serial = SerialRun::new(alloc, program, code, input)?;
+    let serial = SerialRun::new(alloc, program, code, input)?;
     let mut notes = Notes::new(alloc, program, code, map)?;
-    let fault = notes.follow(&mut serial)?;
+    let (trace, outcome) = notes.follow(serial)?;
     let Notes {
         code: _,
         map: _,
@@ -107,7 +108,7 @@ pub fn follow(
         frame: _,
         cells: _,
     } = notes;
-    Ok((serial.into_trace(), fault, replay))
+    Ok((trace, outcome, replay))
 }
 
 /// The notes so far, the frame of the next event, and the cells of all frames so far.
@@ -145,10 +146,11 @@ impl<'a> Notes<'a> {
         Ok(notes)
     }
 
-    // Makes all events of a run. Returns the fault that stops it, if any.
-    fn follow(&mut self, serial: &mut SerialRun<'_>) -> Result<Option<Fault>, AllocError>
-        ensures { OnOk result (IsIntact serial.new.stage) }
-    {
+    // Makes all events of a run. Returns them and the outcome, unless a fault stops it.
+    fn follow(
+        &mut self,
+        mut serial: SerialRun<'_>,
+    ) -> Result<(Trace, Option<Outcome>), AllocError> {
         for _step in 0..u64::MAX {
             let target = serial.target();
             let place = serial.place();
@@ -156,12 +158,13 @@ impl<'a> Notes<'a> {
                 Next::Made(event) => self.meet(event, place, target)?,
                 Next::Ended => {
                     self.replay.ticks = serial.ticks();
-                    return Ok(None);
+                    let (outcome, trace) = serial.finish()?;
+                    return Ok((trace, Some(outcome)));
                 }
                 Next::Stops(fault) => {
                     self.replay.ticks = serial.ticks();
-                    self.replay.stop = Some(self.stop(place, serial.last_operands()));
-                    return Ok(Some(fault));
+                    self.replay.stop = Some(self.stop(fault, place, serial.last_operands()));
+                    return Ok((serial.into_trace(), None));
                 }
             }
         }
@@ -243,8 +246,8 @@ impl<'a> Notes<'a> {
         Ok(())
     }
 
-    // The step at which the run stops, and the operands that cause it.
-    fn stop(&self, place: usize, last: LastOperands) -> StopNote {
+    // The fault that stops the run, its step, and the operands that cause it.
+    fn stop(&self, fault: Fault, place: usize, last: LastOperands) -> StopNote {
         let (left, right) = match self.code.instrs().get(place) {
             Some(Instr::LoadElement(array) | Instr::StoreElement(array)) => {
                 (i64::from(array.first), last.popped)
@@ -254,6 +257,7 @@ impl<'a> Notes<'a> {
             _ => (last.popped, last.popped_before),
         };
         StopNote {
+            fault,
             step: self.step(place),
             left,
             right,

@@ -6,14 +6,14 @@ use crate::replay::{Replay, follow};
 use cilk_lower::code::Code;
 use cilk_lower::lower::lower;
 use cilk_types::event::Event;
-use cilk_types::fault::Fault;
+use cilk_types::outcome::Outcome;
 use cilk_types::trace::Trace;
 
-/// A run: its code, its events, the fault that stops it, if any, and its notes.
+/// A run: its code, its events, its outcome, unless a fault stops it, and its notes.
 pub struct Run {
     pub code: Code,
     pub trace: Trace,
-    pub fault: Option<Fault>,
+    pub outcome: Option<Outcome>,
     pub replay: Replay,
 }
 
@@ -23,7 +23,7 @@ impl Drop for Run {
         let Run {
             code: _code,
             trace: _trace,
-            fault: _fault,
+            outcome: _outcome,
             replay: _replay,
         } = self;
     }
@@ -33,7 +33,7 @@ impl Run {
     /// Makes the serial run of a case and its notes.
     pub fn of(case: &Case<'_>) -> Result<Run, CaseFault> {
         let code = lower(case.alloc, &case.program)?;
-        let (trace, fault, replay) = follow(
+        let (trace, outcome, replay) = follow(
             case.alloc,
             &case.program,
             &code,
@@ -43,7 +43,7 @@ impl Run {
         Ok(Run {
             code,
             trace,
-            fault,
+            outcome,
             replay,
         })
     }

@@ -223,8 +223,9 @@ pub fn tree_of_run(case: &Case<'_>) -> Result<Option<String>, CaseFault> {
 /// Returns the run of a case. If a fault stops it, the error is [`CaseFault::Unfit`].
 pub fn ended(case: &Case<'_>) -> Result<Run, CaseFault> {
     let run = Run::of(case)?;
-    match run.fault {
-        None => Ok(run),
-        Some(_) => Err(CaseFault::Unfit),
+    if run.outcome.is_some() {
+        Ok(run)
+    } else {
+        Err(CaseFault::Unfit)
     }
 }

@@ -5,9 +5,7 @@ use cilk_findings::case::Case;
 use cilk_findings::scene::Scene;
 use cilk_messages::sentence::{Part, Sentence, push_line, say};
 use cilk_parser::script::{LineOrder, Step};
-use cilk_schedule::{PlayFault, play_steps};
-use cilk_serial::fault::RunFault;
-use cilk_serial::run::run;
+use cilk_schedule::{PlayFault, play_steps_on};
 use cilk_types::invocation::Invocation;
 use cilk_types::outcome::{Final, Outcome};
 use std::alloc::AllocError;
@@ -58,11 +56,9 @@ const MOST: u8 = 3;
 /// Plays schedules near a race, until one shows something else than the serial run. Returns the one
 /// whose outcome differs most, if `play` takes any. The first makes the later event first.
 pub fn search(scene: &Scene<'_>, pair: &Pair) -> Result<Option<Found>, AllocError> {
-    let case = scene.case;
-    match run(case.alloc, &case.program, &case.input) {
-        Ok((serial, _trace)) => best_of(scene, pair, &serial),
-        Err(RunFault::At { .. }) => Ok(None),
-        Err(RunFault::Memory) => Err(AllocError),
+    match &scene.run.outcome {
+        Some(serial) => best_of(scene, pair, serial),
+        None => Ok(None),
     }
 }
 
@@ -74,7 +70,7 @@ fn best_of(scene: &Scene<'_>, pair: &Pair, serial: &Outcome) -> Result<Option<Fo
         let Some(found) = numbered(scene, pair, number) else {
             break;
         };
-        let (told, words) = found.play(scene.case, serial)?;
+        let (told, words) = found.play(scene, serial)?;
         played = played.saturating_add(1);
         if told > best.told {
             best = Found {
@@ -146,7 +142,7 @@ impl Found {
     // How its outcome differs, if `play` takes it and reaches the run's end.
     fn play(
         &self,
-        case: &Case<'_>,
+        scene: &Scene<'_>,
         serial: &Outcome,
     ) -> Result<(u8, Sentence<'static>), AllocError> {
         let place = u32::try_from(self.place).unwrap_or(u32::MAX);
@@ -163,7 +159,8 @@ impl Found {
                 order: LineOrder::All,
             },
         ];
-        match play_steps(case.alloc, &case.program, &case.input, 2, &steps) {
+        let Scene { case, run } = scene;
+        match play_steps_on(case.alloc, &run.code, &case.input, 2, &steps) {
             Ok(Some(outcome)) => Ok(differing(&outcome, serial)),
             Ok(None) | Err(PlayFault::Line(_)) => Ok((NONE, say(""))),
             Err(PlayFault::Stop { fault, .. }) => {
