@@ -3,12 +3,13 @@
 ghost use Rattle.cilk_lower.specs.Behaves.{Behaves};
 ghost use Rattle.cilk_program.specs.Sources.{source};
 
-use crate::map::TextMap;
+use crate::map::{BodyMap, TextMap};
 use cilk_frames::operands::LastOperands;
 use cilk_lower::code::{Code, Instr};
 use cilk_program::program::{Body, Program};
 use cilk_program::syntax::ReducerPlace;
 use cilk_serial::serial_run::{Next, SerialRun, Target};
+use cilk_syntax::tree::Name;
 use cilk_types::event::Event;
 use cilk_types::fault::Fault;
 use cilk_types::input::Input;
@@ -175,25 +176,34 @@ impl<'a> Notes<'a> {
     // The step of an instruction of the current frame, by its place in the code. That of a parameter or
     // reducer is where it is declared.
     fn step(&self, place: usize) -> StepNote {
-        let frame = self.frame;
-        let body = match self.replay.frames.get(frame) {
-            Some(note) => note.body,
-            None => NO_FRAME.body,
-        };
-        let named = match (self.code.instrs().get(place), self.map.body(body)) {
-            (Some(Instr::Word(number)), Some(map)) => map.cells.get(*number as usize),
-            (Some(Instr::Create(reducer)), Some(map)) => match reducer.place {
-                ReducerPlace::Global(number) => self.map.reducers.get(number as usize),
-                ReducerPlace::Own(_, number) => map.reducers.get(number as usize),
-                ReducerPlace::Given(_, _) => None,
-            },
-            _ => None,
-        };
-        let at = match named {
+        let at = match self.declared(place) {
             Some(name) => name.at,
             None => self.code.origin(place),
         };
-        StepNote { frame, at }
+        StepNote {
+            frame: self.frame,
+            at,
+        }
+    }
+
+    // The name of the parameter or reducer that an instruction of the current frame begins. Most begin none,
+    // so the frame is asked for last.
+    fn declared(&self, place: usize) -> Option<&Name> {
+        match self.code.instrs().get(place) {
+            Some(Instr::Word(number)) => self.names()?.cells.get(*number as usize),
+            Some(Instr::Create(reducer)) => match reducer.place {
+                ReducerPlace::Global(number) => self.map.reducers.get(number as usize),
+                ReducerPlace::Own(_, number) => self.names()?.reducers.get(number as usize),
+                ReducerPlace::Given(_, _) => None,
+            },
+            _ => None,
+        }
+    }
+
+    // The names in the body of the current frame.
+    fn names(&self) -> Option<&BodyMap> {
+        let note = self.replay.frames.get(self.frame)?;
+        self.map.body(note.body)
     }
 
     // Notes an event, with the place of its instruction and what the frame that it begins runs.

@@ -51,11 +51,8 @@ impl Run {
     /// Returns whether an event, counted from 0, is a child's result: a write that the end of its
     /// frame follows.
     pub fn gives_result(&self, index: usize) -> bool {
-        let next = self.event(index.saturating_add(1));
-        matches!(
-            (self.event(index), next),
-            (Some(Event::Write { .. }), Some(Event::End))
-        )
+        matches!(self.event(index), Some(Event::Write { .. }))
+            && matches!(self.event(index.saturating_add(1)), Some(Event::End))
     }
 
     /// Returns an event, counted from 0.

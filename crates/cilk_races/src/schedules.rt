@@ -6,12 +6,14 @@ use cilk_findings::scene::Scene;
 use cilk_messages::sentence::{Part, Sentence, push_line, say};
 use cilk_parser::script::{LineOrder, Step};
 use cilk_schedule::{PlayFault, play_steps_on};
+use cilk_types::event::Event;
 use cilk_types::invocation::Invocation;
 use cilk_types::outcome::{Final, Outcome};
 use std::alloc::AllocError;
 
-// Schedules are played until they have made about this many events.
-const MADE: usize = 120_000;
+// Schedules are played until they have made about this many events, but at least one is: a play costs
+// several times as much as the serial run.
+const MADE: usize = 5_000;
 
 // The events of the child that the first worker makes before the steal: none, or all up to this many
 // before the event after the earlier access.
@@ -70,6 +72,9 @@ fn best_of(scene: &Scene<'_>, pair: &Pair, serial: &Outcome) -> Result<Option<Fo
         let Some(found) = numbered(scene, pair, number) else {
             break;
         };
+        if number > 0 && is_again(scene, pair, number, &found) {
+            continue;
+        }
         let (told, words) = found.play(scene, serial)?;
         played = played.saturating_add(1);
         if told > best.told {
@@ -197,6 +202,30 @@ fn numbered(scene: &Scene<'_>, pair: &Pair, number: usize) -> Option<Found> {
         behind,
         ..found
     })
+}
+
+// Whether a schedule with a smaller number leads to the same run: the first worker stops at the child's
+// begin already, or the second one is at the sync that waits for the child.
+fn is_again(scene: &Scene<'_>, pair: &Pair, number: usize, found: &Found) -> bool {
+    if number >= NEAR.len() * BEYOND.len() {
+        return false;
+    }
+    let begun = scene.note(pair.child).begun.saturating_add(1);
+    let is_cut = number >= BEYOND.len() && found.ahead <= begun;
+    let is_longer = number % BEYOND.len() > 0;
+    let shorter = BEYOND[number.saturating_sub(1) % BEYOND.len()];
+    is_cut || is_longer && shorter >= events_to_sync(scene, pair)
+}
+
+// The events after the later one up to the sync that waits for the child.
+fn events_to_sync(scene: &Scene<'_>, pair: &Pair) -> usize {
+    for index in pair.later..scene.run.trace.len() {
+        let is_common = scene.frame_of(index) == Some(pair.common);
+        if is_common && matches!(scene.run.event(index), Some(Event::Sync)) {
+            return index.saturating_sub(pair.later);
+        }
+    }
+    usize::MAX
 }
 
 // A schedule near the one that makes the later event first.
