@@ -6,7 +6,7 @@ _cilk() {
         2:help:*) words="explain settle run certify check threads play schedule measure judge" files= ;;
         *:--input | *:--on | *:--sites) ;;
         *:--workers | *:--helpers | *:--why | *:explain:*) files= ;;
-        *:settle:*) words="--input --short --json --why --color --help" ;;
+        *:settle:*) words="--input --short --json --why --explain --color --help" ;;
         *:run:*) words="--input --explain --color --help" ;;
         *:certify:*) words="--input --explain --color --help" ;;
         *:check:*) words="--input --helpers --explain --color --help" ;;

@@ -7,7 +7,7 @@ _cilk() {
         3:help:*) compadd -- explain settle run certify check threads play schedule measure judge; return ;;
         *:--input | *:--on | *:--sites) _files; return ;;
         *:--workers | *:--helpers | *:--why | *:explain:*) return ;;
-        *:settle:*) words_of="--input --short --json --why --color --help" ;;
+        *:settle:*) words_of="--input --short --json --why --explain --color --help" ;;
         *:run:*) words_of="--input --explain --color --help" ;;
         *:certify:*) words_of="--input --explain --color --help" ;;
         *:check:*) words_of="--input --helpers --explain --color --help" ;;

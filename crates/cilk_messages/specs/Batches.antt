@@ -1,20 +1,32 @@
 -- `settle` for several programs, or in a short form: its words, and the lines of its replies.
-use Rattle.std.specs.Prelude.{ℕ, ◌==◌, ◌&&◌, ◌||◌, Bool, true, false, not, List, [], ◌∷◌, ◌++◌, cond, Option, Some, None, is_some, option_and_then, option_map, codes, decimal}
+use Rattle.std.specs.Prelude.{ℕ, zero, suc, ◌==◌, ◌&&◌, ◌||◌, Bool, true, false, not, List, [], ◌∷◌, ◌++◌, cond, Option, Some, None, is_some, option_and_then, option_map, codes, decimal}
 use Rattle.std.specs.Str.{bytes_eq}
 use Rattle.json.specs.Print.{print}
-use Rattle.json.specs.Token.{begin_object, end_object, key, number, string}
+use Rattle.json.specs.Token.{Token, begin_object, end_object, key, number, string}
 use Rattle.cilk_messages.specs.Asked.{Text, asks, behind_first, is_help, is_option}
 use Rattle.cilk_messages.specs.Words.{texts}
 use Rattle.cilk_messages.specs.declared.batch.Batch as code
 use Rattle.cilk_messages.specs.declared.batch.Form.{Form}
-use Rattle.cilk_messages.specs.declared.batch.Form.TheVariants.{Full, Json, Short}
+use Rattle.cilk_messages.specs.declared.batch.Form.TheVariants.{Explained, Full, Json, Short}
+use Rattle.cilk_messages.specs.declared.place.Location.{Location}
 
--- the first word is `settle`, the rest isn't just a request for help, and no word is `--explain` or
--- `--why`
+-- more words than this aren't options
+abbrev pub has_more : ℕ → List Text → Bool
+has_more most [] = false
+has_more zero (word ∷ words) = cond (is_option word) (has_more zero words) true
+has_more (suc most) (word ∷ words) = cond (is_option word) (has_more (suc most) words) (has_more most words)
+
+-- words name a form, or more files than one program and its input
+abbrev pub is_batch : List Text → Bool
+is_batch words =
+    asks (codes "--short") words || (asks (codes "--json") words || has_more (cond (asks (codes "--input") words) 2 1) words)
+
+-- the first word is `settle`, the rest isn't just a request for help, no word is `--why`, and with
+-- `--explain` several programs or a form are named
 abbrev pub is_settling : List Text → Bool
 is_settling [] = false
 is_settling (word ∷ words) =
-    bytes_eq word (codes "settle") && (not (is_help words) && (not (asks (codes "--explain") (word ∷ words)) && not (asks (codes "--why") (word ∷ words))))
+    bytes_eq word (codes "settle") && (not (is_help words) && (not (asks (codes "--why") words) && (not (asks (codes "--explain") words) || is_batch words)))
 
 -- what words name: programs, the file of their input and the form of the replies; and whether the
 -- next word has to name the input
@@ -39,7 +51,8 @@ with_word b word =
     (cond (bytes_eq word (codes "--input")) (cond (is_some b.input) None (Some (batch b.programs b.input b.form true)))
     (cond (bytes_eq word (codes "--short")) (with_form b Short b.form)
     (cond (bytes_eq word (codes "--json")) (with_form b Json b.form)
-    (cond (is_option word) None (Some (batch (b.programs ++ word ∷ []) b.input b.form b.awaits))))))
+    (cond (is_option word) (cond (bytes_eq word (codes "--explain")) (Some b) None)
+    (Some (batch (b.programs ++ word ∷ []) b.input b.form b.awaits))))))
 
 -- these words more
 abbrev pub with_words : Batch → List Text → Option Batch
@@ -55,9 +68,20 @@ are_named (program ∷ programs) = true
 abbrev pub is_whole : Batch → Bool
 is_whole b = not b.awaits && are_named b.programs
 
+-- the form with explanations
+abbrev pub explained : Form → Form
+explained Short = Explained
+explained form = form
+
+-- the same programs, with explanations if they are requested
+abbrev pub told : Bool → Batch → Batch
+told explains b = batch b.programs b.input (cond explains (explained b.form) b.form) b.awaits
+
 -- what the words after the first name
 abbrev pub batch_in : List Text → Option Batch
-batch_in words = option_and_then (λ b. cond (is_whole b) (Some b) None) (with_words (batch [] None Full false) (behind_first words))
+batch_in words =
+    option_and_then (λ b. cond (is_whole b) (Some (told (asks (codes "--explain") words) b)) None)
+    (with_words (batch [] None Full false) (behind_first words))
 
 -- a text up to its first line's end
 abbrev pub first_line : Text → Text
@@ -76,11 +100,20 @@ heading program = line (program ++ codes ":")
 abbrev pub short_line : Text → Text → Text
 short_line program reply = line (program ++ codes ": " ++ first_line reply)
 
--- a JSON object of the program, the status and the whole reply
-abbrev pub object_line : Text → ℕ → Text → Text
-object_line program status reply =
-    line (print (begin_object ∷ key (codes "program") ∷ string program ∷ key (codes "status") ∷ number (decimal status)
-    ∷ key (codes "reply") ∷ string reply ∷ end_object ∷ []))
+-- a place in JSON
+abbrev pub place_tokens : Option Location → List Token
+place_tokens None = []
+place_tokens (Some place) = key (codes "line") ∷ number (decimal place.line) ∷ key (codes "column") ∷ number (decimal place.column) ∷ []
+
+-- the program, the status, the whole reply, its explanation and the place in the program
+abbrev pub object_tokens : Text → ℕ → Text → Text → Option Location → List Token
+object_tokens program status reply explanation place =
+    begin_object ∷ key (codes "program") ∷ string program ∷ key (codes "status") ∷ number (decimal status) ∷ key (codes "reply") ∷ string reply
+    ∷ key (codes "explanation") ∷ string explanation ∷ (place_tokens place ++ end_object ∷ [])
+
+-- a JSON object of these
+abbrev pub object_line : Text → ℕ → Text → Text → Option Location → Text
+object_line program status reply explanation place = line (print (object_tokens program status reply explanation place))
 
 abbrev pub batch_view : code.Batch → Batch
 batch_view b = batch (texts b.programs.items) (option_map (λ path. path.now) b.input) b.form b.awaits

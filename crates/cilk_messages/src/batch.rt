@@ -1,11 +1,11 @@
 //! `settle` for several programs, or in a short form: its words, and the lines of its replies.
 
-ghost use Rattle.std.specs.Prelude.{◌≡◌, ◌++◌, ◌∷◌, [], IfOk, None, OnOk, Some, codes, cond, decimal, option_map};
-ghost use Rattle.json.specs.Token.{begin_object, end_object, key, number, string};
-ghost use Rattle.cilk_messages.specs.Batches.{batch_in, batch_view, first_line, is_settling, object_line, short_line, with_form, with_word};
+ghost use Rattle.std.specs.Prelude.{◌≡◌, ◌++◌, [], IfOk, None, OnOk, Some, cond, option_map};
+ghost use Rattle.cilk_messages.specs.Batches.{batch_in, batch_view, explained, first_line, has_more, is_batch, is_settling, object_line, object_tokens, place_tokens, short_line, with_form, with_word};
 ghost use Rattle.cilk_messages.specs.Words.{texts};
 
-use crate::asked::{asks, behind_first, is_help, is_option};
+use crate::asked::{asks, behind_first, is_help, is_option, number_of};
+use crate::place::Location;
 use json::Writer;
 use std::alloc::{AllocError, Global};
 
@@ -16,8 +16,22 @@ pub enum Form {
     Full,
     /// A line each.
     Short,
-    /// A JSON object each.
+    /// A line each, with an explanation on standard error.
+    Explained,
+    /// A JSON object each, with its explanation.
     Json,
+}
+
+impl Form {
+    // The form with explanations: only lines have none of their own.
+    fn explained(self) -> Form
+        ensures { result ≡ explained self }
+    {
+        match self {
+            Form::Short => Form::Explained,
+            form => form,
+        }
+    }
 }
 
 /// The programs to settle, the file of their input, and the form of the replies.
@@ -51,7 +65,7 @@ impl<'a> Batch<'a> {
             return Ok(self.choose(Form::Json));
         }
         if is_option(word) {
-            return Ok(false);
+            return Ok(word == "--explain");
         }
         self.programs.push(word)?;
         Ok(true)
@@ -68,7 +82,8 @@ impl<'a> Batch<'a> {
 }
 
 /// Returns whether the first word is `settle`, the rest isn't just a request for help, and no word is
-/// `--explain` or `--why`.
+/// `--why`. With `--explain` the words have to name several programs or a form too, since the answer
+/// for one program is explained in any case.
 pub fn is_settling(words: &[&str]) -> bool
     ensures { result ≡ is_settling (texts words.now) }
 {
@@ -76,11 +91,37 @@ pub fn is_settling(words: &[&str]) -> bool
         [first, behind @ ..] => {
             *first == "settle"
                 && !is_help(behind)
-                && !asks(words, "--explain")
-                && !asks(words, "--why")
+                && !asks(behind, "--why")
+                && (!asks(behind, "--explain") || is_batch(behind))
         }
         [] => false,
     }
+}
+
+// Returns whether words name a form, or more files than one program and its input.
+fn is_batch(words: &[&str]) -> bool
+    ensures { result ≡ is_batch (texts words.now) }
+{
+    let files = if asks(words, "--input") { 2 } else { 1 };
+    asks(words, "--short") || asks(words, "--json") || has_more(words, files)
+}
+
+// Returns whether more words than this aren't options.
+fn has_more(words: &[&str], most: usize) -> bool
+    ensures { result ≡ has_more most (texts words.now) }
+{
+    let mut left = most;
+    let mut rest = words;
+    'each: while let [word, behind @ ..] = rest {
+        if !is_option(word) {
+            if left == 0 {
+                return true;
+            }
+            left -= 1;
+        }
+        rest = behind;
+    }
+    false
 }
 
 /// Returns what the words after the first name, or `None` if they name no programs.
@@ -102,6 +143,9 @@ pub fn batch_of<'a>(alloc: Global, words: &[&'a str]) -> Result<Option<Batch<'a>
     }
     if batch.awaits || batch.programs.is_empty() {
         return Ok(None);
+    }
+    if asks(words, "--explain") {
+        batch.form = batch.form.explained();
     }
     Ok(Some(batch))
 }
@@ -132,16 +176,23 @@ pub fn short(alloc: Global, program: &str, reply: &[u8]) -> Result<Vec<u8>, Allo
     Ok(text)
 }
 
-/// Returns a JSON object of the program, the status and the reply. A reply is text, so nothing else
-/// fails than memory.
-pub fn object(alloc: Global, program: &str, status: u8, reply: &[u8]) -> Result<Vec<u8>, AllocError>
-    ensures { IfOk result (λ text. text.items ≡ object_line program.now status reply.now) }
+/// Returns a JSON object of the program, the status, the reply, its explanation and its place. A
+/// reply is text, so nothing else fails than memory.
+pub fn object(
+    alloc: Global,
+    program: &str,
+    status: u8,
+    reply: &[u8],
+    explanation: &str,
+    place: Option<Location>,
+) -> Result<Vec<u8>, AllocError>
+    ensures { IfOk result (λ text. text.items ≡ object_line program.now status reply.now explanation.now place) }
 {
     let Ok(reply) = str::from_utf8(reply) else {
         return Err(AllocError);
     };
     let mut writer = Writer::new(Vec::new(alloc));
-    write_object(&mut writer, program, status, reply)?;
+    write_object(&mut writer, program, status, reply, explanation, place)?;
     let mut text = writer.into_inner();
     text.push(b'\n')?;
     Ok(text)
@@ -152,10 +203,11 @@ fn write_object(
     program: &str,
     status: u8,
     reply: &str,
+    explanation: &str,
+    place: Option<Location>,
 ) -> Result<(), AllocError>
     requires { writer.old.tokens ≡ [] }
-    ensures tokens { OnOk result (writer.new.tokens ≡ begin_object ∷ key (codes "program") ∷ string program.now ∷ key (codes "status")
-        ∷ number (decimal status) ∷ key (codes "reply") ∷ string reply.now ∷ end_object ∷ []) }
+    ensures tokens { OnOk result (writer.new.tokens ≡ object_tokens program.now status reply.now explanation.now place) }
     ensures before { OnOk result (writer.new.before ≡ writer.old.before) }
 {
     writer.begin_object()?;
@@ -165,6 +217,36 @@ fn write_object(
     writer.u64(u64::from(status))?;
     writer.key("reply")?;
     writer.string(reply)?;
+    writer.key("explanation")?;
+    writer.string(explanation)?;
+    write_place(writer, place)?;
     writer.end_object()?;
     Ok(())
+}
+
+fn write_place(writer: &mut Writer<Global>, place: Option<Location>) -> Result<(), AllocError>
+    ensures tokens { OnOk result (writer.new.tokens ≡ writer.old.tokens ++ place_tokens place) }
+    ensures before { OnOk result (writer.new.before ≡ writer.old.before) }
+{
+    if let Some(place) = place {
+        writer.key("line")?;
+        writer.u64(place.line as u64)?;
+        writer.key("column")?;
+        writer.u64(place.column as u64)?;
+    }
+    Ok(())
+}
+
+/// Returns the place in the program's text at which an explanation begins: `PROGRAM:LINE:COLUMN:`.
+pub fn place_in(program: &str, explanation: &str) -> Option<Location> {
+    let rest = explanation.strip_prefix(program)?.strip_prefix(":")?;
+    let (line, rest) = rest.split_once(":")?;
+    let (column, _) = rest.split_once(":")?;
+    match (number_of(line.as_bytes()), number_of(column.as_bytes())) {
+        (Some(line), Some(column)) => Some(Location {
+            line: line as usize,
+            column: column as usize,
+        }),
+        _ => None,
+    }
 }

@@ -52,8 +52,9 @@ Option of all commands:
 
 Options of settle:
   --short, --json
-                  a line for each program: its name and the first line of the answer, or a JSON object with its name, the
-                  status and the whole answer
+                  a line for each program: its name and the first line of the answer, and with `--explain` an explanation
+                  on standard error; or a JSON object with its name, the status, the whole answer, its explanation, and
+                  the line and column where that begins
   --why LINE      after `settled`, say on standard error what orders the accesses of this line with those of others
 
 Options of judge:
@@ -102,7 +103,7 @@ hint: `cilk --help` describes all commands
 == settle
 Run programs serially, and tell of each whether it races: if not, no schedule changes what it leaves
 
-Usage: cilk settle PROGRAM.. [--input FILE] [--short | --json | --why LINE]
+Usage: cilk settle PROGRAM.. [--input FILE] [--short | --json | --why LINE] [--explain]
 
 The answer is one of
   settled         and the lines that `run` shows: every parallel run on this input that ends leaves the same
@@ -119,10 +120,11 @@ PROGRAM
 Options:
 INPUT
   --short         a line for each program: its name and the first line of the answer
-  --json          a line for each program: a JSON object with its name, the status and the whole answer
+  --json          a line for each program: a JSON object of `program`, `status`, `reply` (the whole answer) and
+                  `explanation` (empty if there is none), and `line` and `column` where that begins in the program
   --why LINE      for one program: after `settled`, say on standard error what orders the accesses of this line with
                   those of other strands
-  --explain       changes nothing here; only for one program
+  --explain       with `--short`, explanations on standard error too; the other forms have them in any case
 HELP
 
 HINT
@@ -328,8 +330,6 @@ pub fn push_advice(alloc: Global, text: &mut String, words: &[&str]) -> Result<(
 fn hint_of(words: &[&str], first: &str) -> &'static str {
     if first.starts_with("-") || first == "help" {
         HELP
-    } else if first == "settle" && asks(words, "--why") {
-        NO_LINE
     } else if is_command(first) {
         "hint: `cilk help {}` describes `{}` and its options\n"
     } else if first.ends_with(".c") {
@@ -346,10 +346,6 @@ fn hint_of(words: &[&str], first: &str) -> &'static str {
         "hint: `cilk --help` lists the commands\n"
     }
 }
-
-// The hint for `--why` without a line.
-const NO_LINE: &str =
-    "hint: `--why` takes one program and the number of a line in it: `cilk settle prog.c --why 12`\n";
 
 // Words that may stand for `settle`, and for `judge`.
 const NEAR_SETTLE: &[&str] = &[

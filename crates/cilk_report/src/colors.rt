@@ -3,7 +3,6 @@
 ghost use Rattle.std.specs.Prelude.{◌≡◌, IfOk, filter, not};
 ghost use Rattle.cilk_report.specs.Colors.{is_color};
 
-use cilk_findings::fault::CaseFault;
 use cilk_profile::Kept;
 use std::alloc::{AllocError, Global};
 
@@ -36,7 +35,7 @@ pub fn without_color<'a>(alloc: Global, words: &[&'a str]) -> Result<Vec<&'a str
 }
 
 /// Returns an explanation as it is shown: with colours, if explanations have some.
-pub(crate) fn shown(alloc: Global, text: String, kept: &Kept) -> Result<String, CaseFault> {
+pub(crate) fn colored(alloc: Global, text: String, kept: &Kept) -> Result<String, AllocError> {
     if !kept.has_colors {
         return Ok(text);
     }

@@ -1,7 +1,7 @@
 //! Explanations of answers and failures.
 
 use crate::certificate::line_of;
-use crate::colors::shown;
+use crate::colors::colored;
 use crate::wanted::push_expected;
 use cilk_checker::refusal::Refusal;
 use cilk_commands::reply::{Answer, Failure};
@@ -28,10 +28,10 @@ pub fn of_answer(
     kept: &Kept,
 ) -> Result<String, CaseFault> {
     let text = answer_text(alloc, order, answer, kept)?;
-    shown(alloc, text, kept)
+    Ok(colored(alloc, text, kept)?)
 }
 
-fn answer_text(
+pub(crate) fn answer_text(
     alloc: Global,
     order: &Order<'_>,
     answer: &Answer,
@@ -94,10 +94,10 @@ pub fn of_failure(
     kept: &Kept,
 ) -> Result<String, CaseFault> {
     let text = failure_text(alloc, order, failure, kept)?;
-    shown(alloc, text, kept)
+    Ok(colored(alloc, text, kept)?)
 }
 
-fn failure_text(
+pub(crate) fn failure_text(
     alloc: Global,
     order: &Order<'_>,
     failure: &Failure<'_>,

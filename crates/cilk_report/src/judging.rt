@@ -7,7 +7,7 @@ ghost use Rattle.cilk_commands.specs.Replies.{failure_view};
 use crate::Keeps;
 use crate::accesses::Accesses;
 use crate::again::seek;
-use crate::colors::shown;
+use crate::colors::colored;
 use crate::explaining::race_of;
 use cilk_checker::refusal::Refusal;
 use cilk_commands::reply::Failure;
@@ -73,7 +73,7 @@ pub fn of_trace_race<F: Keeps>(
         seek(judged.trace, files, &mut found)?;
         push_accesses(alloc, &mut text, judged, refusal, &found, files)?;
     }
-    shown(alloc, text, files.kept())
+    Ok(colored(alloc, text, files.kept())?)
 }
 
 // Adds the explanation of the accesses that were found. One without a table that can be read has the
@@ -124,7 +124,7 @@ pub fn of_trace_failure<F: Keeps>(
     ensures { (IsTraceFault (failure_view failure.now) → ⊥) → F.failed files.new ≡ F.failed files.old }
 {
     let text = failure_text(alloc, trace, failure, files)?;
-    shown(alloc, text, files.kept())
+    Ok(colored(alloc, text, files.kept())?)
 }
 
 fn failure_text<F: Keeps>(

@@ -60,7 +60,7 @@ pub fn serve_explained<F: Keeps, R: Read, O: Write, E: Write>(
         → Settles (texts words.now) (F.holds files.old) (R.remaining input.old) (F.failed files.old) (F.failed files.new)
         result (O.contents out.old) (O.contents out.new) (E.contents err.old) (E.contents err.new) }
     ensures explained { order_in (texts words.now) ≡ None → is_measure (texts words.now) ≡ false → is_schedule (texts words.now) ≡ false
-        → is_about (texts words.now) ≡ false
+        → is_settling (texts words.now) ≡ false → is_about (texts words.now) ≡ false
         → length (unflagged (texts words.now)) < length (texts words.now)
         → ServesThenExplains (unflagged (texts words.now)) (F.holds files.old) (R.remaining input.old) (F.failed files.old) (F.failed files.new)
         result (O.contents out.old) (O.contents out.new) (E.contents err.old) (E.contents err.new) }
@@ -108,7 +108,8 @@ fn serve_other<F: Keeps, R: Read, O: Write, E: Write>(
     ensures settles { is_measure (texts words.now) ≡ false → is_schedule (texts words.now) ≡ false → is_settling (texts words.now) ≡ true
         → Settles (texts words.now) (F.holds files.old) (R.remaining input.old) (F.failed files.old) (F.failed files.new)
         result (O.contents out.old) (O.contents out.new) (E.contents err.old) (E.contents err.new) }
-    ensures explained { is_measure (texts words.now) ≡ false → is_schedule (texts words.now) ≡ false → is_about (texts words.now) ≡ false
+    ensures explained { is_measure (texts words.now) ≡ false → is_schedule (texts words.now) ≡ false → is_settling (texts words.now) ≡ false
+        → is_about (texts words.now) ≡ false
         → length (unflagged (texts words.now)) < length (texts words.now)
         → ServesThenExplains (unflagged (texts words.now)) (F.holds files.old) (R.remaining input.old) (F.failed files.old) (F.failed files.new)
         result (O.contents out.old) (O.contents out.new) (E.contents err.old) (E.contents err.new) }
@@ -143,7 +144,7 @@ fn serve_unmeasured<F: Keeps, R: Read, O: Write, E: Write>(
     ensures settles { is_schedule (texts words.now) ≡ false → is_settling (texts words.now) ≡ true
         → Settles (texts words.now) (F.holds files.old) (R.remaining input.old) (F.failed files.old) (F.failed files.new)
         result (O.contents out.old) (O.contents out.new) (E.contents err.old) (E.contents err.new) }
-    ensures explained { is_schedule (texts words.now) ≡ false → is_about (texts words.now) ≡ false
+    ensures explained { is_schedule (texts words.now) ≡ false → is_settling (texts words.now) ≡ false → is_about (texts words.now) ≡ false
         → length (unflagged (texts words.now)) < length (texts words.now)
         → ServesThenExplains (unflagged (texts words.now)) (F.holds files.old) (R.remaining input.old) (F.failed files.old) (F.failed files.new)
         result (O.contents out.old) (O.contents out.new) (E.contents err.old) (E.contents err.new) }
@@ -208,13 +209,18 @@ fn advised(alloc: Global, words: &[&str], is_why: bool, usage: &str) -> Result<S
     if matches!(words, ["explain", ..]) {
         return help_on(alloc, "explain");
     }
+    if is_why || asks(words, "--why") {
+        return String::from_str(alloc, WHY_USAGE);
+    }
     let mut text = String::from_str(alloc, usage)?;
-    push_advice(alloc, &mut text, if is_why { WHY } else { words })?;
+    push_advice(alloc, &mut text, words)?;
     Ok(text)
 }
 
-// The words of a request for what orders the accesses of a line.
-const WHY: &[&str] = &["settle", "--why"];
+// The error of `--why` among words that aren't one program and a line of it.
+const WHY_USAGE: &str =
+    "error: `--why` of `settle` takes one program and the number of a line in it: `cilk settle prog.c --why 12`\n\
+    hint: `cilk help settle` describes `settle` and its options\n";
 
 /// Serves a command line as `serve` does, then adds what else is requested.
 #[tactic(auto, using(cilk_commands::proofs::Reading::takes_same))]

@@ -12,21 +12,22 @@ ghost use Rattle.cilk_report.specs.Settling.{Fails, IsShown, SettlesEach, Shows,
 ghost use Rattle.cilk_messages.specs.Batches.{batch_view, heading};
 
 use crate::Keeps;
-use crate::explaining::{of_answer, of_failure};
+use crate::colors::colored;
+use crate::explaining::{answer_text, failure_text};
 use crate::serving::missing;
 use crate::totals::wrong_words;
 use cilk_commands::reply::{Answer, Failure, NO_MEMORY, WRONG};
 use cilk_commands::streams::send;
 use cilk_commands::{complain, settle, tell};
-use cilk_messages::batch::{Batch, Form, batch_of, object, short};
+use cilk_messages::batch::{Batch, Form, batch_of, object, place_in, short};
 use cilk_messages::words::Order;
 use cilk_profile::Kept;
 use std::alloc::{AllocError, Global};
 use std::io::{Read, Write};
 
 // The error of `settle` for words that name no programs.
-const USAGE: &str =
-    "error: these words name no programs to settle: `cilk settle PROGRAM.. [--input FILE] [--short | --json]`\n\
+const USAGE: &str = "error: these words name no programs to settle: \
+    `cilk settle PROGRAM.. [--input FILE] [--short | --json] [--explain]`\n\
     hint: `cilk help settle` describes `settle` and its options\n";
 
 /// Serves `settle` for several programs, or in a short form.
@@ -234,11 +235,7 @@ fn shown(
     let texts = texts_of(alloc, reply)?;
     match batch.form {
         Form::Full => {
-            let order = Order::Settle {
-                program,
-                input: batch.input,
-            };
-            let explanation = explanation(alloc, &order, reply, kept)?;
+            let explanation = explanation(alloc, program, batch, reply, kept)?;
             texts.full(alloc, program, explanation.as_str())
         }
         Form::Short => {
@@ -248,8 +245,27 @@ fn shown(
                 err: Vec::new(alloc),
             })
         }
+        Form::Explained => {
+            let line = short(alloc, program, texts.whole()?.as_slice())?;
+            let explanation = explanation(alloc, program, batch, reply, kept)?;
+            Ok(Texts {
+                out: line,
+                err: explanation.into_bytes(),
+            })
+        }
         Form::Json => {
-            let line = object(alloc, program, status_of(reply), texts.whole()?.as_slice())?;
+            let whole = texts.whole()?;
+            let explanation = explanation(alloc, program, batch, reply, kept)?;
+            let told = explanation.as_str();
+            let place = place_in(program, told);
+            let line = object(
+                alloc,
+                program,
+                status_of(reply),
+                whole.as_slice(),
+                told,
+                place,
+            )?;
             Ok(Texts {
                 out: line,
                 err: Vec::new(alloc),
@@ -283,19 +299,25 @@ fn texts_of(alloc: Global, reply: &Result<Answer, Failure<'_>>) -> Result<Texts,
     }
 }
 
-// The explanation of a reply, or a line why there is none.
+// The explanation of a reply, or a line why there is none. In JSON it has no colours.
 fn explanation(
     alloc: Global,
-    order: &Order<'_>,
+    program: &str,
+    batch: &Batch<'_>,
     reply: &Result<Answer, Failure<'_>>,
     kept: &Kept,
 ) -> Result<String, AllocError> {
+    let order = Order::Settle {
+        program,
+        input: batch.input,
+    };
     let found = match reply {
-        Ok(answer) => of_answer(alloc, order, answer, kept),
-        Err(failure) => of_failure(alloc, order, failure, kept),
+        Ok(answer) => answer_text(alloc, &order, answer, kept),
+        Err(failure) => failure_text(alloc, &order, failure, kept),
     };
     match found {
-        Ok(text) => Ok(text),
+        Ok(text) if batch.form == Form::Json => Ok(text),
+        Ok(text) => colored(alloc, text, kept),
         Err(fault) => String::from_str(alloc, missing(fault)),
     }
 }

@@ -8,4 +8,4 @@ returns c =
     c.in_ok-push.ensures.items
     ∙ ap line (c.into_inner-text.ensures.items
     ∙ ap₂ (λ before ts. before ++ print ts) (c.in_ok-write_object.ensures.before ∙ c.new-writer.ensures.before ∙ c.new.ensures.items) c.in_ok-write_object.ensures.tokens)
-    ∙ ap (λ reply. object_line c.args.program.now c.args.status reply) c.in-Ok.ensures.cases.0
+    ∙ ap (λ reply. object_line c.args.program.now c.args.status reply c.args.explanation.now c.args.place) c.in-Ok.ensures.cases.0

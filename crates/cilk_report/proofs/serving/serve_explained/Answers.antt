@@ -40,16 +40,16 @@ pub returns-in-Err-Memory-clause-measured : goal.returns-in-Err-Memory-clause-me
 returns-in-Err-Memory-clause-measured g c = λ _ _. measuring.starved _ _ _ _ _ _ _ _ _ _ _ _ c.complain.ensures (silence _ _) refl
 
 pub returns-in-Ok-2-clause-explained : goal.returns-in-Ok-2-clause-explained
-returns-in-Ok-2-clause-explained g c = λ empty _ _ _ _. absurd (measuring.asked _ _ c.in-Ok.ensures.order empty)
+returns-in-Ok-2-clause-explained g c = λ empty _ _ _ _ _. absurd (measuring.asked _ _ c.in-Ok.ensures.order empty)
 
 pub returns-in-Err-Usage-clause-explained : goal.returns-in-Err-Usage-clause-explained
-returns-in-Err-Usage-clause-explained g c = λ _ isnt other about less.
+returns-in-Err-Usage-clause-explained g c = λ _ isnt other settles about less.
     of_kept (λ fs f. ServesThenExplains (unflagged (texts c.args.words.now)) fs (g.R.Read.remaining c.args.input.now) f (g.F.Files.failed c.serve_other.new.files)
     c.serve_other.result (g.O.Write.contents c.args.out.now) (g.O.Write.contents c.serve_other.new.out) (g.E.Write.contents c.args.err.now)
-    (g.E.Write.contents c.serve_other.new.err)) _ _ _ _ c.keep-in-Err-Usage.ensures.failures c.keep-in-Err-Usage.ensures.same (c.serve_other.ensures.explained isnt other about less)
+    (g.E.Write.contents c.serve_other.new.err)) _ _ _ _ c.keep-in-Err-Usage.ensures.failures c.keep-in-Err-Usage.ensures.same (c.serve_other.ensures.explained isnt other settles about less)
 
 pub returns-in-Err-Memory-clause-explained : goal.returns-in-Err-Memory-clause-explained
-returns-in-Err-Memory-clause-explained g c = λ _ _ _ _ _. (
+returns-in-Err-Memory-clause-explained g c = λ _ _ _ _ _ _. (
   g.E.Write.contents c.complain.new.err,
   c.complain.result.told,
   starved _ _ _ _ _ _ _ c.complain.ensures,
@@ -109,7 +109,7 @@ pub returns-in-Ok-clause-scheduled : goal.returns-in-Ok-clause-scheduled
 returns-in-Ok-clause-scheduled g c = λ empty _ _. absurd (measuring.asked _ _ c.in-Ok.ensures.order empty)
 
 pub returns-in-Ok-clause-explained : goal.returns-in-Ok-clause-explained
-returns-in-Ok-clause-explained g c = λ empty _ _ _ _. absurd (measuring.asked _ _ c.in-Ok.ensures.order empty)
+returns-in-Ok-clause-explained g c = λ empty _ _ _ _ _. absurd (measuring.asked _ _ c.in-Ok.ensures.order empty)
 
 pub returns-in-Ok-clause-settles : goal.returns-in-Ok-clause-settles
 returns-in-Ok-clause-settles g c = λ empty _ _ _. absurd (measuring.asked _ _ c.in-Ok.ensures.order empty)

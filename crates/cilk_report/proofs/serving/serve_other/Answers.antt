@@ -21,7 +21,7 @@ returns-else-is_measure-clause-measured g c =
 
 pub returns-then-is_measure-clause-explained : goal.returns-then-is_measure-clause-explained
 returns-then-is_measure-clause-explained g c =
-    λ isnt _ _ _. absurd (true≢false (sym c.if-is_measure.true ∙ c.is_measure.ensures ∙ isnt))
+    λ isnt _ _ _ _. absurd (true≢false (sym c.if-is_measure.true ∙ c.is_measure.ensures ∙ isnt))
 
 pub returns-else-is_measure-clause-explained : goal.returns-else-is_measure-clause-explained
 returns-else-is_measure-clause-explained g c = λ _. c.serve_unmeasured.ensures.explained

@@ -1,6 +1,5 @@
 use Rattle.std.proofs.Common.{sym, ◌∙◌}
 use Rattle.std.proofs.lemmas.Bool.{true≢false}
-use Rattle.cilk_messages.proofs.Plain.{unasked}
 use Rattle.cilk_report.specs.Explained.{Scheduling, SettlingEach}
 use Rattle.cilk_report.proofs.serving.serve_unmeasured.Goals as goal
 
@@ -15,7 +14,7 @@ returns-then-is_schedule-clause-settles g c = λ isnt _. absurd (true≢false (s
 
 pub returns-then-is_schedule-clause-explained : goal.returns-then-is_schedule-clause-explained
 returns-then-is_schedule-clause-explained g c =
-    λ isnt _ _. absurd (true≢false (sym c.if-is_schedule.true ∙ c.is_schedule.ensures ∙ isnt))
+    λ isnt _ _ _. absurd (true≢false (sym c.if-is_schedule.true ∙ c.is_schedule.ensures ∙ isnt))
 
 pub returns-then-is_settling-clause-served : goal.returns-then-is_settling-clause-served
 returns-then-is_settling-clause-served g c = SettlingEach c.requires.other (sym c.is_settling.ensures ∙ c.if-is_settling.true) c.serve_settling.ensures.shown
@@ -29,7 +28,7 @@ returns-then-is_settling-clause-settles g c = λ _ _. c.serve_settling.ensures.s
 
 pub returns-then-is_settling-clause-explained : goal.returns-then-is_settling-clause-explained
 returns-then-is_settling-clause-explained g c =
-    λ _ _ less. absurd (unasked _ (sym c.is_settling.ensures ∙ c.if-is_settling.true) less)
+    λ _ isnt _ _. absurd (true≢false (sym c.if-is_settling.true ∙ c.is_settling.ensures ∙ isnt))
 
 pub returns-else-is_settling-clause-served : goal.returns-else-is_settling-clause-served
 returns-else-is_settling-clause-served g c = c.serve_unscheduled.ensures.served
@@ -43,4 +42,4 @@ returns-else-is_settling-clause-settles g c =
     λ _ held. absurd (true≢false (sym held ∙ sym c.is_settling.ensures ∙ c.if-is_settling.false))
 
 pub returns-else-is_settling-clause-explained : goal.returns-else-is_settling-clause-explained
-returns-else-is_settling-clause-explained g c = λ _. c.serve_unscheduled.ensures.explained
+returns-else-is_settling-clause-explained g c = λ _ _. c.serve_unscheduled.ensures.explained
