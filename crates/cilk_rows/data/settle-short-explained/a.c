@@ -1,0 +1,1 @@
+int main() { print(7); return 1; }

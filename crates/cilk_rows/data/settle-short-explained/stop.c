@@ -1,0 +1,1 @@
+int main() { int i = 0; return 1 / i; }

@@ -1,0 +1,1 @@
+int main() { print(input(0)); return input(1); }
