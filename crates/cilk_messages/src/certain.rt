@@ -124,7 +124,8 @@ const FORMS: &str = "\
 0 <= | -2 ; | in cilk_for => UP_TO
 0 > >= | -2 ; | in cilk_for => DOWNWARD
 0 != | -2 ; | in cilk_for => HEAD
-0 -- -= | in cilk_for => DOWNWARD
+0 -= | in cilk_for => STEP_DOWN
+0 -- | in cilk_for => DOWNWARD
 0 = | -2 ; | in cilk_for => STEP_HEAD
 0 += | +1 ^ 1 | in cilk_for => STEP_HEAD
 0 @ | -1 ( | in cilk_for => DECLARES

@@ -201,8 +201,8 @@ fn directive(text: &[u8], at: usize) -> Piece {
 
 // A number: one of the language stays.
 fn numeral(text: &[u8], at: usize) -> Piece {
-    let end = numeral_end(text, at);
-    let word = between(text, at, end);
+    let word = numeral_at(text, at);
+    let end = at.saturating_add(word.len());
     let is_short = word.len() < 2 || (byte_at(word, 0) != b'0' && word.len() <= DIGITS);
     if is_short && all_digits(word) {
         Piece::plain(end)
@@ -213,6 +213,11 @@ fn numeral(text: &[u8], at: usize) -> Piece {
 
 // Each number with this many digits is one of the language.
 const DIGITS: usize = 18;
+
+/// Returns the number of C that begins at a place.
+pub fn numeral_at(text: &[u8], at: usize) -> &[u8] {
+    between(text, at, numeral_end(text, at))
+}
 
 // The end of a number of C: with a point, letters, and a sign after the `e` of an exponent.
 fn numeral_end(text: &[u8], at: usize) -> usize {

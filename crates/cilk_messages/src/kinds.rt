@@ -4,13 +4,13 @@ use crate::around::{byte_at, word_after};
 use crate::place::between;
 use crate::sentences::row_of;
 
-// What a file of each kind has before its first blank, and what to do with it.
+// What a file of each kind has before its first blank or line's end, and what to do with it.
 const KINDS: &str = "\
 cilktrace-bin => this is a trace in the binary form: `cilk judge TRACE` reads it
 cilktrace => this is a trace: `cilk judge TRACE` reads it
 cilksites => this is a table of sites: `cilk judge TRACE --sites FILE` reads it
 cilkcert => this is a certificate: `cilk check PROGRAM CERTIFICATE` reads it, after the text of the program
-run steal => this is a script: `cilk play PROGRAM SCRIPT` reads it, after the text of the program
+run steal all => this is a script: `cilk play PROGRAM SCRIPT` reads it, after the text of the program
 \u{7f}ELF.. => this is a compiled program, and no text: give the source, in the language of `docs/LANGUAGE.md`; one that `recorder/cilkrec` built writes a trace as it runs, and `cilk judge TRACE` reads that";
 
 /// Returns what to do with a text that is no program, if it begins as a file of another kind. A
@@ -18,7 +18,7 @@ run steal => this is a script: `cilk play PROGRAM SCRIPT` reads it, after the te
 pub fn other_kind(text: &[u8]) -> Option<&'static str> {
     let first = behind_comments(text);
     for end in first..text.len() {
-        if text[end] == b' ' {
+        if matches!(text[end], b' ' | b'\t'..=b'\r') {
             return row_of(KINDS, between(text, first, end));
         }
     }

@@ -3,6 +3,7 @@
 use crate::around::{
     before, byte_at, is_among, is_name, is_number, word_after, word_at, word_before,
 };
+use crate::cleaned::numeral_at;
 use crate::place::{between, line_at};
 use crate::rules::{Surroundings, said};
 use crate::sentences::sentence;
@@ -21,7 +22,7 @@ pub fn odd_byte(text: &[u8], at: usize) -> &'static str {
 pub fn no_token(text: &[u8], at: usize) -> Option<&'static str> {
     let word = word_at(text, at);
     if is_number(word) {
-        return Some(no_number(word));
+        return Some(no_number(numeral_at(text, at)));
     }
     said(&Spot { text, at }, MARKS)
 }

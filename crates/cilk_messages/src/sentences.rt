@@ -20,6 +20,7 @@ HEAD => a `cilk_for` counts up by 1 to a bound that it doesn't reach: `cilk_for 
 STEP_HEAD => a `cilk_for` counts up by 1: for `i += step` from `first` to `end` it counts `int k = 0; k < (end - first + step - 1) / step; k++`, and its body begins with `int i = first + step * k;`
 UP_TO => a `cilk_for` counts up by 1 to a bound that it doesn't reach: `k < n + 1` stands for `k <= n`
 DOWNWARD => a `cilk_for` counts up by 1: for a loop downward its body works the index out, `int i = n - 1 - k;`
+STEP_DOWN => a `cilk_for` counts up by 1: for `i -= step` from `first`, while `i > end`, it counts `int k = 0; k < (first - end + step - 1) / step; k++`, and its body begins with `int i = first - step * k;`; `i > end - 1` stands for `i >= end`
 DECLARES => a `cilk_for` declares its variable: `cilk_for (int i = 0; i < n; i++)`
 ONE_STEP => a `for` head has one variable and one step: the other ones go before the loop, and at the end of its body
 STEP => `x++` is a statement of its own, or the last part of a `for` head

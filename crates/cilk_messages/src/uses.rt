@@ -60,7 +60,9 @@ in value => REDUCER_USE
 0 + - * / % < <= > >= == != && || [ | of @ | of-1 cilk_spawn => SPAWN
 0 + - * / % < <= > >= == != && || [ | of @ => CALL
 0 <= | in cilk_for => UP_TO
-0 > >= -- -= | in cilk_for => DOWNWARD
+0 -= | in cilk_for => STEP_DOWN
+0 > >= | +4 -= | in cilk_for => STEP_DOWN
+0 > >= -- | in cilk_for => DOWNWARD
 0 $ | -1 ( | in cilk_for => DECLARES
 0 = | in cilk_for => STEP_HEAD
 0 ^ { } | -1 += | in cilk_for => STEP_HEAD

@@ -59,7 +59,7 @@ pub fn cast_to(word: &[u8]) -> &'static str {
 }
 
 const CASTS: &str = "\
-unsigned char uint8_t uint16_t uint32_t => `int` is the only type, and has a sign: write `x % 256` for `(unsigned char)x`, and `x % 4294967296` for `(unsigned)x`, where `x` isn't below 0; below 0 add 256 or 4294967296 to that
+unsigned char uint8_t uint16_t uint32_t => `int` is the only type, and has a sign: write `x % 256` for `(unsigned char)x`, and `x % 4294967296` for `(unsigned)x`; where that is below 0, add 256 or 4294967296 to it
 float double => numbers are whole: leave the cast out; before a division multiply first, `a * 1000 / b` for `(double)a / b` in thousandths
 int long short int64_t int32_t size_t => `int` is the only type, and has 64 bits: leave the cast out
 void => nothing is cast: leave `(void)` out, and where no call follows it, the whole statement";
