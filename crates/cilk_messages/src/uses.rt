@@ -29,7 +29,7 @@ const USES: &str = "\
 0 = | -2 cilk_spawn => spawned
 0 [ | in cilk_reducer => REDUCER_ARRAY
 0 [ | -5 cilk_reducer => REDUCER_ARRAY
--1 ( | +1 , | in cilk_reducer => REDUCER_FUNCTIONS
+0 , | in cilk_reducer => REDUCER_FUNCTIONS
 in cilk_reducer => REDUCER
 -5 cilk_reducer => REDUCER
 length => LENGTH
