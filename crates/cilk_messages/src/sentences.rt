@@ -66,6 +66,7 @@ ONE_TYPE => `int` is the only type
 CAST => `int` is the only type, so nothing is cast: leave the type and its parentheses out
 CASES => write `if` and `else if`
 PROTOTYPE => a function is known in the whole text: leave this line away
+FUNCTIONS => a function has at most 16 parameters: let a global array hold what is passed, and pass its first place; a text has at most 1,024 functions: one with a parameter stands for several that nearly agree
 RESERVED_NAME => this word is reserved here: take another name
 NESTED => functions stand side by side, none inside another: a `}` may be missing ahead";
 
