@@ -250,7 +250,7 @@ A reducer is read or set where updates that may come before or after it still ru
 program int cilk_reducer(add) r; void f(){update(r,1);} int main(){cilk_spawn f();print(value(r));cilk_sync;return 0;}
 refused 312 2 9
 a view-read race: the reducer's creation and a `set` or `value` of it
-Read and set a reducer before the first spawn, or after the `cilk_sync`.
+Read and set a reducer before the first spawn, or after the `cilk_sync`, and in no call that is itself spawned.
 
 502: an input that leaves the plan of the certified run
 `threads` runs a program by the plan of its certified run; on the numbers of `--on FILE` the program comes to another event at this position, or to a fault.

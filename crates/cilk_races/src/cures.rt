@@ -110,7 +110,7 @@ const RULES: &[Rule] = &[
     (VIEW | TAKEN, 0, "KEPT", ""),
     (VIEW | SET, BEHIND, "OWN_SUM", "OWN_REDUCER"),
     (VIEW | TURNS, 0, "AFTER_LOOP", ""),
-    (VIEW | BEHIND, 0, "SYNC", ""),
+    (VIEW | BEHIND, RECURSION, "SYNC", ""),
     (VIEW | RECURSION | SUM, 0, "IN_RECURSION", "OWN_PART"),
     (VIEW | RECURSION, 0, "IN_RECURSION", ""),
     (VIEW | SUM, 0, "IN_PARENT", "OWN_PART"),
