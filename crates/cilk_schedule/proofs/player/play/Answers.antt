@@ -4,7 +4,7 @@ use Rattle.cilk_lower.specs.Behaves.{IsCodeOf}
 use Rattle.cilk_schedule.proofs.Following.{if_err}
 use Rattle.cilk_schedule.proofs.player.play.Goals as goal
 
-of_program : (c : goal.After-play_on) → IsCodeOf (source c.args.program.now) c.in_ok-code.code
+of_program : (c : goal.After-drop-code) → IsCodeOf (source c.args.program.now) c.in_ok-code.code
 of_program c = record { well = c.args.program.now.well_named; behaves = c.in_ok-code.ensures.asks; lays = c.in_ok-code.ensures.layout }
 
 pub returns-clause-left : goal.returns-clause-left
