@@ -18,7 +18,7 @@ GLOBAL: let a reducer take it: `int cilk_reducer({m}) {n};` in place of `int {n}
 FIRST: let a reducer take it: `int cilk_reducer({m}) {n};` as the first line of the function, in place of `int {n}`
 INNER: move this inner `cilk_for` to a function of its own (or write `for` for it), whose first line is `int cilk_reducer({m}) {n};` and whose last is `return value({n});`
 UPDATED: , `update({n}, {a});` here, and `value({n})` where it is read, after the loop or the `cilk_sync`; if what it begins with counts, that is an `update` of its own
-COMPARED: , `update({n}, {a});` here without the comparison, and `value({n})` where it is read, after the loop or the `cilk_sync`; if what it begins with counts, that is an `update` of its own; what else the `if` sets, a second loop finds, where the number is `value({g})`
+COMPARED: , `update({n}, {a});` here without the comparison, and `value({n})` where it is read, after the loop or the `cilk_sync`; if what it begins with counts, that is an `update` of its own; what else the `if` sets, a second loop finds, a `for`, where the number is `value({g})`
 MOST: , `update({n}, {a});` here in place of the call, and `value({n})` where it is read, after the loop or the `cilk_sync`; if what it begins with counts, that is an `update` of its own
 ONCE: , `update({n}, {a});` here, and `value({n})` where it is read, after the loop or the `cilk_sync`: the first that is found is meant, so leave `{g}` out of the condition; where none is found it is 9223372036854775807; what else is set here is read after the loop, at that turn
 LAST: , `update({n}, {a});` here, and `value({n})` where it is read, after the loop: the last that is found is meant; where none is found it is -9223372036854775808
