@@ -1,0 +1,2 @@
+int x = {1};
+int main() { return x; }

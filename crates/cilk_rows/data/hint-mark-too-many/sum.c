@@ -1,0 +1,5 @@
+int main() {
+  int x = 1;
+  x = (x + 1) * 2);
+  return x;
+}

@@ -1,0 +1,7 @@
+int main() {
+  int x = 1;
+  switch (x) {
+  default: x = 3;
+  }
+  return x;
+}

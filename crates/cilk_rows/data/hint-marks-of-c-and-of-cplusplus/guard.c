@@ -1,0 +1,2 @@
+#define GUARD
+int main() { return 0; }

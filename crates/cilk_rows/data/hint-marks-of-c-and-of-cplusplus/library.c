@@ -1,0 +1,4 @@
+int main() {
+  int x = std::max(1, 2);
+  return x;
+}

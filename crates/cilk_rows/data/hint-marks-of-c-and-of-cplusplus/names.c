@@ -1,0 +1,5 @@
+int value = 1;
+int main() {
+  int print;
+  return value;
+}

@@ -1,0 +1,2 @@
+cilk::reducer_opadd<int> total;
+int main() { return 0; }

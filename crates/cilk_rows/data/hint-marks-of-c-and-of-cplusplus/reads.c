@@ -1,0 +1,5 @@
+int main() {
+  int x = 0;
+  std::cin >> x;
+  return x;
+}

@@ -1,0 +1,6 @@
+using namespace std;
+int main() {
+  auto x = 0;
+  cin >> x;
+  return x;
+}

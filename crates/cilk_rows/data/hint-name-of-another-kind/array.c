@@ -1,0 +1,5 @@
+int a[4];
+int main() {
+  int x = a;
+  return x;
+}

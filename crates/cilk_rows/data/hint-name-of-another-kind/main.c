@@ -1,0 +1,4 @@
+int main(int n) {
+  print(n);
+  return 0;
+}

@@ -1,0 +1,5 @@
+int main() {
+  int x = input(0);
+  int y = ~x;
+  return y;
+}

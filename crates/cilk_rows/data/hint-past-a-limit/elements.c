@@ -1,0 +1,5 @@
+int a[1000000];
+int b;
+int main() {
+  return b;
+}

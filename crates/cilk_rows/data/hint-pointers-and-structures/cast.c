@@ -1,0 +1,5 @@
+int main() {
+  int x = 1;
+  x = (node *)x;
+  return x;
+}

@@ -1,0 +1,5 @@
+int node;
+int main() {
+  int x = node->left;
+  return x;
+}

@@ -1,0 +1,7 @@
+#define N 8
+int main() {
+  int x = 1;
+  x * y;
+  int z = x * *x;
+  return z;
+}

@@ -1,0 +1,5 @@
+int node;
+int main() {
+  node->left = 1;
+  return node;
+}

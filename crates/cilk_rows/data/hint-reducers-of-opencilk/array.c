@@ -1,0 +1,2 @@
+int cilk_reducer(bins[4]) total;
+int main() { return value(total); }

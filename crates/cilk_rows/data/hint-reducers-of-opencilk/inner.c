@@ -1,0 +1,5 @@
+int main() {
+  int n = 4;
+  cilk_reducer(add) total;
+  return n;
+}

@@ -1,0 +1,4 @@
+int main() {
+  update(1, 2);
+  return 0;
+}

@@ -1,0 +1,2 @@
+int cilk_reducer(+) total;
+int main() { return value(total); }

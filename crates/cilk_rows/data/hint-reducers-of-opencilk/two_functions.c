@@ -1,0 +1,2 @@
+int cilk_reducer(zero, plus) total;
+int main() { return value(total); }

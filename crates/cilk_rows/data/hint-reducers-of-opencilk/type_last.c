@@ -1,0 +1,2 @@
+cilk_reducer(add) int total;
+int main() { return value(total); }

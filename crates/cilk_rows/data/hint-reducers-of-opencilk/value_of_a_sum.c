@@ -1,0 +1,5 @@
+int cilk_reducer(add) total;
+int main() {
+  int x = value(total + 1);
+  return x;
+}

@@ -1,0 +1,5 @@
+int cilk_reducer(add) total;
+int main() {
+  update total 1;
+  return 0;
+}
