@@ -23,14 +23,11 @@ decimal_point n = decimal (n / 100) ++ 46 ∷ decimal (n / 10 % 10) ++ decimal (
 abbrev pub parallelism_line : List ℕ → ℕ → ℕ → ℕ → List ℕ
 parallelism_line name mark work span = name ++ mark ∷ decimal_point (hundredths work span) ++ 10 ∷ []
 
-abbrev pub burdened_name : List ℕ
-burdened_name = codes "burdened span (a burden of 1000 for each spawn that a steal may take)"
-
 -- The totals, one to a line. The work is the number of events. Ticks aren't among the totals: they
 -- are shown if they are known.
 abbrev pub totals_text : ℕ → Totals → Option ℕ → List ℕ
 totals_text mark t ticks =
     total_line (codes "events") mark t.work ++ known_line (codes "ticks") mark ticks ++ total_line (codes "frames") mark t.frames
     ++ total_line (codes "strands") mark t.strands ++ total_line (codes "work") mark t.work ++ total_line (codes "span") mark t.span
-    ++ parallelism_line (codes "parallelism") mark t.work t.span ++ total_line burdened_name mark t.burdened_span
+    ++ parallelism_line (codes "parallelism") mark t.work t.span ++ total_line (codes "burdened span") mark t.burdened_span
     ++ parallelism_line (codes "burdened parallelism") mark t.work t.burdened_span

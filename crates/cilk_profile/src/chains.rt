@@ -44,8 +44,8 @@ impl Drop for Chains {
     }
 }
 
-/// Returns for each step of the span of a run that has ended the number of events there. With enough workers all events of a
-/// step can be made at the same time. Cost and memory: linear in the events.
+/// Returns for each step of the span of a run that has ended the number of events there. With enough
+/// workers all events of a step can be made at the same time. Cost and memory: linear in the events.
 pub fn profile(alloc: Global, trace: &Trace) -> Result<Vec<u32>, AllocError> {
     let chains = Chains::of(alloc, trace)?;
     let mut counts: Vec<u32> = Vec::new(alloc);

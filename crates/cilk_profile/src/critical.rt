@@ -2,6 +2,7 @@
 
 use crate::chains::{Chain, Chains};
 use crate::rows::{Table, push_cells, title_at};
+use crate::shares::{NO_SHARE, Share};
 use cilk_findings::case::Case;
 use cilk_findings::scene::Scene;
 use cilk_messages::sentence::{printed, say};
@@ -15,14 +16,13 @@ const LINES: usize = 5;
 /// The most bytes of a line that are shown.
 const SHOWN: usize = 60;
 
-/// A place at which frames are spawned, or a `cilk_for`: what it runs, the frames spawned there, and
-/// the events of the critical path inside its frames.
+/// A place at which frames are spawned, or a `cilk_for`: what it runs, the number of spawns, the
+/// measures of its frames, and the events of the critical path inside them.
 #[derive(Clone, Copy)]
 struct Site {
     body: Body,
     spawned: u64,
-    // The end of its last frame that is in no other frame of it.
-    upto: usize,
+    share: Share,
     on_path: u64,
 }
 
@@ -35,8 +35,10 @@ struct Line {
     on_path: u64,
 }
 
-// The heads of the first columns.
-const SITE: &str = "spawned";
+// The heads of the first columns, for a spreadsheet without what is in brackets.
+const SITE: &str = "spawned (shares of nested ones overlap)";
+
+const SITE_ALONE: &str = "spawned";
 
 const LINE: &str = "line";
 
@@ -44,6 +46,7 @@ const LINE: &str = "line";
 struct Critical<'a> {
     table: Table<'a>,
     length: u64,
+    chains: Chains,
     // For each event, and the end, the number of events of the path that come before it.
     ahead: Vec<u64>,
     // For each byte of the text, the events of the path there.
@@ -58,6 +61,7 @@ impl Drop for Critical<'_> {
         let Critical {
             table: _table,
             length: _length,
+            chains: _chains,
             ahead: _ahead,
             counts: _counts,
             sites: _sites,
@@ -72,6 +76,7 @@ impl Table<'_> {
         let mut critical = Critical {
             table: *self,
             length: 0,
+            chains: Chains::of(alloc, &self.scene.run.trace)?,
             ahead: Vec::new(alloc),
             counts: Vec::new(alloc),
             sites: Vec::new(alloc),
@@ -85,7 +90,7 @@ impl Table<'_> {
         let whole = thousandths / 10;
         let tenths = thousandths % 10;
         if self.commas {
-            write!(text, ",{count},{whole}.{tenths}%")
+            write!(text, ",{count},{whole}.{tenths}")
         } else {
             write!(text, " {count:>9} {whole:>6}.{tenths}%")
         }
@@ -106,8 +111,7 @@ impl Critical<'_> {
         self.counts.resize(case.text.len(), 0)?;
         self.ahead
             .resize(run.replay.steps.len().saturating_add(1), 0)?;
-        let chains = Chains::of(case.alloc, &run.trace)?;
-        let Chain { length, last } = chains.depth.own;
+        let Chain { length, last } = self.chains.depth.own;
         self.length = length as u64;
         let mut event = last;
         for _event in 0..length {
@@ -120,7 +124,7 @@ impl Critical<'_> {
             if let Some(mark) = self.ahead.get_mut(event.saturating_add(1)) {
                 *mark = 1;
             }
-            event = chains.before.get(event).copied().unwrap_or(0);
+            event = self.chains.before.get(event).copied().unwrap_or(0);
         }
         let mut sum: u64 = 0;
         for place in 0..self.ahead.len() {
@@ -147,16 +151,18 @@ impl Critical<'_> {
                 let mut site = place.unwrap_or(Site {
                     body: note.body,
                     spawned: 0,
-                    upto: 0,
+                    share: NO_SHARE,
                     on_path: 0,
                 });
                 if let Invocation::Spawn = note.how {
                     site.spawned = site.spawned.saturating_add(1);
                 }
-                if note.begun >= site.upto {
-                    site.upto = note.ended.unwrap_or(note.begun).saturating_add(1);
+                let counted = site.share.upto;
+                site.share.add(note, self.chains.steps.as_slice());
+                let upto = site.share.upto;
+                if upto > counted {
                     let ahead = count_at(self.ahead.as_slice(), note.begun.saturating_add(1));
-                    let inside = count_at(self.ahead.as_slice(), site.upto).saturating_sub(ahead);
+                    let inside = count_at(self.ahead.as_slice(), upto).saturating_sub(ahead);
                     site.on_path = site.on_path.saturating_add(inside);
                 }
                 *place = Some(site);
@@ -180,14 +186,22 @@ impl Critical<'_> {
         if width == 0 {
             return Ok(());
         }
-        width = width.max(SITE.len());
+        let head = if commas { SITE_ALONE } else { SITE };
+        width = width.max(head.len());
         text.push('\n')?;
-        push_cells(text, SITE, &["spawns", "on span", "share"], width, commas)?;
+        push_cells(
+            text,
+            head,
+            &["spawns", "span", "on span", "share"],
+            width,
+            commas,
+        )?;
         at = 0;
         for site in &self.sites {
             if let Some(site) = site {
                 let title = title_at(&scene, site.body, at);
-                self.table.push_title(text, &title, width, &[site.spawned])?;
+                self.table
+                    .push_title(text, &title, width, &[site.spawned, site.share.span])?;
                 self.table.push_percent(text, site.on_path, self.length)?;
                 text.push('\n')?;
             }

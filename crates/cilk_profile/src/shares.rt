@@ -18,11 +18,11 @@ pub struct Share {
     pub events: u64,
     pub work: u64,
     pub span: u64,
-    // The event after the frames that are counted.
-    upto: usize,
+    /// The event after the frames whose work is counted.
+    pub upto: usize,
 }
 
-const NO_SHARE: Share = Share {
+pub const NO_SHARE: Share = Share {
     frames: 0,
     strands: 0,
     events: 0,
@@ -61,9 +61,9 @@ pub fn find_shares(scene: &Scene<'_>, shares: &mut Vec<Share>) -> Result<(), All
 }
 
 impl Share {
-    // Adds a frame. Its events are added to the group's work unless an outer frame of the group has
-    // them. Only the first frame is begun by the first event.
-    fn add(&mut self, note: &FrameNote, steps: &[usize]) {
+    /// Adds a frame. Its events are added to the group's work unless an outer frame of the group has
+    /// them. Only the first frame is begun by the first event.
+    pub fn add(&mut self, note: &FrameNote, steps: &[usize]) {
         let last = note.ended.unwrap_or(0);
         let first = match note.begun {
             0 => 0,

@@ -1,5 +1,6 @@
 //! Bounds of the speed-up by several workers.
 
+use crate::burdened::BURDEN;
 use crate::rows::{Table, push_cells};
 use crate::totals::Totals;
 use cilk_messages::sentence::say;
@@ -11,15 +12,18 @@ const WORKERS: [usize; 7] = [1, 2, 4, 8, 16, 32, 64];
 // The head of the first column.
 const HEAD: &str = "speed-up by workers";
 
+const FORMULA: &str =
+    "low est. by P: work / (work / P + 1.7 burdened spans), with a burden of {} for each spawn that a steal may take\n";
+
 impl Table<'_> {
-    /// Adds a table of the speed-up by 1 to 64 workers: an estimate from the burdened span, and the
-    /// most that work and span allow.
+    /// Adds a table of the speed-up by 1 to 64 workers: a low estimate from the burdened span, and the
+    /// most that work and span allow. Unless it is for a spreadsheet, a line says what is estimated.
     pub fn push_speed_ups(&self, totals: &Totals, text: &mut String) -> Result<(), AllocError> {
         text.push('\n')?;
         push_cells(
             text,
             HEAD,
-            &["estimate", "at most"],
+            &["low est.", "at most"],
             HEAD.len(),
             self.commas,
         )?;
@@ -29,7 +33,10 @@ impl Table<'_> {
             self.push_point(text, totals.speed_up_bound(workers as u64))?;
             text.push('\n')?;
         }
-        Ok(())
+        if self.commas {
+            return Ok(());
+        }
+        self.scene.push(text, &say(FORMULA).count(BURDEN as usize))
     }
 
     // Adds a number of hundredths, with a point.

@@ -1,7 +1,7 @@
 //! The totals of a run as lines of text.
 
 ghost use Rattle.std.specs.Prelude.{◌≡◌, ◌++◌, IfOk, OnOk};
-ghost use Rattle.cilk_profile.specs.Table.{burdened_name, decimal_point, hundredths, known_line, parallelism_line, total_line, totals_text};
+ghost use Rattle.cilk_profile.specs.Table.{decimal_point, hundredths, known_line, parallelism_line, total_line, totals_text};
 
 use crate::totals::Totals;
 use itoa::Buffer;
@@ -12,9 +12,6 @@ pub const BLANK: u8 = b' ';
 
 /// The separator in a table with commas.
 pub const COMMA: u8 = b',';
-
-// The name of the burdened span, with `crate::burdened::BURDEN`.
-const BURDENED: &[u8] = b"burdened span (a burden of 1000 for each spawn that a steal may take)";
 
 // `NAME MARK NUMBER`.
 fn push_total(text: &mut Vec<u8>, name: &[u8], mark: u8, number: u64) -> Result<(), AllocError>
@@ -113,7 +110,7 @@ fn push_totals(
     push_total(text, b"work", mark, totals.work as u64)?;
     push_total(text, b"span", mark, totals.span)?;
     push_parallelism(text, b"parallelism", mark, totals.work, totals.span)?;
-    push_total(text, BURDENED, mark, totals.burdened_span)?;
+    push_total(text, b"burdened span", mark, totals.burdened_span)?;
     push_parallelism(
         text,
         b"burdened parallelism",
