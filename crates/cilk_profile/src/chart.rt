@@ -17,20 +17,23 @@ pub const HEAD: &str =
 
 /// The axes of the chart of workers.
 pub const WORKERS_AXES: &str = "<path d=\"M80 95 V315 h680\" fill=\"none\" stroke=\"#222222\"/>\n\
-    <text x=\"420\" y=\"355\" text-anchor=\"middle\" fill=\"#222222\">workers</text>\n\
+    <text x=\"420\" y=\"355\" text-anchor=\"middle\" fill=\"#222222\">workers (P)</text>\n\
     <text x=\"22\" y=\"205\" transform=\"rotate(-90 22 205)\" text-anchor=\"middle\" fill=\"#222222\">speed-up</text>\n";
 
 /// The begins of its curves. Blue and orange are told apart by the colour-blind too.
 pub const BOUND: &str = "<path fill=\"none\" stroke=\"#0072b2\" stroke-width=\"2\" d=\"";
 
-pub const ESTIMATE: &str = "<path fill=\"none\" stroke=\"#d55e00\" stroke-width=\"2\" d=\"";
+pub const ESTIMATE: &str =
+    "<path fill=\"none\" stroke=\"#d55e00\" stroke-width=\"2\" stroke-dasharray=\"6 4\" d=\"";
 
 /// What their colours mean.
 pub const KEYS: &str =
     "<path fill=\"none\" stroke=\"#0072b2\" stroke-width=\"2\" d=\"M80 68 h30\"/>\n\
-    <text x=\"118\" y=\"72\" text-anchor=\"start\" fill=\"#222222\">at most: min(workers, parallelism)</text>\n\
-    <path fill=\"none\" stroke=\"#d55e00\" stroke-width=\"2\" d=\"M420 68 h30\"/>\n\
-    <text x=\"458\" y=\"72\" text-anchor=\"start\" fill=\"#222222\">low estimate, with the burden</text>\n";
+    <text x=\"118\" y=\"72\" text-anchor=\"start\" fill=\"#222222\">at most: min(P, parallelism)</text>\n\
+    <path fill=\"none\" stroke=\"#d55e00\" stroke-width=\"2\" \
+    stroke-dasharray=\"6 4\" d=\"M350 68 h30\"/>\n\
+    <text x=\"388\" y=\"72\" text-anchor=\"start\" fill=\"#222222\">\
+    low estimate: work / (work / P + 1.7 burdened spans)</text>\n";
 
 /// The words at the chart of steps.
 pub const STEPS_WORDS: &str =
@@ -82,9 +85,9 @@ pub fn push_column(
     )
 }
 
-/// Adds words, with what XML or else a string of `dot` can't have as itself.
-pub fn push_escaped(text: &mut String, words: &str, is_xml: bool) -> Result<(), AllocError> {
-    for symbol in words.chars() {
+/// Adds a file's name without its folders, with what XML or else a string of `dot` can't have as itself.
+pub fn push_file(text: &mut String, path: &str, is_xml: bool) -> Result<(), AllocError> {
+    for symbol in path.rsplit('/').next().unwrap_or("").chars() {
         let escaped = match symbol {
             '&' if is_xml => "&amp;",
             '<' if is_xml => "&lt;",

@@ -5,7 +5,7 @@ use crate::burdened::BURDEN;
 use crate::chains::profile;
 use crate::chart::{
     BOUND, ESTIMATE, HEAD, HEIGHT, KEYS, LEFT, OUTLINE, OUTLINE_END, STEPS_WORDS, WIDTH,
-    WORKERS_AXES, push_column, push_escaped, push_hundredths, push_level, scaled,
+    WORKERS_AXES, push_column, push_file, push_hundredths, push_level, scaled,
 };
 use crate::dot::dot;
 use crate::totals::{Totals, totals_of};
@@ -22,9 +22,9 @@ const SPEED_UP: usize = 95;
 const STEPS: usize = 420;
 
 // The most workers of the chart.
-const WORKERS: usize = 32;
+const WORKERS: usize = 64;
 
-/// Draws, as SVG, the speed-up by 1 to 32 workers, estimated and at most, and how many events could
+/// Draws, as SVG, the speed-up by 1 to 64 workers, estimated and at most, and how many events could
 /// be made at each step of the span with enough workers. The case's run has to end without a fault;
 /// otherwise the error is [`CaseFault::Unfit`].
 pub fn profile_of(case: &Case<'_>) -> Result<String, CaseFault> {
@@ -37,7 +37,7 @@ pub fn profile_of(case: &Case<'_>) -> Result<String, CaseFault> {
 fn push_charts(case: &Case<'_>, trace: &Trace, text: &mut String) -> Result<(), AllocError> {
     let totals = totals_of(case.alloc, trace)?;
     text.push_str(HEAD)?;
-    push_escaped(text, case.file.rsplit('/').next().unwrap_or(""), true)?;
+    push_file(text, case.file, true)?;
     push_speed_up(text, &totals)?;
     let steps = profile(case.alloc, trace)?;
     push_steps(text, &totals, steps.as_slice())
@@ -65,7 +65,7 @@ fn push_speed_up(text: &mut String, totals: &Totals) -> Result<(), AllocError> {
     // The least end of the scale, in hundredths, that holds the greatest speed-up.
     let bound = totals.speed_up_bound(WORKERS as u64) as usize;
     let mut most: usize = 100;
-    for _octave in 0..5 {
+    for _octave in 0..6 {
         if most < bound {
             most = most.saturating_mul(2);
         }
@@ -138,7 +138,7 @@ fn push_steps(text: &mut String, totals: &Totals, steps: &[u32]) -> Result<(), A
     write!(
         text,
         "<path d=\"M80 420 V640 h680\" fill=\"none\" stroke=\"#222222\"/>\n\
-        <path fill=\"none\" stroke=\"#777777\" stroke-width=\"2\" stroke-dasharray=\"6 4\" d=\"M80 {y} h680\"/>\n\
+        <path fill=\"none\" stroke=\"#222222\" stroke-width=\"2\" stroke-dasharray=\"6 4\" d=\"M80 {y} h680\"/>\n\
         <text x=\"760\" y=\"410\" text-anchor=\"end\" fill=\"#222222\">\
         broken line: the parallelism, which is their mean</text>\n</svg>\n"
     )
@@ -153,11 +153,20 @@ fn push_scale(text: &mut String, octaves: usize, span: usize) -> Result<(), Allo
         }
         hundredths = hundredths.saturating_mul(2);
     }
-    let parts = span.clamp(1, 4);
-    for part in 0..parts.saturating_add(1) {
-        let step = span.saturating_mul(part) / parts;
-        let x = LEFT.saturating_add(scaled(step, span, WIDTH));
-        push_column(text, STEPS, x, step)?;
+    // The least of 1, 2, 5, 10, .. by which the span has at most ten marks beside 0.
+    let mut unit: usize = 1;
+    for round in 0..18_usize {
+        if unit.saturating_mul(11) <= span {
+            let half = if round % 3 == 1 { unit / 2 } else { 0 };
+            unit = unit.saturating_mul(2).saturating_add(half);
+        }
+    }
+    for part in 0..11_usize {
+        let step = unit.saturating_mul(part);
+        if step <= span {
+            let x = LEFT.saturating_add(scaled(step, span, WIDTH));
+            push_column(text, STEPS, x, step)?;
+        }
     }
     Ok(())
 }

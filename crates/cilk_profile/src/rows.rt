@@ -7,7 +7,7 @@ use cilk_findings::case::Case;
 use cilk_findings::fault::CaseFault;
 use cilk_findings::scene::Scene;
 use cilk_messages::place::{Location, locate};
-use cilk_messages::sentence::{Sentence, say};
+use cilk_messages::sentence::{Part, Sentence, say};
 use cilk_program::program::Body;
 use std::alloc::AllocError;
 
@@ -160,4 +160,52 @@ pub fn title_at<'a>(scene: &Scene<'a>, body: Body, at: usize) -> Sentence<'a> {
     let Location { line, column } = locate(scene.case.text, at);
     let name = say("{} at {}:{}").word(scene.body_name(body));
     name.count(line).count(column)
+}
+
+/// Adds words for one number, or those for a number and a greater one.
+pub fn push_range(
+    text: &mut String,
+    scene: &Scene<'_>,
+    words: (&str, &str),
+    from: usize,
+    upto: usize,
+) -> Result<(), AllocError> {
+    let words = if from == upto { words.0 } else { words.1 };
+    scene.push(text, &say(words).count(from).count(upto))
+}
+
+/// Adds what the frames of two events run.
+pub fn push_runners(
+    text: &mut String,
+    scene: &Scene<'_>,
+    first: usize,
+    last: usize,
+) -> Result<(), AllocError> {
+    let from = scene.frame_of(first).unwrap_or(0);
+    let upto = scene.frame_of(last).unwrap_or(0);
+    push_runner(text, scene, from)?;
+    if from == upto {
+        return Ok(());
+    }
+    text.push_str(" to ")?;
+    push_runner(text, scene, upto)
+}
+
+// A call with its arguments, or turns by the loop's variable.
+fn push_runner(text: &mut String, scene: &Scene<'_>, frame: usize) -> Result<(), AllocError> {
+    if !scene.is_of_loop(frame) {
+        return scene.push_frame(text, frame);
+    }
+    let note = scene.note(frame);
+    let words = if scene.halves(frame) {
+        "turns `{}` = {} to {}"
+    } else {
+        "turn `{}` = {}"
+    };
+    let turns = say(words).word(scene.turn_variable(note.body));
+    let last = note.high.saturating_sub(1);
+    scene.push(
+        text,
+        &turns.with(Part::Number(note.low)).with(Part::Number(last)),
+    )
 }

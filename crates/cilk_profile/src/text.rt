@@ -61,7 +61,7 @@ const TOO_LARGE: &str = "error: the run has too many strands to be drawn as a tr
     hint: measure a smaller input, or draw its steps: `cilk measure PROGRAM --svg`\n";
 
 const TWO_FORMS: &str = "error: one picture or table at a time: `--csv`, `--svg` or `--dot`\n\
-    hint: the profile over time: `cilk measure prog.c --svg > prog.svg`; the tree of strands: `cilk measure prog.c --dot > prog.dot`\n";
+    hint: the speed-up and the steps: `cilk measure prog.c --svg > prog.svg`; the tree of strands: `cilk measure prog.c --dot > prog.dot`\n";
 
 const UNKEPT: &str = "error: a program from standard input isn't drawn\n\
     hint: put it into a file: `cilk measure prog.c --svg > prog.svg`\n";
