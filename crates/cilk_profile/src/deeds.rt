@@ -1,9 +1,11 @@
-//! What the workers of a stepwise run do: a line for each strand, steal, wait and end.
+//! What the workers of a stepwise run do: a line for each steal, wait and end, and for the strands
+//! that a worker makes before the next line of another one.
 //!
 //! Each frame is followed beside its twin, the frame of the serial run that was invoked at the same
 //! place. So lines, strands and events are those of the serial run, as long as a frame makes the
 //! same events. A frame that departs, as a race lets it, is shown by the number of its events.
 
+use crate::rows::{push_range, push_runners};
 use cilk_findings::scene::Scene;
 use cilk_messages::sentence::say;
 use cilk_schedule::{Choice, Told};
@@ -34,8 +36,8 @@ struct Offer {
     at: Option<usize>,
 }
 
-/// What a worker is at: its frame, the strand of its last event there, and the deed in which that
-/// event is.
+/// What a worker is at: its frame, its last deed, and the strand of its last event, if that deed has
+/// it.
 #[derive(Clone, Copy)]
 struct Hand {
     frame: usize,
@@ -47,11 +49,11 @@ struct Hand {
 const IDLE: Hand = Hand {
     frame: 0,
     strand: None,
-    deed: SHOWN,
+    deed: NOWHERE,
 };
 
-/// Events that a worker makes one after the other in a frame, without a counterpart in the serial
-/// run where `strand` is 0: from an event to another one of that run, and from a byte to another one.
+/// Events that a worker makes one after the other, without a counterpart in the serial run where
+/// `strand` is 0: from a strand and an event of that run to others, and from a byte to another one.
 #[derive(Clone, Copy)]
 struct Stretch {
     strand: u32,
@@ -66,8 +68,8 @@ struct Stretch {
 type Words = (&'static str, &'static str);
 
 const STEALS: Words = (
-    "worker {} steals the continuation of line {}",
-    "worker {} steals a continuation",
+    "worker {} steals the continuation of line {} from worker {}",
+    "worker {} steals a continuation from worker {}",
 );
 
 const WAITS: Words = (
@@ -83,9 +85,9 @@ const STOPS: Words = (
 #[derive(Clone, Copy)]
 enum Deed {
     Makes(Stretch),
-    /// These words, by a byte of the text, and the number of a fault.
-    Tells(Words, Option<usize>, u16),
-    /// The frame with this twin ends.
+    /// These words, by a byte of the text, and the number of a fault or of the worker stolen from.
+    Tells(Words, Option<usize>, usize),
+    /// The frame with this twin ends, which is the first or has a parent that was stolen.
     Ends(Option<usize>),
 }
 
@@ -99,7 +101,8 @@ pub struct Deeds<'a> {
     offers: Vec<Offer>,
     hands: Vec<Hand>,
     deeds: Vec<(usize, Deed)>,
-    more: usize,
+    // The number of deeds, with those that aren't shown.
+    count: usize,
 }
 
 // Written out, so that a proof follows one call where deeds are dropped.
@@ -112,7 +115,7 @@ impl Drop for Deeds<'_> {
             offers: _offers,
             hands: _hands,
             deeds: _deeds,
-            more: _more,
+            count: _count,
         } = self;
     }
 }
@@ -127,7 +130,7 @@ impl<'a> Deeds<'a> {
             offers: Vec::new(alloc),
             hands: Vec::new(alloc),
             deeds: Vec::new(alloc),
-            more: 0,
+            count: 0,
         }
     }
 
@@ -169,7 +172,7 @@ impl<'a> Deeds<'a> {
             }
             Err(number) => {
                 let at = self.byte_of(self.next_of(hand.frame));
-                self.add(worker, Deed::Tells(STOPS, at, number))
+                self.add(worker, Deed::Tells(STOPS, at, number as usize))
             }
             Ok(Told::Stole) => self.steal(worker, place),
             Ok(Told::Skipped) => Ok(()),
@@ -197,14 +200,19 @@ impl<'a> Deeds<'a> {
         Ok(())
     }
 
-    // Adds an event to the worker's stretch, or begins another one with it.
+    // Adds an event to the worker's stretch. Another stretch begins where the run departs or no longer
+    // does, and with another strand if another deed came meanwhile.
     fn work(&mut self, worker: usize, frame: usize, made: usize) -> Result<(), AllocError> {
         let at = self.byte_of(made).unwrap_or(0);
         let strand = self.strands.get(made).copied().unwrap_or(0);
         let hand = self.hands.get(worker).copied().unwrap_or(IDLE);
-        if hand.frame != frame || hand.strand != Some(strand) {
-            let place = self.deeds.len();
-            self.hold(worker, frame, Some(strand), place);
+        let is_latest = hand.deed.saturating_add(1) == self.count;
+        let goes_on = match hand.strand {
+            Some(0) => strand == 0,
+            Some(last) => last == strand || is_latest && strand > 0,
+            None => false,
+        };
+        if !goes_on {
             let stretch = Stretch {
                 strand,
                 count: 1,
@@ -213,19 +221,22 @@ impl<'a> Deeds<'a> {
                 from: at,
                 upto: at,
             };
-            return self.add(worker, Deed::Makes(stretch));
-        }
-        if let Some((_, deed)) = self.deeds.get_mut(hand.deed)
+            self.add(worker, Deed::Makes(stretch))?;
+        } else if let Some((_, deed)) = self.deeds.get_mut(hand.deed)
             && let Deed::Makes(stretch) = *deed
         {
             *deed = Deed::Makes(Stretch {
-                strand,
+                strand: stretch.strand,
                 count: stretch.count.saturating_add(1),
                 first: stretch.first,
                 last: made,
                 from: stretch.from.min(at),
                 upto: stretch.upto.max(at),
             });
+        }
+        if let Some(hand) = self.hands.get_mut(worker) {
+            hand.frame = frame;
+            hand.strand = Some(strand);
         }
         Ok(())
     }
@@ -267,7 +278,7 @@ impl<'a> Deeds<'a> {
             let place = place.min(self.offers.len());
             self.offers.insert(place, Offer { worker, frame, at })?;
         }
-        self.hold(worker, child, None, SHOWN);
+        self.hold(worker, child);
         Ok(ended)
     }
 
@@ -275,51 +286,53 @@ impl<'a> Deeds<'a> {
         if place >= self.offers.len() {
             return Ok(());
         }
-        let Offer { frame, at, .. } = self.offers.remove(place);
-        self.hold(worker, frame, None, SHOWN);
-        self.add(worker, Deed::Tells(STEALS, at, 0))
+        let offer = self.offers.remove(place);
+        self.hold(worker, offer.frame);
+        let victim = offer.worker.saturating_add(1);
+        self.add(worker, Deed::Tells(STEALS, offer.at, victim))
     }
 
-    // Ends a frame: no event comes after it. The worker continues its parent, whose continuation it no
-    // longer offers.
+    // Ends a frame: no event comes after it. The worker continues its parent. That is a deed only where
+    // it no longer offered the continuation there.
     fn end(&mut self, worker: usize, frame: usize) -> Result<usize, AllocError> {
         let Some(seat) = self.seats.get(frame).copied() else {
             return Ok(NOWHERE);
         };
-        self.hold(worker, seat.parent, None, SHOWN);
-        if seat.is_spawned || frame == 0 {
-            let mut place = self.offers.len();
-            for _offer in 0..self.offers.len() {
-                place = place.saturating_sub(1);
-                if let Some(offer) = self.offers.get(place)
-                    && offer.worker == worker
-                    && offer.frame == seat.parent
-                {
-                    self.offers.remove(place);
-                    break;
-                }
-            }
-            self.add(worker, Deed::Ends(seat.twin))?;
+        self.hold(worker, seat.parent);
+        if !seat.is_spawned && frame > 0 {
+            return Ok(NOWHERE);
         }
+        let mut place = self.offers.len();
+        for _offer in 0..self.offers.len() {
+            place = place.saturating_sub(1);
+            if let Some(offer) = self.offers.get(place)
+                && offer.worker == worker
+                && offer.frame == seat.parent
+            {
+                self.offers.remove(place);
+                return Ok(NOWHERE);
+            }
+        }
+        self.add(worker, Deed::Ends(seat.twin))?;
         Ok(NOWHERE)
     }
 
+    // Adds the worker's last deed.
     fn add(&mut self, worker: usize, deed: Deed) -> Result<(), AllocError> {
+        if let Some(hand) = self.hands.get_mut(worker) {
+            hand.strand = None;
+            hand.deed = self.count;
+        }
         if self.deeds.len() < SHOWN {
             self.deeds.push((worker, deed))?;
-        } else {
-            self.more = self.more.saturating_add(1);
         }
+        self.count = self.count.saturating_add(1);
         Ok(())
     }
 
-    fn hold(&mut self, worker: usize, frame: usize, strand: Option<u32>, deed: usize) {
+    fn hold(&mut self, worker: usize, frame: usize) {
         if let Some(hand) = self.hands.get_mut(worker) {
-            *hand = Hand {
-                frame,
-                strand,
-                deed,
-            };
+            hand.frame = frame;
         }
     }
 
@@ -350,20 +363,21 @@ impl<'a> Deeds<'a> {
                         Some(at) => say(words.0).count(worker).count(self.scene.line(at)),
                         None => say(words.1).count(worker),
                     };
-                    self.scene.push(report, &words.count(number as usize))?;
+                    self.scene.push(report, &words.count(number))?;
                 }
                 Deed::Ends(twin) => self.push_end(report, worker, twin)?,
             }
             report.push('\n')?;
         }
-        if self.more > 0 {
-            let more = say("and {} more lines\n").count(self.more);
+        let more = self.count.saturating_sub(self.deeds.len());
+        if more > 0 {
+            let more = say("and {} more line{}\n").counted(more);
             self.scene.push(report, &more)?;
         }
         Ok(())
     }
 
-    // The strand, its lines and its events.
+    // The strands, their lines and events, and the frames of the first and the last.
     fn push_stretch(
         &self,
         report: &mut String,
@@ -371,30 +385,33 @@ impl<'a> Deeds<'a> {
         stretch: &Stretch,
     ) -> Result<(), AllocError> {
         let scene = &self.scene;
-        let strand = stretch.strand as usize;
-        if strand == 0 {
+        if stretch.strand == 0 {
             let departs = say("worker {}: {} event{} that the serial run doesn't have there");
             return scene.push(report, &departs.count(worker).counted(stretch.count));
         }
-        let from = scene.line(stretch.from);
-        let upto = scene.line(stretch.upto);
-        let lines = say(if from == upto {
-            "worker {}: strand {}, line {} "
-        } else {
-            "worker {}: strand {}, lines {} to {} "
-        });
-        scene.push(
+        scene.push(report, &say("worker {}: ").count(worker))?;
+        let first = stretch.strand as usize;
+        let last = self.strands.get(stretch.last).copied().unwrap_or(0) as usize;
+        push_range(
             report,
-            &lines.count(worker).count(strand).count(from).count(upto),
+            scene,
+            ("strand {}, ", "strands {} to {}, "),
+            first,
+            last,
         )?;
+        let (first, last) = (scene.line(stretch.from), scene.line(stretch.upto));
+        push_range(report, scene, ("line {} ", "lines {} to {} "), first, last)?;
         let first = stretch.first.saturating_add(1);
         let last = stretch.last.saturating_add(1);
-        let events = say(if first == last {
-            "(event {})"
-        } else {
-            "(events {} to {})"
-        });
-        scene.push(report, &events.count(first).count(last))
+        push_range(
+            report,
+            scene,
+            ("(event {})", "(events {} to {})"),
+            first,
+            last,
+        )?;
+        report.push_str(" in ")?;
+        push_runners(report, scene, stretch.first, stretch.last)
     }
 
     // The frame that ends, and where it was spawned.

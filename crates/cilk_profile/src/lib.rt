@@ -2,7 +2,7 @@
 //!
 //! [`text_of`] is what `measure` shows of a run: its totals, a line for each function and loop, the
 //! spawns and lines on its critical path, and bounds of the speed-up by several workers; or a
-//! picture. [`push_trace`] says what each worker does by a script, strand by strand.
+//! picture. [`push_trace`] says what each worker does by a script.
 //!
 //! Work is the number of events of a run. Span is the length of its longest chain of events in
 //! which each comes before the next under every schedule, so no number of workers needs fewer
@@ -25,9 +25,9 @@
 //! | [`Kept`], [`CaseTexts`] | copies of what was read, and a program and its input among them |
 //!
 //! ```text
-//! worker 1: strand 1, lines 5 to 7 (events 1 to 4)
-//! worker 2 steals the continuation of line 7
-//! worker 2: strand 4, lines 7 to 8 (events 9 to 11)
+//! worker 1: strand 1, lines 5 to 7 (events 1 to 4) in `main`
+//! worker 2 steals the continuation of line 7 from worker 1
+//! worker 2: strand 4, lines 7 to 8 (events 9 to 11) in `main`
 //! worker 2 waits at the sync of line 9
 //! ```
 #![tactic(auto)]
