@@ -13,7 +13,7 @@ use std::alloc::AllocError;
 
 // Schedules are played until they have made about this many events, but at least one is: a play costs
 // several times as much as the serial run.
-const MADE: usize = 5_000;
+const MADE: usize = 30_000;
 
 // The events of the child that the first worker makes before the steal: none, or all up to this many
 // before the event after the earlier access.
