@@ -5,7 +5,7 @@
 //! place. So lines, strands and events are those of the serial run, as long as a frame makes the
 //! same events. A frame that departs, as a race lets it, is shown by the number of its events.
 
-use crate::rows::{push_range, push_runners};
+use crate::rows::{push_range, push_runner, push_runners};
 use cilk_findings::scene::Scene;
 use cilk_messages::sentence::say;
 use cilk_schedule::{Choice, Told};
@@ -425,14 +425,9 @@ impl<'a> Deeds<'a> {
         let Some(frame) = twin else {
             return scene.push(report, &say("worker {} ends a child").count(worker));
         };
-        let ends = say(if scene.halves(frame) {
-            "worker {} ends some turns of "
-        } else {
-            "worker {} ends "
-        });
-        scene.push(report, &ends.count(worker))?;
-        scene.push_frame(report, frame)?;
-        if frame == 0 || scene.is_of_loop(frame) {
+        scene.push(report, &say("worker {} ends ").count(worker))?;
+        push_runner(report, scene, frame)?;
+        if frame == 0 {
             return Ok(());
         }
         let line = scene.line(scene.note(frame).invoked_at);

@@ -187,12 +187,12 @@ pub fn push_runners(
     if from == upto {
         return Ok(());
     }
-    text.push_str(" to ")?;
+    text.push_str(" .. ")?;
     push_runner(text, scene, upto)
 }
 
-// A call with its arguments, or turns by the loop's variable.
-fn push_runner(text: &mut String, scene: &Scene<'_>, frame: usize) -> Result<(), AllocError> {
+/// Adds what a frame runs: a call with its arguments, or turns by the loop's variable.
+pub fn push_runner(text: &mut String, scene: &Scene<'_>, frame: usize) -> Result<(), AllocError> {
     if !scene.is_of_loop(frame) {
         return scene.push_frame(text, frame);
     }
