@@ -1,4 +1,5 @@
 #define N 8
+int most = INT_MAX;
 int a[9];
 int twice(int n) { return 2 * n; }
 int first(int b[]) { return b[0]; }

@@ -1,0 +1,5 @@
+int main() {
+  int x = 8;
+  x <<= 1;
+  return x;
+}

@@ -1,0 +1,4 @@
+int main() {
+  int print = 1;
+  return print;
+}
