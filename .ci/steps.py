@@ -20,6 +20,7 @@ CC = os.environ.get("CC") or "cc"
 # what it is, the command that it needs, its words, and the seconds after which it is given up
 STEPS = [
     ("what crates list", "python3", ["tools/crate_lines.py"], 60),
+    ("hints that cases show", "python3", ["tools/hints_shown.py"], 60),
     ("the cases", "python3", ["tools/cases.py", "run", PROGRAM], 300),
     ("refused memory in a machine's choices", CC, ["tools/each_failure.py", "--choices"], 300),
     ("refused memory in two runs on one plan", CC, ["tools/each_failure.py", "--plan"], 300),
