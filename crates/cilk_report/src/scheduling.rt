@@ -167,7 +167,7 @@ fn unscheduled(
 }
 
 /// Returns the explanation of a failure, if requested.
-pub fn unchecked(
+fn unchecked(
     alloc: Global,
     explains: bool,
     order: &Order<'_>,

@@ -13,9 +13,10 @@ ghost use Rattle.cilk_commands.specs.declared.streams.TheConstants.{MAX_READ};
 ghost use Rattle.cilk_messages.specs.Words.{order_in, order_view, origin_view, texts};
 
 use crate::Keeps;
+use crate::explaining::of_failure;
 use crate::extras::{behind_answer, behind_failure};
 use crate::judging::{Judged, of_trace_failure, of_trace_race};
-use crate::scheduling::{serve_schedule, unchecked};
+use crate::scheduling::serve_schedule;
 use crate::settling::serve_settling;
 use crate::totals::{totals_of, undrawn, wrong_words};
 use cilk_commands::reply::{Answer, Failure, NO_MEMORY, WRONG};
@@ -367,7 +368,7 @@ fn serve_run<F: Keeps, R: Read, O: Write, E: Write>(
     }
 }
 
-/// Shows the measures of a run. If the run fails, shows why, with an explanation if requested.
+/// Shows the measures of a run. If the run fails, shows why, with an explanation.
 #[tactic(auto, using(crate::proofs::Standard::measured_file))]
 fn show_measured<F: Keeps, R: Read, O: Write, E: Write>(
     alloc: Global,
@@ -395,8 +396,7 @@ fn show_measured<F: Keeps, R: Read, O: Write, E: Write>(
         },
         Err(failure) => {
             let served = complain(alloc, &failure, err);
-            let explains = asks(words, "--explain");
-            let text = unchecked(alloc, explains, &order, &failure, files.kept());
+            let text = of_failure(alloc, &order, &failure, files.kept());
             follow(served, text, err)
         }
     }
