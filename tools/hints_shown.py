@@ -4,9 +4,10 @@
 tools/hints_shown.py          prints a line for each row that no case's `err` shows, and `N passed, M failed`; status 1 where M isn't 0
 tools/hints_shown.py --all    prints a line for each row, with the first case that shows it
 
-A row is a line `WORDS => HINT` of a text in crates/cilk_messages/src, or `NAME: WORDS` of crates/cilk_races/src/texts.rt.
-A hint is all that follows a `: ` on a line; a cure is a part of a hint. Gaps stand for any bytes, so a cure that is a gap
-alone counts as shown. Rows with the same hint can't be distinguished: one case shows them all.
+A row is a line `WORDS => HINT` of a text in crates/cilk_messages/src, or `NAME: WORDS` of
+crates/cilk_races/src/texts.rt.
+A hint is all that follows a `: ` on a line; a cure is a part of a hint. Gaps stand for any bytes, so a cure
+that is a gap alone counts as shown. Rows with the same hint can't be distinguished: one case shows them all.
 """
 
 import glob
@@ -57,8 +58,9 @@ def form_of(hint):
 
 
 def rows():
-    """All rows: the source, the table, the left side, and the form of a line that shows it. A hint of one word is none:
-    the code asks for it, as for `yes`."""
+    """All rows: the source, the table, the left side, and the form of a line that shows it.
+
+    A hint of one word is none: the code asks for it, as for `yes`."""
     meant = re.search(r'pub fn meant.*?say\("(.*?)"\)', read(f"{MESSAGES}/hints.rt"), re.S)[1]
     named = {left: right for _, left, right in rows_of(f"{MESSAGES}/sentences.rt", " => ")}
     for path in sorted(glob.glob(f"{MESSAGES}/*.rt")):
