@@ -26,84 +26,87 @@ const NEAR: usize = 100;
 type Way = (&'static str, &'static str);
 
 /// The facts that have to hold and those that must not, and the cure where that is so.
-type Rule = (u32, u32, &'static str, &'static str);
+type Rule = (u64, u64, &'static str, &'static str);
 
 // Facts of a read or set reducer: the text sets it, it isn't in turns and is the later event, in what
 // isn't spawned and isn't of the function that is, the spawned function is the one around both, the
 // monoid adds.
-const VIEW: u32 = 1;
+const VIEW: u64 = 1;
 
-const SET: u32 = 1 << 1;
+const SET: u64 = 1 << 1;
 
-const BEHIND: u32 = 1 << 2;
+const BEHIND: u64 = 1 << 2;
 
-const RECURSION: u32 = 1 << 3;
+const RECURSION: u64 = 1 << 3;
 
-const SUM: u32 = 1 << 4;
+const SUM: u64 = 1 << 4;
 
 // Facts of accesses: both are in turns of one loop, the later one is in a function that a turn calls, it
 // is in another call of the spawned function or in another spawn, the innermost loop around the spawn
-// is around it too, which of them write, and a reducer can take what their statements do.
-const TURNS: u32 = 1 << 5;
+// is around it too, which of them write, and a reducer can take what their statements do; the earlier one
+// is in a function that a turn calls.
+const TURNS: u64 = 1 << 5;
 
-const CALLED: u32 = 1 << 6;
+const CALLED: u64 = 1 << 6;
 
-const BESIDE: u32 = 1 << 7;
+const BESIDE: u64 = 1 << 7;
 
-const LOOP: u32 = 1 << 8;
+const LOOP: u64 = 1 << 8;
 
-const EARLIER: u32 = 1 << 9;
+const EARLIER: u64 = 1 << 9;
 
-const LATER: u32 = 1 << 10;
+const LATER: u64 = 1 << 10;
 
-const TAKEN: u32 = 1 << 11;
+const TAKEN: u64 = 1 << 11;
+
+const FIRST_CALLED: u64 = 1 << 32;
 
 // Facts of a variable: it is none of the globals or has no name, the earlier write is the result of a
 // spawned call and the later one too, a turn sets it before it reads it, by the head of a `for`, it
 // counts what an array has, it is multiplied, and turns read it elsewhere than where they change it.
-const LOCAL: u32 = 1 << 12;
+const LOCAL: u64 = 1 << 12;
 
-const NAMELESS: u32 = 1 << 13;
+const NAMELESS: u64 = 1 << 13;
 
-const SPAWNED: u32 = 1 << 14;
+const SPAWNED: u64 = 1 << 14;
 
-const RESULT: u32 = 1 << 15;
+const RESULT: u64 = 1 << 15;
 
-const OWN: u32 = 1 << 16;
+const OWN: u64 = 1 << 16;
 
-const HEAD: u32 = 1 << 17;
+const HEAD: u64 = 1 << 17;
 
-const FILLED: u32 = 1 << 18;
+const FILLED: u64 = 1 << 18;
 
-const PRODUCT: u32 = 1 << 19;
+const PRODUCT: u64 = 1 << 19;
 
-const RUNNING: u32 = 1 << 20;
+const RUNNING: u64 = 1 << 20;
 
 // Facts of an array: both statements add to an element, and all writes are of one element; two turns
 // swap the same elements, in an inner loop; an `if` asks for the element; the index has the turn; the
 // later statement is a spawn; calls work on ranges that overlap, and of different functions; the index
 // is a single token.
-const ARRAY: u32 = 1 << 21;
+const ARRAY: u64 = 1 << 21;
 
-const ADDED: u32 = 1 << 22;
+const ADDED: u64 = 1 << 22;
 
-const SINGLE: u32 = 1 << 23;
+const SINGLE: u64 = 1 << 23;
 
-const SWAP: u32 = 1 << 24;
+const SWAP: u64 = 1 << 24;
 
-const INNER: u32 = 1 << 25;
+const INNER: u64 = 1 << 25;
 
-const ASKED: u32 = 1 << 26;
+const ASKED: u64 = 1 << 26;
 
-const INDEXED: u32 = 1 << 27;
+const INDEXED: u64 = 1 << 27;
 
-const SPAWN: u32 = 1 << 28;
+const SPAWN: u64 = 1 << 28;
 
-const RANGES: u32 = 1 << 29;
+const RANGES: u64 = 1 << 29;
 
-const OTHER: u32 = 1 << 30;
+const OTHER: u64 = 1 << 30;
 
-const NAMED: u32 = 1 << 31;
+const NAMED: u64 = 1 << 31;
 
 // A rule without words is for what a reducer takes: where it is declared, and how it takes that.
 const RULES: &[Rule] = &[
@@ -116,11 +119,17 @@ const RULES: &[Rule] = &[
     (VIEW | SUM, 0, "IN_PARENT", "OWN_PART"),
     (VIEW, 0, "IN_PARENT", ""),
     (ARRAY | ADDED | SINGLE | TURNS, 0, "SINGLE", "SUM"),
+    (
+        ARRAY | ADDED | TURNS | CALLED,
+        0,
+        "CALLED_ROWS",
+        "ROWS_ADDED",
+    ),
     (ARRAY | ADDED | TURNS, 0, "ROWS", "ROWS_ADDED"),
     (ARRAY | TURNS | SWAP | INNER, 0, "SWAPPED", "SWAPPED_INNER"),
     (ARRAY | TURNS | SWAP, 0, "SWAPPED", "SWAPPED_HALF"),
     (ARRAY | TURNS | ASKED, 0, "CLAIMED", ""),
-    (ARRAY | TURNS | CALLED, 0, "WORK", ""),
+    (ARRAY | TURNS | CALLED | FIRST_CALLED, 0, "WORK", ""),
     (ARRAY | TURNS | EARLIER | LATER | INDEXED, 0, "APART", ""),
     (ARRAY | TURNS | EARLIER | LATER, 0, "ROW", ""),
     (ARRAY | TURNS, INDEXED, "ORDER", ""),
@@ -188,7 +197,7 @@ struct Site<'a, 't> {
     index: usize,
     length: usize,
     /// The facts that the frames and events alone tell.
-    facts: u32,
+    facts: u64,
     /// The statements of both events.
     later: usize,
     earlier: usize,
@@ -206,7 +215,7 @@ struct Site<'a, 't> {
 }
 
 /// The facts that hold.
-fn sum_of(facts: &[(u32, bool)]) -> u32 {
+fn sum_of(facts: &[(u64, bool)]) -> u64 {
     let mut sum = 0;
     for &(fact, holds) in facts {
         if holds {
@@ -264,7 +273,7 @@ impl<'a, 't> Site<'a, 't> {
     }
 
     // What the statements and the array tell.
-    fn facts_of_accesses(&self) -> u32 {
+    fn facts_of_accesses(&self) -> u64 {
         let Site {
             scene,
             tokens,
@@ -312,7 +321,7 @@ impl<'a, 't> Site<'a, 't> {
     }
 
     // What the uses of a variable tell, and how a reducer takes a variable, or keeps a number.
-    fn facts_of_variable(&self) -> u32 {
+    fn facts_of_variable(&self) -> u64 {
         let Site {
             tokens,
             facts,
@@ -673,7 +682,7 @@ impl<'a> Site<'a, '_> {
 }
 
 // The name, index and length of what an event accesses, and of which kind that is.
-fn named<'a>(scene: &Scene<'a>, event: usize) -> (&'a [u8], usize, usize, u32) {
+fn named<'a>(scene: &Scene<'a>, event: usize) -> (&'a [u8], usize, usize, u64) {
     let name = match name_of(scene, event) {
         Some(name) => scene.word(name),
         None => &[],
@@ -692,7 +701,7 @@ fn named<'a>(scene: &Scene<'a>, event: usize) -> (&'a [u8], usize, usize, u32) {
 }
 
 // What the frames and events tell.
-fn facts_of(scene: &Scene<'_>, pair: &Pair, event: usize, branch: usize) -> u32 {
+fn facts_of(scene: &Scene<'_>, pair: &Pair, event: usize, branch: usize) -> u64 {
     let is_turn = pair.is_in_turns(scene);
     let is_result = scene.run.gives_result(pair.later);
     let second = if is_result {
@@ -700,6 +709,8 @@ fn facts_of(scene: &Scene<'_>, pair: &Pair, event: usize, branch: usize) -> u32 
     } else {
         pair.second
     };
+    let first = scene.frame_of(pair.earlier).unwrap_or(pair.child);
+    let turn = scene.around(pair.common).0;
     let beside = scene.note(branch);
     let is_again = branch > 0 && beside.body == scene.note(pair.child).body;
     let is_spawned = branch > 0 && beside.how == Invocation::Spawn;
@@ -709,10 +720,8 @@ fn facts_of(scene: &Scene<'_>, pair: &Pair, event: usize, branch: usize) -> u32 
             event == pair.later && !is_turn && !is_spawned && !is_again,
         ),
         (TURNS, is_turn),
-        (
-            CALLED,
-            scene.around(second).0 != scene.around(pair.common).0,
-        ),
+        (CALLED, scene.around(second).0 != turn),
+        (FIRST_CALLED, scene.around(first).0 != turn),
         (BESIDE, is_spawned || is_again),
         (
             EARLIER,

@@ -13,7 +13,7 @@ use std::alloc::AllocError;
 
 // Schedules are played until they have made about this many events, but at least one is: a play costs
 // several times as much as the serial run.
-const MADE: usize = 30_000;
+const MADE: usize = 40_000;
 
 // The events of the child that the first worker makes before the steal: none, or all up to this many
 // before the event after the earlier access.
@@ -68,11 +68,11 @@ fn best_of(scene: &Scene<'_>, pair: &Pair, serial: &Outcome) -> Result<Option<Fo
     let mut best = schedule_of(scene, pair, 0, 0);
     let most = MADE / scene.run.trace.len().max(1);
     let mut played: usize = 0;
-    for number in 0..NEAR.len() * BEYOND.len() + PLACES * AROUND.len() {
+    for number in 0..2 + NEAR.len() * BEYOND.len() + PLACES * AROUND.len() {
         let Some(found) = numbered(scene, pair, number) else {
             break;
         };
-        if number > 0 && is_again(scene, pair, number, &found) {
+        if number > 2 && is_again(scene, pair, number.saturating_sub(2), &found) {
             continue;
         }
         let (told, words) = found.play(scene, serial)?;
@@ -184,13 +184,29 @@ fn step(worker: u32, count: usize) -> Step {
     }
 }
 
-// The schedule with this number: first those near the one that makes the later event first, then
+// The schedule with this number: the one that makes the later event first; the same with the child
+// going on beside it; the outermost continuation up to its end, beside the child; those near the first;
 // those that steal the continuation of an earlier spawn, the outermost one first.
 fn numbered(scene: &Scene<'_>, pair: &Pair, number: usize) -> Option<Found> {
-    if let Some(near) = NEAR.get(number / BEYOND.len()) {
-        return Some(schedule_of(scene, pair, *near, BEYOND[number % BEYOND.len()]));
+    let first = schedule_of(scene, pair, NEAR[0], BEYOND[0]);
+    let near = number.saturating_sub(2);
+    match number {
+        0 => return Some(first),
+        1 => return Some(Found { child: 1, ..first }),
+        2 => {
+            return Some(Found {
+                place: 0,
+                behind: scene.run.trace.len(),
+                child: 1,
+                ..first
+            });
+        }
+        _ => {}
     }
-    let rest = number.saturating_sub(NEAR.len() * BEYOND.len());
+    if let Some(events) = NEAR.get(near / BEYOND.len()) {
+        return Some(schedule_of(scene, pair, *events, BEYOND[near % BEYOND.len()]));
+    }
+    let rest = near.saturating_sub(NEAR.len() * BEYOND.len());
     let found = schedule_of(scene, pair, 0, 0);
     let place = rest / AROUND.len();
     if place >= found.place {

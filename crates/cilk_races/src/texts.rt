@@ -38,6 +38,7 @@ RUNNING: each turn reads what the turns before it made of `{n}`, so they go in o
 RESULT: : what a spawned call leaves in `{n}` is there only then
 RESULTS: give each spawned call a variable of its own; or an element of an array, which it writes by its number, a parameter (`docs/FROM-CILK.md`, \"Work arrays\")
 ROWS: let each turn add up in a row of its own: `int rows[{t}];`, with `rows[{l} * {v} + {p}]` in place of `{n}[{p}]`
+CALLED_ROWS: let each turn add up in a row of its own, whose number is a parameter of this function, `{v}` in the call: `int rows[{t}];`, with `rows[{l} * row + {p}]` in place of `{n}[{p}]`
 ROWS_ADDED: ; add the rows up after the loop by a `for`, and where the loop runs again, set them back to 0; for few elements, a reducer each (`examples/gallery/histogram.c`)
 CALL_ROWS: let each call add up in a row of its own: `int rows[{d}];` for two calls, with `rows[row + {p}]` in place of `{n}[{p}]`, where `row` is a parameter, 0, {l} and so on, and add the rows up after the `cilk_sync` by a `for`, where they are set back to 0 if the calls come again; for few elements, a reducer each (`examples/gallery/histogram.c`)
 ROW: write `for` for this loop, and `cilk_for` for a loop in it whose turns write different elements (it counts up by 1: for `i += step` from `first` to `end` it counts `int k = 0; k < (end - first + step - 1) / step; k++`); or, if this loop only writes `{n}`, give each turn a row of its own, `int {n}[{t}];`, with `{l} * {v}` added to each index, and put the rows together after the loop by a `for`
