@@ -422,11 +422,16 @@ impl<'a, 't> Site<'a, 't> {
         }
     }
 
-    // Where a turn of the loop sets a variable before it reads it, 0 if it doesn't, and whether turns
-    // read it elsewhere than where they change it.
+    // Where a turn of the loop, or the function that turns call, sets a variable before it reads it, 0 if
+    // it doesn't, and whether turns read it elsewhere than where they change it.
     fn in_loop(&self) -> (usize, bool) {
         let (tokens, name) = (self.tokens, self.name);
-        let first = self.loop_token();
+        let is_called = self.facts & (CALLED | FIRST_CALLED) == CALLED | FIRST_CALLED;
+        let first = if is_called {
+            self.called_token()
+        } else {
+            self.loop_token()
+        };
         let mut set: usize = 0;
         let (mut is_read, mut is_running) = (false, false);
         for number in first..end_of(tokens, first) {
@@ -445,7 +450,14 @@ impl<'a, 't> Site<'a, 't> {
                 }
             }
         }
-        (if is_read { set } else { 0 }, is_running)
+        (if is_read { set } else { 0 }, is_running && !is_called)
+    }
+
+    // The token of the function that the later access is in.
+    fn called_token(&self) -> usize {
+        let frame = self.scene.frame_of(self.pair.later);
+        let body = self.scene.note(frame.unwrap_or(self.pair.second)).body;
+        self.tokens.number_at(self.scene.named_at(body))
     }
 
     // The token of the loop whose turns race.
