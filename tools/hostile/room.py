@@ -99,7 +99,7 @@ class Room:
                 shown = self.once(words, stdin, out, err, env, patience, close)
         if settings:
             self.read_counts()
-        return shown
+        return without_explanation(shown) if words[:1] == ("measure",) else shown
 
     def read_counts(self):
         """Reads how many allocations, calls, moves and threads there were, and which call failed."""
@@ -110,6 +110,13 @@ class Room:
             self.counted = [int(word) for word in lines[0].split()]
             call, file, name = lines[1].split(" ", 2)
             self.failed = [call, int(file), name]
+
+
+def without_explanation(shown):
+    """What is shown, without the explanation behind a failure's line."""
+    if not isinstance(shown, Shown) or not shown.status or not shown.err:
+        return shown
+    return shown._replace(err=shown.err[: shown.err.find(b"\n") + 1 or None])
 
 
 class Found:
