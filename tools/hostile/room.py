@@ -113,7 +113,7 @@ class Room:
 
 
 def without_explanation(shown):
-    """What is shown, without the explanation behind a failure's line."""
+    """What is shown, without the explanation after a failure's line."""
     if not isinstance(shown, Shown) or not shown.status or not shown.err:
         return shown
     return shown._replace(err=shown.err[: shown.err.find(b"\n") + 1 or None])
