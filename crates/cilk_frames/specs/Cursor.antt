@@ -1,6 +1,7 @@
 -- The state of a frame in its code.
-use Rattle.std.specs.Prelude.{ℕ, ℤ, pos, List, []}
+use Rattle.std.specs.Prelude.{Bool, true, false, ℕ, ℤ, pos, List, [], Option, None, Some}
 use Rattle.cilk_program.specs.declared.ask.Callee.{Callee}
+use Rattle.cilk_program.specs.declared.ask.LoopPart.{LoopPart}
 use Rattle.cilk_lower.specs.declared.code.EntryPoint.{EntryPoint}
 use Rattle.cilk_lower.specs.declared.code.Owed.{Owed}
 use Rattle.cilk_lower.specs.declared.code.Owed.TheVariants.{Nothing}
@@ -16,6 +17,11 @@ pub record CursorView : Type 0 where
   pub stack : List ℤ
   pub room : ℕ
   pub held : ℤ
+
+-- the turns of a loop that a frame runs, if it runs some
+abbrev pub turns_if : Bool → LoopPart → Option LoopPart
+turns_if true part = Some part
+turns_if false part = None
 
 -- a frame with these arguments, before it begins at an entry point
 abbrev pub begins_at : EntryPoint → Given → CursorView

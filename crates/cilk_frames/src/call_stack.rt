@@ -70,7 +70,29 @@ impl<C> CallStack<C> {
         ensures err { OnErr result ((self.new.top ≡ self.old.top) × (self.new.below.items ≡ self.old.below.items)) }
     {
         self.below.reserve(1)?;
-        self.below.push_reserved(mem::replace(&mut self.top, frame));
+        let Activation {
+            cursor,
+            number,
+            base,
+            first,
+            given,
+            outer,
+            result,
+            creator,
+        } = frame;
+        // Field by field, so that the frame that waits is copied once.
+        let top = &mut self.top;
+        let waits = Activation {
+            cursor: mem::replace(&mut top.cursor, cursor),
+            number: mem::replace(&mut top.number, number),
+            base: mem::replace(&mut top.base, base),
+            first: mem::replace(&mut top.first, first),
+            given: mem::replace(&mut top.given, given),
+            outer: mem::replace(&mut top.outer, outer),
+            result: mem::replace(&mut top.result, result),
+            creator: mem::replace(&mut top.creator, creator),
+        };
+        self.below.push_reserved(waits);
         Ok(())
     }
 

@@ -34,19 +34,23 @@ pub struct Cursor {
     place: usize,
     operands: Operands,
     held: i64,
-    // The turns of a loop, if the frame runs some. The last two stand together, so that few bytes
-    // between fields are copied where a cursor is moved.
-    part: Option<LoopPart>,
+    // The turns of a loop, if the frame runs some. They are plain fields, and the small ones stand
+    // together: the padding of an `Option` would be copied by itself wherever a cursor is moved.
+    low: i64,
+    high: i64,
+    number: u32,
+    runs_turns: bool,
     takes: bool,
     owed: Owed,
+    up: u32,
 }
 
 impl Model for Cursor {
-    ghost use Rattle.cilk_frames.specs.Cursor.{CursorView};
+    ghost use Rattle.cilk_frames.specs.Cursor.{CursorView, turns_if};
 
     ghost Value = { CursorView };
 
-    ghost view = { λ c. record { given = record { words = c.operands.words; part = c.part; takes = c.takes }; place = c.place; owed = c.owed; stack = c.operands.stack; room = c.operands.room; held = c.held } };
+    ghost view = { λ c. record { given = record { words = c.operands.words; part = turns_if c.runs_turns (record { number = c.number; up = c.up; low = c.low; high = c.high }); takes = c.takes }; place = c.place; owed = c.owed; stack = c.operands.stack; room = c.operands.room; held = c.held } };
 }
 
 impl Cursor {
@@ -57,7 +61,7 @@ impl Cursor {
         ensures owes { IfOk result (λ c. c.owed ≡ owed_for Begin) }
     {
         let none = Operands::empty(alloc);
-        Cursor::first(alloc, none, code.entry(&Callee::Root), &[], None, false)
+        Cursor::first(alloc, none, code.entry(&Callee::Root), &[], false)
     }
 
     /// Returns a cursor of no frame, for the time in which a frame's own is elsewhere. Allocates
@@ -68,9 +72,13 @@ impl Cursor {
             place: 0,
             operands: Operands::empty(alloc),
             held: 0,
-            part: None,
+            low: 0,
+            high: 0,
+            number: 0,
+            runs_turns: false,
             takes: false,
             owed: Owed::Nothing,
+            up: 0,
         }
     }
 
@@ -94,11 +102,13 @@ impl Cursor {
         ensures stands { IfOk result (λ c. (p : Source) (inputs : List ℤ) → Behaves p code.now → CalleeIsFit p (Callee.Function call.now) → Stands code.now inputs p (Callee.Function call.now) c [] 0) }
         ensures owes { IfOk result (λ c. c.owed ≡ owed_for Begin) }
     {
-        Cursor::function_in(alloc, Operands::empty(alloc), code, call)
+        Cursor::function_in::<false>(alloc, Operands::empty(alloc), code, call)
     }
 
     /// Returns the same frame as [`Cursor::function`], in the operands of a frame that has ended.
-    pub fn function_in(
+    /// Each caller takes another `COPY`, so that the compiler makes this a part of each.
+    #[inline(always)]
+    pub fn function_in<const COPY: bool>(
         alloc: Global,
         operands: Operands,
         code: &Code,
@@ -113,7 +123,6 @@ impl Cursor {
             operands,
             entry,
             call.words.as_slice(),
-            None,
             call.result.is_some(),
         )
     }
@@ -123,11 +132,13 @@ impl Cursor {
         ensures stands { IfOk result (λ c. (p : Source) (inputs : List ℤ) → Behaves p code.now → CalleeIsFit p (Callee.Loop part.now) → Stands code.now inputs p (Callee.Loop part.now) c [] 0) }
         ensures owes { IfOk result (λ c. c.owed ≡ owed_for Begin) }
     {
-        Cursor::turns_in(alloc, Operands::empty(alloc), code, part)
+        Cursor::turns_in::<false>(alloc, Operands::empty(alloc), code, part)
     }
 
     /// Returns the same frame as [`Cursor::turns`], in the operands of a frame that has ended.
-    pub fn turns_in(
+    /// `COPY` is as there.
+    #[inline(always)]
+    pub fn turns_in<const COPY: bool>(
         alloc: Global,
         operands: Operands,
         code: &Code,
@@ -137,29 +148,47 @@ impl Cursor {
         ensures owes { IfOk result (λ c. c.owed ≡ owed_for Begin) }
     {
         let entry = code.loop_entry(part.number);
-        Cursor::first(alloc, operands, entry, &[], Some(*part), false)
+        let mut cursor = Cursor::first(alloc, operands, entry, &[], false)?;
+        cursor.run_turns(*part);
+        Ok(cursor)
     }
 
+    // A frame that runs no turns of a loop.
     #[inline(always)]
     fn first(
         alloc: Global,
         operands: Operands,
         entry: EntryPoint,
         words: &[i64],
-        part: Option<LoopPart>,
         takes: bool,
     ) -> Result<Cursor, AllocError>
-        ensures { IfOk result (λ c. c ≡ begins_at entry (record { words = words.now; part = part; takes = takes })) }
+        ensures { IfOk result (λ c. c ≡ begins_at entry (record { words = words.now; part = None; takes = takes })) }
     {
         let operands = operands.again(alloc, entry.room, words)?;
         Ok(Cursor {
             place: entry.place,
             operands,
             held: 0,
-            part,
+            low: 0,
+            high: 0,
+            number: 0,
+            runs_turns: false,
             takes,
             owed: Owed::Nothing,
+            up: 0,
         })
+    }
+
+    // Has the frame run some turns of a loop.
+    #[inline(always)]
+    fn run_turns(&mut self, part: LoopPart)
+        ensures { self.new ≡ record self.old { given = record self.old.given { part = Some part } } }
+    {
+        self.low = part.low;
+        self.high = part.high;
+        self.number = part.number;
+        self.runs_turns = true;
+        self.up = part.up;
     }
 
     /// Takes the operands of a frame that has ended, for another frame.
@@ -205,7 +234,12 @@ impl Cursor {
         requires { self.now.given.part ≢ None }
         ensures { self.now.given.part ≡ Some result }
     {
-        self.part.unwrap()
+        LoopPart {
+            number: self.number,
+            up: self.up,
+            low: self.low,
+            high: self.high,
+        }
     }
 
     // Whether the caller takes the frame's result.

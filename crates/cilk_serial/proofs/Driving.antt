@@ -36,11 +36,12 @@ use Rattle.cilk_frames.specs.Following.{Asking, GoesOn, HasAnswer, Stands, owed_
 use Rattle.cilk_frames.proofs.Asking.{asking_first, asking_next}
 use Rattle.cilk_serial.specs.Scoped.{Activation, Frames, MayBegin, waiting}
 use Rattle.cilk_serial.specs.declared.running.Running.{Running}
+use Rattle.cilk_serial.specs.declared.running.Step.{Step}
 use Rattle.cilk_serial.specs.declared.running.Step.TheVariants as steps
 use Rattle.cilk_serial.specs.declared.answer.Told.{Told}
 use Rattle.cilk_serial.specs.declared.state.State.{State}
 use Rattle.cilk_serial.specs.Children.{IsChild}
-use Rattle.cilk_serial.specs.Going.{Whole, Completes, Wait, Going, HasBegun, HasEnded, IsAllowed, Progresses}
+use Rattle.cilk_serial.specs.Going.{Whole, Completes, Wait, Going, HasBegun, HasBegunIf, HasEnded, IsAllowed, Progresses}
 use Rattle.cilk_program.proofs.Naming.{well_named_parts}
 use Rattle.cilk_monoid.specs.Kinds.{structure_of}
 use Rattle.cilk_hypermap.specs.Hypermap.{EachKind, value_in, view_in}
@@ -410,6 +411,13 @@ begins_child code p inputs r r' a how callee count well g allowed is cells next 
     let went = invokes code p inputs r r'.state r'.frames how callee well g allowed is made wait (on_top.stands p inputs g.behaves) on_top.owes (λ q same. on_top.scoped p g.frame g.parents g.memory q (going_seen code p inputs r g) may g.shows same) in
     let left = subst (λ n. Going code p inputs (record { state = r'.state; frames = r'.frames; ask = asks.Begin; left = n })) (sym did.left) went in
     (subst (λ (k : Ask). Going code p inputs (record { state = r'.state; frames = r'.frames; ask = k; left = r'.left })) (sym did.ask) left, (_, (did.state g.memory g.shows).events))
+
+pub begins_child_if : (code : CodeView) (p : Source) (inputs : List ℤ) (r r' : Running) (a : Activation) (how : Invocation) (callee : Callee) (count : ℕ) (step : Step) → IsTrue (is_well_named p) → Going code p inputs r → IsAllowed p r.state r.ask
+    → r.ask ≡ asks.Invoke how callee → count ≡ cells_of p callee → IsChild code r.state r.frames callee a → HasBegunIf step r r' how count a → Progresses code p inputs r step r'
+begins_child_if code p inputs r r' a how callee count steps.Made well g allowed is cells next did = begins_child code p inputs r r' a how callee count well g allowed is cells next did
+begins_child_if code p inputs r r' a how callee count steps.NoMemory well g allowed is cells next did = tt
+begins_child_if code p inputs r r' a how callee count (steps.Last v) well g allowed is cells next did = absurd did
+begins_child_if code p inputs r r' a how callee count (steps.Stops f) well g allowed is cells next did = absurd did
 
 -- ---- the first frame
 

@@ -86,6 +86,13 @@ pub record HasBegun (r r' : Running) (how : Invocation) (cells : ℕ) (child : A
   pub ask : r'.ask ≡ Begin
   pub left : r'.left ≡ r.left
 
+-- the same, unless memory was refused
+abbrev pub HasBegunIf : Step → Running → Running → Invocation → ℕ → Activation → Type 0
+HasBegunIf steps.Made r r' how cells child = HasBegun r r' how cells child
+HasBegunIf steps.NoMemory r r' how cells child = Unit {0}
+HasBegunIf (steps.Last v) r r' how cells child = ⊥
+HasBegunIf (steps.Stops f) r r' how cells child = ⊥
+
 -- the run has ended with this result
 pub record HasEnded (p : Source) (inputs : List ℤ) (s : State) (v : ℤ) : Type 0 where
   pub left : ℕ
@@ -117,6 +124,7 @@ abbrev pub Progresses : CodeView → Source → List ℤ → Running → Step �
 Progresses code p inputs r steps.Made r' = Going code p inputs r' × IsLonger r.state r'.state
 Progresses code p inputs r (steps.Last v) r' = HasEnded p inputs r'.state v × IsLonger r.state r'.state
 Progresses code p inputs r (steps.Stops f) r' = (r' ≡ r) × StopsAfter p inputs r.state.events.items f
+Progresses code p inputs r steps.NoMemory r' = Unit {0}
 
 -- how a run halts
 abbrev pub Halts : CodeView → Source → List ℤ → Running → Halt → Type 0

@@ -62,7 +62,7 @@ pub fn function(
     requires cells { length state.now.cells.items ≤ MAX_CELLS }
     ensures { IfOk result (λ a. IsChild code.now state.now frames.now (callees.Function call.now) a) }
 {
-    let cursor = Cursor::function_in(alloc, operands, code, call)?;
+    let cursor = Cursor::function_in::<true>(alloc, operands, code, call)?;
     let number = state.frames + 1;
     let base = state.cells.len() as Cell;
     let frame = beginnings::function(
@@ -92,7 +92,7 @@ pub fn turns(
     requires cells { length state.now.cells.items ≤ MAX_CELLS }
     ensures { IfOk result (λ a. IsChild code.now state.now frames.now (callees.Loop part.now) a) }
 {
-    let cursor = Cursor::turns_in(alloc, operands, code, part)?;
+    let cursor = Cursor::turns_in::<true>(alloc, operands, code, part)?;
     let number = state.frames + 1;
     let base = state.cells.len() as Cell;
     let here = frames.depth();

@@ -7,7 +7,7 @@ ghost use Rattle.cilk_program.specs.declared.ask.Ask.TheVariants.{End, Invoke};
 ghost use Rattle.cilk_program.specs.declared.ask.Callee.TheVariants as callees;
 ghost use Rattle.cilk_lower.specs.Behaves.{Behaves};
 ghost use Rattle.cilk_frames.specs.AskSlot.{IsFunctionCall, in_full};
-ghost use Rattle.cilk_serial.specs.Going.{AddsNoFrame, Going, Halts, HasBegun, IsLater, Progresses, run_of};
+ghost use Rattle.cilk_serial.specs.Going.{AddsNoFrame, Going, Halts, HasBegunIf, IsLater, Progresses, run_of};
 
 use crate::answer::{Told, answer};
 use crate::callee::{function_cells, turn_cells};
@@ -51,6 +51,9 @@ pub enum Step {
     Last(i64),
     /// A fault stops the run in place of the next event.
     Stops(Fault),
+    /// Memory was refused, and the run can't continue. A variant of its own, since a `Result` would
+    /// have to be returned in memory.
+    NoMemory,
 }
 
 /// How a run halts.
@@ -86,24 +89,26 @@ impl Running {
         })
     }
 
-    /// Makes the next event, or returns the fault that replaces it. The steps that calls return are
-    /// unwrapped first, so that the result of all other steps stays in registers.
+    /// Makes the next event, or returns the fault that replaces it. Each caller takes another `COPY`,
+    /// as with `run_on`.
     #[inline(always)]
-    pub fn step(
+    pub fn step<const COPY: bool>(
         &mut self,
         alloc: Global,
         program: &Program,
         code: &Code,
         input: &Input,
-    ) -> Result<Step, AllocError>
+    ) -> Step
         requires { Going code.now (source program.now) input.now self.old }
-        ensures { IfOk result (λ step. Progresses code.now (source program.now) input.now self.old step self.new) }
+        ensures { Progresses code.now (source program.now) input.now self.old result self.new }
     {
         let Some(ask) = self.ask.small_ask() else {
-            let step = self.invoke_function(alloc, program, code)?;
-            return Ok(step);
+            return self.invoke_function(alloc, program, code);
         };
-        match answer(alloc, &mut self.state, &self.frames, ask)? {
+        let Ok(effect) = answer(alloc, &mut self.state, &self.frames, ask) else {
+            return Step::NoMemory;
+        };
+        match effect {
             Told::Goes(told) => {
                 step_into(
                     code,
@@ -113,18 +118,12 @@ impl Running {
                     &mut self.left,
                     &mut self.ask,
                 );
-                Ok(Step::Made)
+                Step::Made
             }
-            Told::Turns(how, part) => {
-                let step = self.invoke_turns(alloc, program, code, how, &part)?;
-                Ok(step)
-            }
-            Told::Ends(result) => {
-                let step = self.end(alloc, program, code, input, result)?;
-                Ok(step)
-            }
-            Told::Stops(fault) => Ok(Step::Stops(fault)),
-            Told::Full => Ok(Step::Stops(Fault::TooManyEvents)),
+            Told::Turns(how, part) => self.invoke_turns(alloc, program, code, how, &part),
+            Told::Ends(result) => self.end(alloc, program, code, input, result),
+            Told::Stops(fault) => Step::Stops(fault),
+            Told::Full => Step::Stops(Fault::TooManyEvents),
         }
     }
 
@@ -212,10 +211,11 @@ impl Running {
     {
         'each: loop {
             self.run_on::<false>(alloc, program, code, input)?;
-            match self.step(alloc, program, code, input)? {
+            match self.step::<false>(alloc, program, code, input) {
                 Step::Made => {}
                 Step::Last(result) => return Ok(Halt::Ended(result)),
                 Step::Stops(fault) => return Ok(Halt::Stopped(fault)),
+                Step::NoMemory => return Err(AllocError),
             }
         }
     }
@@ -245,25 +245,21 @@ impl Running {
     /// Begins the frame of the requested function, unless a limit of events, frames or cells is
     /// met.
     #[inline(never)]
-    pub fn invoke_function(
-        &mut self,
-        alloc: Global,
-        program: &Program,
-        code: &Code,
-    ) -> Result<Step, AllocError>
+    pub fn invoke_function(&mut self, alloc: Global, program: &Program, code: &Code) -> Step
         requires going { (inputs : List ℤ) × Going code.now (source program.now) inputs self.old }
         requires begins { IsFunctionCall self.old.ask }
-        ensures { (inputs : List ℤ) → Going code.now (source program.now) inputs self.old → IfOk result (λ step. Progresses code.now (source program.now) inputs self.old step self.new) }
+        ensures { (inputs : List ℤ) → Going code.now (source program.now) inputs self.old → Progresses code.now (source program.now) inputs self.old result self.new }
     {
         let operands = self.ask.spare(alloc);
         let (how, call) = self.ask.invocation();
         let cells = function_cells(program, call.function);
         if let Some(fault) = crowded(&self.state, cells) {
-            return Ok(Step::Stops(fault));
+            return Step::Stops(fault);
         }
-        let frame = function(alloc, operands, code, &self.state, &self.frames, call)?;
-        self.begin(how, cells, frame)?;
-        Ok(Step::Made)
+        match function(alloc, operands, code, &self.state, &self.frames, call) {
+            Ok(frame) => self.begin(how, cells, frame),
+            Err(_) => Step::NoMemory,
+        }
     }
 
     /// Begins the frame of some turns of a loop, unless a limit of events, frames or cells is met.
@@ -275,36 +271,36 @@ impl Running {
         code: &Code,
         how: Invocation,
         part: &LoopPart,
-    ) -> Result<Step, AllocError>
+    ) -> Step
         requires going { (inputs : List ℤ) × Going code.now (source program.now) inputs self.old }
         requires begins { self.old.ask ≡ Invoke how (callees.Loop part.now) }
-        ensures { (inputs : List ℤ) → Going code.now (source program.now) inputs self.old → IfOk result (λ step. Progresses code.now (source program.now) inputs self.old step self.new) }
+        ensures { (inputs : List ℤ) → Going code.now (source program.now) inputs self.old → Progresses code.now (source program.now) inputs self.old result self.new }
     {
         let cells = turn_cells(program, part);
         if let Some(fault) = crowded(&self.state, cells) {
-            return Ok(Step::Stops(fault));
+            return Step::Stops(fault);
         }
         let operands = self.ask.spare(alloc);
-        let frame = turns(alloc, operands, code, &self.state, &self.frames, part)?;
-        self.begin(how, cells, frame)?;
-        Ok(Step::Made)
+        match turns(alloc, operands, code, &self.state, &self.frames, part) {
+            Ok(frame) => self.begin(how, cells, frame),
+            Err(_) => Step::NoMemory,
+        }
     }
 
     // Begins a child with `cells` cells. The frame that requested it waits.
     #[inline(always)]
-    fn begin(
-        &mut self,
-        how: Invocation,
-        cells: u32,
-        child: Activation<Cursor>,
-    ) -> Result<(), AllocError>
+    fn begin(&mut self, how: Invocation, cells: u32, child: Activation<Cursor>) -> Step
         requires { self.old.state.frames < MAX_FRAMES }
-        ensures { OnOk result (HasBegun self.old self.new how cells child) }
+        ensures { HasBegunIf result self.old self.new how cells child }
     {
-        self.state.begin(how, cells)?;
-        self.frames.push(child)?;
+        let Ok(()) = self.state.begin(how, cells) else {
+            return Step::NoMemory;
+        };
+        let Ok(()) = self.frames.push(child) else {
+            return Step::NoMemory;
+        };
         self.ask.put(SmallAsk::Begin);
-        Ok(())
+        Step::Made
     }
 
     /// Ends the running frame with a value, and continues the frame that waits for it, if there is
@@ -317,22 +313,22 @@ impl Running {
         code: &Code,
         input: &Input,
         value: i64,
-    ) -> Result<Step, AllocError>
+    ) -> Step
         requires going { Going code.now (source program.now) input.now self.old }
         requires ends { self.old.ask ≡ End value }
-        ensures { IfOk result (λ step. Progresses code.now (source program.now) input.now self.old step self.new) }
+        ensures { Progresses code.now (source program.now) input.now self.old result self.new }
     {
         match self.state.make(Event::End) {
             Ok(_) => {}
-            Err(Refused::Full) => return Ok(Step::Stops(Fault::TooManyEvents)),
-            Err(Refused::Memory) => return Err(AllocError),
+            Err(Refused::Full) => return Step::Stops(Fault::TooManyEvents),
+            Err(Refused::Memory) => return Step::NoMemory,
         }
         retire(program, &mut self.state, &self.frames.top);
         let operands = self.frames.top.cursor.take_operands(alloc);
         self.ask.keep(alloc, operands);
         let goes_on = self.frames.pop();
         if !goes_on {
-            return Ok(Step::Last(value));
+            return Step::Last(value);
         }
         step_into(
             code,
@@ -342,6 +338,6 @@ impl Running {
             &mut self.left,
             &mut self.ask,
         );
-        Ok(Step::Made)
+        Step::Made
     }
 }

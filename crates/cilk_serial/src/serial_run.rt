@@ -143,17 +143,17 @@ impl<'a> SerialRun<'a> {
         }
         match self
             .running
-            .step(self.alloc, self.program, self.code, self.input)
+            .step::<true>(self.alloc, self.program, self.code, self.input)
         {
-            Ok(Step::Made) => Ok(Next::Made(self.running.state.last_event())),
-            Ok(Step::Last(result)) => {
+            Step::Made => Ok(Next::Made(self.running.state.last_event())),
+            Step::Last(result) => {
                 self.stage = Stage::Ended(result);
                 Ok(Next::Made(self.running.state.last_event()))
             }
-            Ok(Step::Stops(fault)) => Ok(Next::Stops(fault)),
-            Err(error) => {
+            Step::Stops(fault) => Ok(Next::Stops(fault)),
+            Step::NoMemory => {
                 self.stage = Stage::Failed;
-                Err(error)
+                Err(AllocError)
             }
         }
     }

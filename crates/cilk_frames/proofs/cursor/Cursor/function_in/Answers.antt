@@ -8,7 +8,7 @@ use Rattle.cilk_frames.proofs.Following.{stands_as}
 use Rattle.cilk_frames.proofs.cursor.Cursor.function_in.Goals as goal
 
 pub returns-clause-stands : goal.returns-clause-stands
-returns-clause-stands c =
+returns-clause-stands g c =
     let call = c.args.call.now in
     let entry = entry_of c.args.code.now (Function call) in
     let begins = λ (e : EntryPoint) (ws : List ℤ) (t : Bool). begins_at e (record { words = ws; part = None; takes = t }) in

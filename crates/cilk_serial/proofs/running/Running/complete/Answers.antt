@@ -16,7 +16,7 @@ each-init c = record { going = c.requires; later = ([], sym (append-nil c.args.s
 
 pub each-preserved : goal.each-preserved
 each-preserved c =
-    let made = subst (λ (s : Step). Progresses c.args.code.now (source c.args.program.now) c.args.input.now c.run_on.new.self s c.step.new.self) c.in-Made.is c.in_ok-step.ensures in
+    let made = subst (λ (s : Step). Progresses c.args.code.now (source c.args.program.now) c.args.input.now c.run_on.new.self s c.step.new.self) c.in-Made.is c.step.ensures in
     let es = c.args.self.now.state.events.items in
     let more = c.in_ok-run_on.ensures.later in
     let later = is_later es c.each.self.state.events.items c.run_on.new.self.state.events.items c.step.new.self.state.events.items c.each.invariant.later (more.0, more.1) made.1 in
@@ -24,7 +24,7 @@ each-preserved c =
 
 pub each-smaller : goal.each-smaller
 each-smaller c =
-    let made = subst (λ (s : Step). Progresses c.args.code.now (source c.args.program.now) c.args.input.now c.run_on.new.self s c.step.new.self) c.in-Made.is c.in_ok-step.ensures in
+    let made = subst (λ (s : Step). Progresses c.args.code.now (source c.args.program.now) c.args.input.now c.run_on.new.self s c.step.new.self) c.in-Made.is c.step.ensures in
     let going = made.0 in
     let short = going.counted in
     let later = c.in_ok-run_on.ensures.later in
@@ -35,6 +35,6 @@ each-smaller c =
 
 pub returns-in-Last-clause-later : goal.returns-in-Last-clause-later
 returns-in-Last-clause-later c =
-    let last = subst (λ (s : Step). Progresses c.args.code.now (source c.args.program.now) c.args.input.now c.run_on.new.self s c.step.new.self) c.in-Last.is c.in_ok-step.ensures in
+    let last = subst (λ (s : Step). Progresses c.args.code.now (source c.args.program.now) c.args.input.now c.run_on.new.self s c.step.new.self) c.in-Last.is c.step.ensures in
     let more = c.in_ok-run_on.ensures.later in
     is_later c.args.self.now.state.events.items c.each.self.state.events.items c.run_on.new.self.state.events.items c.step.new.self.state.events.items c.each.invariant.later (more.0, more.1) last.1

@@ -1,13 +1,13 @@
 use Rattle.cilk_program.specs.declared.ask.Callee.TheVariants.{Function}
 use Rattle.cilk_program.specs.Sources.{source}
-use Rattle.cilk_serial.proofs.Driving.{begins_child, crowd_refuses, fits_callee, going_seen, may_begin, not_crowded, stops, uncrowded}
+use Rattle.cilk_serial.proofs.Driving.{begins_child_if, crowd_refuses, fits_callee, going_seen, may_begin, not_crowded, stops, uncrowded}
 use Rattle.cilk_serial.proofs.running.Running.invoke_function.Goals as goal
 use Rattle.std.proofs.Common.{◌≡◌, ℤ, List, ap, sym, subst}
 use Rattle.cilk_program.specs.declared.ask.Ask.{Ask}
 use Rattle.cilk_program.specs.Syntax.{Source}
 use Rattle.cilk_lower.specs.Code.{CodeView}
 use Rattle.cilk_frames.specs.AskSlot.{IsFunctionCall}
-use Rattle.cilk_serial.specs.Going.{Going}
+use Rattle.cilk_serial.specs.Going.{Going, Progresses}
 use Rattle.cilk_serial.specs.declared.running.Running.{Running}
 
 -- the run with an equal request
@@ -64,11 +64,12 @@ begin-requires c =
     let call = c.invocation-how.result in
     (not_crowded c.args.code.now p c.requires.going.0 r call.0 (Function call.1.now) g (uncrowded p r.state r.ask call.0 (Function call.1.now) c.function_cells-cells.result c.invocation-how.ensures c.function_cells-cells.ensures c.in_default.ensures) c.invocation-how.ensures).0
 
-pub returns : goal.returns
-returns c = λ inputs before.
+pub returns-in-Ok : goal.returns-in-Ok
+returns-in-Ok c = λ inputs before.
     let p = c.args.program.now in
     let r = asking c.args.self.now c.spare-operands.new.self in
     let g = still_going c.args.code.now (source p) inputs c.args.self.now c.spare-operands.new.self c.spare-operands.ensures before in
     let call = c.invocation-how.result in
     let allowed = uncrowded (source p) r.state r.ask call.0 (Function call.1.now) c.function_cells-cells.result c.invocation-how.ensures c.function_cells-cells.ensures c.in_default.ensures in
-    begins_child c.args.code.now (source p) inputs r c.begin.new.self c.in_ok-frame.frame call.0 (Function call.1.now) c.function_cells-cells.result p.well_named g allowed c.invocation-how.ensures c.function_cells-cells.ensures c.in_ok-frame.ensures c.in_ok-begin.ensures
+    subst (λ (k : Ask). Progresses c.args.code.now (source p) inputs (asking c.args.self.now k) c.begin.result c.begin.new.self) c.spare-operands.ensures
+    (begins_child_if c.args.code.now (source p) inputs r c.begin.new.self c.in-Ok.frame call.0 (Function call.1.now) c.function_cells-cells.result c.begin.result p.well_named g allowed c.invocation-how.ensures c.function_cells-cells.ensures c.in-Ok.ensures c.begin.ensures)

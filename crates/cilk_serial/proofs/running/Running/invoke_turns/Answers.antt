@@ -1,10 +1,10 @@
 use Rattle.cilk_program.specs.declared.ask.Callee.TheVariants.{Loop}
 use Rattle.cilk_program.specs.Sources.{source}
-use Rattle.cilk_serial.proofs.Driving.{begins_child, crowd_refuses, fits_callee, may_begin, not_crowded, stops, uncrowded}
+use Rattle.cilk_serial.proofs.Driving.{begins_child_if, crowd_refuses, fits_callee, may_begin, not_crowded, stops, uncrowded}
 use Rattle.cilk_serial.proofs.running.Running.invoke_turns.Goals as goal
 use Rattle.std.proofs.Common.{refl, sym, subst, ◌∙◌}
 use Rattle.cilk_program.specs.declared.ask.Ask.{Ask}
-use Rattle.cilk_serial.specs.Going.{Going}
+use Rattle.cilk_serial.specs.Going.{Going, Progresses}
 use Rattle.cilk_serial.specs.declared.running.Running.{Running}
 
 pub turn_cells-cells-requires : goal.turn_cells-cells-requires
@@ -43,8 +43,8 @@ begin-requires c =
     let g = c.requires.going.1 in
     (not_crowded c.args.code.now p c.requires.going.0 r c.args.how (Loop c.args.part.now) g (uncrowded p r.state r.ask c.args.how (Loop c.args.part.now) c.turn_cells-cells.result c.requires.begins c.turn_cells-cells.ensures c.in_default.ensures) c.requires.begins).0
 
-pub returns : goal.returns
-returns c = λ inputs g.
+pub returns-in-Ok : goal.returns-in-Ok
+returns-in-Ok c = λ inputs g.
     let p = c.args.program.now in
     let r = c.args.self.now in
     let callee = Loop c.args.part.now in
@@ -52,4 +52,5 @@ returns c = λ inputs g.
     let going = subst (λ (k : Ask). Going c.args.code.now (source p) inputs (record { state = r.state; frames = r.frames; ask = k; left = r.left })) (sym c.spare-operands.ensures) g in
     let asks = c.spare-operands.ensures ∙ c.requires.begins in
     let allowed = uncrowded (source p) r.state spared.ask c.args.how callee c.turn_cells-cells.result asks c.turn_cells-cells.ensures c.in_default.ensures in
-    begins_child c.args.code.now (source p) inputs spared c.begin.new.self c.in_ok-frame.frame c.args.how callee c.turn_cells-cells.result p.well_named going allowed asks c.turn_cells-cells.ensures c.in_ok-frame.ensures c.in_ok-begin.ensures
+    subst (λ (k : Ask). Progresses c.args.code.now (source p) inputs (record { state = r.state; frames = r.frames; ask = k; left = r.left }) c.begin.result c.begin.new.self) c.spare-operands.ensures
+    (begins_child_if c.args.code.now (source p) inputs spared c.begin.new.self c.in-Ok.frame c.args.how callee c.turn_cells-cells.result c.begin.result p.well_named going allowed asks c.turn_cells-cells.ensures c.in-Ok.ensures c.begin.ensures)

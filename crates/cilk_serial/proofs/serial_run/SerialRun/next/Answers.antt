@@ -17,10 +17,10 @@ returns-in-Ended-clause-ok c =
     let left = ends (source p) p.well_named r.input.now r.running.state c.in-Ended.field-0 ended in
     subst (λ (v : RunView). EndsNext v v) c.self.view_is (record { same = refl; over = subst IsOver (sym c.in-Ended.is) tt; outcome = left.0; ran = left.1 })
 
-pub returns-in-Ok-Made-clause-ok : goal.returns-in-Ok-Made-clause-ok
-returns-in-Ok-Made-clause-ok c =
+pub returns-in-Made-clause-ok : goal.returns-in-Made-clause-ok
+returns-in-Made-clause-ok c =
     let r = c.self.inside in
-    let made = subst (λ (s : Step). Progresses r.code.now (source r.program.now) r.input.now r.running s c.step.new.self) c.in-Ok-Made.field-0-is c.in-Ok-Made.ensures in
+    let made = subst (λ (s : Step). Progresses r.code.now (source r.program.now) r.input.now r.running s c.step.new.self) c.in-Made.is c.step.ensures in
     let event = c.last_event.ensures r.running.state.events.items made.1.0 made.1.1 in
     record {
       program = ap (λ (v : RunView). v.program) c.self.view_is;
@@ -29,14 +29,14 @@ returns-in-Ok-Made-clause-ok c =
       so_far = subst (λ (v : RunView). IsSoFar (source v.program) v.inputs c.step.new.self.state.events.items) c.self.view_is (kept_so_far r.code.now (source r.program.now) r.input.now c.step.new.self Going made.0 tt);
     }
 
-pub returns-in-Ok-Last-clause-ok : goal.returns-in-Ok-Last-clause-ok
-returns-in-Ok-Last-clause-ok c =
+pub returns-in-Last-clause-ok : goal.returns-in-Last-clause-ok
+returns-in-Last-clause-ok c =
     let r = c.self.inside in
-    let made = subst (λ (s : Step). Progresses r.code.now (source r.program.now) r.input.now r.running s c.step.new.self) c.in-Ok-Last.field-0-is c.in-Ok-Last.ensures in
-    let event = c.last_event-in-Ok-Last.ensures r.running.state.events.items made.1.0 made.1.1 in
+    let made = subst (λ (s : Step). Progresses r.code.now (source r.program.now) r.input.now r.running s c.step.new.self) c.in-Last.is c.step.ensures in
+    let event = c.last_event-in-Last.ensures r.running.state.events.items made.1.0 made.1.1 in
     record {
       program = ap (λ (v : RunView). v.program) c.self.view_is;
       inputs = ap (λ (v : RunView). v.inputs) c.self.view_is;
-      events = made.1.1 ∙ ap (λ (e : Event). r.running.state.events.items ++ e ∷ []) (sym event) ∙ ap (λ (v : RunView). v.events ++ c.last_event-in-Ok-Last.result ∷ []) c.self.view_is;
-      so_far = subst (λ (v : RunView). IsSoFar (source v.program) v.inputs c.step.new.self.state.events.items) c.self.view_is (kept_so_far r.code.now (source r.program.now) r.input.now c.step.new.self (Ended c.in-Ok-Last.result) made.0 tt);
+      events = made.1.1 ∙ ap (λ (e : Event). r.running.state.events.items ++ e ∷ []) (sym event) ∙ ap (λ (v : RunView). v.events ++ c.last_event-in-Last.result ∷ []) c.self.view_is;
+      so_far = subst (λ (v : RunView). IsSoFar (source v.program) v.inputs c.step.new.self.state.events.items) c.self.view_is (kept_so_far r.code.now (source r.program.now) r.input.now c.step.new.self (Ended c.in-Last.result) made.0 tt);
     }
