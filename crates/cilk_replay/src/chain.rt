@@ -171,8 +171,10 @@ impl Chain {
         ensures err { OnErr result (self.new ≡ self.old) }
     {
         self.below.reserve(1)?;
+        let operands = self.asked.spare(alloc);
         let layout = replay.child(frame);
-        let child = ReplayFrame::begun(alloc, replay, &self.asked, layout, &self.top.sight)?;
+        let sight = &self.top.sight;
+        let child = ReplayFrame::begun(alloc, operands, replay, &self.asked, layout, sight)?;
         let caller = mem::replace(&mut *self.top, child);
         self.below.push_reserved(caller);
         self.asked.put(SmallAsk::Begin);
@@ -196,8 +198,10 @@ impl Chain {
         ensures parent { IfOk result (λ rest. rest ≡ standing self.old.of next) }
         ensures err { OnErr result (self.new ≡ self.old) }
     {
+        let operands = self.asked.spare(alloc);
         let layout = replay.child(frame);
-        let replay_frame = ReplayFrame::begun(alloc, replay, &self.asked, layout, &self.top.sight)?;
+        let sight = &self.top.sight;
+        let replay_frame = ReplayFrame::begun(alloc, operands, replay, &self.asked, layout, sight)?;
         let child = Box::new(alloc, replay_frame)?;
         let rest = Rest {
             of: Snapshot::of(replay),
@@ -210,9 +214,24 @@ impl Chain {
         Ok(rest)
     }
 
+    /// Leaves the frame, which has ended, and continues those of `rest` after their child.
+    pub fn follow(&mut self, alloc: Global, replay: &Replay, rest: Rest)
+        requires { replay.now ≡ rest.of }
+        ensures { self.new ≡ rest }
+    {
+        let Rest { of, at, top, below } = rest;
+        let operands = self.top.cursor.take_operands(alloc);
+        self.asked.keep(alloc, operands);
+        self.of = of;
+        self.at = at;
+        self.top = top;
+        self.below = below;
+        go_on(&mut self.top, replay, Answer::Done, &mut self.asked);
+    }
+
     /// Ends the frame and continues its caller. Returns false if it has no caller here, since it
     /// was spawned or is the root's; then nothing changes.
-    pub fn end(&mut self, replay: &Replay) -> bool
+    pub fn end(&mut self, alloc: Global, replay: &Replay) -> bool
         requires replay { replay.now ≡ self.old.of }
         requires end { Follows self.old.of.yard.event_order self.old.at End }
         ensures caller { IsTrue result → self.new ≡ standing self.old.of (self.old.at + 1) }
@@ -221,6 +240,8 @@ impl Chain {
         let Some(caller) = self.below.pop() else {
             return false;
         };
+        let operands = self.top.cursor.take_operands(alloc);
+        self.asked.keep(alloc, operands);
         *self.top = caller;
         go_on(&mut self.top, replay, Answer::Done, &mut self.asked);
         self.at += 1;

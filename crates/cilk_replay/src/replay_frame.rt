@@ -19,6 +19,7 @@ use crate::replay::Replay;
 use crate::sight::Sight;
 use cilk_frames::asked::AskSlot;
 use cilk_frames::cursor::{Answer, Cursor};
+use cilk_frames::operands::Operands;
 use cilk_frames::small_ask::SmallAsk;
 use cilk_frames::stepping::step_into;
 use cilk_types::limits::MAX_TICKS;
@@ -61,10 +62,11 @@ impl ReplayFrame {
         Ok(replay_frame)
     }
 
-    /// Creates the child that a frame requests, before it begins. `layout` is the child's, and
-    /// `caller` is the requesting frame's sight.
+    /// Creates the child that a frame requests, before it begins. `operands` are those of a frame
+    /// that has ended, `layout` is the child's, and `caller` is the requesting frame's sight.
     pub fn begun(
         alloc: Global,
+        operands: Operands,
         replay: &Replay,
         asked: &AskSlot,
         layout: FrameLayout,
@@ -81,8 +83,10 @@ impl ReplayFrame {
     {
         let code = replay.code();
         let cursor = match asked.small_ask() {
-            None => Cursor::function(alloc, code, asked.invocation().1)?,
-            Some(SmallAsk::Turns(_, part)) => Cursor::turns(alloc, code, part)?,
+            None => Cursor::function_in::<false>(alloc, operands, code, asked.invocation().1)?,
+            Some(SmallAsk::Turns(_, part)) => Cursor::turns_in::<false>(
+                alloc, operands, code, part,
+            )?,
             Some(_) => unreachable!(),
         };
         let sight = Sight::begun(alloc, replay.globals(), layout, caller, asked)?;

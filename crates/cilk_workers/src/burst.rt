@@ -61,7 +61,8 @@ impl<'a, 'b, N: Naming, R: Wait, G: Gate> WorkerContext<'a, 'b, N, R, G> {
         if task.at() != work.piece.upto() {
             never(self.rt);
         }
-        work.chain = task.rest().wake(self.shared.replay());
+        work.chain
+            .follow(self.alloc, self.shared.replay(), task.rest());
     }
 
     // A piece arrives at the block of its next position. The worker continues with what passes, or

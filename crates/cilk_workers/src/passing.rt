@@ -17,6 +17,7 @@ use crate::work::{Turn, Work};
 use cilk_frames::cursor::Answer;
 use cilk_shared::taken::Taken;
 use cilk_types::event::{FrameNo, Pos};
+use std::alloc::Global;
 
 /// A `begin`, or the `resume` after a call.
 pub(crate) fn passed(shared: &Shared<'_>, work: &mut Work) -> Turn
@@ -64,7 +65,7 @@ pub(crate) fn taken(shared: &Shared<'_>, work: &mut Work, ticket: Pos) -> Turn
 }
 
 /// A child's `end`.
-pub(crate) fn ended(shared: &Shared<'_>, work: &mut Work, frame: FrameNo) -> Turn
+pub(crate) fn ended(alloc: Global, shared: &Shared<'_>, work: &mut Work, frame: FrameNo) -> Turn
     requires due { IsDue shared.now work.old kinds.End }
     requires more { HasMore shared.now work.old }
     requires frame { IsInFrame (event_order_in shared.now).events work.old.piece.upto frame }
@@ -72,7 +73,7 @@ pub(crate) fn ended(shared: &Shared<'_>, work: &mut Work, frame: FrameNo) -> Tur
 {
     shared.laws();
     work.piece.end(shared.yard(), shared.reducers(), frame);
-    if work.chain.end(shared.replay()) {
+    if work.chain.end(alloc, shared.replay()) {
         Turn::Goes
     } else {
         Turn::Ended

@@ -74,7 +74,7 @@ fn made(alloc: Global, shared: &Shared<'_>, work: &mut Work, frame: FrameNo, kin
         Kind::Call { .. } => called(alloc, shared, work),
         Kind::Resume { .. } => resumed(shared, work),
         Kind::Sync => synced(shared, work),
-        Kind::End => ended(shared, work, frame),
+        Kind::End => ended(alloc, shared, work, frame),
         Kind::Read { cell } => loaded(shared, work, cell),
         Kind::Write { cell } => stored(shared, work, cell),
         Kind::Create { instance } => created(alloc, shared, work, instance),

@@ -1,8 +1,9 @@
-use Rattle.std.proofs.Common.{◌≡◌, ◌+◌, List, [], ◌∷◌, ◌++◌, ◌∙◌, sym, ap, subst}
+use Rattle.std.proofs.Common.{◌≡◌, ◌≢◌, ◌+◌, List, [], ◌∷◌, ◌++◌, ◌∙◌, sym, ap, subst}
 use Rattle.cilk_program.specs.declared.ask.Ask.{Ask}
 use Rattle.cilk_types.specs.declared.invocation.Invocation.{Invocation}
 use Rattle.cilk_program.specs.declared.ask.Ask.TheVariants.{Begin, Invoke}
 use Rattle.cilk_program.specs.declared.ask.Callee.{Callee}
+use Rattle.cilk_program.specs.declared.ask.Callee.TheVariants.{Root}
 use Rattle.cilk_replay.specs.declared.replay_frame.ReplayFrame.{ReplayFrame}
 use Rattle.cilk_replay.specs.Asking.{BeginsNext, Calls}
 use Rattle.cilk_replay.specs.Chains.{ChainValue}
@@ -17,10 +18,12 @@ invariant_of-self c = subst (λ (xs : List ReplayFrame). Stand c.self.inside.of.
 pub begun-requires : goal.begun-requires
 begun-requires c =
     let same = ap (λ (v : ChainValue). v.of) c.self.view_is ∙ sym c.requires.replay in
-    along.call_begins c.self.inside.of.value c.args.replay.now same c.self.inside.at c.self.inside.asked c.self.inside.top.value c.self.inside.below.items c.self.invariant (along.of_chain Calls c.self.inside.of.value c.self.inside.at _ c.self.view_is c.requires.calls)
+    subst (λ (k : Ask). (how : Invocation) × (callee : Callee) × (callee ≢ Root) × (k ≡ Invoke how callee)) (sym c.spare-operands.ensures)
+    (along.call_begins c.self.inside.of.value c.args.replay.now same c.self.inside.at c.self.inside.asked c.self.inside.top.value c.self.inside.below.items c.self.invariant (along.of_chain Calls c.self.inside.of.value c.self.inside.at _ c.self.view_is c.requires.calls))
 
 pub invariant_of-self-in_err-child : goal.invariant_of-self-in_err-child
-invariant_of-self-in_err-child c = subst (λ (xs : List ReplayFrame). Stand c.self.inside.of.value c.self.inside.at c.self.inside.asked c.self.inside.top.value xs) (sym c.reserve.ensures.items) c.self.invariant
+invariant_of-self-in_err-child c = subst (λ (k : Ask). Stand c.self.inside.of.value c.self.inside.at k c.self.inside.top.value c.reserve.new.self.items) (sym c.spare-operands.ensures)
+    (subst (λ (xs : List ReplayFrame). Stand c.self.inside.of.value c.self.inside.at c.self.inside.asked c.self.inside.top.value xs) (sym c.reserve.ensures.items) c.self.invariant)
 
 pub invariant_of-self-2 : goal.invariant_of-self-2
 invariant_of-self-2 c =
@@ -37,8 +40,8 @@ invariant_of-self-2 c =
       lies = c.child-layout.ensures.block;
       frame = c.child-layout.ensures.frame;
       before = c.child-layout.ensures.before;
-      begun = c.in_ok-child.ensures.stands;
+      begun = λ p how callee is. c.in_ok-child.ensures.stands p how callee (c.spare-operands.ensures ∙ is);
       owes = c.in_ok-child.ensures.owes;
       took = c.in_ok-child.ensures.took;
-      sight = subst (λ (l : ReplayFrame). (how : Invocation) (callee : Callee) → c.self.inside.asked ≡ Invoke how callee → IsSightIn c.args.replay.now callee c.child-layout.result l.sight c.in_ok-child.child.sight) c.deref.ensures c.in_ok-child.ensures.sight;
+      sight = subst (λ (l : ReplayFrame). (how : Invocation) (callee : Callee) → c.self.inside.asked ≡ Invoke how callee → IsSightIn c.args.replay.now callee c.child-layout.result l.sight c.in_ok-child.child.sight) c.deref.ensures (λ how callee is. c.in_ok-child.ensures.sight how callee (c.spare-operands.ensures ∙ is));
     }))))
