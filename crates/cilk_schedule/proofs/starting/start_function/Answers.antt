@@ -7,7 +7,7 @@ use Rattle.cilk_scheduler.specs.Invoking.{IsChild}
 use Rattle.cilk_schedule.proofs.Answering.{on_ok}
 use Rattle.cilk_schedule.proofs.Started.{if_both, no_touch, started_by}
 use Rattle.cilk_schedule.proofs.Stepping.{if_ok}
-use Rattle.cilk_schedule.proofs.Turns.{begun_made, begun_ticks, function_may}
+use Rattle.cilk_schedule.proofs.Turns.{begun_made, begun_ticks, can_start, function_may}
 use Rattle.cilk_schedule.proofs.starting.start_function.Goals as goal
 
 pub function_child-requires-clause-sees : goal.function_child-requires-clause-sees
@@ -15,6 +15,9 @@ function_child-requires-clause-sees c =
     let q = c.requires.turn in
     let m = function_may c.args.code.now q.0 c.args.scheduler.now c.args.frame q.1 c.invocation-how.result.0 c.invocation-how.result.1.now c.invocation-how.ensures in
     (m.0, subst (λ l. SeesAt l c.args.frame m.0) (sym c.as_slice.ensures.value) m.1, m.2, m.3)
+
+pub begin-requires-clause-children : goal.begin-requires-clause-children
+begin-requires-clause-children c = let q = c.requires.turn in can_start c.args.code.now q.0 c.args.scheduler.now c.args.frame q.1
 
 pub returns-clause-made : goal.returns-clause-made
 returns-clause-made c =
