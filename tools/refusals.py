@@ -34,9 +34,9 @@ def reasons():
         table = unescaped(file.read().partition('NUMBERS: &str = "\\\n')[2].rpartition('"')[0])
     found = {}
     for entry in table.split("\n\n"):
-        title, _meaning, example, line, place = entry.split("\n")[:5]
+        number, _meaning, example, line, place = entry.split("\n")[:5]
         kind, _blank, shown = example.partition(" ")
-        found[int(title.partition(": ")[0])] = (line, kind, shown, place)
+        found[int(number)] = (line, kind, shown, place)
     return found
 
 

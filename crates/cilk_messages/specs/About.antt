@@ -1,5 +1,5 @@
 -- Command lines about the tool itself.
-use Rattle.std.specs.Prelude.{◌≡◌, ◌&&◌, ◌||◌, Bool, true, false, not, List, [], ◌∷◌, codes}
+use Rattle.std.specs.Prelude.{◌≡◌, ◌<◌, ◌&&◌, ◌||◌, Bool, true, false, not, List, [], ◌∷◌, codes, length, string_bytes}
 use Rattle.std.specs.Str.{bytes_eq}
 use Rattle.cilk_messages.specs.Asked.{Text, is_option}
 use Rattle.cilk_messages.specs.declared.about.About.{About as AboutAnswer}
@@ -45,3 +45,33 @@ abbrev pub IsAskedFor : List Text → AboutAnswer → Type 0
 IsAskedFor words answers.Other = is_about words ≡ false
 IsAskedFor words (answers.Text text) = is_about words ≡ true
 IsAskedFor words (answers.Wrong text) = is_about words ≡ true
+
+-- the words request the version
+abbrev pub asks_version : List Text → Bool
+asks_version [] = false
+asks_version (word ∷ []) = bytes_eq word (codes "--version") || bytes_eq word (codes "-V")
+asks_version (word ∷ other ∷ words) = false
+
+-- the words request the help on all commands
+abbrev pub asks_help : List Text → Bool
+asks_help [] = false
+asks_help (word ∷ []) = bytes_eq word (codes "help") || is_help word
+asks_help (word ∷ other ∷ words) = false
+
+-- this text for standard output, if the words are about the tool
+abbrev pub IsText : Text → AboutAnswer → Type 0
+IsText wanted answers.Other = Unit {0}
+IsText wanted (answers.Text text) = string_bytes text ≡ wanted
+IsText wanted (answers.Wrong text) = ⊥
+
+-- this text for standard error, if the words are about the tool
+abbrev pub IsWrong : Text → AboutAnswer → Type 0
+IsWrong wanted answers.Other = Unit {0}
+IsWrong wanted (answers.Text text) = ⊥
+IsWrong wanted (answers.Wrong text) = string_bytes text ≡ wanted
+
+-- no text, or a longer one than this
+abbrev pub IsLonger : Text → AboutAnswer → Type 0
+IsLonger short answers.Other = Unit {0}
+IsLonger short (answers.Text text) = length short < length (string_bytes text)
+IsLonger short (answers.Wrong text) = length short < length (string_bytes text)

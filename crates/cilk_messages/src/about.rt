@@ -1,7 +1,7 @@
 //! Answers about the tool itself: its help, the meaning of a number, and the version.
 
-ghost use Rattle.std.specs.Prelude.{◌≡◌, IfOk};
-ghost use Rattle.cilk_messages.specs.About.{IsAnswer, IsAskedFor, is_about, is_command, is_help, is_question, is_question_on};
+ghost use Rattle.std.specs.Prelude.{◌≡◌, IfOk, false, true};
+ghost use Rattle.cilk_messages.specs.About.{IsAnswer, IsAskedFor, IsLonger, IsText, IsWrong, asks_help, asks_version, is_about, is_command, is_help, is_question, is_question_on};
 ghost use Rattle.cilk_messages.specs.Words.{texts};
 
 use crate::asked::{is_option, number_of};
@@ -71,26 +71,55 @@ fn is_about(words: &[&str]) -> bool
     }
 }
 
-/// Answers a command line about the tool.
+/// Returns whether the command line requests the version.
+fn asks_version(words: &[&str]) -> bool
+    ensures { result ≡ asks_version (texts words.now) }
+{
+    match words {
+        [word] => *word == "--version" || *word == "-V",
+        _ => false,
+    }
+}
+
+/// Returns whether the command line requests the help on all commands.
+fn asks_help(words: &[&str]) -> bool
+    ensures { result ≡ asks_help (texts words.now) }
+{
+    match words {
+        [word] => *word == "help" || is_help(word),
+        _ => false,
+    }
+}
+
+/// Answers a command line about the tool. Only words that request the version are answered by it: any
+/// other answer is a longer text.
 pub fn answer_about(alloc: Global, words: &[&str]) -> Result<About, AllocError>
-    ensures { IfOk result (λ answer. IsAskedFor (texts words.now) answer) }
+    ensures asked { IfOk result (λ answer. IsAskedFor (texts words.now) answer) }
+    ensures version { asks_version (texts words.now) ≡ true → IfOk result (λ answer. IsText VERSION.now answer) }
+    ensures help { asks_version (texts words.now) ≡ false → asks_help (texts words.now) ≡ true → IfOk result (λ answer. IsWrong HELP.now answer) }
+    ensures other { asks_version (texts words.now) ≡ false → IfOk result (λ answer. IsLonger VERSION.now answer) }
 {
     if !is_about(words) {
         return Ok(About::Other);
+    }
+    if asks_version(words) {
+        return Ok(About::Text(String::from_str(alloc, VERSION)?));
+    }
+    if asks_help(words) {
+        return Ok(About::Wrong(String::from_str(alloc, HELP)?));
     }
     match words {
         ["help", command] => Ok(About::Wrong(help_on(alloc, command)?)),
         [command, word] if is_help(word) => Ok(About::Wrong(help_on(alloc, command)?)),
         [_, word] => explained(alloc, word),
-        ["explain"] => Ok(About::Text(of_all(alloc)?)),
-        ["--version" | "-V"] => Ok(About::Text(String::from_str(alloc, VERSION)?)),
-        _ => Ok(About::Wrong(String::from_str(alloc, HELP)?)),
+        _ => Ok(About::Text(of_all(alloc)?)),
     }
 }
 
 // The meaning of the number that a word spells.
 fn explained(alloc: Global, word: &str) -> Result<About, AllocError>
-    ensures { IfOk result (λ answer. IsAnswer answer) }
+    ensures answer { IfOk result (λ answer. IsAnswer answer) }
+    ensures longer { IfOk result (λ answer. IsLonger VERSION.now answer) }
 {
     let number = match number_of(word.as_bytes()) {
         Some(number) if number <= 65_535 => number as u16,

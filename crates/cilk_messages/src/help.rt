@@ -1,5 +1,7 @@
 //! The tool's help.
 
+ghost use Rattle.std.specs.Prelude.{◌<◌, length, string_bytes, IfOk};
+
 use crate::about::is_command;
 use crate::asked::asks;
 use crate::sentence::{Part, say};
@@ -88,8 +90,8 @@ Documents, beside the program's sources: README.md, docs/LANGUAGE.md, docs/FROM-
 OpenCilk), docs/REFUSALS.md, docs/CHECKER.md, docs/SCRIPTS.md, docs/TRACES.md, docs/EDITORS.md, docs/PROVED.md
 ";
 
-/// The help on each command, after a line with its name. A line with a word of [`SHARED`] stands for
-/// the line of that word.
+/// The help on each command, after a line with its name, but for the hint at its end. A line with a word
+/// of [`SHARED`] stands for the line of that word.
 const PAGES: &str = "
 == explain
 Explain the number of a refusal: its meaning, a text that provokes it, and the cure
@@ -98,8 +100,6 @@ Usage: cilk explain [NUMBER]
 
 Arguments:
   [NUMBER]  101 to 106, 111 to 119, 121, 122, 201 to 206, 301 to 312 or 502; without it, list each with its title
-
-hint: `cilk --help` describes all commands
 == settle
 Run programs serially, and tell of each whether it races: if not, no schedule changes what it leaves
 
@@ -126,8 +126,6 @@ INPUT
                   those of other strands
   --explain       with `--short`, explanations on standard error too; the other forms have them in any case
 HELP
-
-HINT
 == run
 Run a program serially; show the numbers that it prints, its global reducers and its result
 
@@ -140,8 +138,6 @@ Options:
 INPUT
 EXPLAIN
 HELP
-
-HINT
 == certify
 Write the certificate of a program's serial run to standard output: a list of its events, frames and strands
 
@@ -154,8 +150,6 @@ Options:
 INPUT
 EXPLAIN
 HELP
-
-HINT
 == check
 Check that a certificate is right and that no two events race; if not, show the first thing that is wrong
 
@@ -170,8 +164,6 @@ INPUT
   --helpers N     share the work among N threads, 1 to 16: the same answer, sooner where frames compute long
 EXPLAIN
 HELP
-
-HINT
 == threads
 Check as `check` does; if that accepts, run the program on threads, by work stealing
 
@@ -190,8 +182,6 @@ INPUT
                   stole, and how many seconds the run took
 EXPLAIN
 HELP
-
-HINT
 == play
 Run a program in parallel, step by step, by the orders of a script to its workers
 
@@ -208,8 +198,6 @@ INPUT
                   events of the serial run, its steals, waits and ends
 EXPLAIN
 HELP
-
-HINT
 == schedule
 If `check` finds a race, write to standard output a script for `play` that makes its later access first
 
@@ -223,8 +211,6 @@ Options:
 INPUT
 EXPLAIN
 HELP
-
-HINT
 == measure
 Run a program, and show, instead of its outcome, its events, ticks, frames, strands, work, span, burdened span
 (with 1,000 events for each spawn on the way) and parallelism, and a table by function and loop
@@ -241,8 +227,6 @@ INPUT
   --dot           write the tree of the run instead, for Graphviz's `dot`; only of a run with at most 500 nodes
 EXPLAIN
 HELP
-
-HINT
 == judge
 Tell whether a recorded run of a C or C++ program has a race
 
@@ -267,9 +251,7 @@ HELP
 To record a run (recorder/README.md):
   recorder/cilkrec gcc -O2 prog.c -o prog
   CILK_TRACE=prog.trace CILK_SITES=prog.sites ./prog
-  cilk judge prog.trace --sites prog.sites
-
-HINT";
+  cilk judge prog.trace --sites prog.sites";
 
 /// Lines of several pages, each after its word.
 const SHARED: &str = "\
@@ -277,16 +259,23 @@ PROGRAM:  PROGRAM         a file with a program text, of at most 262,144 bytes
 CERTIFICATE:  CERTIFICATE     a certificate, such as `certify` writes, of at most 268,435,456 bytes
 INPUT:  --input FILE    the numbers for `input(k)`, at most 65,536, separated by blanks; without this option there are none
 EXPLAIN:  --explain       after a refusal, say on standard error at which line and column it is, why, and what to write instead
-HELP:  -h, --help      show this text, if it is the only word after the command
-HINT:hint: `cilk --help` describes all commands, statuses and limits";
+HELP:  -h, --help      show this text, if it is the only word after the command";
 
-/// Returns the text of the help on a command.
-pub fn help_on(alloc: Global, command: &str) -> Result<String, AllocError> {
+/// Returns the text of the help on a command, which is longer than the version.
+pub fn help_on(alloc: Global, command: &str) -> Result<String, AllocError>
+    ensures { IfOk result (λ text. length VERSION.now < length (string_bytes text)) }
+{
     let mut text = String::new(alloc);
     for line in page_of(command).lines() {
-        let line = whole(line);
-        write!(text, "{line}\n")?;
+        text.push_str(whole(line))?;
+        text.push_str("\n")?;
     }
+    text.push_str("\nhint: `cilk --help` describes all commands")?;
+    text.push_str(if command == "explain" {
+        "\n"
+    } else {
+        ", statuses and limits\n"
+    })?;
     Ok(text)
 }
 

@@ -1,13 +1,16 @@
 //! The texts of explanations.
 
+ghost use Rattle.std.specs.Prelude.{◌≡◌, ◌<◌, length, string_bytes, IfOk, IfSome, OnOk};
+
 use crate::at_hand::at_hand;
 use crate::excerpt::push_excerpt;
 use crate::further::{Told, push_further};
+use crate::help::VERSION;
 use crate::hints::hint_of;
 use crate::kinds::{FOREIGN, is_foreign, other_kind};
-use crate::numbers::NUMBERS;
+use crate::numbers::TITLES;
 use crate::place::{Location, locate};
-use crate::reasons::{EXAMPLE, LINE, MEANING, PLACE, cure_of, line_of, title_of, titled};
+use crate::reasons::{EXAMPLE, LINE, MEANING, PLACE, cure_of, line_of, title_of};
 use crate::sentence::{Part, push_line, push_said, say};
 use crate::tokens::Tokens;
 use std::alloc::{AllocError, Global};
@@ -33,8 +36,11 @@ pub struct Wanted<'a> {
     pub semicolon: bool,
 }
 
-/// Returns the text of `explain NUMBER`, or `None` if the tool has no such number.
-pub fn of_number(alloc: Global, number: u16) -> Result<Option<String>, AllocError> {
+/// Returns the text of `explain NUMBER`, which is longer than the version, or `None` if the tool has no
+/// such number.
+pub fn of_number(alloc: Global, number: u16) -> Result<Option<String>, AllocError>
+    ensures { IfOk result (λ told. IfSome told (λ text. length VERSION.now < length (string_bytes text))) }
+{
     let title = title_of(number);
     if title.is_empty() {
         return Ok(None);
@@ -49,7 +55,9 @@ fn push_meaning(
     text: &mut String,
     number: u16,
     title: &str,
-) -> Result<(), AllocError> {
+) -> Result<(), AllocError>
+    ensures { OnOk result (length VERSION.now < length (string_bytes text.new)) }
+{
     let example = line_of(number, EXAMPLE);
     let (kind, shown) = example.split_once(' ').unwrap_or((example, ""));
     let words = match kind {
@@ -72,12 +80,12 @@ fn push_meaning(
     push_said(alloc, text, "{}: {}\n\n{}\n\n", &head)?;
     let line = line_of(number, LINE);
     push_said(alloc, text, words, &[Part::Text(shown), Part::Text(line)])?;
-    let foot = [
-        Part::Text(line_of(number, PLACE)),
-        Part::Text(cure_of(number)),
-        Part::Text(of_trace),
-    ];
-    push_said(alloc, text, "The place is read as: {}.\n\n{}\n{}", &foot)
+    text.push_str("The place is read as: ")?;
+    text.push_str(line_of(number, PLACE))?;
+    text.push_str(".\n\n")?;
+    text.push_str(cure_of(number))?;
+    text.push_str("\n")?;
+    text.push_str(of_trace)
 }
 
 const PROGRAM: &str = "The program\n\n    {}\n\nis answered by the line\n\n    {}\n\n";
@@ -95,16 +103,10 @@ const CUT_TRACE: &str =
     "\nBy `judge`, `trace 302 at L` says that a trace is cut off at line L: record the run again, to its end.\n";
 
 /// Returns the text of `explain`: each number with its title.
-pub fn of_all(alloc: Global) -> Result<String, AllocError> {
-    let mut text = String::new(alloc);
-    for line in NUMBERS.lines() {
-        let (number, title) = titled(line);
-        if number > 0 {
-            let parts = [Part::Count(number as usize), Part::Text(title)];
-            push_said(alloc, &mut text, "{}  {}\n", &parts)?;
-        }
-    }
-    Ok(text)
+pub fn of_all(alloc: Global) -> Result<String, AllocError>
+    ensures { IfOk result (λ text. string_bytes text ≡ TITLES.now) }
+{
+    String::from_str(alloc, TITLES)
 }
 
 /// Returns the message after the line of a fault of a text: its line and column, the source line
