@@ -12,11 +12,11 @@ use Rattle.cilk_report.proofs.serving.serve_unscheduled.Goals as goal
 
 pub returns-in-Ok-Text-clause-served : goal.returns-in-Ok-Text-clause-served
 returns-in-Ok-Text-clause-served g c =
-    About c.requires.other (rw c.in-Ok-Text.field-0-is at c.in-Ok-Text.ensures) (c.as_bytes.result.now, c.tell_text.ensures)
+    About c.requires.other (rw c.in-Ok-Text.field-0-is at c.in-Ok-Text.ensures.asked) (c.as_bytes.result.now, c.tell_text.ensures)
 
 pub returns-in-Ok-Text-clause-explained : goal.returns-in-Ok-Text-clause-explained
 returns-in-Ok-Text-clause-explained g c =
-    λ isnt _. absurd (true≢false (sym (rw c.in-Ok-Text.field-0-is at c.in-Ok-Text.ensures) ∙ isnt))
+    λ isnt _. absurd (true≢false (sym (rw c.in-Ok-Text.field-0-is at c.in-Ok-Text.ensures.asked) ∙ isnt))
 
 pub returns-in-Ok-Wrong-clause-served : goal.returns-in-Ok-Wrong-clause-served
 returns-in-Ok-Wrong-clause-served g c =
@@ -24,7 +24,7 @@ returns-in-Ok-Wrong-clause-served g c =
 
 pub returns-in-Ok-Wrong-clause-explained : goal.returns-in-Ok-Wrong-clause-explained
 returns-in-Ok-Wrong-clause-explained g c =
-    λ isnt _. absurd (true≢false (sym (rw c.in-Ok-Wrong.field-0-is at c.in-Ok-Wrong.ensures) ∙ isnt))
+    λ isnt _. absurd (true≢false (sym (rw c.in-Ok-Wrong.field-0-is at c.in-Ok-Wrong.ensures.asked) ∙ isnt))
 
 pub returns-in-Ok-clause-served : goal.returns-in-Ok-clause-served
 returns-in-Ok-clause-served g c =
