@@ -80,3 +80,8 @@ order_found o p words h e = h ∙ ap (option_map check_view) e
 -- there is no order
 pub order_lost : (o : Option CheckOrder) (words : List Text) → check_in words ≡ option_map check_view o → o ≡ None → check_in words ≡ None
 order_lost o words h e = h ∙ ap (option_map check_view) e
+
+-- the fault of words that are no order
+pub no_order : (words : List Text) (f : WordsFault) → check_in words ≡ None → IsWordsFault words f
+no_order words (Usage text) h = h
+no_order words Memory h = tt

@@ -1,5 +1,4 @@
 pub mod CheckEntered
 pub mod Entered
-pub mod Formed
 pub mod Plain
 pub mod ThreadsEntered

@@ -109,3 +109,8 @@ order_found o p words h e = h ∙ ap (option_map order_view) e
 -- there is no order
 pub order_lost : (o : Option Order) (words : List Text) → order_in words ≡ option_map order_view o → o ≡ None → order_in words ≡ None
 order_lost o words h e = h ∙ ap (option_map order_view) e
+
+-- the fault of words that are no order
+pub no_order : (words : List Text) (f : WordsFault) → order_in words ≡ None → IsWordsFault words f
+no_order words (Usage text) h = h
+no_order words Memory h = tt

@@ -1,7 +1,7 @@
 -- Command lines about the tool itself.
 use Rattle.std.specs.Prelude.{◌≡◌, ◌<◌, ◌&&◌, ◌||◌, Bool, true, false, not, List, [], ◌∷◌, codes, length, string_bytes}
 use Rattle.std.specs.Str.{bytes_eq}
-use Rattle.cilk_messages.specs.Asked.{Text, is_option}
+use Rattle.cilk_messages.specs.Asked.{Text, asks, is_option}
 use Rattle.cilk_messages.specs.declared.about.About.{About as AboutAnswer}
 use Rattle.cilk_messages.specs.declared.about.About.TheVariants as answers
 
@@ -9,18 +9,23 @@ use Rattle.cilk_messages.specs.declared.about.About.TheVariants as answers
 abbrev pub is_help : Text → Bool
 is_help word = bytes_eq word (codes "--help") || bytes_eq word (codes "-h")
 
+-- the names of the commands
+unfoldable pub commands : List Text
+commands =
+    codes "run" ∷ (codes "certify" ∷ (codes "check" ∷ (codes "threads" ∷ (codes "play" ∷ (codes "measure" ∷ (codes "schedule"
+    ∷ (codes "settle" ∷ (codes "judge" ∷ (codes "explain" ∷ [])))))))))
+
 -- the name of a command
 abbrev pub is_command : Text → Bool
-is_command word =
-    bytes_eq word (codes "run") || (bytes_eq word (codes "certify") || (bytes_eq word (codes "check") || (bytes_eq word (codes "threads")
-    || (bytes_eq word (codes "play") || (bytes_eq word (codes "measure") || (bytes_eq word (codes "schedule") || (bytes_eq word (codes "settle")
-    || (bytes_eq word (codes "judge") || bytes_eq word (codes "explain")))))))))
+is_command word = asks word commands
 
--- a word that alone is about the tool: a request for help, the version, or all numbers
+-- the words that alone are about the tool: requests for help, the version, and all numbers
+unfoldable pub questions : List Text
+questions = codes "help" ∷ (codes "--help" ∷ (codes "-h" ∷ (codes "--version" ∷ (codes "-V" ∷ (codes "explain" ∷ [])))))
+
+-- a word that alone is about the tool
 abbrev pub is_question : Text → Bool
-is_question word =
-    bytes_eq word (codes "help") || (is_help word || (bytes_eq word (codes "--version") || (bytes_eq word (codes "-V")
-    || bytes_eq word (codes "explain"))))
+is_question word = asks word questions
 
 -- two words about the tool: a request for help on a command, or for the meaning of a number
 abbrev pub is_question_on : Text → Text → Bool

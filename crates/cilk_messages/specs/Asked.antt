@@ -38,10 +38,14 @@ abbrev pub behind_first : List Text → List Text
 behind_first [] = []
 behind_first (word ∷ words) = words
 
+-- the words that don't select the output of `measure`
+abbrev pub unformed : List Text → List Text
+unformed words = filter (λ w. not (is_form w)) words
+
 -- the words of the run to measure: `run`, then the words after the first that don't select the
 -- output
 abbrev pub words_of_run : List Text → List Text
-words_of_run words = codes "run" ∷ filter (λ w. not (is_form w)) (behind_first words)
+words_of_run words = codes "run" ∷ unformed (behind_first words)
 
 -- the program and the input of an order to run
 abbrev pub run_of : Option Requested → Option (Origin × Option Text)

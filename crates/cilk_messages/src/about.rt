@@ -4,7 +4,7 @@ ghost use Rattle.std.specs.Prelude.{◌≡◌, IfOk, false, true};
 ghost use Rattle.cilk_messages.specs.About.{IsAnswer, IsAskedFor, IsLonger, IsText, IsWrong, asks_help, asks_version, is_about, is_command, is_help, is_question, is_question_on};
 ghost use Rattle.cilk_messages.specs.Words.{texts};
 
-use crate::asked::{is_option, number_of};
+use crate::asked::{asks, is_option, number_of};
 use crate::help::{HELP, VERSION, help_on};
 use crate::report::{of_all, of_number};
 use std::alloc::{AllocError, Global};
@@ -31,24 +31,22 @@ fn is_help(word: &str) -> bool
 pub fn is_command(word: &str) -> bool
     ensures { result ≡ is_command word.now }
 {
-    word == "run"
-        || word == "certify"
-        || word == "check"
-        || word == "threads"
-        || word == "play"
-        || word == "measure"
-        || word == "schedule"
-        || word == "settle"
-        || word == "judge"
-        || word == "explain"
+    asks(COMMANDS, word)
 }
+
+const COMMANDS: &[&str] = &[
+    "run", "certify", "check", "threads", "play", "measure", "schedule", "settle", "judge",
+    "explain",
+];
 
 /// Returns whether a word alone is about the tool: a request for help, the version, or all numbers.
 fn is_question(word: &str) -> bool
     ensures { result ≡ is_question word.now }
 {
-    word == "help" || is_help(word) || word == "--version" || word == "-V" || word == "explain"
+    asks(QUESTIONS, word)
 }
+
+const QUESTIONS: &[&str] = &["help", "--help", "-h", "--version", "-V", "explain"];
 
 /// Returns whether two words are about the tool: a request for help on a command, or for a number's
 /// meaning.

@@ -1,7 +1,7 @@
 //! The words of command lines: of all commands, and of `measure` and `schedule`.
 
-ghost use Rattle.std.specs.Prelude.{◌≡◌, IfOk, Some, filter, not, option_map};
-ghost use Rattle.cilk_messages.specs.Asked.{asks, behind_first, is_form, is_help, is_measure, is_option, is_schedule, run_of, words_of_check, words_of_run};
+ghost use Rattle.std.specs.Prelude.{◌≡◌, IfOk, Some, option_map};
+ghost use Rattle.cilk_messages.specs.Asked.{asks, behind_first, is_form, is_help, is_measure, is_option, is_schedule, run_of, unformed, words_of_check, words_of_run};
 ghost use Rattle.cilk_messages.specs.Words.{order_view, origin_view, texts};
 
 use crate::flags::unmarked;
@@ -71,13 +71,17 @@ fn is_form(word: &str) -> bool
 
 // The command line without those words.
 fn unformed<'a>(alloc: Global, words: &[&'a str]) -> Result<Vec<&'a str>, AllocError>
-    ensures { IfOk result (λ plain. plain.items ≡ filter (λ w. not (is_form w.now)) words.now) }
+    ensures { IfOk result (λ plain. texts plain.items ≡ unformed (texts words.now)) }
 {
-    words
-        .iter()
-        .copied()
-        .filter(|word| !is_form(word))
-        .collect(alloc)
+    let mut plain = Vec::new(alloc);
+    let mut rest = words;
+    'each: while let [word, behind @ ..] = rest {
+        if !is_form(word) {
+            plain.push(*word)?;
+        }
+        rest = behind;
+    }
+    Ok(plain)
 }
 
 /// Returns all words but the first.

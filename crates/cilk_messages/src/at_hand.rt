@@ -106,6 +106,6 @@ in cilk_for => found `{}`, where `{}`, this `cilk_for`'s variable, is wanted
 
 // Why the text has no right `main`.
 const NO_MAIN: &str = "\
-main procedure => `main` is a `void` function, and an `int` one is wanted
-main function => `main` has parameters, and none are wanted
-main nothing => the text has no function `main`";
+main :procedure => `main` is a `void` function, and an `int` one is wanted
+main :function => `main` has parameters, and none are wanted
+main no => the text has no function `main`";

@@ -239,14 +239,18 @@ fn write_place(writer: &mut Writer<Global>, place: Option<Location>) -> Result<(
 
 /// Returns the place in the program's text at which an explanation begins: `PROGRAM:LINE:COLUMN:`.
 pub fn place_in(program: &str, explanation: &str) -> Option<Location> {
-    let rest = explanation.strip_prefix(program)?.strip_prefix(":")?;
-    let (line, rest) = rest.split_once(":")?;
-    let (column, _) = rest.split_once(":")?;
-    match (number_of(line.as_bytes()), number_of(column.as_bytes())) {
-        (Some(line), Some(column)) => Some(Location {
+    if let Some(place) = explanation.strip_prefix(program)
+        && let Some(place) = place.strip_prefix(":")
+        && let Some((line, rest)) = place.split_once(":")
+        && let Some((column, _)) = rest.split_once(":")
+        && let Some(line) = number_of(line.as_bytes())
+        && let Some(column) = number_of(column.as_bytes())
+    {
+        Some(Location {
             line: line as usize,
             column: column as usize,
-        }),
-        _ => None,
+        })
+    } else {
+        None
     }
 }

@@ -3,10 +3,10 @@
 ghost use Rattle.std.specs.Prelude.{◌≡◌, IfOk, IfErr, Some, option_map};
 ghost use Rattle.clap.specs.Words.{found_of, rows_of, subcommand_rows_of};
 ghost use Rattle.cilk_messages.specs.Words.{HasShape, order_view, texts};
-ghost use Rattle.cilk_messages.specs.CheckWords.{IsWordsFault, check_by, check_in, check_view, checked_with, commands_app, helped_app, helper_count, helpers_in, is_helped, is_helpers, name_helpers};
+ghost use Rattle.cilk_messages.specs.CheckWords.{IsWordsFault, check_by, check_in, check_view, checked_with, commands_app, helper_count, helpers_in, is_helped, is_helpers, name_helpers};
 
 use crate::threads_words::two_paths;
-use crate::words::{Order, WordsFault, check_command, empty, refusal, taking, with};
+use crate::words::{Order, WordsFault, check_command, empty, no_order, refusal, taking, with};
 use cilk_syntax::lexer::{all_digits, value_of};
 use clap::{ArgMatches, Command};
 use std::alloc::{AllocError, Global};
@@ -74,18 +74,12 @@ fn is_helpers(word: &str) -> bool
     word == "--helpers" || word.starts_with("--helpers=")
 }
 
-// `check PROGRAM CERTIFICATE [--input FILE] [--helpers N]`
-fn helped_command<'a>(alloc: Global) -> Result<Command<'a>, AllocError>
-    ensures { IfOk result (λ c. HasShape c helped_app) }
-{
-    taking(alloc, check_command(alloc), "helpers")
-}
-
-// The command line as clap reads it.
+// The command line as clap reads it: `check PROGRAM CERTIFICATE [--input FILE] [--helpers N]`.
 fn command<'a>(alloc: Global) -> Result<Command<'a>, AllocError>
     ensures { IfOk result (λ c. HasShape c commands_app) }
 {
-    with(empty(alloc)?, helped_command(alloc), CHECK)
+    let helped = taking(alloc, check_command(alloc), "helpers");
+    with(empty(alloc), helped, CHECK)
 }
 
 // Returns the number that digits spell, if it is 1 to 16.
@@ -145,7 +139,7 @@ pub fn read_check<'a>(alloc: Global, words: &'a [&'a str]) -> Result<CheckOrder<
     match command(alloc)?.try_get_matches_from(words) {
         Ok(matches) => match order_of(&matches) {
             Some(order) => Ok(order),
-            None => Err(WordsFault::Usage(String::from_str(alloc, NO_ORDER)?)),
+            None => Err(no_order(alloc, NO_ORDER)),
         },
         Err(error) => Err(refusal(alloc, &error)),
     }

@@ -3,7 +3,7 @@
 use crate::around::{byte_at, is_among, is_word, word_after, word_at};
 use crate::further::Further;
 use crate::marks::{called, no_number, no_token, odd_byte};
-use crate::place::between;
+use crate::place::{between, character_in};
 use crate::sentences::sentence;
 use cilk_syntax::lexer::all_digits;
 use std::alloc::{AllocError, Global};
@@ -137,7 +137,7 @@ fn piece_at(text: &[u8], at: usize) -> Piece {
         (b'&' | b'|' | b'^' | b'~' | b'?' | b':' | b'.' | b'\\' | b'$' | b'@', _) => {
             odd(at, next, b' ')
         }
-        (0x80..=0xFF, _) => odd(at, character_end(text, next), b' '),
+        (0x80..=0xFF, _) => odd(at, character_in(text, next, text.len()), b' '),
         (byte, _) if is_word(byte) => Piece::plain(at.saturating_add(word_at(text, at).len())),
         _ => Piece::plain(next),
     }
@@ -174,15 +174,6 @@ fn quote_end(text: &[u8], at: usize) -> usize {
             return place + 1;
         }
         is_escaped = !is_escaped && byte == b'\\';
-    }
-    text.len()
-}
-
-fn character_end(text: &[u8], from: usize) -> usize {
-    for place in from..text.len() {
-        if !matches!(byte_at(text, place), 0x80..=0xBF) {
-            return place;
-        }
     }
     text.len()
 }

@@ -1,7 +1,6 @@
 //! The line of a fault, with a mark below its place.
 
-use crate::around::byte_at;
-use crate::place::{between, line_at};
+use crate::place::{between, character_in, line_at};
 use crate::sentence::{Part, printed, push_said};
 use std::alloc::{AllocError, Global};
 use unicode_width::UnicodeWidthChar;
@@ -19,8 +18,12 @@ pub fn push_excerpt(
     let (line, first) = line_at(text, at);
     let end = first.saturating_add(line.len());
     let at = at.min(end);
-    let from = cut_before(text, first, at);
-    let upto = cut_behind(text, at, end);
+    let from = if at.saturating_sub(first) <= SHOWN {
+        first
+    } else {
+        character_in(text, at.saturating_sub(SHOWN), at)
+    };
+    let upto = character_in(text, at.saturating_add(SHOWN), end);
     let ahead = between(text, from, at);
     let rest = between(text, at, upto).trim_ascii_end();
     push_said(
@@ -44,27 +47,4 @@ fn push_blanks(report: &mut String, ahead: &str) -> Result<(), AllocError> {
         }
     }
     report.push_str("^\n")
-}
-
-// Where the shown part of a line begins: at its first byte, or at a character near enough.
-fn cut_before(text: &[u8], first: usize, at: usize) -> usize {
-    if at.saturating_sub(first) <= SHOWN {
-        return first;
-    }
-    for place in at.saturating_sub(SHOWN)..at {
-        if !matches!(byte_at(text, place), 0x80..=0xBF) {
-            return place;
-        }
-    }
-    at
-}
-
-// Where the shown part ends: at the line's end, or at the first character too far away.
-fn cut_behind(text: &[u8], at: usize, end: usize) -> usize {
-    for place in at.saturating_add(SHOWN)..end {
-        if !matches!(byte_at(text, place), 0x80..=0xBF) {
-            return place;
-        }
-    }
-    end
 }

@@ -2,7 +2,7 @@
 //! `--stats` of `threads`, and `--why LINE` of `settle`.
 
 ghost use Rattle.std.specs.Prelude.{◌≡◌, IfOk, Some};
-ghost use Rattle.cilk_messages.specs.Asked.{explains_itself, first_word, is_flag, is_why, marks, unflagged, unmarked, without_why};
+ghost use Rattle.cilk_messages.specs.Asked.{explains_itself, first_word, is_why, marks, unflagged, unmarked, without_why};
 ghost use Rattle.cilk_messages.specs.Words.{order_view, texts};
 
 use crate::asked::{asks, behind_first};
@@ -43,18 +43,11 @@ fn line_in(words: &[&str]) -> Option<usize> {
     None
 }
 
-/// Returns whether a word is `--explain`.
-fn is_flag(word: &str) -> bool
-    ensures { result ≡ is_flag word.now }
-{
-    word == "--explain"
-}
-
 /// Returns whether a word of a command adds a text: `--explain`, or a flag of this command alone.
 fn marks(command: &str, word: &str) -> bool
     ensures { result ≡ marks command.now word.now }
 {
-    is_flag(word)
+    word == "--explain"
         || (command == "play" && word == "--trace")
         || (command == "threads" && word == "--stats")
 }

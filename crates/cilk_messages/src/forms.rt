@@ -8,13 +8,12 @@ use crate::rules::{fits, said};
 use crate::sentence::{Sentence, say};
 use crate::sentences::sentence;
 use crate::site::Site;
-use crate::sites::head_near;
+use crate::sites::{head_near, next_of};
 use crate::spelling::{is_misspelt_reducer, misspelt_near};
 use crate::tokens::Tokens;
 use crate::unended::missing_mark;
 use crate::uses::of_use;
 use crate::vocabulary::{cast_to, other_word, word_of_c};
-use cilk_syntax::token::Kind;
 
 /// Returns what to write in place of a refused token.
 pub fn no_form<'a>(
@@ -36,60 +35,61 @@ pub fn no_form<'a>(
         return Some(hint);
     }
     match of_use(&site, wanted) {
-        Some("spawned") => match spawned_assignment(&site) {
-            None => Some(say(sentence("ASSIGNMENT"))),
-            hint => hint,
-        },
-        Some(cure) => Some(say(cure)),
+        Some(cure) => Some(
+            say(cure)
+                .word(tokens.word_back(number, 1))
+                .word(rest_of(&site)),
+        ),
         None => None,
     }
 }
 
-// The spawn of an assignment, `cilk_spawn x = f(a);`, in place of an assignment of a spawn.
-fn spawned_assignment<'a>(site: &Site<'_, 'a>) -> Option<Sentence<'a>> {
+// What follows a token in its statement.
+fn rest_of<'a>(site: &Site<'_, 'a>) -> &'a [u8] {
     let Site { tokens, number, .. } = *site;
     let first = tokens.place(number.saturating_add(1));
-    for end in number..tokens.count() {
-        if let Some(Kind::Semicolon) = tokens.kind(end) {
-            let call = between(tokens.text, first, tokens.place(end));
-            let variable = tokens.word_back(number, 1);
-            return Some(say(SPAWNED_CALL).word(variable).word(call));
-        }
-    }
-    None
+    between(
+        tokens.text,
+        first,
+        tokens.place(next_of(tokens, number, ";")),
+    )
 }
 
-const SPAWNED_CALL: &str = "the call is spawned, not the assignment: `{} = cilk_spawn {};`";
-
 // Words of C: the token itself, the one before it, or the one before the parentheses that end or
-// begin there.
+// begin there. Before parentheses stands any word of C that the text doesn't declare.
 fn of_words(site: &Site<'_, '_>) -> Option<&'static str> {
     let Site { tokens, number, .. } = *site;
-    let of_site = said(site, WORDS);
-    if of_site.is_some() {
-        return of_site;
-    }
-    let named = head_near(tokens, number);
-    if fits(&Site::new(tokens, named), "0 ^ @ for cilk_for | +2 &") {
-        return Some(cast_to(tokens.word(named.saturating_add(2))));
-    }
-    let of_word = other_word(site.word())
-        .or(said(&Site::new(tokens, number.saturating_sub(1)), SIZE))
-        .or(said(&Site::new(tokens, named), SIZE));
-    if of_word.is_some() {
-        return of_word;
-    }
-    let ahead = tokens.word_back(number, 1);
-    let of_ahead = if fits(site, "0 (") {
-        undeclared(tokens, ahead)
+    let ahead = Site::new(tokens, number.saturating_sub(1));
+    let head = Site::new(tokens, head_near(tokens, number));
+    said(site, WORDS)
+        .or(cast_near(&head))
+        .or(other_word(site.word()))
+        .or(said(&ahead, SIZE))
+        .or(said(&head, SIZE))
+        .or(of_word(&ahead, fits(site, "0 (")))
+        .or(of_word(&head, fits(site, "-1 )")))
+}
+
+// The advice for a cast, by the token before its parentheses.
+fn cast_near(head: &Site<'_, '_>) -> Option<&'static str> {
+    if fits(head, "0 ^ @ for cilk_for | +2 &") {
+        Some(cast_to(head.tokens.word(head.number.saturating_add(2))))
     } else {
-        other_word(ahead)
-    };
-    match (of_ahead, fits(site, "-1 )")) {
-        (None, true) => undeclared(tokens, tokens.word(named)),
-        (None, false) => other_word(tokens.word(named)),
-        (cure, _) => cure,
+        None
     }
+}
+
+// A word of C: of all, where the text doesn't declare it, or of those that need no look.
+fn of_word(site: &Site<'_, '_>, is_called: bool) -> Option<&'static str> {
+    if !is_called {
+        return other_word(site.word());
+    }
+    for number in 0..site.tokens.count() {
+        if site.tokens.word(number) == site.word() && may_declare(&Site::new(site.tokens, number)) {
+            return None;
+        }
+    }
+    word_of_c(site.word())
 }
 
 // The parameters of `main`, structures, and variables that keep their number.
@@ -104,13 +104,3 @@ in main | in :function :procedure => PARAMETERS
 
 // The size of a type or of an array.
 const SIZE: &str = "0 sizeof | +2 & => BYTES\n0 sizeof => NO_LENGTH";
-
-// A word of C that the text doesn't declare.
-fn undeclared(tokens: &Tokens<'_>, word: &[u8]) -> Option<&'static str> {
-    for number in 0..tokens.count() {
-        if tokens.word(number) == word && may_declare(&Site::new(tokens, number)) {
-            return None;
-        }
-    }
-    word_of_c(word)
-}

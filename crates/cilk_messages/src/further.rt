@@ -2,7 +2,6 @@
 
 use crate::certain::{Look, form_at, own_words};
 use crate::cleaned::cleaned;
-use crate::gone;
 use crate::gone::end_of_gone;
 use crate::kinds::is_foreign;
 use crate::place::{between, line_at, locate};
@@ -177,21 +176,17 @@ fn find(alloc: Global, text: &[u8], further: &mut Further<'_, '_>) -> Result<(),
     let rest = cleaned(alloc, text, further)?;
     let tokens = Tokens::new(alloc, rest.as_slice())?;
     let own = own_words(alloc, &tokens)?;
-    let gone = gone::gone_functions(alloc, &tokens)?;
-    let names = (own.as_slice(), gone.as_slice());
-    look_over(&tokens, names, further, is_foreign(text));
+    look_over(&tokens, own.as_slice(), further, is_foreign(text));
     Ok(())
 }
 
-// Notes the forms among the tokens, by the names that the text declares, and those of the functions that
-// its reducers name.
+// Notes the forms among the tokens, by the names that the text declares.
 fn look_over<'a>(
     tokens: &Tokens<'a>,
-    names: (&[&'a [u8]], &[&'a [u8]]),
+    own: &[&'a [u8]],
     further: &mut Further<'_, '_>,
     is_foreign: bool,
 ) {
-    let (own, gone_functions) = names;
     let mut look = Look {
         is_word: false,
         upto: 0,
@@ -202,7 +197,7 @@ fn look_over<'a>(
             continue;
         }
         let (place, length) = (tokens.place(number), tokens.word(number).len());
-        if let Some(end) = end_of_gone(tokens, number, gone_functions) {
+        if let Some(end) = end_of_gone(tokens, number) {
             further.forget(place, tokens.place(end));
             further.note(place, length, sentence("GONE"), false);
             gone = end;

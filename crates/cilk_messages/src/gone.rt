@@ -1,34 +1,18 @@
 //! Functions that a reducer names: they go away, since it has a monoid in their place.
 
+use crate::rules::fits;
+use crate::site::Site;
 use crate::sites::closing;
 use crate::tokens::Tokens;
 use cilk_syntax::token::Kind;
-use std::alloc::{AllocError, Global};
 
-/// Returns the functions that the reducers of a text name: `cilk_reducer(identity, reduce)`.
-pub fn gone_functions<'a>(alloc: Global, tokens: &Tokens<'a>) -> Result<Vec<&'a [u8]>, AllocError> {
-    let mut names = Vec::new(alloc);
-    for number in 0..tokens.count() {
-        let comma = number.saturating_add(3);
-        if matches!(tokens.kind(number), Some(Kind::CilkReducer))
-            && matches!(tokens.kind(comma), Some(Kind::Comma))
-        {
-            names.push(tokens.word(comma.saturating_sub(1)))?;
-            names.push(tokens.word(comma.saturating_add(1)))?;
-        }
-    }
-    Ok(names)
-}
-
-/// Returns the last token of the function whose name is at a token, if it is one of these.
-pub fn end_of_gone(tokens: &Tokens<'_>, number: usize, names: &[&[u8]]) -> Option<usize> {
-    if !matches!(tokens.kind_behind(number), Some(Kind::Open))
-        || !names.contains(&tokens.word(number))
-    {
+/// Returns the last token of the function whose name is at a token, if a reducer of the text names it.
+pub fn end_of_gone(tokens: &Tokens<'_>, number: usize) -> Option<usize> {
+    if !fits(&Site::new(tokens, number), "+1 (") {
         return None;
     }
     let brace = closing(tokens, number).saturating_add(1);
-    if !matches!(tokens.kind(brace), Some(Kind::OpenBrace)) {
+    if !fits(&Site::new(tokens, brace), "0 {") || !is_named(tokens, tokens.word(number)) {
         return None;
     }
     let mut depth: usize = 0;
@@ -41,4 +25,19 @@ pub fn end_of_gone(tokens: &Tokens<'_>, number: usize, names: &[&[u8]]) -> Optio
         }
     }
     None
+}
+
+// Whether a reducer of the text names a function: `cilk_reducer(identity, reduce)`.
+fn is_named(tokens: &Tokens<'_>, name: &[u8]) -> bool {
+    for number in 0..tokens.count() {
+        let comma = number.saturating_add(3);
+        if matches!(tokens.kind(number), Some(Kind::CilkReducer))
+            && matches!(tokens.kind(comma), Some(Kind::Comma))
+            && (tokens.word_back(comma, 1) == name
+                || tokens.word(comma.saturating_add(1)) == name)
+        {
+            return true;
+        }
+    }
+    false
 }

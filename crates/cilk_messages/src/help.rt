@@ -5,6 +5,7 @@ ghost use Rattle.std.specs.Prelude.{◌<◌, length, string_bytes, IfOk};
 use crate::about::is_command;
 use crate::asked::asks;
 use crate::sentence::{Part, say};
+use crate::sentences::row_of;
 use std::alloc::{AllocError, Global};
 
 /// The text of `--version`.
@@ -92,7 +93,7 @@ OpenCilk), docs/REFUSALS.md, docs/CHECKER.md, docs/SCRIPTS.md, docs/TRACES.md, d
 
 /// The help on each command, after a line with its name, but for the hint at its end. A line with a word
 /// of [`SHARED`] stands for the line of that word.
-const PAGES: &str = "
+const PAGES: &str = "\
 == explain
 Explain the number of a refusal: its meaning, a text that provokes it, and the cure
 
@@ -255,20 +256,25 @@ To record a run (recorder/README.md):
 
 /// Lines of several pages, each after its word.
 const SHARED: &str = "\
-PROGRAM:  PROGRAM         a file with a program text, of at most 262,144 bytes
-CERTIFICATE:  CERTIFICATE     a certificate, such as `certify` writes, of at most 268,435,456 bytes
-INPUT:  --input FILE    the numbers for `input(k)`, at most 65,536, separated by blanks; without this option there are none
-EXPLAIN:  --explain       after a refusal, say on standard error at which line and column it is, why, and what to write instead
-HELP:  -h, --help      show this text, if it is the only word after the command";
+PROGRAM =>   PROGRAM         a file with a program text, of at most 262,144 bytes
+CERTIFICATE =>   CERTIFICATE     a certificate, such as `certify` writes, of at most 268,435,456 bytes
+INPUT =>   --input FILE    the numbers for `input(k)`, at most 65,536, separated by blanks; without this option there are none
+EXPLAIN =>   --explain       after a refusal, say on standard error at which line and column it is, why, and what to write instead
+HELP =>   -h, --help      show this text, if it is the only word after the command";
 
 /// Returns the text of the help on a command, which is longer than the version.
 pub fn help_on(alloc: Global, command: &str) -> Result<String, AllocError>
     ensures { IfOk result (λ text. length VERSION.now < length (string_bytes text)) }
 {
     let mut text = String::new(alloc);
-    for line in page_of(command).lines() {
-        text.push_str(whole(line))?;
-        text.push_str("\n")?;
+    let mut is_wanted = false;
+    for line in PAGES.lines() {
+        if let Some(name) = line.strip_prefix("== ") {
+            is_wanted = name == command;
+        } else if is_wanted {
+            text.push_str(row_of(SHARED, line.as_bytes()).unwrap_or(line))?;
+            text.push_str("\n")?;
+        }
     }
     text.push_str("\nhint: `cilk --help` describes all commands")?;
     text.push_str(if command == "explain" {
@@ -277,29 +283,6 @@ pub fn help_on(alloc: Global, command: &str) -> Result<String, AllocError>
         ", statuses and limits\n"
     })?;
     Ok(text)
-}
-
-fn page_of(command: &str) -> &'static str {
-    for entry in PAGES.split("\n== ") {
-        if let Some((name, page)) = entry.split_once("\n")
-            && name == command
-        {
-            return page;
-        }
-    }
-    ""
-}
-
-// The line for which a page's line stands.
-fn whole(line: &'static str) -> &'static str {
-    for shared in SHARED.lines() {
-        if let Some((word, whole)) = shared.split_once(":")
-            && word == line
-        {
-            return whole;
-        }
-    }
-    line
 }
 
 /// Adds the hint that follows clap's text for a command line that isn't valid.

@@ -104,7 +104,10 @@ impl Spot<'_> {
                 &b'\n',
             ),
             "macro" => byte_at(text, defined_end(text, at)) == b'(',
-            "first" => is_first_of_line(text, before(text, at).unwrap_or(0)),
+            "first" => {
+                let ahead = before(text, at).unwrap_or(0);
+                word_after(text, line_at(text, ahead).1) == ahead
+            }
             "viewed" => is_view(text, at) || is_reducer(text, word_before(text, at)),
             _ => false,
         };
@@ -125,12 +128,6 @@ fn defined_end(text: &[u8], at: usize) -> usize {
     let first = word_after(text, at.saturating_add(1));
     let name = word_after(text, first.saturating_add(word_at(text, first).len()));
     name.saturating_add(word_at(text, name).len())
-}
-
-// Whether the word at a place is the first of its line.
-fn is_first_of_line(text: &[u8], at: usize) -> bool {
-    let (_line, first) = line_at(text, at);
-    word_after(text, first) == at
 }
 
 // Whether a point follows the view of a reducer, as in OpenCilk's first reducers.

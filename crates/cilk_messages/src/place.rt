@@ -1,5 +1,7 @@
 //! Lines and columns of a text, as editors count them.
 
+use crate::around::byte_at;
+
 /// A line and a column of a text, both from 1. Columns count characters of UTF-8.
 #[derive(Clone, Copy)]
 pub struct Location {
@@ -54,4 +56,14 @@ pub fn between(text: &[u8], from: usize, upto: usize) -> &[u8] {
         Some(part) => part,
         None => &[],
     }
+}
+
+/// Returns where the first character begins from one place up to another, or the other place.
+pub fn character_in(text: &[u8], from: usize, upto: usize) -> usize {
+    for place in from..upto {
+        if !matches!(byte_at(text, place), 0x80..=0xBF) {
+            return place;
+        }
+    }
+    upto
 }

@@ -52,10 +52,10 @@ pub struct Raced<'a> {
 impl Raced<'_> {
     /// Adds the explanation.
     pub fn push(&self, alloc: Global, text: &mut String) -> Result<(), AllocError> {
-        let (title, parted, end) = if self.is_of_view {
-            (": error 312: a view-read race: ", None, VIEWED)
+        let (title, end) = if self.is_of_view {
+            (": error 312: a view-read race: ", VIEWED)
         } else {
-            (": error 311: a determinacy race: ", self.parted, APART)
+            (": error 311: a determinacy race: ", APART)
         };
         (&*self).push_line(alloc, text, title, &self.second)?;
         (&*self).push_line(
@@ -64,36 +64,52 @@ impl Raced<'_> {
             ": note: earlier in the serial run ",
             &self.first,
         )?;
-        let p = Part::Count(self.first.number as usize);
-        let q = Part::Count(self.second.number as usize);
-        let (one, other) = (Part::Text(self.first.frame), Part::Text(self.second.frame));
-        if let Some(CallLines { site, first, last }) = parted {
-            let call = Access {
-                number: first,
-                site,
-                frame: "",
-                deed: "the call or turn with the earlier access is spawned",
-            };
-            (&*self).push_line(alloc, text, ": note: ", &call)?;
-            let (first, last) = (Part::Count(first as usize), Part::Count(last as usize));
-            push_said(
-                alloc,
-                text,
-                PLACES_AND_CALL,
-                &[p, one, q, other, first, last],
-            )?;
-        } else {
-            push_said(alloc, text, PLACES, &[p, one, q, other])?;
-        }
+        (&*self).push_places(alloc, text)?;
         text.push_str(end)?;
-        let hint = match self.table {
+        push_said(
+            alloc,
+            text,
+            self.hint(),
+            &[Part::Text(self.table.unwrap_or(""))],
+        )
+    }
+
+    // What the table of sites lacks.
+    fn hint(&self) -> &'static str {
+        match self.table {
             None => NO_TABLE,
             Some(_) if self.lacks => "hint: the table of sites `{}` can't be read\n",
             Some(_) if self.sites.is_empty() =>
                 "hint: the table of sites `{}` has none of these sites: is it this trace's, of the same run?\n",
             Some(_) => "",
-        };
-        push_said(alloc, text, hint, &[Part::Text(self.table.unwrap_or(""))])
+        }
+    }
+
+    // Adds where in the trace the accesses are. For a determinacy race the call comes first that is
+    // spawned before the later one.
+    fn push_places(&self, alloc: Global, text: &mut String) -> Result<(), AllocError> {
+        let p = Part::Count(self.first.number as usize);
+        let q = Part::Count(self.second.number as usize);
+        let (one, other) = (Part::Text(self.first.frame), Part::Text(self.second.frame));
+        match self.parted {
+            Some(CallLines { site, first, last }) if !self.is_of_view => {
+                let call = Access {
+                    number: first,
+                    site,
+                    frame: "",
+                    deed: "the call or turn with the earlier access is spawned",
+                };
+                (&*self).push_line(alloc, text, ": note: ", &call)?;
+                let (first, last) = (Part::Count(first as usize), Part::Count(last as usize));
+                push_said(
+                    alloc,
+                    text,
+                    PLACES_AND_CALL,
+                    &[p, one, q, other, first, last],
+                )
+            }
+            _ => push_said(alloc, text, PLACES, &[p, one, q, other]),
+        }
     }
 
     // Adds a line: the place of a site in the source, or that of a line in the trace, and the deed.

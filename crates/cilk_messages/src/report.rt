@@ -162,10 +162,7 @@ fn push_advice<'a>(
     if let Some(found) = at_hand(tokens, number, at, wanted.words) {
         push_line(alloc, report, "reason", &found)?;
     }
-    let hint = match hint_of(tokens, number, at, wanted) {
-        Some(hint) => hint,
-        None => say(cure_of(number)),
-    };
+    let hint = hint_of(tokens, number, at, wanted).unwrap_or(say(cure_of(number)));
     push_line(alloc, report, "hint", &hint)?;
     push_others(alloc, report, finding, hint.words())
 }

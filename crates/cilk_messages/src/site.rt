@@ -9,15 +9,15 @@
 //! - `0`, `-1`, `+1` and so on: the token, the one before it, the one after it;
 //! - `in`: the token before the parentheses around it; `of`: the one before the parentheses that end
 //!   just before it, and `of-1` the one before that;
-//! - `main`: what the text's `main` is declared as;
+//! - `main`: the name of the text's function `main`;
 //! - a condition that holds, as `begins`, or doesn't, as `begins no` (`Site::holds`).
 
 use crate::around::{byte_at, is_among, is_name, is_number};
 use crate::place::between;
 use crate::rules::Surroundings;
 use crate::sites::{
-    begins, begins_line, closed_head, ends_behind, head_of, is_function, is_global,
-    is_in_first_value, is_in_length, is_in_sum, is_viewed, mark_ahead, takes_memory,
+    begins, begins_line, closed_head, closing, head_of, is_global, is_in_sum, is_viewed,
+    mark_ahead, next_of,
 };
 use crate::tokens::{Declared, Tokens};
 use crate::vocabulary::TYPE_WORDS;
@@ -66,11 +66,15 @@ impl<'t, 'a> Site<'t, 'a> {
         let kind = between(class, 1, class.len());
         match byte_at(class, 0) {
             b'@' if kind.is_empty() => matches!(self.tokens.kind(number), Some(Kind::Name)),
-            b'@' => kind_of(self.tokens.kind_declared(number)).as_bytes() == kind,
+            b'@' => match self.tokens.declaration_of(number) {
+                Some((_, declared)) => kind_of(Some(declared)).as_bytes() == kind,
+                None => kind == b"nothing".as_slice(),
+            },
             b':' => kind_of(self.tokens.declared(number)).as_bytes() == kind,
             b'#' => is_number(word),
             b'$' => is_name(word),
-            b'&' => kind.is_empty() && self.is_type(word),
+            b'&' if is_among("int void", word) => kind.is_empty(),
+            b'&' => kind.is_empty() && is_among(TYPE_WORDS, word) && !self.is_own(word),
             b'~' => is_among(OPERATORS, word),
             b'?' => true,
             _ => false,
@@ -83,6 +87,7 @@ impl<'t, 'a> Site<'t, 'a> {
         match place {
             "in" => head_of(tokens, number),
             "of" => closed_head(tokens, number),
+            "main" => tokens.main(),
             "of-1" => match closed_head(tokens, number) {
                 Some(named) => named.checked_sub(1),
                 None => None,
@@ -94,17 +99,6 @@ impl<'t, 'a> Site<'t, 'a> {
         }
     }
 
-    // What `main` is declared as, or whether a condition holds.
-    fn fact(&self, place: &str) -> &'static str {
-        if place == "main" {
-            kind_of(self.tokens.main())
-        } else if self.holds(place) {
-            "yes"
-        } else {
-            "no"
-        }
-    }
-
     // Whether a condition holds: of the token's surroundings, or of the tokens before it.
     fn holds(&self, condition: &str) -> bool {
         let Site { tokens, number, .. } = *self;
@@ -112,18 +106,17 @@ impl<'t, 'a> Site<'t, 'a> {
             "begins" => begins(tokens, number),
             "second" => number > 0 && begins(tokens, number.saturating_sub(1)),
             "global" => is_global(tokens, number),
-            "item" => {
-                is_global(tokens, number)
-                    && !is_function(tokens, head_of(tokens, number))
-                    && begins(tokens, number)
-            }
             "brackets" => self.is_like(mark_ahead(tokens, number, "( ["), "["),
-            "length" => is_in_length(tokens, number),
-            "first" => is_in_first_value(tokens, number),
-            "memory" => takes_memory(tokens, number),
+            "length" => self.is_like(mark_ahead(tokens, number, "[").saturating_sub(1), ":array"),
+            "first" => self.opens_global(mark_ahead(tokens, number, "= ,")),
+            "memory" => self.is_like(
+                next_of(tokens, number, TO_MEMORY),
+                "malloc calloc realloc alloca",
+            ),
+            "ended" => self.is_like(next_of(tokens, number, ";"), ";"),
             "chained" => self.is_like(mark_ahead(tokens, number, CHAINING), "= return"),
             "summed" => is_in_sum(tokens, number),
-            "prototyped" => ends_behind(tokens, number),
+            "prototyped" => self.is_like(closing(tokens, number).saturating_add(1), ";"),
             "own" => self.is_own(self.word()),
             "viewed" => is_viewed(tokens, number),
             "line" => begins_line(tokens, number),
@@ -131,14 +124,19 @@ impl<'t, 'a> Site<'t, 'a> {
         }
     }
 
+    // Whether the first value of a global begins behind a mark.
+    fn opens_global(&self, mark: usize) -> bool {
+        self.is_like(mark, "=")
+            && self.is_like(
+                mark.saturating_sub(1),
+                ":variable :array :reducer :function :procedure",
+            )
+            && is_global(self.tokens, mark)
+    }
+
     // Whether the text may declare a word as a name of its own.
     fn is_own(&self, word: &'a [u8]) -> bool {
         self.own.binary_search(&word).is_ok()
-    }
-
-    // Whether a word is one of a type, and no name of the text's own.
-    fn is_type(&self, word: &'a [u8]) -> bool {
-        is_among("int void", word) || (is_among(TYPE_WORDS, word) && !self.is_own(word))
     }
 }
 
@@ -146,13 +144,19 @@ impl Surroundings for Site<'_, '_> {
     fn has(&self, place: &str, words: &str) -> bool {
         match self.token_at(place) {
             Some(number) => self.is_like(number, words),
-            None => is_among(words, self.fact(place).as_bytes()),
+            None => {
+                let told = if self.holds(place) { "yes" } else { "no" };
+                is_among(words, told.as_bytes())
+            }
         }
     }
 }
 
 // Marks that an operand follows, but for `*`, which may declare a pointer.
 const OPERATORS: &str = "return [ = += -= *= + - / % < > <= >= == != && || !";
+
+// Calls that allocate memory, and what ends a statement.
+const TO_MEMORY: &str = "malloc calloc realloc alloca ; {";
 
 // Marks that an assignment follows, and those that the expression around it can begin after.
 const CHAINING: &str = "= return ( [ ,";

@@ -2,7 +2,7 @@
 
 use crate::around::is_among;
 use crate::place::between;
-use crate::tokens::{Declared, Tokens};
+use crate::tokens::Tokens;
 use cilk_syntax::token::Kind;
 
 /// Returns the parenthesis that is open at a token, in its own statement. For a closing
@@ -54,26 +54,14 @@ pub fn head_near(tokens: &Tokens<'_>, number: usize) -> usize {
     }
 }
 
-/// Returns whether a token is a function's name in its declaration.
-pub fn is_function(tokens: &Tokens<'_>, named: Option<usize>) -> bool {
-    match named {
-        Some(named) => matches!(tokens.declared(named), Some(Declared::Function { .. })),
-        None => false,
-    }
-}
-
-/// Returns whether memory is allocated between a token and the next semicolon.
-pub fn takes_memory(tokens: &Tokens<'_>, number: usize) -> bool {
+/// Returns the first of these words from a token on, or the number past all tokens.
+pub fn next_of(tokens: &Tokens<'_>, number: usize, words: &str) -> usize {
     for later in number..tokens.count() {
-        let word = tokens.word(later);
-        if is_among("; {", word) {
-            return false;
-        }
-        if is_among("malloc calloc realloc alloca", word) {
-            return true;
+        if is_among(words, tokens.word(later)) {
+            return later;
         }
     }
-    false
+    tokens.count()
 }
 
 // The most tokens that are looked at for a mark.
@@ -129,12 +117,6 @@ pub fn is_condition(tokens: &Tokens<'_>, named: Option<usize>) -> bool {
     }
 }
 
-/// Returns whether a token is in the length of an array's declaration.
-pub fn is_in_length(tokens: &Tokens<'_>, number: usize) -> bool {
-    let name = mark_ahead(tokens, number, "[").saturating_sub(1);
-    matches!(tokens.declared(name), Some(Declared::Array))
-}
-
 /// Returns the first closing parenthesis from a token on, or the token itself if none is near.
 pub fn closing(tokens: &Tokens<'_>, number: usize) -> usize {
     for later in number..number.saturating_add(NEAR) {
@@ -143,14 +125,6 @@ pub fn closing(tokens: &Tokens<'_>, number: usize) -> usize {
         }
     }
     number
-}
-
-/// Returns whether a semicolon follows the parentheses after a name.
-pub fn ends_behind(tokens: &Tokens<'_>, number: usize) -> bool {
-    matches!(
-        tokens.kind_behind(closing(tokens, number)),
-        Some(Kind::Semicolon)
-    )
 }
 
 /// Returns whether an operator follows the parentheses of a call.
@@ -169,14 +143,6 @@ pub fn is_in_sum(tokens: &Tokens<'_>, number: usize) -> bool {
         }
     }
     false
-}
-
-/// Returns whether a token is in the first value of a global.
-pub fn is_in_first_value(tokens: &Tokens<'_>, number: usize) -> bool {
-    let mark = mark_ahead(tokens, number, "= ,");
-    matches!(tokens.kind(mark), Some(Kind::Assign))
-        && tokens.declared(mark.saturating_sub(1)).is_some()
-        && is_global(tokens, number)
 }
 
 /// Returns whether a reducer of the type that is declared at a token is declared too.

@@ -5,12 +5,11 @@ ghost use Rattle.clap.specs.Words.{found_of, rows_of, subcommand_rows_of};
 ghost use Rattle.cilk_messages.specs.Words.{HasShape, texts};
 ghost use Rattle.cilk_messages.specs.ThreadsWords.{IsWordsFault, order_by, order_in, order_view, parallel_app, texts_in, texts_view, threads_app, threads_with};
 
-use crate::words::{WordsFault, empty, named, needing, refusal, taking, with, workers_in};
+use crate::words::{
+    NO_ORDER, WordsFault, empty, named, needing, no_order, refusal, taking, with, workers_in,
+};
 use clap::{ArgMatches, Command};
 use std::alloc::{AllocError, Global};
-
-// The error of a command line that clap accepts but whose number of workers isn't valid.
-const NO_ORDER: &str = "error: the number of workers is 1 to 64\n";
 
 // The summary of the command for clap.
 const THREADS: &str =
@@ -42,7 +41,7 @@ fn threads_command<'a>(alloc: Global) -> Result<Command<'a>, AllocError>
 fn command<'a>(alloc: Global) -> Result<Command<'a>, AllocError>
     ensures { IfOk result (λ c. HasShape c parallel_app) }
 {
-    with(empty(alloc)?, threads_command(alloc), THREADS)
+    with(empty(alloc), threads_command(alloc), THREADS)
 }
 
 /// Returns the paths of the program and of the certificate in the matches.
@@ -90,7 +89,7 @@ pub fn read<'a>(alloc: Global, words: &'a [&'a str]) -> Result<Order<'a>, WordsF
     match command(alloc)?.try_get_matches_from(words) {
         Ok(matches) => match order_of(&matches) {
             Some(order) => Ok(order),
-            None => Err(WordsFault::Usage(String::from_str(alloc, NO_ORDER)?)),
+            None => Err(no_order(alloc, NO_ORDER)),
         },
         Err(error) => Err(refusal(alloc, &error)),
     }

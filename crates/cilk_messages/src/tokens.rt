@@ -113,10 +113,10 @@ impl<'a> Tokens<'a> {
         }
     }
 
-    /// Returns the first function `main`, as it is declared.
-    pub fn main(&self) -> Option<Declared> {
+    /// Returns the name of the first function `main`, in its declaration.
+    pub fn main(&self) -> Option<usize> {
         match self.function_behind(0, b"main") {
-            Some((_, declared)) => Some(declared),
+            Some((named, _)) => Some(named),
             None => None,
         }
     }
@@ -191,14 +191,6 @@ impl<'a> Tokens<'a> {
             }
         }
         self.function_behind(number, name)
-    }
-
-    /// Returns what a token's name is declared as.
-    pub fn kind_declared(&self, number: usize) -> Option<Declared> {
-        match self.declaration_of(number) {
-            Some((_, declared)) => Some(declared),
-            None => None,
-        }
     }
 
     /// Returns the first declaration of a name.

@@ -3,7 +3,7 @@
 use crate::place::locate;
 use crate::report::Wanted;
 use crate::rules::{fits, said};
-use crate::sentence::{Sentence, say};
+use crate::sentence::{Part, Sentence, say};
 use crate::site::Site;
 use crate::tokens::Tokens;
 use cilk_syntax::token::Kind;
@@ -12,25 +12,42 @@ use cilk_syntax::token::Kind;
 /// rest could follow it.
 pub fn missing_mark<'a>(site: &Site<'_, 'a>, wanted: &Wanted<'_>) -> Option<Sentence<'a>> {
     let Site { tokens, number, .. } = *site;
+    let mark = mark_before(site, wanted);
+    if mark.is_empty() {
+        return None;
+    }
+    let (words, place) = if fits(site, "line") || tokens.kind(number).is_none() {
+        let ahead = tokens.place(number.saturating_sub(1));
+        (
+            "a `{}` may be missing at the end of line {}",
+            Part::Count(locate(tokens.text, ahead).line),
+        )
+    } else {
+        (
+            "a `{}` may be missing before `{}`",
+            Part::Word(tokens.word(number)),
+        )
+    };
+    Some(say(words).text(mark).with(place))
+}
+
+// That mark, or none. What could follow a closing bracket is the end of the part around it, or an
+// assignment if no bracket closes later.
+fn mark_before(site: &Site<'_, '_>, wanted: &Wanted<'_>) -> &'static str {
     let follows = said(site, FOLLOWS).is_some();
-    let mark = if wanted.semicolon && follows && said(site, ENDS).is_some() {
+    if wanted.semicolon && follows && said(site, ENDS).is_some() {
         ";"
-    } else if wanted.words.contains("`]`") && is_behind_index(site) {
+    } else if wanted.words.contains("`]`")
+        && (fits(site, "0 ) ; { | brackets")
+            || (fits(site, "0 = += -= *= | brackets")
+                && !is_closed_later(site.tokens, site.number)))
+    {
         "]"
     } else if wanted.words.contains("`)`") && (follows || fits(site, "0 ; {")) {
         ")"
     } else {
-        return None;
-    };
-    let hint = if fits(site, "line") || tokens.kind(number).is_none() {
-        let ahead = tokens.place(number.saturating_sub(1));
-        let words = say("a `{}` may be missing at the end of line {}").text(mark);
-        words.count(locate(tokens.text, ahead).line)
-    } else {
-        let words = say("a `{}` may be missing before `{}`").text(mark);
-        words.word(tokens.word(number))
-    };
-    Some(hint)
+        ""
+    }
 }
 
 // What could be the last token of a statement before its semicolon. Parentheses are those of a
@@ -45,13 +62,6 @@ const FOLLOWS: &str = "\
 0 ^ ? => yes
 0 } int if else while for return cilk_sync cilk_for print update set => yes
 0 @ ++ -- { cilk_spawn void | line => yes";
-
-// Whether a token could follow a closing bracket: the end of the surrounding part, or an assignment
-// if no bracket closes later.
-fn is_behind_index(site: &Site<'_, '_>) -> bool {
-    fits(site, "0 ) ; { | brackets")
-        || (fits(site, "0 = += -= *= | brackets") && !is_closed_later(site.tokens, site.number))
-}
 
 // Whether a bracket that is open at a token closes in its statement.
 fn is_closed_later(tokens: &Tokens<'_>, number: usize) -> bool {

@@ -6,7 +6,8 @@ use crate::sentences::sentence;
 use crate::site::Site;
 use crate::vocabulary::{NUMBERS, said_of};
 
-/// Returns the advice for a refused token, or `spawned` for the spawn of an assignment.
+/// Returns the advice for a refused token. It may have gaps for the word before, and for what follows the
+/// token in its statement.
 pub fn of_use(site: &Site<'_, '_>, wanted: &Wanted<'_>) -> Option<&'static str> {
     match said(site, USES) {
         Some("number") => said_of(NUMBERS, site.word()).or(Some(sentence("FIRST_VALUE"))),
@@ -26,7 +27,8 @@ const UNPAIRED: &str = "\
 // `print`, `value`, `update` or `set`; calls; heads of loops; pointers; brackets; pairs of marks;
 // items; statements; and what is left.
 const USES: &str = "\
-0 = | -2 cilk_spawn => spawned
+0 = | -2 cilk_spawn | ended => the call is spawned, not the assignment: `{} = cilk_spawn {};`
+0 = | -2 cilk_spawn => ASSIGNMENT
 0 [ | in cilk_reducer => REDUCER_ARRAY
 0 [ | -5 cilk_reducer => REDUCER_ARRAY
 0 , | in cilk_reducer => REDUCER_FUNCTIONS
@@ -93,14 +95,14 @@ in value => REDUCER_USE
 0 / % | +1 = => DIVIDED
 0 @ | +1 @ * | in :function :procedure | global => ONE_TYPE
 0 @ | in :function :procedure | global => each parameter has its type: `int f(int a, int b)`
-0 @ | +1 ( | item => a function begins with `int` or `void`
-0 @ | +1 @ * | item => ONE_TYPE
-0 @ | +1 cilk_reducer | item => REDUCER
-0 cilk_reducer | item => REDUCER
-0 @ | item => a declaration begins with `int`
-0 } | item => there is a `}` too many, here or ahead
-0 ; | item => leave this `;` away
-0 ? | item => statements stand in functions, as in `int main() { .. }`
+0 @ | +1 ( | global | begins | in ^ :function :procedure => a function begins with `int` or `void`
+0 @ | +1 @ * | global | begins | in ^ :function :procedure => ONE_TYPE
+0 @ | +1 cilk_reducer | global | begins | in ^ :function :procedure => REDUCER
+0 cilk_reducer | global | begins | in ^ :function :procedure => REDUCER
+0 @ | global | begins | in ^ :function :procedure => a declaration begins with `int`
+0 } | global | begins | in ^ :function :procedure => there is a `}` too many, here or ahead
+0 ; | global | begins | in ^ :function :procedure => leave this `;` away
+0 ? | global | begins | in ^ :function :procedure => statements stand in functions, as in `int main() { .. }`
 0 void | -1 ? | begins => NESTED
 0 @ | -1 @ | second => ONE_TYPE
 0 else | -1 ? => an `else` follows the one statement of its `if`

@@ -19,7 +19,7 @@ pub const WORKERS: u32 = 2;
 pub const MAX_WORKERS: u64 = 64;
 
 // The message for words that clap matches though they are no order.
-const NO_ORDER: &str = "error: the number of workers is 1 to 64\n";
+pub(crate) const NO_ORDER: &str = "error: the number of workers is 1 to 64\n";
 
 // The help texts of the commands.
 const RUN: &str = "Run a program serially";
@@ -170,16 +170,17 @@ fn judge_command<'a>(alloc: Global) -> Result<Command<'a>, AllocError>
 
 /// Adds a command with its help text.
 ///
-/// It takes the command as a result, so that a failure leaves one value to drop here.
+/// It takes both as results, so that the caller has nothing to drop.
 pub fn with<'a>(
-    app: Command<'a>,
+    app: Result<Command<'a>, AllocError>,
     command: Result<Command<'a>, AllocError>,
     about: &'a str,
 ) -> Result<Command<'a>, AllocError>
-    ensures { (a b : App) → HasShape app.entry a → IfOk command.entry (λ c. HasShape c b) → IfOk result (λ r. HasShape r (with_subcommand a b.top)) }
+    ensures { (a b : App) → IfOk app.entry (λ c. HasShape c a) → IfOk command.entry (λ c. HasShape c b)
+        → IfOk result (λ r. HasShape r (with_subcommand a b.top)) }
 {
     let described = command?.about(about);
-    app.subcommand(described)
+    app?.subcommand(described)
 }
 
 /// Returns the program without commands.
@@ -196,12 +197,11 @@ pub fn empty<'a>(alloc: Global) -> Result<Command<'a>, AllocError>
 fn command<'a>(alloc: Global) -> Result<Command<'a>, AllocError>
     ensures { IfOk result (λ c. HasShape c cilk_app) }
 {
-    let app = empty(alloc)?;
-    let one = with(app, program_command(alloc, "run"), RUN)?;
-    let two = with(one, program_command(alloc, "certify"), CERTIFY)?;
-    let three = with(two, check_command(alloc), CHECK)?;
-    let four = with(three, play_command(alloc), PLAY)?;
-    let five = with(four, program_command(alloc, "settle"), SETTLE)?;
+    let one = with(empty(alloc), program_command(alloc, "run"), RUN);
+    let two = with(one, program_command(alloc, "certify"), CERTIFY);
+    let three = with(two, check_command(alloc), CHECK);
+    let four = with(three, play_command(alloc), PLAY);
+    let five = with(four, program_command(alloc, "settle"), SETTLE);
     with(five, judge_command(alloc), JUDGE)
 }
 
@@ -346,8 +346,9 @@ pub fn refusal(alloc: Global, error: &Error) -> WordsFault
     }
 }
 
-fn no_order(alloc: Global) -> WordsFault {
-    match String::from_str(alloc, NO_ORDER) {
+/// Returns the fault for words that clap matches though they are no order, with its message.
+pub(crate) fn no_order(alloc: Global, message: &str) -> WordsFault {
+    match String::from_str(alloc, message) {
         Ok(text) => WordsFault::Usage(text),
         Err(_) => WordsFault::Memory,
     }
@@ -367,7 +368,7 @@ pub fn read<'a>(alloc: Global, words: &'a [&'a str]) -> Result<Order<'a>, WordsF
     match command(alloc)?.try_get_matches_from(words) {
         Ok(matches) => match order_of(&matches) {
             Some(order) => Ok(order),
-            None => Err(no_order(alloc)),
+            None => Err(no_order(alloc, NO_ORDER)),
         },
         Err(error) => Err(refusal(alloc, &error)),
     }

@@ -1,5 +1,5 @@
 use Rattle.std.proofs.Common.{◌∙◌, sym}
-use Rattle.cilk_messages.proofs.ThreadsEntered.{free_shape, order_found, order_lost, order_of_matches, order_of_refused}
+use Rattle.cilk_messages.proofs.ThreadsEntered.{free_shape, no_order, order_found, order_lost, order_of_matches, order_of_refused}
 use Rattle.cilk_messages.proofs.threads_words.read.Goals as goal
 
 pub returns-in-Some-clause-order : goal.returns-in-Some-clause-order
@@ -10,7 +10,7 @@ returns-in-Some-clause-order c =
 pub returns-in-Ok-clause-fault : goal.returns-in-Ok-clause-fault
 returns-in-Ok-clause-fault c =
     let asked = order_of_matches c.in_ok-command.field-0 c.args.words.now c.in-Ok.matches c.in_ok-command.ensures.0 (c.in-Ok.ensures.kinds (free_shape _ c.in_ok-command.ensures.0)) c.in-Ok.ensures.matches in
-    order_lost c.order_of.result _ (asked ∙ sym c.order_of.ensures) c.in-None.is
+    no_order _ c.no_order.result (order_lost c.order_of.result _ (asked ∙ sym c.order_of.ensures) c.in-None.is)
 
 pub returns-clause-fault : goal.returns-clause-fault
 returns-clause-fault c =

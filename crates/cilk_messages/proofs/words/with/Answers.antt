@@ -19,4 +19,6 @@ pub returns : goal.returns
 returns c = λ a b app command.
     let given : HasShape c.in_ok-command.field-0 b =
     subst (λ (x : Result Command AllocError). IfOk x (λ m. HasShape m b)) c.in_ok-command.was command in
-    with_last _ _ c.subcommand.result _ _ app (described _ _ _ _ given c.about-described.ensures) c.subcommand.ensures
+    let start : HasShape c.in_ok-app.field-0 a =
+    subst (λ (x : Result Command AllocError). IfOk x (λ m. HasShape m a)) c.in_ok-app.was app in
+    with_last _ _ c.subcommand.result _ _ start (described _ _ _ _ given c.about-described.ensures) c.subcommand.ensures
