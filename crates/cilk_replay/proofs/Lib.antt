@@ -1,4 +1,7 @@
 pub mod Along
+pub mod Awaiting
+pub mod Awaited
+pub mod AlongBlocks
 pub mod AskedEventOrders
 pub mod Behind
 pub mod Children

@@ -1,4 +1,5 @@
 pub mod Asking
+pub mod Awaited
 pub mod Chains
 pub mod Children
 pub mod Replays

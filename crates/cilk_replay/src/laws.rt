@@ -5,6 +5,7 @@
 //! one loop.
 
 ghost use Rattle.std.specs.Prelude.{Bool, ℤ, List, Option};
+ghost use Rattle.cilk_replay.specs.Awaited.{SerialSyncsAwaitSpawns};
 ghost use Rattle.cilk_replay.specs.InputCourses.{AskedCourseIsSerial, CoursesAreOne, OwnCourse, SerialRunsAreOne};
 ghost use Rattle.cilk_replay.specs.Ends.{InputsRunAlong, NamedRunsAreSerial, RunsWithinLimitsAreWhole};
 ghost use Rattle.cilk_replay.specs.Frames.{AskedCoursesAreSerialRuns, ProgramsHaveOneCourse, SerialRunsAreTheirCourses};
@@ -117,6 +118,12 @@ pub fn inputs_run_along()
 /// it, by the frame's number.
 pub fn events_are_in_their_frames()
     ensures { EventsAreInTheirFrames }
+{}
+
+/// For the language: in the plan of a serial run, the immediate predecessors of a `sync` are the
+/// event right before it and `end`s of children that are spawned in its block.
+pub fn syncs_await_spawns()
+    ensures { SerialSyncsAwaitSpawns }
 {}
 
 /// For the language, on each input, by positions: what a frame has done so far decides whether it

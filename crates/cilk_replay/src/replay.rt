@@ -3,6 +3,7 @@
 ghost use Rattle.std.specs.Prelude.{◌≡◌, length, slice_get, unwrap_or};
 ghost use Rattle.cilk_program.specs.Sources.{source};
 ghost use Rattle.cilk_replay.specs.Replays.{AreEntriesOf, IsBlockOf, IsBodyOf, IsReplay, IsEntryOf, replay_with};
+ghost use Rattle.cilk_replay.specs.Awaited.{SyncsAwaitSpawns};
 ghost use Rattle.cilk_replay.specs.Resumes.{ResumesAreAsked};
 
 use crate::frame_layout::{CellBlock, FrameLayout};
@@ -181,6 +182,13 @@ impl Replay {
     /// depart there.
     pub fn resumes(&self)
         ensures { let y = self.now.yard in ResumesAreAsked y.event_order }
+    {
+        self.laws();
+    }
+
+    /// States that a `sync` awaits only children that are spawned in its block.
+    pub fn awaits(&self)
+        ensures { let y = self.now.yard in SyncsAwaitSpawns y.event_order }
     {
         self.laws();
     }
