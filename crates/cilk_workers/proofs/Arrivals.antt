@@ -1,10 +1,11 @@
 -- A box that is taken off its shelf, changed, and put back: `arrives`; `records`, where that
--- succeeds. Where a piece ends: `at_key`.
+-- succeeds. Where a piece ends: `at_key`; there it has a block, `has_block`.
 use Rattle.std.proofs.Common.{◌≡◌, ℕ, Bool, true, false, Option, Some, None, sym, ap, ◌∙◌, subst}
 use Rattle.cilk_types.specs.declared.event.Event.{Event}
 use Rattle.cilk_types.specs.declared.event.Event.TheVariants.{Sync}
 use Rattle.cilk_shared.specs.Pieces.{PieceValue}
 use Rattle.cilk_replay.specs.Chains.{ChainValue}
+use Rattle.cilk_tree.specs.Columns.{IsSpawnOf}
 use Rattle.cilk_tree.specs.declared.event_order.EventOrder.{EventOrder}
 use Rattle.cilk_tree.specs.Word.{event, plain, predecessors_of, resume, word_event, word_step}
 use Rattle.std.specs.Prelude.{IsTrue, OnOk, Result, Ok, Err}
@@ -41,4 +42,9 @@ no_resume s p k is there = let z : plain ≡ resume k = ap (λ (o : Option Event
 pub at_key : (s : EventOrder) (p : PieceValue) (chain : Option ChainValue) (by : ℕ) → EndsWhereItWaits s p chain → ((k : ℕ) → word_step s p.upto ≡ resume k → by ≡ k)
     → (((k : ℕ) → word_step s p.upto ≡ resume k → ⊥) → by ≡ p.upto) → EndsAtKey s by p (is_some chain)
 at_key s p None by ends child own = subst (λ n. word_step s p.upto ≡ resume n) (sym (child ends.0 ends.1)) ends.1
-at_key s p (Some c) by ends child own = sym (own (λ k there. no_resume s p.upto k ends there))
+at_key s p (Some c) by ends child own = sym (own (λ k there. no_resume s p.upto k ends.0 there))
+
+pub has_block : (s : EventOrder) (p : PieceValue) (chain : Option ChainValue) (P : Type 0) → EndsWhereItWaits s p chain → ((k : ℕ) → word_step s p.upto ≡ resume k → P)
+    → ((k : ℕ) → IsSpawnOf s p.upto k → P) → P
+has_block s p None P ends child own = child ends.0 ends.1
+has_block s p (Some c) P ends child own = let spawned = ends.1 in own spawned.0 spawned.1

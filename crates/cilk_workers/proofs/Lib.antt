@@ -5,6 +5,7 @@ pub mod BlocksAt
 pub mod Boxes
 pub mod Due
 pub mod Ending
+pub mod Held
 pub mod Keys
 pub mod Merges
 pub mod Moves

@@ -2,6 +2,7 @@
 use Rattle.std.specs.Prelude.{◌≡◌, ℕ, Option, Some, None}
 use Rattle.cilk_types.specs.declared.event.Event.TheVariants.{Sync}
 use Rattle.cilk_shared.specs.Pieces.{PieceValue}
+use Rattle.cilk_tree.specs.Columns.{IsSpawnOf}
 use Rattle.cilk_tree.specs.declared.event_order.EventOrder.{EventOrder}
 use Rattle.cilk_tree.specs.Word.{event, resume, word_step}
 use Rattle.cilk_replay.specs.Chains.{ChainValue}
@@ -14,9 +15,10 @@ use Rattle.cilk_workers.specs.declared.locks.Met.{Met}
 use Rattle.cilk_workers.specs.declared.locks.Met.TheVariants as mets
 
 -- a piece without a chain ends right before the `resume` after a spawn, one with a chain at a `sync`
+-- in whose block there is a spawn
 abbrev pub EndsWhereItWaits : EventOrder → PieceValue → Option ChainValue → Type 0
 EndsWhereItWaits s p None = (k : ℕ) × (word_step s p.upto ≡ resume k)
-EndsWhereItWaits s p (Some c) = event s p.upto ≡ Some Sync
+EndsWhereItWaits s p (Some c) = (event s p.upto ≡ Some Sync) × ((k : ℕ) × IsSpawnOf s p.upto k)
 
 -- In the box of the block, and in no other, it is recorded that the continuation of the spawn at k,
 -- which continues at a, is stolen.

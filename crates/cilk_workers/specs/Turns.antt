@@ -7,10 +7,12 @@ use Rattle.cilk_program.specs.Sources.{source}
 use Rattle.cilk_workers.specs.Rows.{IsGood}
 use Rattle.cilk_replay.specs.Chains.{standing}
 use Rattle.cilk_determinacy.specs.Nested.{named}
+use Rattle.cilk_replay.specs.Awaited.{IsEndOf}
 use Rattle.cilk_replay.specs.InputCourses.{run_of}
 use Rattle.cilk_replay.specs.Frames.{course_on}
 use Rattle.cilk_replay.specs.EventOrders.{IsPlannedRun}
 use Rattle.cilk_shared.specs.Pieces.{PieceValue, grown, segment_of}
+use Rattle.cilk_tree.specs.declared.event_order.EventOrder.{EventOrder}
 use Rattle.cilk_tree.specs.Kinds.{kind_of_event}
 use Rattle.cilk_tree.specs.declared.kind.Kind.{Kind}
 use Rattle.cilk_tree.specs.declared.kind.Kind.TheVariants as kinds
@@ -50,10 +52,18 @@ pub record HasEnded (y : SharedValue) (p : PieceValue) (value : ℤ) : Type 0 wh
   pub followed : let s = event_order_in y in IsFollowed s (length s.events)
   pub result : IsResult y value
 
--- the piece's next event is a `sync`, and its immediate predecessors aren't all in the piece:
--- children of its block are elsewhere
+-- A child isn't in the piece that the `sync` right behind the piece awaits: its `end` is before the
+-- piece. It was spawned in the block that this `sync` ends.
+pub record IsOwed (s : EventOrder) (p : PieceValue) : Type 0 where
+  pub spawn_at : ℕ
+  pub end_at : ℕ
+  pub child : IsEndOf s p.upto spawn_at end_at
+  pub elsewhere : end_at < p.from
+
+-- the piece's next event is a `sync`, and its immediate predecessors aren't all in the piece: a
+-- child that was spawned in its block is elsewhere
 abbrev pub IsHeldUp : SharedValue → PieceValue → Type 0
-IsHeldUp y p = (event (event_order_in y) p.upto ≡ Some events.Sync) × (MayPass (segment_of p) → ⊥)
+IsHeldUp y p = (event (event_order_in y) p.upto ≡ Some events.Sync) × (MayPass (segment_of p) → ⊥) × IsOwed (event_order_in y) p
 
 -- the worker can't continue: the piece's next event is the `resume` after a spawn; and the piece has
 -- one event more, the `end` of the spawned child, or is unchanged

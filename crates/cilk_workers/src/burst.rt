@@ -80,7 +80,6 @@ impl<'a, 'b, N: Naming, R: Wait, G: Gate> WorkerContext<'a, 'b, N, R, G> {
         let at = piece.upto();
         let by = key_at(shared, at);
         let Some(block) = shared.block_at(at) else {
-            never(self.rt);
             unreachable!()
         };
         let (piece, empty) = piece.apart(self.alloc, shared.yard(), shared.reducers());

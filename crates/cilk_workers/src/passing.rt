@@ -33,13 +33,14 @@ pub(crate) fn passed(shared: &Shared<'_>, work: &mut Work) -> Turn
     Turn::Goes
 }
 
-/// A `sync`.
+/// A `sync`. The worker is held up only where a child of the block is elsewhere.
 pub(crate) fn synced(shared: &Shared<'_>, work: &mut Work) -> Turn
     requires due { IsDue shared.now work.old kinds.Sync }
     requires more { HasMore shared.now work.old }
     ensures { Turned shared.now work.old.piece work.new result }
 {
     if !work.piece.segment().may_pass(shared.plan()) {
+        shared.replay().awaits();
         return Turn::Arrives;
     }
     work.piece.pass(shared.yard());

@@ -1,13 +1,21 @@
-use Rattle.std.proofs.Common.{◌≡◌, ◌∙◌, sym, subst}
-use Rattle.std.specs.Prelude.{IfSome}
+use Rattle.std.proofs.Common.{◌≡◌, ◌∙◌, false, true, sym, subst}
+use Rattle.std.specs.Prelude.{IfSome, IsSome}
 use Rattle.cilk_replay.specs.Chains.{standing}
-use Rattle.cilk_tree.specs.Columns.{IsOfBlock}
+use Rattle.cilk_tree.specs.Columns.{IsOfBlock, IsSpawnOf}
 use Rattle.cilk_workers.specs.Shared.{event_order_in}
 use Rattle.cilk_shared.specs.Pieces.{PieceValue}
 use Rattle.cilk_tree.specs.Word.{resume, word_step}
 use Rattle.cilk_workers.specs.Boxes.{EndsAtKey, is_some}
-use Rattle.cilk_workers.proofs.Arrivals.{at_key}
+use Rattle.cilk_workers.proofs.Arrivals.{at_key, has_block}
 use Rattle.cilk_workers.proofs.context.WorkerContext.arrived.Goals as goal
+
+pub unreachable-requires : goal.unreachable-requires
+unreachable-requires g c =
+    let s = event_order_in c.args.self.now.shared.now in
+    let none : IsSome c.block_at.result → ⊥ = λ some. (let no : false ≡ true = subst IsSome c.in_default.is some in cc no) in
+    has_block s c.args.piece c.args.chain ⊥ c.requires.ends
+    (λ k is. none (c.block_at.ensures.resumed k (subst (λ n. word_step s n ≡ resume k) (sym c.upto-at.ensures) is)))
+    (λ k spawned. none (c.block_at.ensures.ends k (subst (λ n. IsSpawnOf s n k) (sym c.upto-at.ensures) spawned)))
 
 pub arrive-requires-clause-chain : goal.arrive-requires-clause-chain
 arrive-requires-clause-chain g c = subst (λ (p : PieceValue). IfSome c.args.chain (λ d. d ≡ standing c.args.self.now.shared.now.replay p.upto)) (sym c.apart-piece.ensures.first) c.requires.chain
