@@ -55,7 +55,6 @@ pub struct Look {
 
 /// Returns what to write for the form that stands at a token, if there is one.
 pub fn form_at(site: &Site<'_, '_>, look: &mut Look) -> Option<&'static str> {
-    look.is_word = false;
     if site.number < look.upto {
         return None;
     }

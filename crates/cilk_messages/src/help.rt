@@ -3,7 +3,7 @@
 ghost use Rattle.std.specs.Prelude.{◌<◌, length, string_bytes, IfOk};
 
 use crate::about::is_command;
-use crate::asked::asks;
+use crate::around::is_among;
 use crate::sentence::{Part, say};
 use crate::sentences::row_of;
 use std::alloc::{AllocError, Global};
@@ -308,9 +308,9 @@ fn hint_of(words: &[&str], first: &str) -> &'static str {
         "hint: to run this program: `cilk run {}`; to see whether it races: `cilk settle {}`\n"
     } else if first.ends_with(".trace") {
         "hint: to judge this trace: `cilk judge {}`\n"
-    } else if asks(NEAR_SETTLE, first) {
+    } else if is_among(NEAR_SETTLE, first.as_bytes()) {
         "hint: perhaps `settle` is meant: `cilk help settle` describes it; `cilk --help` lists the commands\n"
-    } else if asks(NEAR_JUDGE, first) {
+    } else if is_among(NEAR_JUDGE, first.as_bytes()) {
         "hint: perhaps `judge` is meant: `cilk help judge` describes it; `cilk --help` lists the commands\n"
     } else if words.len() == 1 {
         "hint: to run the program `{}`: `cilk run {}`; `cilk --help` lists the commands\n"
@@ -320,17 +320,6 @@ fn hint_of(words: &[&str], first: &str) -> &'static str {
 }
 
 // Words that may stand for `settle`, and for `judge`.
-const NEAR_SETTLE: &[&str] = &[
-    "settled", "settles", "setle", "settel", "race", "races", "verify",
-];
+const NEAR_SETTLE: &str = "settled settles setle settel race races verify";
 
-const NEAR_JUDGE: &[&str] = &[
-    "judged",
-    "judges",
-    "jugde",
-    "juge",
-    "judg",
-    "trace",
-    "traces",
-    "cilkscreen",
-];
+const NEAR_JUDGE: &str = "judged judges jugde juge judg trace traces cilkscreen";

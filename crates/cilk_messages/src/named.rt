@@ -64,10 +64,10 @@ impl<'a> Named<'a> {
 /// Returns the hint that the program, or another file, can't be read.
 pub fn of_unreadable(alloc: Global, named: &Named<'_>, path: &str) -> Result<String, AllocError> {
     let hint = match named.program {
-        Origin::Standard if path == "-" =>
-            "hint: the program comes from standard input, which can't be read\n",
-        Origin::File(program) if path == program => NO_PROGRAM,
-        _ => "hint: is `{}` a file that can be read, of at most 268,435,456 bytes?\n",
+        _ if path != named.file() =>
+            "hint: is `{}` a file that can be read, of at most 268,435,456 bytes?\n",
+        Origin::Standard => "hint: the program comes from standard input, which can't be read\n",
+        Origin::File(_) => NO_PROGRAM,
     };
     let mut text = String::new(alloc);
     push_said(alloc, &mut text, hint, &[Part::Text(path)])?;

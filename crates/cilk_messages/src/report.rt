@@ -69,7 +69,7 @@ fn push_meaning(
     let of_trace = match number {
         301 => MALFORMED_TRACE,
         302 => CUT_TRACE,
-        _ => "",
+        _ => "\n",
     };
     let meaning = line_of(number, MEANING);
     let head = [
@@ -84,7 +84,6 @@ fn push_meaning(
     text.push_str(line_of(number, PLACE))?;
     text.push_str(".\n\n")?;
     text.push_str(cure_of(number))?;
-    text.push_str("\n")?;
     text.push_str(of_trace)
 }
 
@@ -97,10 +96,10 @@ const EDIT: &str =
     "The certificate of `examples/race.c`, with {}, is answered by the line\n\n    {}\n\n";
 
 const MALFORMED_TRACE: &str =
-    "\nBy `judge`, `trace 301 at L` says that line L isn't in the form of traces, or can't come there in the trace of a run (`docs/TRACES.md`).\n";
+    "\n\nBy `judge`, `trace 301 at L` says that line L isn't in the form of traces, or can't come there in the trace of a run (`docs/TRACES.md`).\n";
 
 const CUT_TRACE: &str =
-    "\nBy `judge`, `trace 302 at L` says that a trace is cut off at line L: record the run again, to its end.\n";
+    "\n\nBy `judge`, `trace 302 at L` says that a trace is cut off at line L: record the run again, to its end.\n";
 
 /// Returns the text of `explain`: each number with its title.
 pub fn of_all(alloc: Global) -> Result<String, AllocError>
