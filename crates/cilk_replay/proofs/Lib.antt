@@ -30,6 +30,7 @@ pub mod Resumes
 pub mod Resuming
 pub mod RunsEnd
 pub mod Seeing
+pub mod Starts
 pub mod EventOrderValues
 pub mod Unended
 pub mod Worked

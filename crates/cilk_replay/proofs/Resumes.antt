@@ -81,10 +81,10 @@ module _ (s : Setting) (h : IsOfProgram s) where
   abbrev event_order : EventOrder
   event_order = s.event_order
 
-  abbrev shape : Shape
+  abbrev pub shape : Shape
   shape = shape_of (named s.program s.run)
 
-  of_shape : IsEventOrderOf shape event_order
+  pub of_shape : IsEventOrderOf shape event_order
   of_shape =
       let n = serial_numbered s.program s.own s.run h.events h.is.outcome h.is.named h.is.runs in
       record { spells = same_marks event_order.events h.events h.along.kinds ∙ n.spells; preceding = h.along.preceding ∙ gives_predecessors shape h.events n.spells }

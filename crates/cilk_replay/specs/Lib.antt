@@ -16,5 +16,6 @@ pub mod Resumes
 pub mod Sights
 pub mod Sorts
 pub mod Standing
+pub mod Starts
 pub mod EventOrders
 pub mod Worked

@@ -5,6 +5,7 @@ ghost use Rattle.cilk_program.specs.Sources.{source};
 ghost use Rattle.cilk_replay.specs.Replays.{AreEntriesOf, IsBlockOf, IsBodyOf, IsReplay, IsEntryOf, replay_with};
 ghost use Rattle.cilk_replay.specs.Awaited.{SyncsAwaitSpawns};
 ghost use Rattle.cilk_replay.specs.Resumes.{ResumesAreAsked};
+ghost use Rattle.cilk_replay.specs.Starts.{RangesHoldSpawns};
 
 use crate::frame_layout::{CellBlock, FrameLayout};
 use cilk_lower::code::Code;
@@ -182,6 +183,14 @@ impl Replay {
     /// depart there.
     pub fn resumes(&self)
         ensures { let y = self.now.yard in ResumesAreAsked y.event_order }
+    {
+        self.laws();
+    }
+
+    /// States that a piece doesn't begin inside a child after which it ends: where the `resume`
+    /// after a spawn comes next, the piece has the spawn.
+    pub fn holds_spawns(&self)
+        ensures { let y = self.now.yard in RangesHoldSpawns y.event_order }
     {
         self.laws();
     }

@@ -8,6 +8,7 @@ ghost use Rattle.cilk_shared.specs.Values.{OfYard, NextRead, NextWrite, NextSpaw
 ghost use Rattle.cilk_tree.specs.Runs.{IsFollowed};
 ghost use Rattle.cilk_tree.specs.Word.{event};
 ghost use Rattle.cilk_shared.specs.Pieces.{AreOfOne, Adjoining, IsPieceOf, IsPieceTaken, PassesOn, grown, joined, none_beside, number_ahead, piece_of, segment_of};
+ghost use Rattle.cilk_shared.specs.Rule.{IsStart, Whole};
 ghost use Rattle.cilk_shared.specs.Reducers.{HasFew, events_at, events_over, kind_in};
 ghost use Rattle.cilk_shared.specs.Settled.{AreSettled};
 
@@ -64,6 +65,15 @@ impl Piece {
             segment,
             reducers: Snapshot::of(reducers),
         }
+    }
+
+    /// The laws of the piece. It begins where a range may begin, and the immediate predecessors of
+    /// each of its events are in it, except those of a `resume` after a spawn.
+    pub fn laws(&self)
+        ensures begins { self.now.from < self.now.upto → IsStart self.now.event_order self.now.from }
+        ensures whole { Whole self.now.event_order self.now.from self.now.upto }
+    {
+        let _segment = &self.segment;
     }
 
     /// Returns the views and the segment.
