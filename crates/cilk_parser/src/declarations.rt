@@ -8,6 +8,7 @@ ghost use Rattle.cilk_syntax.specs.declared.token.Kind.TheVariants as kinds;
 ghost use Rattle.cilk_syntax.specs.Trees as trees;
 
 use crate::calls::{Source, right_side};
+use crate::openers::behind_reducer;
 use cilk_syntax::marks::{Punct, behind, name, one};
 use cilk_syntax::stop::Stop;
 use cilk_syntax::token::{Kind, Token};
@@ -46,21 +47,13 @@ fn initializer<'a>(
     ensures stops { IfErr result (λ e. (stack : List Symbol) →
         IsStop e (run tokens.now (LocalInitial depth ∷ stack) 0)) }
 {
-    match tokens {
-        [
-            Token {
-                kind: Kind::Assign,
-                ..
-            },
-            after @ ..,
-        ] => {
-            let (taken, rest) = right_side(alloc, after, depth)?;
-            match taken {
-                Source::Value(value) => Ok((LocalInitializer::Value(value), rest)),
-                Source::Invoke(how, call) => Ok((LocalInitializer::Invoke(how, call), rest)),
-            }
-        }
-        _ => Ok((LocalInitializer::Absent, tokens)),
+    let Some(after) = behind(tokens, Punct::Assign) else {
+        return Ok((LocalInitializer::Absent, tokens));
+    };
+    let (taken, rest) = right_side(alloc, after, depth)?;
+    match taken {
+        Source::Value(value) => Ok((LocalInitializer::Value(value), rest)),
+        Source::Invoke(how, call) => Ok((LocalInitializer::Invoke(how, call), rest)),
     }
 }
 
@@ -153,21 +146,11 @@ pub fn declaration<'a>(
     ensures stops { IfErr result (λ e. (stack : List Symbol) →
         IsStop e (run tokens.now (Declaration depth ∷ stack) 0)) }
 {
-    match tokens {
-        [
-            Token {
-                kind: Kind::CilkReducer,
-                ..
-            },
-            after @ ..,
-        ] => {
-            let (declared, rest) = reducer(after)?;
-            let rest = one(rest, Punct::Semicolon)?;
-            Ok((Stmt::Reducer(declared), rest))
-        }
-        _ => {
-            let (list, rest) = line(alloc, tokens, depth)?;
-            Ok((Stmt::Declare(list), rest))
-        }
+    if let Some(after) = behind_reducer(tokens) {
+        let (declared, rest) = reducer(after)?;
+        let rest = one(rest, Punct::Semicolon)?;
+        return Ok((Stmt::Reducer(declared), rest));
     }
+    let (list, rest) = line(alloc, tokens, depth)?;
+    Ok((Stmt::Declare(list), rest))
 }

@@ -11,8 +11,9 @@ ghost use Rattle.cilk_syntax.specs.Stops.{IsStop, NoOperator};
 ghost use Rattle.cilk_syntax.specs.declared.token.Kind.TheVariants as kinds;
 ghost use Rattle.cilk_syntax.specs.Trees.{expression, optional};
 
+use crate::openers::behind_bracket;
 use cilk_syntax::firsts::begins_part;
-use cilk_syntax::marks::{Punct, name, one, then_one};
+use cilk_syntax::marks::{Punct, behind, name, one, then_one};
 use cilk_syntax::operators::next_operator;
 use cilk_syntax::stop::{DEEPEST, MOST_OPERATORS, Stop};
 use cilk_syntax::token::{Kind, Token};
@@ -253,25 +254,11 @@ fn behind_name<'a>(
     ensures stops { IfErr result (λ e. (stack : List Symbol) →
         IsStop e (run tokens.now (Index depth ∷ stack) operators)) }
 {
-    match tokens {
-        [
-            Token {
-                kind: Kind::OpenBracket,
-                ..
-            },
-            after @ ..,
-        ] => {
-            let (index, rest, count) = nested(
-                alloc,
-                after,
-                depth + 1,
-                operators,
-                Punct::CloseBracket,
-            )?;
-            Ok((Box::new(alloc, Expr::Element(name, index))?, rest, count))
-        }
-        _ => Ok((Box::new(alloc, Expr::Variable(name))?, tokens, operators)),
-    }
+    let Some(after) = behind_bracket(tokens) else {
+        return Ok((Box::new(alloc, Expr::Variable(name))?, tokens, operators));
+    };
+    let (index, rest, count) = nested(alloc, after, depth + 1, operators, Punct::CloseBracket)?;
+    Ok((Box::new(alloc, Expr::Element(name, index))?, rest, count))
 }
 
 /// Reads an expression within another one, and the mark that closes it.
@@ -366,17 +353,9 @@ pub fn optional<'a>(
     ensures stops { IfErr result (λ e. (stack : List Symbol) →
         IsStop e (run tokens.now (Optional depth ∷ stack) 0)) }
 {
-    match tokens {
-        [
-            Token {
-                kind: Kind::Semicolon,
-                ..
-            },
-            rest @ ..,
-        ] => Ok((None, rest)),
-        _ => {
-            let (value, rest) = ended(alloc, tokens, depth)?;
-            Ok((Some(value), rest))
-        }
+    if let Some(rest) = behind(tokens, Punct::Semicolon) {
+        return Ok((None, rest));
     }
+    let (value, rest) = ended(alloc, tokens, depth)?;
+    Ok((Some(value), rest))
 }

@@ -10,6 +10,7 @@ ghost use Rattle.cilk_syntax.specs.Trees as trees;
 ghost use Rattle.cilk_syntax.specs.declared.tree.ReturnType.TheVariants as types;
 
 use crate::declarations::reducer;
+use crate::openers::{behind_bracket, behind_reducer};
 use crate::parameters::parameters;
 use crate::statements::statements;
 use cilk_syntax::marks::{Punct, behind, name, numeral, one};
@@ -59,30 +60,16 @@ fn global<'a>(name: Name, tokens: &'a [Token]) -> Result<(GlobalVariable, &'a [T
     ensures stops { IfErr result (λ e. (stack : List Symbol) →
         IsStop e (run tokens.now (Initial ∷ stack) 0)) }
 {
-    match tokens {
-        [
-            Token {
-                kind: Kind::Assign,
-                ..
-            },
-            after @ ..,
-        ] => {
-            let (value, rest) = literal(after)?;
-            Ok((GlobalVariable::Variable(name, value), rest))
-        }
-        [
-            Token {
-                kind: Kind::OpenBracket,
-                ..
-            },
-            after @ ..,
-        ] => {
-            let (length, rest) = numeral(after)?;
-            let rest = one(rest, Punct::CloseBracket)?;
-            Ok((GlobalVariable::Array(name, length), rest))
-        }
-        _ => Ok((GlobalVariable::Variable(name, Initializer::Absent), tokens)),
+    if let Some(after) = behind(tokens, Punct::Assign) {
+        let (value, rest) = literal(after)?;
+        return Ok((GlobalVariable::Variable(name, value), rest));
     }
+    if let Some(after) = behind_bracket(tokens) {
+        let (length, rest) = numeral(after)?;
+        let rest = one(rest, Punct::CloseBracket)?;
+        return Ok((GlobalVariable::Array(name, length), rest));
+    }
+    Ok((GlobalVariable::Variable(name, Initializer::Absent), tokens))
 }
 
 /// Reads global variables, after the name of the first.
@@ -187,25 +174,15 @@ fn declared<'a>(
     ensures stops { IfErr result (λ e. (stack : List Symbol) →
         IsStop e (run tokens.now (Declared ∷ stack) 0)) }
 {
-    match tokens {
-        [
-            Token {
-                kind: Kind::Open,
-                ..
-            },
-            after @ ..,
-        ] => {
-            let (list, body, end, rest) = function(alloc, after)?;
-            Ok((
-                Item::Function(ReturnType::Int, first, list, body, end),
-                rest,
-            ))
-        }
-        _ => {
-            let (list, rest) = line(alloc, first, tokens)?;
-            Ok((Item::Globals(list), rest))
-        }
+    if let Some(after) = behind(tokens, Punct::Open) {
+        let (list, body, end, rest) = function(alloc, after)?;
+        return Ok((
+            Item::Function(ReturnType::Int, first, list, body, end),
+            rest,
+        ));
     }
+    let (list, rest) = line(alloc, first, tokens)?;
+    Ok((Item::Globals(list), rest))
 }
 
 /// Reads the rest of an item that begins with `int`.
@@ -218,23 +195,13 @@ fn declaration<'a>(alloc: Global, tokens: &'a [Token]) -> Result<(Item, &'a [Tok
     ensures stops { IfErr result (λ e. (stack : List Symbol) →
         IsStop e (run tokens.now (expected.Item ∷ stack) 0)) }
 {
-    match tokens {
-        [
-            Token {
-                kind: Kind::CilkReducer,
-                ..
-            },
-            after @ ..,
-        ] => {
-            let (declared, rest) = reducer(after)?;
-            let rest = one(rest, Punct::Semicolon)?;
-            Ok((Item::Reducer(declared), rest))
-        }
-        _ => {
-            let (first, rest) = name(tokens)?;
-            declared(alloc, first, rest)
-        }
+    if let Some(after) = behind_reducer(tokens) {
+        let (declared, rest) = reducer(after)?;
+        let rest = one(rest, Punct::Semicolon)?;
+        return Ok((Item::Reducer(declared), rest));
     }
+    let (first, rest) = name(tokens)?;
+    declared(alloc, first, rest)
 }
 
 /// Reads a function that returns nothing, after its `void`.

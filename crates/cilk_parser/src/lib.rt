@@ -43,6 +43,7 @@ pub mod fault;
 pub mod input;
 mod items;
 pub mod loops;
+mod openers;
 mod parameters;
 pub mod parse;
 pub mod script;

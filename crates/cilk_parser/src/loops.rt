@@ -3,56 +3,37 @@
 ghost use Rattle.std.specs.Prelude.{◌≡◌, ◌<◌, ◌≤◌, List, ◌∷◌, IfOk, IfErr, length};
 ghost use Rattle.cilk_syntax.specs.Expected as expected;
 ghost use Rattle.cilk_syntax.specs.Expected.{Symbol, One, Named, Operand, Tail, Anew, Optional, Step, UnitStep, UnitStepRest, kind_of, run};
-ghost use Rattle.cilk_syntax.specs.Grammar.{Is, SpellsAssignment, SpellsBeginning, SpellsBounds, SpellsDefined, SpellsHead, SpellsStep, SpellsTested, SpellsUnit, SpellsUnitStep};
+ghost use Rattle.cilk_syntax.specs.Grammar.{Is, IsName, SpellsAssignment, SpellsBeginning, SpellsBounds, SpellsEnded, SpellsHead, SpellsStep, SpellsUnit, SpellsUnitStep};
 ghost use Rattle.cilk_syntax.specs.Stops.{IsStop};
+ghost use Rattle.cilk_syntax.specs.declared.token.Kind.TheVariants as kinds;
 ghost use Rattle.cilk_syntax.specs.Trees as trees;
 
 use crate::assignments::assignment;
 use crate::expressions::{ended, optional};
-use cilk_syntax::marks::{Punct, name, one, single, then_one};
+use cilk_syntax::marks::{Punct, behind, name, one, single, then_one};
 use cilk_syntax::stop::Stop;
 use cilk_syntax::token::{Kind, Token};
 use cilk_syntax::tree::{Assignment, Beginning, Bounds, Expr, Head, Name};
 use std::alloc::Global;
 
-/// Reads a variable with its value, and the semicolon.
-#[tactic(auto, unfolding(cilk_syntax::specs::Grammar::SpellsDefined))]
-fn defined<'a>(
+/// Reads a variable, this mark, an expression and the semicolon.
+fn valued<'a>(
     alloc: Global,
     tokens: &'a [Token],
     depth: u32,
+    mark: Punct,
 ) -> Result<(Name, Box<Expr>, &'a [Token]), Stop<'a>>
-    ensures tree { IfOk result (λ x. SpellsDefined x.0 (trees.expression x.1.value) tokens.now x.2.now) }
+    ensures tree { IfOk result (λ x. (ts1 ts2 : List Token) × IsName x.0 tokens.now ts1 × Is (kind_of mark) ts1 ts2 × SpellsEnded (trees.expression x.1.value) ts2 x.2.now) }
     ensures shorter { IfOk result (λ x. length x.2.now < length tokens.now) }
     ensures reads { IfOk result (λ x. (stack : List Symbol) →
-        run tokens.now (Named ∷ One Punct.Assign ∷ Operand depth ∷ Tail depth ∷ Anew ∷ One Punct.Semicolon ∷ stack) 0 ≡ run x.2.now stack 0) }
+        run tokens.now (Named ∷ One mark ∷ Operand depth ∷ Tail depth ∷ Anew ∷ One Punct.Semicolon ∷ stack) 0 ≡ run x.2.now stack 0) }
     ensures stops { IfErr result (λ e. (stack : List Symbol) →
-        IsStop e (run tokens.now (Named ∷ One Punct.Assign ∷ Operand depth ∷ Tail depth ∷ Anew ∷ One Punct.Semicolon ∷ stack) 0)) }
+        IsStop e (run tokens.now (Named ∷ One mark ∷ Operand depth ∷ Tail depth ∷ Anew ∷ One Punct.Semicolon ∷ stack) 0)) }
 {
     let (variable, rest) = name(tokens)?;
-    let rest = one(rest, Punct::Assign)?;
+    let rest = one(rest, mark)?;
     let (value, rest) = ended(alloc, rest, depth)?;
     Ok((variable, value, rest))
-}
-
-/// Reads a variable with its bound, and the semicolon.
-#[tactic(auto, unfolding(cilk_syntax::specs::Grammar::SpellsTested))]
-fn tested<'a>(
-    alloc: Global,
-    tokens: &'a [Token],
-    depth: u32,
-) -> Result<(Name, Box<Expr>, &'a [Token]), Stop<'a>>
-    ensures tree { IfOk result (λ x. SpellsTested x.0 (trees.expression x.1.value) tokens.now x.2.now) }
-    ensures shorter { IfOk result (λ x. length x.2.now < length tokens.now) }
-    ensures reads { IfOk result (λ x. (stack : List Symbol) →
-        run tokens.now (Named ∷ One Punct.Less ∷ Operand depth ∷ Tail depth ∷ Anew ∷ One Punct.Semicolon ∷ stack) 0 ≡ run x.2.now stack 0) }
-    ensures stops { IfErr result (λ e. (stack : List Symbol) →
-        IsStop e (run tokens.now (Named ∷ One Punct.Less ∷ Operand depth ∷ Tail depth ∷ Anew ∷ One Punct.Semicolon ∷ stack) 0)) }
-{
-    let (variable, rest) = name(tokens)?;
-    let rest = one(rest, Punct::Less)?;
-    let (bound, rest) = ended(alloc, rest, depth)?;
-    Ok((variable, bound, rest))
 }
 
 /// Reads `++` or `+= 1`.
@@ -116,8 +97,20 @@ fn unit_step<'a>(tokens: &'a [Token]) -> Result<(Name, &'a [Token]), Stop<'a>>
     }
 }
 
+/// Reads an increment by 1 and the parenthesis, and returns the name in it.
+fn last_step<'a>(tokens: &'a [Token]) -> Result<(Name, &'a [Token]), Stop<'a>>
+    ensures tree { IfOk result (λ x. (ts : List Token) × SpellsUnitStep x.0 tokens.now ts × Is kinds.Close ts x.1.now) }
+    ensures shorter { IfOk result (λ x. length x.1.now < length tokens.now) }
+    ensures reads { IfOk result (λ x. (stack : List Symbol) →
+        run tokens.now (UnitStep ∷ One Punct.Close ∷ stack) 0 ≡ run x.1.now stack 0) }
+    ensures stops { IfErr result (λ e. (stack : List Symbol) →
+        IsStop e (run tokens.now (UnitStep ∷ One Punct.Close ∷ stack) 0)) }
+{
+    let (name, rest) = unit_step(tokens)?;
+    then_one(name, rest, Punct::Close)
+}
+
 /// Reads the head of a `cilk_for`.
-#[tactic(auto, unfolding(cilk_syntax::specs::Grammar::SpellsBounds))]
 pub fn bounds<'a>(
     alloc: Global,
     tokens: &'a [Token],
@@ -134,10 +127,9 @@ pub fn bounds<'a>(
 {
     let rest = one(tokens, Punct::Open)?;
     let rest = one(rest, Punct::Int)?;
-    let (variable, low, rest) = defined(alloc, rest, depth)?;
-    let (tested, high, rest) = tested(alloc, rest, depth)?;
-    let (stepped, rest) = unit_step(rest)?;
-    let rest = one(rest, Punct::Close)?;
+    let (variable, low, rest) = valued(alloc, rest, depth, Punct::Assign)?;
+    let (tested, high, rest) = valued(alloc, rest, depth, Punct::Less)?;
+    let (stepped, rest) = last_step(rest)?;
     let bounds = Bounds {
         variable,
         low,
@@ -149,7 +141,7 @@ pub fn bounds<'a>(
 }
 
 /// Reads an assignment, and the mark after it.
-fn closed<'a>(
+pub fn closed<'a>(
     alloc: Global,
     tokens: &'a [Token],
     depth: u32,
@@ -168,7 +160,7 @@ fn closed<'a>(
 }
 
 /// Reads the first part of the head of a `for`, and the semicolon.
-#[tactic(auto, using(cilk_syntax::proofs::Runs::begins_assigning), unfolding(cilk_syntax::specs::Grammar::SpellsBeginning))]
+#[tactic(auto, using(cilk_syntax::proofs::Runs::begins_assigning), unfolding(cilk_syntax::specs::Grammar::SpellsBeginning, cilk_syntax::specs::Grammar::SpellsDefined))]
 fn beginning<'a>(
     alloc: Global,
     tokens: &'a [Token],
@@ -182,29 +174,15 @@ fn beginning<'a>(
     ensures stops { IfErr result (λ e. (stack : List Symbol) →
         IsStop e (run tokens.now (expected.Beginning depth ∷ stack) 0)) }
 {
-    match tokens {
-        [
-            Token {
-                kind: Kind::Semicolon,
-                ..
-            },
-            rest @ ..,
-        ] => Ok((None, rest)),
-        [
-            Token {
-                kind: Kind::Int,
-                ..
-            },
-            after @ ..,
-        ] => {
-            let (variable, value, rest) = defined(alloc, after, depth)?;
-            Ok((Some(Beginning::Declares(variable, value)), rest))
-        }
-        _ => {
-            let (first, rest) = closed(alloc, tokens, depth, Punct::Semicolon)?;
-            Ok((Some(Beginning::Assigns(first)), rest))
-        }
+    if let Some(rest) = behind(tokens, Punct::Semicolon) {
+        return Ok((None, rest));
     }
+    if let Some(after) = behind(tokens, Punct::Int) {
+        let (variable, value, rest) = valued(alloc, after, depth, Punct::Assign)?;
+        return Ok((Some(Beginning::Declares(variable, value)), rest));
+    }
+    let (first, rest) = closed(alloc, tokens, depth, Punct::Semicolon)?;
+    Ok((Some(Beginning::Assigns(first)), rest))
 }
 
 /// Reads the last part of the head of a `for`, and the parenthesis.
@@ -222,19 +200,11 @@ fn step<'a>(
     ensures stops { IfErr result (λ e. (stack : List Symbol) →
         IsStop e (run tokens.now (Step depth ∷ stack) 0)) }
 {
-    match tokens {
-        [
-            Token {
-                kind: Kind::Close,
-                ..
-            },
-            rest @ ..,
-        ] => Ok((None, rest)),
-        _ => {
-            let (step, rest) = closed(alloc, tokens, depth, Punct::Close)?;
-            Ok((Some(step), rest))
-        }
+    if let Some(rest) = behind(tokens, Punct::Close) {
+        return Ok((None, rest));
     }
+    let (step, rest) = closed(alloc, tokens, depth, Punct::Close)?;
+    Ok((Some(step), rest))
 }
 
 /// Reads the head of a `for`.

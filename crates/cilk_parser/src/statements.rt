@@ -3,18 +3,18 @@
 ghost use Rattle.std.specs.Prelude.{◌≡◌, ◌+◌, ◌<◌, ◌≤◌, false, List, ◌∷◌, IfOk, IfErr, length};
 ghost use Rattle.cilk_syntax.specs.Expected;
 ghost use Rattle.cilk_syntax.specs.Expected.{Symbol, One, Named, Operand, Tail, Anew, Optional, Statement, Statements, ElsePart, AfterName, Subscript, Arguments, UnitStep, Step, run, first_nests};
-ghost use Rattle.cilk_syntax.specs.Grammar.{Is, SpellsLvalue, SpellsStmt, SpellsAll, SpellsNamed, SpellsNamedRest, SpellsRest, SpellsUpdate};
+ghost use Rattle.cilk_syntax.specs.Grammar.{SpellsStmt, SpellsAll, SpellsNamed, SpellsNamedRest, SpellsRest, SpellsUpdate};
 ghost use Rattle.cilk_syntax.specs.Stops.{IsStop};
 ghost use Rattle.cilk_syntax.specs.declared.token.Kind.TheVariants as kinds;
 ghost use Rattle.cilk_syntax.specs.Trees as trees;
 
-use crate::assignments::{assigned, target};
+use crate::assignments::assigned;
 use crate::calls::{Source, arguments, call, right_side};
 use crate::declarations::declaration;
 use crate::expressions::{expr, optional, parenthesized};
-use crate::loops::{bounds, loop_head};
+use crate::loops::{bounds, closed, loop_head};
 use cilk_syntax::firsts::{begins_statement, may_begin};
-use cilk_syntax::marks::{Punct, name, one, then_one};
+use cilk_syntax::marks::{Punct, behind, name, one, then_one};
 use cilk_syntax::stop::{DEEPEST, Stop};
 use cilk_syntax::token::{Kind, Token};
 use cilk_syntax::tree::{Assignment, Call, Expr, Lvalue, Name, Stmt};
@@ -110,45 +110,33 @@ fn named<'a>(
     ensures stops { IfErr result (λ e. (stack : List Symbol) →
         IsStop e (run tokens.now (AfterName depth ∷ stack) 0)) }
 {
-    match tokens {
-        [
-            Token {
-                kind: Kind::Open,
-                ..
-            },
-            after @ ..,
-        ] => called(alloc, name, after, depth),
-        [
-            Token {
-                kind: Kind::Assign,
-                ..
-            },
-            after @ ..,
-        ] => taken(alloc, name, after, depth),
-        _ => {
-            let (assignment, rest) = assigned(alloc, name, tokens, depth)?;
-            let rest = one(rest, Punct::Semicolon)?;
-            Ok((Stmt::Assign(Box::new(alloc, assignment)?), rest))
-        }
+    if let Some(after) = behind(tokens, Punct::Open) {
+        return called(alloc, name, after, depth);
     }
+    if let Some(after) = behind(tokens, Punct::Assign) {
+        return taken(alloc, name, after, depth);
+    }
+    let (assignment, rest) = assigned(alloc, name, tokens, depth)?;
+    let rest = one(rest, Punct::Semicolon)?;
+    Ok((Stmt::Assign(Box::new(alloc, assignment)?), rest))
 }
 
-/// Reads a place and the semicolon.
-fn ended_target<'a>(
+/// Reads an assignment and the semicolon.
+fn ended_assignment<'a>(
     alloc: Global,
     tokens: &'a [Token],
     depth: u32,
-) -> Result<(Lvalue, &'a [Token]), Stop<'a>>
+) -> Result<(Stmt, &'a [Token]), Stop<'a>>
     requires { depth ≤ 64 }
-    ensures tree { IfOk result (λ x. (ts : List Token) × SpellsLvalue (trees.place x.0) tokens.now ts × Is kinds.Semicolon ts x.1.now) }
+    ensures tree { IfOk result (λ x. SpellsStmt (trees.statement x.0) tokens.now x.1.now) }
     ensures shorter { IfOk result (λ x. length x.1.now < length tokens.now) }
     ensures reads { IfOk result (λ x. (stack : List Symbol) →
-        run tokens.now (Named ∷ Subscript depth ∷ One Punct.Semicolon ∷ stack) 0 ≡ run x.1.now stack 0) }
+        run tokens.now (Expected.Assignment depth ∷ One Punct.Semicolon ∷ stack) 0 ≡ run x.1.now stack 0) }
     ensures stops { IfErr result (λ e. (stack : List Symbol) →
-        IsStop e (run tokens.now (Named ∷ Subscript depth ∷ One Punct.Semicolon ∷ stack) 0)) }
+        IsStop e (run tokens.now (Expected.Assignment depth ∷ One Punct.Semicolon ∷ stack) 0)) }
 {
-    let (place, rest) = target(alloc, tokens, depth)?;
-    then_one(place, rest, Punct::Semicolon)
+    let (assignment, rest) = closed(alloc, tokens, depth, Punct::Semicolon)?;
+    Ok((Stmt::Assign(Box::new(alloc, assignment)?), rest))
 }
 
 /// Reads a spawned call, after its `cilk_spawn` at this place.
@@ -216,16 +204,8 @@ fn simple<'a>(
             };
             named(alloc, name, rest, depth)
         }
-        Kind::Increment => {
-            let (target, rest) = ended_target(alloc, rest, depth)?;
-            let assignment = Box::new(alloc, Assignment::Increment(target))?;
-            Ok((Stmt::Assign(assignment), rest))
-        }
-        Kind::Decrement => {
-            let (target, rest) = ended_target(alloc, rest, depth)?;
-            let assignment = Box::new(alloc, Assignment::Decrement(target))?;
-            Ok((Stmt::Assign(assignment), rest))
-        }
+        Kind::Increment => ended_assignment(alloc, tokens, depth),
+        Kind::Decrement => ended_assignment(alloc, tokens, depth),
         Kind::CilkSpawn => spawned(alloc, first.at, rest, depth),
         Kind::CilkSync => {
             let rest = one(rest, Punct::Semicolon)?;
@@ -287,6 +267,24 @@ fn statement<'a>(
     }
 }
 
+/// Reads a statement that is part of another one, into a box.
+#[cycle(statements)]
+fn body<'a>(
+    alloc: Global,
+    tokens: &'a [Token],
+    depth: u32,
+) -> Result<(Box<Stmt>, &'a [Token]), Stop<'a>>
+    ensures tree { IfOk result (λ x. SpellsStmt (trees.statement x.0.value) tokens.now x.1.now) }
+    ensures shorter { IfOk result (λ x. length x.1.now < length tokens.now) }
+    ensures reads { IfOk result (λ x. (stack : List Symbol) →
+        run tokens.now (Statement depth ∷ stack) 0 ≡ run x.1.now stack 0) }
+    ensures stops { IfErr result (λ e. (stack : List Symbol) →
+        IsStop e (run tokens.now (Statement depth ∷ stack) 0)) }
+{
+    let (inner, rest) = statement(alloc, tokens, depth)?;
+    Ok((Box::new(alloc, inner)?, rest))
+}
+
 /// Reads the rest of a `while` at this place.
 #[cycle(statements)]
 fn while_loop<'a>(
@@ -304,8 +302,8 @@ fn while_loop<'a>(
         IsStop e (run tokens.now (One Punct.Open ∷ Operand depth ∷ Tail depth ∷ Anew ∷ One Punct.Close ∷ Statement (depth + 1) ∷ stack) 0)) }
 {
     let (test, rest) = parenthesized(alloc, tokens, depth)?;
-    let (body, rest) = statement(alloc, rest, depth + 1)?;
-    Ok((Stmt::While(at, test, Box::new(alloc, body)?), rest))
+    let (body, rest) = body(alloc, rest, depth + 1)?;
+    Ok((Stmt::While(at, test, body), rest))
 }
 
 /// Reads the rest of a `cilk_for` at this place.
@@ -328,8 +326,8 @@ fn parallel_loop<'a>(
 {
     let (bounds, rest) = bounds(alloc, tokens, depth)?;
     let head = Box::new(alloc, bounds)?;
-    let (body, rest) = statement(alloc, rest, depth + 1)?;
-    Ok((Stmt::ParallelFor(at, head, Box::new(alloc, body)?), rest))
+    let (body, rest) = body(alloc, rest, depth + 1)?;
+    Ok((Stmt::ParallelFor(at, head, body), rest))
 }
 
 /// Reads the rest of a `for` at this place.
@@ -350,8 +348,8 @@ fn for_loop<'a>(
 {
     let (head, rest) = loop_head(alloc, tokens, depth)?;
     let head = Box::new(alloc, head)?;
-    let (body, rest) = statement(alloc, rest, depth + 1)?;
-    Ok((Stmt::For(at, head, Box::new(alloc, body)?), rest))
+    let (body, rest) = body(alloc, rest, depth + 1)?;
+    Ok((Stmt::For(at, head, body), rest))
 }
 
 /// Reads the rest of an `if` at this place, with its `else` if one follows.
@@ -371,8 +369,7 @@ fn choice<'a>(
         IsStop e (run tokens.now (One Punct.Open ∷ Operand depth ∷ Tail depth ∷ Anew ∷ One Punct.Close ∷ Statement (depth + 1) ∷ ElsePart (depth + 1) ∷ stack) 0)) }
 {
     let (test, rest) = parenthesized(alloc, tokens, depth)?;
-    let (first, rest) = statement(alloc, rest, depth + 1)?;
-    let first = Box::new(alloc, first)?;
+    let (first, rest) = body(alloc, rest, depth + 1)?;
     match rest {
         [
             Token {
@@ -381,11 +378,8 @@ fn choice<'a>(
             },
             after @ ..,
         ] => {
-            let (second, rest) = statement(alloc, after, depth + 1)?;
-            Ok((
-                Stmt::IfElse(at, test, first, Box::new(alloc, second)?),
-                rest,
-            ))
+            let (second, rest) = body(alloc, after, depth + 1)?;
+            Ok((Stmt::IfElse(at, test, first, second), rest))
         }
         _ => Ok((Stmt::If(at, test, first), rest)),
     }

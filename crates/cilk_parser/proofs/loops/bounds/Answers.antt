@@ -1,6 +1,7 @@
 use Rattle.std.proofs.Common.{ℕ, List, ◌∷◌, ◌∙◌}
 use Rattle.cilk_syntax.specs.declared.marks.Punct.TheVariants as marks
 use Rattle.cilk_syntax.specs.Expected.{Symbol, One, Named, Operand, Tail, Anew, UnitStep}
+use Rattle.cilk_syntax.specs.Grammar.{SpellsBounds, SpellsDefined, SpellsTested}
 use Rattle.cilk_syntax.proofs.Stopping.{handed, along}
 use Rattle.cilk_parser.proofs.loops.bounds.Goals as goal
 
@@ -26,12 +27,21 @@ returns-in_err-stepped-clause-stops c =
     handed c.from_residual-in_err-stepped.result c.in_err-stepped.field-0.0 _ c.from_residual-in_err-stepped.ensures.1
     (λ stack. along _ c.args.tokens.now c.in_ok-tested.rest.now (One marks.Open ∷ One marks.Int ∷ first d stack) (UnitStep ∷ One marks.Close ∷ stack)
     (c.in_ok-rest.ensures.reads (One marks.Int ∷ first d stack) 0 ∙ (c.in_ok-rest-2.ensures.reads (first d stack) 0 ∙ (c.in_ok-variable.ensures.reads (second d stack) ∙ c.in_ok-tested.ensures.reads (UnitStep ∷ One marks.Close ∷ stack))))
-    (c.in_err-stepped.ensures.stops (One marks.Close ∷ stack)))
+    (c.in_err-stepped.ensures.stops stack))
 
-pub returns-in_err-rest-3-clause-stops : goal.returns-in_err-rest-3-clause-stops
-returns-in_err-rest-3-clause-stops c =
-    let d = c.args.depth in
-    handed c.from_residual-in_err-rest-3.result c.in_err-rest-3.field-0.0 _ c.from_residual-in_err-rest-3.ensures.1
-    (λ stack. along _ c.args.tokens.now c.in_ok-stepped.rest.now (One marks.Open ∷ One marks.Int ∷ first d stack) (One marks.Close ∷ stack)
-    (c.in_ok-rest.ensures.reads (One marks.Int ∷ first d stack) 0 ∙ (c.in_ok-rest-2.ensures.reads (first d stack) 0 ∙ (c.in_ok-variable.ensures.reads (second d stack) ∙ (c.in_ok-tested.ensures.reads (UnitStep ∷ One marks.Close ∷ stack) ∙ c.in_ok-stepped.ensures.reads (One marks.Close ∷ stack)))))
-    (c.in_err-rest-3.ensures.stops stack 0))
+pub returns-clause-tree : goal.returns-clause-tree
+unfolding SpellsBounds SpellsDefined SpellsTested
+returns-clause-tree c =
+    let step = c.in_ok-stepped.ensures.tree in (
+      c.in_ok-rest.rest.now,
+      c.in_ok-rest-2.rest.now,
+      c.in_ok-variable.rest.now,
+      c.in_ok-tested.rest.now,
+      step.0,
+      c.in_ok-rest.ensures.token,
+      c.in_ok-rest-2.ensures.token,
+      c.in_ok-variable.ensures.tree,
+      c.in_ok-tested.ensures.tree,
+      step.1,
+      step.2,
+    )

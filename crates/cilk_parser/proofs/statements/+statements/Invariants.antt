@@ -7,6 +7,9 @@ use Rattle.cilk_parser.proofs.statements.+statements.Given as goal
 abbrev pub decreases-statement : goal.decreases-statement
 decreases-statement l = 4 * length l.tokens.now + 1
 
+abbrev pub decreases-body : goal.decreases-body
+decreases-body l = 4 * length l.tokens.now + 2
+
 abbrev pub decreases-for_loop : goal.decreases-for_loop
 decreases-for_loop l = 4 * length l.tokens.now
 
