@@ -23,6 +23,7 @@ TEXT = re.compile(r'const (\w+): &str =\s*"((?:[^"\\]|\\.)*)"', re.S)
 GAP = re.compile(r"\{\w?\}")
 ESCAPES = {"n": "\n", "t": "\t", "0": "\0"}
 MEANT = "ALIASES"  # its right sides are words that may be meant, and no hints
+HELP = "SHARED"  # its right sides are lines of help
 
 
 def read(path):
@@ -65,6 +66,8 @@ def rows():
     named = {left: right for _, left, right in rows_of(f"{MESSAGES}/sentences.rt", " => ")}
     for path in sorted(glob.glob(f"{MESSAGES}/*.rt")):
         for table, left, right in rows_of(path, " => "):
+            if table == HELP:
+                continue
             if table == MEANT or not re.fullmatch(r"[a-z]+", right):
                 hint = GAP.sub(right, meant) if table == MEANT else named.get(right, right)
                 yield os.path.basename(path), table, left, f": {form_of(hint)}$"

@@ -124,7 +124,7 @@ impl<'t, 'a> Site<'t, 'a> {
         }
     }
 
-    // Whether the first value of a global begins behind a mark.
+    // Whether the first value of a global begins after a mark.
     fn opens_global(&self, mark: usize) -> bool {
         self.is_like(mark, "=")
             && self.is_like(

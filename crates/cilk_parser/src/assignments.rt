@@ -8,7 +8,7 @@ ghost use Rattle.cilk_syntax.specs.Stops.{IsStop};
 ghost use Rattle.cilk_syntax.specs.Trees as trees;
 
 use crate::expressions::expr;
-use crate::openers::behind_bracket;
+use crate::openers::after_bracket;
 use cilk_syntax::marks::{Punct, name, then_one};
 use cilk_syntax::stop::Stop;
 use cilk_syntax::token::{Kind, Token};
@@ -32,7 +32,7 @@ fn place<'a>(
     ensures stops { IfErr result (λ e. (stack : List Symbol) →
         IsStop e (run tokens.now (Subscript depth ∷ stack) 0)) }
 {
-    let Some(after) = behind_bracket(tokens) else {
+    let Some(after) = after_bracket(tokens) else {
         return Ok((Lvalue::Variable(name), tokens));
     };
     let (index, rest) = expr(alloc, after, depth + 1)?;

@@ -8,7 +8,7 @@ ghost use Rattle.cilk_syntax.specs.declared.token.Kind.TheVariants as kinds;
 ghost use Rattle.cilk_syntax.specs.Trees as trees;
 
 use crate::calls::{Source, right_side};
-use crate::openers::behind_reducer;
+use crate::openers::after_reducer;
 use cilk_syntax::marks::{Punct, behind, name, one};
 use cilk_syntax::stop::Stop;
 use cilk_syntax::token::{Kind, Token};
@@ -146,7 +146,7 @@ pub fn declaration<'a>(
     ensures stops { IfErr result (λ e. (stack : List Symbol) →
         IsStop e (run tokens.now (Declaration depth ∷ stack) 0)) }
 {
-    if let Some(after) = behind_reducer(tokens) {
+    if let Some(after) = after_reducer(tokens) {
         let (declared, rest) = reducer(after)?;
         let rest = one(rest, Punct::Semicolon)?;
         return Ok((Stmt::Reducer(declared), rest));

@@ -11,7 +11,7 @@ ghost use Rattle.cilk_syntax.specs.Stops.{IsStop, NoOperator};
 ghost use Rattle.cilk_syntax.specs.declared.token.Kind.TheVariants as kinds;
 ghost use Rattle.cilk_syntax.specs.Trees.{expression, optional};
 
-use crate::openers::behind_bracket;
+use crate::openers::after_bracket;
 use cilk_syntax::firsts::begins_part;
 use cilk_syntax::marks::{Punct, behind, name, one, then_one};
 use cilk_syntax::operators::next_operator;
@@ -139,7 +139,7 @@ fn operand<'a>(
                 at: first.at,
                 end: first.end,
             };
-            behind_name(alloc, name, rest, depth, operators)
+            after_name(alloc, name, rest, depth, operators)
         }
         Kind::Minus => signed(alloc, UnaryOperator::Negate, tokens, rest, depth, operators),
         Kind::Not => signed(alloc, UnaryOperator::Not, tokens, rest, depth, operators),
@@ -236,7 +236,7 @@ fn input<'a>(
 /// Reads a variable or an element of an array, after its name.
 #[cycle(expressions)]
 #[tactic(auto, using(cilk_syntax::proofs::Runs::no_index))]
-fn behind_name<'a>(
+fn after_name<'a>(
     alloc: Global,
     name: Name,
     tokens: &'a [Token],
@@ -254,7 +254,7 @@ fn behind_name<'a>(
     ensures stops { IfErr result (λ e. (stack : List Symbol) →
         IsStop e (run tokens.now (Index depth ∷ stack) operators)) }
 {
-    let Some(after) = behind_bracket(tokens) else {
+    let Some(after) = after_bracket(tokens) else {
         return Ok((Box::new(alloc, Expr::Variable(name))?, tokens, operators));
     };
     let (index, rest, count) = nested(alloc, after, depth + 1, operators, Punct::CloseBracket)?;

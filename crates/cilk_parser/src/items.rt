@@ -10,7 +10,7 @@ ghost use Rattle.cilk_syntax.specs.Trees as trees;
 ghost use Rattle.cilk_syntax.specs.declared.tree.ReturnType.TheVariants as types;
 
 use crate::declarations::reducer;
-use crate::openers::{behind_bracket, behind_reducer};
+use crate::openers::{after_bracket, after_reducer};
 use crate::parameters::parameters;
 use crate::statements::statements;
 use cilk_syntax::marks::{Punct, behind, name, numeral, one};
@@ -64,7 +64,7 @@ fn global<'a>(name: Name, tokens: &'a [Token]) -> Result<(GlobalVariable, &'a [T
         let (value, rest) = literal(after)?;
         return Ok((GlobalVariable::Variable(name, value), rest));
     }
-    if let Some(after) = behind_bracket(tokens) {
+    if let Some(after) = after_bracket(tokens) {
         let (length, rest) = numeral(after)?;
         let rest = one(rest, Punct::CloseBracket)?;
         return Ok((GlobalVariable::Array(name, length), rest));
@@ -195,7 +195,7 @@ fn declaration<'a>(alloc: Global, tokens: &'a [Token]) -> Result<(Item, &'a [Tok
     ensures stops { IfErr result (λ e. (stack : List Symbol) →
         IsStop e (run tokens.now (expected.Item ∷ stack) 0)) }
 {
-    if let Some(after) = behind_reducer(tokens) {
+    if let Some(after) = after_reducer(tokens) {
         let (declared, rest) = reducer(after)?;
         let rest = one(rest, Punct::Semicolon)?;
         return Ok((Item::Reducer(declared), rest));

@@ -8,7 +8,7 @@ ghost use Rattle.cilk_syntax.specs.declared.token.Kind.TheVariants as kinds;
 use cilk_syntax::token::{Kind, Token};
 
 /// Reads an opening bracket if it is the first token.
-pub fn behind_bracket<'a>(tokens: &'a [Token]) -> Option<&'a [Token]>
+pub fn after_bracket<'a>(tokens: &'a [Token]) -> Option<&'a [Token]>
     ensures found { IfSome result (λ rest. Is kinds.OpenBracket tokens.now rest.now) }
     ensures shorter { IfSome result (λ rest. length rest.now < length tokens.now) }
     ensures none { IfNone result (NotFirst kinds.OpenBracket tokens.now) }
@@ -26,7 +26,7 @@ pub fn behind_bracket<'a>(tokens: &'a [Token]) -> Option<&'a [Token]>
 }
 
 /// Reads a `cilk_reducer` if it is the first token.
-pub fn behind_reducer<'a>(tokens: &'a [Token]) -> Option<&'a [Token]>
+pub fn after_reducer<'a>(tokens: &'a [Token]) -> Option<&'a [Token]>
     ensures found { IfSome result (λ rest. Is kinds.CilkReducer tokens.now rest.now) }
     ensures shorter { IfSome result (λ rest. length rest.now < length tokens.now) }
     ensures none { IfNone result (NotFirst kinds.CilkReducer tokens.now) }

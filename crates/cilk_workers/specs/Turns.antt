@@ -52,7 +52,7 @@ pub record HasEnded (y : SharedValue) (p : PieceValue) (value : ℤ) : Type 0 wh
   pub followed : let s = event_order_in y in IsFollowed s (length s.events)
   pub result : IsResult y value
 
--- A child isn't in the piece that the `sync` right behind the piece awaits: its `end` is before the
+-- A child isn't in the piece that the `sync` right after the piece awaits: its `end` is before the
 -- piece. It was spawned in the block that this `sync` ends.
 pub record IsOwed (s : EventOrder) (p : PieceValue) : Type 0 where
   pub spawn_at : ℕ

@@ -11,8 +11,8 @@ decreases-at_level l = 16 * length l.tokens.now + (8 - l.wanted)
 abbrev pub decreases-nested : goal.decreases-nested
 decreases-nested l = 16 * length l.tokens.now + 9
 
-abbrev pub decreases-behind_name : goal.decreases-behind_name
-decreases-behind_name l = 16 * length l.tokens.now
+abbrev pub decreases-after_name : goal.decreases-after_name
+decreases-after_name l = 16 * length l.tokens.now
 
 abbrev pub decreases-signed : goal.decreases-signed
 decreases-signed l = 16 * length l.tokens.now
