@@ -1,17 +1,24 @@
--- Where a worker is held up at a `sync`: `owed`, `owed_in`.
+-- Where a worker is held up.
+--
+-- - `of_replay`: what a replay says of its event order, it says of the run's;
+-- - `owed`, `owed_in`: at a `sync` a child of the block is elsewhere;
+-- - `has_spawn`: at the `resume` after a spawn, the piece has the spawn.
 use Rattle.std.proofs.Common.{◌≡◌, ◌⊎◌, inl, inr, ⊎_elim, ℕ, ◌+◌, ◌<◌, ◌≤◌, List, [], ◌∷◌, length, Option, Some, ap, sym, subst, arith}
 use mathlib.Core.Logic.{dite}
 use native.Mathlib.Decide.{dec_lt}
 use Rattle.cilk_types.specs.declared.event.Event.{Event}
 use Rattle.cilk_types.specs.declared.event.Event.TheVariants.{Sync}
 use Rattle.cilk_replay.specs.Awaited.{SyncsAwaitSpawns}
+use Rattle.cilk_replay.specs.Replays.{ReplayValue}
+use Rattle.cilk_replay.specs.Starts.{RangesHoldSpawns}
 use Rattle.cilk_shared.specs.Pieces.{PieceValue, segment_of}
-use Rattle.cilk_shared.specs.Values.{MayPass}
+use Rattle.cilk_shared.specs.Rule.{IsStart, Whole}
+use Rattle.cilk_shared.specs.Values.{MayPass, YardValue}
 use Rattle.cilk_tree.specs.Reach.{Among}
 use Rattle.cilk_tree.specs.declared.event_order.EventOrder.{EventOrder}
-use Rattle.cilk_tree.specs.Word.{event, plain, predecessors_of, word_event, word_step}
+use Rattle.cilk_tree.specs.Word.{event, plain, predecessors_of, resume, word_event, word_step}
 use Rattle.cilk_tree.proofs.Reaches.{among_first, among_here, among_more, among_none}
-use Rattle.cilk_workers.specs.Rows.{IsGood}
+use Rattle.cilk_workers.specs.Rows.{IsGood, yard_of}
 use Rattle.cilk_workers.specs.Shared.{SharedValue, event_order_in}
 use Rattle.cilk_workers.specs.Turns.{IsOwed}
 
@@ -45,3 +52,12 @@ owed_in y p good law more is held =
     let o = good.0 in
     subst (λ (s : EventOrder). IsOwed s p) o.1
     (owed p (subst SyncsAwaitSpawns (sym o.1) law) good.1 (subst (λ (s : EventOrder). p.upto < length s.events) (sym o.1) more) (subst (λ (s : EventOrder). event s p.upto ≡ Some Sync) (sym o.1) is) held)
+
+pub of_replay : (P : EventOrder → Type 0) (y : SharedValue) (u : ReplayValue) → u ≡ y.replay → (let v = y.replay in v.yard ≡ yard_of y.run) → P (let z = u.yard in z.event_order) → P (event_order_in y)
+of_replay P y u same yard h = subst (λ (z : YardValue). P z.event_order) yard (subst (λ (v : ReplayValue). let z = v.yard in P z.event_order) same h)
+
+pub has_spawn : (y : SharedValue) (q : PieceValue) (k : ℕ) → IsGood y.run q → (q.from < q.upto → IsStart q.event_order q.from) → Whole q.event_order q.from q.upto → RangesHoldSpawns (event_order_in y)
+    → word_step (event_order_in y) q.upto ≡ resume k → q.from ≤ k
+has_spawn y q k good begins whole law is =
+    let o = good.0 in
+    law q.from q.upto k (subst (λ (s : EventOrder). Whole s q.from q.upto) o.1 whole) (subst (λ (s : EventOrder). IsStart s q.from) o.1 (begins good.1)) good.1 is

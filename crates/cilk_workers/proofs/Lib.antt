@@ -6,6 +6,7 @@ pub mod Boxes
 pub mod Due
 pub mod Ending
 pub mod Held
+pub mod Histories
 pub mod Keys
 pub mod Merges
 pub mod Moves

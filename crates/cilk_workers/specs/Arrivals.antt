@@ -1,5 +1,5 @@
 -- Steals and arrivals at the boxes of a shelf.
-use Rattle.std.specs.Prelude.{◌≡◌, ℕ, Option, Some, None}
+use Rattle.std.specs.Prelude.{◌≡◌, ◌≤◌, ℕ, Option, Some, None}
 use Rattle.cilk_types.specs.declared.event.Event.TheVariants.{Sync}
 use Rattle.cilk_shared.specs.Pieces.{PieceValue}
 use Rattle.cilk_tree.specs.Columns.{IsSpawnOf}
@@ -14,10 +14,10 @@ use Rattle.cilk_workers.specs.declared.locks.Arrival.{Arrival}
 use Rattle.cilk_workers.specs.declared.locks.Met.{Met}
 use Rattle.cilk_workers.specs.declared.locks.Met.TheVariants as mets
 
--- a piece without a chain ends right before the `resume` after a spawn, one with a chain at a `sync`
--- in whose block there is a spawn
+-- A piece without a chain has a spawn, and ends right before the `resume` after it. One with a chain
+-- ends at a `sync`, in whose block there is a spawn. So a block's first event comes before what arrives.
 abbrev pub EndsWhereItWaits : EventOrder → PieceValue → Option ChainValue → Type 0
-EndsWhereItWaits s p None = (k : ℕ) × (word_step s p.upto ≡ resume k)
+EndsWhereItWaits s p None = (k : ℕ) × (word_step s p.upto ≡ resume k) × (p.from ≤ k)
 EndsWhereItWaits s p (Some c) = (event s p.upto ≡ Some Sync) × ((k : ℕ) × IsSpawnOf s p.upto k)
 
 -- In the box of the block, and in no other, it is recorded that the continuation of the spawn at k,

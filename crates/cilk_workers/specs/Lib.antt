@@ -6,6 +6,7 @@ pub mod Boxes
 pub mod Gates
 pub mod Activities
 pub mod Held
+pub mod Histories
 pub mod Keys
 pub mod Locks
 pub mod Names

@@ -1,5 +1,5 @@
 -- The work of a worker, and the outcomes of a turn.
-use Rattle.std.specs.Prelude.{◌≡◌, ◌+◌, ◌<◌, ◌⊎◌, ℕ, ℤ, List, length, reverse, Some}
+use Rattle.std.specs.Prelude.{◌≡◌, ◌+◌, ◌<◌, ◌≤◌, ◌⊎◌, ℕ, ℤ, List, length, reverse, Some}
 use Rattle.cilk_types.specs.declared.event.Event.{Event}
 use Rattle.cilk_types.specs.declared.event.Event.TheVariants as events
 use Rattle.cilk_program.specs.SerialRun.{Transcript}
@@ -65,11 +65,11 @@ pub record IsOwed (s : EventOrder) (p : PieceValue) : Type 0 where
 abbrev pub IsHeldUp : SharedValue → PieceValue → Type 0
 IsHeldUp y p = (event (event_order_in y) p.upto ≡ Some events.Sync) × (MayPass (segment_of p) → ⊥) × IsOwed (event_order_in y) p
 
--- the worker can't continue: the piece's next event is the `resume` after a spawn; and the piece has
--- one event more, the `end` of the spawned child, or is unchanged
+-- the worker can't continue: the piece's next event is the `resume` after a spawn, which is in the
+-- piece; and the piece has one event more, the `end` of the spawned child, or is unchanged
 abbrev pub GoesNoFurther : SharedValue → PieceValue → PieceValue → Type 0
 GoesNoFurther y before p =
-    ((k : ℕ) × (word_step (event_order_in y) p.upto ≡ resume k))
+    ((k : ℕ) × (word_step (event_order_in y) p.upto ≡ resume k) × (p.from ≤ k))
     × (((p ≡ grown before) × (event (event_order_in y) before.upto ≡ Some events.End)) ⊎ (p ≡ before))
 
 -- The outcomes of a turn. Either the work is good and has one event more, or the worker has an end.

@@ -61,7 +61,11 @@ pub(crate) fn taken(shared: &Shared<'_>, work: &mut Work, ticket: Pos) -> Turn
             work.chain.answer(shared.replay(), Answer::Done);
             Turn::Goes
         }
-        Taken::No(_) => Turn::Ended,
+        Taken::No(_) => {
+            work.piece.laws();
+            shared.replay().holds_spawns();
+            Turn::Ended
+        }
     }
 }
 
@@ -77,6 +81,8 @@ pub(crate) fn ended(alloc: Global, shared: &Shared<'_>, work: &mut Work, frame: 
     if work.chain.end(alloc, shared.replay()) {
         Turn::Goes
     } else {
+        work.piece.laws();
+        shared.replay().holds_spawns();
         Turn::Ended
     }
 }

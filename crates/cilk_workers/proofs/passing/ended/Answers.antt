@@ -1,9 +1,11 @@
 use Rattle.std.proofs.Common.{inl}
 use Rattle.cilk_types.specs.declared.event.Event.TheVariants.{End}
+use Rattle.cilk_replay.specs.Starts.{RangesHoldSpawns}
 use Rattle.cilk_tree.specs.declared.kind.Kind.TheVariants as kinds
 use Rattle.cilk_tree.specs.Word.{event}
 use Rattle.cilk_workers.specs.Shared.{event_order_in}
 use Rattle.cilk_workers.proofs.Due.{can_pass, chain_follows, grown_good, here, passes}
+use Rattle.cilk_workers.proofs.Held.{has_spawn, of_replay}
 use Rattle.cilk_workers.proofs.OfKind.{no_sync, what_end}
 use Rattle.cilk_workers.proofs.Spawned.{stuck}
 use Rattle.cilk_workers.proofs.passing.ended.Goals as goal
@@ -31,10 +33,13 @@ returns-else-end c =
     let w = c.args.work.now in
     let due = c.requires.due in
     let works = due.works in
-    let is = (here y w kinds.End due c.requires.more c.laws.ensures.same).1 in (
-      (grown_good y w.piece c.end.new.self works.good c.end.ensures).0,
+    let is = (here y w kinds.End due c.requires.more c.laws.ensures.same).1 in
+    let good = (grown_good y w.piece c.end.new.self works.good c.end.ensures).0 in
+    let next = stuck y w works c.laws.ensures.same (c.end-2.ensures.outermost c.if-end.false).1 is c.requires.more c.end.new.self c.end.ensures in
+    let law : RangesHoldSpawns (event_order_in y) = of_replay RangesHoldSpawns y _ c.replay-else-end.ensures.replay c.replay-else-end.ensures.yard c.holds_spawns.ensures in (
+      good,
       (
-        stuck y w works c.laws.ensures.same (c.end-2.ensures.outermost c.if-end.false).1 is c.requires.more c.end.new.self c.end.ensures,
+        (next.0, next.1, has_spawn y c.end.new.self next.0 good c.laws-else-end.ensures.begins c.laws-else-end.ensures.whole law next.1),
         inl (c.end.ensures, is),
       ),
     )

@@ -1,17 +1,16 @@
 use Rattle.std.proofs.Common.{◌≡◌, Some, refl, sym, subst}
 use Rattle.std.proofs.lemmas.Bool.{iff_false}
 use Rattle.cilk_replay.specs.Awaited.{SyncsAwaitSpawns}
-use Rattle.cilk_replay.specs.Replays.{ReplayValue}
 use Rattle.cilk_shared.specs.Pieces.{segment_of}
 use Rattle.cilk_shared.specs.Reducers.{frame_in}
 use Rattle.cilk_tree.specs.Kinds.{kind_of_event}
 use Rattle.cilk_tree.specs.declared.kind.Kind.TheVariants.{Sync}
-use Rattle.cilk_shared.specs.Values.{MayPass, YardValue}
+use Rattle.cilk_shared.specs.Values.{MayPass}
 use Rattle.cilk_tree.specs.Runs.{IsAsked}
 use Rattle.cilk_tree.specs.Word.{event}
 use Rattle.cilk_workers.specs.Shared.{event_order_in}
 use Rattle.cilk_workers.proofs.Due.{answered_done, of_event_order}
-use Rattle.cilk_workers.proofs.Held.{owed_in}
+use Rattle.cilk_workers.proofs.Held.{of_replay, owed_in}
 use Rattle.cilk_workers.proofs.OfKind.{quiet, with_kind}
 use Rattle.cilk_workers.proofs.passing.synced.Goals as goal
 
@@ -23,9 +22,7 @@ returns-then-not-may_pass c =
     let p = c.args.work.now.piece in
     let is = (with_kind (event (event_order_in y) p.upto) Sync due.kind_is).1 in
     let held : MayPass (segment_of p) → ⊥ = λ may. iff_false c.may_pass.ensures c.if-not-may_pass.true (subst MayPass (sym c.segment.ensures) may) in
-    let replay : SyncsAwaitSpawns (let u = y.replay in let z = u.yard in z.event_order) =
-    subst (λ (u : ReplayValue). let z = u.yard in SyncsAwaitSpawns z.event_order) c.replay.ensures.replay c.awaits.ensures in
-    let law : SyncsAwaitSpawns (event_order_in y) = subst (λ (z : YardValue). SyncsAwaitSpawns z.event_order) c.replay.ensures.yard replay in
+    let law : SyncsAwaitSpawns (event_order_in y) = of_replay SyncsAwaitSpawns y _ c.replay.ensures.replay c.replay.ensures.yard c.awaits.ensures in
     (due.works, refl, (is, held, owed_in y p works.good law c.requires.more is held))
 
 pub pass-requires-clause-next : goal.pass-requires-clause-next

@@ -1,5 +1,11 @@
-use Rattle.std.proofs.Common.{inr, refl}
+use Rattle.std.proofs.Common.{◌≡◌, inr, refl, sym, subst}
+use Rattle.cilk_replay.specs.Starts.{RangesHoldSpawns}
+use Rattle.cilk_shared.specs.Pieces.{PieceValue}
+use Rattle.cilk_tree.specs.Word.{resume, word_step}
+use Rattle.cilk_workers.specs.Rows.{IsGood}
+use Rattle.cilk_workers.specs.Shared.{event_order_in}
 use Rattle.cilk_workers.proofs.Due.{answered_done, can_take, took}
+use Rattle.cilk_workers.proofs.Held.{has_spawn, of_replay}
 use Rattle.cilk_workers.proofs.OfKind.{silent_done}
 use Rattle.cilk_workers.proofs.passing.taken.Goals as goal
 
@@ -18,3 +24,15 @@ pub returns-in-Yes : goal.returns-in-Yes
 returns-in-Yes c =
     let due = c.requires.due.1 in
     took c.args.shared.now c.yard.result.now c.args.work.now c.args.ticket c.take.new.self c.answer.new.self c.yard.ensures c.laws.ensures.order due.works c.requires.resumes c.in-Yes.ensures c.answer.ensures
+
+pub returns-in-No : goal.returns-in-No
+returns-in-No c =
+    let y = c.args.shared.now in
+    let due = c.requires.due.1 in
+    let works = due.works in
+    let q = c.take.new.self in
+    let same = c.in-No.ensures.0 in
+    let good = subst (IsGood y.run) (sym same) works.good in
+    let is = subst (λ (x : PieceValue). word_step (event_order_in y) x.upto ≡ resume c.args.ticket) (sym same) c.requires.resumes in
+    let law : RangesHoldSpawns (event_order_in y) = of_replay RangesHoldSpawns y _ c.replay-in-No.ensures.replay c.replay-in-No.ensures.yard c.holds_spawns.ensures in
+    (good, ((c.args.ticket, is, has_spawn y q c.args.ticket good c.laws-in-No.ensures.begins c.laws-in-No.ensures.whole law is), inr same))
