@@ -96,14 +96,13 @@ def feed(path, parts, pause):
 
 
 def fifos(room, found):
-    """Fifos that are fed slowly: they are read whole. A certificate is read by place, which a fifo doesn't have."""
+    """Fifos that are fed slowly: they are read whole, a certificate from its beginning to its end."""
     program, cert, _ = rows.lay(room, "turns")
     numbers, path = "turns.in", f"{room.folder}/fifo"
     contents = {
         "program": rows.TURNS.encode(), "input": b"7", "script": b"all\n", "certificate": rows.certificate("turns")
     }
     outcome = rows.OUTCOMES["turns"]
-    unread = cannot_read("fifo")
     for which, words, wanted in (
         ("program", ["run", "fifo", "--input", numbers], outcome), (
             "input", ["run", program, "--input", "fifo"], outcome
@@ -112,8 +111,8 @@ def fifos(room, found):
         ("program", ["check", "fifo", cert, "--input", numbers], rows.ACCEPTED),
         ("input", ["threads", program, cert, "--input", "fifo"], outcome),
         ("input", ["threads", program, cert, "--input", numbers, "--on", "fifo"], outcome),
-        ("certificate", ["check", program, "fifo", "--input", numbers], unread),
-        ("certificate", ["threads", program, "fifo", "--input", numbers], unread),
+        ("certificate", ["check", program, "fifo", "--input", numbers], rows.ACCEPTED),
+        ("certificate", ["threads", program, "fifo", "--input", numbers], outcome),
     ):  # fmt: skip
         os.mkfifo(path)
         text = contents[which]

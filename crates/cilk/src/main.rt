@@ -78,7 +78,7 @@ fn main(rt: HostRuntime) -> ExitCode {
         &rt,
         rt.alloc(),
         words.as_slice(),
-        &mut KeptFiles::new(rt.alloc(), Disk::new(&rt), has_colors),
+        &mut KeptFiles::new(rt.alloc(), Disk::new(rt.alloc(), &rt), has_colors),
         &mut rt.reader(),
         &mut rt.stdout(),
         &mut rt.stderr(),

@@ -12,21 +12,35 @@ use std::{fs, io};
 /// The size of the largest file that is read, in bytes.
 pub const MAX_FILE: u64 = 268_435_456;
 
-/// The files of the operating system, and the number of failed reads so far.
+// A file that is open, its path, and the byte that a read of it comes to.
 #[derive(Drop)]
-pub struct Disk<'a, R> {
+struct Open<F> {
+    path: String,
+    file: F,
+    at: u64,
+}
+
+/// The files of the operating system, and the number of failed reads so far. The file that was read
+/// last in parts stays open: its further parts come from the same file, though another one may have
+/// its path by then.
+#[derive(Drop)]
+pub struct Disk<'a, R: System> {
+    alloc: Global,
     system: &'a R,
     failures: u64,
+    open: Option<Open<R::File>>,
 }
 
 impl<'a, R: System> Disk<'a, R> {
     /// Returns the files of a system, with no failure yet.
-    pub fn new(system: &'a R) -> Self
+    pub fn new(alloc: Global, system: &'a R) -> Self
         ensures { result.failures ≡ 0 }
     {
         Disk {
+            alloc,
             system,
             failures: 0,
+            open: None,
         }
     }
 }
@@ -52,21 +66,31 @@ fn contents<R: System>(system: &R, alloc: Global, path: &str) -> io::Result<Vec<
     Ok(bytes)
 }
 
-// One read of a file from a byte on.
-fn part<R: System>(system: &R, path: &str, at: u64, into: &mut [u8]) -> io::Result<usize>
-    ensures within { IfOk result (λ n. n ≤ length into.old) }
-    ensures small { IfOk result (λ n. at + n ≤ MAX_FILE) }
-{
-    if at > MAX_FILE {
-        return Err(io::Error::from(ErrorKind::FileTooLarge));
+// Opens a file to read it in parts.
+fn opened_at<R: System>(system: &R, alloc: Global, path: &str) -> io::Result<Open<R::File>> {
+    let (file, _size) = opened(system, path)?;
+    let path = String::from_str(alloc, path)?;
+    Ok(Open { path, file, at: 0 })
+}
+
+impl<F: Read + Seek> Open<F> {
+    // One read from a byte on, of at most the bytes up to the limit. A file that is read from
+    // beginning to end is never moved, so it may be a pipe.
+    fn part(&mut self, at: u64, into: &mut [u8]) -> io::Result<usize>
+        requires { at ≤ MAX_FILE }
+        ensures within { IfOk result (λ n. n ≤ length into.old) }
+        ensures small { IfOk result (λ n. at + n ≤ MAX_FILE) }
+    {
+        if self.at != at {
+            self.file.seek(SeekFrom::Start(at))?;
+        }
+        let count = self.file.read(into)?;
+        if count as u64 > MAX_FILE - at {
+            return Err(io::Error::from(ErrorKind::FileTooLarge));
+        }
+        self.at = at + count as u64;
+        Ok(count)
     }
-    let (mut file, _size) = opened(system, path)?;
-    file.seek(SeekFrom::Start(at))?;
-    let count = file.read(into)?;
-    if count as u64 > MAX_FILE - at {
-        return Err(io::Error::from(ErrorKind::FileTooLarge));
-    }
-    Ok(count)
 }
 
 impl<R: System> Disk<'_, R> {
@@ -80,6 +104,34 @@ impl<R: System> Disk<'_, R> {
         }
         self.failures += 1;
         FileFault::Device
+    }
+
+    // The file of a path, to be read from a byte on. It is opened, but where parts of it were read
+    // just before.
+    fn file_at(&mut self, path: &str, at: u64) -> io::Result<Open<R::File>>
+        ensures { self.new.failures ≡ self.old.failures }
+    {
+        match self.open.take() {
+            Some(open) if at > 0 && open.path.as_str() == path => Ok(open),
+            _ => opened_at(self.system, self.alloc, path),
+        }
+    }
+
+    // One read of a file from a byte on.
+    fn part_of(&mut self, path: &str, at: u64, into: &mut [u8]) -> io::Result<usize>
+        ensures within { IfOk result (λ n. n ≤ length into.old) }
+        ensures small { IfOk result (λ n. at + n ≤ MAX_FILE) }
+        ensures failures { self.new.failures ≡ self.old.failures }
+    {
+        if at > MAX_FILE {
+            return Err(io::Error::from(ErrorKind::FileTooLarge));
+        }
+        let mut file = self.file_at(path, at)?;
+        let count = file.part(at, into);
+        if count.is_ok() {
+            self.open = Some(file);
+        }
+        count
     }
 }
 
@@ -98,7 +150,7 @@ impl<R: System> Files for Disk<'_, R> {
     }
 
     fn part(&mut self, path: &str, at: u64, into: &mut [u8]) -> Result<usize, FileFault> {
-        match part(self.system, path, at, into) {
+        match self.part_of(path, at, into) {
             Ok(count) => Ok(count),
             Err(error) => Err(self.fault(&error)),
         }

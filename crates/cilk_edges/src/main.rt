@@ -29,7 +29,7 @@ fn show(rt: &HostRuntime, words: &[&str]) -> io::Result<()> {
     let status = serve(
         rt.alloc(),
         words,
-        &mut Disk::new(rt),
+        &mut Disk::new(rt.alloc(), rt),
         &mut rt.reader(),
         &mut rt.stdout(),
         &mut rt.stdout(),
@@ -42,7 +42,7 @@ fn show_parts(rt: &HostRuntime, path: &str) -> io::Result<()> {
     let mut at = 0;
     for _part in 0..8 {
         let mut piece = [0; 4];
-        match Disk::new(rt).part(path, at, &mut piece) {
+        match Disk::new(rt.alloc(), rt).part(path, at, &mut piece) {
             Ok(count) => {
                 println!(rt; "{path} at {at}: {:?}", &piece[..count])?;
                 at += count as u64;

@@ -26,7 +26,7 @@ pub struct Case {
 
 /// Returns the bytes of a file, if it can be read.
 fn read(rt: &HostRuntime, path: &str) -> Result<Option<Vec<u8>>, AllocError> {
-    match Disk::new(rt).read(rt.alloc(), path) {
+    match Disk::new(rt.alloc(), rt).read(rt.alloc(), path) {
         Ok(bytes) => Ok(Some(bytes)),
         Err(FileFault::Device) => Ok(None),
         Err(FileFault::Memory) => Err(AllocError),
