@@ -1,14 +1,22 @@
 //! Halves the turns of a parallel loop, until a frame has one.
 
-ghost use Rattle.std.specs.Prelude.{◌≡◌};
+ghost use Rattle.std.specs.Ordering.{int_eq};
+ghost use Rattle.std.specs.Prelude.{◌≡◌, ◌-ℤ◌, pos};
 ghost use Rattle.cilk_program.specs.Behaviour.{middle};
 
 pub use cilk_lower::layout::has_one;
 use cilk_program::ask::LoopPart;
 
-/// Returns the first half of the turns, for a child of their frame. Not inlined, since its
-/// arithmetic would be done at each entry of the loop over a frame's instructions.
+/// Returns whether turns from `low` up to `high` are a single one. Not inlined, as `middle`.
 #[inline(never)]
+pub fn is_single(low: i64, high: i64) -> bool
+    ensures { result ≡ int_eq (high -ℤ low) (pos 1) }
+{
+    i128::from(high) - i128::from(low) == 1
+}
+
+/// Returns the first half of the turns, for a child of their frame.
+#[inline(always)]
 pub fn first_half(part: LoopPart) -> LoopPart
     ensures { result ≡ record { number = part.number; up = 1; low = part.low; high = middle part.low part.high } }
 {
@@ -20,8 +28,8 @@ pub fn first_half(part: LoopPart) -> LoopPart
     }
 }
 
-/// Returns the second half of the turns, for a child of their frame. Not inlined, as the first.
-#[inline(never)]
+/// Returns the second half of the turns, for a child of their frame.
+#[inline(always)]
 pub fn second_half(part: LoopPart) -> LoopPart
     ensures { result ≡ record { number = part.number; up = 1; low = middle part.low part.high; high = part.high } }
 {
@@ -33,7 +41,10 @@ pub fn second_half(part: LoopPart) -> LoopPart
     }
 }
 
-// The bound at which the turns are halved. The distance of the bounds may exceed a word.
+// The bound at which the turns are halved. The distance of the bounds may exceed a word. Not inlined,
+// since its arithmetic would be done at each entry of the loop over a frame's instructions. It takes
+// and returns words alone: other values would be kept in memory, which is cleared at each entry.
+#[inline(never)]
 fn middle(low: i64, high: i64) -> i64
     ensures { result ≡ middle low high }
 {

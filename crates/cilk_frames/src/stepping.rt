@@ -9,7 +9,7 @@ ghost use Rattle.cilk_frames.specs.Moving.{IsGoing, effort, invoking, move_at, m
 
 use crate::asked::AskSlot;
 use crate::cursor::{Answer, Cursor};
-use crate::halves::{first_half, has_one, second_half};
+use crate::halves::{first_half, is_single, second_half};
 use crate::moves::{
     Moved, apply_number, call_loop, fetch_element, give, give_checked, give_result, invoke_turns,
     load, load_element, put, skip_if, stop, store, store_element, tick, wait,
@@ -278,7 +278,8 @@ pub fn exec_instr(
             skip_if(cursor, word == 0, *count)
         }
         Instr::SkipUnlessOne(count) => {
-            let one = has_one(cursor.part());
+            let turns = cursor.part();
+            let one = is_single(turns.low, turns.high);
             skip_if(cursor, !one, *count)
         }
         Instr::Jump(count) => skip_if(cursor, true, *count),
