@@ -85,7 +85,9 @@ fn made(alloc: Global, shared: &Shared<'_>, work: &mut Work, frame: FrameNo, kin
     }
 }
 
-/// Makes the next event of the run, if the frame requests the event of the plan.
+/// Makes the next event of the run, if the frame requests the event of the plan. Inlined into the
+/// loop over a worker's turns, since its result would be returned in memory.
+#[inline(always)]
 pub fn act(alloc: Global, shared: &Shared<'_>, work: &mut Work) -> Turn
     requires { Works shared.now work.old }
     ensures { Turned shared.now work.old.piece work.new result }
