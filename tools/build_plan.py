@@ -1,7 +1,7 @@
 """How long a build takes: the crates in their order, the minutes of docs/GATE.md, and a simulation of `rt ci`.
 
 `rt ci` proves crates side by side, one a processor, each once those below it are proved, and first those with the
-longest chain of crates above them. An Estimate follows such a run: it compares the minutes that crates took with those
+longest chain of crates above them, by their lines. An Estimate follows such a run: it compares the minutes that crates took with those
 of the table, and simulates what is left.
 """
 
@@ -12,7 +12,7 @@ USUAL = 1.0  # how much longer than the table a machine takes, while nothing of 
 KNOWN_BY = 2.0  # the minutes of the table after which that counts for half
 MINUTES_A_LINE = 0.0025  # of code, in a crate that the table doesn't have
 LAST = 1.5  # minutes of the table for the program itself, once all is proved: two compilers build it and it is run
-MEMORY = 2_500_000  # kilobytes of a process of the prover
+MEMORY = 4_500_000  # kilobytes of a process of the prover: few take more, most of them half
 
 
 def crates_of(text):
@@ -72,7 +72,9 @@ def simulate(named, minutes, lanes, running=(), longest=None):
 
 
 def processors():
-    """How many crates `rt ci` proves side by side here: by the processors, a control group's quota and the memory."""
+    """How many crates are proved side by side here: by RT_JOBS, or else by processors, a control group's quota and memory."""
+    if os.environ.get("RT_JOBS", "").isdigit():
+        return max(1, int(os.environ["RT_JOBS"]))
     count = len(os.sched_getaffinity(0))
     try:
         with open("/proc/meminfo", encoding="ascii") as said:

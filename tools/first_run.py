@@ -43,7 +43,12 @@ Ctrl-C or otherwise, continues from there. Then ./cilk runs the proved program. 
 
 --plan    shows how long that takes, and does nothing
 
-Status: 0 built    1 a proof failed, or it was stopped    2 something that it needs isn't here"""
+The kit keeps them in `rattle-kept` beside itself, if that folder can be made and 5 GB of disk are free; else the
+log says so, and a build begins anew. As many crates are proved side by side as there are processors, and 4.5 GB of
+memory for each; RT_JOBS gives another number.
+
+Status: 0 built, also before    1 a proof failed, or another build is at work    2 something that it needs isn't here
+        128 and more: a signal stopped it"""
 
 TEST_HELP = """./cilk test
 
@@ -203,6 +208,8 @@ def rt_ci(room, log, progress):
     """Runs `rt ci` in this folder, and shows how far it is; its status. It is ended where this process is."""
     how = {"cwd": room, "stdin": subprocess.DEVNULL, "stdout": subprocess.PIPE, "stderr": subprocess.STDOUT}
     how.update(text=True, errors="replace", start_new_session=True, preexec_fn=end_with_parent)
+    # (by its own measure of memory `rt ci` proves one of the upper crates at a time)
+    how["env"] = {"RT_JOBS": str(build_plan.processors()), **os.environ}
     with subprocess.Popen(["rt", "ci"], **how) as work:
         try:
             for line in lines_of(work.stdout):
@@ -248,9 +255,8 @@ def prove_and_build(crates, progress):
 
 def build():
     """Proves and builds the program: the status of ./cilk build."""
-    if not has_rt():
+    if not has_rt() or not unproved.can_keep():
         return 2
-    os.makedirs(OUT, exist_ok=True)
     with open(f"{OUT}/build.lock", "w", encoding="ascii") as lock:
         try:
             fcntl.flock(lock, fcntl.LOCK_EX | fcntl.LOCK_NB)
@@ -296,6 +302,12 @@ def plan():
     return 0
 
 
+def is_of_others():
+    """Whether the program that the last ./cilk build left, if that made it, is of other sources than these."""
+    built = record()["built"]
+    return built and os.path.getmtime(RECORD) >= os.path.getmtime(PROGRAM) and built != sums(named())["cilk"]
+
+
 def test():
     """Runs the golden cases over the program: the status of ./cilk test."""
     if not os.path.isfile(CASES):
@@ -311,6 +323,8 @@ def test():
                 tell("`rt try` of this kit gives no program that can be kept: ./cilk build comes first")
             return 2
         flags = ["--light"]
+    elif is_of_others():
+        tell("the built program is of other sources than these: ./cilk build makes it anew")
     work = subprocess.run([sys.executable, CASES, "run", program, *flags], stdin=subprocess.DEVNULL, stdout=subprocess.PIPE, check=False)
     said = work.stdout.decode(errors="replace")
     sys.stdout.write(said)
@@ -330,7 +344,8 @@ def ended(number, _):
 def main(words):
     """Does what the first word says."""
     for it in (signal.SIGINT, signal.SIGTERM, signal.SIGHUP):
-        signal.signal(it, ended)
+        if signal.getsignal(it) is not signal.SIG_IGN:  # (`nohup` has one ignored)
+            signal.signal(it, ended)
     name, rest = (words or [""])[0], words[1:]
     if name in ("build", "test") and rest in (["--help"], ["-h"]):
         print(BUILD_HELP if name == "build" else TEST_HELP)
