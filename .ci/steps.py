@@ -1,7 +1,8 @@
 """`rt ci`, and after it the steps below, whose counts are added to those of its last line.
 
-Each step runs the built program, where it is there and where what the step needs is; its own last line is
-`N passed, M failed`. A step that ends otherwise counts as one that failed. After a failed `rt ci` no step is made.
+A step reads texts, or runs the built program or built tests. Where the command that it needs isn't there, it says that it isn't made, and
+counts nothing; its own last line is `N passed, M failed`. A step that ends otherwise counts as one that failed. After a failed `rt ci` no
+step is made.
 """
 
 import os

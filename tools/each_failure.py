@@ -11,9 +11,10 @@ refused, up to a run that makes fewer, since two of their runs needn't make the 
 must give the outcome. Each run has one call that fails: the Nth allocation, or all from the Nth on; the Nth open, read, seek or
 write; the Nth read or write that moves one byte of several. It must end with the answer of a run in which nothing fails, or say `no memory`, `cannot read FILE` or `cannot write`
 with that one's status, where a beginning of the answer may have gone out. The calls are counted and failed by a small library that
-`cc` makes and that the program is run with (LD_PRELOAD), so it needs a C compiler and glibc. Run manually.
+`cc` makes and that the program is run with (LD_PRELOAD), so it needs a C compiler and glibc. Run manually but for --choices
+and --plan, which are steps of the gate.
 
-tools/hostile.py, which runs beside the gate, takes its library from here, and looks more closely at which call failed.
+tools/hostile.py, a step of the gate, takes its library from here, and looks more closely at which call failed.
 
 With `--choices` the test `refused::rows_by_two_workers` of `cilk_base_tests` is run instead, with each allocation refused in turn: the
 list by a parallel loop and the local reducers, by rounds of 2 workers. It passes where each run ends with its result, or stops for want of

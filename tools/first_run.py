@@ -320,7 +320,7 @@ def test():
         program, status = unproved.ready(named())
         if program is None:
             if status == 1:
-                tell("`rt try` of this kit gives no program that can be kept: ./cilk build comes first")
+                tell("no program can be kept here that isn't proved: ./cilk build comes first")
             return 2
         flags = ["--light"]
     elif is_of_others():

@@ -8,7 +8,7 @@ gate_times.py table FILE [--by N] [--write]     the table of what such a FILE ho
 A process of the prover proves one crate, its tests, or tries one edit. Each is looked at every second, and counts with its
 processor time as it was last seen, so that up to a second of each is missing. `--write` puts the times of the crates that
 were seen into the table of docs/GATE.md; the other rows stay. What `rt` keeps isn't proved again: for the whole table run it
-on a machine that has kept nothing, or with `rt ci --anew`.
+on a machine that has kept nothing.
 """
 
 import argparse

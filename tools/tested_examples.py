@@ -1,5 +1,5 @@
 #!/usr/bin/env python3
-"""Looks whether tests run every program of examples/, word by word, and want of the gallery what stands beside it.
+"""Looks whether tests run every program of examples/, word by word, and expect of the gallery what is written beside it.
 
 tools/tested_examples.py     lists each program of examples/ and examples/gallery, and the text of a test that is it
 
