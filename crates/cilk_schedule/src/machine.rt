@@ -73,6 +73,7 @@ impl<'a> Machine<'a> {
     /// A choice is one step of the free machine, or none. If the machine's state represents a
     /// reachable state of the free machine, it does so after the choice too. After a stop the
     /// machine still shows the run before the choice.
+    #[inline(always)]
     pub fn choose(&mut self, alloc: Global, choice: Choice) -> Result<Told, Stop>
         requires { self.old.scheduler.stopped ≡ None → Runs self.old.code.now self.old.input.now self.old.scheduler }
         ensures runs { self.new.scheduler.stopped ≡ None → Runs self.new.code.now self.new.input.now self.new.scheduler }

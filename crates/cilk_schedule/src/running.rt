@@ -39,7 +39,9 @@ use cilk_types::fault::Fault;
 use cilk_types::input::Input;
 use std::alloc::Global;
 
-/// Makes a choice. Once the run has stopped, each further choice returns the same stop.
+/// Makes a choice. Once the run has stopped, each further choice returns the same stop. Inlined, so
+/// that what a caller doesn't ask for isn't put together.
+#[inline(always)]
 pub fn choose(
     alloc: Global,
     code: &Code,
