@@ -1,6 +1,6 @@
--- A box that is taken off its shelf, changed, and put back: `arrives`; `records`, where that
--- succeeds. Where a piece ends: `at_key`; there it has a block, `has_block`.
-use Rattle.std.proofs.Common.{◌≡◌, ℕ, Bool, true, false, Option, Some, None, sym, ap, ◌∙◌, subst}
+-- A box that is taken off its shelf, changed, and put back: `arrives`, `records`; `marked`: the blocks
+-- that have passed then. Where a piece ends: `at_key`; there it has a block, `has_block`.
+use Rattle.std.proofs.Common.{◌≡◌, ℕ, Bool, true, false, List, Option, Some, None, refl, sym, ap, ◌∙◌, subst}
 use Rattle.cilk_types.specs.declared.event.Event.{Event}
 use Rattle.cilk_types.specs.declared.event.Event.TheVariants.{Sync}
 use Rattle.cilk_shared.specs.Pieces.{PieceValue}
@@ -8,33 +8,42 @@ use Rattle.cilk_replay.specs.Chains.{ChainValue}
 use Rattle.cilk_tree.specs.Columns.{IsSpawnOf}
 use Rattle.cilk_tree.specs.declared.event_order.EventOrder.{EventOrder}
 use Rattle.cilk_tree.specs.Word.{event, plain, predecessors_of, resume, word_event, word_step}
-use Rattle.std.specs.Prelude.{IsTrue, OnOk, Result, Ok, Err}
+use Rattle.std.specs.Prelude.{OnOk, Result, Ok, Err}
 use Rattle.std.specs.Result.{is_ok}
 use Rattle.cilk_workers.specs.Boxes.{BoxValue, EndsAtKey, is_some, stolen_at}
-use Rattle.cilk_workers.specs.Shelves.{PutsBack, ShelfValue, TakesOff}
-use Rattle.cilk_workers.specs.Arrivals.{AnswersBy, EndsWhereItWaits, HasArrived, Records}
+use Rattle.cilk_workers.specs.Shelves.{HasPassed, PutsBack, ShelfValue, TakesOff, passed_with}
+use Rattle.cilk_workers.specs.Arrivals.{AnswersBy, EndsWhereItWaits, HasArrived, HasRecorded, Records, is_passing}
 use Rattle.cilk_workers.specs.declared.locks.Arrival.{Arrival}
 use Rattle.cilk_workers.specs.declared.locks.Met.{Met}
 use Rattle.cilk_workers.specs.declared.locks.Met.TheVariants as mets
 
-pub arrives : (s rest new : ShelfValue) (sync : ℕ) (a : Arrival) (found after : BoxValue) (met : Met) → TakesOff s sync found rest → AnswersBy found a met after → PutsBack rest after new
-    → HasArrived s sync a met new
-arrives s rest new sync a found after (mets.Passes w) off answers back = record { found = found; rest = rest; after = after; off = off; answers = answers; back = back }
-arrives s rest new sync a found after mets.Waits off answers back = record { found = found; rest = rest; after = after; off = off; answers = answers; back = back }
-arrives s rest new sync a found after mets.Stopped off answers back = tt
+-- the blocks that have passed, once the box is put back
+pub marked : (s rest new : ShelfValue) (sync : ℕ) (after : BoxValue) (met : Met) (passes : Bool) → rest.passed ≡ s.passed → after.sync ≡ sync → passes ≡ is_passing met
+    → new.passed ≡ passed_with rest.passed after.sync passes → new.passed ≡ passed_with s.passed sync (is_passing met)
+marked s rest new sync after met passes kept same is put =
+    put ∙ (ap (λ (qs : List ℕ). passed_with qs after.sync passes) kept ∙ (ap (λ (q : ℕ). passed_with s.passed q passes) same ∙ ap (λ (b : Bool). passed_with s.passed sync b) is))
 
-if_ok : {T E : Type 0} (P : Type 0) (r : Result T E) (told : Bool) → told ≡ is_ok r → IsTrue told → OnOk r P → P
+pub arrives : (s rest new : ShelfValue) (sync : ℕ) (a : Arrival) (found after : BoxValue) (met : Met) → (HasPassed s sync → ⊥) → TakesOff s sync found rest → AnswersBy found a met after → PutsBack rest after new
+    → new.passed ≡ passed_with s.passed sync (is_passing met) → HasArrived s sync a met new
+arrives s rest new sync a found after (mets.Passes w) waits off answers back passed = record { waits = waits; found = found; rest = rest; after = after; off = off; answers = answers; back = back; passed = passed }
+arrives s rest new sync a found after mets.Waits waits off answers back passed = record { waits = waits; found = found; rest = rest; after = after; off = off; answers = answers; back = back; passed = passed }
+arrives s rest new sync a found after mets.Stopped waits off answers back passed = passed
+
+if_ok : {T E : Type 0} (P : Type 0) (r : Result T E) (told : Bool) → told ≡ is_ok r → told ≡ true → OnOk r P → P
 if_ok P (Ok x) told is so h = h
 if_ok P (Err e) told is so h = absurd (let both : false ≡ true = sym is ∙ so in cc both)
 
-pub records : {T E : Type 0} (s rest new : ShelfValue) (sync k goes_on : ℕ) (found after : BoxValue) (r : Result T E) (told : Bool) → TakesOff s sync found rest
-    → OnOk r (after ≡ stolen_at found k goes_on) → told ≡ is_ok r → PutsBack rest after new → IsTrue told → Records s sync k goes_on new
-records s rest new sync k goes_on found after r told off stolen is back so = record {
+pub records : {T E : Type 0} (s rest new : ShelfValue) (sync k goes_on : ℕ) (found after : BoxValue) (r : Result T E) (told : Bool) → (HasPassed s sync → ⊥) → TakesOff s sync found rest
+    → OnOk r (after ≡ stolen_at found k goes_on) → told ≡ is_ok r → PutsBack rest after new → new.passed ≡ s.passed → HasRecorded s sync k goes_on told new
+records s rest new sync k goes_on found after r true waits off stolen is back passed = record {
+  waits = waits;
   found = found;
   rest = rest;
   off = off;
-  back = subst (λ (b : BoxValue). PutsBack rest b new) (if_ok (after ≡ stolen_at found k goes_on) r told is so stolen) back;
+  back = subst (λ (b : BoxValue). PutsBack rest b new) (if_ok (after ≡ stolen_at found k goes_on) r true is refl stolen) back;
+  passed = passed;
 }
+records s rest new sync k goes_on found after r false waits off stolen is back passed = passed
 
 no_resume : (s : EventOrder) (p k : ℕ) → event s p ≡ Some Sync → word_step s p ≡ resume k → ⊥
 no_resume s p k is there = let z : plain ≡ resume k = ap (λ (o : Option Event). word_event s.events p o (predecessors_of s p)) (sym is) ∙ there in cc z

@@ -15,6 +15,7 @@ pub mod OfKind
 pub mod Planned
 pub mod RackKeys
 pub mod Rows
+pub mod ShelfHistories
 pub mod Shelves
 pub mod Spawned
 pub mod Waits

@@ -1,5 +1,5 @@
 -- Steals and arrivals at the boxes of a shelf.
-use Rattle.std.specs.Prelude.{◌≡◌, ◌≤◌, ℕ, Option, Some, None}
+use Rattle.std.specs.Prelude.{◌≡◌, ◌≤◌, ℕ, Bool, true, false, Option, Some, None}
 use Rattle.cilk_types.specs.declared.event.Event.TheVariants.{Sync}
 use Rattle.cilk_shared.specs.Pieces.{PieceValue}
 use Rattle.cilk_tree.specs.Columns.{IsSpawnOf}
@@ -8,7 +8,7 @@ use Rattle.cilk_tree.specs.Word.{event, resume, word_step}
 use Rattle.cilk_replay.specs.Chains.{ChainValue}
 use Rattle.cilk_workers.specs.Answers.{Answers}
 use Rattle.cilk_workers.specs.Boxes.{BoxValue, arrived_at, is_some, stolen_at}
-use Rattle.cilk_workers.specs.Shelves.{PutsBack, ShelfValue, TakesOff}
+use Rattle.cilk_workers.specs.Shelves.{HasPassed, PutsBack, ShelfValue, TakesOff, passed_with}
 use Rattle.cilk_workers.specs.declared.join.Boxed.TheVariants as boxes
 use Rattle.cilk_workers.specs.declared.locks.Arrival.{Arrival}
 use Rattle.cilk_workers.specs.declared.locks.Met.{Met}
@@ -21,12 +21,19 @@ EndsWhereItWaits s p None = (k : ℕ) × (word_step s p.upto ≡ resume k) × (p
 EndsWhereItWaits s p (Some c) = (event s p.upto ≡ Some Sync) × ((k : ℕ) × IsSpawnOf s p.upto k)
 
 -- In the box of the block, and in no other, it is recorded that the continuation of the spawn at k,
--- which continues at a, is stolen.
+-- which continues at a, is stolen. The block hasn't passed.
 pub record Records (s : ShelfValue) (sync k a : ℕ) (new : ShelfValue) : Type 0 where
+  pub waits : HasPassed s sync → ⊥
   pub found : BoxValue
   pub rest : ShelfValue
   pub off : TakesOff s sync found rest
   pub back : PutsBack rest (stolen_at found k a) new
+  pub passed : new.passed ≡ s.passed
+
+-- The steal is recorded, unless memory ran out.
+abbrev pub HasRecorded : ShelfValue → ℕ → ℕ → ℕ → Bool → ShelfValue → Type 0
+HasRecorded s sync k a true new = Records s sync k a new
+HasRecorded s sync k a false new = new.passed ≡ s.passed
 
 -- the outcome is the box's answer to the arrival; nothing changes if memory runs out
 abbrev pub AnswersBy : BoxValue → Arrival → Met → BoxValue → Type 0
@@ -34,16 +41,25 @@ AnswersBy j a (mets.Passes w) new = Answers (arrived_at j a.by a.piece (is_some 
 AnswersBy j a mets.Waits new = Answers (arrived_at j a.by a.piece (is_some a.chain)) boxes.Waits new
 AnswersBy j a mets.Stopped new = new ≡ j
 
--- the arrival is in the box of the block, and in no other
+-- whether the block passes
+abbrev pub is_passing : Met → Bool
+is_passing (mets.Passes w) = true
+is_passing mets.Waits = false
+is_passing mets.Stopped = false
+
+-- The arrival is in the box of the block, and in no other. The block hadn't passed, and has passed
+-- exactly if that is the answer; of each other block it is as before.
 pub record Arrives (s : ShelfValue) (sync : ℕ) (a : Arrival) (met : Met) (new : ShelfValue) : Type 0 where
+  pub waits : HasPassed s sync → ⊥
   pub found : BoxValue
   pub rest : ShelfValue
   pub after : BoxValue
   pub off : TakesOff s sync found rest
   pub answers : AnswersBy found a met after
   pub back : PutsBack rest after new
+  pub passed : new.passed ≡ passed_with s.passed sync (is_passing met)
 
 -- The piece has arrived, unless memory ran out.
 abbrev pub HasArrived : ShelfValue → ℕ → Arrival → Met → ShelfValue → Type 0
-HasArrived s sync a mets.Stopped new = Unit {0}
+HasArrived s sync a mets.Stopped new = new.passed ≡ s.passed
 HasArrived s sync a met new = Arrives s sync a met new

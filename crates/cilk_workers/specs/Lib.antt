@@ -14,6 +14,7 @@ pub mod Namings
 pub mod Racks
 pub mod Rows
 pub mod Shared
+pub mod ShelfHistories
 pub mod Shelves
 pub mod WorkerContexts
 pub mod Turns

@@ -1,13 +1,14 @@
 -- The rule of a shelf's queue, which makes it a lock: the shelf is in it, or one worker holds it.
 use Rattle.std.specs.Prelude.{◌≡◌, ◌+◌, ℕ, Bool, true, false, List, [], ◌∷◌, All, length}
 use Rattle.cilk_workers.specs.Rows.{RunValue}
+use Rattle.cilk_workers.specs.ShelfHistories.{HasHistory}
 use Rattle.cilk_workers.specs.Shelves.{ShelfValue}
 use Rattle.cilk_replay.specs.Replays.{ReplayValue}
 use Rattle.cilk_workers.specs.declared.shelf.Shelf.{Shelf}
 
--- the shelf belongs to the run
+-- the shelf belongs to the run, and came from an empty one by steals and arrivals alone
 abbrev pub IsShelf : RunValue → (ReplayValue → Type 0) → ShelfValue → Type 0
-IsShelf y replay s = (s.of ≡ y) × replay s.replay
+IsShelf y replay s = (s.of ≡ y) × replay s.replay × HasHistory s
 
 -- how many of the keys hold the shelf
 abbrev pub one_if : Bool → ℕ

@@ -1,22 +1,35 @@
 -- Shelves of join boxes.
-use Rattle.std.specs.Prelude.{◌≡◌, ◌≢◌, ◌+◌, ◌<◌, ◌⊎◌, ◌∷◌, ◌++◌, [], ℕ, List, All, Some, drop, length, slice_get, take}
+use Rattle.std.specs.Prelude.{◌≡◌, ◌≢◌, ◌+◌, ◌<◌, ◌⊎◌, ◌∷◌, ◌++◌, [], ℕ, Bool, true, false, List, All, Some, drop, length, slice_get, take}
 use Rattle.cilk_replay.specs.Replays.{ReplayValue}
 use Rattle.cilk_workers.specs.Rows.{RunValue}
 use Rattle.cilk_workers.specs.Boxes.{BoxValue, IsUnused, opening}
+use Rattle.cilk_workers.specs.Histories.{Has}
 
--- a run, its replay, the boxes on the shelf, and the number of boxes that there is room for
+-- a run, its replay, the boxes on the shelf, and the blocks that have passed, by their `sync`s; and the
+-- numbers of boxes and of such blocks that there is room for
 pub record ShelfValue : Type 0 where
   pub of : RunValue
   pub replay : ReplayValue
   pub boxes : List BoxValue
   pub room : ℕ
+  pub passed : List ℕ
+  pub passed_room : ℕ
 
-abbrev pub shelf : RunValue → ReplayValue → List BoxValue → ℕ → ShelfValue
-shelf y c boxes room = record { of = y; replay = c; boxes = boxes; room = room }
+abbrev pub shelf : RunValue → ReplayValue → List BoxValue → ℕ → List ℕ → ℕ → ShelfValue
+shelf y c boxes room passed passed_room = record { of = y; replay = c; boxes = boxes; room = room; passed = passed; passed_room = passed_room }
 
--- there is room for one more box
+-- there is room for one more box, and for one more block that has passed
 abbrev pub HasRoom : ShelfValue → Type 0
-HasRoom s = length s.boxes < s.room
+HasRoom s = (length s.boxes < s.room) × (length s.passed < s.passed_room)
+
+-- the block that ends with the `sync` at a position has passed
+abbrev pub HasPassed : ShelfValue → ℕ → Type 0
+HasPassed s sync = Has s.passed sync
+
+-- the blocks that have passed, once this one passes too or doesn't
+abbrev pub passed_with : List ℕ → ℕ → Bool → List ℕ
+passed_with syncs sync true = syncs ++ sync ∷ []
+passed_with syncs sync false = syncs
 
 -- it belongs to the same run
 abbrev pub IsSameShelf : ShelfValue → ShelfValue → Type 0

@@ -1,9 +1,9 @@
 //! Steals and arrivals at the join boxes, each under the lock of its shelf.
 
-ghost use Rattle.std.specs.Prelude.{◌≡◌, ◌<◌, ◌≤◌, Some, IfOk, IfSome, IsTrue, OnOk};
+ghost use Rattle.std.specs.Prelude.{◌≡◌, ◌<◌, ◌≤◌, Some, IfOk, IfSome, OnOk};
 ghost use Rattle.cilk_types.specs.declared.event.Event.TheVariants.{Sync};
 ghost use Rattle.cilk_workers.specs.Rows.{IsGood};
-ghost use Rattle.cilk_workers.specs.Shelves.{HasRoom, IsSameShelf, LiesOn, TakesOff};
+ghost use Rattle.cilk_workers.specs.Shelves.{HasPassed, HasRoom, IsSameShelf, LiesOn, TakesOff};
 ghost use Rattle.cilk_replay.specs.Chains.{standing};
 ghost use Rattle.cilk_workers.specs.Locks.{IsShelf};
 ghost use Rattle.cilk_tree.specs.Columns.{IsOfBlock};
@@ -11,7 +11,7 @@ ghost use Rattle.cilk_tree.specs.Word.{event, resume, word_step};
 ghost use Rattle.cilk_workers.specs.Shared.{IsNumberOf, event_order_in};
 ghost use Rattle.cilk_workers.specs.Activities.{IsMet};
 ghost use Rattle.cilk_workers.specs.Boxes.{EndsAtKey, is_some};
-ghost use Rattle.cilk_workers.specs.Arrivals.{AnswersBy, HasArrived, Records};
+ghost use Rattle.cilk_workers.specs.Arrivals.{AnswersBy, HasArrived, HasRecorded, is_passing};
 ghost use Rattle.cilk_workers.specs.Keys.{AreKeys, IsFree};
 ghost use Rattle.cilk_workers.specs.WorkerContexts.{IsWorkerContext};
 
@@ -47,6 +47,17 @@ pub enum Met {
     Waits,
     /// The worker ran out of memory.
     Stopped,
+}
+
+// Whether the block passes.
+fn is_pass(met: &Met) -> bool
+    ensures { result ≡ is_passing met.now }
+{
+    match met {
+        Met::Passes(_) => true,
+        Met::Waits => false,
+        Met::Stopped => false,
+    }
 }
 
 // The shelf of a block, of `shelves` shelves.
@@ -85,7 +96,8 @@ impl<'a, 'b, N: Naming, R: Wait, G: Gate> WorkerContext<'a, 'b, N, R, G> {
         requires shelf { IsShelf N.run N.replay shelf.old }
         requires sync { event (event_order_in self.now.shared.now) sync ≡ Some Sync }
         ensures shelf { IsSameShelf shelf.old shelf.new }
-        ensures of { IfOk result (λ b. LiesOn shelf.old.of shelf.old.replay b) }
+        ensures passed { shelf.new.passed ≡ shelf.old.passed }
+        ensures of { IfOk result (λ b. LiesOn shelf.old.of shelf.old.replay b × (b.sync ≡ sync)) }
         ensures taken { IfOk result (λ b. TakesOff shelf.old sync b shelf.new) }
         ensures room { OnOk result (HasRoom shelf.new) }
         ensures run { IfOk result (λ b. (b.rows.of ≡ self.now.shared.now.run) × (b.replay ≡ self.now.shared.now.replay)) }
@@ -93,7 +105,16 @@ impl<'a, 'b, N: Naming, R: Wait, G: Gate> WorkerContext<'a, 'b, N, R, G> {
         shelf.take(self.alloc, self.shared, sync)
     }
 
-    // A piece arrives at a block whose box is on this shelf.
+    // Waits forever if the block has passed.
+    fn wait_if_passed(&self, shelf: &Shelf, sync: Pos)
+        ensures { HasPassed shelf.now sync → ⊥ }
+    {
+        if shelf.has_passed(sync) {
+            never(self.rt);
+        }
+    }
+
+    // A piece arrives at a block whose box is on this shelf. Nothing arrives at one that has passed.
     fn arrive_on(&self, shelf: &mut Shelf, sync: Pos, arrival: Arrival) -> Met
         requires context { IsWorkerContext N.run N.replay N.taken self.now }
         requires shelf { IsShelf N.run N.replay shelf.old }
@@ -105,23 +126,27 @@ impl<'a, 'b, N: Naming, R: Wait, G: Gate> WorkerContext<'a, 'b, N, R, G> {
         ensures arrived { HasArrived shelf.old sync arrival result shelf.new }
         ensures met { IsMet self.now.shared.now result }
     {
+        self.wait_if_passed(shelf, sync);
         let Ok(mut found) = self.taken_from(shelf, sync) else {
             return Met::Stopped;
         };
         let met = self.arrive_at(&mut found, arrival);
-        shelf.put(found);
+        let passes = is_pass(&met);
+        shelf.put(found, passes);
         met
     }
 
-    // Records a steal at a block whose box is on this shelf. False if memory ran out.
+    // Records a steal at a block whose box is on this shelf. Nothing is stolen from one that has
+    // passed. False if memory ran out.
     fn record_steal_on(&self, shelf: &mut Shelf, sync: Pos, child: Pos, goes_on: Pos) -> bool
         requires context { IsWorkerContext N.run N.replay N.taken self.now }
         requires shelf { IsShelf N.run N.replay shelf.old }
         requires sync { event (event_order_in self.now.shared.now) sync ≡ Some Sync }
         requires resumes { word_step (event_order_in self.now.shared.now) goes_on ≡ resume child }
         ensures shelf { IsSameShelf shelf.old shelf.new }
-        ensures recorded { IsTrue result → Records shelf.old sync child goes_on shelf.new }
+        ensures recorded { HasRecorded shelf.old sync child goes_on result shelf.new }
     {
+        self.wait_if_passed(shelf, sync);
         let Ok(mut found) = self.taken_from(shelf, sync) else {
             return false;
         };
@@ -129,7 +154,7 @@ impl<'a, 'b, N: Naming, R: Wait, G: Gate> WorkerContext<'a, 'b, N, R, G> {
             never(self.rt);
         }
         let told = found.record_steal(child, goes_on).is_ok();
-        shelf.put(found);
+        shelf.put(found, false);
         told
     }
 

@@ -1,11 +1,13 @@
-//! Shelves: the join boxes of several sync blocks.
+//! Shelves: the join boxes of several sync blocks, and which of these blocks have passed.
 
-ghost use Rattle.std.specs.Prelude.{◌≡◌, ◌≤◌, ℕ, [], All, length, IfOk, IfSome, MatchOption, OnErr, Some};
+ghost use Rattle.std.specs.Prelude.{◌≡◌, ◌<◌, ◌≤◌, ◌↔◌, ℕ, [], All, length, IfOk, IfSome, IsTrue, MatchOption, OnErr, Some};
 ghost use Rattle.std.specs.Vec.{vec_capacity};
 ghost use Rattle.cilk_types.specs.declared.event.Event.TheVariants.{Sync};
 ghost use Rattle.cilk_tree.specs.Word.{event};
 ghost use Rattle.cilk_workers.specs.Shared.{event_order_in};
-ghost use Rattle.cilk_workers.specs.Shelves.{ComesOut, HasNone, HasRoom, IsSameShelf, LiesOn, PutsBack, TakesOff};
+ghost use Rattle.cilk_workers.specs.Histories.{Has};
+ghost use Rattle.cilk_workers.specs.ShelfHistories.{HasHistory};
+ghost use Rattle.cilk_workers.specs.Shelves.{ComesOut, HasNone, HasPassed, HasRoom, IsSameShelf, LiesOn, PutsBack, TakesOff, passed_with};
 
 use crate::join::JoinBox;
 use crate::shared::Shared;
@@ -17,16 +19,18 @@ use std::alloc::{AllocError, Global};
 use std::marker::Model;
 use std::snapshot::Snapshot;
 
-/// The join boxes of several blocks.
+/// The join boxes of several blocks, and which of these blocks have passed.
 ///
-/// Only boxes in which something waits are kept. Any other box is as it was at first, so it needs
-/// no memory. Contracts see the run to which the blocks belong, and the boxes.
+/// Only boxes in which something waits are kept. Any other box is as it was at first, and needs no
+/// memory, or its block has passed, which the shelf remembers. Contracts see the run to which the
+/// blocks belong, the boxes, and the blocks that have passed.
 #[derive(Drop)]
 pub struct Shelf {
     of: Snapshot<Yard>,
     reducers: Snapshot<Reducers>,
     replay: Snapshot<Replay>,
     boxes: Vec<JoinBox>,
+    passed: Vec<Pos>,
 }
 
 impl Model for Shelf {
@@ -41,7 +45,7 @@ impl Model for Shelf {
 
     ghost coded = { Prim.hlevel (codes, replay_code) };
 
-    ghost view = { λ s. shelf (run_of s.of.value s.reducers.value) s.replay.value s.boxes.items (vec_capacity s.boxes) };
+    ghost view = { λ s. shelf (run_of s.of.value s.reducers.value) s.replay.value s.boxes.items (vec_capacity s.boxes) s.passed.items (vec_capacity s.passed) };
 
     ghost invariant = { λ s. All (LiesOn (run_of s.of.value s.reducers.value) s.replay.value) s.boxes.items };
 }
@@ -64,22 +68,49 @@ fn taken(shared: &Shared<'_>, boxes: &mut Vec<JoinBox>, sync: Pos) -> Option<Joi
     None
 }
 
+// Whether this block is among those that have passed.
+fn is_among(passed: &Vec<Pos>, sync: Pos) -> bool
+    ensures { IsTrue result ↔ Has passed.now.items sync }
+{
+    passed.contains(&sync)
+}
+
+// Adds a block to those that have passed, if it passes.
+fn mark(passed: &mut Vec<Pos>, sync: Pos, passes: bool)
+    requires { length passed.old.items < vec_capacity passed.old }
+    ensures { passed.new.items ≡ passed_with passed.old.items sync passes }
+{
+    if passes {
+        passed.push_reserved(sync);
+    }
+}
+
 impl Shelf {
-    /// Returns a shelf without boxes.
+    /// Returns a shelf without boxes, no block of which has passed.
     pub fn new(alloc: Global, shared: &Shared<'_>) -> Shelf
-        ensures { (result.of ≡ shared.now.run) × (result.replay ≡ shared.now.replay) × (result.boxes ≡ []) }
+        ensures new { (result.of ≡ shared.now.run) × (result.replay ≡ shared.now.replay) × (result.boxes ≡ []) × (result.passed ≡ []) }
+        ensures history { HasHistory result }
     {
         Shelf {
             of: Snapshot::of(shared.yard()),
             reducers: Snapshot::of(shared.reducers()),
             replay: Snapshot::of(shared.replay()),
             boxes: Vec::new(alloc),
+            passed: Vec::new(alloc),
         }
     }
 
+    /// Returns whether the block that ends with the `sync` at this position has passed. Cost: linear
+    /// in the blocks of the shelf that have passed.
+    pub fn has_passed(&self, sync: Pos) -> bool
+        ensures { IsTrue result ↔ HasPassed self.now sync }
+    {
+        is_among(&self.passed, sync)
+    }
+
     /// Takes the box of the block that ends with the `sync` at this position off the shelf, which
-    /// then has room to put it back. If memory for that runs out, nothing changes. Cost: linear in
-    /// the boxes on the shelf.
+    /// then has room to put it back, and to remember that the block passes. If memory for that runs
+    /// out, nothing changes. Cost: linear in the boxes on the shelf.
     pub fn take(
         &mut self,
         alloc: Global,
@@ -91,22 +122,27 @@ impl Shelf {
         ensures found { IfOk result (λ b. LiesOn self.old.of self.old.replay b × (b.sync ≡ sync)) }
         ensures taken { IfOk result (λ b. TakesOff self.old sync b self.new × HasRoom self.new) }
         ensures err { OnErr result (self.new.boxes ≡ self.old.boxes) }
+        ensures passed { self.new.passed ≡ self.old.passed }
         ensures same { IsSameShelf self.old self.new }
     {
         self.boxes.reserve(1)?;
+        self.passed.reserve(1)?;
         if let Some(found) = taken(shared, &mut self.boxes, sync) {
             return Ok(found);
         }
         Ok(JoinBox::new(alloc, shared, sync))
     }
 
-    /// Puts a box back, for which there is room. A box in which nothing waits is dropped.
-    pub fn put(&mut self, back: JoinBox)
+    /// Puts a box back, for which there is room. A box in which nothing waits is dropped. The shelf
+    /// remembers its block if that passes.
+    pub fn put(&mut self, back: JoinBox, passes: bool)
         requires of { LiesOn self.old.of self.old.replay back }
         requires room { HasRoom self.old }
         ensures put { PutsBack self.old back self.new }
+        ensures passed { self.new.passed ≡ passed_with self.old.passed back.sync passes }
         ensures same { IsSameShelf self.old self.new }
     {
+        mark(&mut self.passed, back.sync(), passes);
         if !back.is_empty() {
             self.boxes.push_reserved(back);
         }

@@ -1,0 +1,57 @@
+-- The laws of a shelf, after every history.
+--
+-- - `has_last`, `once_last`: one more at the end of a list;
+-- - `known`: a shelf knows which of its blocks have passed;
+-- - `laws`: the laws;
+-- - `still`: a shelf of the run with one step more.
+use Rattle.std.proofs.Common.{◌≡◌, ◌⊎◌, inl, inr, ⊎_elim, ℕ, true, false, List, [], ◌∷◌, ◌++◌, sym, ap, ◌∙◌, subst}
+use Rattle.cilk_replay.specs.Replays.{ReplayValue}
+use Rattle.cilk_workers.specs.Arrivals.{Arrives, Records}
+use Rattle.cilk_workers.specs.Histories.{Has, IsOnce}
+use Rattle.cilk_workers.specs.Locks.{IsShelf}
+use Rattle.cilk_workers.specs.Rows.{RunValue}
+use Rattle.cilk_workers.specs.ShelfHistories.{ArrivesAt, BlocksPassOnce, HasHistory, IsShelfHistory, ShelfStep, StealsAt, passed_blocks}
+use Rattle.cilk_workers.specs.Shelves.{HasPassed, IsSameShelf, ShelfValue, passed_with}
+use Rattle.cilk_workers.specs.declared.locks.Met.TheVariants as mets
+
+has_last : (qs : List ℕ) (q x : ℕ) → Has (qs ++ q ∷ []) x → Has qs x ⊎ (q ≡ x)
+has_last [] q x (inl same) = inr same
+has_last [] q x (inr h) = absurd h
+has_last (p ∷ qs) q x (inl same) = inl (inl same)
+has_last (p ∷ qs) q x (inr h) = ⊎_elim (λ (there : Has qs x). inl (inr there)) (λ (same : q ≡ x). inr same) (has_last qs q x h)
+
+once_last : (qs : List ℕ) (q : ℕ) → IsOnce qs → (Has qs q → ⊥) → IsOnce (qs ++ q ∷ [])
+once_last [] q once not = ((λ h. h), tt)
+once_last (p ∷ qs) q once not = (
+  (λ h. ⊎_elim (λ (there : Has qs p). once.0 there) (λ (same : q ≡ p). not (inl (sym same))) (has_last qs q p h)),
+  once_last qs q once.1 (λ h. not (inr h)),
+)
+
+known : (steps : List ShelfStep) (s : ShelfValue) → IsShelfHistory steps s → s.passed ≡ passed_blocks steps
+known [] s h = h.1
+known (StealsAt q k a true ∷ steps) s h = let r = h.2 in r.passed ∙ known steps h.0 h.1
+known (StealsAt q k a false ∷ steps) s h = h.2 ∙ known steps h.0 h.1
+known (ArrivesAt q a (mets.Passes w) ∷ steps) s h = let r = h.2 in r.passed ∙ ap (λ (qs : List ℕ). passed_with qs q true) (known steps h.0 h.1)
+known (ArrivesAt q a mets.Waits ∷ steps) s h = let r = h.2 in r.passed ∙ known steps h.0 h.1
+known (ArrivesAt q a mets.Stopped ∷ steps) s h = h.2 ∙ known steps h.0 h.1
+
+-- a block that has passed, to the shelf
+is_known : (steps : List ShelfStep) (s : ShelfValue) → IsShelfHistory steps s → (q : ℕ) → Has (passed_blocks steps) q → HasPassed s q
+is_known steps s h q has = subst (λ (qs : List ℕ). Has qs q) (sym (known steps s h)) has
+
+once : (steps : List ShelfStep) (s : ShelfValue) → IsShelfHistory steps s → IsOnce (passed_blocks steps)
+once [] s h = tt
+once (StealsAt q k a recorded ∷ steps) s h = once steps h.0 h.1
+once (ArrivesAt q a (mets.Passes w) ∷ steps) s h = let r = h.2 in once_last (passed_blocks steps) q (once steps h.0 h.1) (λ has. r.waits (is_known steps h.0 h.1 q has))
+once (ArrivesAt q a mets.Waits ∷ steps) s h = once steps h.0 h.1
+once (ArrivesAt q a mets.Stopped ∷ steps) s h = once steps h.0 h.1
+
+pub laws : BlocksPassOnce
+laws steps s h = record {
+  once = once steps s h;
+  none_stolen = λ q k a new has r. r.waits (is_known steps s h q has);
+  none_arrives = λ q a met new has r. r.waits (is_known steps s h q has);
+}
+
+pub still : (y : RunValue) (replay : ReplayValue → Type 0) (s new : ShelfValue) → IsShelf y replay s → IsSameShelf s new → HasHistory new → IsShelf y replay new
+still y replay s new is same history = (same.0 ∙ is.0, subst replay (sym same.1) is.1, history)
