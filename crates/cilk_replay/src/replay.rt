@@ -5,7 +5,7 @@ ghost use Rattle.cilk_program.specs.Sources.{source};
 ghost use Rattle.cilk_replay.specs.Replays.{AreEntriesOf, IsBlockOf, IsBodyOf, IsReplay, IsEntryOf, replay_with};
 ghost use Rattle.cilk_replay.specs.Awaited.{SyncsAwaitSpawns};
 ghost use Rattle.cilk_replay.specs.Resumes.{ResumesAreAsked};
-ghost use Rattle.cilk_replay.specs.Starts.{RangesHoldSpawns};
+ghost use Rattle.cilk_replay.specs.Starts.{RangesBeginInBlocks, RangesHoldSpawns};
 
 use crate::frame_layout::{CellBlock, FrameLayout};
 use cilk_lower::code::Code;
@@ -191,6 +191,14 @@ impl Replay {
     /// after a spawn comes next, the piece has the spawn.
     pub fn holds_spawns(&self)
         ensures { let y = self.now.yard in RangesHoldSpawns y.event_order }
+    {
+        self.laws();
+    }
+
+    /// States that a piece that has come to a `sync`, and lacks a child that the `sync` awaits,
+    /// doesn't begin inside a child: it begins at the `resume` after a spawn of that block.
+    pub fn begins_in_blocks(&self)
+        ensures { let y = self.now.yard in RangesBeginInBlocks y.event_order }
     {
         self.laws();
     }
