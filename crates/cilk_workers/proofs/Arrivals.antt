@@ -56,4 +56,4 @@ at_key s p (Some c) by ends child own = sym (own (λ k there. no_resume s p.upto
 pub has_block : (s : EventOrder) (p : PieceValue) (chain : Option ChainValue) (P : Type 0) → EndsWhereItWaits s p chain → ((k : ℕ) → word_step s p.upto ≡ resume k → P)
     → ((k : ℕ) → IsSpawnOf s p.upto k → P) → P
 has_block s p None P ends child own = child ends.0 ends.1
-has_block s p (Some c) P ends child own = let spawned = ends.1 in own spawned.0 spawned.1
+has_block s p (Some c) P ends child own = let begins = ends.1 in own begins.0 begins.2

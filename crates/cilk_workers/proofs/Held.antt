@@ -10,7 +10,7 @@ use Rattle.cilk_types.specs.declared.event.Event.{Event}
 use Rattle.cilk_types.specs.declared.event.Event.TheVariants.{Sync}
 use Rattle.cilk_replay.specs.Awaited.{SyncsAwaitSpawns}
 use Rattle.cilk_replay.specs.Replays.{ReplayValue}
-use Rattle.cilk_replay.specs.Starts.{RangesHoldSpawns}
+use Rattle.cilk_replay.specs.Starts.{RangesBeginInBlocks, RangesHoldSpawns}
 use Rattle.cilk_shared.specs.Pieces.{PieceValue, segment_of}
 use Rattle.cilk_shared.specs.Rule.{IsStart, Whole}
 use Rattle.cilk_shared.specs.Values.{MayPass, YardValue}
@@ -35,23 +35,24 @@ below (x ∷ ps) a = dite (dec_lt x a)
 sync_is_plain : (s : EventOrder) (q : ℕ) → event s q ≡ Some Sync → word_step s q ≡ plain
 sync_is_plain s q is = ap (λ (o : Option Event). word_event s.events q o (predecessors_of s q)) is
 
-owed : (p : PieceValue) → SyncsAwaitSpawns p.event_order → p.from < p.upto → p.upto < (let s = p.event_order in length s.events) → event p.event_order p.upto ≡ Some Sync
-    → (MayPass (segment_of p) → ⊥) → IsOwed p.event_order p
-owed p law some more is held = ⊎_elim
+owed : (p : PieceValue) → SyncsAwaitSpawns p.event_order → RangesBeginInBlocks p.event_order → IsStart p.event_order p.from → Whole p.event_order p.from p.upto → p.from < p.upto
+    → p.upto < (let s = p.event_order in length s.events) → event p.event_order p.upto ≡ Some Sync → (MayPass (segment_of p) → ⊥) → IsOwed p.event_order p
+owed p law in_blocks start whole some more is held = ⊎_elim
     (λ (found : (e : ℕ) × Among e (predecessors_of p.event_order p.upto) × (e < p.from)).
     let e = found.0 in
     let low = found.2 in
     let child = law p.upto e is found.1 (λ (next : e + 1 ≡ p.upto). omega (arith, next, low, some)) in
-    record { spawn_at = child.0; end_at = e; child = child.1; elsewhere = low })
+    record { spawn_at = child.0; end_at = e; child = child.1; elsewhere = low; begins = in_blocks p.from p.upto e whole start some is found.1 low })
     (λ (none : (e : ℕ) → Among e (predecessors_of p.event_order p.upto) → p.from ≤ e). absurd (held (some, omega (arith, more), sync_is_plain p.event_order p.upto is, none)))
     (below (predecessors_of p.event_order p.upto) p.from)
 
-pub owed_in : (y : SharedValue) (p : PieceValue) → IsGood y.run p → SyncsAwaitSpawns (event_order_in y) → p.upto < (let s = event_order_in y in length s.events) → event (event_order_in y) p.upto ≡ Some Sync
-    → (MayPass (segment_of p) → ⊥) → IsOwed (event_order_in y) p
-owed_in y p good law more is held =
+pub owed_in : (y : SharedValue) (p : PieceValue) → IsGood y.run p → SyncsAwaitSpawns (event_order_in y) → RangesBeginInBlocks (event_order_in y) → (p.from < p.upto → IsStart p.event_order p.from)
+    → Whole p.event_order p.from p.upto → p.upto < (let s = event_order_in y in length s.events) → event (event_order_in y) p.upto ≡ Some Sync → (MayPass (segment_of p) → ⊥) → IsOwed (event_order_in y) p
+owed_in y p good law in_blocks begins whole more is held =
     let o = good.0 in
     subst (λ (s : EventOrder). IsOwed s p) o.1
-    (owed p (subst SyncsAwaitSpawns (sym o.1) law) good.1 (subst (λ (s : EventOrder). p.upto < length s.events) (sym o.1) more) (subst (λ (s : EventOrder). event s p.upto ≡ Some Sync) (sym o.1) is) held)
+    (owed p (subst SyncsAwaitSpawns (sym o.1) law) (subst RangesBeginInBlocks (sym o.1) in_blocks) (begins good.1) whole good.1 (subst (λ (s : EventOrder). p.upto < length s.events) (sym o.1) more)
+    (subst (λ (s : EventOrder). event s p.upto ≡ Some Sync) (sym o.1) is) held)
 
 pub of_replay : (P : EventOrder → Type 0) (y : SharedValue) (u : ReplayValue) → u ≡ y.replay → (let v = y.replay in v.yard ≡ yard_of y.run) → P (let z = u.yard in z.event_order) → P (event_order_in y)
 of_replay P y u same yard h = subst (λ (z : YardValue). P z.event_order) yard (subst (λ (v : ReplayValue). let z = v.yard in P z.event_order) same h)

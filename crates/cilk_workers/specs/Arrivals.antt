@@ -2,10 +2,10 @@
 use Rattle.std.specs.Prelude.{◌≡◌, ◌≤◌, ℕ, Bool, true, false, Option, Some, None}
 use Rattle.cilk_types.specs.declared.event.Event.TheVariants.{Sync}
 use Rattle.cilk_shared.specs.Pieces.{PieceValue}
-use Rattle.cilk_tree.specs.Columns.{IsSpawnOf}
 use Rattle.cilk_tree.specs.declared.event_order.EventOrder.{EventOrder}
 use Rattle.cilk_tree.specs.Word.{event, resume, word_step}
 use Rattle.cilk_replay.specs.Chains.{ChainValue}
+use Rattle.cilk_replay.specs.Starts.{BeginsInBlock}
 use Rattle.cilk_workers.specs.Answers.{Answers}
 use Rattle.cilk_workers.specs.Boxes.{BoxValue, arrived_at, is_some, stolen_at}
 use Rattle.cilk_workers.specs.Shelves.{HasPassed, PutsBack, ShelfValue, TakesOff, passed_with}
@@ -15,10 +15,10 @@ use Rattle.cilk_workers.specs.declared.locks.Met.{Met}
 use Rattle.cilk_workers.specs.declared.locks.Met.TheVariants as mets
 
 -- A piece without a chain has a spawn, and ends right before the `resume` after it. One with a chain
--- ends at a `sync`, in whose block there is a spawn. So a block's first event comes before what arrives.
+-- ends at a `sync`, and begins in the block that this ends. So neither begins inside a child.
 abbrev pub EndsWhereItWaits : EventOrder → PieceValue → Option ChainValue → Type 0
 EndsWhereItWaits s p None = (k : ℕ) × (word_step s p.upto ≡ resume k) × (p.from ≤ k)
-EndsWhereItWaits s p (Some c) = (event s p.upto ≡ Some Sync) × ((k : ℕ) × IsSpawnOf s p.upto k)
+EndsWhereItWaits s p (Some c) = (event s p.upto ≡ Some Sync) × BeginsInBlock s p.from p.upto
 
 -- In the box of the block, and in no other, it is recorded that the continuation of the spawn at k,
 -- which continues at a, is stolen. The block hasn't passed.

@@ -8,6 +8,7 @@ use Rattle.cilk_workers.specs.Rows.{IsGood}
 use Rattle.cilk_replay.specs.Chains.{standing}
 use Rattle.cilk_determinacy.specs.Nested.{named}
 use Rattle.cilk_replay.specs.Awaited.{IsEndOf}
+use Rattle.cilk_replay.specs.Starts.{BeginsInBlock}
 use Rattle.cilk_replay.specs.InputCourses.{run_of}
 use Rattle.cilk_replay.specs.Frames.{course_on}
 use Rattle.cilk_replay.specs.EventOrders.{IsPlannedRun}
@@ -53,12 +54,13 @@ pub record HasEnded (y : SharedValue) (p : PieceValue) (value : ℤ) : Type 0 wh
   pub result : IsResult y value
 
 -- A child isn't in the piece that the `sync` right after the piece awaits: its `end` is before the
--- piece. It was spawned in the block that this `sync` ends.
+-- piece. It was spawned in the block that this `sync` ends, and in that block the piece begins.
 pub record IsOwed (s : EventOrder) (p : PieceValue) : Type 0 where
   pub spawn_at : ℕ
   pub end_at : ℕ
   pub child : IsEndOf s p.upto spawn_at end_at
   pub elsewhere : end_at < p.from
+  pub begins : BeginsInBlock s p.from p.upto
 
 -- the piece's next event is a `sync`, and its immediate predecessors aren't all in the piece: a
 -- child that was spawned in its block is elsewhere

@@ -40,7 +40,9 @@ pub(crate) fn synced(shared: &Shared<'_>, work: &mut Work) -> Turn
     ensures { Turned shared.now work.old.piece work.new result }
 {
     if !work.piece.segment().may_pass(shared.plan()) {
+        work.piece.laws();
         shared.replay().awaits();
+        shared.replay().begins_in_blocks();
         return Turn::Arrives;
     }
     work.piece.pass(shared.yard());

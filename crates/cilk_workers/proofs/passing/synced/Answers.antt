@@ -1,6 +1,7 @@
 use Rattle.std.proofs.Common.{◌≡◌, Some, refl, sym, subst}
 use Rattle.std.proofs.lemmas.Bool.{iff_false}
 use Rattle.cilk_replay.specs.Awaited.{SyncsAwaitSpawns}
+use Rattle.cilk_replay.specs.Starts.{RangesBeginInBlocks}
 use Rattle.cilk_shared.specs.Pieces.{segment_of}
 use Rattle.cilk_shared.specs.Reducers.{frame_in}
 use Rattle.cilk_tree.specs.Kinds.{kind_of_event}
@@ -23,7 +24,8 @@ returns-then-not-may_pass c =
     let is = (with_kind (event (event_order_in y) p.upto) Sync due.kind_is).1 in
     let held : MayPass (segment_of p) → ⊥ = λ may. iff_false c.may_pass.ensures c.if-not-may_pass.true (subst MayPass (sym c.segment.ensures) may) in
     let law : SyncsAwaitSpawns (event_order_in y) = of_replay SyncsAwaitSpawns y _ c.replay.ensures.replay c.replay.ensures.yard c.awaits.ensures in
-    (due.works, refl, (is, held, owed_in y p works.good law c.requires.more is held))
+    let in_blocks : RangesBeginInBlocks (event_order_in y) = of_replay RangesBeginInBlocks y _ c.replay-then-not-may_pass.ensures.replay c.replay-then-not-may_pass.ensures.yard c.begins_in_blocks.ensures in
+    (due.works, refl, (is, held, owed_in y p works.good law in_blocks c.laws.ensures.begins c.laws.ensures.whole c.requires.more is held))
 
 pub pass-requires-clause-next : goal.pass-requires-clause-next
 pass-requires-clause-next c =

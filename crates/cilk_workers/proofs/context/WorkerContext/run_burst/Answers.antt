@@ -1,6 +1,20 @@
-use Rattle.std.proofs.Common.{rules}
+use Rattle.std.proofs.Common.{◌≡◌, Some, sym, rules, subst}
+use Rattle.cilk_replay.specs.Starts.{BeginsInBlock}
+use Rattle.cilk_shared.specs.Pieces.{PieceValue}
+use Rattle.cilk_tree.specs.Word.{event}
+use Rattle.cilk_types.specs.declared.event.Event.TheVariants.{Sync}
+use Rattle.cilk_workers.specs.Shared.{SharedValue, event_order_in}
+use Rattle.cilk_workers.specs.Turns.{IsHeldUp}
 use Rattle.cilk_workers.proofs.context.WorkerContext.run_burst.Goals as goal
 use Rattle.cilk_workers.proofs.context.WorkerContext.run_burst.Goals.{in-Goes, in-Offers+else-not-offered, in-Ended+in-Some}
+
+-- where a piece is held up
+held_up : (y : SharedValue) (before p : PieceValue) → p ≡ before → IsHeldUp y before → (event (event_order_in y) p.upto ≡ Some Sync) × BeginsInBlock (event_order_in y) p.from p.upto
+held_up y before p same held =
+    let owed = held.2 in subst (λ (q : PieceValue). (event (event_order_in y) q.upto ≡ Some Sync) × BeginsInBlock (event_order_in y) q.from q.upto) (sym same) (held.0, owed.begins)
+
+pub arrived-requires-in-Arrives-clause-ends : goal.arrived-requires-in-Arrives-clause-ends
+arrived-requires-in-Arrives-clause-ends g c = let turned = c.in-Arrives.ensures in held_up c.args.self.now.shared.now c.each.work.piece c.act.new.work.piece turned.1 turned.2
 
 pub each-preserved : goal.each-preserved
 each-preserved g c = elim c.match-act.branch [ in-Goes w ↦ search rules | in-Offers+else-not-offered w ↦ search rules | in-Ended+in-Some w ↦ search rules ]
