@@ -86,7 +86,7 @@ fn mark(passed: &mut Vec<Pos>, sync: Pos, passes: bool)
 }
 
 impl Shelf {
-    /// Returns a shelf without boxes, no block of which has passed.
+    /// Returns a shelf without boxes. None of its blocks has passed.
     pub fn new(alloc: Global, shared: &Shared<'_>) -> Shelf
         ensures new { (result.of ≡ shared.now.run) × (result.replay ≡ shared.now.replay) × (result.boxes ≡ []) × (result.passed ≡ []) }
         ensures history { HasHistory result }
