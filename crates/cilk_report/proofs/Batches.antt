@@ -5,7 +5,7 @@
 -- - `greatest`: the greater of two statuses;
 -- - `settled`: the reply to a program, by what held before copies were kept;
 -- - `unnamed`, `starved`: the words name no programs, or there is no memory.
-use Rattle.std.proofs.Common.{◌≡◌, ℕ, ◌-◌, ◌<◌, ◌≤◌, max, List, [], ◌∷◌, length, get_or, take, drop, Bool, Option, None, arith, inl, inr, refl, subst, ◌∙◌}
+use Rattle.std.proofs.Common.{◌≡◌, ℕ, ◌-◌, ◌<◌, ◌≤◌, max, List, [], ◌∷◌, length, get_or, take, drop, Bool, Option, None, arith, inl, inr, refl, subst}
 use Rattle.std.proofs.lemmas.List.{take_all}
 use Rattle.std.specs.Prelude.{Err, IfErr, IfOk, Ok, Result}
 use Rattle.std.specs.Borrow.{Bor}

@@ -1,3 +1,4 @@
+pub mod About
 pub mod Batches
 pub mod Measuring
 pub mod Replies

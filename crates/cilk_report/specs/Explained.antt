@@ -14,10 +14,11 @@ use Rattle.cilk_parser.specs.Scripts.{IsScript}
 use Rattle.cilk_parser.specs.declared.script.LineOrder.{LineOrder}
 use Rattle.cilk_parser.specs.declared.script.LineOrder.TheVariants.{Steal}
 use Rattle.cilk_parser.specs.declared.script.Step.{Step}
-use Rattle.cilk_messages.specs.About.{is_about}
+use Rattle.cilk_messages.specs.About.{asks_help, asks_version, is_about}
 use Rattle.cilk_messages.specs.Asked.{explains_itself, is_measure, is_schedule, measured_run, unflagged, words_of_check}
 use Rattle.cilk_messages.specs.Batches.{Batch, batch_in, is_settling}
 use Rattle.cilk_messages.specs.Words.{Judge, Origin, Requested, order_in}
+use Rattle.cilk_messages.specs.declared.help.TheConstants.{HELP, VERSION}
 use Rattle.cilk_profile.specs.Measured.{IsMeasureText, is_drawn}
 use Rattle.cilk_report.specs.Measured.{AreTotalsOf}
 use Rattle.cilk_report.specs.Settling.{SettlesEach, state}
@@ -80,6 +81,23 @@ IsNoOutcome _ = Unit {0}
 abbrev pub Complains : Reply → ℕ → Option Text → Option Text → Option Text → Option Text → Type 0
 Complains r status out out' err err' =
     (out' ≡ out) × (status ≡ status_of r) × (middle : Option Text) × (told : Bool) × ShowsError r told err middle × Follows status middle err'
+
+-- the text goes to standard error with status 2, all of it or a beginning; nothing goes to standard
+-- output
+abbrev pub WritesError : Text → ℕ → Option Text → Option Text → Option Text → Option Text → Type 0
+WritesError text status out out' err err' = (out' ≡ out) × (status ≡ 2) × ((told : Bool) × AppendsFront told err err' text)
+
+-- a longer text than this goes to standard output, or to standard error
+abbrev pub WritesLonger : Text → ℕ → Option Text → Option Text → Option Text → Option Text → Type 0
+WritesLonger short status out out' err err' =
+    (text : Text) × (length short < length text) × (WritesText text status out out' err err' ⊎ WritesError text status out out' err err')
+
+-- The answers to words about the tool, unless memory runs out: the version on standard output, the
+-- help on all commands on standard error, and to other words a longer text than the version.
+pub record AnswersAbout (words : List Text) (status : ℕ) (out out' err err' : Option Text) : Type 0 where
+  pub version : asks_version words ≡ true → WritesText VERSION.now status out out' err err' ⊎ Complains NoMemory status out out' err err'
+  pub help : asks_version words ≡ false → asks_help words ≡ true → WritesError HELP.now status out out' err err' ⊎ Complains NoMemory status out out' err err'
+  pub other : asks_version words ≡ false → WritesLonger VERSION.now status out out' err err' ⊎ Complains NoMemory status out out' err err'
 
 -- The replies of `measure`.
 pub data Measures (words : List Text) (files : Text → Option Text) (input : Option Text) (failed failed' : Failures)

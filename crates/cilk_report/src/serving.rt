@@ -1,7 +1,7 @@
 //! From a command line to its reply and explanation.
 
 ghost use Rattle.std.specs.Prelude.{◌≡◌, ◌≢◌, ◌<◌, [], Bool, IsTrue, None, Some, false, length, option_map, true};
-ghost use Rattle.cilk_report.specs.Explained.{Follows, IsReadAgain, Measures, Schedules, ServesExplained, ServesThenExplains, Settles, WritesText, explanation_text, missing_line};
+ghost use Rattle.cilk_report.specs.Explained.{AnswersAbout, Follows, IsReadAgain, Measures, Schedules, ServesExplained, ServesThenExplains, Settles, WritesText, explanation_text, missing_line};
 ghost use Rattle.cilk_messages.specs.Asked.{explains_itself, is_measure, is_schedule, measured_run, unflagged, words_of_check, words_of_run};
 ghost use Rattle.cilk_messages.specs.About.{is_about};
 ghost use Rattle.cilk_messages.specs.Batches.{is_settling};
@@ -65,6 +65,9 @@ pub fn serve_explained<F: Keeps, R: Read, O: Write, E: Write>(
         → length (unflagged (texts words.now)) < length (texts words.now)
         → ServesThenExplains (unflagged (texts words.now)) (F.holds files.old) (R.remaining input.old) (F.failed files.old) (F.failed files.new)
         result (O.contents out.old) (O.contents out.new) (E.contents err.old) (E.contents err.new) }
+    ensures about { order_in (texts words.now) ≡ None → is_measure (texts words.now) ≡ false → is_schedule (texts words.now) ≡ false
+        → is_settling (texts words.now) ≡ false → is_about (texts words.now) ≡ true
+        → AnswersAbout (texts words.now) result (O.contents out.old) (O.contents out.new) (E.contents err.old) (E.contents err.new) }
     ensures settled { explains_itself (order_in (texts words.now)) ≡ true
         → ServesThenExplains (texts words.now) (F.holds files.old) (R.remaining input.old) (F.failed files.old) (F.failed files.new)
         result (O.contents out.old) (O.contents out.new) (E.contents err.old) (E.contents err.new) }
@@ -114,6 +117,9 @@ fn serve_other<F: Keeps, R: Read, O: Write, E: Write>(
         → length (unflagged (texts words.now)) < length (texts words.now)
         → ServesThenExplains (unflagged (texts words.now)) (F.holds files.old) (R.remaining input.old) (F.failed files.old) (F.failed files.new)
         result (O.contents out.old) (O.contents out.new) (E.contents err.old) (E.contents err.new) }
+    ensures about { is_measure (texts words.now) ≡ false → is_schedule (texts words.now) ≡ false → is_settling (texts words.now) ≡ false
+        → is_about (texts words.now) ≡ true
+        → AnswersAbout (texts words.now) result (O.contents out.old) (O.contents out.new) (E.contents err.old) (E.contents err.new) }
     ensures untouched { unflagged (texts words.now) ≢ [] → input.new ≡ input.old }
     ensures most { TakesAtMost MAX_READ (R.remaining input.old) (R.remaining input.new) }
 {
@@ -149,6 +155,8 @@ fn serve_unmeasured<F: Keeps, R: Read, O: Write, E: Write>(
         → length (unflagged (texts words.now)) < length (texts words.now)
         → ServesThenExplains (unflagged (texts words.now)) (F.holds files.old) (R.remaining input.old) (F.failed files.old) (F.failed files.new)
         result (O.contents out.old) (O.contents out.new) (E.contents err.old) (E.contents err.new) }
+    ensures about { is_schedule (texts words.now) ≡ false → is_settling (texts words.now) ≡ false → is_about (texts words.now) ≡ true
+        → AnswersAbout (texts words.now) result (O.contents out.old) (O.contents out.new) (E.contents err.old) (E.contents err.new) }
     ensures untouched { unflagged (texts words.now) ≢ [] → input.new ≡ input.old }
     ensures most { TakesAtMost MAX_READ (R.remaining input.old) (R.remaining input.new) }
 {
@@ -180,12 +188,14 @@ fn serve_unscheduled<F: Keeps, R: Read, O: Write, E: Write>(
     ensures explained { is_about (texts words.now) ≡ false → length (unflagged (texts words.now)) < length (texts words.now)
         → ServesThenExplains (unflagged (texts words.now)) (F.holds files.old) (R.remaining input.old) (F.failed files.old) (F.failed files.new)
         result (O.contents out.old) (O.contents out.new) (E.contents err.old) (E.contents err.new) }
+    ensures about { is_about (texts words.now) ≡ true
+        → AnswersAbout (texts words.now) result (O.contents out.old) (O.contents out.new) (E.contents err.old) (E.contents err.new) }
     ensures untouched { unflagged (texts words.now) ≢ [] → input.new ≡ input.old }
     ensures most { TakesAtMost MAX_READ (R.remaining input.old) (R.remaining input.new) }
 {
     match answer_about(alloc, words) {
         Ok(About::Text(text)) => tell_text(text.as_bytes(), out, err),
-        Ok(About::Wrong(text)) => complain(alloc, &Failure::Words(text), err).status,
+        Ok(About::Wrong(text)) => tell_error(text.as_bytes(), err),
         Ok(About::Other) => match unflagged(alloc, words) {
             Ok(plain) if plain.len() < words.len() => {
                 let extras = extras_of(words);
@@ -445,6 +455,14 @@ pub(crate) fn tell_text<O: Write, E: Write>(text: &[u8], out: &mut O, err: &mut 
     if send(out, text) {
         return 0;
     }
-    let _ = tell(err, b"cannot write\n");
+    tell_error(b"cannot write\n", err)
+}
+
+/// Writes a text to standard error in place of an answer, and returns the status.
+fn tell_error<E: Write>(text: &[u8], err: &mut E) -> u8
+    ensures status { result ≡ 2 }
+    ensures told { (told : Bool) × AppendsFront told (E.contents err.old) (E.contents err.new) text.now }
+{
+    let _ = tell(err, text);
     WRONG
 }

@@ -2,7 +2,7 @@
 use Rattle.std.specs.Prelude.{◌≡◌, ◌<◌, ◌&&◌, ℕ, Bool, true, false, not, List, [], ◌∷◌, length, Option, Some, None, codes}
 use Rattle.std.specs.Str.{bytes_eq}
 use Rattle.cilk_messages.specs.Asked.{explains_itself, is_help, is_measure, is_schedule, unflagged, words_of_check}
-use Rattle.cilk_report.specs.Explained.{Follows, Measures, Schedules, ServesExplained, ServesThenExplains, Settles}
+use Rattle.cilk_report.specs.Explained.{AnswersAbout, Follows, Measures, Schedules, ServesExplained, ServesThenExplains, Settles}
 use Rattle.cilk_messages.specs.About.{is_about}
 use Rattle.cilk_messages.specs.Batches.{is_settling}
 use Rattle.cilk_commands.specs.Files.{Failures}
@@ -70,5 +70,7 @@ pub data ServesParallel (words : List Text) (files : Text → Option Text) (inpu
       → Settles words files input failed failed' status out out' err err')
       → (tool.order_in words ≡ None → is_measure words ≡ false → is_schedule words ≡ false → is_settling words ≡ false → is_about words ≡ false
       → length (unflagged words) < length words → ServesThenExplains (unflagged words) files input failed failed' status out out' err err')
+      → (tool.order_in words ≡ None → is_measure words ≡ false → is_schedule words ≡ false → is_settling words ≡ false → is_about words ≡ true
+      → AnswersAbout words status out out' err err')
       → (explains_itself (tool.order_in words) ≡ true → ServesThenExplains words files input failed failed' status out out' err err')
       → ServesParallel words files input failed failed' status out out' err err'

@@ -1,5 +1,6 @@
 use Rattle.std.proofs.Common.{ap, refl, subst, sym, ◌∙◌}
 use Rattle.std.proofs.lemmas.Bool.{true≢false}
+use Rattle.cilk_report.proofs.About.{unanswered}
 use Rattle.cilk_report.proofs.Batches as batches
 use Rattle.cilk_report.proofs.Measuring as measuring
 use Rattle.cilk_report.proofs.Replies.{IsUsage, of_kept, other, silence, starved, starved_or_settled, unasked, yes}
@@ -131,3 +132,15 @@ returns-in-Ok-clause-untouched g c = λ some. c.serve_flagged.ensures.untouched 
 
 pub returns-in-Ok-2-clause-untouched : goal.returns-in-Ok-2-clause-untouched
 returns-in-Ok-2-clause-untouched g c = λ some. c.serve.ensures.untouched (some_words _ (some_left _ some))
+
+pub returns-in-Ok-clause-about : goal.returns-in-Ok-clause-about
+returns-in-Ok-clause-about g c = λ empty _ _ _ _. absurd (measuring.asked _ _ c.in-Ok.ensures.order empty)
+
+pub returns-in-Ok-2-clause-about : goal.returns-in-Ok-2-clause-about
+returns-in-Ok-2-clause-about g c = λ empty _ _ _ _. absurd (measuring.asked _ _ c.in-Ok.ensures.order empty)
+
+pub returns-in-Err-Usage-clause-about : goal.returns-in-Err-Usage-clause-about
+returns-in-Err-Usage-clause-about g c = λ _. c.serve_other.ensures.about
+
+pub returns-in-Err-Memory-clause-about : goal.returns-in-Err-Memory-clause-about
+returns-in-Err-Memory-clause-about g c = λ _ _ _ _ _. unanswered _ _ _ _ _ _ c.complain.ensures

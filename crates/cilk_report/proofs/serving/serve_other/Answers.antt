@@ -44,3 +44,10 @@ pub returns-then-is_measure-clause-most : goal.returns-then-is_measure-clause-mo
 returns-then-is_measure-clause-most g c =
     subst (λ (o : Option (List ℕ)). TakesAtMost MAX_READ (g.R.Read.remaining c.args.input.now) o) (sym (ap g.R.Read.remaining c.serve_measure.ensures.untouched))
     (takes_same MAX_READ (g.R.Read.remaining c.args.input.now))
+
+pub returns-then-is_measure-clause-about : goal.returns-then-is_measure-clause-about
+returns-then-is_measure-clause-about g c =
+    λ isnt _ _ _. absurd (true≢false (sym c.if-is_measure.true ∙ c.is_measure.ensures ∙ isnt))
+
+pub returns-else-is_measure-clause-about : goal.returns-else-is_measure-clause-about
+returns-else-is_measure-clause-about g c = λ _. c.serve_unmeasured.ensures.about

@@ -43,3 +43,14 @@ returns-else-is_settling-clause-settles g c =
 
 pub returns-else-is_settling-clause-explained : goal.returns-else-is_settling-clause-explained
 returns-else-is_settling-clause-explained g c = λ _ _. c.serve_unscheduled.ensures.explained
+
+pub returns-then-is_schedule-clause-about : goal.returns-then-is_schedule-clause-about
+returns-then-is_schedule-clause-about g c =
+    λ isnt _ _. absurd (true≢false (sym c.if-is_schedule.true ∙ c.is_schedule.ensures ∙ isnt))
+
+pub returns-then-is_settling-clause-about : goal.returns-then-is_settling-clause-about
+returns-then-is_settling-clause-about g c =
+    λ _ isnt _. absurd (true≢false (sym c.if-is_settling.true ∙ c.is_settling.ensures ∙ isnt))
+
+pub returns-else-is_settling-clause-about : goal.returns-else-is_settling-clause-about
+returns-else-is_settling-clause-about g c = λ _ _. c.serve_unscheduled.ensures.about

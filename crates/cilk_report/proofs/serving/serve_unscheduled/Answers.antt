@@ -1,11 +1,12 @@
-use Rattle.std.proofs.Common.{◌≡◌, ◌<◌, ◌≤◌, List, ap, length, rules, subst, sym, ◌∙◌}
+use Rattle.std.proofs.Common.{◌≡◌, ◌<◌, ◌≤◌, List, ap, inl, length, refl, rules, string_bytes, subst, sym, ◌∙◌}
 use Rattle.std.proofs.lemmas.Bool.{true≢false}
 use Rattle.cilk_messages.proofs.Plain.{as_many, fewer}
+use Rattle.cilk_report.proofs.About.{error_about, text_about, unanswered}
 use Rattle.cilk_report.proofs.Replies.{refused, silence, starved}
 use Rattle.cilk_report.proofs.Standard.{some_words}
 use Rattle.cilk_report.specs.Explained.{About, Explained, Served, ServesThenExplains}
 use Rattle.cilk_messages.specs.Asked.{explains_itself, unflagged}
-use Rattle.cilk_commands.specs.Replies.{Text}
+use Rattle.cilk_commands.specs.Replies.{BadWords, Text}
 use Rattle.cilk_messages.specs.Words.{texts}
 use Rattle.cilk_commands.specs.declared.reply.Failure.TheVariants as failures
 use Rattle.cilk_report.proofs.serving.serve_unscheduled.Goals as goal
@@ -20,7 +21,9 @@ returns-in-Ok-Text-clause-explained g c =
 
 pub returns-in-Ok-Wrong-clause-served : goal.returns-in-Ok-Wrong-clause-served
 returns-in-Ok-Wrong-clause-served g c =
-    Served c.complain.result.told (ap explains_itself c.requires.other) (refused _ _ (failures.Words c.in-Ok-Wrong.text) _ _ _ _ _ c.requires.other tt c.complain.ensures)
+    Served c.tell_error.ensures.told.0 (ap explains_itself c.requires.other)
+    (refused _ _ (failures.Words c.in-Ok-Wrong.text) _ _ _ _ _ c.requires.other tt
+    (BadWords, inl refl, c.tell_error.ensures.status, (c.as_bytes-in-Ok-Wrong.result.now, tt, c.tell_error.ensures.told.1)))
 
 pub returns-in-Ok-Wrong-clause-explained : goal.returns-in-Ok-Wrong-clause-explained
 returns-in-Ok-Wrong-clause-explained g c =
@@ -46,7 +49,7 @@ returns-in-Ok-clause-explained g c = λ _ _.
 
 pub returns-in-Ok-2-clause-served : goal.returns-in-Ok-2-clause-served
 returns-in-Ok-2-clause-served g c =
-    Served c.complain-in-Ok-2.result.told (ap explains_itself c.requires.other) (refused _ _ c.refusal.result _ _ _ _ _ c.requires.other c.refusal.ensures c.complain-in-Ok-2.ensures)
+    Served c.complain.result.told (ap explains_itself c.requires.other) (refused _ _ c.refusal.result _ _ _ _ _ c.requires.other c.refusal.ensures c.complain.ensures)
 
 pub returns-in-Ok-2-clause-explained : goal.returns-in-Ok-2-clause-explained
 returns-in-Ok-2-clause-explained g c = λ _ less.
@@ -80,3 +83,32 @@ returns-in-Err-clause-explained g c = λ _ _. (
 pub returns-in-Ok-clause-untouched : goal.returns-in-Ok-clause-untouched
 returns-in-Ok-clause-untouched g c = λ some.
     c.serve_flagged.ensures.untouched (some_words _ (λ none. some (sym (ap texts c.as_slice.ensures.value ∙ c.in-Ok.ensures) ∙ none)))
+
+pub returns-in-Ok-Text-clause-about : goal.returns-in-Ok-Text-clause-about
+returns-in-Ok-Text-clause-about g c = λ _.
+    text_about (texts c.args.words.now) (string_bytes c.in-Ok-Text.text) c.as_bytes.result.now _ _ _ _ _ c.as_bytes.ensures.value
+    (λ yes. rw c.in-Ok-Text.field-0-is at c.in-Ok-Text.ensures.version yes)
+    (λ no yes. rw c.in-Ok-Text.field-0-is at c.in-Ok-Text.ensures.help no yes)
+    (λ no. rw c.in-Ok-Text.field-0-is at c.in-Ok-Text.ensures.other no) c.tell_text.ensures
+
+pub returns-in-Ok-Wrong-clause-about : goal.returns-in-Ok-Wrong-clause-about
+returns-in-Ok-Wrong-clause-about g c = λ _.
+    error_about (texts c.args.words.now) (string_bytes c.in-Ok-Wrong.text) c.as_bytes-in-Ok-Wrong.result.now _ _ _ _ c.as_bytes-in-Ok-Wrong.ensures.value
+    (λ yes. rw c.in-Ok-Wrong.field-0-is at c.in-Ok-Wrong.ensures.version yes)
+    (λ no yes. rw c.in-Ok-Wrong.field-0-is at c.in-Ok-Wrong.ensures.help no yes)
+    (λ no. rw c.in-Ok-Wrong.field-0-is at c.in-Ok-Wrong.ensures.other no) c.tell_error.ensures.status c.tell_error.ensures.told
+
+pub returns-in-Err-clause-about : goal.returns-in-Err-clause-about
+returns-in-Err-clause-about g c = λ _. unanswered _ _ _ _ _ _ c.complain-in-Err.ensures
+
+pub returns-in-Ok-clause-about : goal.returns-in-Ok-clause-about
+returns-in-Ok-clause-about g c =
+    λ yes. absurd (true≢false (sym yes ∙ rw c.in-Ok-Other.field-0-is at c.in-Ok-Other.ensures.asked))
+
+pub returns-in-Ok-2-clause-about : goal.returns-in-Ok-2-clause-about
+returns-in-Ok-2-clause-about g c =
+    λ yes. absurd (true≢false (sym yes ∙ rw c.in-Ok-Other.field-0-is at c.in-Ok-Other.ensures.asked))
+
+pub returns-in-Err-unflagged-clause-about : goal.returns-in-Err-unflagged-clause-about
+returns-in-Err-unflagged-clause-about g c =
+    λ yes. absurd (true≢false (sym yes ∙ rw c.in-Ok-Other.field-0-is at c.in-Ok-Other.ensures.asked))

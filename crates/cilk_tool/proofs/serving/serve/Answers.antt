@@ -17,7 +17,8 @@ returns-then-is_helped-clause-shown g c =
 pub returns-else-is_helped-clause-shown : goal.returns-else-is_helped-clause-shown
 returns-else-is_helped-clause-shown g c =
     Others (sym c.is_threads.ensures ∙ c.if-is_threads.false) (sym c.is_helped.ensures ∙ c.if-is_helped.false) c.serve_explained.ensures.served
-    c.serve_explained.ensures.measured c.serve_explained.ensures.scheduled c.serve_explained.ensures.settles c.serve_explained.ensures.explained c.serve_explained.ensures.settled
+    c.serve_explained.ensures.measured c.serve_explained.ensures.scheduled c.serve_explained.ensures.settles c.serve_explained.ensures.explained
+    c.serve_explained.ensures.about c.serve_explained.ensures.settled
 
 pub returns-then-is_threads-clause-most : goal.returns-then-is_threads-clause-most
 returns-then-is_threads-clause-most g c =

@@ -1,0 +1,50 @@
+-- The answers to words about the tool.
+--
+-- - `text_about`, `error_about`: a text on standard output, or on standard error;
+-- - `unanswered`: out of memory.
+use Rattle.std.proofs.Common.{◌≡◌, ℕ, List, length, Bool, true, false, Option, inl, inr, refl, subst}
+use Rattle.std.specs.Prelude.{◌<◌}
+use Rattle.cilk_commands.specs.Replies.{NoMemory, Text}
+use Rattle.cilk_commands.specs.Streams.{AppendsFront}
+use Rattle.cilk_commands.specs.declared.reply.Failure.TheVariants as failures
+use Rattle.cilk_messages.specs.About.{asks_help, asks_version}
+use Rattle.cilk_messages.specs.declared.help.TheConstants.{HELP, VERSION}
+use Rattle.cilk_report.proofs.Measuring.{Told, complains}
+use Rattle.cilk_report.proofs.Replies.{silence}
+use Rattle.cilk_report.specs.Explained.{AnswersAbout, Complains, WritesError, WritesText}
+
+-- `text` is written as `shown`
+module _ (words : List Text) (text shown : Text) (status : ℕ) where
+  pub text_about : (o o' e e' : Option Text) → shown ≡ text → (asks_version words ≡ true → text ≡ VERSION.now)
+      → (asks_version words ≡ false → asks_help words ≡ true → ⊥) → (asks_version words ≡ false → length VERSION.now < length text)
+      → WritesText shown status o o' e e' → AnswersAbout words status o o' e e'
+  text_about o o' e e' same version help other written =
+      let all : WritesText text status o o' e e' = subst (λ (t : Text). WritesText t status o o' e e') same written in record {
+        version = λ yes. inl (subst (λ (t : Text). WritesText t status o o' e e') (version yes) all);
+        help = λ no yes. absurd (help no yes);
+        other = λ no. inl (text, other no, inl all);
+      }
+
+  pub error_about : (o e e' : Option Text) → shown ≡ text → (asks_version words ≡ true → ⊥)
+      → (asks_version words ≡ false → asks_help words ≡ true → text ≡ HELP.now) → (asks_version words ≡ false → length VERSION.now < length text)
+      → status ≡ 2 → (told : Bool) × AppendsFront told e e' shown → AnswersAbout words status o o e e'
+  error_about o e e' same version help other two told =
+      let all : WritesError text status o o e e' =
+      (refl, two, subst (λ (t : Text). (told : Bool) × AppendsFront told e e' t) same told) in record {
+        version = λ yes. absurd (version yes);
+        help = λ no yes. inl (subst (λ (t : Text). WritesError t status o o e e') (help no yes) all);
+        other = λ no. inl (text, other no, inr all);
+      }
+
+pub unanswered : (words : List Text) (status : ℕ) (told : Bool) (o e m : Option Text) → Told failures.Memory status told e m
+    → AnswersAbout words status o o e m
+unanswered words status told o e m shown =
+    let starved : Complains NoMemory status o o e m =
+    elim shown.1 [
+      | inl is ↦ complains shown.0 NoMemory status status told o e m m is shown.2 shown.3 (silence status m) refl
+      | inr is ↦ complains shown.0 NoMemory status status told o e m m is shown.2 shown.3 (silence status m) refl
+    ] in record {
+      version = λ _. inr starved;
+      help = λ _ _. inr starved;
+      other = λ _. inr starved;
+    }
