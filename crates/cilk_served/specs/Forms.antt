@@ -3,7 +3,7 @@
 use Rattle.std.specs.Prelude.{◌≡◌, ℕ, List, [], ◌∷◌, Some, None, codes}
 use Rattle.cilk_messages.specs.CheckWords.{check_in, helped}
 use Rattle.cilk_messages.specs.ThreadsWords.{order_in as threads_in, requested}
-use Rattle.cilk_messages.specs.Words.{Certify, Check, File, Judge, Play, Requested, Run, Settle, Standard, order_in}
+use Rattle.cilk_messages.specs.Words.{Certify, Check, File, Judge, Play, Run, Settle, Standard, order_in}
 
 -- the paths
 abbrev pub program : List ℕ
