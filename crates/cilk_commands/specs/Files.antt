@@ -1,5 +1,5 @@
 -- The contents of files, and the reads that failed.
-use Rattle.std.specs.Prelude.{◌≡◌, ℕ, ◌<◌, ◌≤◌, List, length, take, drop, Option, IfSome}
+use Rattle.std.specs.Prelude.{◌≡◌, ◌⊎◌, ℕ, ◌<◌, ◌≤◌, List, length, take, drop, Option, IfSome}
 
 -- the bytes are the known contents, if these are known
 abbrev pub IsHeld : Option (List ℕ) → List ℕ → Type 0
@@ -29,3 +29,7 @@ HasFailed path old new = (old.count < new.count) × (new.elsewhere path ≡ old.
 pub record IsUnfailed (failed failed' : Failures) (path : List ℕ) : Type 0 where
   pub count : failed'.count ≡ failed.count
   pub elsewhere : failed'.elsewhere path ≡ failed.elsewhere path
+
+-- the failed reads are as before, or there are more of them
+abbrev pub StayOrRise : Failures → Failures → Type 0
+StayOrRise old new = (new ≡ old) ⊎ (old.count < new.count)

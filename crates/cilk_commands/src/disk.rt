@@ -1,6 +1,6 @@
 //! The files of the operating system.
 
-ghost use Rattle.std.specs.Prelude.{◌≡◌, ◌+◌, ◌<◌, ◌≤◌, None, IfOk, length};
+ghost use Rattle.std.specs.Prelude.{◌≡◌, ◌⊎◌, ◌+◌, ◌<◌, ◌≤◌, None, IfOk, length};
 
 use crate::files::{FileFault, Files};
 use std::alloc::Global;
@@ -97,7 +97,8 @@ impl<R: System> Disk<'_, R> {
     // The fault of an error. A failure of the device is counted.
     fn fault(&mut self, error: &io::Error) -> FileFault
         requires { self.old.failures < 18446744073709551615 }
-        ensures { result ≡ FileFault.Device → self.old.failures < self.new.failures }
+        ensures device { result ≡ FileFault.Device → self.old.failures < self.new.failures }
+        ensures risen { (self.new.failures ≡ self.old.failures) ⊎ (self.old.failures < self.new.failures) }
     {
         if error.kind() == ErrorKind::OutOfMemory {
             return FileFault::Memory;

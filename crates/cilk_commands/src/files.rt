@@ -1,7 +1,7 @@
 //! Files by path, read whole or in parts.
 
 ghost use Rattle.std.specs.Prelude.{◌≡◌, ℕ, ◌+◌, ◌<◌, ◌≤◌, List, Option, IfOk, OnOk, Err, length};
-ghost use Rattle.cilk_commands.specs.Files.{EndsAt, Failures, IsHeld, IsPart};
+ghost use Rattle.cilk_commands.specs.Files.{EndsAt, Failures, IsHeld, IsPart, StayOrRise};
 ghost use Rattle.cilk_commands.specs.declared.disk.TheConstants.{MAX_FILE};
 
 use std::alloc::{AllocError, AllocFailed, Global};
@@ -53,6 +53,7 @@ pub trait Files {
         ensures held { IfOk result (λ bytes. IsHeld (holds self.old path.now) bytes.items) }
         ensures counted { result ≡ Err FileFault.Device → (failed self.old).count < (failed self.new).count }
         ensures uncounted { OnOk result (failed self.new ≡ failed self.old) }
+        ensures risen { StayOrRise (failed self.old) (failed self.new) }
         ensures elsewhere { (failed self.new).elsewhere path.now ≡ (failed self.old).elsewhere path.now }
         ensures same { (p : List ℕ) → holds self.new p ≡ holds self.old p };
 
@@ -69,6 +70,7 @@ pub trait Files {
         ensures last { IfOk result (λ n. n ≡ 0 → 0 < length into.old → EndsAt (holds self.old path.now) at) }
         ensures counted { result ≡ Err FileFault.Device → (failed self.old).count < (failed self.new).count }
         ensures uncounted { OnOk result (failed self.new ≡ failed self.old) }
+        ensures risen { StayOrRise (failed self.old) (failed self.new) }
         ensures elsewhere { (failed self.new).elsewhere path.now ≡ (failed self.old).elsewhere path.now }
         ensures same { (p : List ℕ) → holds self.new p ≡ holds self.old p };
 

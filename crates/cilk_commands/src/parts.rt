@@ -1,6 +1,8 @@
 //! A file as the source of a certificate's or a trace's text, read in parts.
 
-ghost use Rattle.std.specs.Prelude.{◌≡◌, drop, option_map};
+ghost use Rattle.std.specs.Prelude.{◌≡◌, ◌<◌, ◌≤◌, Err, IfOk, OnOk, drop, length, option_map, take};
+ghost use Rattle.std.specs.Io.KnownBytes.{Consumes, IsAtEnd};
+ghost use Rattle.cilk_commands.specs.Files.{StayOrRise};
 ghost use Rattle.cilk_commands.specs.Sources.{kept_of};
 
 use crate::files::{FileFault, Files};
@@ -43,7 +45,20 @@ impl<F: Files> Source for PartSource<'_, '_, F> {
     // Failed reads of other files than `path`, both paths, and the contents of `other`.
     ghost kept = { λ s. kept_of (F.failed s.files.now) s.path.now s.other.now (F.holds s.files.now s.other.now) };
 
-    fn pull(&mut self, into: &mut [u8]) -> Result<usize, PullFault> {
+    fn pull(&mut self, into: &mut [u8]) -> Result<usize, PullFault>
+        requires { (F.failed self.old.files.now).count < 18446744073709551615 }
+        ensures within { IfOk result (λ n. n ≤ length into.old) }
+        ensures taken { IfOk result (λ n. Consumes (option_map (drop self.old.at) (F.holds self.old.files.now self.old.path.now))
+            (option_map (drop self.new.at) (F.holds self.new.files.now self.new.path.now)) (take n into.new)) }
+        ensures last { IfOk result (λ n. n ≡ 0 → 0 < length into.old
+            → IsAtEnd (option_map (drop self.new.at) (F.holds self.new.files.now self.new.path.now))) }
+        ensures counted { result ≡ Err PullFault.Device → (F.failed self.old.files.now).count < (F.failed self.new.files.now).count }
+        ensures uncounted { OnOk result ((F.failed self.new.files.now).count ≡ (F.failed self.old.files.now).count) }
+        ensures risen { StayOrRise (F.failed self.old.files.now) (F.failed self.new.files.now) }
+        ensures lender { self.new.files.ghost_name ≡ self.old.files.ghost_name }
+        ensures kept { kept_of (F.failed self.new.files.now) self.new.path.now self.new.other.now (F.holds self.new.files.now self.new.other.now)
+            ≡ kept_of (F.failed self.old.files.now) self.old.path.now self.old.other.now (F.holds self.old.files.now self.old.other.now) }
+    {
         match self.files.part(self.path, self.at, into) {
             Ok(count) => {
                 self.at += count as u64;

@@ -1,7 +1,7 @@
 //! Files with copies of what was read, so that an explanation is about the texts that were judged.
 
 ghost use Rattle.std.specs.Prelude.{◌≡◌, ◌+◌, ◌<◌, ◌≤◌, ℕ, [], Err, IfErr, IfOk, IsFalse, IsTrue, List, OnOk, Some, length};
-ghost use Rattle.cilk_commands.specs.Files.{EndsAt, IsHeld, IsPart};
+ghost use Rattle.cilk_commands.specs.Files.{EndsAt, IsHeld, IsPart, StayOrRise};
 ghost use Rattle.cilk_commands.specs.declared.disk.TheConstants.{MAX_FILE};
 ghost use Rattle.cilk_findings.specs.Keeping.{AddsCopy, KeepsCopies, copies_in};
 
@@ -52,6 +52,7 @@ impl<F: Files> Files for KeptFiles<F> {
         ensures held { IfOk result (λ bytes. IsHeld (F.holds self.old.files path.now) bytes.items) }
         ensures counted { result ≡ Err FileFault.Device → (F.failed self.old.files).count < (F.failed self.new.files).count }
         ensures uncounted { OnOk result (F.failed self.new.files ≡ F.failed self.old.files) }
+        ensures risen { StayOrRise (F.failed self.old.files) (F.failed self.new.files) }
         ensures elsewhere { (F.failed self.new.files).elsewhere path.now ≡ (F.failed self.old.files).elsewhere path.now }
         ensures same { (p : List ℕ) → F.holds self.new.files p ≡ F.holds self.old.files p }
         ensures keeps { self.new.keeps ≡ self.old.keeps }
@@ -77,6 +78,7 @@ impl<F: Files> Files for KeptFiles<F> {
         ensures last { IfOk result (λ n. n ≡ 0 → 0 < length into.old → EndsAt (F.holds self.old.files path.now) at) }
         ensures counted { result ≡ Err FileFault.Device → (F.failed self.old.files).count < (F.failed self.new.files).count }
         ensures uncounted { OnOk result (F.failed self.new.files ≡ F.failed self.old.files) }
+        ensures risen { StayOrRise (F.failed self.old.files) (F.failed self.new.files) }
         ensures elsewhere { (F.failed self.new.files).elsewhere path.now ≡ (F.failed self.old.files).elsewhere path.now }
         ensures same { (p : List ℕ) → F.holds self.new.files p ≡ F.holds self.old.files p }
         ensures keeps { self.new.keeps ≡ self.old.keeps }

@@ -5,6 +5,7 @@
 -- - `own_numbers`, `named_numbers`: the numbers of the run; `ungiven`: their file is at fault;
 -- - `runs`, `fails`: the answer of the run on given numbers;
 -- - `with_run_ok`, `with_run_err`, `beside`: the same, over unchanged files;
+-- - `accepts`: an accepting verdict;
 -- - `earlier_ok`, `earlier_err`: the same by what was known before its texts were read;
 -- - `judged_ok`: the answer to the command.
 use Rattle.std.proofs.Common.{◌≡◌, ℕ, List, [], ◌∷◌, Option, Some, None, option_map, refl, sym, ap, subst, inl, inr, ◌∙◌}
@@ -21,7 +22,7 @@ use Rattle.cilk_threads.specs.Outcomes.{DepartsNowhereOn, DepartsOn, IsFaultOn, 
 use Rattle.cilk_threads.specs.declared.run.ThreadFault.{ThreadFault}
 use Rattle.cilk_threads.specs.declared.run.ThreadFault.TheVariants as faults
 use Rattle.cilk_types.specs.declared.outcome.Outcome.{Outcome}
-use Rattle.cilk_commands.specs.Files.{Failures, IsHeld, IsUnfailed}
+use Rattle.cilk_commands.specs.Files.{Failures, IsHeld}
 use Rattle.cilk_commands.specs.Replies.{Ended, NoMemory, Refused, Reply, Text, failure_view}
 use Rattle.cilk_commands.specs.Serving.{AreGiven, InputFileFails, Judged, JudgedReply, Surroundings}
 use Rattle.cilk_commands.specs.Shown.{CheckShows}
@@ -120,12 +121,13 @@ same_accepted files files' failed failed' on workers a m r same (Ran numbers giv
 
 -- the answer for an accepted program
 module _ (files files' : Text → Option Text) (failed accepted failed' : Failures) (asked : Requested) (m : Meant) (inputs : List ℤ) (a : AcceptedRun)
-    (is : IsAcceptedRun m inputs (files asked.certificate) a) (unfailed : IsUnfailed failed accepted asked.certificate)
+    (is : IsAcceptedRun m inputs (files asked.certificate) a) (unfailed : accepted ≡ failed)
     (same : (path : Text) → asked.on ≡ Some path → files' path ≡ files path) where
   with_run : (r : Reply) → AcceptedShow files' accepted failed' asked.on asked.workers a (meant a.program) r → ThreadsShow files failed failed' asked m inputs r
   with_run r h =
-      WithRun a accepted is unfailed (subst (λ (n : Meant). AcceptedShow files accepted failed' asked.on asked.workers a n r) is.program
-      (same_accepted files files' accepted failed' asked.on asked.workers a (meant a.program) r same h))
+      WithRun a is (subst (λ (n : Meant). AcceptedShow files failed failed' asked.on asked.workers a n r) is.program
+      (same_accepted files files' failed failed' asked.on asked.workers a (meant a.program) r same
+      (subst (λ (f : Failures). AcceptedShow files' f failed' asked.on asked.workers a (meant a.program) r) unfailed h)))
 
   pub with_run_ok : {T : Type 0} (x : Result Ending T) → IfOk x (λ e. AcceptedShow files' accepted failed' asked.on asked.workers a (meant a.program) (ending_view e))
       → IfOk x (λ e. ThreadsShow files failed failed' asked m inputs (ending_view e))
@@ -139,10 +141,10 @@ module _ (files files' : Text → Option Text) (failed accepted failed' : Failur
 
 -- an accepting verdict
 pub accepts : (m : Meant) (inputs : List ℤ) (path : Text) (known other other' : Option Text) (failed accepted : Failures) (v : Verdict) (a : AcceptedRun)
-    → v ≡ verdicts.Accepted a → IsVerdict path known failed accepted m inputs v → StaysBeside failed accepted path other other' v
-    → IsAcceptedRun m inputs known a × IsUnfailed failed accepted path × (other' ≡ other)
+    → v ≡ verdicts.Accepted a → IsVerdict path known failed accepted m inputs v → StaysBeside failed accepted other other' v
+    → IsAcceptedRun m inputs known a × (accepted ≡ failed) × (other' ≡ other)
 accepts m inputs path known other other' failed accepted v a e is stays =
-    let left : IsUnfailed failed accepted path × (other' ≡ other) = subst (λ (x : Verdict). StaysBeside failed accepted path other other' x) e stays in
+    let left : (accepted ≡ failed) × (other' ≡ other) = subst (λ (x : Verdict). StaysBeside failed accepted other other' x) e stays in
     (subst (λ (x : Verdict). IsVerdict path known failed accepted m inputs x) e is, left.0, left.1)
 
 -- the other file's contents are the same
@@ -160,11 +162,11 @@ module _ (files files' : Text → Option Text) (failed before failed' : Failures
   earlier asked m inputs r (Unaccepted n h) =
       Unaccepted n (subst (λ (k : Option Text). CheckShows asked.certificate k failed failed' m inputs r) (same asked.certificate)
       (subst (λ (f : Failures). CheckShows asked.certificate (files' asked.certificate) f failed' m inputs r) unfailed h))
-  earlier asked m inputs r (WithRun a accepted is none h) =
-      WithRun a accepted
+  earlier asked m inputs r (WithRun a is h) =
+      WithRun a
       (record { program = is.program; input = is.input; certified = subst (λ (k : Option Text). IsCertified m.source inputs k a.trace a.outcome) (same asked.certificate) is.certified })
-      (subst (λ (f : Failures). IsUnfailed f accepted asked.certificate) unfailed none)
-      (same_accepted files files' accepted failed' asked.on asked.workers a m r (λ path _. same path) h)
+      (same_accepted files files' failed failed' asked.on asked.workers a m r (λ path _. same path)
+      (subst (λ (f : Failures). AcceptedShow files' f failed' asked.on asked.workers a m r) unfailed h))
 
   pub earlier_ok : {T : Type 0} (x : Result Ending T) (asked : Requested) (m : Meant) (inputs : List ℤ)
       → IfOk x (λ e. ThreadsShow files' before failed' asked m inputs (ending_view e)) → IfOk x (λ e. ThreadsShow files failed failed' asked m inputs (ending_view e))

@@ -2,4 +2,5 @@ pub mod Accepted
 pub mod CheckShowing
 pub mod Checked
 pub mod Helped
+pub mod Moments
 pub mod Showing

@@ -1,7 +1,7 @@
 -- The results of the parts of `threads`.
 use Rattle.std.specs.Prelude.{◌≡◌, ◌≢◌, ◌⊎◌, ℕ, ℤ, List, [], ◌∷◌, Option, Some, None}
 use Rattle.cilk_checker.specs.Judging.{Meant}
-use Rattle.cilk_commands.specs.Files.{Failures, IsHeld, IsUnfailed}
+use Rattle.cilk_commands.specs.Files.{Failures, IsHeld}
 use Rattle.cilk_commands.specs.Replies.{Accepted, Refused, Reply, Text, answer_view}
 use Rattle.cilk_commands.specs.Serving.{FileFails}
 use Rattle.cilk_commands.specs.Shown.{CheckShows, InputFails}
@@ -24,9 +24,9 @@ IsVerdict path known failed failed' m inputs (verdicts.Refused answer) =
 
 -- if the certificate is accepted, no read failed, and the contents of the other file are still
 -- known
-abbrev pub StaysBeside : Failures → Failures → Text → Option Text → Option Text → Verdict → Type 0
-StaysBeside failed failed' path known known' (verdicts.Accepted a) = IsUnfailed failed failed' path × (known' ≡ known)
-StaysBeside failed failed' path known known' (verdicts.Refused answer) = Unit {0}
+abbrev pub StaysBeside : Failures → Failures → Option Text → Option Text → Verdict → Type 0
+StaysBeside failed failed' known known' (verdicts.Accepted a) = (failed' ≡ failed) × (known' ≡ known)
+StaysBeside failed failed' known known' (verdicts.Refused answer) = Unit {0}
 
 -- the file of other numbers can't be read, or its text is refused
 abbrev pub AreNotGiven : (Text → Option Text) → Failures → Failures → Text → Reply → Type 0

@@ -8,7 +8,7 @@ use Rattle.cilk_threads.specs.Faults.{IsPool}
 use Rattle.cilk_plan.specs.Plans.{IsPlanOf}
 use Rattle.cilk_tree.specs.declared.event_order.EventOrder.{EventOrder}
 use Rattle.cilk_threads.specs.Outcomes.{DepartsNowhereOn, DepartsOn, IsOutcomeOn}
-use Rattle.cilk_commands.specs.Files.{Failures, IsHeld, IsUnfailed}
+use Rattle.cilk_commands.specs.Files.{Failures, IsHeld}
 use Rattle.cilk_commands.specs.Replies.{Accepted, Ended, NoMemory, Refused, Reply, Text}
 use Rattle.cilk_commands.specs.Serving.{InputFileFails}
 use Rattle.cilk_commands.specs.Shown.{CheckShows, InputFails}
@@ -54,8 +54,8 @@ RunShows a m numbers workers (Refused number places) = IsUnrun a numbers workers
 RunShows a m numbers workers NoMemory = Unit {0}
 RunShows a m numbers workers _ = ⊥
 
--- The answer for an accepted run, with the failed reads since it was accepted. Either the file of
--- other numbers can't be read or its text is refused, or the answer is that of the run.
+-- The answer for an accepted run. Either the file of other numbers is the first that can't be read,
+-- or its text is refused, or the answer is that of the run.
 pub data AcceptedShow (files : Text → Option Text) (failed failed' : Failures) (on : Option Text) (workers : ℕ) (a : AcceptedRun) (m : Meant)
     (r : Reply) : Type 0 where
   NumbersUnread : InputFileFails failed failed' on r → AcceptedShow files failed failed' on workers a m r
@@ -65,11 +65,10 @@ pub data AcceptedShow (files : Text → Option Text) (failed failed' : Failures)
       → AcceptedShow files failed failed' on workers a m r
 
 -- The answer for a program and its input: that of the check, if it doesn't accept; otherwise that
--- of the accepted run, and the certificate was read without a failure.
+-- of the accepted run. No read failed up to that.
 pub data ThreadsShow (files : Text → Option Text) (failed failed' : Failures) (asked : Requested) (m : Meant) (inputs : List ℤ)
     (r : Reply) : Type 0 where
   Unaccepted : r ≢ Accepted → CheckShows asked.certificate (files asked.certificate) failed failed' m inputs r
       → ThreadsShow files failed failed' asked m inputs r
-  WithRun : (a : AcceptedRun) (accepted : Failures) → IsAcceptedRun m inputs (files asked.certificate) a
-      → IsUnfailed failed accepted asked.certificate → AcceptedShow files accepted failed' asked.on asked.workers a m r
+  WithRun : (a : AcceptedRun) → IsAcceptedRun m inputs (files asked.certificate) a → AcceptedShow files failed failed' asked.on asked.workers a m r
       → ThreadsShow files failed failed' asked m inputs r

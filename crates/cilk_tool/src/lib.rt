@@ -36,6 +36,7 @@ mod explaining;
 mod helping;
 mod running;
 mod serving;
+mod since;
 mod stats;
 
 pub use cilk_commands::files::{FileFault, Files};

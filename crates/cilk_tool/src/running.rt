@@ -11,6 +11,7 @@ ghost use Rattle.cilk_tool.specs.Serving.{Answers};
 ghost use Rattle.cilk_tool.specs.Shown.{AcceptedShow, GivesNumbers, RunShows, ThreadsShow};
 ghost use Rattle.cilk_messages.specs.ThreadsWords.{order_view};
 
+use crate::since::{Moment, PartsSince};
 use cilk_checker::accepted::Accepted;
 use cilk_checker::check::check_run;
 use cilk_checker::refusal::Unaccepted;
@@ -30,6 +31,7 @@ use cilk_types::outcome::Outcome;
 use cilk_workers::gate::Gate;
 use std::alloc::Global;
 use std::io::Read;
+use std::marker::{Brand, PhantomData};
 use std::sync::Wait;
 use std::thread::Threads;
 
@@ -53,27 +55,37 @@ pub enum Verdict {
     Refused(Answer),
 }
 
-/// Checks the certificate in the file `path`. If it is accepted, the contents of the file `other`
-/// stay known.
-fn checked<'a, F: Files>(
+/// The paths of a certificate and of a file whose contents stay known. Both may be the same.
+#[derive(Clone, Copy)]
+struct Paths<'a> {
+    path: &'a str,
+    other: &'a str,
+}
+
+/// Checks the certificate in a file. If it is accepted, no read failed, and the contents of the
+/// other file stay known.
+fn checked<'a, F: Files, M: Moment>(
     alloc: Global,
     program: Program,
     input: Input,
-    path: &'a str,
-    other: &'a str,
+    paths: Paths<'a>,
     files: &mut F,
 ) -> Result<Verdict, Failure<'a>>
-    requires { (F.failed files.old).count < 18446744073709551615 }
-    ensures verdict { IfOk result (IsVerdict path.entry.now (F.holds files.old path.entry.now) (F.failed files.old) (F.failed files.new) (meant program) input) }
-    ensures failure { IfErr result (λ e. (failure_view e ≢ replies.Accepted) × CheckShows path.entry.now (F.holds files.old path.entry.now)
+    requires room { (F.failed files.old).count < 18446744073709551615 }
+    requires moment { F.failed files.old ≡ M.failed }
+    ensures verdict { IfOk result (IsVerdict paths.entry.path.now (F.holds files.old paths.entry.path.now) (F.failed files.old) (F.failed files.new) (meant program) input) }
+    ensures failure { IfErr result (λ e. (failure_view e ≢ replies.Accepted) × CheckShows paths.entry.path.now (F.holds files.old paths.entry.path.now)
         (F.failed files.old) (F.failed files.new) (meant program) input (failure_view e)) }
-    ensures beside { IfOk result (StaysBeside (F.failed files.old) (F.failed files.new) path.entry.now
-        (F.holds files.old other.entry.now) (F.holds files.new other.entry.now)) }
+    ensures beside { IfOk result (StaysBeside (F.failed files.old) (F.failed files.new)
+        (F.holds files.old paths.entry.other.now) (F.holds files.new paths.entry.other.now)) }
 {
-    let mut source = PartSource::new(files, path, other);
+    let mut source: PartsSince<'_, '_, F, M> = PartsSince {
+        parts: PartSource::new(files, paths.path, paths.other),
+        moment: PhantomData,
+    };
     match check_run(alloc, program, input, &mut source) {
         Ok(accepted) => Ok(Verdict::Accepted(accepted)),
-        Err(Unaccepted::Unread) => Err(Failure::Unreadable(path)),
+        Err(Unaccepted::Unread) => Err(Failure::Unreadable(paths.path)),
         Err(Unaccepted::Refusal(refusal)) => Ok(Verdict::Refused(refused(refusal)?)),
     }
 }
@@ -163,8 +175,11 @@ fn judged<'a, H: Threads + Wait + Sync, G: Gate + Sync, F: Files>(
     ensures failure { IfErr result (λ e. ThreadsShow (F.holds files.old) (F.failed files.old) (F.failed files.new) (order_view order.now)
         (meant program) input (failure_view e)) }
 {
-    let other = order.on.unwrap_or(order.certificate);
-    match checked(alloc, program, input, order.certificate, other, files)? {
+    let paths = Paths {
+        path: order.certificate,
+        other: order.on.unwrap_or(order.certificate),
+    };
+    match checked::<F, Brand>(alloc, program, input, paths, files)? {
         Verdict::Accepted(accepted) => {
             accepted_run(rt, alloc, &accepted, order.on, order.workers, gate, files)
         }

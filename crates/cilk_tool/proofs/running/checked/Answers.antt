@@ -1,28 +1,30 @@
 use Rattle.std.proofs.Common.{ap₂, rules}
 use Rattle.cilk_checker.specs.Judging.{meant}
 use Rattle.cilk_commands.proofs.Replying.{refused_whole}
-use Rattle.cilk_commands.proofs.Kept.{stays}
 use Rattle.cilk_tool.proofs.Checked.{refuses, unread}
+use Rattle.cilk_tool.proofs.Moments.{still}
 use Rattle.cilk_tool.proofs.running.checked.Goals as goal
 
 pub returns-in-Ok-clause-beside : goal.returns-in-Ok-clause-beside
 returns-in-Ok-clause-beside g c =
-    let made = c.new-source.ensures in
-    stays (λ files. g.F.Files.failed files) (λ files. g.F.Files.holds files) c.args.files.now c.new-source.result.files.now c.check_run.new.source.files.now _
-    _ _ _ _ c.args.path.now c.args.other.now made.files made.path made.other c.check_run.ensures.kept (search rules) c.in-Ok.ensures.uncounted
+    let made = c.new.ensures in
+    still (λ files. g.F.Files.failed files) (λ files. g.F.Files.holds files) g.M.Moment.failed c.args.files.now c.new.result.files.now
+    c.check_run.new.source.parts.files.now _ _ _ _ _ c.args.paths.path.now c.args.paths.other.now made.files made.path made.other c.check_run.ensures.kept
+    (search rules) c.in-Ok.ensures.uncounted c.requires.moment c.check_run.new.source.same
 
 pub returns-in-Err-Unread-clause-failure : goal.returns-in-Err-Unread-clause-failure
 returns-in-Err-Unread-clause-failure g c =
-    let made = c.new-source.ensures in
-    unread (λ files. g.F.Files.failed files) (λ files. g.F.Files.holds files) c.args.files.now c.new-source.result.files.now c.check_run.new.source.files.now _
-    _ _ _ _ c.args.path.now c.args.other.now made.files made.path made.other c.check_run.ensures.kept (search rules)
-    (g.F.Files.holds c.args.files.now c.args.path.now) _ (meant c.args.program) c.args.input
+    let made = c.new.ensures in
+    unread (λ files. g.F.Files.failed files) (λ files. g.F.Files.holds files) c.args.files.now c.new.result.files.now c.check_run.new.source.parts.files.now _
+    _ _ _ _ c.args.paths.path.now c.args.paths.other.now made.files made.path made.other c.check_run.ensures.kept (search rules)
+    (g.F.Files.holds c.args.files.now c.args.paths.path.now) _ (meant c.args.program) c.args.input
     c.in-Err-Unread.field-0 c.in-Err-Unread.field-0-is c.in-Err-Unread.ensures.unaccepted
 
 pub returns-in_ok-refused-in-Err-Refusal-clause-verdict : goal.returns-in_ok-refused-in-Err-Refusal-clause-verdict
 returns-in_ok-refused-in-Err-Refusal-clause-verdict g c =
-    let made = c.new-source.ensures in
-    refuses (λ files. g.F.Files.failed files) c.args.files.now _ c.in_ok-refused-in-Err-Refusal.field-0 c.args.path.now
-    (g.F.Files.holds c.args.files.now c.args.path.now) (meant c.args.program) c.args.input c.in-Err-Refusal.refusal c.in_ok-refused-in-Err-Refusal.ensures.answer
+    let made = c.new.ensures in
+    refuses (λ files. g.F.Files.failed files) c.args.files.now _ c.in_ok-refused-in-Err-Refusal.field-0 c.args.paths.path.now
+    (g.F.Files.holds c.args.files.now c.args.paths.path.now) (meant c.args.program) c.args.input c.in-Err-Refusal.refusal
+    c.in_ok-refused-in-Err-Refusal.ensures.answer
     (refused_whole _ _ _ _ _ _ _ c.in-Err-Refusal.field-0 _ (ap₂ (λ files path. g.F.Files.holds files path) made.files made.path)
     made.at (search rules) c.in-Err-Refusal.ensures.unaccepted)
