@@ -1,5 +1,7 @@
 //! Calls that no command makes.
 
+ghost use Rattle.std.specs.Prelude.{◌<◌};
+
 use crate::playing::{LIST, LOCAL, PRINTS, code_of, no_input, rounds};
 use cilk_cert_text::certificate::Certificate;
 use cilk_cert_text::read::{read, read_pieces};
@@ -203,7 +205,9 @@ fn turns_in_reverse(rt: HostRuntime) -> Result<(), AllocError> {
 }
 
 // The run by rounds of these workers.
-fn by_rounds(alloc: Global, code: &Code, workers: u32) -> Result<Shown, Stop> {
+fn by_rounds(alloc: Global, code: &Code, workers: u32) -> Result<Shown, Stop>
+    requires { 0 < workers }
+{
     let input = no_input(alloc);
     let mut machine = Machine::new(alloc, code, &input, workers)?;
     rounds(alloc, &mut machine, workers)?;

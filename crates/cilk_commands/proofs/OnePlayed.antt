@@ -3,7 +3,7 @@
 -- - `one_stop`, `steps_once`: the steps of a script show one reply;
 -- - `texts_once`: so does its text;
 -- - `plays_once`: so does the command `play`.
-use Rattle.std.proofs.Common.{◌≡◌, ◌<◌, ℕ, ℤ, List, Option, Some, None, inl, inr, refl, sym, ap, ap₂, ◌∙◌, subst}
+use Rattle.std.proofs.Common.{◌≡◌, ℕ, ℤ, List, Option, Some, None, inl, inr, refl, sym, ap, ap₂, ◌∙◌, subst}
 use Rattle.std.specs.Prelude.{IsSome}
 use Rattle.cilk_types.specs.Fault as faults
 use Rattle.cilk_checker.specs.Judging.{Meant}
@@ -19,7 +19,7 @@ use Rattle.cilk_commands.specs.Shown.{PlayShows, ScriptFails, StepsShow, TextSho
 some_is : {A : Type 0} (x y : A) → Some x ≡ Some y → x ≡ y
 some_is x y e = cc
 
-module _ (workers : ℕ) (some : 0 < workers) (steps : List Step) (m : Meant) (inputs : List ℤ) where
+module _ (workers : ℕ) (steps : List Step) (m : Meant) (inputs : List ℤ) where
   -- a reply to a script's steps is of one of these kinds
   data Kind : Reply → Type 0 where
     ended : (names : List Text) (o : _) → Kind (Ended names o)
@@ -47,23 +47,23 @@ module _ (workers : ℕ) (some : 0 < workers) (steps : List Step) (m : Meant) (i
   kind_of (replies.Changed name) v h = absurd h
 
   by_kind : (r q : Reply) → Kind r → Kind q → StepsShow workers steps m inputs r → StepsShow workers steps m inputs q → r ≡ q
-  by_kind r q (ended names o) (ended names' o') h k = ap₂ Ended (h.0 ∙ sym k.0) (some_is o o' (one_left m.source inputs workers steps (Some o') (Some o) (k.1 some) (h.1 some)))
-  by_kind r q (ended names o) unended h k = let e : None ≡ Some o = one_left m.source inputs workers steps (Some o) None (h.1 some) (k some) in let f : ⊥ = cc in absurd f
-  by_kind r q (ended names o) (past at) h k = absurd (left_or_past m.source inputs workers steps (Some o) at (h.1 some) (k some))
-  by_kind r q (ended names o) (stopped number name) h k = absurd (left_or_stopped m.source inputs workers steps (Some o) k.0 name (h.1 some) (k.2 some))
-  by_kind r q unended (ended names o) h k = let e : None ≡ Some o = one_left m.source inputs workers steps (Some o) None (k.1 some) (h some) in let f : ⊥ = cc in absurd f
+  by_kind r q (ended names o) (ended names' o') h k = ap₂ Ended (h.0 ∙ sym k.0) (some_is o o' (one_left m.source inputs workers steps (Some o') (Some o) k.1 h.1))
+  by_kind r q (ended names o) unended h k = let e : None ≡ Some o = one_left m.source inputs workers steps (Some o) None h.1 k in let f : ⊥ = cc in absurd f
+  by_kind r q (ended names o) (past at) h k = absurd (left_or_past m.source inputs workers steps (Some o) at h.1 k)
+  by_kind r q (ended names o) (stopped number name) h k = absurd (left_or_stopped m.source inputs workers steps (Some o) k.0 name h.1 k.2)
+  by_kind r q unended (ended names o) h k = let e : None ≡ Some o = one_left m.source inputs workers steps (Some o) None k.1 h in let f : ⊥ = cc in absurd f
   by_kind r q unended unended h k = refl
-  by_kind r q unended (past at) h k = absurd (left_or_past m.source inputs workers steps None at (h some) (k some))
-  by_kind r q unended (stopped number name) h k = absurd (left_or_stopped m.source inputs workers steps None k.0 name (h some) (k.2 some))
-  by_kind r q (past at) (ended names o) h k = absurd (left_or_past m.source inputs workers steps (Some o) at (k.1 some) (h some))
-  by_kind r q (past at) unended h k = absurd (left_or_past m.source inputs workers steps None at (k some) (h some))
-  by_kind r q (past at) (past at') h k = ap BadScript (one_line m.source inputs workers steps at' at (k some) (h some))
-  by_kind r q (past at) (stopped number name) h k = absurd (stopped_or_past m.source inputs workers steps k.0 name at (k.2 some) (h some))
-  by_kind r q (stopped number name) (ended names o) h k = absurd (left_or_stopped m.source inputs workers steps (Some o) h.0 name (k.1 some) (h.2 some))
-  by_kind r q (stopped number name) unended h k = absurd (left_or_stopped m.source inputs workers steps None h.0 name (k some) (h.2 some))
-  by_kind r q (stopped number name) (past at) h k = absurd (stopped_or_past m.source inputs workers steps h.0 name at (h.2 some) (k some))
+  by_kind r q unended (past at) h k = absurd (left_or_past m.source inputs workers steps None at h k)
+  by_kind r q unended (stopped number name) h k = absurd (left_or_stopped m.source inputs workers steps None k.0 name h k.2)
+  by_kind r q (past at) (ended names o) h k = absurd (left_or_past m.source inputs workers steps (Some o) at k.1 h)
+  by_kind r q (past at) unended h k = absurd (left_or_past m.source inputs workers steps None at k h)
+  by_kind r q (past at) (past at') h k = ap BadScript (one_line m.source inputs workers steps at' at k h)
+  by_kind r q (past at) (stopped number name) h k = absurd (stopped_or_past m.source inputs workers steps k.0 name at k.2 h)
+  by_kind r q (stopped number name) (ended names o) h k = absurd (left_or_stopped m.source inputs workers steps (Some o) h.0 name k.1 h.2)
+  by_kind r q (stopped number name) unended h k = absurd (left_or_stopped m.source inputs workers steps None h.0 name k h.2)
+  by_kind r q (stopped number name) (past at) h k = absurd (stopped_or_past m.source inputs workers steps h.0 name at h.2 k)
   by_kind r q (stopped number name) (stopped number' name') h k =
-      let e = one_stop m.source inputs workers steps k.0 h.0 name' name (k.2 some) (h.2 some) in
+      let e = one_stop m.source inputs workers steps k.0 h.0 name' name k.2 h.2 in
       ap₂ FaultedIn (h.1 ∙ ap faults.number_of e.0 ∙ sym k.1) e.1
 
   steps_once : (r q : Reply) → IsOfTexts r → IsOfTexts q → StepsShow workers steps m inputs r → StepsShow workers steps m inputs q → r ≡ q
@@ -89,15 +89,15 @@ fails_at text replies.RaceFree v h = absurd h
 fails_at text (replies.BadTrace n at) v h = absurd h
 fails_at text (replies.Changed name) v h = absurd h
 
-texts_once : (workers : ℕ) → 0 < workers → (text : Text) (m : Meant) (inputs : List ℤ) (r q : Reply) → IsOfTexts r → IsOfTexts q → TextShows workers text m inputs r → TextShows workers text m inputs q → r ≡ q
-texts_once workers some text m inputs r q v u (inl h) (inl k) =
+texts_once : (workers : ℕ) (text : Text) (m : Meant) (inputs : List ℤ) (r q : Reply) → IsOfTexts r → IsOfTexts q → TextShows workers text m inputs r → TextShows workers text m inputs q → r ≡ q
+texts_once workers text m inputs r q v u (inl h) (inl k) =
     let a = fails_at text r v h in
     let b = fails_at text q u k in
     a.1 ∙ ap BadScript (script_is_one.lines text b.0 a.0 b.2 a.2) ∙ sym b.1
-texts_once workers some text m inputs r q v u (inl h) (inr (steps, is, k)) = let a = fails_at text r v h in absurd (script_is_one.apart text steps a.0 is a.2)
-texts_once workers some text m inputs r q v u (inr (steps, is, h)) (inl k) = let a = fails_at text q u k in absurd (script_is_one.apart text steps a.0 is a.2)
-texts_once workers some text m inputs r q v u (inr (steps, is, h)) (inr (steps', is', k)) =
-    steps_once workers some steps' m inputs r q v u (subst (λ z. StepsShow workers z m inputs r) (sym (script_is_one.steps text steps steps' is is')) h) k
+texts_once workers text m inputs r q v u (inl h) (inr (steps, is, k)) = let a = fails_at text r v h in absurd (script_is_one.apart text steps a.0 is a.2)
+texts_once workers text m inputs r q v u (inr (steps, is, h)) (inl k) = let a = fails_at text q u k in absurd (script_is_one.apart text steps a.0 is a.2)
+texts_once workers text m inputs r q v u (inr (steps, is, h)) (inr (steps', is', k)) =
+    steps_once workers steps' m inputs r q v u (subst (λ z. StepsShow workers z m inputs r) (sym (script_is_one.steps text steps steps' is is')) h) k
 
 -- the text of a reply that is one of texts
 text_of : (path : Text) (known : Option Text) (failed failed' : Failures) (workers : ℕ) (m : Meant) (inputs : List ℤ) (r : Reply) → IsOfTexts r → PlayShows path known failed failed' workers m inputs r
@@ -124,9 +124,9 @@ one_text : (known : Option Text) (x y : Text) → IsSome known → IsHeld known 
 one_text None x y there h k = cc
 one_text (Some all) x y there h k = k ∙ sym h
 
-pub plays_once : (path : Text) (known : Option Text) (failed failed' : Failures) (workers : ℕ) → 0 < workers → (m : Meant) (inputs : List ℤ) → IsSome known → (r q : Reply) → IsOfTexts r → IsOfTexts q
+pub plays_once : (path : Text) (known : Option Text) (failed failed' : Failures) (workers : ℕ) (m : Meant) (inputs : List ℤ) → IsSome known → (r q : Reply) → IsOfTexts r → IsOfTexts q
     → PlayShows path known failed failed' workers m inputs r → PlayShows path known failed failed' workers m inputs q → r ≡ q
-plays_once path known failed failed' workers some m inputs there r q v u h k =
+plays_once path known failed failed' workers m inputs there r q v u h k =
     let a = text_of path known failed failed' workers m inputs r v h in
     let b = text_of path known failed failed' workers m inputs q u k in
-    texts_once workers some b.0 m inputs r q v u (subst (λ z. TextShows workers z m inputs r) (sym (one_text known a.0 b.0 there a.1 b.1)) a.2) b.2
+    texts_once workers b.0 m inputs r q v u (subst (λ z. TextShows workers z m inputs r) (sym (one_text known a.0 b.0 there a.1 b.1)) a.2) b.2

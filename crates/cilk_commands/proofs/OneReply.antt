@@ -4,7 +4,7 @@
 -- first fault. `same_given`, `one_refused`, `not_refused`: the texts mean one program and one
 -- input, or have one first fault, and not both. `one_judged`, `one_run`, `one_certify`,
 -- `one_check`, `one_play`, `one_settle`, `one_judge`: a command has one reply. `one_reply`: and so have words.
-use Rattle.std.proofs.Common.{◌≡◌, ◌<◌, ℕ, ℤ, List, take, Option, Some, None, refl, sym, ap, ◌∙◌, subst}
+use Rattle.std.proofs.Common.{◌≡◌, ℕ, ℤ, List, take, Option, Some, None, refl, sym, ap, ◌∙◌, subst}
 use Rattle.std.specs.Prelude.{◌≢◌, IfSome, IsSome}
 use Rattle.cilk_parser.specs.declared.fault.TextFault.{TextFault}
 use Rattle.cilk_parser.specs.declared.fault.TextFault.TheVariants as text_faults
@@ -28,7 +28,6 @@ use Rattle.cilk_commands.proofs.OneShown.{certifies_once, checks_once, shows_onc
 use Rattle.cilk_commands.proofs.OnePlayed.{plays_once}
 use Rattle.cilk_commands.proofs.OneSettled.{settles_once}
 use Rattle.cilk_commands.proofs.OneTraced.{judges_once}
-use Rattle.cilk_commands.proofs.Workers.{HasWorkers, has_workers}
 
 held : (o : Option Text) (f : Text → Text) (x y : Text) → IsSome o → IfSome o (λ all. x ≡ f all)
     → IfSome o (λ all. y ≡ f all) → x ≡ y
@@ -186,12 +185,12 @@ one_check w program certificate input r q x y z h k v u =
     (record { program_is = i; input_is = j }) r q)
     w (File program) input r q x y h k v u
 
-one_play : (w : Surroundings) (program script : Text) (workers : ℕ) (input : Option Text) (r q : Reply) → 0 < workers → IsKnown w (File program)
+one_play : (w : Surroundings) (program script : Text) (workers : ℕ) (input : Option Text) (r q : Reply) → IsKnown w (File program)
     → IsKnownInput w input → IsKnown w (File script) → PlayReply w program script workers input r → PlayReply w program script workers input q
     → IsOfTexts r → IsOfTexts q → r ≡ q
-one_play w program script workers input r q some x y z h k v u =
+one_play w program script workers input r q x y z h k v u =
     one_judged (PlayShows script (w.files script) w.failed w.failed' workers)
-    (λ m inputs text numbers i j r q. plays_once script (w.files script) w.failed w.failed' workers some m inputs z r q)
+    (λ m inputs text numbers i j r q. plays_once script (w.files script) w.failed w.failed' workers m inputs z r q)
     w (File program) input r q x y h k v u
 
 one_judge : (w : Surroundings) (trace : Text) (r q : Reply) → IsKnown w (File trace) → JudgeReply w trace r → JudgeReply w trace q → IsOfTexts r
@@ -203,16 +202,16 @@ bad_words BadWords h v = refl
 bad_words NoMemory h v = absurd v
 bad_words _ h v = absurd h
 
-one_answered : (w : Surroundings) (asked : Option Requested) → HasWorkers asked → HasOneReply w asked
-one_answered w None some x r q h k v u = bad_words r h v ∙ sym (bad_words q k u)
-one_answered w (Some (words.Run program input)) some x r q h k v u = one_run w program input r q x.0 x.1 h k v u
-one_answered w (Some (words.Certify program input)) some x r q h k v u = one_certify w program input r q x.0 x.1 h k v u
-one_answered w (Some (words.Check program certificate input)) some x r q h k v u =
+one_answered : (w : Surroundings) (asked : Option Requested) → HasOneReply w asked
+one_answered w None x r q h k v u = bad_words r h v ∙ sym (bad_words q k u)
+one_answered w (Some (words.Run program input)) x r q h k v u = one_run w program input r q x.0 x.1 h k v u
+one_answered w (Some (words.Certify program input)) x r q h k v u = one_certify w program input r q x.0 x.1 h k v u
+one_answered w (Some (words.Check program certificate input)) x r q h k v u =
     one_check w program certificate input r q x.0 x.1 x.2 h k v u
-one_answered w (Some (words.Play program script workers input)) some x r q h k v u =
-    one_play w program script workers input r q some x.0 x.1 x.2 h k v u
-one_answered w (Some (words.Settle program input)) some x r q h k v u = one_settle w program input r q x.0 x.1 h k v u
-one_answered w (Some (words.Judge trace sites)) some x r q h k v u = one_judge w trace r q x h k v u
+one_answered w (Some (words.Play program script workers input)) x r q h k v u =
+    one_play w program script workers input r q x.0 x.1 x.2 h k v u
+one_answered w (Some (words.Settle program input)) x r q h k v u = one_settle w program input r q x.0 x.1 h k v u
+one_answered w (Some (words.Judge trace sites)) x r q h k v u = one_judge w trace r q x h k v u
 
 pub one_reply : (w : Surroundings) (line : List Text) → HasOneReply w (order_in line)
-one_reply w line = one_answered w (order_in line) (has_workers line)
+one_reply w line = one_answered w (order_in line)

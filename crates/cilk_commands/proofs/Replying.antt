@@ -224,14 +224,14 @@ accepted_whole p inputs known known' at es o e d h =
     let whole : option_map (drop at) known' ≡ known = rw (e, d) (known_whole known) in
     subst (λ (x : Option Text). IsCertified p inputs x es o) whole h
 
-told_of : (workers : ℕ) (steps : List Step) (q : Meant) (inputs : List ℤ) (f : PlayFault) → (0 < workers → IsFault (Ends q.source inputs workers steps) f) → (0 < workers → FailsAsSettled q.source inputs f)
+told_of : (workers : ℕ) (steps : List Step) (q : Meant) (inputs : List ℤ) (f : PlayFault) → IsFault (Ends q.source inputs workers steps) f → FailsAsSettled q.source inputs f
     → StepsShow workers steps q inputs (play_fault_view f)
 told_of workers steps q inputs play_faults.Memory h never = tt
 told_of workers steps q inputs (play_faults.Line at) h never = h
 told_of workers steps q inputs (play_faults.Stop fault name) h never = (fault, refl, h, never)
 
 -- a fault of a script's steps
-pub fault_shown : (workers : ℕ) (steps : List Step) (q : Meant) (inputs : List ℤ) (f : PlayFault) (r : Reply) → (0 < workers → IsFault (Ends q.source inputs workers steps) f) → (0 < workers → FailsAsSettled q.source inputs f)
+pub fault_shown : (workers : ℕ) (steps : List Step) (q : Meant) (inputs : List ℤ) (f : PlayFault) (r : Reply) → IsFault (Ends q.source inputs workers steps) f → FailsAsSettled q.source inputs f
     → r ≡ play_fault_view f → StepsShow workers steps q inputs r
 fault_shown workers steps q inputs f r h never e = subst (λ x. StepsShow workers steps q inputs x) (sym e) (told_of workers steps q inputs f h never)
 

@@ -1,9 +1,9 @@
--- A `play` order has one worker or more.
+-- Words that are an order to play name one worker or more.
 --
 -- - `by_count`, `by_words`, `by_command`: for a word of digits, the matches of `play`, and those of
 --   a command;
--- - `has_workers`: the law.
-use Rattle.std.proofs.Common.{◌≡◌, ◌<◌, ◌≤◌, ℕ, Bool, true, false, List, [], ◌∷◌, Option, Some, None, refl, arith, leb-true}
+-- - `has_workers`: the law; `read_workers`: the order that is read.
+use Rattle.std.proofs.Common.{◌≡◌, ◌<◌, ◌≤◌, ℕ, Bool, true, false, List, [], ◌∷◌, Option, Some, None, refl, subst, arith, leb-true}
 use Rattle.std.specs.Prelude.{◌&&◌, if◌then◌else◌, codes, nat_le, option_map, option_and_then}
 use Rattle.std.specs.Str.{bytes_eq}
 use Rattle.std.proofs.lemmas.Bool.{and_parts}
@@ -11,18 +11,9 @@ use Rattle.clap.specs.Words.{Row, Text, fault_of, first_of, subcommand_of}
 use Rattle.clap.specs.Walk.{is_empty}
 use Rattle.cilk_syntax.specs.Lexing.{all_digits, value_of}
 use Rattle.cilk_messages.specs.declared.words.TheConstants.{MAX_WORKERS}
+use Rattle.cilk_commands.specs.Serving.{HasWorkers}
 use Rattle.cilk_messages.specs.Words as words
 use Rattle.cilk_messages.specs.Words.{Certify, Check, Judge, Play, Requested, Run, Settle, certify_with, check_with, cilk_app, judge_with, named, order_by, order_in, paths_in, play_with, run_with, script_with, settle_with, worker_count, workers_in}
-
--- an order has workers, if it is `play`
-abbrev pub HasWorkers : Option Requested → Type 0
-HasWorkers None = Unit {0}
-HasWorkers (Some (Run program input)) = Unit {0}
-HasWorkers (Some (Certify program input)) = Unit {0}
-HasWorkers (Some (Check program certificate input)) = Unit {0}
-HasWorkers (Some (Play program script workers input)) = 0 < workers
-HasWorkers (Some (Settle program input)) = Unit {0}
-HasWorkers (Some (Judge trace sites)) = Unit {0}
 
 counted : (n : ℕ) (b : Bool) → (b ≡ true → 1 ≤ n) → (workers : ℕ) → (if b then Some n else None) ≡ Some workers → 0 < workers
 counted n true some workers e = let z : Some n ≡ Some workers = e in let q : n ≡ workers = cc in let l = some refl in omega (arith, q, l)
@@ -110,3 +101,6 @@ pub has_workers : (line : List Text) → HasWorkers (order_in line)
 unfolding order_in
 has_workers [] = tt
 has_workers (w ∷ line) = chosen (is_empty (fault_of cilk_app (w ∷ line))) (order_by (subcommand_of cilk_app (w ∷ line))) None (by_command (subcommand_of cilk_app (w ∷ line))) tt
+
+pub read_workers : (line : List Text) (asked : Requested) → order_in line ≡ Some asked → HasWorkers (Some asked)
+read_workers line asked is = subst HasWorkers is (has_workers line)

@@ -1,5 +1,5 @@
 -- The replies that `serve` shows.
-use Rattle.std.specs.Prelude.{◌≡◌, ◌⊎◌, ℕ, ℤ, Bool, List, [], Option, Some, None, IfSome, codes, take}
+use Rattle.std.specs.Prelude.{◌≡◌, ◌<◌, ◌⊎◌, ℕ, ℤ, Bool, List, [], Option, Some, None, IfSome, codes, take}
 use Rattle.std.specs.Io.KnownBytes.{Appends}
 use Rattle.cilk_commands.specs.declared.streams.TheConstants.{MAX_READ}
 use Rattle.cilk_commands.specs.Files.{Failures, HasFailed, IsHeld}
@@ -119,6 +119,11 @@ IsStandard (File path) = ⊥
 abbrev pub ReadsStandard : Option Requested → Type 0
 ReadsStandard (Some (Run program input)) = IsStandard program
 ReadsStandard _ = ⊥
+
+-- an order to play has one worker or more
+abbrev pub HasWorkers : Option Requested → Type 0
+HasWorkers (Some (Play program script workers input)) = 0 < workers
+HasWorkers _ = Unit {0}
 
 -- the reply to words that are no order
 abbrev pub WordsFail : Reply → Type 0

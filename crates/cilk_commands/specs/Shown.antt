@@ -1,5 +1,5 @@
 -- The replies to texts with a fault, to runs, to certificates and to scripts.
-use Rattle.std.specs.Prelude.{◌≡◌, ◌≢◌, ◌⊎◌, ◌<◌, ℕ, ℤ, List, Option, Some, None}
+use Rattle.std.specs.Prelude.{◌≡◌, ◌≢◌, ◌⊎◌, ℕ, ℤ, List, Option, Some, None}
 use Rattle.cilk_types.specs.Fault as run_faults
 use Rattle.cilk_types.specs.declared.event.Event.{Event}
 use Rattle.cilk_types.specs.declared.fault.Fault.{Fault}
@@ -112,12 +112,12 @@ ScriptFails text _ = ⊥
 -- choice with its strand. If one serial run settles every parallel one, an outcome is that run's,
 -- and there is no fault.
 abbrev pub StepsShow : ℕ → List Step → Meant → List ℤ → Reply → Type 0
-StepsShow workers steps m inputs (Ended names o) = (names ≡ m.names) × (0 < workers → IsLeft m.source inputs workers steps (Some o)) × (0 < workers → LeavesAsSettled m.source inputs (Some o))
-StepsShow workers steps m inputs NotEnded = 0 < workers → IsLeft m.source inputs workers steps None
-StepsShow workers steps m inputs (BadScript at) = 0 < workers → Ends m.source inputs workers steps (Passed at)
+StepsShow workers steps m inputs (Ended names o) = (names ≡ m.names) × IsLeft m.source inputs workers steps (Some o) × LeavesAsSettled m.source inputs (Some o)
+StepsShow workers steps m inputs NotEnded = IsLeft m.source inputs workers steps None
+StepsShow workers steps m inputs (BadScript at) = Ends m.source inputs workers steps (Passed at)
 StepsShow workers steps m inputs (FaultedIn number name) =
-    (fault : Fault) × (number ≡ run_faults.number_of fault) × (0 < workers → StopsBy (Ends m.source inputs workers steps) fault name)
-    × (0 < workers → (outcome : Outcome) → IsSettled m.source inputs outcome → ⊥)
+    (fault : Fault) × (number ≡ run_faults.number_of fault) × StopsBy (Ends m.source inputs workers steps) fault name
+    × ((outcome : Outcome) → IsSettled m.source inputs outcome → ⊥)
 StepsShow workers steps m inputs NoMemory = Unit {0}
 StepsShow workers steps m inputs _ = ⊥
 

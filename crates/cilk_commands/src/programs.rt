@@ -1,6 +1,6 @@
 //! Judges texts, runs and certifies programs, and plays scripts. Each error is the failure to show.
 
-ghost use Rattle.std.specs.Prelude.{◌≡◌, IfOk, IfErr, map};
+ghost use Rattle.std.specs.Prelude.{◌≡◌, ◌<◌, IfOk, IfErr, map};
 ghost use Rattle.cilk_checker.specs.Judging.{IsProgramText, meant};
 ghost use Rattle.cilk_commands.specs.Replies.{answer_view, failure_view};
 ghost use Rattle.cilk_parser.specs.Scripts.{IsScript};
@@ -166,7 +166,7 @@ fn unplayed<'a>(fault: PlayFault) -> Failure<'a>
     }
 }
 
-// Plays the steps of a script with `workers` workers.
+// Plays the steps of a script with `workers` workers, at least 1.
 fn steps_left<'a>(
     alloc: Global,
     program: &Program,
@@ -174,6 +174,7 @@ fn steps_left<'a>(
     workers: u32,
     steps: &[Step],
 ) -> Result<Answer, Failure<'a>>
+    requires { 0 < workers }
     ensures ok { IfOk result (λ a. StepsShow workers steps.now (meant program.now) input.now (answer_view a)) }
     ensures err { IfErr result (λ e. StepsShow workers steps.now (meant program.now) input.now (failure_view e)) }
 {
@@ -187,7 +188,7 @@ fn steps_left<'a>(
     }
 }
 
-/// Plays the script of a text with `workers` workers.
+/// Plays the script of a text with `workers` workers, at least 1.
 pub fn script<'a>(
     alloc: Global,
     program: &Program,
@@ -195,6 +196,7 @@ pub fn script<'a>(
     workers: u32,
     text: &[u8],
 ) -> Result<Answer, Failure<'a>>
+    requires { 0 < workers }
     ensures ok { IfOk result (λ a. TextShows workers text.now (meant program.now) input.now (answer_view a)) }
     ensures err { IfErr result (λ e. TextShows workers text.now (meant program.now) input.now (failure_view e)) }
 {

@@ -242,7 +242,7 @@ pub fn check<'a, F: Files, R: Read>(
     checked(alloc, program, input, certificate, files)
 }
 
-// The run of the script in a file, with `workers` workers.
+// The run of the script in a file, with `workers` workers, at least 1.
 fn played<'a, F: Files>(
     alloc: Global,
     program: &Program,
@@ -251,7 +251,8 @@ fn played<'a, F: Files>(
     workers: u32,
     files: &mut F,
 ) -> Result<Answer, Failure<'a>>
-    requires { (F.failed files.old).count < 18446744073709551615 }
+    requires some { 0 < workers }
+    requires room { (F.failed files.old).count < 18446744073709551615 }
     ensures answer { IfOk result (λ a. PlayShows path.entry.now (F.holds files.old path.entry.now) (F.failed files.old) (F.failed files.new)
         workers (meant program.now) input.now (answer_view a)) }
     ensures failure { IfErr result (λ e. PlayShows path.entry.now (F.holds files.old path.entry.now) (F.failed files.old) (F.failed files.new)
@@ -261,8 +262,8 @@ fn played<'a, F: Files>(
     programs::script(alloc, program, input, workers, text.as_slice())
 }
 
-/// Plays a script for a program and an input, with `workers` workers. The script is read after the
-/// two texts are judged.
+/// Plays a script for a program and an input, with `workers` workers, at least 1. The script is read
+/// after the two texts are judged.
 pub fn play<'a, F: Files, R: Read>(
     alloc: Global,
     program: &'a str,
@@ -272,7 +273,8 @@ pub fn play<'a, F: Files, R: Read>(
     files: &mut F,
     reader: &mut R,
 ) -> Result<Answer, Failure<'a>>
-    requires { (F.failed files.old).count < 18446744073709551615 }
+    requires some { 0 < workers }
+    requires room { (F.failed files.old).count < 18446744073709551615 }
     ensures answer { IfOk result (λ a. PlayReply (world (F.holds files.old) (R.remaining reader.old) (F.failed files.old) (F.failed files.new))
         program.entry.now script.entry.now workers (option_map (λ p. p.now) input.entry) (answer_view a)) }
     ensures failure { IfErr result (λ e. PlayReply (world (F.holds files.old) (R.remaining reader.old) (F.failed files.old) (F.failed files.new))

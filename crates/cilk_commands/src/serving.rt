@@ -3,7 +3,7 @@
 ghost use Rattle.std.specs.Prelude.{◌≡◌, ◌<◌, Bool, IfOk, IfErr};
 ghost use Rattle.cilk_commands.specs.OneReply.{HasOneReply};
 ghost use Rattle.cilk_commands.specs.Replies.{Reply, answer_view, failure_view, status_of};
-ghost use Rattle.cilk_commands.specs.Serving.{Answers, IsOrNoMemory, ReadsStandard, Serves, Shows, ShowsError, world};
+ghost use Rattle.cilk_commands.specs.Serving.{Answers, HasWorkers, IsOrNoMemory, ReadsStandard, Serves, Shows, ShowsError, world};
 ghost use Rattle.cilk_commands.specs.Streams.{AppendsFront, TakesAtMost};
 ghost use Rattle.cilk_commands.specs.declared.streams.TheConstants.{MAX_READ};
 ghost use Rattle.cilk_messages.specs.Words.{order_in, order_view, texts};
@@ -17,7 +17,8 @@ use cilk_messages::words::{Order, WordsFault, read};
 use std::alloc::Global;
 use std::io::{Read, Write};
 
-/// Carries out an order.
+/// Carries out an order. An order to play names at least 1 worker, as each one from
+/// [`read`](cilk_messages::words::read) does.
 #[tactic(auto, using(crate::proofs::Reading::takes_same))]
 pub fn carry_out<'a, F: Files, R: Read>(
     alloc: Global,
@@ -25,7 +26,8 @@ pub fn carry_out<'a, F: Files, R: Read>(
     files: &mut F,
     input: &mut R,
 ) -> Result<Answer, Failure<'a>>
-    requires { (F.failed files.old).count < 18446744073709551615 }
+    requires some { HasWorkers (Some (order_view order)) }
+    requires room { (F.failed files.old).count < 18446744073709551615 }
     ensures answer { IfOk result (λ a. Answers (world (F.holds files.old) (R.remaining input.old) (F.failed files.old) (F.failed files.new))
         (Some (order_view order.entry)) (answer_view a)) }
     ensures failure { IfErr result (λ e. Answers (world (F.holds files.old) (R.remaining input.old) (F.failed files.old) (F.failed files.new))

@@ -1,6 +1,6 @@
 //! The trace of `play`: what each worker did by the orders of a script.
 
-ghost use Rattle.std.specs.Prelude.{◌≡◌};
+ghost use Rattle.std.specs.Prelude.{◌≡◌, ◌<◌};
 ghost use Rattle.cilk_schedule.specs.Played.{IsUnstopped};
 
 use crate::deeds::Deeds;
@@ -61,7 +61,8 @@ impl Left<'_> {
     }
 }
 
-/// Adds what each worker does by a script. `kept` has the program, its input and the script.
+/// Adds what each of `workers` workers, at least 1, does by a script. `kept` has the program, its input
+/// and the script.
 pub fn push_trace(
     alloc: Global,
     report: &mut String,
@@ -69,7 +70,9 @@ pub fn push_trace(
     input: Option<&str>,
     workers: u32,
     kept: &Kept,
-) -> Result<(), CaseFault> {
+) -> Result<(), CaseFault>
+    requires { 0 < workers }
+{
     let Some(texts) = CaseTexts::of(Origin::File(program), input, kept)? else {
         return Err(CaseFault::Unfit);
     };
@@ -83,7 +86,9 @@ fn push_script(
     case: &Case<'_>,
     workers: u32,
     script: &[u8],
-) -> Result<(), CaseFault> {
+) -> Result<(), CaseFault>
+    requires { 0 < workers }
+{
     let run = Run::of(case)?;
     match read(case.alloc, script) {
         Ok(steps) => push_run(report, Scene { case, run: &run }, workers, steps.as_slice()),
@@ -98,7 +103,9 @@ fn push_run(
     scene: Scene<'_>,
     workers: u32,
     steps: &[Step],
-) -> Result<(), CaseFault> {
+) -> Result<(), CaseFault>
+    requires { 0 < workers }
+{
     let Scene { case, run } = scene;
     let mut machine = Machine::new(case.alloc, &run.code, &case.input, workers)?;
     let mut deeds = Deeds::new(case.alloc, scene);

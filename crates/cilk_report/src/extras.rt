@@ -1,5 +1,9 @@
 //! The texts that follow a reply: its explanation, and what `--trace` and `--why` add.
 
+ghost use Rattle.std.specs.Prelude.{Some};
+ghost use Rattle.cilk_commands.specs.Serving.{HasWorkers};
+ghost use Rattle.cilk_messages.specs.Words.{order_view};
+
 use crate::explaining::{of_answer, of_failure};
 use cilk_commands::reply::{Answer, Failure};
 use cilk_findings::fault::CaseFault;
@@ -16,7 +20,9 @@ pub fn behind_answer(
     answer: &Answer,
     extras: Extras,
     kept: &Kept,
-) -> Result<String, CaseFault> {
+) -> Result<String, CaseFault>
+    requires { HasWorkers (Some (order_view order.now)) }
+{
     let mut text = if extras.explains || explains_itself(order) {
         of_answer(alloc, order, answer, kept)?
     } else {
@@ -40,7 +46,9 @@ pub fn behind_failure(
     failure: &Failure<'_>,
     extras: Extras,
     kept: &Kept,
-) -> Result<String, CaseFault> {
+) -> Result<String, CaseFault>
+    requires { HasWorkers (Some (order_view order.now)) }
+{
     let mut text = if extras.explains || explains_itself(order) {
         of_failure(alloc, order, failure, kept)?
     } else {
@@ -61,7 +69,9 @@ fn push_extras(
     extras: Extras,
     kept: &Kept,
     is_settled: bool,
-) -> Result<(), CaseFault> {
+) -> Result<(), CaseFault>
+    requires { HasWorkers (Some (order_view order.now)) }
+{
     match (order, extras.why) {
         (
             Order::Play {

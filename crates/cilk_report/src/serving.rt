@@ -6,7 +6,7 @@ ghost use Rattle.cilk_messages.specs.Asked.{explains_itself, is_measure, is_sche
 ghost use Rattle.cilk_messages.specs.About.{is_about};
 ghost use Rattle.cilk_messages.specs.Batches.{is_settling};
 ghost use Rattle.cilk_commands.specs.Replies.{answer_view, failure_view};
-ghost use Rattle.cilk_commands.specs.Serving.{ReadsStandard, WordsFail};
+ghost use Rattle.cilk_commands.specs.Serving.{HasWorkers, ReadsStandard, WordsFail};
 ghost use Rattle.cilk_commands.specs.Streams.{AppendsFront, TakesAtMost};
 ghost use Rattle.cilk_commands.specs.declared.reply.TheConstants.{NO_MEMORY};
 ghost use Rattle.cilk_commands.specs.declared.streams.TheConstants.{MAX_READ};
@@ -277,6 +277,7 @@ fn answered<F: Keeps>(
     extras: Extras,
     files: &mut F,
 ) -> Result<String, CaseFault>
+    requires { HasWorkers (Some (order_view order.now)) }
     ensures { (IsReadAgain (Some (order_view order.now)) (answer_view answer.now) → ⊥) → F.failed files.new ≡ F.failed files.old }
 {
     match order {
@@ -311,6 +312,7 @@ fn failed<F: Keeps>(
     extras: Extras,
     files: &mut F,
 ) -> Result<String, CaseFault>
+    requires { HasWorkers (Some (order_view order.now)) }
     ensures { (IsReadAgain (Some (order_view order.now)) (failure_view failure.now) → ⊥) → F.failed files.new ≡ F.failed files.old }
 {
     match order {

@@ -45,19 +45,20 @@ pub struct Machine<'a> {
 }
 
 impl<'a> Machine<'a> {
-    /// Creates a machine with `workers` workers before its first choice. The first worker holds the
-    /// first frame.
+    /// Creates a machine with `workers` workers, at least 1, before its first choice. The first worker
+    /// holds the first frame.
     pub fn new(
         alloc: Global,
         code: &'a Code,
         input: &'a Input,
         workers: u32,
     ) -> Result<Machine<'a>, AllocError>
+        requires { 0 < workers }
         ensures of { IfOk result (λ m. (m.code.now ≡ code.now) × (m.input.now ≡ input.now)) }
         ensures runs { IfOk result (λ m. Runs m.code.now m.input.now m.scheduler) }
         ensures workers { IfOk result (λ m. length m.scheduler.workers.items ≡ workers) }
         ensures running { IfOk result (λ m. (m.scheduler.stopped ≡ None) × (m.scheduler.outcome ≡ None)) }
-        ensures opened { IfOk result (λ m. 0 < workers → (p : Source) → IsCodeOf p code.now → HasOpened code.now p input.now m.scheduler (workers - 1)) }
+        ensures opened { IfOk result (λ m. (p : Source) → IsCodeOf p code.now → HasOpened code.now p input.now m.scheduler (workers - 1)) }
     {
         let scheduler = open(alloc, code, workers)?;
         Ok(Machine {
@@ -163,8 +164,9 @@ impl<'a> Machine<'a> {
     }
 }
 
-/// Makes `choices` one after another. Returns what the run shows at the state of the free machine
-/// to which they lead, or the stop of the choice that stopped the run.
+/// Makes `choices` one after another, on a machine with `workers` workers, at least 1. Returns what the
+/// run shows at the state of the free machine to which they lead, or the stop of the choice that
+/// stopped the run.
 ///
 /// A fault comes with the name of its strand. If memory runs out, even for that name, the stop is
 /// [`Stop::Memory`] without a name. A list of choices has at most one end
@@ -176,8 +178,9 @@ pub fn play(
     workers: u32,
     choices: &[Choice],
 ) -> Result<Shown, (Stop, Vec<u32>)>
-    ensures played { IfOk result (λ shown. 0 < workers → (p : Source) → IsCodeOf p code.now → IsPlayed p input.now workers choices.now shown) }
-    ensures stopped { IfErr result (λ e. 0 < workers → (p : Source) → IsCodeOf p code.now → IsStop p input.now workers choices.now e.0 e.1.items) }
+    requires { 0 < workers }
+    ensures played { IfOk result (λ shown. (p : Source) → IsCodeOf p code.now → IsPlayed p input.now workers choices.now shown) }
+    ensures stopped { IfErr result (λ e. (p : Source) → IsCodeOf p code.now → IsStop p input.now workers choices.now e.0 e.1.items) }
     ensures unnamed { IfErr result (λ e. e.0 ≡ stops.Memory → e.1.items ≡ []) }
 {
     let Ok(mut machine) = Machine::new(alloc, code, input, workers) else {

@@ -20,12 +20,14 @@ use cilk_scheduler::scheduler::Scheduler;
 use cilk_types::invocation::Invocation;
 use std::alloc::{AllocError, Global};
 
-/// Returns the state in which the first worker holds the first frame and the others are idle.
+/// Returns the state in which the first of `workers` workers, at least 1, holds the first frame and the
+/// others are idle.
 pub fn open(alloc: Global, code: &Code, workers: u32) -> Result<Scheduler, AllocError>
+    requires { 0 < workers }
     ensures runs { IfOk result (λ b. (inputs : List ℤ) → Runs code.now inputs b) }
     ensures workers { IfOk result (λ b. length b.workers.items ≡ workers) }
     ensures running { IfOk result (λ b. (b.stopped ≡ None) × (b.outcome ≡ None)) }
-    ensures opened { IfOk result (λ b. 0 < workers → (p : Source) (inputs : List ℤ) → IsCodeOf p code.now → HasOpened code.now p inputs b (workers - 1)) }
+    ensures opened { IfOk result (λ b. (p : Source) (inputs : List ℤ) → IsCodeOf p code.now → HasOpened code.now p inputs b (workers - 1)) }
 {
     code.laws();
     let layout = code.layout();

@@ -23,8 +23,8 @@ use std::alloc::Global;
 /// The maximum number of rounds that one `all` makes.
 pub const MAX_ROUNDS: u32 = 4_000_000;
 
-/// Makes the choices of a script's steps on a machine with `workers` workers. Returns the outcome,
-/// or `None` if the run hasn't ended. A stop ends the script.
+/// Makes the choices of a script's steps on a machine with `workers` workers, at least 1. Returns the
+/// outcome, or `None` if the run hasn't ended. A stop ends the script.
 ///
 /// Unless memory runs out, the result is the only end that the script has by the rules of the free
 /// machine. If one serial run settles the program, the outcome is that run's, and no strand stops
@@ -36,10 +36,11 @@ pub fn play(
     workers: u32,
     steps: &[Step],
 ) -> Result<Option<Outcome>, PlayFault>
-    ensures left { IfOk result (λ o. 0 < workers → IsLeft (source program.now) input.now workers steps.now o) }
-    ensures fault { IfErr result (λ f. 0 < workers → IsFault (Ends (source program.now) input.now workers steps.now) f) }
-    ensures settled { IfOk result (λ left. 0 < workers → LeavesAsSettled (source program.now) input.now left) }
-    ensures no_stop { IfErr result (λ f. 0 < workers → FailsAsSettled (source program.now) input.now f) }
+    requires { 0 < workers }
+    ensures left { IfOk result (λ o. IsLeft (source program.now) input.now workers steps.now o) }
+    ensures fault { IfErr result (λ f. IsFault (Ends (source program.now) input.now workers steps.now) f) }
+    ensures settled { IfOk result (λ left. LeavesAsSettled (source program.now) input.now left) }
+    ensures no_stop { IfErr result (λ f. FailsAsSettled (source program.now) input.now f) }
 {
     let code = lower(alloc, program)?;
     play_on(alloc, &code, input, workers, steps)
@@ -54,10 +55,11 @@ pub fn play_on(
     workers: u32,
     steps: &[Step],
 ) -> Result<Option<Outcome>, PlayFault>
-    ensures left { IfOk result (λ o. 0 < workers → (p : Source) → IsCodeOf p code.now → IsLeft p input.now workers steps.now o) }
-    ensures fault { IfErr result (λ f. 0 < workers → (p : Source) → IsCodeOf p code.now → IsFault (Ends p input.now workers steps.now) f) }
-    ensures settled { IfOk result (λ left. 0 < workers → (p : Source) → IsCodeOf p code.now → LeavesAsSettled p input.now left) }
-    ensures no_stop { IfErr result (λ f. 0 < workers → (p : Source) → IsCodeOf p code.now → FailsAsSettled p input.now f) }
+    requires { 0 < workers }
+    ensures left { IfOk result (λ o. (p : Source) → IsCodeOf p code.now → IsLeft p input.now workers steps.now o) }
+    ensures fault { IfErr result (λ f. (p : Source) → IsCodeOf p code.now → IsFault (Ends p input.now workers steps.now) f) }
+    ensures settled { IfOk result (λ left. (p : Source) → IsCodeOf p code.now → LeavesAsSettled p input.now left) }
+    ensures no_stop { IfErr result (λ f. (p : Source) → IsCodeOf p code.now → FailsAsSettled p input.now f) }
 {
     let mut machine = Machine::new(alloc, code, input, workers)?;
     make_all(alloc, &mut machine, workers, steps)?;

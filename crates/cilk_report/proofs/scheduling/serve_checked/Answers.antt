@@ -3,8 +3,13 @@ use Rattle.cilk_report.proofs.Replies.{IsUsage, asked_for, ended, failed, refuse
 use Rattle.std.specs.String.{string_bytes}
 use Rattle.cilk_report.specs.Explained.{Checked, IsRefusal, IsStealingScript, Told}
 use Rattle.cilk_commands.specs.Replies.{answer_view}
+use Rattle.cilk_commands.proofs.Workers.{read_workers}
+use Rattle.cilk_messages.specs.Words.{order_view, texts}
 use Rattle.cilk_messages.specs.declared.words.WordsFault.{WordsFault}
 use Rattle.cilk_report.proofs.scheduling.serve_checked.Goals as goal
+
+pub carry_out-requires-clause-some : goal.carry_out-requires-clause-some
+carry_out-requires-clause-some g c = read_workers (texts c.args.words.now) (order_view c.in-Ok.order) c.in-Ok.ensures.order
 
 pub returns-in-Ok-Some-clause-shown : goal.returns-in-Ok-Some-clause-shown
 returns-in-Ok-Some-clause-shown g c =

@@ -1,9 +1,19 @@
 use Rattle.std.proofs.Common.{Some, subst, sym}
 use Rattle.cilk_commands.specs.Replies.{answer_view, failure_view}
-use Rattle.cilk_messages.specs.Words.{order_view}
+use Rattle.cilk_commands.proofs.Workers.{read_workers}
+use Rattle.cilk_messages.specs.Words.{order_view, texts}
 use Rattle.cilk_report.proofs.Replies.{IsUsage, ended, failed, refused, reread, silence, starved, unasked}
 use Rattle.cilk_messages.specs.declared.words.WordsFault.{WordsFault}
 use Rattle.cilk_report.proofs.serving.serve_flagged.Goals as goal
+
+pub carry_out-requires-clause-some : goal.carry_out-requires-clause-some
+carry_out-requires-clause-some g c = read_workers (texts c.args.words.now) (order_view c.in-Ok.order) c.in-Ok.ensures.order
+
+pub answered-requires : goal.answered-requires
+answered-requires g c = read_workers (texts c.args.words.now) (order_view c.in-Ok.order) c.in-Ok.ensures.order
+
+pub failed-requires : goal.failed-requires
+failed-requires g c = read_workers (texts c.args.words.now) (order_view c.in-Ok.order) c.in-Ok.ensures.order
 
 pub returns-in-Ok-carry_out-clause-shown : goal.returns-in-Ok-carry_out-clause-shown
 returns-in-Ok-carry_out-clause-shown g c = (

@@ -40,7 +40,7 @@ returns-clause-runs c = λ inputs.
     }
 
 pub returns-clause-opened : goal.returns-clause-opened
-returns-clause-opened c = λ some p inputs is.
+returns-clause-opened c = λ p inputs is.
     let a = c.root-2.result in
     let here = c.layout-layout.ensures in
     let globals : c.len-globals.result ≡ (let l = c.args.code.now.layout in length l.openings) = c.len-globals.ensures ∙ ap (λ (l : Layout). length l.openings) here in
@@ -52,4 +52,4 @@ returns-clause-opened c = λ some p inputs is.
     (c.root-2.ensures.cursor ∙ c.new-frame_state.ensures) c.root-2.ensures.number (c.root-2.ensures.base ∙ globals) c.root-2.ensures.result (c.root-2.ensures.creator ∙ ap (λ (l : Layout). Some l.main) here)
     (c.in_ok-push.ensures.items ∙ ap (λ l. l ++ a ∷ []) c.new-frames.ensures.items)
     (c.in_ok-add_cells.ensures ∙ ap₂ (λ l n. l ++ replicate n (pos 0)) opens own)
-    (c.in_ok-first_workers.ensures.count ∙ omega (arith, some)) c.in_ok-first_workers.ensures.opens refl c.new.ensures.items refl refl)
+    (c.in_ok-first_workers.ensures.count ∙ omega (arith, c.requires)) c.in_ok-first_workers.ensures.opens refl c.new.ensures.items refl refl)

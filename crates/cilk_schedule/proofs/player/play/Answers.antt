@@ -8,13 +8,13 @@ of_program : (c : goal.After-drop-code) → IsCodeOf (source c.args.program.now)
 of_program c = record { well = c.args.program.now.well_named; behaves = c.in_ok-code.ensures.asks; lays = c.in_ok-code.ensures.layout }
 
 pub returns-clause-left : goal.returns-clause-left
-returns-clause-left c = IfOk-weaker c.play_on.result _ _ (λ o h some. h some (source c.args.program.now) (of_program c)) c.play_on.ensures.left
+returns-clause-left c = IfOk-weaker c.play_on.result _ _ (λ o h. h (source c.args.program.now) (of_program c)) c.play_on.ensures.left
 
 pub returns-clause-fault : goal.returns-clause-fault
-returns-clause-fault c = if_err c.play_on.result _ _ (λ f h some. h some (source c.args.program.now) (of_program c)) c.play_on.ensures.fault
+returns-clause-fault c = if_err c.play_on.result _ _ (λ f h. h (source c.args.program.now) (of_program c)) c.play_on.ensures.fault
 
 pub returns-clause-settled : goal.returns-clause-settled
-returns-clause-settled c = IfOk-weaker c.play_on.result _ _ (λ left h some. h some (source c.args.program.now) (of_program c)) c.play_on.ensures.settled
+returns-clause-settled c = IfOk-weaker c.play_on.result _ _ (λ left h. h (source c.args.program.now) (of_program c)) c.play_on.ensures.settled
 
 pub returns-clause-no_stop : goal.returns-clause-no_stop
-returns-clause-no_stop c = if_err c.play_on.result _ _ (λ f h some. h some (source c.args.program.now) (of_program c)) c.play_on.ensures.no_stop
+returns-clause-no_stop c = if_err c.play_on.result _ _ (λ f h. h (source c.args.program.now) (of_program c)) c.play_on.ensures.no_stop

@@ -1,4 +1,3 @@
-use Rattle.std.proofs.Common.{◌<◌}
 use Rattle.cilk_program.specs.Syntax.{Source}
 use Rattle.cilk_lower.specs.Behaves.{IsCodeOf}
 use Rattle.cilk_schedule.specs.Playing.{Ends, FailsAsSettled, IsFault}
@@ -12,25 +11,25 @@ returns-in_err-make_all-clause-fault c =
     let made = c.in_ok-machine.ensures in
     let f = c.in_err-make_all.field-0.0 in
     handed c.from_residual-in_err-make_all.result f
-    (λ f. 0 < c.args.workers → (p : Source) → IsCodeOf p c.args.code.now → IsFault (Ends p c.args.input.now c.args.workers c.args.steps.now) f) c.from_residual-in_err-make_all.ensures.1
-    (λ some p is. failed_by c.args.code.now p c.args.input.now c.args.workers c.args.steps.now c.in_ok-machine.machine f is made.of.0 made.of.1 (made.opened some p is) c.in_err-make_all.ensures.fault)
+    (λ f. (p : Source) → IsCodeOf p c.args.code.now → IsFault (Ends p c.args.input.now c.args.workers c.args.steps.now) f) c.from_residual-in_err-make_all.ensures.1
+    (λ p is. failed_by c.args.code.now p c.args.input.now c.args.workers c.args.steps.now c.in_ok-machine.machine f is made.of.0 made.of.1 (made.opened p is) c.in_err-make_all.ensures.fault)
 
 pub returns-in_err-make_all-clause-no_stop : goal.returns-in_err-make_all-clause-no_stop
 returns-in_err-make_all-clause-no_stop c =
     let made = c.in_ok-machine.ensures in
     let f = c.in_err-make_all.field-0.0 in
-    handed c.from_residual-in_err-make_all.result f (λ f. 0 < c.args.workers → (p : Source) → IsCodeOf p c.args.code.now → FailsAsSettled p c.args.input.now f)
+    handed c.from_residual-in_err-make_all.result f (λ f. (p : Source) → IsCodeOf p c.args.code.now → FailsAsSettled p c.args.input.now f)
     c.from_residual-in_err-make_all.ensures.1
-    (λ some p is. settled_fault p c.args.input.now c.args.workers c.args.steps.now f
-    (failed_by c.args.code.now p c.args.input.now c.args.workers c.args.steps.now c.in_ok-machine.machine f is made.of.0 made.of.1 (made.opened some p is) c.in_err-make_all.ensures.fault))
+    (λ p is. settled_fault p c.args.input.now c.args.workers c.args.steps.now f
+    (failed_by c.args.code.now p c.args.input.now c.args.workers c.args.steps.now c.in_ok-machine.machine f is made.of.0 made.of.1 (made.opened p is) c.in_err-make_all.ensures.fault))
 
 pub returns-clause-left : goal.returns-clause-left
-returns-clause-left c = λ some p is.
+returns-clause-left c = λ p is.
     let made = c.in_ok-machine.ensures in
-    left_by c.args.code.now p c.args.input.now c.args.workers c.args.steps.now c.in_ok-machine.machine c.make_all.new.machine c.into_outcome.result is made.of.0 made.of.1 (made.opened some p is) c.in_ok-make_all.ensures.made c.into_outcome.ensures
+    left_by c.args.code.now p c.args.input.now c.args.workers c.args.steps.now c.in_ok-machine.machine c.make_all.new.machine c.into_outcome.result is made.of.0 made.of.1 (made.opened p is) c.in_ok-make_all.ensures.made c.into_outcome.ensures
 
 pub returns-clause-settled : goal.returns-clause-settled
-returns-clause-settled c = λ some p is.
+returns-clause-settled c = λ p is.
     let made = c.in_ok-machine.ensures in
-    let l = left_by c.args.code.now p c.args.input.now c.args.workers c.args.steps.now c.in_ok-machine.machine c.make_all.new.machine c.into_outcome.result is made.of.0 made.of.1 (made.opened some p is) c.in_ok-make_all.ensures.made c.into_outcome.ensures in
+    let l = left_by c.args.code.now p c.args.input.now c.args.workers c.args.steps.now c.in_ok-machine.machine c.make_all.new.machine c.into_outcome.result is made.of.0 made.of.1 (made.opened p is) c.in_ok-make_all.ensures.made c.into_outcome.ensures in
     settled_end p c.args.input.now c.args.workers c.args.steps.now l.0 l.1 l.2 c.into_outcome.result l.3
