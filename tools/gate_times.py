@@ -39,7 +39,8 @@ def kind_of(words):
         return None
     crate = words[words.index("--crate-name") + 1]
     if words[1] == "check":
-        return crate, "edits"
+        # (a program without edits is checked once more before it is built)
+        return crate, "edits" if os.path.isdir(f"{TOP}/crates/{crate}/must-fail") else "proof"
     return crate, "tests" if "--test" in words else "proof"
 
 
