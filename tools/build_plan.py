@@ -11,7 +11,7 @@ import re
 USUAL = 1.0  # how much longer than the table a machine takes, while nothing of it is known
 KNOWN_BY = 2.0  # the minutes of the table after which that counts for half
 MINUTES_A_LINE = 0.0025  # of code, in a crate that the table doesn't have
-LAST = 1.5  # minutes of the table for the program itself, once all is proved: two compilers build it and it is run
+LAST = 0.3  # minutes of the table once all is proved: the program runs and is copied
 MEMORY = 4_500_000  # kilobytes of a process of the prover: few take more, most of them half
 
 
