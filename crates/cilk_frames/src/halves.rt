@@ -1,19 +1,10 @@
 //! Halves the turns of a parallel loop, until a frame has one.
 
-ghost use Rattle.std.specs.Ordering.{int_eq};
-ghost use Rattle.std.specs.Prelude.{◌≡◌, ◌-ℤ◌, pos};
+ghost use Rattle.std.specs.Prelude.{◌≡◌};
 ghost use Rattle.cilk_program.specs.Behaviour.{middle};
 
-pub use cilk_lower::layout::has_one;
+pub use cilk_lower::layout::{has_one, is_single};
 use cilk_program::ask::LoopPart;
-
-/// Returns whether turns from `low` up to `high` are a single one. Not inlined, as `middle`.
-#[inline(never)]
-pub fn is_single(low: i64, high: i64) -> bool
-    ensures { result ≡ int_eq (high -ℤ low) (pos 1) }
-{
-    i128::from(high) - i128::from(low) == 1
-}
 
 /// Returns the first half of the turns, for a child of their frame.
 #[inline(always)]

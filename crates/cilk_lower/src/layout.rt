@@ -103,11 +103,21 @@ impl Layout {
     }
 }
 
-/// Returns whether a part of a loop is a single turn. The distance of the bounds may exceed a word.
+/// Returns whether a part of a loop is a single turn.
 pub fn has_one(part: LoopPart) -> bool
     ensures { result ≡ int_eq (part.high -ℤ part.low) (pos 1) }
 {
-    i128::from(part.high) - i128::from(part.low) == 1
+    is_single(part.low, part.high)
+}
+
+/// Returns whether turns from `low` up to `high` are a single one. The distance of the bounds may
+/// exceed a word. Not inlined, since its arithmetic would be done at each entry of the loop over a
+/// frame's instructions.
+#[inline(never)]
+pub fn is_single(low: i64, high: i64) -> bool
+    ensures { result ≡ int_eq (high -ℤ low) (pos 1) }
+{
+    i128::from(high) - i128::from(low) == 1
 }
 
 /// Makes the layout of a program. The only error is out of memory. The time is linear in the

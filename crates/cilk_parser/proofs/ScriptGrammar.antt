@@ -9,7 +9,7 @@ use Rattle.std.proofs.lemmas.Bool.{cases_lt, eqb-true, eq-eqb, ne_eqb}
 use Rattle.std.proofs.Math.Seq.{get_or-append_seam, take-append_seam}
 use Rattle.cilk_syntax.specs.Lexing.{behind, belongs, front_of}
 use Rattle.cilk_syntax.specs.declared.lexer.Class.TheVariants.{Line}
-use Rattle.cilk_parser.specs.Scripts.{LexErrorKind, BadLine, Ends, FailsAtLine, IsBadLine, IsLine, Last, Later, Long, LongLine, Orders, is_silent, order_in, steps_of, without_return}
+use Rattle.cilk_parser.specs.Scripts.{Bad, BadLine, Ends, FailsAtLine, IsBadLine, IsLine, Last, Later, Long, LongLine, Orders, is_silent, order_in, steps_of, without_return}
 use Rattle.cilk_parser.specs.ScriptGrammar.{AllMean, GrammarsAgree, HasNoLf, IsBadEnded, IsBadLast, IsFirstBad, IsSpelled, Means, MeansBefore, ended, numbered}
 use Rattle.cilk_parser.specs.declared.script.LineOrder.{LineOrder}
 use Rattle.cilk_parser.specs.declared.script.Step.{Step}
@@ -242,7 +242,7 @@ fails_first n room text at (LongLine {b = b} {rest = rest} e l) = record {
   bad = inr (rest, split_text text b rest e, inr (omega (arith, l, length-append (front_of Line text) (10 ∷ []))));
   place = omega arith;
 }
-fails_first n room text at (LexErrorKind e l k) = record {
+fails_first n room text at (Bad e l k) = record {
   lines = [];
   meanings = [];
   line = text;
@@ -288,7 +288,7 @@ bad_last : (n room : ℕ) (text line : List ℕ) → HasNoLf line → IsBadLast 
 bad_last n room text line whole h =
     let e : behind Line text ≡ [] = ap (behind Line) h.0 ∙ last_behind line whole in
     ⊎_elim
-    (λ never. ⊎_elim (λ long. Long e long) (λ few. LexErrorKind e few (bad_line text (λ i. never (meaning_of text) (subst (λ x. Means x (meaning_of text)) h.0 (line_means text i))))) (cases_lt room (length text)))
+    (λ never. ⊎_elim (λ long. Long e long) (λ few. Bad e few (bad_line text (λ i. never (meaning_of text) (subst (λ x. Means x (meaning_of text)) h.0 (line_means text i))))) (cases_lt room (length text)))
     (λ long. Long e (subst (λ x. room < length x) (sym h.0) long)) h.1
 
 bad_ended : (n room : ℕ) (text line : List ℕ) → HasNoLf line → IsBadEnded room text [] line → FailsAtLine n room text n

@@ -8,7 +8,7 @@ use Rattle.std.proofs.Common.{◌≡◌, ◌-◌, ◌<◌, ◌≤◌, ℕ, suc, 
 use Rattle.std.specs.Prelude.{Result, Ok, Err, IfErr, IsErrAnd}
 use Rattle.cilk_syntax.specs.Lexing.{behind, front_of}
 use Rattle.cilk_syntax.specs.declared.lexer.Class.TheVariants.{Line}
-use Rattle.cilk_parser.specs.Scripts.{LexErrorKind, BadLine, Ends, FailsAtLine, IsBadAt, IsBadLine, IsFaultOf, IsLine, IsNoScript, IsScript, Orders, order_in, steps_of, without_return}
+use Rattle.cilk_parser.specs.Scripts.{Bad, BadLine, Ends, FailsAtLine, IsBadAt, IsBadLine, IsFaultOf, IsLine, IsNoScript, IsScript, Orders, order_in, steps_of, without_return}
 use Rattle.cilk_parser.specs.declared.script.ScriptFault.{ScriptFault}
 use Rattle.cilk_parser.specs.declared.script.ScriptFault.TheVariants as faults
 use Rattle.cilk_parser.specs.declared.script.Step.{Step}
@@ -35,7 +35,7 @@ handed text (Err f) e is h = subst (λ z. IsFaultOf text z) (sym is) h
 module _ (text : List ℕ) (n room : ℕ) (rest : List ℕ) (fails : (at : ℕ) → FailsAtLine n room rest at → IsNoScript text at) where
   pub last_bad : behind Line rest ≡ [] → length rest ≤ room → (e : ScriptFault) → IsBadAt n rest e → IsFaultOf text e
   last_bad ends few faults.Memory h = tt
-  last_bad ends few (faults.Line at) h = fails at (subst (λ k. FailsAtLine n room rest k) (sym h.0) (LexErrorKind ends few h.1))
+  last_bad ends few (faults.Line at) h = fails at (subst (λ k. FailsAtLine n room rest k) (sym h.0) (Bad ends few h.1))
 
   pub line_bad : (b : ℕ) (after : List ℕ) → behind Line rest ≡ b ∷ after → length (front_of Line rest) < room → (line : List ℕ) → line ≡ without_return (front_of Line rest) → (e : ScriptFault) → IsBadAt n line e → IsFaultOf text e
   line_bad b after ends few line is faults.Memory h = tt

@@ -75,7 +75,7 @@ one_list bytes _ ms (Found {rest = r} {ns = more} n g h) k =
 
 -- the first piece of bytes that have a fault
 data Fault (total count : ℕ) (bytes : List ℕ) (f : SyntaxErrorKind) (place : ℕ) : Type 0 where
-  LexErrorKind : IsBadWord bytes → f ≡ BadNumber → place + length bytes ≡ total → Fault total count bytes f place
+  BadWord : IsBadWord bytes → f ≡ BadNumber → place + length bytes ≡ total → Fault total count bytes f place
   Many : (n : ℤ) (rest : List ℕ) → IsNumber n bytes rest → count ≡ 65536 → f ≡ TooManyNumbers
       → place + length bytes ≡ total → Fault total count bytes f place
   Gap : (rest : List ℕ) → IsGap bytes rest → Fails total count rest f place → Fault total count bytes f place
@@ -84,7 +84,7 @@ data Fault (total count : ℕ) (bytes : List ℕ) (f : SyntaxErrorKind) (place :
 
 fault : (total count : ℕ) (bytes : List ℕ) (f : SyntaxErrorKind) (place : ℕ) → Fails total count bytes f place
     → Fault total count bytes f place
-fault total count bytes _ place (NoNumber w e) = LexErrorKind w refl e
+fault total count bytes _ place (NoNumber w e) = BadWord w refl e
 fault total count bytes _ place (OneTooMany {rest = r} n g c e) = Many n r g c refl e
 fault total count bytes f place (Behind {rest = r} g h) = Gap r g h
 fault total count bytes f place (Beyond {rest = r} n g c h) = Number n r g c h
@@ -94,14 +94,14 @@ Alike f g p q = (f ≡ g) × (p ≡ q)
 
 bad_step : (total count : ℕ) (bytes : List ℕ) (f : SyntaxErrorKind) (p q : ℕ) → IsBadWord bytes → p + length bytes ≡ total
     → Fault total count bytes f q → Alike BadNumber f p q
-bad_step total count bytes f p q w e (LexErrorKind v x y) = (sym x, omega arith)
+bad_step total count bytes f p q w e (BadWord v x y) = (sym x, omega arith)
 bad_step total count bytes f p q w e (Many n r g c x y) = number_bad n bytes r g w
 bad_step total count bytes f p q w e (Gap r g h) = gap_word bytes r g w.0
 bad_step total count bytes f p q w e (Number n r g c h) = number_bad n bytes r g w
 
 many_step : (total count : ℕ) (bytes rest : List ℕ) (n : ℤ) (f : SyntaxErrorKind) (p q : ℕ) → IsNumber n bytes rest
     → count ≡ 65536 → p + length bytes ≡ total → Fault total count bytes f q → Alike TooManyNumbers f p q
-many_step total count bytes rest n f p q g c e (LexErrorKind v x y) = number_bad n bytes rest g v
+many_step total count bytes rest n f p q g c e (BadWord v x y) = number_bad n bytes rest g v
 many_step total count bytes rest n f p q g c e (Many m r k d x y) = (sym x, omega arith)
 many_step total count bytes rest n f p q g c e (Gap r k h) = gap_word bytes r k g.0
 many_step total count bytes rest n f p q g c e (Number m r k d h) = absurd (omega arith)
@@ -109,7 +109,7 @@ many_step total count bytes rest n f p q g c e (Number m r k d h) = absurd (omeg
 gap_step : (total count : ℕ) (bytes rest : List ℕ) (f g : SyntaxErrorKind) (p q : ℕ) → IsGap bytes rest
     → ((o : SyntaxErrorKind) (z : ℕ) → Fails total count rest o z → Alike f o p z) → Fault total count bytes g q
     → Alike f g p q
-gap_step total count bytes rest f g p q k go (LexErrorKind v x y) = gap_word bytes rest k v.0
+gap_step total count bytes rest f g p q k go (BadWord v x y) = gap_word bytes rest k v.0
 gap_step total count bytes rest f g p q k go (Many m r l d x y) = gap_word bytes rest k l.0
 gap_step total count bytes rest f g p q k go (Gap r l h) =
     go g q (subst (λ y. Fails total count y g q) (same_gap bytes r rest l k) h)
@@ -118,7 +118,7 @@ gap_step total count bytes rest f g p q k go (Number m r l d h) = gap_word bytes
 count_step : (total count : ℕ) (bytes rest : List ℕ) (n : ℤ) (f g : SyntaxErrorKind) (p q : ℕ) → IsNumber n bytes rest
     → count < 65536 → ((o : SyntaxErrorKind) (z : ℕ) → Fails total (count + 1) rest o z → Alike f o p z)
     → Fault total count bytes g q → Alike f g p q
-count_step total count bytes rest n f g p q k c go (LexErrorKind v x y) = number_bad n bytes rest k v
+count_step total count bytes rest n f g p q k c go (BadWord v x y) = number_bad n bytes rest k v
 count_step total count bytes rest n f g p q k c go (Many m r l d x y) = absurd (omega arith)
 count_step total count bytes rest n f g p q k c go (Gap r l h) = gap_word bytes r l k.0
 count_step total count bytes rest n f g p q k c go (Number m r l d h) =
@@ -139,14 +139,14 @@ one_fault total count bytes f g p q (Beyond {rest = r} n l c h) k =
 
 -- numbers up to the end, within the limit, have no fault
 no_last : (total count : ℕ) (f : SyntaxErrorKind) (p : ℕ) → Fault total count [] f p → ⊥
-no_last total count f p (LexErrorKind v x y) = empty_word [] refl v.0
+no_last total count f p (BadWord v x y) = empty_word [] refl v.0
 no_last total count f p (Many m r l d x y) = empty_word [] refl l.0
 no_last total count f p (Gap r l h) = empty_gap [] r refl l
 no_last total count f p (Number m r l d h) = empty_word [] refl l.0
 
 no_gap : (total count : ℕ) (bytes rest : List ℕ) (f : SyntaxErrorKind) (p : ℕ) → IsGap bytes rest
     → (Fails total count rest f p → ⊥) → Fault total count bytes f p → ⊥
-no_gap total count bytes rest f p k go (LexErrorKind v x y) = gap_word bytes rest k v.0
+no_gap total count bytes rest f p k go (BadWord v x y) = gap_word bytes rest k v.0
 no_gap total count bytes rest f p k go (Many m r l d x y) = gap_word bytes rest k l.0
 no_gap total count bytes rest f p k go (Gap r l h) =
     go (subst (λ y. Fails total count y f p) (same_gap bytes r rest l k) h)
@@ -154,7 +154,7 @@ no_gap total count bytes rest f p k go (Number m r l d h) = gap_word bytes rest 
 
 no_number : (total count : ℕ) (bytes rest : List ℕ) (n : ℤ) (f : SyntaxErrorKind) (p : ℕ) → IsNumber n bytes rest
     → count < 65536 → (Fails total (count + 1) rest f p → ⊥) → Fault total count bytes f p → ⊥
-no_number total count bytes rest n f p k c go (LexErrorKind v x y) = number_bad n bytes rest k v
+no_number total count bytes rest n f p k c go (BadWord v x y) = number_bad n bytes rest k v
 no_number total count bytes rest n f p k c go (Many m r l d x y) = absurd (omega arith)
 no_number total count bytes rest n f p k c go (Gap r l h) = gap_word bytes r l k.0
 no_number total count bytes rest n f p k c go (Number m r l d h) =

@@ -8,4 +8,4 @@ use Rattle.cilk_parser.specs.declared.input.Front.TheVariants as fronts
 abbrev pub IsFront : List ℕ → Front → Type 0
 IsFront bytes (fronts.Gap rest) = IsGap bytes rest.now × (length rest.now < length bytes)
 IsFront bytes (fronts.Number n rest) = IsNumber n bytes rest.now × (length rest.now < length bytes)
-IsFront bytes fronts.LexErrorKind = IsBadWord bytes
+IsFront bytes fronts.BadWord = IsBadWord bytes

@@ -95,7 +95,7 @@ pub data Orders : ℕ → ℕ → List ℕ → List Step → Type 0 where
 pub data FailsAtLine : ℕ → ℕ → List ℕ → ℕ → Type 0 where
   Long : {n room : ℕ} {text : List ℕ} → behind Line text ≡ [] → room < length text → FailsAtLine n room text n
   LongLine : {n room : ℕ} {b : ℕ} {text rest : List ℕ} → behind Line text ≡ b ∷ rest → room ≤ length (front_of Line text) → FailsAtLine n room text n
-  LexErrorKind : {n room : ℕ} {text : List ℕ} → behind Line text ≡ [] → length text ≤ room → IsBadLine text → FailsAtLine n room text n
+  Bad : {n room : ℕ} {text : List ℕ} → behind Line text ≡ [] → length text ≤ room → IsBadLine text → FailsAtLine n room text n
   BadLine : {n room : ℕ} {b : ℕ} {text rest : List ℕ} → behind Line text ≡ b ∷ rest → length (front_of Line text) < room → IsBadLine (without_return (front_of Line text)) → FailsAtLine n room text n
   Later : {n room at : ℕ} {b : ℕ} {text rest : List ℕ} → behind Line text ≡ b ∷ rest → length (front_of Line text) < room → IsLine (without_return (front_of Line text))
       → FailsAtLine (suc n) (room - suc (length (front_of Line text))) rest at → FailsAtLine n room text at

@@ -56,7 +56,7 @@ fn number_in(word: &[u8]) -> Option<i64>
 enum Front<'a> {
     Gap(&'a [u8]),
     Number(i64, &'a [u8]),
-    LexErrorKind,
+    BadWord,
 }
 
 /// Reads the first piece: a byte between words, a number, or a word that is no number.
@@ -71,7 +71,7 @@ fn piece<'a>(first: u8, tail: &'a [u8], bytes: &'a [u8]) -> Front<'a>
     let (word, after) = split(Class::Solid, bytes);
     match number_in(word) {
         Some(number) => Front::Number(number, after),
-        None => Front::LexErrorKind,
+        None => Front::BadWord,
     }
 }
 
@@ -96,7 +96,7 @@ pub fn parse_input(alloc: Global, text: &[u8]) -> Result<Input, TextFault>
                 numbers.push(number)?;
                 rest = after;
             }
-            Front::LexErrorKind => {
+            Front::BadWord => {
                 return Err(TextFault::At(SyntaxErrorKind::BadNumber, place));
             }
         }

@@ -28,9 +28,9 @@ pub returns-then-len-eq-MAX_INPUTS-clause-fault : goal.returns-then-len-eq-MAX_I
 returns-then-len-eq-MAX_INPUTS-clause-fault c =
     c.each.invariant.fault _ _ (OneTooMany c.in-Number.number c.in-Number.ensures.0 (grind (arith, common_steps)) (omega (arith, c.each.invariant.shorter)))
 
-pub returns-in-LexErrorKind-clause-fault : goal.returns-in-LexErrorKind-clause-fault
-returns-in-LexErrorKind-clause-fault c =
-    c.each.invariant.fault _ _ (NoNumber c.in-LexErrorKind.ensures (omega (arith, c.each.invariant.shorter)))
+pub returns-in-BadWord-clause-fault : goal.returns-in-BadWord-clause-fault
+returns-in-BadWord-clause-fault c =
+    c.each.invariant.fault _ _ (NoNumber c.in-BadWord.ensures (omega (arith, c.each.invariant.shorter)))
 
 pub returns-clause-numbers : goal.returns-clause-numbers
 returns-clause-numbers c =
