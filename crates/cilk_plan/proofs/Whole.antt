@@ -1,10 +1,11 @@
--- The answers of a program's plan: `syncs_told`, `blocks_told`, `strands_told`, `resumptions_told`.
+-- The answers of a program's plan: `syncs_told`, `told_by_blocks` (of the first spawns and the blocks), `strands_told`,
+-- `resumptions_told`.
 use Rattle.std.proofs.Common.{◌≡◌, ℕ, List, sym, ap, subst}
 use Rattle.cilk_types.specs.declared.event.Event.{Event}
 use Rattle.cilk_tree.specs.declared.event_order.EventOrder.{EventOrder}
 use Rattle.cilk_tree.specs.Resumptions.{AreResumptions}
 use Rattle.cilk_checker.specs.Determinate.{AcceptedRun}
-use Rattle.cilk_tree.specs.Columns.{AreBlockEnds, AreBlocks, AreStrands}
+use Rattle.cilk_tree.specs.Columns.{AreBlockEnds, AreStrands}
 use Rattle.cilk_plan.specs.Plans.{IsPlanOf, WholePlan}
 use Rattle.cilk_plan.proofs.Columns.{one_list}
 
@@ -16,11 +17,12 @@ pub syncs_told : (w : WholePlan) (a : AcceptedRun) (s : EventOrder) (column lent
 syncs_told w a s column lent same are is =
     subst (λ (v : WholePlan). AreBlockEnds v.event_order lent) same (subst (AreBlockEnds s) (sym is) are)
 
-pub blocks_told : (w : WholePlan) (a : AcceptedRun) (s : EventOrder) (syncs column lent : List ℕ) → whole a s ≡ w → AreBlockEnds s syncs → AreBlocks s syncs column
-    → lent ≡ column → (ends : List ℕ) → AreBlockEnds w.event_order ends → AreBlocks w.event_order ends lent
-blocks_told w a s syncs column lent same are blocks is =
-    subst (λ (v : WholePlan). (ends : List ℕ) → AreBlockEnds v.event_order ends → AreBlocks v.event_order ends lent) same
-    (λ ends them. subst (λ (z : List ℕ × List ℕ). AreBlocks s z.0 z.1) (λ i. (one_list s syncs ends are them i, sym is i)) blocks)
+-- a column that goes by the ends of blocks, which make one list
+pub told_by_blocks : (Are : EventOrder → List ℕ → List ℕ → Type 0) (w : WholePlan) (a : AcceptedRun) (s : EventOrder) (syncs column lent : List ℕ) → whole a s ≡ w
+    → AreBlockEnds s syncs → Are s syncs column → lent ≡ column → (ends : List ℕ) → AreBlockEnds w.event_order ends → Are w.event_order ends lent
+told_by_blocks Are w a s syncs column lent same are so is =
+    subst (λ (v : WholePlan). (ends : List ℕ) → AreBlockEnds v.event_order ends → Are v.event_order ends lent) same
+    (λ ends them. subst (λ (z : List ℕ × List ℕ). Are s z.0 z.1) (λ i. (one_list s syncs ends are them i, sym is i)) so)
 
 pub strands_told : (w : WholePlan) (a : AcceptedRun) (s : EventOrder) (column lent : List ℕ) → whole a s ≡ w → IsPlanOf a s → AreStrands a.trace column → lent ≡ column
     → AreStrands w.event_order.events lent

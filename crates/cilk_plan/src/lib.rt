@@ -7,7 +7,8 @@
 //! - the program, its code and the run's input;
 //! - the kinds of the run's events in serial order ([`cilk_tree::plan::Plan`]);
 //! - for each frame, the body that it runs and where its cells are;
-//! - for each spawn, the `resume` after it; the blocks with spawns, by the `sync` that ends each;
+//! - for each spawn, the `resume` after it; the blocks with spawns, by the `sync` that ends each, and
+//!   their first spawns;
 //! - the positions at which strands begin.
 //!
 //! It holds no value of any event and no outcome, so a worker knows only what it loads or computes.

@@ -9,7 +9,7 @@ ghost use Rattle.cilk_tree.specs.Resumptions.{AreResumptions};
 ghost use Rattle.cilk_program.specs.Sources.{source};
 ghost use Rattle.cilk_tree.specs.Orders.{IsOrderly};
 ghost use Rattle.cilk_tree.specs.Kinds.{IsBehind};
-ghost use Rattle.cilk_tree.specs.Columns.{AreBlockEnds, AreBlocks, AreStrands};
+ghost use Rattle.cilk_tree.specs.Columns.{AreBlockEnds, AreBlocks, AreFirstSpawns, AreStrands};
 ghost use Rattle.cilk_plan.specs.Continuations.{SpawnsHaveContinuations};
 ghost use Rattle.cilk_plan.specs.Frames.{IsFrameOf};
 ghost use Rattle.cilk_plan.specs.Plans.{IsPlanOf};
@@ -43,6 +43,7 @@ pub struct ProgramPlan<'a> {
     events: Plan,
     frames: &'a [PlannedFrame],
     syncs: Vec<Pos>,
+    firsts: Vec<Pos>,
     blocks: Vec<u32>,
     strands: Vec<StrandNo>,
     resumptions: Vec<Pos>,
@@ -59,6 +60,7 @@ impl Drop for ProgramPlan<'_> {
             events: _events,
             frames: _frames,
             syncs: _syncs,
+            firsts: _firsts,
             blocks: _blocks,
             strands: _strands,
             resumptions: _resumptions,
@@ -75,7 +77,7 @@ impl<'a> Model for ProgramPlan<'a> {
     ghost use Rattle.cilk_lower.specs.Rooms.{RoomsFit};
     ghost use Rattle.cilk_tree.specs.Resumptions.{AreResumptions};
     ghost use Rattle.cilk_program.specs.Sources.{source};
-    ghost use Rattle.cilk_tree.specs.Columns.{AreBlockEnds, AreBlocks, AreStrands};
+    ghost use Rattle.cilk_tree.specs.Columns.{AreBlockEnds, AreBlocks, AreFirstSpawns, AreStrands};
     ghost use Rattle.cilk_plan.specs.Plans.{IsPlanOf, WholePlan, whole_code};
 
     ghost Value = { WholePlan };
@@ -84,7 +86,7 @@ impl<'a> Model for ProgramPlan<'a> {
 
     ghost view = { λ p. record { run = p.accepted.value; event_order = p.events } };
 
-    ghost invariant = { λ p. HasDeterminateRun p.accepted.value × (p.program.now ≡ p.accepted.value.program) × (p.input.now ≡ p.accepted.value.input) × Behaves (source p.accepted.value.program) p.code × RoomsFit (source p.accepted.value.program) p.code × LaysOut (source p.accepted.value.program) p.code.layout × IsPlanOf p.accepted.value p.events × AreFramesOf p.accepted.value p.frames.now × AreBlockEnds p.events p.syncs.items × AreStrands p.accepted.value.trace p.strands.items × AreResumptions p.events p.resumptions.items × AreBlocks p.events p.syncs.items p.blocks.items };
+    ghost invariant = { λ p. HasDeterminateRun p.accepted.value × (p.program.now ≡ p.accepted.value.program) × (p.input.now ≡ p.accepted.value.input) × Behaves (source p.accepted.value.program) p.code × RoomsFit (source p.accepted.value.program) p.code × LaysOut (source p.accepted.value.program) p.code.layout × IsPlanOf p.accepted.value p.events × AreFramesOf p.accepted.value p.frames.now × AreBlockEnds p.events p.syncs.items × AreStrands p.accepted.value.trace p.strands.items × AreResumptions p.events p.resumptions.items × AreBlocks p.events p.syncs.items p.blocks.items × AreFirstSpawns p.events p.syncs.items p.firsts.items };
 }
 
 /// Makes the plan of an accepted program's run. Cost and memory: linear in the run's events and the
@@ -99,6 +101,7 @@ pub fn plan<'a>(alloc: Global, accepted: &'a Accepted) -> Result<ProgramPlan<'a>
     events.laws();
     let PlanBlocks {
         syncs,
+        firsts,
         blocks,
         resumptions,
     } = blocks_of(alloc, &events)?;
@@ -110,6 +113,7 @@ pub fn plan<'a>(alloc: Global, accepted: &'a Accepted) -> Result<ProgramPlan<'a>
         events,
         frames: accepted.frames(),
         syncs,
+        firsts,
         blocks,
         strands,
         resumptions,
@@ -182,6 +186,7 @@ impl<'a> ProgramPlan<'a> {
             events,
             frames: _frames,
             syncs: _syncs,
+            firsts: _firsts,
             blocks: _blocks,
             strands: _strands,
             resumptions: _resumptions,
@@ -221,6 +226,13 @@ impl<'a> ProgramPlan<'a> {
         ensures { AreBlockEnds self.now.event_order result.now }
     {
         self.syncs.as_slice()
+    }
+
+    /// Returns the positions of the first spawns of the blocks with spawns, by the blocks' numbers.
+    pub fn firsts(&self) -> &[Pos]
+        ensures { (syncs : List ℕ) → AreBlockEnds self.now.event_order syncs → AreFirstSpawns self.now.event_order syncs result.now }
+    {
+        self.firsts.as_slice()
     }
 
     /// Returns a column with the block of each position that has one: those of the block's `sync`

@@ -5,7 +5,7 @@
 -- - `met_first`, `met_plain`, `met_known`, `met_new`, `met_resume`, `met_end`, `met_sync`: the columns
 --   at the start and after an event of each sort;
 -- - `block_listed`: a frame's block that has yet to end is listed;
--- - `ends_last`, `blocks_last`, `resumed_last`: the columns after all events.
+-- - `ends_last`, `firsts_last`, `blocks_last`, `resumed_last`: the columns after all events.
 use Rattle.std.proofs.Common.{◌≡◌, ◌≢◌, ◌↔◌, ◌⊎◌, inl, inr, ℕ, zero, suc, ◌+◌, ◌-◌, ◌<◌, ◌≤◌, List, [], ◌∷◌, ◌++◌, length, get_or, set, Option, Some, None, slice_get, refl, sym, ap, ◌∙◌, subst, arith, length-append, length-set, get_or-set_same, get_or-set_other}
 use Rattle.std.proofs.lemmas.Option.{slice_get_within}
 use Rattle.std.proofs.lemmas.List.{get_or_past}
@@ -25,7 +25,7 @@ use Rattle.cilk_tree.specs.declared.kind.Kind.{Kind}
 use Rattle.cilk_tree.specs.declared.kind.Kind.TheVariants as kinds
 use Rattle.cilk_tree.specs.Kinds.{IsBehind, kind_of_event}
 use Rattle.cilk_tree.proofs.Continuing.{kind_there, not_resume, not_spawn, not_sync_kind, one_frame, sync_kind}
-use Rattle.cilk_tree.specs.Columns.{AreBlockEnds, AreBlocks, BlocksEnd, IsOfBlock, IsSpawnOf, no_block}
+use Rattle.cilk_tree.specs.Columns.{AreBlockEnds, AreBlocks, AreFirstSpawns, BlocksEnd, IsFirstSpawn, IsOfBlock, IsSpawnOf, no_block}
 use Rattle.cilk_tree.specs.Placing.{AreListed, AreMarked, AreOpened, AreResumed, HasMet, IsPlaced}
 
 -- ---- lists
@@ -275,6 +275,29 @@ module _ (s : EventOrder) (law : IsOrderly s) where
 
         new_unlisted : get_or pending f no_block ≡ no_block → (b : ℕ) → slice_get ends b ≡ Some q → ⊥
         new_unlisted none b e = listed_few b q e (sym (so_far.stands f b q e before_next.later before_next.syncs) ∙ none)
+
+        first_here : get_or pending f no_block ≡ no_block → IsFirstSpawn s q m
+        first_here none = record {
+          spawns = of_block;
+          least = λ k is. dite (dec_lt k m)
+              (λ (less : k < m). absurd (let there = (so_far.all q).0 (k, omega (arith, less, at), is) in new_unlisted none there.0 there.1))
+              (λ past. omega (arith, past));
+        }
+
+        begun_new : (firsts : List ℕ) → AreFirstSpawns s ends firsts → get_or pending f no_block ≡ no_block → AreFirstSpawns s (ends ++ q ∷ []) (firsts ++ m ∷ [])
+        begun_new firsts h none = record {
+          count = let a = length-append firsts (m ∷ []) in let b = length-append ends (q ∷ []) in let many = h.count in omega (arith, a, b, many);
+          each = λ b p k e e'. elim (pushed_cases ends q b p e) [
+            | inl old ↦ elim (pushed_cases firsts m b k e') [
+              | inl old' ↦ h.each b p k old old'
+              | inr new' ↦ absurd (let w = slice_get_within ends b p old in let z = new'.0 in let many = h.count in omega (arith, w, z, many))
+            ]
+            | inr new ↦ elim (pushed_cases firsts m b k e') [
+              | inl old' ↦ absurd (let w = slice_get_within firsts b k old' in let z = new.0 in let many = h.count in omega (arith, w, z, many))
+              | inr new' ↦ subst (λ (z : ℕ × ℕ). IsFirstSpawn s z.0 z.1) (λ i. (sym new.1 i, sym new'.1 i)) (first_here none)
+            ]
+          ];
+        }
 
         opened_new : (pending' : List ℕ) → get_or pending f no_block ≡ no_block → IsPlaced pending f (length ends) pending' → AreOpened s m (ends ++ q ∷ []) pending'
         opened_new pending' none placed = record {
@@ -526,12 +549,13 @@ module _ (s : EventOrder) (law : IsOrderly s) where
     unlisted : (ends pending : List ℕ) → AreOpened s n ends pending → event s m ≢ Some events.Sync → (b : ℕ) → slice_get ends b ≡ Some m → ⊥
     unlisted ends pending so_far other b e = other (listed_sync ends pending so_far b m e)
 
-    pub met_plain : (syncs blocks resumptions pending : List ℕ) → HasMet s n syncs blocks resumptions pending → word_step s m ≢ spawn → event s m ≢ Some events.Sync
-        → ((k : ℕ) → word_step s m ≡ resume k → ⊥) → HasMet s m syncs blocks resumptions pending
-    met_plain syncs blocks resumptions pending h spawns sync resumed = record {
+    pub met_plain : (syncs firsts blocks resumptions pending : List ℕ) → HasMet s n syncs firsts blocks resumptions pending → word_step s m ≢ spawn → event s m ≢ Some events.Sync
+        → ((k : ℕ) → word_step s m ≡ resume k → ⊥) → HasMet s m syncs firsts blocks resumptions pending
+    met_plain syncs firsts blocks resumptions pending h spawns sync resumed = record {
       ends = h.ends;
       opened = opened_on h.ends pending h.opened spawns sync;
       listed = listed_on h.ends syncs h.listed (unlisted h.ends pending h.opened sync);
+      begun = h.begun;
       marked = marked_on h.ends blocks h.marked (unmarked h.ends pending h.opened sync resumed);
       resumed = resumed_on h.ends resumptions h.resumed spawns resumed;
     }
@@ -539,24 +563,25 @@ module _ (s : EventOrder) (law : IsOrderly s) where
     spawn_no_sync : word_step s m ≡ spawn → event s m ≢ Some events.Sync
     spawn_no_sync spawns is = no_spawn s m is spawns
 
-    pub met_known : (syncs blocks resumptions resumptions' pending : List ℕ) (f : ℕ) → HasMet s n syncs blocks resumptions pending → word_step s m ≡ spawn → IsInFrame s.events m f
-        → BlocksEnd s → get_or pending f no_block ≢ no_block → resumptions' ≡ set resumptions m (get_or pending f no_block) → HasMet s m syncs blocks resumptions' pending
-    met_known syncs blocks resumptions resumptions' pending f h spawns inside ended some put =
+    pub met_known : (syncs firsts blocks resumptions resumptions' pending : List ℕ) (f : ℕ) → HasMet s n syncs firsts blocks resumptions pending → word_step s m ≡ spawn → IsInFrame s.events m f
+        → BlocksEnd s → get_or pending f no_block ≢ no_block → resumptions' ≡ set resumptions m (get_or pending f no_block) → HasMet s m syncs firsts blocks resumptions' pending
+    met_known syncs firsts blocks resumptions resumptions' pending f h spawns inside ended some put =
         let sync = spawn_no_sync spawns in
         let q = ended m spawns in
         record {
           ends = h.ends;
           opened = opened_known h.ends pending h.opened f q.0 spawns inside q.1 some;
           listed = listed_on h.ends syncs h.listed (unlisted h.ends pending h.opened sync);
+          begun = h.begun;
           marked = marked_on h.ends blocks h.marked (unmarked h.ends pending h.opened sync (no_resumption spawns));
           resumed = subst (AreResumed s m h.ends) (sym put)
               (resumed_spawn h.ends resumptions (get_or pending f no_block) q.0 h.resumed spawns (known_listed h.ends pending h.opened f q.0 spawns inside q.1 some) q.1);
         }
 
-    pub met_new : (syncs syncs' blocks resumptions resumptions' pending pending' : List ℕ) (f b : ℕ) → HasMet s n syncs blocks resumptions pending → word_step s m ≡ spawn → IsInFrame s.events m f
-        → BlocksEnd s → get_or pending f no_block ≡ no_block → b ≡ length syncs → syncs' ≡ syncs ++ 0 ∷ [] → IsPlaced pending f b pending' → resumptions' ≡ set resumptions m b
-        → HasMet s m syncs' blocks resumptions' pending'
-    met_new syncs syncs' blocks resumptions resumptions' pending pending' f b h spawns inside ended none is pushed placed put =
+    pub met_new : (syncs syncs' firsts firsts' blocks resumptions resumptions' pending pending' : List ℕ) (f b : ℕ) → HasMet s n syncs firsts blocks resumptions pending → word_step s m ≡ spawn → IsInFrame s.events m f
+        → BlocksEnd s → get_or pending f no_block ≡ no_block → b ≡ length syncs → syncs' ≡ syncs ++ 0 ∷ [] → firsts' ≡ firsts ++ m ∷ [] → IsPlaced pending f b pending'
+        → resumptions' ≡ set resumptions m b → HasMet s m syncs' firsts' blocks resumptions' pending'
+    met_new syncs syncs' firsts firsts' blocks resumptions resumptions' pending pending' f b h spawns inside ended none is pushed begins placed put =
         let sync = spawn_no_sync spawns in
         let q = ended m spawns in
         let next = here_next h.ends pending h.opened f q.0 spawns inside q.1 in
@@ -566,6 +591,7 @@ module _ (s : EventOrder) (law : IsOrderly s) where
           ends = h.ends ++ q.0 ∷ [];
           opened = opened_new h.ends pending h.opened f q.0 spawns inside q.1 pending' none (subst (λ (x : ℕ). IsPlaced pending f x pending') count placed);
           listed = subst (AreListed m (h.ends ++ q.0 ∷ [])) (sym pushed) (listed_push h.ends syncs q.0 0 h.listed (unlisted h.ends pending h.opened sync) next.later);
+          begun = subst (AreFirstSpawns s (h.ends ++ q.0 ∷ [])) (sym begins) (begun_new h.ends pending h.opened f q.0 spawns inside q.1 firsts h.begun none);
           marked = marked_push h.ends blocks q.0 (marked_on h.ends blocks h.marked (unmarked h.ends pending h.opened sync (no_resumption spawns))) (few_below (length h.ends) few)
               (λ p less of. elim of [
                 | inl same ↦ (let l = next.later in let z : ⊥ = omega (arith, less, same, l) in z)
@@ -579,9 +605,9 @@ module _ (s : EventOrder) (law : IsOrderly s) where
               (ap (slice_get (h.ends ++ q.0 ∷ [])) count ∙ pushed_here h.ends q.0) q.1);
         }
 
-    pub met_resume : (syncs blocks blocks' resumptions resumptions' pending : List ℕ) (j : ℕ) → HasMet s n syncs blocks resumptions pending → word_step s m ≡ resume j
-        → blocks' ≡ set blocks m (get_or resumptions j 0) → resumptions' ≡ set resumptions j m → HasMet s m syncs blocks' resumptions' pending
-    met_resume syncs blocks blocks' resumptions resumptions' pending j h is marks put =
+    pub met_resume : (syncs firsts blocks blocks' resumptions resumptions' pending : List ℕ) (j : ℕ) → HasMet s n syncs firsts blocks resumptions pending → word_step s m ≡ resume j
+        → blocks' ≡ set blocks m (get_or resumptions j 0) → resumptions' ≡ set resumptions j m → HasMet s m syncs firsts blocks' resumptions' pending
+    met_resume syncs firsts blocks blocks' resumptions resumptions' pending j h is marks put =
         let sync : event s m ≢ Some events.Sync = (λ e. no_resume s m j e is) in
         let l = spawn_ahead m j is in
         let b : ℕ = get_or resumptions j 0 in
@@ -590,6 +616,7 @@ module _ (s : EventOrder) (law : IsOrderly s) where
           ends = h.ends;
           opened = opened_on h.ends pending h.opened (not_spawned j is) sync;
           listed = listed_on h.ends syncs h.listed (unlisted h.ends pending h.opened sync);
+          begun = h.begun;
           marked = subst (AreMarked s m h.ends) (sym marks) (marked_put h.ends blocks b w.0 h.marked w.1 (inr (j, is, w.2)) (λ b' q' e of. elim of [
             | inl same ↦ absurd (sync (ap (λ (x : ℕ). event s x) same ∙ listed_sync h.ends pending h.opened b' q' e))
             | inr k ↦ (
@@ -600,9 +627,9 @@ module _ (s : EventOrder) (law : IsOrderly s) where
           resumed = subst (AreResumed s m h.ends) (sym put) (resumed_back h.ends resumptions j h.resumed is);
         }
 
-    pub met_end : (syncs syncs' blocks blocks' resumptions pending pending' : List ℕ) (f : ℕ) → HasMet s n syncs blocks resumptions pending → SyncsAt s.events f m → get_or pending f no_block ≢ no_block
-        → syncs' ≡ set syncs (get_or pending f no_block) m → blocks' ≡ set blocks m (get_or pending f no_block) → pending' ≡ set pending f no_block → HasMet s m syncs' blocks' resumptions pending'
-    met_end syncs syncs' blocks blocks' resumptions pending pending' f h is some lists marks put =
+    pub met_end : (syncs syncs' firsts blocks blocks' resumptions pending pending' : List ℕ) (f : ℕ) → HasMet s n syncs firsts blocks resumptions pending → SyncsAt s.events f m → get_or pending f no_block ≢ no_block
+        → syncs' ≡ set syncs (get_or pending f no_block) m → blocks' ≡ set blocks m (get_or pending f no_block) → pending' ≡ set pending f no_block → HasMet s m syncs' firsts blocks' resumptions pending'
+    met_end syncs syncs' firsts blocks blocks' resumptions pending pending' f h is some lists marks put =
         let b : ℕ = get_or pending f no_block in
         let there = block_ended h.ends pending h.opened f is some in
         record {
@@ -611,6 +638,7 @@ module _ (s : EventOrder) (law : IsOrderly s) where
               (ap (λ (l : List ℕ). get_or l f no_block) put ∙ get_or-set_same pending f no_block no_block (pending_within pending f some))
               (λ g off. ap (λ (l : List ℕ). get_or l g no_block) put ∙ get_or-set_other pending f g no_block no_block off);
           listed = subst (AreListed m h.ends) (sym lists) (listed_put h.ends syncs b h.listed h.opened.once there);
+          begun = h.begun;
           marked = subst (AreMarked s m h.ends) (sym marks) (marked_put h.ends blocks b m h.marked there (inl refl) (λ b' q' e of. elim of [
             | inl same ↦ h.opened.once b b' q' (there ∙ ap Some same) e
             | inr k ↦ absurd (no_resume s m k.0 is.0 k.1)
@@ -621,12 +649,13 @@ module _ (s : EventOrder) (law : IsOrderly s) where
         pending_within : (l : List ℕ) (k : ℕ) → get_or l k no_block ≢ no_block → k < length l
         pending_within l k some = dite (dec_lt k (length l)) (λ (less : k < length l). less) (λ past. absurd (some (get_or_past l k no_block (omega (arith, past)))))
 
-    pub met_sync : (syncs blocks resumptions pending : List ℕ) (f : ℕ) → HasMet s n syncs blocks resumptions pending → SyncsAt s.events f m → get_or pending f no_block ≡ no_block
-        → HasMet s m syncs blocks resumptions pending
-    met_sync syncs blocks resumptions pending f h is none = record {
+    pub met_sync : (syncs firsts blocks resumptions pending : List ℕ) (f : ℕ) → HasMet s n syncs firsts blocks resumptions pending → SyncsAt s.events f m → get_or pending f no_block ≡ no_block
+        → HasMet s m syncs firsts blocks resumptions pending
+    met_sync syncs firsts blocks resumptions pending f h is none = record {
       ends = h.ends;
       opened = opened_sync h.ends pending h.opened f pending is none (λ g off. refl);
       listed = listed_on h.ends syncs h.listed (none_ended h.ends pending h.opened f is none);
+      begun = h.begun;
       marked = marked_on h.ends blocks h.marked (λ b q e of. elim of [
         | inl same ↦ none_ended h.ends pending h.opened f is none b (e ∙ ap Some (sym same))
         | inr k ↦ no_resume s m k.0 is.0 k.1
@@ -635,16 +664,16 @@ module _ (s : EventOrder) (law : IsOrderly s) where
     }
 
     -- the block that ends at m is in the list of `sync`s
-    pub end_within : (syncs blocks resumptions pending : List ℕ) (f : ℕ) → HasMet s n syncs blocks resumptions pending → SyncsAt s.events f m → get_or pending f no_block ≢ no_block
+    pub end_within : (syncs firsts blocks resumptions pending : List ℕ) (f : ℕ) → HasMet s n syncs firsts blocks resumptions pending → SyncsAt s.events f m → get_or pending f no_block ≢ no_block
         → (get_or pending f no_block < length syncs) × (f < length pending)
-    end_within syncs blocks resumptions pending f h is some = (
+    end_within syncs firsts blocks resumptions pending f h is some = (
       let w = slice_get_within h.ends (get_or pending f no_block) m (block_ended h.ends pending h.opened f is some) in let many = h.listed.many in omega (arith, w, many),
       dite (dec_lt f (length pending)) (λ (less : f < length pending). less) (λ past. absurd (some (get_or_past pending f no_block (omega (arith, past))))),
     )
 
   -- the columns before the first event
   pub met_first : (blocks resumptions : List ℕ) → ((p : ℕ) → get_or blocks p no_block ≡ no_block) → length blocks ≡ length s.events + 1 → ((p : ℕ) → get_or resumptions p 0 ≡ 0)
-      → length resumptions ≡ length s.events + 1 → HasMet s 0 [] blocks resumptions []
+      → length resumptions ≡ length s.events + 1 → HasMet s 0 [] [] blocks resumptions []
   met_first blocks resumptions unmarked long unresumed long' = record {
     ends = [];
     opened = record {
@@ -659,6 +688,7 @@ module _ (s : EventOrder) (law : IsOrderly s) where
       next = λ f some. absurd (some refl);
     };
     listed = record { many = refl; met = λ b q e _. absurd (let c : None ≡ Some q = e in cc c) };
+    begun = record { count = refl; each = λ b q k e _. absurd (let c : None ≡ Some q = e in cc c) };
     marked = record {
       exact = λ p b q e. absurd (let c : None ≡ Some q = e in cc c);
       others = λ p. inr (unmarked p);
@@ -674,7 +704,7 @@ module _ (s : EventOrder) (law : IsOrderly s) where
 
   -- ---- after the last event
 
-  module _ (n : ℕ) (past : length s.events ≤ n) (few : n ≤ length s.events) (syncs blocks resumptions pending : List ℕ) (h : HasMet s n syncs blocks resumptions pending) where
+  module _ (n : ℕ) (past : length s.events ≤ n) (few : n ≤ length s.events) (syncs firsts blocks resumptions pending : List ℕ) (h : HasMet s n syncs firsts blocks resumptions pending) where
     spawn_within : (q k : ℕ) → IsSpawnOf s q k → k ≤ n
     spawn_within q k is = let l = (law.inside k (subst IsWord (sym is.spawns) tt)).1 in omega (arith, l, past)
 
@@ -697,6 +727,9 @@ module _ (s : EventOrder) (law : IsOrderly s) where
       once = h.opened.once;
       order = h.opened.order;
     })
+
+    pub firsts_last : AreFirstSpawns s syncs firsts
+    firsts_last = subst (λ (l : List ℕ). AreFirstSpawns s l firsts) (sym same_ends) h.begun
 
     pub blocks_last : AreBlocks s syncs blocks
     blocks_last = subst (λ (l : List ℕ). AreBlocks s l blocks) (sym same_ends) (record {

@@ -20,6 +20,16 @@ pub record AreBlockEnds (s : EventOrder) (syncs : List ℕ) : Type 0 where
   pub order : (b b' q q' k' : ℕ) → b < b' → slice_get syncs b ≡ Some q → slice_get syncs b' ≡ Some q' → IsSpawnOf s q' k'
       → (k : ℕ) × (k < k') × IsSpawnOf s q k
 
+-- the spawn at k is the first of the block that ends with the `sync` at q
+pub record IsFirstSpawn (s : EventOrder) (q k : ℕ) : Type 0 where
+  pub spawns : IsSpawnOf s q k
+  pub least : (k' : ℕ) → IsSpawnOf s q k' → k ≤ k'
+
+-- the first spawns of the blocks that end with these `sync`s, by the blocks' numbers
+pub record AreFirstSpawns (s : EventOrder) (syncs firsts : List ℕ) : Type 0 where
+  pub count : length firsts ≡ length syncs
+  pub each : (b q k : ℕ) → slice_get syncs b ≡ Some q → slice_get firsts b ≡ Some k → IsFirstSpawn s q k
+
 -- no block has this number, the greatest of 32 bits
 abbrev pub no_block : ℕ
 no_block = 4294967295

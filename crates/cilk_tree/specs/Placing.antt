@@ -6,7 +6,7 @@ use Rattle.cilk_tree.specs.Blocks.{EndsBlockOf, IsNextSync, SyncsAt}
 use Rattle.cilk_tree.specs.PlanStrands.{BeginsStrand}
 use Rattle.cilk_tree.specs.Races.{strand_at}
 use Rattle.cilk_tree.specs.Word.{resume, spawn, word_step}
-use Rattle.cilk_tree.specs.Columns.{IsOfBlock, IsSpawnOf, no_block}
+use Rattle.cilk_tree.specs.Columns.{AreFirstSpawns, IsOfBlock, IsSpawnOf, no_block}
 use Rattle.cilk_tree.specs.declared.blocks.Pass.{Pass}
 
 -- The blocks of the spawns so far end with these `sync`s, in the order of the blocks' first spawns.
@@ -39,15 +39,16 @@ pub record AreResumed (s : EventOrder) (n : ℕ) (ends column : List ℕ) : Type
   pub places : length column ≡ length s.events + 1
 
 -- the columns after the first n events
-pub record HasMet (s : EventOrder) (n : ℕ) (syncs blocks resumptions pending : List ℕ) : Type 0 where
+pub record HasMet (s : EventOrder) (n : ℕ) (syncs firsts blocks resumptions pending : List ℕ) : Type 0 where
   pub ends : List ℕ
   pub opened : AreOpened s n ends pending
   pub listed : AreListed n ends syncs
+  pub begun : AreFirstSpawns s ends firsts
   pub marked : AreMarked s n ends blocks
   pub resumed : AreResumed s n ends resumptions
 
 abbrev pub Met : EventOrder → ℕ → Pass → Type 0
-Met s n p = HasMet s n p.syncs.items p.blocks.items p.resumptions.items p.pending.items
+Met s n p = HasMet s n p.syncs.items p.firsts.items p.blocks.items p.resumptions.items p.pending.items
 
 -- the list has the number at the place, and is unchanged at all others
 pub record IsPlaced (old : List ℕ) (place number : ℕ) (new : List ℕ) : Type 0 where

@@ -2,7 +2,7 @@
 
 ghost use Rattle.std.specs.Prelude.{◌≡◌, ◌≢◌, ◌↔◌, ◌+◌, ◌-◌, ◌<◌, ◌≤◌, ◌^◌, ℕ, [], Some, length, slice_index_or, slice_set, IfOk, OnOk};
 ghost use Rattle.cilk_types.specs.declared.event.Event.TheVariants.{Sync};
-ghost use Rattle.cilk_tree.specs.Columns.{AreBlockEnds, AreBlocks, BlocksEnd, no_block};
+ghost use Rattle.cilk_tree.specs.Columns.{AreBlockEnds, AreBlocks, AreFirstSpawns, BlocksEnd, no_block};
 ghost use Rattle.cilk_tree.specs.Frames.{IsInFrame};
 ghost use Rattle.cilk_tree.specs.Placing.{HasMet, IsPlaced, Met};
 ghost use Rattle.cilk_tree.specs.Resumptions.{AreResumptions};
@@ -27,6 +27,8 @@ pub struct PlanBlocks {
     /// The positions of the `sync`s that end these blocks, in the order of the blocks' first
     /// spawns. A block's number is the index of its `sync`.
     pub syncs: Vec<Pos>,
+    /// The positions of these blocks' first spawns, by the blocks' numbers.
+    pub firsts: Vec<Pos>,
     /// At the position of each block's `sync` and of the `resume`s after its spawns, the block's
     /// number; `u32::MAX` at all others.
     pub blocks: Vec<u32>,
@@ -40,6 +42,7 @@ pub struct PlanBlocks {
 pub fn blocks_of(alloc: Global, plan: &Plan) -> Result<PlanBlocks, AllocError>
     requires { BlocksEnd plan.now }
     ensures syncs { IfOk result (λ r. AreBlockEnds plan.now r.syncs.items) }
+    ensures firsts { IfOk result (λ r. AreFirstSpawns plan.now r.syncs.items r.firsts.items) }
     ensures blocks { IfOk result (λ r. AreBlocks plan.now r.syncs.items r.blocks.items) }
     ensures resumptions { IfOk result (λ r. AreResumptions plan.now r.resumptions.items) }
 {
@@ -59,12 +62,14 @@ pub fn blocks_of(alloc: Global, plan: &Plan) -> Result<PlanBlocks, AllocError>
     }
     let Pass {
         syncs,
+        firsts,
         blocks,
         resumptions,
         pending: _pending,
     } = pass;
     Ok(PlanBlocks {
         syncs,
+        firsts,
         blocks,
         resumptions,
     })
@@ -76,6 +81,7 @@ pub fn blocks_of(alloc: Global, plan: &Plan) -> Result<PlanBlocks, AllocError>
 #[derive(Drop)]
 struct Pass {
     syncs: Vec<Pos>,
+    firsts: Vec<Pos>,
     blocks: Vec<u32>,
     resumptions: Vec<Pos>,
     pending: Vec<u32>,
@@ -86,6 +92,7 @@ impl Pass {
     fn new(alloc: Global, count: usize) -> Result<Pass, AllocError>
         requires { count < 2 ^ 32 }
         ensures syncs { IfOk result (λ r. r.syncs.items ≡ []) }
+        ensures firsts { IfOk result (λ r. r.firsts.items ≡ []) }
         ensures pending { IfOk result (λ r. r.pending.items ≡ []) }
         ensures blocks { IfOk result (λ r. ((p : ℕ) → slice_index_or r.blocks.items p no_block ≡ no_block) × (length r.blocks.items ≡ count + 1)) }
         ensures resumptions { IfOk result (λ r. ((p : ℕ) → slice_index_or r.resumptions.items p 0 ≡ 0) × (length r.resumptions.items ≡ count + 1)) }
@@ -94,6 +101,7 @@ impl Pass {
         let resumptions = filled(alloc, count + 1, 0)?;
         Ok(Pass {
             syncs: Vec::new(alloc),
+            firsts: Vec::new(alloc),
             blocks,
             resumptions,
             pending: Vec::new(alloc),
@@ -115,6 +123,7 @@ impl Pass {
         }
         let block = self.syncs.len() as u32;
         self.syncs.push(0)?;
+        self.firsts.push(at)?;
         set_block(&mut self.pending, frame as usize, block)?;
         put(&mut self.resumptions, at as usize, block);
         Ok(())

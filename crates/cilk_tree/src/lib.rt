@@ -27,7 +27,7 @@
 //! | [`span::span`] | the span: the length of the longest chain of events |
 //! | [`plan_strands::strands`] | the strand that begins at each position |
 //! | [`plan::Plan::of`] | the plan of a run in which no two accesses race |
-//! | [`blocks::blocks_of`] | the `sync`s that end blocks, each position's block, each spawn's `resume` |
+//! | [`blocks::blocks_of`] | the blocks' `sync`s and first spawns, each position's block, each spawn's `resume` |
 //!
 //! ```text
 //! let tree = tree_of(alloc, &trace)?;

@@ -7,7 +7,7 @@ use Rattle.cilk_tree.specs.Resumptions.{AreResumptions}
 use Rattle.cilk_program.specs.declared.program.Program.{Program}
 use Rattle.cilk_program.specs.Sources.{source}
 use Rattle.cilk_checker.specs.Determinate.{AcceptedRun, AreFramesOf, HasDeterminateRun}
-use Rattle.cilk_tree.specs.Columns.{AreBlockEnds, AreBlocks, AreStrands}
+use Rattle.cilk_tree.specs.Columns.{AreBlockEnds, AreBlocks, AreFirstSpawns, AreStrands}
 use Rattle.cilk_plan.specs.Plans.{IsPlanOf}
 use Rattle.cilk_plan.proofs.program_plan.plan.Goals as goal
 
@@ -21,7 +21,7 @@ invariant_of-result c =
     let a = c.args.accepted.now in
     let same = c.program-program.ensures.value in
     let code = c.in_ok-code.code in
-    let Goal : AcceptedRun → Type 0 = λ r. HasDeterminateRun r × (c.program-program.result.now ≡ r.program) × (c.input.result.now ≡ r.input) × Behaves (source r.program) code × RoomsFit (source r.program) code × LaysOut (source r.program) code.layout × IsPlanOf r c.in_ok-events.events × AreFramesOf r c.frames.result.now × AreBlockEnds c.in_ok-events.events c.in_ok-syncs.field-0.syncs.items × AreStrands r.trace c.in_ok-strands.strands.items × AreResumptions c.in_ok-events.events c.in_ok-syncs.field-0.resumptions.items × AreBlocks c.in_ok-events.events c.in_ok-syncs.field-0.syncs.items c.in_ok-syncs.field-0.blocks.items in
+    let Goal : AcceptedRun → Type 0 = λ r. HasDeterminateRun r × (c.program-program.result.now ≡ r.program) × (c.input.result.now ≡ r.input) × Behaves (source r.program) code × RoomsFit (source r.program) code × LaysOut (source r.program) code.layout × IsPlanOf r c.in_ok-events.events × AreFramesOf r c.frames.result.now × AreBlockEnds c.in_ok-events.events c.in_ok-syncs.field-0.syncs.items × AreStrands r.trace c.in_ok-strands.strands.items × AreResumptions c.in_ok-events.events c.in_ok-syncs.field-0.resumptions.items × AreBlocks c.in_ok-events.events c.in_ok-syncs.field-0.syncs.items c.in_ok-syncs.field-0.blocks.items × AreFirstSpawns c.in_ok-events.events c.in_ok-syncs.field-0.syncs.items c.in_ok-syncs.field-0.firsts.items in
     let h : Goal a = (
       c.program-program.ensures.determinate,
       same,
@@ -35,5 +35,6 @@ invariant_of-result c =
       subst (λ (es : List Event). AreStrands es c.in_ok-strands.strands.items) c.trace.ensures.value c.in_ok-strands.ensures,
       c.in_ok-syncs.ensures.resumptions,
       c.in_ok-syncs.ensures.blocks,
+      c.in_ok-syncs.ensures.firsts,
     ) in
     subst Goal (sym c.of.ensures) h

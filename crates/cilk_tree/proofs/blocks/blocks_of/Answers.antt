@@ -1,7 +1,7 @@
 use Rattle.std.proofs.Common.{◌+◌, ℕ, List, sym, ap, ◌∙◌, subst, arith, refl}
 use Rattle.cilk_tree.specs.declared.event_order.EventOrder.{EventOrder}
 use Rattle.cilk_tree.specs.Placing.{HasMet, Met}
-use Rattle.cilk_tree.proofs.Placing.{asked_plain, asked_resume, asked_spawn, asked_sync, blocks_last, ends_last, met_first, met_plain, resumed_last}
+use Rattle.cilk_tree.proofs.Placing.{asked_plain, asked_resume, asked_spawn, asked_sync, blocks_last, ends_last, firsts_last, met_first, met_plain, resumed_last}
 use Rattle.cilk_tree.proofs.blocks.blocks_of.Goals as goal
 use Rattle.cilk_tree.proofs.blocks.blocks_of.Goals.{in-Next+in-Spawn+in_ok-spawn-in-Spawn, in-Next+in-Resume, in-Next+in-Sync, in-Next+in_default-kind, in_default}
 
@@ -11,9 +11,10 @@ each-init c =
     let p = c.in_ok-pass.pass in
     let h = c.in_ok-pass.ensures in
     let many = ap (λ (n : ℕ). n + 1) c.count-count.ensures.events in
-    subst (λ (l : List ℕ). HasMet s 0 l p.blocks.items p.resumptions.items p.pending.items) (sym h.syncs)
-    (subst (λ (l : List ℕ). HasMet s 0 _ p.blocks.items p.resumptions.items l) (sym h.pending)
-    (met_first s c.laws.ensures.order p.blocks.items p.resumptions.items h.blocks.0 (h.blocks.1 ∙ many) h.resumptions.0 (h.resumptions.1 ∙ many)))
+    subst (λ (l : List ℕ). HasMet s 0 l p.firsts.items p.blocks.items p.resumptions.items p.pending.items) (sym h.syncs)
+    (subst (λ (l : List ℕ). HasMet s 0 _ l p.blocks.items p.resumptions.items p.pending.items) (sym h.firsts)
+    (subst (λ (l : List ℕ). HasMet s 0 _ _ p.blocks.items p.resumptions.items l) (sym h.pending)
+    (met_first s c.laws.ensures.order p.blocks.items p.resumptions.items h.blocks.0 (h.blocks.1 ∙ many) h.resumptions.0 (h.resumptions.1 ∙ many))))
 
 pub spawn-requires-clause-there : goal.spawn-requires-clause-there
 spawn-requires-clause-there c = asked_spawn c.args.plan.now c.each.met c.in-Next.frame _ c.next.result c.in-Next.kind c.in-Next.is c.in-Spawn.is c.next.ensures
@@ -37,7 +38,7 @@ each-preserved c =
       | in-Next+in_default-kind w ↦ (
           let plain = asked_plain s i w.in-Next.frame c.next.result w.in-Next.kind w.in-Next.is w.in_default-kind.not-Spawn w.in_default-kind.not-Resume w.in_default-kind.not-Sync c.next.ensures in
           subst (Met s (i + 1)) (sym w.pass-is)
-          (met_plain s c.laws.ensures.order i (i + 1) refl (omega (arith, events, test)) _ _ _ _ c.each.invariant plain.0 plain.1 plain.2))
+          (met_plain s c.laws.ensures.order i (i + 1) refl (omega (arith, events, test)) _ _ _ _ _ c.each.invariant plain.0 plain.1 plain.2))
       | in_default w ↦ absurd (let past = w.in_default.ensures in omega (arith, past, test, events))
     ]
 
@@ -45,16 +46,22 @@ pub returns-clause-syncs : goal.returns-clause-syncs
 returns-clause-syncs c =
     let events = c.count-count.ensures.events in
     let past = c.each-test.false in
-    ends_last c.args.plan.now c.laws.ensures.order c.each.met (omega (arith, events, past)) (let most = c.each.auto.met-end in omega (arith, most, events)) _ _ _ _ c.each.invariant
+    ends_last c.args.plan.now c.laws.ensures.order c.each.met (omega (arith, events, past)) (let most = c.each.auto.met-end in omega (arith, most, events)) _ _ _ _ _ c.each.invariant
+
+pub returns-clause-firsts : goal.returns-clause-firsts
+returns-clause-firsts c =
+    let events = c.count-count.ensures.events in
+    let past = c.each-test.false in
+    firsts_last c.args.plan.now c.laws.ensures.order c.each.met (omega (arith, events, past)) (let most = c.each.auto.met-end in omega (arith, most, events)) _ _ _ _ _ c.each.invariant
 
 pub returns-clause-blocks : goal.returns-clause-blocks
 returns-clause-blocks c =
     let events = c.count-count.ensures.events in
     let past = c.each-test.false in
-    blocks_last c.args.plan.now c.laws.ensures.order c.each.met (omega (arith, events, past)) (let most = c.each.auto.met-end in omega (arith, most, events)) _ _ _ _ c.each.invariant
+    blocks_last c.args.plan.now c.laws.ensures.order c.each.met (omega (arith, events, past)) (let most = c.each.auto.met-end in omega (arith, most, events)) _ _ _ _ _ c.each.invariant
 
 pub returns-clause-resumptions : goal.returns-clause-resumptions
 returns-clause-resumptions c =
     let events = c.count-count.ensures.events in
     let past = c.each-test.false in
-    resumed_last c.args.plan.now c.laws.ensures.order c.each.met (omega (arith, events, past)) (let most = c.each.auto.met-end in omega (arith, most, events)) _ _ _ _ c.each.invariant
+    resumed_last c.args.plan.now c.laws.ensures.order c.each.met (omega (arith, events, past)) (let most = c.each.auto.met-end in omega (arith, most, events)) _ _ _ _ _ c.each.invariant

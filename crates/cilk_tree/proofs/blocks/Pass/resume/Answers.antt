@@ -29,12 +29,12 @@ returns-in-Some c =
     let places = c.requires.met.resumed.places in
     let read : c.index-block.result.now ≡ get_or c.args.self.now.resumptions.items j 0 =
     get_or_same c.args.self.now.resumptions.items j c.index-block.result.now 0 (omega (arith, within, places)) c.index-block.ensures in
-    met_resume c.args.plan.now c.laws.ensures.order (c.args.at - 1) c.args.at (omega (arith, at)) at.1 c.args.self.now.syncs.items c.args.self.now.blocks.items _
+    met_resume c.args.plan.now c.laws.ensures.order (c.args.at - 1) c.args.at (omega (arith, at)) at.1 c.args.self.now.syncs.items c.args.self.now.firsts.items c.args.self.now.blocks.items _
     c.args.self.now.resumptions.items _ c.args.self.now.pending.items j c.requires.met is
     (c.put-in-Some.ensures ∙ ap (set c.args.self.now.blocks.items c.args.at) read) c.put.ensures
 
 pub returns-in_default : goal.returns-in_default
 returns-in_default c =
     let at = c.requires.within in
-    met_plain c.args.plan.now c.laws.ensures.order (c.args.at - 1) c.args.at (omega (arith, at)) at.1 _ _ _ _ c.requires.met c.requires.plain.0 c.requires.plain.1
+    met_plain c.args.plan.now c.laws.ensures.order (c.args.at - 1) c.args.at (omega (arith, at)) at.1 _ _ _ _ _ c.requires.met c.requires.plain.0 c.requires.plain.1
     (λ k is. c.in_default.not-Some k ((c.requires.spawned k).1 is))
