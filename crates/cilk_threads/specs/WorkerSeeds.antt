@@ -1,5 +1,5 @@
 -- The seed that is sent to a worker.
-use Rattle.std.specs.Prelude.{◌≡◌, ◌≤◌, List, Option, Some, None, All, Bool, true, false}
+use Rattle.std.specs.Prelude.{◌≡◌, ◌≤◌, List, Option, Some, None, All, true, false}
 use Rattle.crossbeam_deque.specs.Handles.{Pass, view, IsPassOf, worker_flavor, worker_port, worker_view, stealer_deque}
 use Rattle.crossbeam_deque.specs.declared.handles.Worker.{Worker}
 use Rattle.crossbeam_deque.specs.declared.handles.Stealer.{Stealer}
@@ -12,6 +12,7 @@ use Rattle.cilk_workers.specs.Shared.{SharedValue}
 use Rattle.cilk_workers.specs.Turns.{Works}
 use Rattle.crossbeam_queue.specs.declared.array_queue.Doing.{Doing}
 use Rattle.crossbeam_queue.specs.declared.array_queue.Slotted.{Slotted}
+use Rattle.cilk_workers.specs.declared.lock.KeyState.{KeyState}
 use Rattle.cilk_workers.specs.declared.shelf.Shelf.{Shelf}
 use Rattle.cilk_workers.specs.Keys.{AreKeys}
 use Rattle.cilk_threads.specs.declared.seeds.WorkerSeed.{WorkerSeed}
@@ -33,5 +34,5 @@ Begins y p (Some c) = Works y (record { piece = p; chain = c })
 module _ {N Q A : Type 0} where
   -- a worker begins with its own rack, the stealers of the other racks, a key of each lock, and its
   -- piece
-  abbrev pub IsWorkerSeed : SharedValue → List (Slotted (Option Shelf) (Doing Shelf Bool) Q A) → WorkerSeed N → Type 0
+  abbrev pub IsWorkerSeed : SharedValue → List (Slotted (Option Shelf) (Doing Shelf KeyState) Q A) → WorkerSeed N → Type 0
   IsWorkerSeed y locks k = IsRack k.rack × All IsTake k.takes.items × AreKeys locks k.keys.items × Begins y k.piece k.chain

@@ -14,7 +14,7 @@ use cilk_workers::lock::{Key, Lock, another, new_locked};
 use cilk_workers::naming::Naming;
 use cilk_workers::rack::{Offers, Rack, Takes, Tasks};
 use cilk_workers::shared::Shared;
-use cilk_workers::shelf::Shelf;
+use cilk_workers::shelf::{Place, Shelf};
 use cilk_workers::work::Work;
 use crossbeam_deque::Pass;
 use std::alloc::{AllocError, Global};
@@ -44,8 +44,8 @@ pub fn shelves(blocks: usize) -> usize
     few + blocks / 64 + 1
 }
 
-/// Makes `count` locks, each with an empty shelf, and a first key of each.
-#[tactic(auto, using(cilk_workers::proofs::Keys::locks_more))]
+/// Makes `count` locks, each with the empty shelf of its place, and a first key of each.
+#[tactic(auto, using(cilk_workers::proofs::Keys::locks_more, cilk_workers::proofs::Keys::locks_all))]
 pub fn locks<N: Naming, R: Wait>(
     rt: &R,
     alloc: Global,
@@ -59,8 +59,14 @@ pub fn locks<N: Naming, R: Wait>(
     let mut all = Vec::new(alloc);
     let mut keys = Vec::new(alloc);
     'each: for made in 0..count {
-        let _ = made;
-        let first = Shelf::new(alloc, shared);
+        let first = Shelf::new(
+            alloc,
+            shared,
+            Place {
+                number: made,
+                count,
+            },
+        );
         let (shelf_lock, key) = new_locked::<N, R>(rt, alloc, first)?;
         all.push(shelf_lock)?;
         keys.push(key)?;

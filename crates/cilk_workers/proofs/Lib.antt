@@ -18,4 +18,5 @@ pub mod Rows
 pub mod ShelfHistories
 pub mod Shelves
 pub mod Spawned
+pub mod Steps
 pub mod Waits

@@ -3,16 +3,16 @@
 -- - `has_last`, `once_last`: one more at the end of a list;
 -- - `known`: a shelf knows which of its blocks have passed;
 -- - `laws`: the laws;
--- - `still`: a shelf of the run with one step more.
+-- - `still`, `still_at`: a shelf of the run with one step more, and one of a place.
 use Rattle.std.proofs.Common.{◌≡◌, ◌⊎◌, inl, inr, ⊎_elim, ℕ, true, false, List, [], ◌∷◌, ◌++◌, sym, ap, ◌∙◌, subst}
 use Rattle.cilk_replay.specs.Replays.{ReplayValue}
-use Rattle.cilk_workers.specs.Arrivals.{Arrives, Records}
 use Rattle.cilk_workers.specs.Histories.{Has, IsOnce}
-use Rattle.cilk_workers.specs.Locks.{IsShelf}
+use Rattle.cilk_workers.specs.Locks.{IsShelf, IsShelfAt}
 use Rattle.cilk_workers.specs.Rows.{RunValue}
-use Rattle.cilk_workers.specs.ShelfHistories.{ArrivesAt, BlocksPassOnce, HasHistory, IsShelfHistory, ShelfStep, StealsAt, passed_blocks}
-use Rattle.cilk_workers.specs.Shelves.{HasPassed, IsSameShelf, ShelfValue, passed_with}
+use Rattle.cilk_workers.specs.ShelfHistories.{AreAt, ArrivesAt, BlocksPassOnce, IsOneStep, IsShelfHistory, ShelfStep, StealsAt, passed_blocks}
+use Rattle.cilk_workers.specs.Shelves.{HasPassed, ShelfValue, passed_with}
 use Rattle.cilk_workers.specs.declared.locks.Met.TheVariants as mets
+use Rattle.cilk_workers.specs.declared.shelf.Place.{Place}
 
 has_last : (qs : List ℕ) (q x : ℕ) → Has (qs ++ q ∷ []) x → Has qs x ⊎ (q ≡ x)
 has_last [] q x (inl same) = inr same
@@ -30,10 +30,10 @@ once_last (p ∷ qs) q once not = (
 known : (steps : List ShelfStep) (s : ShelfValue) → IsShelfHistory steps s → s.passed ≡ passed_blocks steps
 known [] s h = h.1
 known (StealsAt q k a true ∷ steps) s h = let r = h.2 in r.passed ∙ known steps h.0 h.1
-known (StealsAt q k a false ∷ steps) s h = h.2 ∙ known steps h.0 h.1
+known (StealsAt q k a false ∷ steps) s h = let r = h.2 in r.passed ∙ known steps h.0 h.1
 known (ArrivesAt q a (mets.Passes w) ∷ steps) s h = let r = h.2 in r.passed ∙ ap (λ (qs : List ℕ). passed_with qs q true) (known steps h.0 h.1)
 known (ArrivesAt q a mets.Waits ∷ steps) s h = let r = h.2 in r.passed ∙ known steps h.0 h.1
-known (ArrivesAt q a mets.Stopped ∷ steps) s h = h.2 ∙ known steps h.0 h.1
+known (ArrivesAt q a mets.Stopped ∷ steps) s h = let r = h.2 in r.passed ∙ known steps h.0 h.1
 
 -- a block that has passed, to the shelf
 is_known : (steps : List ShelfStep) (s : ShelfValue) → IsShelfHistory steps s → (q : ℕ) → Has (passed_blocks steps) q → HasPassed s q
@@ -53,5 +53,11 @@ laws steps s h = record {
   none_arrives = λ q a met new has r. r.waits (is_known steps s h q has);
 }
 
-pub still : (y : RunValue) (replay : ReplayValue → Type 0) (s new : ShelfValue) → IsShelf y replay s → IsSameShelf s new → HasHistory new → IsShelf y replay new
-still y replay s new is same history = (same.0 ∙ is.0, subst replay (sym same.1) is.1, history)
+pub still : (y : RunValue) (replay : ReplayValue → Type 0) (s new : ShelfValue) → IsShelf y replay s → IsOneStep s new → IsShelf y replay new
+still y replay s new is (same, step, keeps, leads) =
+    let h = is.2 in
+    let at = subst (λ (z : RunValue × Place). AreAt z.0 z.1 (step ∷ h.0)) (λ i. (sym same.0 i, sym same.2 i)) (keeps, h.2) in
+    (same.0 ∙ is.0, subst replay (sym same.1) is.1, (step ∷ h.0, (s, h.1, leads), at))
+
+pub still_at : (y : RunValue) (replay : ReplayValue → Type 0) (place : Place) (s new : ShelfValue) → IsShelfAt y replay place s → IsOneStep s new → IsShelfAt y replay place new
+still_at y replay place s new is step = (still y replay s new is.0 step, (let same = step.0 in same.2) ∙ is.1)

@@ -1,5 +1,5 @@
 -- Steals and arrivals at the boxes of a shelf.
-use Rattle.std.specs.Prelude.{◌≡◌, ◌≤◌, ℕ, Bool, true, false, Option, Some, None}
+use Rattle.std.specs.Prelude.{◌≡◌, ◌≤◌, ◌⊎◌, ℕ, Bool, true, false, Option, Some, None}
 use Rattle.cilk_types.specs.declared.event.Event.TheVariants.{Sync}
 use Rattle.cilk_shared.specs.Pieces.{PieceValue}
 use Rattle.cilk_tree.specs.declared.event_order.EventOrder.{EventOrder}
@@ -30,10 +30,16 @@ pub record Records (s : ShelfValue) (sync k a : ℕ) (new : ShelfValue) : Type 0
   pub back : PutsBack rest (stolen_at found k a) new
   pub passed : new.passed ≡ s.passed
 
--- The steal is recorded, unless memory ran out.
+-- The shelf is as before, up to the order of its boxes: that of the block may have been taken off and put
+-- back.
+pub record IsAsBefore (s : ShelfValue) (sync : ℕ) (new : ShelfValue) : Type 0 where
+  pub passed : new.passed ≡ s.passed
+  pub boxes : (new.boxes ≡ s.boxes) ⊎ ((b : BoxValue) × (rest : ShelfValue) × TakesOff s sync b rest × PutsBack rest b new)
+
+-- The steal is recorded. If memory ran out, the shelf is as before.
 abbrev pub HasRecorded : ShelfValue → ℕ → ℕ → ℕ → Bool → ShelfValue → Type 0
 HasRecorded s sync k a true new = Records s sync k a new
-HasRecorded s sync k a false new = new.passed ≡ s.passed
+HasRecorded s sync k a false new = IsAsBefore s sync new
 
 -- the outcome is the box's answer to the arrival; nothing changes if memory runs out
 abbrev pub AnswersBy : BoxValue → Arrival → Met → BoxValue → Type 0
@@ -59,7 +65,7 @@ pub record Arrives (s : ShelfValue) (sync : ℕ) (a : Arrival) (met : Met) (new 
   pub back : PutsBack rest after new
   pub passed : new.passed ≡ passed_with s.passed sync (is_passing met)
 
--- The piece has arrived, unless memory ran out.
+-- The piece has arrived. If memory ran out, the shelf is as before.
 abbrev pub HasArrived : ShelfValue → ℕ → Arrival → Met → ShelfValue → Type 0
-HasArrived s sync a mets.Stopped new = new.passed ≡ s.passed
+HasArrived s sync a mets.Stopped new = IsAsBefore s sync new
 HasArrived s sync a met new = Arrives s sync a met new

@@ -1,22 +1,43 @@
 -- A worker's keys, one for each shelf.
-use Rattle.std.specs.Prelude.{◌≡◌, ℕ, Bool, false, List, [], ◌∷◌, Option, slice_index_or}
+use Rattle.std.specs.Prelude.{◌≡◌, ◌+◌, ℕ, List, [], ◌∷◌, Option, length, slice_index_or}
 use Rattle.crossbeam_queue.specs.declared.array_queue.Doing.{Doing}
 use Rattle.crossbeam_queue.specs.declared.array_queue.Slotted.{Slotted}
 use Rattle.crossbeam_queue.specs.Passes.{Pass, IsPassOf, view}
+use Rattle.cilk_workers.specs.ShelfHistories.{IsOneStep}
+use Rattle.cilk_workers.specs.Shelves.{IsPlaceOf, ShelfValue, place}
+use Rattle.cilk_workers.specs.declared.lock.KeyState.{KeyState}
+use Rattle.cilk_workers.specs.declared.lock.KeyState.TheVariants.{Holds, Free}
+use Rattle.cilk_workers.specs.declared.shelf.Place.{Place}
 use Rattle.cilk_workers.specs.declared.shelf.Shelf.{Shelf}
 
+-- the key holds a shelf, from which one step leads to this one
+abbrev pub HoldsBefore : Pass Shelf KeyState → ShelfValue → Type 0
+HoldsBefore p new = (s : Shelf) × (view p ≡ Holds s) × IsOneStep s new
+
 module _ {Q A : Type 0} where
-  -- the key is of the lock, and doesn't hold its shelf
-  abbrev pub IsFree : Slotted (Option Shelf) (Doing Shelf Bool) Q A → Pass Shelf Bool → Type 0
-  IsFree d p = IsPassOf d p × (view p ≡ false)
+  -- the key is of the lock of the shelf at this place, and doesn't hold that
+  abbrev pub IsFree : Slotted (Option Shelf) (Doing Shelf KeyState) Q A → Place → Pass Shelf KeyState → Type 0
+  IsFree d at p = IsPassOf d p × (view p ≡ Free at)
 
-  -- each key is of its lock, and holds no shelf
-  abbrev pub AreKeys : List (Slotted (Option Shelf) (Doing Shelf Bool) Q A) → List (Pass Shelf Bool) → Type 0
-  AreKeys [] [] = Unit {0}
-  AreKeys [] (p ∷ ps) = ⊥
-  AreKeys (d ∷ ds) [] = ⊥
-  AreKeys (d ∷ ds) (p ∷ ps) = IsFree d p × AreKeys ds ps
+  -- if the one key is of the lock and free, so is the other, for the same place
+  abbrev pub IsFreeLike : Slotted (Option Shelf) (Doing Shelf KeyState) Q A → Pass Shelf KeyState → Pass Shelf KeyState → Type 0
+  IsFreeLike d p q = (at : Place) → IsFree d at p → IsFree d at q
 
-  -- the key is of the lock at a place
-  abbrev pub IsKeyAt : List (Slotted (Option Shelf) (Doing Shelf Bool) Q A) → ℕ → Pass Shelf Bool → Type 0
-  IsKeyAt ds i p = (d : Slotted (Option Shelf) (Doing Shelf Bool) Q A) → d ≡ slice_index_or ds i d → IsFree d p
+  -- it is a free key of the lock of the shelf for block b
+  abbrev pub IsKeyFor : Slotted (Option Shelf) (Doing Shelf KeyState) Q A → ℕ → Pass Shelf KeyState → Type 0
+  IsKeyFor d b p = (at : Place) × IsFree d at p × IsPlaceOf at b
+
+  -- the keys are free, and of the locks with the numbers i, i + 1, .. among n
+  abbrev pub AreKeysFrom : ℕ → ℕ → List (Slotted (Option Shelf) (Doing Shelf KeyState) Q A) → List (Pass Shelf KeyState) → Type 0
+  AreKeysFrom i n [] [] = Unit {0}
+  AreKeysFrom i n [] (p ∷ ps) = ⊥
+  AreKeysFrom i n (d ∷ ds) [] = ⊥
+  AreKeysFrom i n (d ∷ ds) (p ∷ ps) = IsFree d (place i n) p × AreKeysFrom (i + 1) n ds ps
+
+  -- each key is of its lock and free
+  abbrev pub AreKeys : List (Slotted (Option Shelf) (Doing Shelf KeyState) Q A) → List (Pass Shelf KeyState) → Type 0
+  AreKeys ds ps = AreKeysFrom 0 (length ds) ds ps
+
+  -- the key is of the lock with this number and free
+  abbrev pub IsKeyAt : List (Slotted (Option Shelf) (Doing Shelf KeyState) Q A) → ℕ → Pass Shelf KeyState → Type 0
+  IsKeyAt ds i p = (d : Slotted (Option Shelf) (Doing Shelf KeyState) Q A) → d ≡ slice_index_or ds i d → IsFree d (place i (length ds)) p

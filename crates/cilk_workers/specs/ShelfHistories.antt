@@ -1,10 +1,13 @@
 -- The histories of a shelf: at its blocks continuations are stolen and pieces arrive.
-use Rattle.std.specs.Prelude.{◌≡◌, ℕ, Bool, List, [], ◌∷◌}
+use Rattle.std.specs.Prelude.{ℕ, Bool, List, [], ◌∷◌}
 use Rattle.cilk_workers.specs.Arrivals.{Arrives, HasArrived, HasRecorded, Records, is_passing}
 use Rattle.cilk_workers.specs.Histories.{Has, IsOnce}
-use Rattle.cilk_workers.specs.Shelves.{ShelfValue, passed_with}
+use Rattle.cilk_workers.specs.Rows.{RunValue}
+use Rattle.cilk_workers.specs.Shared.{IsNumberOf}
+use Rattle.cilk_workers.specs.Shelves.{IsEmptyShelf, IsPlaceOf, IsSameShelf, ShelfValue, passed_with}
 use Rattle.cilk_workers.specs.declared.locks.Arrival.{Arrival}
 use Rattle.cilk_workers.specs.declared.locks.Met.{Met}
+use Rattle.cilk_workers.specs.declared.shelf.Place.{Place}
 
 -- At the block that ends with a `sync`, the continuation of the child with this key is stolen, which
 -- continues at a position, and that is recorded or not; or a piece arrives, with its outcome.
@@ -12,17 +15,39 @@ pub data ShelfStep : Type 0 where
   StealsAt : (sync : ℕ) (key : ℕ) (goes_on : ℕ) (recorded : Bool) → ShelfStep
   ArrivesAt : (sync : ℕ) (arrival : Arrival) (met : Met) → ShelfStep
 
+-- the `sync` of its block
+abbrev pub sync_of : ShelfStep → ℕ
+sync_of (StealsAt q k a recorded) = q
+sync_of (ArrivesAt q a met) = q
+
+-- the step leads from one shelf to another
+abbrev pub LeadsBy : ShelfStep → ShelfValue → ShelfValue → Type 0
+LeadsBy (StealsAt q k a recorded) s new = HasRecorded s q k a recorded new
+LeadsBy (ArrivesAt q a met) s new = HasArrived s q a met new
+
+-- in this run, the block that ends with a `sync` has its box on the shelf at this place
+abbrev pub KeepsBlock : RunValue → Place → ℕ → Type 0
+KeepsBlock y at sync = (b : ℕ) × IsNumberOf y.event_order b sync × IsPlaceOf at b
+
+-- one step at a block of the shelf leads to the new one
+abbrev pub IsOneStep : ShelfValue → ShelfValue → Type 0
+IsOneStep s new = IsSameShelf s new × (step : ShelfStep) × KeepsBlock s.of s.place (sync_of step) × LeadsBy step s new
+
 -- ---- steps from an empty shelf on, the latest step first
 
 -- they lead to this shelf
 abbrev pub IsShelfHistory : List ShelfStep → ShelfValue → Type 0
-IsShelfHistory [] s = (s.boxes ≡ []) × (s.passed ≡ [])
-IsShelfHistory (StealsAt q k a recorded ∷ steps) new = (s : ShelfValue) × IsShelfHistory steps s × HasRecorded s q k a recorded new
-IsShelfHistory (ArrivesAt q a met ∷ steps) new = (s : ShelfValue) × IsShelfHistory steps s × HasArrived s q a met new
+IsShelfHistory [] s = IsEmptyShelf s
+IsShelfHistory (step ∷ steps) new = (s : ShelfValue) × IsShelfHistory steps s × LeadsBy step s new
 
--- some history leads to this shelf
+-- each is at a block of the shelf at this place
+abbrev pub AreAt : RunValue → Place → List ShelfStep → Type 0
+AreAt y at [] = Unit {0}
+AreAt y at (step ∷ steps) = KeepsBlock y at (sync_of step) × AreAt y at steps
+
+-- some history leads to this shelf, at its own blocks alone
 abbrev pub HasHistory : ShelfValue → Type 0
-HasHistory s = (steps : List ShelfStep) × IsShelfHistory steps s
+HasHistory s = (steps : List ShelfStep) × IsShelfHistory steps s × AreAt s.of s.place steps
 
 -- the blocks that have passed, by their `sync`s
 abbrev pub passed_blocks : List ShelfStep → List ℕ

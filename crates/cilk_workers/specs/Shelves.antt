@@ -1,22 +1,36 @@
 -- Shelves of join boxes.
-use Rattle.std.specs.Prelude.{◌≡◌, ◌≢◌, ◌+◌, ◌<◌, ◌⊎◌, ◌∷◌, ◌++◌, [], ℕ, Bool, true, false, List, All, Some, drop, length, slice_get, take}
+use Rattle.std.specs.Prelude.{◌≡◌, ◌≢◌, ◌+◌, ◌%◌, ◌<◌, ◌⊎◌, ◌∷◌, ◌++◌, [], ℕ, Bool, true, false, List, All, Some, drop, length, slice_get, take}
 use Rattle.cilk_replay.specs.Replays.{ReplayValue}
 use Rattle.cilk_workers.specs.Rows.{RunValue}
 use Rattle.cilk_workers.specs.Boxes.{BoxValue, IsUnused, opening}
 use Rattle.cilk_workers.specs.Histories.{Has}
+use Rattle.cilk_workers.specs.declared.shelf.Place.{Place}
 
--- a run, its replay, the boxes on the shelf, and the blocks that have passed, by their `sync`s; and the
--- numbers of boxes and of such blocks that there is room for
+-- a run, its replay, the shelf's place, its boxes, and the blocks that have passed, by their `sync`s; and
+-- the numbers of boxes and of such blocks that there is room for
 pub record ShelfValue : Type 0 where
   pub of : RunValue
   pub replay : ReplayValue
+  pub place : Place
   pub boxes : List BoxValue
   pub room : ℕ
   pub passed : List ℕ
   pub passed_room : ℕ
 
-abbrev pub shelf : RunValue → ReplayValue → List BoxValue → ℕ → List ℕ → ℕ → ShelfValue
-shelf y c boxes room passed passed_room = record { of = y; replay = c; boxes = boxes; room = room; passed = passed; passed_room = passed_room }
+abbrev pub shelf : RunValue → ReplayValue → Place → List BoxValue → ℕ → List ℕ → ℕ → ShelfValue
+shelf y c at boxes room passed passed_room = record { of = y; replay = c; place = at; boxes = boxes; room = room; passed = passed; passed_room = passed_room }
+
+-- the place of a shelf by its number, among so many shelves
+abbrev pub place : ℕ → ℕ → Place
+place number count = record { number = number; count = count }
+
+-- the shelf at this place is the one for block b
+abbrev pub IsPlaceOf : Place → ℕ → Type 0
+IsPlaceOf at b = b % at.count ≡ at.number
+
+-- no box is on the shelf, and none of its blocks has passed
+abbrev pub IsEmptyShelf : ShelfValue → Type 0
+IsEmptyShelf s = (s.boxes ≡ []) × (s.passed ≡ [])
 
 -- there is room for one more box, and for one more block that has passed
 abbrev pub HasRoom : ShelfValue → Type 0
@@ -31,9 +45,9 @@ abbrev pub passed_with : List ℕ → ℕ → Bool → List ℕ
 passed_with syncs sync true = syncs ++ sync ∷ []
 passed_with syncs sync false = syncs
 
--- it belongs to the same run
+-- it belongs to the same run, and is at the same place
 abbrev pub IsSameShelf : ShelfValue → ShelfValue → Type 0
-IsSameShelf s new = (new.of ≡ s.of) × (new.replay ≡ s.replay)
+IsSameShelf s new = (new.of ≡ s.of) × (new.replay ≡ s.replay) × (new.place ≡ s.place)
 
 -- the box belongs to the shelf's run
 abbrev pub LiesOn : RunValue → ReplayValue → BoxValue → Type 0

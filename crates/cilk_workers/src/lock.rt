@@ -2,15 +2,19 @@
 //!
 //! Popping the shelf locks it, and pushing it back unlocks it. Each worker has a key for each lock;
 //! keys are made before the threads start. The rule is that there is one shelf, in the queue or with
-//! one key, so the queue has room whenever a shelf is put back.
+//! one key, so the queue has room whenever a shelf is put back. What is put back is the shelf that was
+//! popped, after one steal or arrival at one of its blocks.
 
 ghost use Rattle.std.specs.Prelude.{◌≡◌, true, false, IfOk};
 ghost use Rattle.crossbeam_queue.specs.Passes.{IsPassOf, view};
-ghost use Rattle.cilk_workers.specs.Keys.{IsFree};
-ghost use Rattle.cilk_workers.specs.Locks.{IsShelf};
+ghost use Rattle.cilk_workers.specs.Keys.{HoldsBefore, IsFree, IsFreeLike};
+ghost use Rattle.cilk_workers.specs.Locks.{IsPopped, IsShelf};
+ghost use Rattle.cilk_workers.specs.Shelves.{IsEmptyShelf};
+ghost use Rattle.cilk_workers.specs.declared.lock.KeyState.TheVariants.{Holds};
+ghost use Rattle.cilk_workers.specs.declared.shelf.Place.{Place};
 
 use crate::naming::Naming;
-use crate::shelf::Shelf;
+use crate::shelf::{Place, Shelf};
 use crossbeam_queue::protocol::{Lesson, Outcome, Protocol, Split};
 use crossbeam_queue::{Pass, RuledArrayQueue};
 use crossbeam_utils::Backoff;
@@ -18,19 +22,29 @@ use std::alloc::{AllocError, Global};
 use std::marker::PhantomData;
 use std::sync::Wait;
 
+/// The state of a key. It exists in contracts alone.
+pub enum KeyState {
+    /// The lock is new, and has no shelf yet.
+    New,
+    /// The key holds this shelf.
+    Holds(Shelf),
+    /// The key doesn't hold the shelf, which is at this place.
+    Free(Place),
+}
+
 /// The rule of a shelf's queue: the one shelf, which belongs to the run that `N` names, is in the
-/// queue or with one key. A key's view says whether it holds the shelf.
+/// queue or with one key. A key's view says which shelf it holds.
 pub struct OfShelf<N: Naming> {
     of: PhantomData<N>,
 }
 
-impl<N: Naming> Protocol<Shelf, bool> for OfShelf<N> {
-    ghost use Rattle.std.specs.Prelude.{true};
+impl<N: Naming> Protocol<Shelf, KeyState> for OfShelf<N> {
+    ghost use Rattle.cilk_workers.specs.declared.lock.KeyState.TheVariants.{New};
     ghost use Rattle.cilk_workers.specs.Locks.{Shelved};
 
     ghost holds = { λ items views. Shelved N.run N.replay items views };
 
-    ghost first = { true };
+    ghost first = { New };
 }
 
 /// The pop that locks the shelf.
@@ -38,14 +52,15 @@ pub struct Locks<N: Naming> {
     of: PhantomData<N>,
 }
 
-impl<N: Naming> Outcome<Shelf, bool> for Locks<N> {
-    ghost use Rattle.std.specs.Prelude.{◌≡◌, true};
-    ghost use Rattle.cilk_workers.specs.Locks.{IsShelf};
+impl<N: Naming> Outcome<Shelf, KeyState> for Locks<N> {
+    ghost use Rattle.std.specs.Prelude.{◌≡◌};
+    ghost use Rattle.cilk_workers.specs.declared.lock.KeyState.TheVariants.{Holds};
+    ghost use Rattle.cilk_workers.specs.Locks.{IsPopped};
 
-    ghost then = { λ v x w. IsShelf N.run N.replay x × (w ≡ true) };
+    ghost then = { λ v x w. IsPopped N.run N.replay v x × (w ≡ Holds x) };
 }
 
-impl<N: Naming> Lesson<Shelf, bool> for Locks<N> {
+impl<N: Naming> Lesson<Shelf, KeyState> for Locks<N> {
     ghost use Rattle.std.specs.Prelude.{⊤};
 
     ghost fact = { λ v items. ⊤ };
@@ -54,43 +69,44 @@ impl<N: Naming> Lesson<Shelf, bool> for Locks<N> {
 /// The push that unlocks the shelf: a queue is empty while a key holds its shelf.
 pub struct Unlocks;
 
-impl Outcome<Shelf, bool> for Unlocks {
-    ghost use Rattle.std.specs.Prelude.{◌≡◌, false};
+impl Outcome<Shelf, KeyState> for Unlocks {
+    ghost use Rattle.std.specs.Prelude.{◌≡◌};
+    ghost use Rattle.cilk_workers.specs.declared.lock.KeyState.TheVariants.{Free};
+    ghost use Rattle.cilk_workers.specs.Locks.{MayPush};
 
-    ghost then = { λ v x w. w ≡ false };
+    ghost then = { λ v x w. MayPush v x × (w ≡ Free x.place) };
 }
 
-impl Lesson<Shelf, bool> for Unlocks {
-    ghost use Rattle.std.specs.Prelude.{◌≡◌, true, []};
+impl Lesson<Shelf, KeyState> for Unlocks {
+    ghost use Rattle.std.specs.Prelude.{◌≡◌, []};
+    ghost use Rattle.cilk_workers.specs.Locks.{held};
 
-    ghost fact = { λ v items. v ≡ true → items ≡ [] };
+    ghost fact = { λ v items. held v ≡ 1 → items ≡ [] };
 }
 
-/// Another key doesn't hold the shelf.
+/// Another key is like the first one.
 pub struct Idle;
 
-impl Split<bool> for Idle {
-    ghost use Rattle.std.specs.Prelude.{false};
-
+impl Split<KeyState> for Idle {
     ghost left = { λ v. v };
 
-    ghost right = { λ v. false };
+    ghost right = { λ v. v };
 }
 
 /// A shelf's queue.
-pub type Lock<N> = RuledArrayQueue<Shelf, bool, OfShelf<N>>;
+pub type Lock<N> = RuledArrayQueue<Shelf, KeyState, OfShelf<N>>;
 
 /// A worker's key of a shelf's queue.
-pub type Key = Pass<Shelf, bool>;
+pub type Key = Pass<Shelf, KeyState>;
 
-/// Makes a lock with this shelf in it, and a first key. Fails if memory runs out.
+/// Makes a lock with this empty shelf in it, and a first key. Fails if memory runs out.
 pub fn new_locked<N: Naming, R: Wait>(
     rt: &R,
     alloc: Global,
     first: Shelf,
 ) -> Result<(Lock<N>, Key), AllocError>
-    requires { IsShelf N.run N.replay first }
-    ensures { IfOk result (λ r. IsFree r.0 r.1) }
+    requires { IsShelf N.run N.replay first × IsEmptyShelf first }
+    ensures { IfOk result (λ r. IsFree r.0 first.place r.1) }
 {
     let (lock, mut key) = Lock::<N>::ruled(alloc, 1)?;
     if lock.push_as::<Unlocks, R>(rt, &mut key, first).is_err() {
@@ -113,8 +129,8 @@ pub(crate) fn never<R: Wait>(rt: &R)
 /// Locks the shelf: waits until it is there, and pops it.
 pub fn lock<N: Naming, R: Wait>(rt: &R, lock: &Lock<N>, key: &mut Key) -> Shelf
     requires { IsPassOf lock.now key.old }
-    ensures key { IsPassOf lock.now key.new × (view key.new ≡ true) }
-    ensures found { IsShelf N.run N.replay result }
+    ensures key { IsPassOf lock.now key.new × (view key.new ≡ Holds result) }
+    ensures found { IsPopped N.run N.replay (view key.old) result }
 {
     let backoff = Backoff::new();
     for _ in rt.forever() {
@@ -126,11 +142,11 @@ pub fn lock<N: Naming, R: Wait>(rt: &R, lock: &Lock<N>, key: &mut Key) -> Shelf
     unreachable!()
 }
 
-/// Unlocks the shelf, which the key holds: pushes it back.
+/// Unlocks the shelf: pushes it back. It is the one that the key holds, after one step.
 pub fn unlock<N: Naming, R: Wait>(rt: &R, lock: &Lock<N>, key: &mut Key, back: Shelf)
-    requires key { IsPassOf lock.now key.old × (view key.old ≡ true) }
-    requires back { IsShelf N.run N.replay back }
-    ensures { IsFree lock.now key.new }
+    requires key { IsPassOf lock.now key.old }
+    requires back { HoldsBefore key.old back }
+    ensures { IsFree lock.now back.place key.new }
 {
     if lock.push_as::<Unlocks, R>(rt, key, back).is_err() {
         unreachable!();
@@ -139,9 +155,9 @@ pub fn unlock<N: Naming, R: Wait>(rt: &R, lock: &Lock<N>, key: &mut Key, back: S
 
 /// Makes a key for another worker.
 pub fn another<N: Naming>(lock: &Lock<N>, key: &mut Key) -> Key
-    requires { IsFree lock.now key.old }
-    ensures old { IsFree lock.now key.new }
-    ensures new { IsFree lock.now result }
+    requires { (at : Place) × IsFree lock.now at key.old }
+    ensures old { IsFreeLike lock.now key.old key.new }
+    ensures new { IsFreeLike lock.now key.old result }
 {
     lock.another::<Idle>(key)
 }

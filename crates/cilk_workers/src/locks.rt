@@ -1,6 +1,6 @@
 //! Steals and arrivals at the join boxes, each under the lock of its shelf.
 
-ghost use Rattle.std.specs.Prelude.{◌≡◌, ◌<◌, ◌≤◌, Some, IfOk, IfSome, OnOk};
+ghost use Rattle.std.specs.Prelude.{◌≡◌, ◌%◌, ◌<◌, ◌≤◌, Some, IfOk, IfSome, OnErr, OnOk};
 ghost use Rattle.cilk_types.specs.declared.event.Event.TheVariants.{Sync};
 ghost use Rattle.cilk_workers.specs.Rows.{IsGood};
 ghost use Rattle.cilk_workers.specs.Shelves.{HasPassed, HasRoom, IsSameShelf, LiesOn, TakesOff};
@@ -12,7 +12,7 @@ ghost use Rattle.cilk_workers.specs.Shared.{IsNumberOf, event_order_in};
 ghost use Rattle.cilk_workers.specs.Activities.{IsMet};
 ghost use Rattle.cilk_workers.specs.Boxes.{EndsAtKey, is_some};
 ghost use Rattle.cilk_workers.specs.Arrivals.{AnswersBy, HasArrived, HasRecorded, is_passing};
-ghost use Rattle.cilk_workers.specs.Keys.{AreKeys, IsFree};
+ghost use Rattle.cilk_workers.specs.Keys.{AreKeys, IsFreeLike, IsKeyFor};
 ghost use Rattle.cilk_workers.specs.WorkerContexts.{IsWorkerContext};
 
 use crate::columns::Block;
@@ -60,10 +60,11 @@ fn is_pass(met: &Met) -> bool
     }
 }
 
-// The shelf of a block, of `shelves` shelves.
+// The number of the shelf of a block, of `shelves` shelves.
 fn shelf_of(block: usize, shelves: usize) -> usize
     requires { 1 ≤ shelves }
-    ensures { result < shelves }
+    ensures there { result < shelves }
+    ensures number { result ≡ block % shelves }
 {
     block % shelves
 }
@@ -97,6 +98,7 @@ impl<'a, 'b, N: Naming, R: Wait, G: Gate> WorkerContext<'a, 'b, N, R, G> {
         requires sync { event (event_order_in self.now.shared.now) sync ≡ Some Sync }
         ensures shelf { IsSameShelf shelf.old shelf.new }
         ensures passed { shelf.new.passed ≡ shelf.old.passed }
+        ensures err { OnErr result (shelf.new.boxes ≡ shelf.old.boxes) }
         ensures of { IfOk result (λ b. LiesOn shelf.old.of shelf.old.replay b × (b.sync ≡ sync)) }
         ensures taken { IfOk result (λ b. TakesOff shelf.old sync b shelf.new) }
         ensures room { OnOk result (HasRoom shelf.new) }
@@ -115,19 +117,19 @@ impl<'a, 'b, N: Naming, R: Wait, G: Gate> WorkerContext<'a, 'b, N, R, G> {
     }
 
     // A piece arrives at a block whose box is on this shelf. Nothing arrives at one that has passed.
-    fn arrive_on(&self, shelf: &mut Shelf, sync: Pos, arrival: Arrival) -> Met
+    fn arrive_on(&self, shelf: &mut Shelf, block: Block, arrival: Arrival) -> Met
         requires context { IsWorkerContext N.run N.replay N.taken self.now }
         requires shelf { IsShelf N.run N.replay shelf.old }
-        requires sync { event (event_order_in self.now.shared.now) sync ≡ Some Sync }
+        requires sync { event (event_order_in self.now.shared.now) block.sync ≡ Some Sync }
         requires good { IsGood self.now.shared.now.run arrival.piece }
         requires chain { IfSome arrival.chain (λ c. c ≡ standing self.now.shared.now.replay arrival.piece.upto) }
         requires ends { EndsAtKey (event_order_in self.now.shared.now) arrival.by arrival.piece (is_some arrival.chain) }
         ensures shelf { IsSameShelf shelf.old shelf.new }
-        ensures arrived { HasArrived shelf.old sync arrival result shelf.new }
+        ensures arrived { HasArrived shelf.old block.sync arrival result shelf.new }
         ensures met { IsMet self.now.shared.now result }
     {
-        self.wait_if_passed(shelf, sync);
-        let Ok(mut found) = self.taken_from(shelf, sync) else {
+        self.wait_if_passed(shelf, block.sync);
+        let Ok(mut found) = self.taken_from(shelf, block.sync) else {
             return Met::Stopped;
         };
         let met = self.arrive_at(&mut found, arrival);
@@ -138,16 +140,16 @@ impl<'a, 'b, N: Naming, R: Wait, G: Gate> WorkerContext<'a, 'b, N, R, G> {
 
     // Records a steal at a block whose box is on this shelf. Nothing is stolen from one that has
     // passed. False if memory ran out.
-    fn record_steal_on(&self, shelf: &mut Shelf, sync: Pos, child: Pos, goes_on: Pos) -> bool
+    fn record_steal_on(&self, shelf: &mut Shelf, block: Block, child: Pos, goes_on: Pos) -> bool
         requires context { IsWorkerContext N.run N.replay N.taken self.now }
         requires shelf { IsShelf N.run N.replay shelf.old }
-        requires sync { event (event_order_in self.now.shared.now) sync ≡ Some Sync }
+        requires sync { event (event_order_in self.now.shared.now) block.sync ≡ Some Sync }
         requires resumes { word_step (event_order_in self.now.shared.now) goes_on ≡ resume child }
         ensures shelf { IsSameShelf shelf.old shelf.new }
-        ensures recorded { HasRecorded shelf.old sync child goes_on result shelf.new }
+        ensures recorded { HasRecorded shelf.old block.sync child goes_on result shelf.new }
     {
-        self.wait_if_passed(shelf, sync);
-        let Ok(mut found) = self.taken_from(shelf, sync) else {
+        self.wait_if_passed(shelf, block.sync);
+        let Ok(mut found) = self.taken_from(shelf, block.sync) else {
             return false;
         };
         if !found.open(child, goes_on) {
@@ -158,42 +160,48 @@ impl<'a, 'b, N: Naming, R: Wait, G: Gate> WorkerContext<'a, 'b, N, R, G> {
         told
     }
 
-    // A piece arrives at the block that ends with the `sync` at this position, whose shelf has this
-    // lock.
-    fn arrive_locked(&self, shelf_lock: &Lock<N>, key: &mut Key, sync: Pos, arrival: Arrival) -> Met
+    // A piece arrives at a block whose shelf has this lock.
+    fn arrive_locked(
+        &self,
+        shelf_lock: &Lock<N>,
+        key: &mut Key,
+        block: Block,
+        arrival: Arrival,
+    ) -> Met
         requires context { IsWorkerContext N.run N.replay N.taken self.now }
-        requires key { IsFree shelf_lock.now key.old }
-        requires sync { event (event_order_in self.now.shared.now) sync ≡ Some Sync }
+        requires key { IsKeyFor shelf_lock.now block.number key.old }
+        requires number { IsNumberOf (event_order_in self.now.shared.now) block.number block.sync }
+        requires sync { event (event_order_in self.now.shared.now) block.sync ≡ Some Sync }
         requires good { IsGood self.now.shared.now.run arrival.piece }
         requires chain { IfSome arrival.chain (λ c. c ≡ standing self.now.shared.now.replay arrival.piece.upto) }
         requires ends { EndsAtKey (event_order_in self.now.shared.now) arrival.by arrival.piece (is_some arrival.chain) }
-        ensures key { IsFree shelf_lock.now key.new }
+        ensures key { IsFreeLike shelf_lock.now key.old key.new }
         ensures met { IsMet self.now.shared.now result }
     {
         let mut shelf = lock(self.rt, shelf_lock, key);
-        let met = self.arrive_on(&mut shelf, sync, arrival);
+        let met = self.arrive_on(&mut shelf, block, arrival);
         unlock(self.rt, shelf_lock, key, shelf);
         met
     }
 
-    // Records a steal at the block that ends with the `sync` at this position, whose shelf has this
-    // lock.
+    // Records a steal at a block whose shelf has this lock.
     fn record_steal_locked(
         &self,
         shelf_lock: &Lock<N>,
         key: &mut Key,
-        sync: Pos,
+        block: Block,
         child: Pos,
         goes_on: Pos,
     ) -> bool
         requires context { IsWorkerContext N.run N.replay N.taken self.now }
-        requires key { IsFree shelf_lock.now key.old }
-        requires sync { event (event_order_in self.now.shared.now) sync ≡ Some Sync }
+        requires key { IsKeyFor shelf_lock.now block.number key.old }
+        requires number { IsNumberOf (event_order_in self.now.shared.now) block.number block.sync }
+        requires sync { event (event_order_in self.now.shared.now) block.sync ≡ Some Sync }
         requires resumes { word_step (event_order_in self.now.shared.now) goes_on ≡ resume child }
-        ensures { IsFree shelf_lock.now key.new }
+        ensures { IsFreeLike shelf_lock.now key.old key.new }
     {
         let mut shelf = lock(self.rt, shelf_lock, key);
-        let told = self.record_steal_on(&mut shelf, sync, child, goes_on);
+        let told = self.record_steal_on(&mut shelf, block, child, goes_on);
         unlock(self.rt, shelf_lock, key, shelf);
         told
     }
@@ -215,7 +223,7 @@ impl<'a, 'b, N: Naming, R: Wait, G: Gate> WorkerContext<'a, 'b, N, R, G> {
         let at = shelf_of(block.number, locks.len());
         let shelf_lock = &locks[at];
         let key = &mut keys[at];
-        self.arrive_locked(shelf_lock, key, block.sync, arrival)
+        self.arrive_locked(shelf_lock, key, block, arrival)
     }
 
     /// Records at a block that a thief took the continuation of the spawn at
@@ -230,9 +238,9 @@ impl<'a, 'b, N: Naming, R: Wait, G: Gate> WorkerContext<'a, 'b, N, R, G> {
         ensures { AreKeys self.now.locks.now.items keys.new.items }
     {
         let locks = self.locks;
-        let at = shelf_of(block.number, locks.len());
-        let shelf_lock = &locks[at];
-        let key = &mut keys[at];
-        self.record_steal_locked(shelf_lock, key, block.sync, child, goes_on)
+        let number = shelf_of(block.number, locks.len());
+        let shelf_lock = &locks[number];
+        let key = &mut keys[number];
+        self.record_steal_locked(shelf_lock, key, block, child, goes_on)
     }
 }

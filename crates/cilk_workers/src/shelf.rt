@@ -1,13 +1,13 @@
 //! Shelves: the join boxes of several sync blocks, and which of these blocks have passed.
 
-ghost use Rattle.std.specs.Prelude.{◌≡◌, ◌<◌, ◌≤◌, ◌↔◌, ℕ, [], All, length, IfOk, IfSome, IsTrue, MatchOption, OnErr, Some};
+ghost use Rattle.std.specs.Prelude.{◌≡◌, ◌<◌, ◌≤◌, ◌↔◌, ℕ, All, length, IfOk, IfSome, IsTrue, MatchOption, OnErr, Some};
 ghost use Rattle.std.specs.Vec.{vec_capacity};
 ghost use Rattle.cilk_types.specs.declared.event.Event.TheVariants.{Sync};
 ghost use Rattle.cilk_tree.specs.Word.{event};
 ghost use Rattle.cilk_workers.specs.Shared.{event_order_in};
 ghost use Rattle.cilk_workers.specs.Histories.{Has};
 ghost use Rattle.cilk_workers.specs.ShelfHistories.{HasHistory};
-ghost use Rattle.cilk_workers.specs.Shelves.{ComesOut, HasNone, HasPassed, HasRoom, IsSameShelf, LiesOn, PutsBack, TakesOff, passed_with};
+ghost use Rattle.cilk_workers.specs.Shelves.{ComesOut, HasNone, HasPassed, HasRoom, IsEmptyShelf, IsSameShelf, LiesOn, PutsBack, TakesOff, passed_with};
 
 use crate::join::JoinBox;
 use crate::shared::Shared;
@@ -19,16 +19,25 @@ use std::alloc::{AllocError, Global};
 use std::marker::Model;
 use std::snapshot::Snapshot;
 
+/// The place of a shelf among the shelves of a run: its number, and how many there are. The box of
+/// block `b` is on the shelf with the number `b` modulo `count`.
+#[derive(Clone, Copy)]
+pub struct Place {
+    pub number: usize,
+    pub count: usize,
+}
+
 /// The join boxes of several blocks, and which of these blocks have passed.
 ///
 /// Only boxes in which something waits are kept. Any other box is as it was at first, and needs no
 /// memory, or its block has passed, which the shelf remembers. Contracts see the run to which the
-/// blocks belong, the boxes, and the blocks that have passed.
+/// blocks belong, the shelf's place, the boxes, and the blocks that have passed.
 #[derive(Drop)]
 pub struct Shelf {
     of: Snapshot<Yard>,
     reducers: Snapshot<Reducers>,
     replay: Snapshot<Replay>,
+    place: Snapshot<Place>,
     boxes: Vec<JoinBox>,
     passed: Vec<Pos>,
 }
@@ -45,7 +54,7 @@ impl Model for Shelf {
 
     ghost coded = { Prim.hlevel (codes, replay_code) };
 
-    ghost view = { λ s. shelf (run_of s.of.value s.reducers.value) s.replay.value s.boxes.items (vec_capacity s.boxes) s.passed.items (vec_capacity s.passed) };
+    ghost view = { λ s. shelf (run_of s.of.value s.reducers.value) s.replay.value s.place.value s.boxes.items (vec_capacity s.boxes) s.passed.items (vec_capacity s.passed) };
 
     ghost invariant = { λ s. All (LiesOn (run_of s.of.value s.reducers.value) s.replay.value) s.boxes.items };
 }
@@ -86,15 +95,17 @@ fn mark(passed: &mut Vec<Pos>, sync: Pos, passes: bool)
 }
 
 impl Shelf {
-    /// Returns a shelf without boxes. None of its blocks has passed.
-    pub fn new(alloc: Global, shared: &Shared<'_>) -> Shelf
-        ensures new { (result.of ≡ shared.now.run) × (result.replay ≡ shared.now.replay) × (result.boxes ≡ []) × (result.passed ≡ []) }
+    /// Returns a shelf without boxes, for this place. None of its blocks has passed.
+    pub fn new(alloc: Global, shared: &Shared<'_>, place: Place) -> Shelf
+        ensures new { (result.of ≡ shared.now.run) × (result.replay ≡ shared.now.replay) × IsEmptyShelf result }
+        ensures place { result.place ≡ place }
         ensures history { HasHistory result }
     {
         Shelf {
             of: Snapshot::of(shared.yard()),
             reducers: Snapshot::of(shared.reducers()),
             replay: Snapshot::of(shared.replay()),
+            place: Snapshot::of(&place),
             boxes: Vec::new(alloc),
             passed: Vec::new(alloc),
         }
