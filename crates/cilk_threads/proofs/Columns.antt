@@ -3,7 +3,7 @@ use Rattle.std.proofs.Common.{◌≡◌, ℕ, ◌+◌, List, inl, inr, sym, ap, 
 use Rattle.cilk_shared.proofs.Along.{frames_along}
 use Rattle.cilk_tree.specs.Along.{IsAlong}
 use Rattle.cilk_tree.specs.Blocks.{EndsBlockOf}
-use Rattle.cilk_tree.specs.Columns.{AreBlockEnds, AreBlocks, AreStrands, BlocksEnd, IsOfBlock, IsSpawnOf}
+use Rattle.cilk_tree.specs.Columns.{AreBlockEnds, AreBlocks, AreFirstSpawns, AreStrands, BlocksEnd, IsOfBlock, IsSpawnOf}
 use Rattle.cilk_tree.specs.declared.event_order.EventOrder.{EventOrder}
 use Rattle.cilk_tree.specs.Orders.{IsOrderly}
 use Rattle.cilk_tree.specs.Word.{spawn, word_step}
@@ -87,6 +87,12 @@ module _ (plan s : EventOrder) (along : IsAlong plan s) (order : IsOrderly plan)
     places = are.places ∙ ap (λ (n : ℕ). n + 1) (sym (many plan s along));
   }
 
+  firsts_along : (syncs firsts : List ℕ) → AreFirstSpawns plan syncs firsts → AreFirstSpawns s syncs firsts
+  firsts_along syncs firsts are = record {
+    count = are.count;
+    each = λ b q k is is'. (let first = are.each b q k is is' in record { spawns = forth q k first.spawns; least = λ k' h. first.least k' (hence q k' h) });
+  }
+
   all_end : SpawnsHaveContinuations plan → BlocksEnd s
   all_end have k is =
       let h = have k (spawns s plan (back plan s along) orderly order k is) in
@@ -94,11 +100,12 @@ module _ (plan s : EventOrder) (along : IsAlong plan s) (order : IsOrderly plan)
       let continues = h.is in
       (c.sync, block_ends plan s along k c.sync continues.ends)
 
-  pub columns_along : SpawnsHaveContinuations plan → (syncs blocks strands : List ℕ) → AreBlockEnds plan syncs → AreBlocks plan syncs blocks → AreStrands plan.events strands
-      → AreColumns s syncs blocks strands
-  columns_along have syncs blocks strands ends are begin = (
+  pub columns_along : SpawnsHaveContinuations plan → (syncs firsts blocks strands : List ℕ) → AreBlockEnds plan syncs → AreFirstSpawns plan syncs firsts → AreBlocks plan syncs blocks
+      → AreStrands plan.events strands → AreColumns s syncs firsts blocks strands
+  columns_along have syncs firsts blocks strands ends first are begin = (
     ends_along syncs ends,
     blocks_along syncs blocks are,
     strands_along plan.events s.events (sym along.kinds) strands begin,
     all_end have,
+    firsts_along syncs firsts first,
   )

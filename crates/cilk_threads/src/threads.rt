@@ -122,6 +122,7 @@ fn run_on<R: Threads + Wait + Sync, G: Gate + Sync>(
     let blocks = plan.blocks();
     let columns = Columns {
         syncs: plan.syncs(),
+        firsts: plan.firsts(),
         blocks,
         strands: plan.strands(),
     };

@@ -71,6 +71,7 @@ fn tried_on<R: Abort>(
     let blocks = plan.blocks();
     let columns = Columns {
         syncs: plan.syncs(),
+        firsts: plan.firsts(),
         blocks,
         strands: plan.strands(),
     };

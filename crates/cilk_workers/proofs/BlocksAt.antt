@@ -1,12 +1,13 @@
 -- The block of a position, by a run's columns.
 --
--- - `of_block`, `number_of`, `ends_at`: an entry's block, its number, and its `sync`;
+-- - `of_block`, `number_of`, `ends_at`, `first_of`: an entry's block, its number, its `sync` and its first
+--   spawn;
 -- - `no_resume`, `no_end`: what a position without an entry isn't.
 use Rattle.std.proofs.Common.{◌≡◌, inl, inr, ℕ, zero, suc, ◌<◌, ◌≤◌, List, [], ◌∷◌, length, Some, slice_get, slice_index, slice_index_or, refl, sym, ap, ◌∙◌, arith}
 use Rattle.std.proofs.lemmas.Option.{get_or_from_slice_get, slice_get-get_or, slice_get_within}
 use Rattle.cilk_types.specs.declared.event.Event.TheVariants.{Sync}
 use Rattle.cilk_tree.specs.Blocks.{EndsBlockOf}
-use Rattle.cilk_tree.specs.Columns.{AreBlockEnds, AreBlocks, BlocksEnd, IsOfBlock, IsSpawnOf, no_block}
+use Rattle.cilk_tree.specs.Columns.{AreBlockEnds, AreBlocks, AreFirstSpawns, BlocksEnd, IsFirstSpawn, IsOfBlock, IsSpawnOf, no_block}
 use Rattle.cilk_tree.specs.Orders.{IsOrderly}
 use Rattle.cilk_tree.specs.Word.{event, resume, word_step}
 use Rattle.cilk_tree.specs.declared.event_order.EventOrder.{EventOrder}
@@ -21,20 +22,24 @@ known (x ∷ xs) (suc p) d b is lt = known xs p d b is lt
 block_ends : (s : EventOrder) (k q : ℕ) → EndsBlockOf s.events k q → event s q ≡ Some Sync
 block_ends s k q h = let next = h.2 in let at = next.syncs in at.0
 
-module _ (s : EventOrder) (syncs blocks : List ℕ) (ends : AreBlockEnds s syncs) (are : AreBlocks s syncs blocks) where
-  -- the `sync` of a block
-  sync_is : (b q : ℕ) → b < length syncs → q ≡ slice_index syncs b → slice_get syncs b ≡ Some q
-  sync_is b q less is = slice_get-get_or syncs b 0 less ∙ ap Some (sym is)
+-- an entry of a column
+entry_is : (xs : List ℕ) (b x : ℕ) → b < length xs → x ≡ slice_index xs b → slice_get xs b ≡ Some x
+entry_is xs b x less is = slice_get-get_or xs b 0 less ∙ ap Some (sym is)
 
+pub first_of : (s : EventOrder) (syncs firsts : List ℕ) → AreFirstSpawns s syncs firsts → (b q k : ℕ) → b < length syncs → q ≡ slice_index syncs b → k ≡ slice_index firsts b → IsFirstSpawn s q k
+first_of s syncs firsts are b q k less sync first =
+    let count = are.count in are.each b q k (entry_is syncs b q less sync) (entry_is firsts b k (omega (arith, less, count)) first)
+
+module _ (s : EventOrder) (syncs blocks : List ℕ) (ends : AreBlockEnds s syncs) (are : AreBlocks s syncs blocks) where
   pub of_block : (p b q : ℕ) → slice_get blocks p ≡ Some b → b < length syncs → q ≡ slice_index syncs b → IsOfBlock s q p
-  of_block p b q there less is = (are.exact p b q (sync_is b q less is)).0 (get_or_from_slice_get blocks p b no_block there)
+  of_block p b q there less is = (are.exact p b q (entry_is syncs b q less is)).0 (get_or_from_slice_get blocks p b no_block there)
 
   pub number_of : (b q : ℕ) → b < length syncs → q ≡ slice_index syncs b → IsNumberOf s b q
-  number_of b q less is = (syncs, ends, sync_is b q less is)
+  number_of b q less is = (syncs, ends, entry_is syncs b q less is)
 
   pub ends_at : (b q : ℕ) → b < length syncs → q ≡ slice_index syncs b → event s q ≡ Some Sync
   ends_at b q less is =
-      let h = (ends.all q).1 (b, sync_is b q less is) in
+      let h = (ends.all q).1 (b, entry_is syncs b q less is) in
       let spawned = h.1 in
       block_ends s h.0 q spawned.ends
 

@@ -4,16 +4,21 @@
 -- - `closed_on`: after an arrival;
 -- - `gone_on`, `gone_row`: of a block that has passed;
 -- - `awaits`, `no_chain`: where the block doesn't pass;
--- - `passing`: the block's piece comes out.
-use Rattle.std.proofs.Common.{◌≡◌, ℕ, nat_eq, Bool, if◌then◌else◌, true, false, true≢false, List, [], ◌∷◌, Option, Some, None, inl, inr, refl, sym, ap, ◌∙◌, subst}
+-- - `passing`, `passing_whole`: the block's piece comes out, and has the whole block;
+-- - `by_first`: a piece that begins no later than the block's first spawn; `starts_on`: so does the first
+--   run, after an arrival.
+use Rattle.std.proofs.Common.{◌≡◌, ◌≤◌, ℕ, nat_eq, Bool, if◌then◌else◌, true, false, true≢false, List, [], ◌∷◌, Option, Some, None, inl, inr, refl, sym, ap, ◌∙◌, subst, arith}
+use Rattle.cilk_tree.specs.declared.event_order.EventOrder.{EventOrder}
 use Rattle.cilk_shared.specs.Pieces.{PieceValue}
 use Rattle.cilk_replay.specs.Chains.{ChainValue}
 use Rattle.cilk_replay.specs.Replays.{ReplayValue}
-use Rattle.cilk_workers.specs.Rows.{Row, Run, Wait, Rows, row, rows, between, placed, placed_in, is_empty, IsGoodRun}
-use Rattle.cilk_workers.specs.declared.join.Boxed.TheVariants.{Passes}
-use Rattle.cilk_workers.specs.Answers.{Answers}
-use Rattle.cilk_workers.specs.Boxes.{BoxValue, is_some, is_there, closed_by, later, Stands, IsAbsent, IsUpTo, Closes, IsClosed, IsGone, MayArrive}
-use Rattle.std.proofs.lemmas.Bool.{eq-eqb}
+use Rattle.cilk_workers.specs.Rows.{Row, Run, Wait, Rows, row, rows, ahead, between, placed, placed_in, is_empty, IsBeforeAll, IsGoodRun}
+use Rattle.cilk_workers.specs.declared.join.Boxed.{Boxed}
+use Rattle.cilk_workers.specs.declared.join.Boxed.TheVariants.{Passes, Waits}
+use Rattle.cilk_workers.specs.Answers.{Answers, PassesWhole}
+use Rattle.cilk_tree.specs.Columns.{IsFirstSpawn}
+use Rattle.cilk_workers.specs.Boxes.{BoxValue, is_some, is_there, closed_by, later, Stands, IsAbsent, IsUpTo, Closes, IsClosed, IsGone, MayArrive, BeginsByFirst, StartsByFirst}
+use Rattle.std.proofs.lemmas.Bool.{eq-eqb, eqb-true}
 
 -- the row ends where it did, once an awaited key has come
 closes_here : (run : Run) (x : PieceValue) (v : Run) (ws : List Wait) (s : ℕ) → Closes v ws s → Closes (Some (between run x v)) ws s
@@ -57,7 +62,7 @@ gone_on j k x true old None h is (inl stands) = absurd (subst (λ (r : Row). Sta
 gone_on j k x true old None h is (inr fresh) = absurd (true≢false (sym is ∙ fresh.0))
 gone_on j k x true old (Some c) h is comes = absurd (true≢false (sym is ∙ comes.0.0))
 
-empty_waits : (ws : List Wait) → is_empty ws ≡ true → ws ≡ []
+pub empty_waits : (ws : List Wait) → is_empty ws ≡ true → ws ≡ []
 empty_waits [] e = refl
 empty_waits (w ∷ ws) e = absurd (true≢false (sym e))
 
@@ -94,6 +99,30 @@ passing j j' u s stolen arrived gone chain chain' c p closed empty is out new go
       (λ i. record { rows = (new ∙ ap (λ (ws : List Wait). rows j.of (row None ws)) none) i; replay = u; sync = s; stolen = stolen; arrived = arrived; closed = sym has i }),
     )
 
+-- what passes has the whole block
+pub passing_whole : (s : EventOrder) (j j' : BoxValue) (answer : Boxed) → Answers j answer j' → StartsByFirst s j.sync (let r = j.rows in let w = r.row in w.run) → PassesWhole s j.sync answer
+passing_whole s j j' Waits answers starts = tt
+passing_whole s j j' (Passes p c) answers starts = (subst (StartsByFirst s j.sync) answers.1.0 starts, answers.2)
+
 -- the row of a block that has passed
 pub gone_row : (j : Rows) (ws : List Wait) → ws ≡ [] → (new : Rows) → new ≡ rows j.of (row None ws) → (let r = new.row in r ≡ row None [])
 gone_row j ws none new is = ap (λ (z : Rows). z.row) is ∙ ap (λ (l : List Wait). row None l) none
+
+-- ---- where pieces begin
+
+-- at the first spawn or before it, and so before each
+pub by_first : (s : EventOrder) (q first : ℕ) (x : PieceValue) → IsFirstSpawn s q first → x.from ≤ first → BeginsByFirst s q x
+by_first s q first x is le = λ k spawned. let least = is.least k spawned in omega (arith, le, least)
+
+-- the first run begins as before, unless the lowest key has come
+pub starts_on : (s : EventOrder) (q : ℕ) (run : Run) (ws : List Wait) (k : ℕ) (x : PieceValue) → StartsByFirst s q run → (IsBeforeAll run ws k → BeginsByFirst s q x)
+    → StartsByFirst s q (let r = placed run ws k x in r.run)
+starts_on s q None [] k x starts lowest = lowest tt
+starts_on s q (Some p) [] k x starts lowest = starts
+starts_on s q run (w ∷ ws) k x starts lowest = by run (nat_eq w.key k) refl starts lowest
+  where
+    by : (run : Run) (here : Bool) → nat_eq w.key k ≡ here → StartsByFirst s q run → (IsBeforeAll run (w ∷ ws) k → BeginsByFirst s q x)
+        → StartsByFirst s q (let r = (if here then row (Some (between run x w.run)) ws else ahead run w.key w.goes_on (placed w.run ws k x)) in r.run)
+    by None true e starts lowest = lowest (eqb-true w.key k e)
+    by (Some p) true e starts lowest = starts
+    by run false e starts lowest = starts

@@ -6,11 +6,11 @@
 --   awaited key;
 -- - `apart`: its pieces don't overlap;
 -- - `fits_top`, `stands`, `absent`, `awaited_if`: the answers of the tests.
-use Rattle.std.proofs.Common.{◌≡◌, ◌↔◌, ◌<◌, ◌≤◌, ℕ, suc, nat_eq, Bool, true, false, true≢false, List, [], ◌∷◌, ◌++◌, Some, None, refl, sym, ap, ap₂, ◌∙◌, subst, arith, length, inl, inr, nat_lt}
+use Rattle.std.proofs.Common.{◌≡◌, ◌↔◌, ◌<◌, ◌≤◌, ℕ, suc, nat_eq, Bool, if◌then◌else◌, true, false, true≢false, List, [], ◌∷◌, ◌++◌, Some, None, refl, sym, ap, ap₂, ◌∙◌, subst, arith, length, inl, inr, nat_lt}
 use Rattle.cilk_shared.specs.Pieces.{PieceValue}
-use Rattle.cilk_workers.specs.Rows.{Run, RunValue, Wait, Row, LieApart, pieces_of, row, rows, wait, between, IsGood, IsGoodRun, EndsAt, BeginsAt, Met, MetRows, last_end, FitsFrom, ahead, placed, behind, FitsRow, FitsIn, place_of, run_at, with_run, without}
+use Rattle.cilk_workers.specs.Rows.{Run, RunValue, Wait, Row, LieApart, pieces_of, row, rows, wait, between, IsGood, IsGoodRun, EndsAt, BeginsAt, Met, MetRows, last_end, FitsFrom, ahead, placed, behind, FitsRow, FitsIn, IsBeforeAll, IfHere, place_of, run_at, with_run, without}
 use Rattle.cilk_workers.specs.Boxes.{Stands, IsAbsent, IsAwaitedIf}
-use Rattle.std.proofs.lemmas.Bool.{eq-eqb, eqb-true, lt-ltb, le-ltb}
+use Rattle.std.proofs.lemmas.Bool.{eq-eqb, eqb-true, lt-ltb, le-ltb, ltb-true, ltb-false}
 use mathlib.Core.Logic.{dite}
 use native.Mathlib.Decide.{dec_lt}
 
@@ -245,9 +245,29 @@ never_both [] k stands absent = stands
 never_both (w ∷ ws) k (inl e) absent = true≢false (sym (eq-eqb w.key k e) ∙ absent.0)
 never_both (w ∷ ws) k (inr h) absent = never_both ws k h absent.1
 
--- the first run decides where a piece begins
-pub fits_top : (run : Run) (ws : List Wait) (k : ℕ) (x : PieceValue) → FitsFrom (behind run x.from) ws k x ↔ FitsRow x.from run ws k x
-fits_top run ws k x = (from_row x.from run ws k x, row_from x.from run ws k x)
+-- the lesser of two numbers is the one that isn't above the other
+lesser : (a b : ℕ) → (a ≡ (if nat_lt b a then b else a)) ↔ (a ≤ b)
+lesser a b = by (nat_lt b a) refl
+  where
+    by : (above : Bool) → nat_lt b a ≡ above → (a ≡ (if above then b else a)) ↔ (a ≤ b)
+    by true e = let less = ltb-true b a e in (λ (same : a ≡ b). omega (arith, same), λ (le : a ≤ b). absurd (omega (arith, less, le)))
+    by false e = let le = ltb-false b a e in (λ _. le, λ _. refl)
+
+top_step : (w : Wait) (ws : List Wait) (k b : ℕ) (x : PieceValue) (here : Bool) → nat_eq w.key k ≡ here
+    → IfHere here ((x.from ≡ (if nat_lt b x.from then b else x.from)) × (x.upto ≡ w.goes_on)) (FitsFrom (behind w.run w.goes_on) ws k x)
+    ↔ (IfHere here ((x.from ≡ x.from) × (x.upto ≡ w.goes_on)) (FitsRow w.goes_on w.run ws k x) × (w.key ≡ k → x.from ≤ b))
+top_step w ws k b x true e =
+    let t = lesser x.from b in
+    (λ h. ((refl, h.1), λ _. t.0 h.0), λ h. (t.1 (h.1 (eqb-true w.key k e)), h.0.1))
+top_step w ws k b x false e =
+    (λ h. (from_row w.goes_on w.run ws k x h, λ low. absurd (true≢false (sym (eq-eqb w.key k low) ∙ e))), λ h. row_from w.goes_on w.run ws k x h.0)
+
+-- the first run decides where a piece begins; before all runs and keys that is at b or before it
+pub fits_top : (run : Run) (ws : List Wait) (k b : ℕ) (x : PieceValue)
+    → FitsFrom (behind run (if nat_lt b x.from then b else x.from)) ws k x ↔ (FitsRow x.from run ws k x × (IsBeforeAll run ws k → x.from ≤ b))
+fits_top None [] k b x = let t = lesser x.from b in (λ h. (refl, λ _. t.0 h), λ h. t.1 (h.1 tt))
+fits_top None (w ∷ ws) k b x = top_step w ws k b x (nat_eq w.key k) refl
+fits_top (Some p) ws k b x = (λ h. (from_row x.from (Some p) ws k x h, λ none. absurd none), λ h. row_from x.from (Some p) ws k x h.0)
 
 pub awaited_if : (p l : ℕ) (ws : List Wait) (k : ℕ) → (p < l → Stands ws k) → (l ≤ p → IsAbsent ws k) → IsAwaitedIf (nat_lt p l) ws k
 awaited_if p l ws k there gone = dite (dec_lt p l)

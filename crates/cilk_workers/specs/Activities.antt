@@ -1,7 +1,9 @@
 -- The state of a worker between two turns, and the reasons why it ends.
-use Rattle.std.specs.Prelude.{◌≤◌}
+use Rattle.std.specs.Prelude.{◌≤◌, ℕ}
+use Rattle.cilk_workers.specs.Boxes.{HoldsBlock}
 use Rattle.cilk_workers.specs.Rows.{OfRun}
 use Rattle.cilk_tree.specs.Runs.{Departs}
+use Rattle.cilk_tree.specs.declared.event_order.EventOrder.{EventOrder}
 use Rattle.cilk_workers.specs.Shared.{SharedValue, event_order_in}
 use Rattle.cilk_workers.specs.Turns.{Works, HasEnded}
 use Rattle.cilk_workers.specs.declared.locks.Met.{Met}
@@ -29,3 +31,9 @@ abbrev pub IsMet : SharedValue → Met → Type 0
 IsMet y (mets.Passes w) = Works y w
 IsMet y mets.Waits = Unit {0}
 IsMet y mets.Stopped = Unit {0}
+
+-- what passes has the whole block that ends with the `sync` at q
+abbrev pub IsMetWhole : EventOrder → ℕ → Met → Type 0
+IsMetWhole s q (mets.Passes w) = HoldsBlock s q w.piece
+IsMetWhole s q mets.Waits = Unit {0}
+IsMetWhole s q mets.Stopped = Unit {0}

@@ -1,6 +1,7 @@
 -- The state of a join box, at a sync block.
 use Rattle.std.specs.Prelude.{◌≡◌, ◌<◌, ◌≤◌, ◌⊎◌, ℕ, nat_eq, nat_lt, Bool, true, false, if◌then◌else◌, List, [], ◌∷◌, Option, Some, None}
 use Rattle.cilk_tree.specs.declared.event_order.EventOrder.{EventOrder}
+use Rattle.cilk_tree.specs.Columns.{IsSpawnOf}
 use Rattle.cilk_tree.specs.Word.{resume, word_step}
 use Rattle.cilk_shared.specs.Pieces.{PieceValue}
 use Rattle.cilk_replay.specs.Chains.{ChainValue}
@@ -93,6 +94,21 @@ MayArrive j k x (Some c) = IsFresh j k × (let r = j.rows in let w = r.row in (c
 abbrev pub EndsAtKey : EventOrder → ℕ → PieceValue → Bool → Type 0
 EndsAtKey s k x false = word_step s x.upto ≡ resume k
 EndsAtKey s k x true = x.upto ≡ k
+
+-- the piece begins no later than the first spawn of the block that ends with the `sync` at q, and so
+-- no later than any
+abbrev pub BeginsByFirst : EventOrder → ℕ → PieceValue → Type 0
+BeginsByFirst s q p = (k : ℕ) → IsSpawnOf s q k → p.from ≤ k
+
+-- so does the first run of a row, if there is one
+abbrev pub StartsByFirst : EventOrder → ℕ → Run → Type 0
+StartsByFirst s q None = Unit {0}
+StartsByFirst s q (Some p) = BeginsByFirst s q p
+
+-- the piece has each spawn of the block that ends with the `sync` at q, up to that: it has every child
+-- of the block whole
+abbrev pub HoldsBlock : EventOrder → ℕ → PieceValue → Type 0
+HoldsBlock s q p = BeginsByFirst s q p × (p.upto ≡ q)
 
 -- the state after k is stolen: k is awaited, unless it has arrived
 abbrev pub stolen_at : BoxValue → ℕ → ℕ → BoxValue

@@ -152,6 +152,17 @@ FitsRow a run (w ∷ ws) k x = IfHere (nat_eq w.key k) ((x.from ≡ behind run a
 abbrev pub FitsIn : Rows → ℕ → PieceValue → Type 0
 FitsIn j k x = let r = j.row in FitsRow x.from r.run r.waits k x
 
+-- The place of the key k is before all runs and awaited keys: no piece is before the first awaited
+-- key, and that is k, or none is awaited.
+abbrev pub IsBeforeAll : Run → List Wait → ℕ → Type 0
+IsBeforeAll None [] k = Unit {0}
+IsBeforeAll None (w ∷ ws) k = w.key ≡ k
+IsBeforeAll (Some p) ws k = ⊥
+
+-- k is the lowest key: no lower one is awaited, and none has arrived
+abbrev pub IsLowest : Rows → ℕ → Type 0
+IsLowest j k = let r = j.row in IsBeforeAll r.run r.waits k
+
 abbrev pub placed_in : Rows → ℕ → PieceValue → Rows
 placed_in j k x = let r = j.row in rows j.of (placed r.run r.waits k x)
 

@@ -10,7 +10,7 @@ use Rattle.cilk_tree.specs.declared.kind.Asked.TheVariants.{Next, Nothing}
 use Rattle.cilk_tree.specs.declared.kind.Kind.TheVariants as kinds
 use Rattle.cilk_shared.specs.Values.{YardValue}
 use Rattle.cilk_tree.specs.declared.event_order.EventOrder.{EventOrder}
-use Rattle.cilk_tree.specs.Columns.{AreBlockEnds, AreBlocks, AreStrands, BlocksEnd}
+use Rattle.cilk_tree.specs.Columns.{AreBlockEnds, AreBlocks, AreFirstSpawns, AreStrands, BlocksEnd}
 use Rattle.cilk_tree.specs.Word.{event}
 
 -- a run of the program, and its replay
@@ -29,10 +29,11 @@ event_order_in y = let r = y.run in r.event_order
 abbrev pub HasCells : EventOrder → Type 0
 HasCells s = (p c : ℕ) → (kind_of_event (event s p) ≡ Some (kinds.Read c)) ⊎ (kind_of_event (event s p) ≡ Some (kinds.Write c)) → c < length s.opening
 
--- the `sync` of each block, the block of each position and the strand that begins there, exactly;
--- and the block of each spawn ends
-abbrev pub AreColumns : EventOrder → List ℕ → List ℕ → List ℕ → Type 0
-AreColumns s syncs blocks strands = AreBlockEnds s syncs × AreBlocks s syncs blocks × AreStrands s.events strands × BlocksEnd s
+-- the `sync` and the first spawn of each block, the block of each position and the strand that begins
+-- there, exactly; and the block of each spawn ends
+abbrev pub AreColumns : EventOrder → List ℕ → List ℕ → List ℕ → List ℕ → Type 0
+AreColumns s syncs firsts blocks strands =
+    AreBlockEnds s syncs × AreBlocks s syncs blocks × AreStrands s.events strands × BlocksEnd s × AreFirstSpawns s syncs firsts
 
 -- the block that ends with the `sync` at q has the number b
 abbrev pub IsNumberOf : EventOrder → ℕ → ℕ → Type 0

@@ -9,17 +9,20 @@ use cilk_types::event::{Pos, StrandNo};
 pub struct Columns<'a> {
     /// The position of each block's `sync`.
     pub syncs: &'a [Pos],
+    /// The position of each block's first spawn.
+    pub firsts: &'a [Pos],
     /// The block of each position; a number past the last block if it has none.
     pub blocks: &'a [u32],
     /// The strand that begins at each position, or 0.
     pub strands: &'a [StrandNo],
 }
 
-/// A sync block: its number, and the position of the `sync` that ends it.
+/// A sync block: its number, and the positions of the `sync` that ends it and of its first spawn.
 #[derive(Clone, Copy)]
 pub struct Block {
     pub number: usize,
     pub sync: Pos,
+    pub first: Pos,
 }
 
 /// Returns the block of a position, if it is one of the first `count`.
@@ -30,12 +33,13 @@ pub(crate) fn block_in(blocks: &[u32], at: Pos, count: usize) -> Option<usize>
     if block < count { Some(block) } else { None }
 }
 
-/// Returns the position of a block's `sync`.
-pub(crate) fn sync_in(syncs: &[Pos], block: usize) -> Pos
-    requires { block < length syncs.now }
-    ensures { result ≡ slice_index syncs.now block }
+/// Returns a block's position in a column of one for each block: of its `sync`, or of its first
+/// spawn.
+pub(crate) fn position_in(column: &[Pos], block: usize) -> Pos
+    requires { block < length column.now }
+    ensures { result ≡ slice_index column.now block }
 {
-    syncs[block]
+    column[block]
 }
 
 /// Returns the strand that begins at a position, or 0.

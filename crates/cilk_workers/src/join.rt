@@ -6,9 +6,9 @@
 ghost use Rattle.std.specs.Prelude.{nat_lt, if◌then◌else◌, Some, None, ◌≡◌, ◌<◌, ◌≤◌, ◌↔◌, IfOk, IfErr, OnOk, OnErr, IsTrue, true, false};
 ghost use Rattle.cilk_types.specs.declared.event.Event.TheVariants.{Sync};
 ghost use Rattle.cilk_tree.specs.Word.{event};
-ghost use Rattle.cilk_workers.specs.Rows.{FitsIn, IsGood, PiecesLieApart, parts_in, yard_of};
-ghost use Rattle.cilk_workers.specs.Boxes.{is_some, later, opening, Comes, EndsAtKey, IsFresh, IsOpen, IsUnused, MayArrive, stolen_at, arrived_at};
-ghost use Rattle.cilk_workers.specs.Answers.{Answers};
+ghost use Rattle.cilk_workers.specs.Rows.{FitsIn, IsGood, IsLowest, PiecesLieApart, parts_in, yard_of};
+ghost use Rattle.cilk_workers.specs.Boxes.{is_some, later, opening, BeginsByFirst, Comes, EndsAtKey, IsFresh, IsOpen, IsUnused, MayArrive, stolen_at, arrived_at};
+ghost use Rattle.cilk_workers.specs.Answers.{Answers, PassesWhole};
 ghost use Rattle.cilk_workers.specs.Shared.{event_order_in};
 
 use crate::runs::Runs;
@@ -34,8 +34,8 @@ pub enum Boxed {
 /// The pieces that wait at a sync block whose continuations were stolen.
 ///
 /// It keeps one piece for each run of arrived keys with no awaited key between. Its type keeps that
-/// the pieces don't overlap, and that the chain, once the block's own piece has come, is at the
-/// sync.
+/// the pieces don't overlap, that the one before all awaited keys begins no later than the block's
+/// first spawn, and that the chain, once the block's own piece has come, is at the sync.
 #[derive(Drop)]
 pub struct JoinBox {
     replay: Snapshot<Replay>,
@@ -53,7 +53,7 @@ impl Model for JoinBox {
     ghost use Rattle.cilk_tree.specs.Word.{event};
     ghost use Rattle.std.specs.Coded.{codes};
     ghost use Rattle.cilk_replay.specs.Replays.{replay_code};
-    ghost use Rattle.cilk_workers.specs.Boxes.{BoxValue, IsClosed, IsGone, closed_by};
+    ghost use Rattle.cilk_workers.specs.Boxes.{BoxValue, IsClosed, IsGone, StartsByFirst, closed_by};
 
     ghost Value = { BoxValue };
 
@@ -61,7 +61,8 @@ impl Model for JoinBox {
 
     ghost view = { λ b. record { rows = b.runs; replay = b.replay.value; sync = b.sync; stolen = b.stolen; arrived = b.arrived; closed = closed_by b.gone b.chain } };
 
-    ghost invariant = { λ b. IsClosed b.runs b.replay.value b.sync b.chain × IsGone b.gone b.runs b.chain × (event b.runs.of.event_order b.sync ≡ Some Sync) };
+    ghost invariant = { λ b. IsClosed b.runs b.replay.value b.sync b.chain × IsGone b.gone b.runs b.chain × (event b.runs.of.event_order b.sync ≡ Some Sync)
+        × StartsByFirst b.runs.of.event_order b.sync b.runs.row.run };
 }
 
 // The greater of two keys.
@@ -166,12 +167,13 @@ impl JoinBox {
         Ok(())
     }
 
-    /// Returns whether the piece may arrive with this key, before which it begins. `last` says
-    /// whether it is the sync's own.
-    pub fn fits(&self, key: Pos, piece: &Piece, last: bool) -> bool
-        ensures { IsTrue result ↔ (FitsIn self.now.rows key piece.now × Comes self.now key piece.now last × (piece.now.from ≤ key)) }
+    /// Returns whether the piece may arrive with this key, before which it begins. It begins at the
+    /// `resume` after the greatest lower key, or no later than `first`, the block's first spawn, if
+    /// there is none. `last` says whether it is the sync's own.
+    pub fn fits(&self, key: Pos, piece: &Piece, last: bool, first: Pos) -> bool
+        ensures { IsTrue result ↔ (FitsIn self.now.rows key piece.now × Comes self.now key piece.now last × (piece.now.from ≤ key) × (IsLowest self.now.rows key → piece.now.from ≤ first)) }
     {
-        if piece.from() > key || !self.runs.fits(key, piece) {
+        if piece.from() > key || !self.runs.fits(key, piece, first) {
             return false;
         }
         if last {
@@ -183,7 +185,8 @@ impl JoinBox {
 
     // The block passes once its own piece is there and no key is awaited.
     fn answer(&mut self) -> Boxed
-        ensures { Answers self.old result self.new }
+        ensures answer { Answers self.old result self.new }
+        ensures whole { PassesWhole self.old.rows.of.event_order self.old.sync result }
     {
         if !self.runs.is_whole() {
             return Boxed::Waits;
@@ -199,8 +202,8 @@ impl JoinBox {
     }
 
     /// Takes in a piece: a child's at its end, or the sync's own, with its chain. It is merged at
-    /// once with its neighbours, in the order of the run. If memory runs out, piece and chain come
-    /// back and nothing changes.
+    /// once with its neighbours, in the order of the run. What passes has every child of the block. If
+    /// memory runs out, piece and chain come back and nothing changes.
     pub fn arrive(
         &mut self,
         alloc: Global,
@@ -214,8 +217,10 @@ impl JoinBox {
         requires fits { FitsIn self.old.rows key piece }
         requires comes { MayArrive self.old key piece chain }
         requires begins { piece.from ≤ key }
+        requires first { IsLowest self.old.rows key → BeginsByFirst self.old.rows.of.event_order self.old.sync piece }
         requires ends { EndsAtKey self.old.rows.of.event_order key piece (is_some chain) }
         ensures ok { IfOk result (λ b. Answers (arrived_at self.old key piece (is_some chain)) b self.new) }
+        ensures whole { IfOk result (λ b. PassesWhole self.old.rows.of.event_order self.old.sync b) }
         ensures err { IfErr result (λ r. (r.0 ≡ piece) × (r.1 ≡ chain)) }
         ensures unchanged { OnErr result (self.new ≡ self.old) }
     {

@@ -6,10 +6,10 @@ ghost use Rattle.cilk_workers.specs.Rows.{IsGood};
 ghost use Rattle.cilk_workers.specs.Shelves.{HasPassed, HasRoom, IsSameShelf, LiesOn, TakesOff};
 ghost use Rattle.cilk_replay.specs.Chains.{standing};
 ghost use Rattle.cilk_workers.specs.Locks.{IsShelf};
-ghost use Rattle.cilk_tree.specs.Columns.{IsOfBlock};
+ghost use Rattle.cilk_tree.specs.Columns.{IsFirstSpawn, IsOfBlock};
 ghost use Rattle.cilk_tree.specs.Word.{event, resume, word_step};
 ghost use Rattle.cilk_workers.specs.Shared.{IsNumberOf, event_order_in};
-ghost use Rattle.cilk_workers.specs.Activities.{IsMet};
+ghost use Rattle.cilk_workers.specs.Activities.{IsMet, IsMetWhole};
 ghost use Rattle.cilk_workers.specs.Boxes.{EndsAtKey, is_some};
 ghost use Rattle.cilk_workers.specs.Arrivals.{AnswersBy, HasArrived, HasRecorded, is_passing};
 ghost use Rattle.cilk_workers.specs.Keys.{AreKeys, IsFreeLike, IsKeyFor};
@@ -70,18 +70,20 @@ fn shelf_of(block: usize, shelves: usize) -> usize
 }
 
 impl<'a, 'b, N: Naming, R: Wait, G: Gate> WorkerContext<'a, 'b, N, R, G> {
-    // A piece arrives at this box.
-    fn arrive_at(&self, found: &mut JoinBox, arrival: Arrival) -> Met
+    // A piece arrives at this box of a block, whose first spawn is at `first`.
+    fn arrive_at(&self, found: &mut JoinBox, first: Pos, arrival: Arrival) -> Met
         requires run { (found.old.rows.of ≡ self.now.shared.now.run) × (found.old.replay ≡ self.now.shared.now.replay) }
+        requires first { IsFirstSpawn (event_order_in self.now.shared.now) found.old.sync first }
         requires good { IsGood self.now.shared.now.run arrival.piece }
         requires chain { IfSome arrival.chain (λ c. c ≡ standing self.now.shared.now.replay arrival.piece.upto) }
         requires ends { EndsAtKey (event_order_in self.now.shared.now) arrival.by arrival.piece (is_some arrival.chain) }
         ensures met { IsMet self.now.shared.now result }
         ensures answers { AnswersBy found.old arrival result found.new }
+        ensures whole { IsMetWhole (event_order_in self.now.shared.now) found.old.sync result }
         ensures same { (found.new.rows.of ≡ found.old.rows.of) × (found.new.replay ≡ found.old.replay) × (found.new.sync ≡ found.old.sync) }
     {
         let Arrival { by, piece, chain } = arrival;
-        if !found.fits(by, &piece, chain.is_some()) {
+        if !found.fits(by, &piece, chain.is_some(), first) {
             never(self.rt);
         }
         match found.arrive(self.alloc, self.shared.yard(), by, piece, chain) {
@@ -121,18 +123,20 @@ impl<'a, 'b, N: Naming, R: Wait, G: Gate> WorkerContext<'a, 'b, N, R, G> {
         requires context { IsWorkerContext N.run N.replay N.taken self.now }
         requires shelf { IsShelf N.run N.replay shelf.old }
         requires sync { event (event_order_in self.now.shared.now) block.sync ≡ Some Sync }
+        requires first { IsFirstSpawn (event_order_in self.now.shared.now) block.sync block.first }
         requires good { IsGood self.now.shared.now.run arrival.piece }
         requires chain { IfSome arrival.chain (λ c. c ≡ standing self.now.shared.now.replay arrival.piece.upto) }
         requires ends { EndsAtKey (event_order_in self.now.shared.now) arrival.by arrival.piece (is_some arrival.chain) }
         ensures shelf { IsSameShelf shelf.old shelf.new }
         ensures arrived { HasArrived shelf.old block.sync arrival result shelf.new }
         ensures met { IsMet self.now.shared.now result }
+        ensures whole { IsMetWhole (event_order_in self.now.shared.now) block.sync result }
     {
         self.wait_if_passed(shelf, block.sync);
         let Ok(mut found) = self.taken_from(shelf, block.sync) else {
             return Met::Stopped;
         };
-        let met = self.arrive_at(&mut found, arrival);
+        let met = self.arrive_at(&mut found, block.first, arrival);
         let passes = is_pass(&met);
         shelf.put(found, passes);
         met
@@ -172,11 +176,13 @@ impl<'a, 'b, N: Naming, R: Wait, G: Gate> WorkerContext<'a, 'b, N, R, G> {
         requires key { IsKeyFor shelf_lock.now block.number key.old }
         requires number { IsNumberOf (event_order_in self.now.shared.now) block.number block.sync }
         requires sync { event (event_order_in self.now.shared.now) block.sync ≡ Some Sync }
+        requires first { IsFirstSpawn (event_order_in self.now.shared.now) block.sync block.first }
         requires good { IsGood self.now.shared.now.run arrival.piece }
         requires chain { IfSome arrival.chain (λ c. c ≡ standing self.now.shared.now.replay arrival.piece.upto) }
         requires ends { EndsAtKey (event_order_in self.now.shared.now) arrival.by arrival.piece (is_some arrival.chain) }
         ensures key { IsFreeLike shelf_lock.now key.old key.new }
         ensures met { IsMet self.now.shared.now result }
+        ensures whole { IsMetWhole (event_order_in self.now.shared.now) block.sync result }
     {
         let mut shelf = lock(self.rt, shelf_lock, key);
         let met = self.arrive_on(&mut shelf, block, arrival);
@@ -206,18 +212,20 @@ impl<'a, 'b, N: Naming, R: Wait, G: Gate> WorkerContext<'a, 'b, N, R, G> {
         told
     }
 
-    /// Takes a piece to a block.
+    /// Takes a piece to a block. What passes has the whole block.
     pub fn arrive(&self, keys: &mut Vec<Key>, block: Block, arrival: Arrival) -> Met
         requires context { IsWorkerContext N.run N.replay N.taken self.now }
         requires keys { AreKeys self.now.locks.now.items keys.old.items }
         requires number { IsNumberOf (event_order_in self.now.shared.now) block.number block.sync }
         requires block { IsOfBlock (event_order_in self.now.shared.now) block.sync arrival.piece.upto }
         requires sync { event (event_order_in self.now.shared.now) block.sync ≡ Some Sync }
+        requires first { IsFirstSpawn (event_order_in self.now.shared.now) block.sync block.first }
         requires good { IsGood self.now.shared.now.run arrival.piece }
         requires chain { IfSome arrival.chain (λ c. c ≡ standing self.now.shared.now.replay arrival.piece.upto) }
         requires ends { EndsAtKey (event_order_in self.now.shared.now) arrival.by arrival.piece (is_some arrival.chain) }
         ensures keys { AreKeys self.now.locks.now.items keys.new.items }
         ensures met { IsMet self.now.shared.now result }
+        ensures whole { IsMetWhole (event_order_in self.now.shared.now) block.sync result }
     {
         let locks = self.locks;
         let at = shelf_of(block.number, locks.len());

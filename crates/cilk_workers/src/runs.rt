@@ -1,6 +1,6 @@
 //! The runs of arrived keys of a sync block, and the awaited keys between them.
-ghost use Rattle.std.specs.Prelude.{◌≡◌, ◌↔◌, ◌<◌, ◌≤◌, ◌+◌, IfErr, OnOk, OnErr, IsTrue, Some, None, []};
-ghost use Rattle.cilk_workers.specs.Rows.{parts_in, awaiting, end_in, placed_in, FitsIn, IsGood, IsGoodRun, PiecesLieApart, is_empty, row, rows, yard_of};
+ghost use Rattle.std.specs.Prelude.{nat_lt, if◌then◌else◌, ◌≡◌, ◌↔◌, ◌<◌, ◌≤◌, ◌+◌, IfErr, OnOk, OnErr, IsTrue, Some, None, []};
+ghost use Rattle.cilk_workers.specs.Rows.{parts_in, awaiting, end_in, placed_in, FitsIn, IsGood, IsGoodRun, IsLowest, PiecesLieApart, is_empty, row, rows, yard_of};
 ghost use Rattle.cilk_workers.specs.Boxes.{IsAwaitedIf};
 
 use crate::awaited::{
@@ -35,6 +35,13 @@ impl Model for Runs {
     ghost view = { λ r. rows (run_of r.of.value r.reducers.value) (row r.first (map wait_of r.awaited.items)) };
 
     ghost invariant = { λ r. MetRows (rows (run_of r.of.value r.reducers.value) (row r.first (map wait_of r.awaited.items))) };
+}
+
+// The lesser of two positions.
+fn least(one: Pos, other: Pos) -> Pos
+    ensures { result ≡ if nat_lt other one then other else one }
+{
+    if other < one { other } else { one }
 }
 
 impl Runs {
@@ -141,15 +148,12 @@ impl Runs {
         place_in(&self.awaited, key) < self.awaited.len()
     }
 
-    /// Returns whether the piece adjoins the neighbours of its place.
-    pub fn fits(&self, key: Pos, piece: &Piece) -> bool
-        ensures { IsTrue result ↔ FitsIn self.now key piece.now }
+    /// Returns whether the piece adjoins the neighbours of its place and, if its key is the lowest,
+    /// begins no later than `first`.
+    pub fn fits(&self, key: Pos, piece: &Piece, first: Pos) -> bool
+        ensures { IsTrue result ↔ (FitsIn self.now key piece.now × (IsLowest self.now key → piece.now.from ≤ first)) }
     {
-        fits_from(
-            &self.awaited,
-            end_of_run(&self.first, piece.from()),
-            key,
-            piece,
-        )
+        let begin = least(piece.from(), first);
+        fits_from(&self.awaited, end_of_run(&self.first, begin), key, piece)
     }
 }

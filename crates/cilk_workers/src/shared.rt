@@ -8,14 +8,14 @@ ghost use Rattle.cilk_determinacy.specs.Words.{InputsAreWords};
 ghost use Rattle.cilk_shared.specs.Numbers.{HasNumbers};
 ghost use Rattle.cilk_shared.specs.Reducers.{HasFew};
 ghost use Rattle.cilk_tree.specs.Along.{IsAlong};
-ghost use Rattle.cilk_tree.specs.Columns.{IsOfBlock, IsSpawnOf};
+ghost use Rattle.cilk_tree.specs.Columns.{IsFirstSpawn, IsOfBlock, IsSpawnOf};
 ghost use Rattle.cilk_tree.specs.Orders.{IsOrderly};
 ghost use Rattle.cilk_tree.specs.Values.{HasValues};
 ghost use Rattle.cilk_tree.specs.PlanStrands.{BeginsStrand};
 ghost use Rattle.cilk_tree.specs.Word.{event, resume, word_step};
 ghost use Rattle.cilk_workers.specs.Shared.{AreColumns, HasCells, IsNext, IsNumberOf, shared_with, event_order_in};
 
-use crate::columns::{Block, Columns, block_in, strand_in, sync_in};
+use crate::columns::{Block, Columns, block_in, position_in, strand_in};
 use cilk_determinacy::words::inputs_are_words;
 use cilk_replay::replay::Replay;
 use cilk_shared::piece_laws::frames_are_along;
@@ -54,7 +54,7 @@ impl<'a> Model for Shared<'a> {
 
     ghost invariant = { λ c. IsAlong c.plan.now c.yard.now.event_order × HasFew c.reducers.now × (c.replay.now.yard ≡ c.yard.now)
         × HasCells c.yard.now.event_order × HasNumbers c.yard.now.event_order c.reducers.now
-        × AreColumns c.yard.now.event_order c.columns.syncs.now c.columns.blocks.now c.columns.strands.now };
+        × AreColumns c.yard.now.event_order c.columns.syncs.now c.columns.firsts.now c.columns.blocks.now c.columns.strands.now };
 }
 
 impl<'a> Shared<'a> {
@@ -72,7 +72,7 @@ impl<'a> Shared<'a> {
         requires cells { HasCells yard.now.event_order }
         requires numbers { HasNumbers yard.now.event_order reducers.now }
         requires replay { replay.now.yard ≡ yard.now }
-        requires columns { AreColumns yard.now.event_order columns.syncs.now columns.blocks.now columns.strands.now }
+        requires columns { AreColumns yard.now.event_order columns.syncs.now columns.firsts.now columns.blocks.now columns.strands.now }
         ensures { result ≡ shared_with yard.now reducers.now replay.now }
     {
         Shared {
@@ -166,14 +166,20 @@ impl<'a> Shared<'a> {
         ensures block { IfSome result (λ b. IsOfBlock (event_order_in self.now) b.sync at) }
         ensures number { IfSome result (λ b. IsNumberOf (event_order_in self.now) b.number b.sync) }
         ensures sync { IfSome result (λ b. event (event_order_in self.now) b.sync ≡ Some Sync) }
+        ensures first { IfSome result (λ b. IsFirstSpawn (event_order_in self.now) b.sync b.first) }
         ensures resumed { (k : ℕ) → word_step (event_order_in self.now) at ≡ resume k → IsSome result }
         ensures ends { (k : ℕ) → IsSpawnOf (event_order_in self.now) at k → IsSome result }
     {
         self.yard.laws();
         let syncs = self.columns.syncs;
         let number = block_in(self.columns.blocks, at, syncs.len())?;
-        let sync = sync_in(syncs, number);
-        Some(Block { number, sync })
+        let sync = position_in(syncs, number);
+        let first = position_in(self.columns.firsts, number);
+        Some(Block {
+            number,
+            sync,
+            first,
+        })
     }
 
     /// Returns the strand that begins at a position, or 0.

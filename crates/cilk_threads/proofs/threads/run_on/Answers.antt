@@ -49,8 +49,8 @@ pub new-shared-requires-clause-columns : goal.new-shared-requires-clause-columns
 new-shared-requires-clause-columns g c =
     let plan = c.args.plan.now.event_order in
     let s = c.args.start.yard.now.event_order in
-    columns_along plan s c.requires.along c.laws.ensures.order c.laws.ensures.continuations c.syncs.result.now c.blocks-blocks.result.now c.strands.result.now c.syncs.ensures
-    (c.blocks-blocks.ensures c.syncs.result.now c.syncs.ensures) c.strands.ensures
+    columns_along plan s c.requires.along c.laws.ensures.order c.laws.ensures.continuations c.syncs.result.now c.firsts.result.now c.blocks-blocks.result.now c.strands.result.now c.syncs.ensures
+    (c.firsts.ensures c.syncs.result.now c.syncs.ensures) (c.blocks-blocks.ensures c.syncs.result.now c.syncs.ensures) c.strands.ensures
 
 pub returns-clause-ok : goal.returns-clause-ok
 returns-clause-ok g c =
