@@ -4,15 +4,17 @@
 -- - `Holds`: which keys were stolen and have arrived, in a box;
 -- - `opens`, `steals`, `arrives`: so it is in an opening box, and after a steal and an arrival;
 --   `holds`: after every history;
+-- - `Ordered`: the awaited keys ascend, and which keys have arrived before them; `steal_ordered`,
+--   `arrive_ordered`, `ordered`: so it is after every history; `lowest_is`: which key is the lowest;
 -- - `laws`, `answers`: the laws.
-use Rattle.std.proofs.Common.{◌≡◌, ◌<◌, ◌≤◌, ◌⊎◌, inl, inr, ⊎_elim, ℕ, nat_eq, nat_lt, eq-eqb, eqb-true, Bool, if◌then◌else◌, true, false, true≢false, List, [], ◌∷◌, ◌++◌, Some, None, refl, sym, ap, ◌∙◌, subst, arith}
+use Rattle.std.proofs.Common.{◌≡◌, ◌↔◌, ◌<◌, ◌≤◌, ◌⊎◌, inl, inr, ⊎_elim, ℕ, nat_eq, nat_lt, eq-eqb, eqb-true, Bool, if◌then◌else◌, true, false, true≢false, List, [], ◌∷◌, ◌++◌, Option, Some, None, refl, sym, ap, ◌∙◌, subst, arith}
 use Rattle.std.proofs.lemmas.Bool.{ltb-true, ltb-false}
 use Rattle.cilk_shared.specs.Pieces.{PieceValue}
 use Rattle.cilk_replay.specs.Chains.{ChainValue}
 use Rattle.cilk_replay.specs.Replays.{ReplayValue}
-use Rattle.cilk_workers.specs.Boxes.{BoxValue, Closes, IsFresh, IsOpen, IsUpTo, MayArrive, Stands, arrived_at, is_there, opening, passes, stolen_at}
+use Rattle.cilk_workers.specs.Boxes.{BoxValue, Closes, IsFresh, IsOpen, IsUpTo, MayArrive, Stands, arrived_at, is_some, is_there, opening, passes, stolen_at}
 use Rattle.cilk_workers.specs.Histories.{ArrivalsAnswer, Arrives, BoxStep, BoxesHaveLaws, Has, IsHistory, IsOnce, IsOwn, Steals, arrived_keys, joined, stolen_keys}
-use Rattle.cilk_workers.specs.Rows.{Run, RunValue, Wait, ahead, awaiting, between, is_empty, placed, row, wait}
+use Rattle.cilk_workers.specs.Rows.{IsBeforeAll, Run, RunValue, Wait, ahead, awaiting, between, is_empty, placed, row, wait}
 use Rattle.cilk_workers.specs.declared.join.Boxed.TheVariants as boxes
 use Rattle.cilk_workers.proofs.Boxes.{closes_last, closes_on}
 
@@ -107,6 +109,100 @@ keys_more : (ws : List Wait) (k a : ℕ) → keys (ws ++ wait k a None ∷ []) �
 keys_more [] k a = refl
 keys_more (w ∷ ws) k a = ap (λ (l : List ℕ). w.key ∷ l) (keys_more ws k a)
 
+-- ---- keys in order
+
+abbrev Ascend : List ℕ → Type 0
+Ascend [] = Unit {0}
+Ascend (j ∷ js) = ((i : ℕ) → Has js i → j < i) × Ascend js
+
+ascend_more : (ks : List ℕ) (k : ℕ) → Ascend ks → ((i : ℕ) → Has ks i → i < k) → Ascend (ks ++ k ∷ [])
+ascend_more [] k up low = (λ i s. absurd s, tt)
+ascend_more (j ∷ js) k up low = (
+  λ i s. ⊎_elim (λ (t : Has js i). up.0 i t) (λ (same : k ≡ i). let l = low j (inl refl) in omega (arith, l, same)) (more_split js k i s),
+  ascend_more js k up.1 (λ i t. low i (inr t)),
+)
+
+ascend_dropped : (k : ℕ) (ks : List ℕ) → Ascend ks → Ascend (dropped k ks)
+ascend_dropped k [] up = tt
+ascend_dropped k (j ∷ js) up = by (nat_eq j k) (ascend_dropped k js up.1)
+  where
+    by : (b : Bool) → Ascend (dropped k js) → Ascend (if b then js else j ∷ dropped k js)
+    by true rest = up.1
+    by false rest = (λ i s. up.0 i (dropped_has k js i s), rest)
+
+-- a first run has a key that is below all awaited ones; without one, what has arrived is above the first
+-- awaited key
+abbrev Below : Run → List ℕ → List ℕ → Type 0
+Below None [] arrived = (i : ℕ) → Has arrived i → ⊥
+Below None (j ∷ js) arrived = (i : ℕ) → Has arrived i → j < i
+Below (Some p) ks arrived = (a : ℕ) × Has arrived a × ((i : ℕ) → Has ks i → a < i)
+
+below_more : (run : Run) (ks arrived : List ℕ) (k : ℕ) → Below run ks arrived → ((i : ℕ) → Has arrived i → i < k) → Below run (ks ++ k ∷ []) arrived
+below_more None [] arrived k below low = λ i s. absurd (below i s)
+below_more None (j ∷ js) arrived k below low = below
+below_more (Some p) ks arrived k below low = (
+  below.0,
+  below.1,
+  λ i s. ⊎_elim (λ (t : Has ks i). below.2 i t) (λ (same : k ≡ i). let l = low below.0 below.1 in omega (arith, l, same)) (more_split ks k i s),
+)
+
+-- a key above the first awaited one has come
+below_later : (run : Run) (j k : ℕ) (js js' arrived : List ℕ) → Below run (j ∷ js) arrived → j < k → ((i : ℕ) → Has js' i → Has js i) → Below run (j ∷ js') (k ∷ arrived)
+below_later None j k js js' arrived below less kept = λ i s. ⊎_elim (λ (same : k ≡ i). omega (arith, less, same)) (λ (t : Has arrived i). below i t) s
+below_later (Some p) j k js js' arrived below less kept = (
+  below.0,
+  inr below.1,
+  λ i s. ⊎_elim (λ (same : j ≡ i). below.2 i (inl same)) (λ (t : Has js' i). below.2 i (inr (kept i t))) s,
+)
+
+below_placed : (run : Run) (ws : List Wait) (k : ℕ) (x : PieceValue) (arrived : List ℕ) → Ascend (keys ws) → Below run (keys ws) arrived → Has (keys ws) k ⊎ ((i : ℕ) → Has (keys ws) i → i < k)
+    → Below (let r = placed run ws k x in r.run) (keys (let r = placed run ws k x in r.waits)) (k ∷ arrived)
+below_placed run [] k x arrived up below may = (k, inl refl, λ i s. absurd s)
+below_placed run (w ∷ ws) k x arrived up below may = by (nat_eq w.key k) refl
+  where
+    first_less : nat_eq w.key k ≡ false → w.key < k
+    first_less e = ⊎_elim
+        (λ (s : Has (keys (w ∷ ws)) k). ⊎_elim (λ (same : w.key ≡ k). absurd (true≢false (sym (eq-eqb w.key k same) ∙ e))) (λ (t : Has (keys ws) k). up.0 k t) s)
+        (λ (low : (i : ℕ) → Has (keys (w ∷ ws)) i → i < k). low w.key (inl refl)) may
+
+    by : (b : Bool) → nat_eq w.key k ≡ b
+        → Below (let r = (if b then row (Some (between run x w.run)) ws else ahead run w.key w.goes_on (placed w.run ws k x)) in r.run)
+        (keys (let r = (if b then row (Some (between run x w.run)) ws else ahead run w.key w.goes_on (placed w.run ws k x)) in r.waits)) (k ∷ arrived)
+    by true e = (k, inl refl, λ i s. (let l = up.0 i s in let same = eqb-true w.key k e in omega (arith, l, same)))
+    by false e = below_later run w.key k (keys ws) (keys (let r = placed w.run ws k x in r.waits)) arrived below (first_less e)
+        (λ i s. dropped_has k (keys ws) i (subst (λ (ks : List ℕ). Has ks i) (keys_placed w.run ws k x) s))
+
+-- which key is the lowest
+lowest_is : (run : Run) (ws : List Wait) (k : ℕ) (stolen arrived : List ℕ) → Ascend (keys ws) → Below run (keys ws) arrived → ((i : ℕ) → Has (keys ws) i → Has stolen i)
+    → ((i : ℕ) → Has stolen i → Has (keys ws) i ⊎ Has arrived i) → Has (keys ws) k ⊎ ((i : ℕ) → Has arrived i ⊎ Has stolen i → i < k)
+    → IsBeforeAll run ws k ↔ ((i : ℕ) → Has arrived i ⊎ Has stolen i → k ≤ i)
+lowest_is None [] k stolen arrived up below from there may = (
+  λ _ i s. absurd (⊎_elim (λ (t : Has arrived i). below i t) (λ (t : Has stolen i). ⊎_elim (λ (none : ⊥). none) (λ (u : Has arrived i). below i u) (there i t)) s),
+  λ _. tt,
+)
+lowest_is None (w ∷ ws) k stolen arrived up below from there may = (
+  λ (low : w.key ≡ k) i s.
+      let came : Has arrived i → k ≤ i = λ t. (let l = below i t in omega (arith, l, low)) in
+      ⊎_elim came
+      (λ (t : Has stolen i). ⊎_elim
+      (λ (v : Has (keys (w ∷ ws)) i). ⊎_elim (λ (same : w.key ≡ i). omega (arith, low, same)) (λ (u : Has (keys ws) i). let l = up.0 i u in omega (arith, l, low)) v)
+      came (there i t)) s,
+  λ (all : (i : ℕ) → Has arrived i ⊎ Has stolen i → k ≤ i).
+      let first : Has stolen w.key = from w.key (inl refl) in
+      let le = all w.key (inr first) in
+      ⊎_elim
+      (λ (v : Has (keys (w ∷ ws)) k). ⊎_elim (λ (same : w.key ≡ k). same) (λ (u : Has (keys ws) k). let l = up.0 k u in omega (arith, l, le)) v)
+      (λ (low : (i : ℕ) → Has arrived i ⊎ Has stolen i → i < k). let l = low w.key (inr first) in omega (arith, l, le)) may,
+)
+lowest_is (Some p) ws k stolen arrived up below from there may = (
+  λ none. absurd none,
+  λ (all : (i : ℕ) → Has arrived i ⊎ Has stolen i → k ≤ i).
+      let le = all below.0 (inl below.1) in
+      ⊎_elim
+      (λ (v : Has (keys ws) k). let l = below.2 k v in omega (arith, l, le))
+      (λ (low : (i : ℕ) → Has arrived i ⊎ Has stolen i → i < k). let l = low below.0 (inl below.1) in omega (arith, l, le)) may,
+)
+
 -- ---- what holds of a box
 
 abbrev waits_of : BoxValue → List Wait
@@ -130,6 +226,11 @@ record Holds (j : BoxValue) (stolen arrived : List ℕ) (Own : ℕ → Type 0) :
   once : IsOnce arrived
   apart : IsOnce (keys_in j)
   ends : j.closed ≡ true → Closes (run_of j) (waits_of j) j.sync
+
+-- its keys are in order
+record Ordered (j : BoxValue) (arrived : List ℕ) : Type 0 where
+  ascend : Ascend (keys_in j)
+  below : Below (run_of j) (keys_in j) arrived
 
 opens : (y : RunValue) (u : ReplayValue) (sync : ℕ) → Holds (opening y u sync) [] [] (λ k. ⊥)
 opens y u sync = record {
@@ -219,6 +320,17 @@ module _ (j : BoxValue) (stolen arrived : List ℕ) (Own : ℕ → Type 0) (h : 
     steals : Holds (stolen_at j k a) (k ∷ stolen) arrived Own
     steals = steal_case (nat_eq j.arrived k) refl
 
+    order_case : Ordered j arrived → (b : Bool) → nat_eq j.arrived k ≡ b → Ordered (record j { rows = if b then j.rows else awaiting j.rows k a; stolen = k }) arrived
+    order_case o true e = record { ascend = o.ascend; below = o.below }
+    order_case o false e = record {
+      ascend = subst Ascend (sym (keys_more (waits_of j) k a)) (ascend_more (keys_in j) k o.ascend (λ i s. (let m = low_awaited i s in let l = may.1 in omega (arith, m, l))));
+      below = subst (λ (ks : List ℕ). Below (run_of j) ks arrived) (sym (keys_more (waits_of j) k a))
+          (below_more (run_of j) (keys_in j) arrived k o.below (λ i s. (let m = h.arrived_low i s in let l = less e in omega (arith, m, l))));
+    }
+
+    steal_ordered : Ordered j arrived → Ordered (stolen_at j k a) arrived
+    steal_ordered o = order_case o (nat_eq j.arrived k) refl
+
   -- ---- an arrival
 
   module _ (k : ℕ) (x : PieceValue) (last : Bool) (may : Has (keys_in j) k ⊎ IsFresh j k) where
@@ -232,6 +344,13 @@ module _ (j : BoxValue) (stolen arrived : List ℕ) (Own : ℕ → Type 0) (h : 
 
     keys_are : keys_in after ≡ dropped k (keys_in j)
     keys_are = keys_placed (run_of j) (waits_of j) k x
+
+    arrive_ordered : Ordered j arrived → Ordered after (k ∷ arrived)
+    arrive_ordered o = record {
+      ascend = subst Ascend (sym keys_are) (ascend_dropped k (keys_in j) o.ascend);
+      below = below_placed (run_of j) (waits_of j) k x arrived o.ascend o.below
+          (⊎_elim (λ (s : Has (keys_in j) k). inl s) (λ (fresh : IsFresh j k). inr (λ i s. (let m = low_awaited i s in let l = fresh.1 in omega (arith, m, l)))) may);
+    }
 
     arrives : (Own' : ℕ → Type 0) → ((i : ℕ) → Own' i → (after.closed ≡ true) × (after.stolen < i) × (after.arrived ≤ i)) → (after.closed ≡ true → (i : ℕ) × Own' i)
         → (after.closed ≡ true → Closes (run_of after) (waits_of after) after.sync) → Holds after stolen (k ∷ arrived) Own'
@@ -264,6 +383,16 @@ module _ (j : BoxValue) (stolen arrived : List ℕ) (Own : ℕ → Type 0) (h : 
         by : (i : ℕ) → Has (keys_in j) i → (b : Bool) → nat_eq i k ≡ b → Has (keys_in after) i ⊎ Has (k ∷ arrived) i
         by i w true e = inr (inl (sym (eqb-true i k e)))
         by i w false e = inl (subst (λ (ks : List ℕ). Has ks i) (sym keys_are) (dropped_other k (keys_in j) i (λ same. true≢false (sym (eq-eqb i k same) ∙ e)) w))
+
+  comes : (k : ℕ) (x : PieceValue) (c : Option ChainValue) → MayArrive j k x c → Has (keys_in j) k ⊎ IsFresh j k
+  comes k x None may = ⊎_elim (λ (s : Stands (waits_of j) k). inl (stands_has (waits_of j) k s)) (λ (fresh : IsFresh j k). inr fresh) may
+  comes k x (Some c) may = inr may.0
+
+  lowest : Ordered j arrived → (k : ℕ) (x : PieceValue) (c : Option ChainValue) → MayArrive j k x c → IsBeforeAll (run_of j) (waits_of j) k ↔ ((i : ℕ) → Has arrived i ⊎ Has stolen i → k ≤ i)
+  lowest o k x c may = lowest_is (run_of j) (waits_of j) k stolen arrived o.ascend o.below (λ i s. (let a = h.awaited i s in a.0)) h.there
+      (⊎_elim (λ (s : Has (keys_in j) k). inl s)
+      (λ (fresh : IsFresh j k). inr (λ i s. ⊎_elim (λ (t : Has arrived i). let m = h.arrived_low i t in let l = fresh.2 in omega (arith, m, l)) (λ (t : Has stolen i). let m = h.stolen_low i t in let l = fresh.1 in omega (arith, m, l)) s))
+      (comes k x c may))
 
   child_arrives : (k : ℕ) (x : PieceValue) → MayArrive j k x None → Holds (arrived_at j k x false) stolen (k ∷ arrived) Own
   child_arrives k x may = arrives k x false may' Own
@@ -340,6 +469,14 @@ module _ (y : RunValue) (u : ReplayValue) (sync : ℕ) where
   holds (Arrives k x None ∷ steps) (before, may) = child_arrives (joined y u sync steps) (stolen_keys steps) (arrived_keys steps) (IsOwn steps) (holds steps before) k x may
   holds (Arrives k x (Some c) ∷ steps) (before, may) = own_arrives (joined y u sync steps) (stolen_keys steps) (arrived_keys steps) (IsOwn steps) (holds steps before) k x c may
 
+  ordered : (steps : List BoxStep) → IsHistory y u sync steps → Ordered (joined y u sync steps) (arrived_keys steps)
+  ordered [] tt = record { ascend = tt; below = λ i s. s }
+  ordered (Steals k a ∷ steps) (before, may) = steal_ordered (joined y u sync steps) (stolen_keys steps) (arrived_keys steps) (IsOwn steps) (holds steps before) k a may (ordered steps before)
+  ordered (Arrives k x c ∷ steps) (before, may) =
+      let j = joined y u sync steps in
+      let h = holds steps before in
+      arrive_ordered j (stolen_keys steps) (arrived_keys steps) (IsOwn steps) h k x (is_some c) (comes j (stolen_keys steps) (arrived_keys steps) (IsOwn steps) h k x c may) (ordered steps before)
+
 pub laws : BoxesHaveLaws
 laws y u sync steps history =
     let j = joined y u sync steps in
@@ -356,6 +493,7 @@ laws y u sync steps history =
         λ s. h.awaited k (stands_has (waits_of j) k s),
         λ s. ⊎_elim (λ (w : Has (keys_in j) k). has_stands (waits_of j) k w) (λ (came : Has (arrived_keys steps) k). absurd (s.1 came)) (h.there k s.0),
       );
+      lowest = lowest j (stolen_keys steps) (arrived_keys steps) (IsOwn steps) h (ordered y u sync steps history);
       passes_with_all = (
         λ is. all_here j (stolen_keys steps) (arrived_keys steps) (IsOwn steps) h is,
         λ all. here_passes j (stolen_keys steps) (arrived_keys steps) (IsOwn steps) h all,

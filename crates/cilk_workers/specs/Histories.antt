@@ -5,7 +5,7 @@ use Rattle.cilk_replay.specs.Chains.{ChainValue}
 use Rattle.cilk_replay.specs.Replays.{ReplayValue}
 use Rattle.cilk_workers.specs.Answers.{Answers}
 use Rattle.cilk_workers.specs.Boxes.{BoxValue, IsOpen, MayArrive, Stands, arrived_at, is_some, opening, passes, stolen_at}
-use Rattle.cilk_workers.specs.Rows.{RunValue}
+use Rattle.cilk_workers.specs.Rows.{IsLowest, RunValue}
 use Rattle.cilk_workers.specs.declared.join.Boxed.{Boxed}
 use Rattle.cilk_workers.specs.declared.join.Boxed.TheVariants as boxes
 
@@ -72,6 +72,9 @@ pub record BoxLaws (y : RunValue) (u : ReplayValue) (sync : ℕ) (steps : List B
   pub own_is_last : (k : ℕ) → IsOwn steps k → (j : ℕ) → Has (arrived_keys steps) j ⊎ Has (stolen_keys steps) j → j ≤ k
   -- a key is awaited exactly if it was stolen and its piece hasn't arrived
   pub awaited : (k : ℕ) → IsAwaited y u sync steps k ↔ (Has (stolen_keys steps) k × (Has (arrived_keys steps) k → ⊥))
+  -- a key that may arrive is the lowest exactly if no lower one was stolen or has arrived
+  pub lowest : (k : ℕ) (x : PieceValue) (c : Option ChainValue) → MayArrive (joined y u sync steps) k x c
+      → IsLowest (let j = joined y u sync steps in j.rows) k ↔ ((i : ℕ) → Has (arrived_keys steps) i ⊎ Has (stolen_keys steps) i → k ≤ i)
   -- the block passes exactly if the sync's own piece and that of each stolen child have arrived
   pub passes_with_all : (passes (joined y u sync steps) ≡ true) ↔ HaveAllArrived steps
 

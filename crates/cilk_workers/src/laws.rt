@@ -15,8 +15,9 @@ pub fn passes_once()
 {}
 
 /// After every history, each key has arrived once, and the awaited keys are exactly the stolen ones
-/// whose piece hasn't arrived. A box passes exactly when the sync's own piece and that of each stolen
-/// child have arrived, and each arrival is answered so.
+/// whose piece hasn't arrived. A key is the lowest exactly if no lower one was stolen or has arrived.
+/// A box passes exactly when the sync's own piece and that of each stolen child have arrived, and each
+/// arrival is answered so.
 pub fn passes_with_all()
     ensures laws { BoxesHaveLaws }
     ensures answer { ArrivalsAnswer }
