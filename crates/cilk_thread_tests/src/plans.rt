@@ -123,6 +123,7 @@ fn has_continuations(plan: &ProgramPlan<'_>) -> bool {
     plan.events().resumed_by(10) == Some(4)
         && plan.events().resumed_by(17) == Some(11)
         && plan.syncs() == [18].as_slice()
+        && plan.firsts() == [4].as_slice()
         && plan.blocks().get(4) == Some(&u32::MAX)
 }
 
