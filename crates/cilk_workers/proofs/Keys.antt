@@ -10,6 +10,7 @@ use Rattle.crossbeam_queue.specs.declared.array_queue.Doing.{Doing}
 use Rattle.crossbeam_queue.specs.declared.array_queue.Slotted.{Slotted}
 use Rattle.crossbeam_queue.specs.Passes.{Pass}
 use Rattle.cilk_workers.specs.declared.lock.KeyState.{KeyState}
+use Rattle.cilk_workers.specs.declared.shelf.Place.{Place}
 use Rattle.cilk_workers.specs.declared.shelf.Shelf.{Shelf}
 use Rattle.cilk_workers.specs.Keys.{AreKeys, AreKeysFrom, IsFree, IsKeyAt, IsKeyFor}
 use Rattle.cilk_workers.specs.Shelves.{place}
@@ -67,8 +68,11 @@ module _ {Q A : Type 0} where
   snoc i n (e ∷ ds) [] d p h is = absurd h
   snoc i n (e ∷ ds) (q ∷ ps) d p h is = (h.0, snoc (i + 1) n ds ps d p h.1 (moved d p (i + suc (length ds)) (i + 1 + length ds) n (omega arith) is))
 
-  pub locks_more : (n : ℕ) (ds ds' : List (Slotted (Option Shelf) (Doing Shelf KeyState) Q A)) (ps ps' : List Key) (d : Slotted (Option Shelf) (Doing Shelf KeyState) Q A) (p : Key) → AreKeysFrom 0 n ds ps → IsFree d (place (length ds) n) p → ds' ≡ ds ++ d ∷ [] → ps' ≡ ps ++ p ∷ [] → AreKeysFrom 0 n ds' ps'
-  locks_more n ds ds' ps ps' d p h is e f = rw (e, f) (snoc 0 n ds ps d p h (moved d p (length ds) (0 + length ds) n (omega arith) is))
+  pub locks_more : (n made : ℕ) (ds ds' : List (Slotted (Option Shelf) (Doing Shelf KeyState) Q A)) (ps ps' : List Key) (at : Place) (d : Slotted (Option Shelf) (Doing Shelf KeyState) Q A) (p : Key) → AreKeysFrom 0 n ds ps → length ds ≡ made → IsFree d at p → at ≡ place made n
+      → ds' ≡ ds ++ d ∷ [] → ps' ≡ ps ++ p ∷ [] → AreKeysFrom 0 n ds' ps'
+  locks_more n made ds ds' ps ps' at d p h count is there e f =
+      let here : IsFree d (place made n) p = subst (λ (z : Place). IsFree d z p) there is in
+      rw (e, f) (snoc 0 n ds ps d p h (moved d p made (0 + length ds) n (omega (arith, count)) here))
 
   pub locks_all : (n : ℕ) (ds : List (Slotted (Option Shelf) (Doing Shelf KeyState) Q A)) (ps : List Key) → AreKeysFrom 0 n ds ps → length ds ≡ n → AreKeys ds ps
   locks_all n ds ps h all = subst (λ (m : ℕ). AreKeysFrom 0 m ds ps) (sym all) h
