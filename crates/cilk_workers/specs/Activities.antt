@@ -26,7 +26,7 @@ IsActivity y (hands.Holds w) = Works y w
 IsActivity y (hands.Idle p) = OfRun y.run p × (p.upto ≤ p.from)
 IsActivity y (hands.Done f) = IsExitReason y f
 
--- the outcome of an arrival: what passes is the block's piece, with the chain at the `sync`
+-- the outcome of an arrival: what passes is good work of the run
 abbrev pub IsMet : SharedValue → Met → Type 0
 IsMet y (mets.Passes w) = Works y w
 IsMet y mets.Waits = Unit {0}

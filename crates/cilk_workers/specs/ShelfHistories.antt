@@ -1,6 +1,11 @@
 -- The histories of a shelf: at its blocks continuations are stolen and pieces arrive.
-use Rattle.std.specs.Prelude.{ℕ, Bool, List, [], ◌∷◌}
+use Rattle.std.specs.Prelude.{◌≡◌, ℕ, Bool, List, [], ◌∷◌}
+use Rattle.cilk_shared.specs.Pieces.{PieceValue}
+use Rattle.cilk_tree.specs.Columns.{IsOfBlock}
+use Rattle.cilk_tree.specs.Word.{resume, word_step}
+use Rattle.cilk_tree.specs.declared.event_order.EventOrder.{EventOrder}
 use Rattle.cilk_workers.specs.Arrivals.{Arrives, HasArrived, HasRecorded, Records, is_passing}
+use Rattle.cilk_workers.specs.Boxes.{EndsAtKey, is_some}
 use Rattle.cilk_workers.specs.Histories.{Has, IsOnce}
 use Rattle.cilk_workers.specs.Rows.{RunValue}
 use Rattle.cilk_workers.specs.Shared.{IsNumberOf}
@@ -29,9 +34,23 @@ LeadsBy (ArrivesAt q a met) s new = HasArrived s q a met new
 abbrev pub KeepsBlock : RunValue → Place → ℕ → Type 0
 KeepsBlock y at sync = (b : ℕ) × IsNumberOf y.event_order b sync × IsPlaceOf at b
 
--- one step at a block of the shelf leads to the new one
+-- the piece ends at a position of the block that ends with the `sync` at q
+abbrev pub EndsInBlock : EventOrder → ℕ → PieceValue → Type 0
+EndsInBlock s q p = IsOfBlock s q p.upto
+
+-- A step is at its own block: the stolen continuation is one of the block's, and the piece ends there, at its
+-- key.
+abbrev pub IsOwnStep : EventOrder → ShelfStep → Type 0
+IsOwnStep s (StealsAt q k a recorded) = IsOfBlock s q a × (word_step s a ≡ resume k)
+IsOwnStep s (ArrivesAt q a met) = EndsInBlock s q a.piece × EndsAtKey s a.by a.piece (is_some a.chain)
+
+-- and that block has its box on the shelf at this place
+abbrev pub IsStepAt : RunValue → Place → ShelfStep → Type 0
+IsStepAt y at step = KeepsBlock y at (sync_of step) × IsOwnStep y.event_order step
+
+-- one step at its own block, which is one of the shelf's, leads to the new shelf
 abbrev pub IsOneStep : ShelfValue → ShelfValue → Type 0
-IsOneStep s new = IsSameShelf s new × (step : ShelfStep) × KeepsBlock s.of s.place (sync_of step) × LeadsBy step s new
+IsOneStep s new = IsSameShelf s new × (step : ShelfStep) × IsStepAt s.of s.place step × LeadsBy step s new
 
 -- ---- steps from an empty shelf on, the latest step first
 
@@ -40,10 +59,10 @@ abbrev pub IsShelfHistory : List ShelfStep → ShelfValue → Type 0
 IsShelfHistory [] s = IsEmptyShelf s
 IsShelfHistory (step ∷ steps) new = (s : ShelfValue) × IsShelfHistory steps s × LeadsBy step s new
 
--- each is at a block of the shelf at this place
+-- each is at its own block, which is one of the shelf's at this place
 abbrev pub AreAt : RunValue → Place → List ShelfStep → Type 0
 AreAt y at [] = Unit {0}
-AreAt y at (step ∷ steps) = KeepsBlock y at (sync_of step) × AreAt y at steps
+AreAt y at (step ∷ steps) = IsStepAt y at step × AreAt y at steps
 
 -- some history leads to this shelf, at its own blocks alone
 abbrev pub HasHistory : ShelfValue → Type 0

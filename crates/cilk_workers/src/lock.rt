@@ -84,10 +84,10 @@ impl Lesson<Shelf, KeyState> for Unlocks {
     ghost fact = { λ v items. held v ≡ 1 → items ≡ [] };
 }
 
-/// Another key is like the first one.
-pub struct Idle;
+/// Another key knows what the first one knows.
+pub struct Alike;
 
-impl Split<KeyState> for Idle {
+impl Split<KeyState> for Alike {
     ghost left = { λ v. v };
 
     ghost right = { λ v. v };
@@ -159,5 +159,5 @@ pub fn another<N: Naming>(lock: &Lock<N>, key: &mut Key) -> Key
     ensures old { IsFreeLike lock.now key.old key.new }
     ensures new { IsFreeLike lock.now key.old result }
 {
-    lock.another::<Idle>(key)
+    lock.another::<Alike>(key)
 }

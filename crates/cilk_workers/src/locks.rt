@@ -175,6 +175,7 @@ impl<'a, 'b, N: Naming, R: Wait, G: Gate> WorkerContext<'a, 'b, N, R, G> {
         requires context { IsWorkerContext N.run N.replay N.taken self.now }
         requires key { IsKeyFor shelf_lock.now block.number key.old }
         requires number { IsNumberOf (event_order_in self.now.shared.now) block.number block.sync }
+        requires block { IsOfBlock (event_order_in self.now.shared.now) block.sync arrival.piece.upto }
         requires sync { event (event_order_in self.now.shared.now) block.sync ≡ Some Sync }
         requires first { IsFirstSpawn (event_order_in self.now.shared.now) block.sync block.first }
         requires good { IsGood self.now.shared.now.run arrival.piece }
@@ -202,6 +203,7 @@ impl<'a, 'b, N: Naming, R: Wait, G: Gate> WorkerContext<'a, 'b, N, R, G> {
         requires context { IsWorkerContext N.run N.replay N.taken self.now }
         requires key { IsKeyFor shelf_lock.now block.number key.old }
         requires number { IsNumberOf (event_order_in self.now.shared.now) block.number block.sync }
+        requires block { IsOfBlock (event_order_in self.now.shared.now) block.sync goes_on }
         requires sync { event (event_order_in self.now.shared.now) block.sync ≡ Some Sync }
         requires resumes { word_step (event_order_in self.now.shared.now) goes_on ≡ resume child }
         ensures { IsFreeLike shelf_lock.now key.old key.new }

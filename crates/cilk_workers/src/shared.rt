@@ -1,6 +1,6 @@
 //! The part of a run that its workers share.
 
-ghost use Rattle.std.specs.Prelude.{◌≡◌, ◌↔◌, ◌≤◌, ℕ, Some, length, IfSome, IsSome, IsTrue};
+ghost use Rattle.std.specs.Prelude.{◌≡◌, ◌↔◌, ◌≤◌, ℕ, List, Some, length, IfSome, IsSome, IsTrue};
 ghost use Rattle.cilk_types.specs.declared.event.Event.TheVariants.{Sync};
 ghost use Rattle.cilk_workers.specs.Rows.{yard_of};
 ghost use Rattle.cilk_replay.specs.Replays.{IsReplay};
@@ -8,7 +8,7 @@ ghost use Rattle.cilk_determinacy.specs.Words.{InputsAreWords};
 ghost use Rattle.cilk_shared.specs.Numbers.{HasNumbers};
 ghost use Rattle.cilk_shared.specs.Reducers.{HasFew};
 ghost use Rattle.cilk_tree.specs.Along.{IsAlong};
-ghost use Rattle.cilk_tree.specs.Columns.{IsFirstSpawn, IsOfBlock, IsSpawnOf};
+ghost use Rattle.cilk_tree.specs.Columns.{AreBlockEnds, IsFirstSpawn, IsOfBlock, IsSpawnOf};
 ghost use Rattle.cilk_tree.specs.Orders.{IsOrderly};
 ghost use Rattle.cilk_tree.specs.Values.{HasValues};
 ghost use Rattle.cilk_tree.specs.PlanStrands.{BeginsStrand};
@@ -156,7 +156,9 @@ impl<'a> Shared<'a> {
     }
 
     /// Returns the number of blocks.
-    pub fn blocks(&self) -> usize {
+    pub fn blocks(&self) -> usize
+        ensures { (syncs : List ℕ) × AreBlockEnds (event_order_in self.now) syncs × (result ≡ length syncs) }
+    {
         self.columns.syncs.len()
     }
 

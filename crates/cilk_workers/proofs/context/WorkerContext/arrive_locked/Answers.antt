@@ -1,4 +1,4 @@
-use Rattle.cilk_workers.specs.ShelfHistories.{ArrivesAt}
+use Rattle.cilk_workers.specs.ShelfHistories.{ArrivesAt, ShelfStep}
 use Rattle.cilk_workers.proofs.Steps.{keeps, unlocked}
 use Rattle.cilk_workers.proofs.context.WorkerContext.arrive_locked.Goals as goal
 
@@ -6,8 +6,9 @@ pub unlock-requires-clause-back : goal.unlock-requires-clause-back
 unlock-requires-clause-back g c =
     let key = c.requires.key in
     let popped = c.lock-shelf.ensures.found in
-    let its = keeps g.N.Naming.run c.args.self.now.shared.now.run key.0 c.lock-shelf.result c.args.block.number c.args.block.sync c.requires.context.name.run popped.0.0 (popped.1 key.0 key.1.1) c.requires.number key.2 in
-    (c.lock-shelf.result, c.lock-shelf.ensures.key.1, (c.arrive_on-met.ensures.shelf, ArrivesAt c.args.block.sync c.args.arrival c.arrive_on-met.result, its, c.arrive_on-met.ensures.arrived))
+    let step : ShelfStep = ArrivesAt c.args.block.sync c.args.arrival c.arrive_on-met.result in
+    let its = keeps g.N.Naming.run c.args.self.now.shared.now.run key.0 c.lock-shelf.result c.args.block.number step c.requires.context.name.run popped.0.0 (popped.1 key.0 key.1.1) c.requires.number key.2 (c.requires.block, c.requires.ends) in
+    (c.lock-shelf.result, c.lock-shelf.ensures.key.1, (c.arrive_on-met.ensures.shelf, step, its, c.arrive_on-met.ensures.arrived))
 
 pub returns-clause-key : goal.returns-clause-key
 returns-clause-key g c = unlocked c.args.shelf_lock.now c.args.key.now c.lock-shelf.result c.arrive_on-met.new.shelf c.unlock.new.key c.lock-shelf.ensures.found.1 c.arrive_on-met.ensures.shelf c.unlock.ensures
