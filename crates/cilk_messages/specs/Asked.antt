@@ -1,7 +1,7 @@
 -- The words of command lines: of all commands, and those that select what is shown besides the reply.
-use Rattle.std.specs.Prelude.{ℕ, Bool, true, false, ◌==◌, ◌&&◌, ◌||◌, not, List, [], ◌∷◌, filter, cond, Option, Some, None, codes}
+use Rattle.std.specs.Prelude.{ℕ, nat_le, Bool, true, false, ◌==◌, ◌&&◌, ◌||◌, not, List, [], ◌∷◌, filter, cond, if◌then◌else◌, Option, Some, None, codes}
 use Rattle.std.specs.Str.{bytes_eq}
-use Rattle.cilk_syntax.specs.Lexing.{all_digits}
+use Rattle.cilk_syntax.specs.Lexing.{all_digits, value_of}
 use Rattle.cilk_messages.specs.Words.{Judge, Origin, Requested, Run, Settle, order_in}
 
 abbrev pub Text : Type 0
@@ -11,6 +11,10 @@ Text = List ℕ
 abbrev pub asks : Text → List Text → Bool
 asks wanted [] = false
 asks wanted (word ∷ words) = bytes_eq word wanted || asks wanted words
+
+-- the number that digits spell, if it is at most 2^63
+abbrev pub number_of : Text → Option ℕ
+number_of digits = if all_digits digits && nat_le (value_of digits) 9223372036854775808 then Some (value_of digits) else None
 
 -- one word only, which requests help
 abbrev pub is_help : List Text → Bool

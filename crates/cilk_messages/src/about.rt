@@ -1,7 +1,8 @@
 //! Answers about the tool itself: its help, the meaning of a number, and the version.
 
-ghost use Rattle.std.specs.Prelude.{◌≡◌, IfOk, false, true};
-ghost use Rattle.cilk_messages.specs.About.{IsAnswer, IsAskedFor, IsLonger, IsText, IsWrong, asks_help, asks_version, is_about, is_command, is_help, is_question, is_question_on};
+ghost use Rattle.std.specs.Prelude.{◌≡◌, List, [], ◌∷◌, IfOk, cond, count_by, false, true};
+ghost use Rattle.cilk_messages.specs.Asked.{Text};
+ghost use Rattle.cilk_messages.specs.About.{IsAnswer, IsAskedFor, IsLongerText, IsLongerWrong, IsText, IsWrong, asks_help, asks_help_on, asks_meaning, asks_unknown, asks_version, has_meaning, is_about, is_command, is_explained, is_help, is_help_on, is_help_on_all, is_version, requests, spells_meaning};
 ghost use Rattle.cilk_messages.specs.Words.{texts};
 
 use crate::asked::{asks, is_option, number_of};
@@ -39,95 +40,114 @@ const COMMANDS: &[&str] = &[
     "explain",
 ];
 
-/// Returns whether a word alone is about the tool: a request for help, the version, or all numbers.
-fn is_question(word: &str) -> bool
-    ensures { result ≡ is_question word.now }
+/// Returns whether a word alone requests the version.
+fn is_version(word: &str) -> bool
+    ensures { result ≡ is_version word.now }
 {
-    asks(QUESTIONS, word)
+    word == "--version" || word == "-V"
 }
 
-const QUESTIONS: &[&str] = &["help", "--help", "-h", "--version", "-V", "explain"];
-
-/// Returns whether two words are about the tool: a request for help on a command, or for a number's
-/// meaning.
-fn is_question_on(word: &str, other: &str) -> bool
-    ensures { result ≡ is_question_on word.now other.now }
+/// Returns whether a word alone requests the help on all commands.
+fn is_help_on_all(word: &str) -> bool
+    ensures { result ≡ is_help_on_all word.now }
 {
-    (word == "explain" && !is_option(other))
-        || (word == "help" && is_command(other))
-        || (is_command(word) && is_help(other))
+    word == "help" || is_help(word)
 }
 
-/// Returns whether the command line is about the tool.
-fn is_about(words: &[&str]) -> bool
-    ensures { result ≡ is_about (texts words.now) }
+/// Returns whether two words request the help on a command.
+fn is_help_on(word: &str, other: &str) -> bool
+    ensures { result ≡ is_help_on word.now other.now }
 {
-    match words {
-        [word] => is_question(word),
-        [word, other] => is_question_on(word, other),
-        _ => false,
-    }
+    (word == "help" && is_command(other)) || (is_command(word) && is_help(other))
 }
 
-/// Returns whether the command line requests the version.
-fn asks_version(words: &[&str]) -> bool
-    ensures { result ≡ asks_version (texts words.now) }
+/// Returns whether two words request the meaning of a number.
+fn is_explained(word: &str, other: &str) -> bool
+    ensures { result ≡ is_explained word.now other.now }
 {
-    match words {
-        [word] => *word == "--version" || *word == "-V",
-        _ => false,
-    }
+    word == "explain" && !is_option(other)
 }
 
-/// Returns whether the command line requests the help on all commands.
-fn asks_help(words: &[&str]) -> bool
-    ensures { result ≡ asks_help (texts words.now) }
-{
-    match words {
-        [word] => *word == "help" || is_help(word),
-        _ => false,
-    }
-}
+/// Words about the tool request exactly one of five things, and other words none of them: the
+/// version, the help on all commands or on one, or an explanation, of what has a meaning or of what
+/// has none.
+pub fn requests_are_one()
+    ensures { (words : List Text) → count_by (λ asked. asked) (requests words) ≡ cond (is_about words) 1 0 }
+{}
 
-/// Answers a command line about the tool. Only words that request the version are answered by it: any
-/// other answer is a longer text.
+/// Answers a command line about the tool: the version, an explanation, or the error that lists the
+/// numbers; or the help, on all commands or on one. Any text but the version is longer than it.
 pub fn answer_about(alloc: Global, words: &[&str]) -> Result<About, AllocError>
     ensures asked { IfOk result (λ answer. IsAskedFor (texts words.now) answer) }
     ensures version { asks_version (texts words.now) ≡ true → IfOk result (λ answer. IsText VERSION.now answer) }
-    ensures help { asks_version (texts words.now) ≡ false → asks_help (texts words.now) ≡ true → IfOk result (λ answer. IsWrong HELP.now answer) }
-    ensures other { asks_version (texts words.now) ≡ false → IfOk result (λ answer. IsLonger VERSION.now answer) }
+    ensures help { asks_help (texts words.now) ≡ true → IfOk result (λ answer. IsWrong HELP.now answer) }
+    ensures help_on { asks_help_on (texts words.now) ≡ true → IfOk result (λ answer. IsLongerWrong VERSION.now answer) }
+    ensures meaning { asks_meaning (texts words.now) ≡ true → IfOk result (λ answer. IsLongerText VERSION.now answer) }
+    ensures unknown { asks_unknown (texts words.now) ≡ true → IfOk result (λ answer. IsLongerWrong VERSION.now answer) }
 {
-    if !is_about(words) {
-        return Ok(About::Other);
-    }
-    if asks_version(words) {
-        return Ok(About::Text(String::from_str(alloc, VERSION)?));
-    }
-    if asks_help(words) {
-        return Ok(About::Wrong(String::from_str(alloc, HELP)?));
-    }
     match words {
-        ["help", command] => Ok(About::Wrong(help_on(alloc, command)?)),
-        [command, word] if is_help(word) => Ok(About::Wrong(help_on(alloc, command)?)),
-        [_, word] => explained(alloc, word),
-        _ => Ok(About::Text(of_all(alloc)?)),
+        [word] => answer_one(alloc, word),
+        [word, other] => answer_two(alloc, word, other),
+        _ => Ok(About::Other),
     }
 }
 
-// The meaning of the number that a word spells.
+/// Answers a word alone.
+fn answer_one(alloc: Global, word: &str) -> Result<About, AllocError>
+    ensures asked { IfOk result (λ answer. IsAskedFor (word.now ∷ []) answer) }
+    ensures version { asks_version (word.now ∷ []) ≡ true → IfOk result (λ answer. IsText VERSION.now answer) }
+    ensures help { asks_help (word.now ∷ []) ≡ true → IfOk result (λ answer. IsWrong HELP.now answer) }
+    ensures meaning { asks_meaning (word.now ∷ []) ≡ true → IfOk result (λ answer. IsLongerText VERSION.now answer) }
+{
+    if is_version(word) {
+        Ok(About::Text(String::from_str(alloc, VERSION)?))
+    } else if is_help_on_all(word) {
+        Ok(About::Wrong(String::from_str(alloc, HELP)?))
+    } else if word == "explain" {
+        Ok(About::Text(of_all(alloc)?))
+    } else {
+        Ok(About::Other)
+    }
+}
+
+/// Answers two words.
+fn answer_two(alloc: Global, word: &str, other: &str) -> Result<About, AllocError>
+    ensures asked { IfOk result (λ answer. IsAskedFor (word.now ∷ other.now ∷ []) answer) }
+    ensures help_on { asks_help_on (word.now ∷ other.now ∷ []) ≡ true → IfOk result (λ answer. IsLongerWrong VERSION.now answer) }
+    ensures meaning { asks_meaning (word.now ∷ other.now ∷ []) ≡ true → IfOk result (λ answer. IsLongerText VERSION.now answer) }
+    ensures unknown { asks_unknown (word.now ∷ other.now ∷ []) ≡ true → IfOk result (λ answer. IsLongerWrong VERSION.now answer) }
+{
+    if is_explained(word, other) {
+        explained(alloc, other)
+    } else if is_help_on(word, other) {
+        let command = if word == "help" { other } else { word };
+        Ok(About::Wrong(help_on(alloc, command)?))
+    } else {
+        Ok(About::Other)
+    }
+}
+
+/// Returns the meaning of the number that a word spells, or an error that lists the numbers.
 fn explained(alloc: Global, word: &str) -> Result<About, AllocError>
     ensures answer { IfOk result (λ answer. IsAnswer answer) }
-    ensures longer { IfOk result (λ answer. IsLonger VERSION.now answer) }
+    ensures meaning { spells_meaning word.now ≡ true → IfOk result (λ answer. IsLongerText VERSION.now answer) }
+    ensures unknown { spells_meaning word.now ≡ false → IfOk result (λ answer. IsLongerWrong VERSION.now answer) }
 {
-    let number = match number_of(word.as_bytes()) {
-        Some(number) if number <= 65_535 => number as u16,
-        _ => 0,
-    };
-    if let Some(text) = of_number(alloc, number)? {
+    if let Some(text) = of_number(alloc, number_in(word))? {
         return Ok(About::Text(text));
     }
     let wrong = format!(in alloc;
         "error: nothing is refused by `{word}`: the numbers are 101 to 106, 111 to 119, 121, 122, 201 to 206, 301 to 312 and 502\n"
     )?;
     Ok(About::Wrong(wrong))
+}
+
+/// Returns the number that a word spells, or 0 if it spells none up to 65,535.
+fn number_in(word: &str) -> u16
+    ensures { has_meaning result ≡ spells_meaning word.now }
+{
+    match number_of(word.as_bytes()) {
+        Some(number) if number <= 65_535 => number as u16,
+        _ => 0,
+    }
 }

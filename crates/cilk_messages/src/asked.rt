@@ -1,7 +1,7 @@
 //! The words of command lines: of all commands, and of `measure` and `schedule`.
 
 ghost use Rattle.std.specs.Prelude.{◌≡◌, IfOk, Some, option_map};
-ghost use Rattle.cilk_messages.specs.Asked.{asks, behind_first, is_form, is_help, is_measure, is_option, is_schedule, run_of, unformed, words_of_check, words_of_run};
+ghost use Rattle.cilk_messages.specs.Asked.{asks, behind_first, is_form, is_help, is_measure, is_option, is_schedule, number_of, run_of, unformed, words_of_check, words_of_run};
 ghost use Rattle.cilk_messages.specs.Words.{order_view, origin_view, texts};
 
 use crate::flags::unmarked;
@@ -34,7 +34,9 @@ pub fn is_option(word: &str) -> bool
 }
 
 /// Returns the number that bytes spell, if they are digits, and it is at most 2^63.
-pub fn number_of(digits: &[u8]) -> Option<u64> {
+pub fn number_of(digits: &[u8]) -> Option<u64>
+    ensures { result ≡ number_of digits.now }
+{
     if all_digits(digits) {
         value_of(digits)
     } else {

@@ -1,6 +1,7 @@
 //! The texts of explanations.
 
-ghost use Rattle.std.specs.Prelude.{◌≡◌, ◌<◌, length, string_bytes, IfOk, IfSome, OnOk};
+ghost use Rattle.std.specs.Prelude.{◌≡◌, ◌<◌, is_some, length, string_bytes, IfOk, IfSome, OnOk};
+ghost use Rattle.cilk_messages.specs.About.{has_meaning};
 
 use crate::at_hand::at_hand;
 use crate::excerpt::push_excerpt;
@@ -10,7 +11,7 @@ use crate::hints::hint_of;
 use crate::kinds::{FOREIGN, is_foreign, other_kind};
 use crate::numbers::TITLES;
 use crate::place::{Location, locate};
-use crate::reasons::{EXAMPLE, LINE, MEANING, PLACE, cure_of, line_of, title_of};
+use crate::reasons::{EXAMPLE, LINE, MEANING, PLACE, cure_of, has_meaning, line_of, title_of};
 use crate::sentence::{Part, push_line, push_said, say};
 use crate::tokens::Tokens;
 use std::alloc::{AllocError, Global};
@@ -36,17 +37,17 @@ pub struct Wanted<'a> {
     pub semicolon: bool,
 }
 
-/// Returns the text of `explain NUMBER`, which is longer than the version, or `None` if the tool has no
-/// such number.
+/// Returns the text of `explain NUMBER`, which is longer than the version, or `None` if the number has
+/// no meaning.
 pub fn of_number(alloc: Global, number: u16) -> Result<Option<String>, AllocError>
-    ensures { IfOk result (λ told. IfSome told (λ text. length VERSION.now < length (string_bytes text))) }
+    ensures known { IfOk result (λ told. is_some told ≡ has_meaning number) }
+    ensures longer { IfOk result (λ told. IfSome told (λ text. length VERSION.now < length (string_bytes text))) }
 {
-    let title = title_of(number);
-    if title.is_empty() {
+    if !has_meaning(number) {
         return Ok(None);
     }
     let mut text = String::new(alloc);
-    push_meaning(alloc, &mut text, number, title)?;
+    push_meaning(alloc, &mut text, number, title_of(number))?;
     Ok(Some(text))
 }
 

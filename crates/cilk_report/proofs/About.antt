@@ -7,7 +7,7 @@ use Rattle.std.specs.Prelude.{◌<◌}
 use Rattle.cilk_commands.specs.Replies.{NoMemory, Text}
 use Rattle.cilk_commands.specs.Streams.{AppendsFront}
 use Rattle.cilk_commands.specs.declared.reply.Failure.TheVariants as failures
-use Rattle.cilk_messages.specs.About.{asks_help, asks_version}
+use Rattle.cilk_messages.specs.About.{asks_help, asks_help_on, asks_meaning, asks_unknown, asks_version}
 use Rattle.cilk_messages.specs.declared.help.TheConstants.{HELP, VERSION}
 use Rattle.cilk_report.proofs.Measuring.{Told, complains}
 use Rattle.cilk_report.proofs.Replies.{silence}
@@ -15,25 +15,30 @@ use Rattle.cilk_report.specs.Explained.{AnswersAbout, Complains, WritesError, Wr
 
 -- `text` is written as `shown`
 module _ (words : List Text) (text shown : Text) (status : ℕ) where
-  pub text_about : (o o' e e' : Option Text) → shown ≡ text → (asks_version words ≡ true → text ≡ VERSION.now)
-      → (asks_version words ≡ false → asks_help words ≡ true → ⊥) → (asks_version words ≡ false → length VERSION.now < length text)
+  pub text_about : (o o' e e' : Option Text) → shown ≡ text → (asks_version words ≡ true → text ≡ VERSION.now) → (asks_help words ≡ true → ⊥)
+      → (asks_help_on words ≡ true → ⊥) → (asks_meaning words ≡ true → length VERSION.now < length text) → (asks_unknown words ≡ true → ⊥)
       → WritesText shown status o o' e e' → AnswersAbout words status o o' e e'
-  text_about o o' e e' same version help other written =
+  text_about o o' e e' same version help help_on meaning unknown written =
       let all : WritesText text status o o' e e' = subst (λ (t : Text). WritesText t status o o' e e') same written in record {
-        version = λ yes. inl (subst (λ (t : Text). WritesText t status o o' e e') (version yes) all);
-        help = λ no yes. absurd (help no yes);
-        other = λ no. inl (text, other no, inl all);
+        version = λ asked. inl (subst (λ (t : Text). WritesText t status o o' e e') (version asked) all);
+        help = λ asked. absurd (help asked);
+        help_on = λ asked. absurd (help_on asked);
+        meaning = λ asked. inl (text, meaning asked, all);
+        unknown = λ asked. absurd (unknown asked);
       }
 
-  pub error_about : (o e e' : Option Text) → shown ≡ text → (asks_version words ≡ true → ⊥)
-      → (asks_version words ≡ false → asks_help words ≡ true → text ≡ HELP.now) → (asks_version words ≡ false → length VERSION.now < length text)
-      → status ≡ 2 → (told : Bool) × AppendsFront told e e' shown → AnswersAbout words status o o e e'
-  error_about o e e' same version help other two told =
+  pub error_about : (o e e' : Option Text) → shown ≡ text → (asks_version words ≡ true → ⊥) → (asks_help words ≡ true → text ≡ HELP.now)
+      → (asks_help_on words ≡ true → length VERSION.now < length text) → (asks_meaning words ≡ true → ⊥)
+      → (asks_unknown words ≡ true → length VERSION.now < length text) → status ≡ 2 → (told : Bool) × AppendsFront told e e' shown
+      → AnswersAbout words status o o e e'
+  error_about o e e' same version help help_on meaning unknown two told =
       let all : WritesError text status o o e e' =
       (refl, two, subst (λ (t : Text). (told : Bool) × AppendsFront told e e' t) same told) in record {
-        version = λ yes. absurd (version yes);
-        help = λ no yes. inl (subst (λ (t : Text). WritesError t status o o e e') (help no yes) all);
-        other = λ no. inl (text, other no, inr all);
+        version = λ asked. absurd (version asked);
+        help = λ asked. inl (subst (λ (t : Text). WritesError t status o o e e') (help asked) all);
+        help_on = λ asked. inl (text, help_on asked, all);
+        meaning = λ asked. absurd (meaning asked);
+        unknown = λ asked. inl (text, unknown asked, all);
       }
 
 pub unanswered : (words : List Text) (status : ℕ) (told : Bool) (o e m : Option Text) → Told failures.Memory status told e m
@@ -45,6 +50,8 @@ unanswered words status told o e m shown =
       | inr is ↦ complains shown.0 NoMemory status status told o e m m is shown.2 shown.3 (silence status m) refl
     ] in record {
       version = λ _. inr starved;
-      help = λ _ _. inr starved;
-      other = λ _. inr starved;
+      help = λ _. inr starved;
+      help_on = λ _. inr starved;
+      meaning = λ _. inr starved;
+      unknown = λ _. inr starved;
     }

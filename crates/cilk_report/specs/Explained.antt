@@ -14,7 +14,7 @@ use Rattle.cilk_parser.specs.Scripts.{IsScript}
 use Rattle.cilk_parser.specs.declared.script.LineOrder.{LineOrder}
 use Rattle.cilk_parser.specs.declared.script.LineOrder.TheVariants.{Steal}
 use Rattle.cilk_parser.specs.declared.script.Step.{Step}
-use Rattle.cilk_messages.specs.About.{asks_help, asks_version, is_about}
+use Rattle.cilk_messages.specs.About.{asks_help, asks_help_on, asks_meaning, asks_unknown, asks_version, is_about}
 use Rattle.cilk_messages.specs.Asked.{explains_itself, is_measure, is_schedule, measured_run, unflagged, words_of_check}
 use Rattle.cilk_messages.specs.Batches.{Batch, batch_in, is_settling}
 use Rattle.cilk_messages.specs.Words.{Judge, Origin, Requested, order_in}
@@ -87,17 +87,23 @@ Complains r status out out' err err' =
 abbrev pub WritesError : Text → ℕ → Option Text → Option Text → Option Text → Option Text → Type 0
 WritesError text status out out' err err' = (out' ≡ out) × (status ≡ 2) × ((told : Bool) × AppendsFront told err err' text)
 
--- a longer text than this goes to standard output, or to standard error
+-- a longer text than this goes to standard output
 abbrev pub WritesLonger : Text → ℕ → Option Text → Option Text → Option Text → Option Text → Type 0
-WritesLonger short status out out' err err' =
-    (text : Text) × (length short < length text) × (WritesText text status out out' err err' ⊎ WritesError text status out out' err err')
+WritesLonger short status out out' err err' = (text : Text) × (length short < length text) × WritesText text status out out' err err'
 
--- The answers to words about the tool, unless memory runs out: the version on standard output, the
--- help on all commands on standard error, and to other words a longer text than the version.
+-- a longer text than this goes to standard error
+abbrev pub WritesLongerError : Text → ℕ → Option Text → Option Text → Option Text → Option Text → Type 0
+WritesLongerError short status out out' err err' = (text : Text) × (length short < length text) × WritesError text status out out' err err'
+
+-- The answers to words about the tool, unless memory runs out: the version on standard output; the help, on all commands or
+-- on one, on standard error; the meaning of a number that has one, and the list of all, on standard output; and an error for
+-- what is no such number. Each text but the version is longer than that.
 pub record AnswersAbout (words : List Text) (status : ℕ) (out out' err err' : Option Text) : Type 0 where
   pub version : asks_version words ≡ true → WritesText VERSION.now status out out' err err' ⊎ Complains NoMemory status out out' err err'
-  pub help : asks_version words ≡ false → asks_help words ≡ true → WritesError HELP.now status out out' err err' ⊎ Complains NoMemory status out out' err err'
-  pub other : asks_version words ≡ false → WritesLonger VERSION.now status out out' err err' ⊎ Complains NoMemory status out out' err err'
+  pub help : asks_help words ≡ true → WritesError HELP.now status out out' err err' ⊎ Complains NoMemory status out out' err err'
+  pub help_on : asks_help_on words ≡ true → WritesLongerError VERSION.now status out out' err err' ⊎ Complains NoMemory status out out' err err'
+  pub meaning : asks_meaning words ≡ true → WritesLonger VERSION.now status out out' err err' ⊎ Complains NoMemory status out out' err err'
+  pub unknown : asks_unknown words ≡ true → WritesLongerError VERSION.now status out out' err err' ⊎ Complains NoMemory status out out' err err'
 
 -- The replies of `measure`.
 pub data Measures (words : List Text) (files : Text → Option Text) (input : Option Text) (failed failed' : Failures)

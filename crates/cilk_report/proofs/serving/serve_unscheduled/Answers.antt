@@ -87,16 +87,20 @@ returns-in-Ok-clause-untouched g c = λ some.
 pub returns-in-Ok-Text-clause-about : goal.returns-in-Ok-Text-clause-about
 returns-in-Ok-Text-clause-about g c = λ _.
     text_about (texts c.args.words.now) (string_bytes c.in-Ok-Text.text) c.as_bytes.result.now _ _ _ _ _ c.as_bytes.ensures.value
-    (λ yes. rw c.in-Ok-Text.field-0-is at c.in-Ok-Text.ensures.version yes)
-    (λ no yes. rw c.in-Ok-Text.field-0-is at c.in-Ok-Text.ensures.help no yes)
-    (λ no. rw c.in-Ok-Text.field-0-is at c.in-Ok-Text.ensures.other no) c.tell_text.ensures
+    (λ asked. rw c.in-Ok-Text.field-0-is at c.in-Ok-Text.ensures.version asked)
+    (λ asked. rw c.in-Ok-Text.field-0-is at c.in-Ok-Text.ensures.help asked)
+    (λ asked. rw c.in-Ok-Text.field-0-is at c.in-Ok-Text.ensures.help_on asked)
+    (λ asked. rw c.in-Ok-Text.field-0-is at c.in-Ok-Text.ensures.meaning asked)
+    (λ asked. rw c.in-Ok-Text.field-0-is at c.in-Ok-Text.ensures.unknown asked) c.tell_text.ensures
 
 pub returns-in-Ok-Wrong-clause-about : goal.returns-in-Ok-Wrong-clause-about
 returns-in-Ok-Wrong-clause-about g c = λ _.
     error_about (texts c.args.words.now) (string_bytes c.in-Ok-Wrong.text) c.as_bytes-in-Ok-Wrong.result.now _ _ _ _ c.as_bytes-in-Ok-Wrong.ensures.value
-    (λ yes. rw c.in-Ok-Wrong.field-0-is at c.in-Ok-Wrong.ensures.version yes)
-    (λ no yes. rw c.in-Ok-Wrong.field-0-is at c.in-Ok-Wrong.ensures.help no yes)
-    (λ no. rw c.in-Ok-Wrong.field-0-is at c.in-Ok-Wrong.ensures.other no) c.tell_error.ensures.status c.tell_error.ensures.told
+    (λ asked. rw c.in-Ok-Wrong.field-0-is at c.in-Ok-Wrong.ensures.version asked)
+    (λ asked. rw c.in-Ok-Wrong.field-0-is at c.in-Ok-Wrong.ensures.help asked)
+    (λ asked. rw c.in-Ok-Wrong.field-0-is at c.in-Ok-Wrong.ensures.help_on asked)
+    (λ asked. rw c.in-Ok-Wrong.field-0-is at c.in-Ok-Wrong.ensures.meaning asked)
+    (λ asked. rw c.in-Ok-Wrong.field-0-is at c.in-Ok-Wrong.ensures.unknown asked) c.tell_error.ensures.status c.tell_error.ensures.told
 
 pub returns-in-Err-clause-about : goal.returns-in-Err-clause-about
 returns-in-Err-clause-about g c = λ _. unanswered _ _ _ _ _ _ c.complain-in-Err.ensures
