@@ -45,7 +45,7 @@ pub fn shelves(blocks: usize) -> usize
 }
 
 /// Makes `count` locks, each with the empty shelf of its place, and a first key of each.
-#[tactic(auto, using(cilk_workers::proofs::Keys::locks_more, cilk_workers::proofs::Keys::locks_all))]
+#[tactic(auto, using(cilk_workers::proofs::Keys::locks_all))]
 pub fn locks<N: Naming, R: Wait>(
     rt: &R,
     alloc: Global,
