@@ -139,10 +139,14 @@ pub data Settles (words : List Text) (files : Text → Option Text) (input : Opt
   -- out of memory
   NoRoom : Complains NoMemory status out out' err err' → Settles words files input failed failed' status out out' err err'
 
--- the refusal of a certificate
-abbrev pub IsRefusal : Reply → Type 0
-IsRefusal (Refused number places) = Unit {0}
-IsRefusal _ = ⊥
+-- the number of a determinacy race, or of a view-read race
+abbrev pub IsRaceNumber : ℕ → Type 0
+IsRaceNumber number = (number ≡ 311) ⊎ (number ≡ 312)
+
+-- the refusal of a certificate for a race
+abbrev pub IsRace : Reply → Type 0
+IsRace (Refused number places) = IsRaceNumber number
+IsRace _ = ⊥
 
 -- an order to steal
 abbrev pub is_steal : LineOrder → Bool
@@ -162,8 +166,8 @@ IsStealingScript script = (steps : List Step) × IsScript script steps × (steal
 -- the replies of `schedule`, by the words of the check
 pub data Schedules (words : List Text) (files : Text → Option Text) (input : Option Text) (failed failed' : Failures)
     (status : ℕ) (out out' err err' : Option Text) : Type 0 where
-  -- the certificate is refused, and a script with a steal is shown
-  Told : (r : Reply) (script : Text) → Answers (world files input failed failed') (order_in words) r → IsRefusal r → IsStealingScript script
+  -- the certificate is refused for a race, and a script with a steal is shown
+  Told : (r : Reply) (script : Text) → Answers (world files input failed failed') (order_in words) r → IsRace r → IsStealingScript script
       → WritesText script status out out' err err' → Schedules words files input failed failed' status out out' err err'
   -- the reply of `check`, then a text
   Checked : ServesThenExplains words files input failed failed' status out out' err err'

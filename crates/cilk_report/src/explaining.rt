@@ -1,5 +1,9 @@
 //! Explanations of answers and failures.
 
+ghost use Rattle.std.specs.Prelude.{IfSome};
+ghost use Rattle.cilk_checker.specs.Numbers.{number_of};
+ghost use Rattle.cilk_report.specs.Explained.{IsRaceNumber};
+
 use crate::certificate::line_of;
 use crate::colors::colored;
 use crate::wanted::push_expected;
@@ -52,7 +56,9 @@ pub(crate) fn answer_text(
 }
 
 /// Returns the two events of a race, if the refusal is about one.
-pub(crate) fn race_of(refusal: Refusal) -> Option<(Pos, Pos)> {
+pub(crate) fn race_of(refusal: Refusal) -> Option<(Pos, Pos)>
+    ensures { IfSome result (λ _. IsRaceNumber (number_of refusal)) }
+{
     match refusal {
         Refusal::Race { earlier, later } => Some((earlier, later)),
         Refusal::ViewRace { created, used } => Some((created, used)),

@@ -3,7 +3,7 @@
 ghost use Rattle.std.specs.Prelude.{◌≡◌, ◌<◌, IfOk, IfSome};
 ghost use Rattle.std.specs.String.{string_bytes};
 ghost use Rattle.cilk_messages.specs.Asked.{words_of_check};
-ghost use Rattle.cilk_report.specs.Explained.{IsRefusal, IsStealingScript, Schedules, steals};
+ghost use Rattle.cilk_report.specs.Explained.{IsRace, IsStealingScript, Schedules, steals};
 ghost use Rattle.cilk_commands.specs.Replies.{answer_view};
 ghost use Rattle.cilk_commands.specs.Serving.{ReadsStandard};
 ghost use Rattle.cilk_messages.specs.Words.{order_in, texts};
@@ -99,7 +99,7 @@ fn script_of(
     answer: &Answer,
     kept: &Kept,
 ) -> Result<Option<String>, CaseFault>
-    ensures { IfOk result (λ script. IfSome script (λ text. IsRefusal (answer_view answer.now) × IsStealingScript (string_bytes text))) }
+    ensures { IfOk result (λ script. IfSome script (λ text. IsRace (answer_view answer.now) × IsStealingScript (string_bytes text))) }
 {
     let Answer::Refused(refusal) = answer else {
         return Ok(None);

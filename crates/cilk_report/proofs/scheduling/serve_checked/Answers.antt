@@ -1,7 +1,7 @@
 use Rattle.std.proofs.Common.{subst, sym}
 use Rattle.cilk_report.proofs.Replies.{IsUsage, asked_for, ended, failed, refused, silence, starved, unasked}
 use Rattle.std.specs.String.{string_bytes}
-use Rattle.cilk_report.specs.Explained.{Checked, IsRefusal, IsStealingScript, Told}
+use Rattle.cilk_report.specs.Explained.{Checked, IsRace, IsStealingScript, Told}
 use Rattle.cilk_commands.specs.Replies.{answer_view}
 use Rattle.cilk_commands.proofs.Workers.{read_workers}
 use Rattle.cilk_messages.specs.Words.{order_view, texts}
@@ -13,7 +13,7 @@ carry_out-requires-clause-some g c = read_workers (texts c.args.words.now) (orde
 
 pub returns-in-Ok-Some-clause-shown : goal.returns-in-Ok-Some-clause-shown
 returns-in-Ok-Some-clause-shown g c =
-    let found : IsRefusal (answer_view c.in-Ok-carry_out.answer) × IsStealingScript (string_bytes c.in-Ok-Some.script) =
+    let found : IsRace (answer_view c.in-Ok-carry_out.answer) × IsStealingScript (string_bytes c.in-Ok-Some.script) =
     rw c.in-Ok-Some.field-0-is at c.in-Ok-Some.ensures in
     Told (answer_view c.in-Ok-carry_out.answer) c.as_bytes.result.now
     (asked_for _ _ _ _ c.in-Ok.ensures.order c.in-Ok-carry_out.ensures.answer) found.0 (subst IsStealingScript (sym c.as_bytes.ensures.value) found.1)
