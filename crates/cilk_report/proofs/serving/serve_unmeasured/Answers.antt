@@ -1,5 +1,8 @@
-use Rattle.std.proofs.Common.{sym, ◌∙◌}
+use Rattle.std.proofs.Common.{ℕ, List, Option, ap, subst, sym, ◌∙◌}
 use Rattle.std.proofs.lemmas.Bool.{true≢false}
+use Rattle.cilk_commands.proofs.Reading.{takes_same}
+use Rattle.cilk_commands.specs.Streams.{TakesAtMost}
+use Rattle.cilk_commands.specs.declared.streams.TheConstants.{MAX_READ}
 use Rattle.cilk_report.specs.Explained.{Scheduling, SettlingEach}
 use Rattle.cilk_report.proofs.serving.serve_unmeasured.Goals as goal
 
@@ -54,3 +57,8 @@ returns-then-is_settling-clause-about g c =
 
 pub returns-else-is_settling-clause-about : goal.returns-else-is_settling-clause-about
 returns-else-is_settling-clause-about g c = λ _ _. c.serve_unscheduled.ensures.about
+
+pub returns-then-is_schedule-clause-most : goal.returns-then-is_schedule-clause-most
+returns-then-is_schedule-clause-most g c =
+    subst (λ (o : Option (List ℕ)). TakesAtMost MAX_READ (g.R.Read.remaining c.args.input.now) o) (sym (ap g.R.Read.remaining c.serve_schedule.ensures.untouched))
+    (takes_same MAX_READ (g.R.Read.remaining c.args.input.now))
