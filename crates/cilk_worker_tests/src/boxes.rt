@@ -4,7 +4,6 @@
 ghost use Rattle.std.specs.Prelude.{◌≡◌, IfSome, IsTrue, None};
 ghost use Rattle.cilk_workers.specs.Boxes.{EndsAtKey};
 ghost use Rattle.cilk_workers.specs.Rows.{IsGood};
-ghost use Rattle.cilk_tree.specs.Columns.{IsFirstSpawn};
 ghost use Rattle.cilk_workers.specs.Shared.{event_order_in};
 ghost use Rattle.cilk_replay.specs.Chains.{standing};
 ghost use Rattle.cilk_workers.specs.Turns.{Works};
@@ -75,7 +74,7 @@ fn made<R: Abort>(rt: &R, alloc: Global, shared: &Shared<'_>, mut work: Work) ->
 
 // A thief steals the continuation of a child's spawn.
 fn record_steal<R: Abort>(rt: &R, found: &mut JoinBox, key: Pos, goes_on: Pos)
-    ensures { (found.new.rows.of ≡ found.old.rows.of) × (found.new.replay ≡ found.old.replay) × (found.new.sync ≡ found.old.sync) }
+    ensures { (found.new.rows.of ≡ found.old.rows.of) × (found.new.replay ≡ found.old.replay) }
 {
     assert!(rt; found.open(key, goes_on));
     assert!(rt; found.record_steal(key, goes_on).is_ok());
@@ -91,7 +90,7 @@ fn child<R: Abort>(
 ) -> (Arrival, Work)
     requires piece { IsGood shared.now.run begun.piece }
     requires task { IfSome begun.task (λ t. t.of ≡ shared.now.replay) }
-    ensures same { (found.new.rows.of ≡ found.old.rows.of) × (found.new.replay ≡ found.old.replay) × (found.new.sync ≡ found.old.sync) }
+    ensures same { (found.new.rows.of ≡ found.old.rows.of) × (found.new.replay ≡ found.old.replay) }
     ensures piece { IsGood shared.now.run result.0.piece }
     ensures chain { result.0.chain ≡ None }
     ensures works { Works shared.now result.1 }
@@ -140,25 +139,26 @@ fn ends_at(shared: &Shared<'_>, by: Pos, piece: &Piece, last: bool) -> bool
     }
 }
 
-// A piece arrives at the box of a block, whose first spawn is at `first`. Returns the number of pieces
-// that the box keeps. Returns `None` if the block passes; then all output up to the `sync` is in the
-// run's order.
+// A piece arrives at the box. Returns the number of pieces that the box keeps. Returns `None` if
+// the block passes; then all output up to the `sync` is in the run's order.
 fn arrive<R: Abort>(
     rt: &R,
     alloc: Global,
     shared: &Shared<'_>,
     found: &mut JoinBox,
-    first: Pos,
     arrival: Arrival,
 ) -> Option<usize>
     requires run { (found.old.rows.of ≡ shared.now.run) × (found.old.replay ≡ shared.now.replay) }
-    requires first { IsFirstSpawn (event_order_in shared.now) found.old.sync first }
     requires piece { IsGood shared.now.run arrival.piece }
     requires chain { IfSome arrival.chain (λ c. c ≡ standing shared.now.replay arrival.piece.upto) }
-    ensures same { (found.new.rows.of ≡ found.old.rows.of) × (found.new.replay ≡ found.old.replay) × (found.new.sync ≡ found.old.sync) }
+    ensures same { (found.new.rows.of ≡ found.old.rows.of) × (found.new.replay ≡ found.old.replay) }
 {
     let Arrival { by, piece, chain } = arrival;
-    assert!(rt; found.fits(by, &piece, chain.is_some(), first));
+    let Some(block) = shared.block_at(found.sync()) else {
+        panic!(rt; "no block");
+    };
+    assert!(rt; block.sync == found.sync());
+    assert!(rt; found.fits(by, &piece, chain.is_some(), block.first));
     assert!(rt; ends_at(shared, by, &piece, chain.is_some()));
     match found.arrive(alloc, shared.yard(), by, piece, chain) {
         Ok(Boxed::Waits) => Some(found.parts()),
@@ -171,15 +171,14 @@ fn arrive<R: Abort>(
     }
 }
 
-// The box of a position's block, and the position of the block's first spawn.
-fn box_at<R: Abort>(rt: &R, alloc: Global, shared: &Shared<'_>, at: Pos) -> (JoinBox, Pos)
-    ensures of { (result.0.rows.of ≡ shared.now.run) × (result.0.replay ≡ shared.now.replay) }
-    ensures first { IsFirstSpawn (event_order_in shared.now) result.0.sync result.1 }
+// The box of a position's block.
+fn box_at<R: Abort>(rt: &R, alloc: Global, shared: &Shared<'_>, at: Pos) -> JoinBox
+    ensures { (result.rows.of ≡ shared.now.run) × (result.replay ≡ shared.now.replay) }
 {
     let Some(block) = shared.block_at(at) else {
         panic!(rt; "no block");
     };
-    (JoinBox::new(alloc, shared, block.sync), block.first)
+    JoinBox::new(alloc, shared, block.sync)
 }
 
 /// Checks that the block passes with its own piece, after the fourth, second, third and first
@@ -188,7 +187,7 @@ pub fn joined<R: Abort>(rt: &R, alloc: Global, shared: &Shared<'_>, work: Work)
     requires { Works shared.now work }
 {
     let begun = made(rt, alloc, shared, work);
-    let (mut found, spawn) = box_at(rt, alloc, shared, begun.piece.upto());
+    let mut found = box_at(rt, alloc, shared, begun.piece.upto());
     let (first, work) = child(rt, alloc, shared, &mut found, begun);
     let begun = made(rt, alloc, shared, work);
     let (second, work) = child(rt, alloc, shared, &mut found, begun);
@@ -202,12 +201,11 @@ pub fn joined<R: Abort>(rt: &R, alloc: Global, shared: &Shared<'_>, work: Work)
         task: _,
     } = made(rt, alloc, shared, work);
     let by = piece.upto();
-    assert!(rt; arrive(rt, alloc, shared, &mut found, spawn, fourth) == Some(1));
-    assert!(rt; arrive(rt, alloc, shared, &mut found, spawn, second) == Some(2));
-    assert!(rt; arrive(rt, alloc, shared, &mut found, spawn, third) == Some(1));
-    assert!(rt; arrive(rt, alloc, shared, &mut found, spawn, first) == Some(1));
-    let own = Arrival { by, piece, chain };
-    assert!(rt; arrive(rt, alloc, shared, &mut found, spawn, own).is_none());
+    assert!(rt; arrive(rt, alloc, shared, &mut found, fourth) == Some(1));
+    assert!(rt; arrive(rt, alloc, shared, &mut found, second) == Some(2));
+    assert!(rt; arrive(rt, alloc, shared, &mut found, third) == Some(1));
+    assert!(rt; arrive(rt, alloc, shared, &mut found, first) == Some(1));
+    assert!(rt; arrive(rt, alloc, shared, &mut found, Arrival { by, piece, chain }).is_none());
     assert!(rt; !found.fresh(Pos::MAX) && !found.open(Pos::MAX, Pos::MAX));
 }
 
