@@ -4,19 +4,42 @@
 -- - `locks_more`, `locks_all`: one lock more, with its key; all of them;
 -- - `keys_more`, `keys_all`: one key more of the locks that are there; all of them;
 -- - `key_at`: the key at a place;
--- - `key_for`: the key of a block's shelf.
-use Rattle.std.proofs.Common.{◌≡◌, ◌<◌, ◌≤◌, ◌%◌, ℕ, zero, suc, List, [], ◌∷◌, ◌++◌, length, slice_index_or, slice_set, take, ◌+◌, Option, refl, sym, ap, ◌∙◌, subst, arith}
+-- - `key_for`: the key of a block's shelf; `made_for`: it alone was used;
+-- - `is_free`: a key that has put back a shelf.
+use Rattle.std.proofs.Common.{◌≡◌, ◌<◌, ◌≤◌, ◌%◌, ℕ, zero, suc, List, [], ◌∷◌, ◌++◌, length, slice_get, slice_index_or, slice_set, take, ◌+◌, Option, Some, refl, sym, ap, ◌∙◌, subst, arith}
+use Rattle.std.proofs.lemmas.Option.{slice_get_read}
 use Rattle.crossbeam_queue.specs.declared.array_queue.Doing.{Doing}
 use Rattle.crossbeam_queue.specs.declared.array_queue.Slotted.{Slotted}
 use Rattle.crossbeam_queue.specs.Passes.{Pass}
 use Rattle.cilk_workers.specs.declared.lock.KeyState.{KeyState}
+use Rattle.cilk_workers.specs.declared.lock.KeyState.TheVariants.{New, Holds, Free}
 use Rattle.cilk_workers.specs.declared.shelf.Place.{Place}
 use Rattle.cilk_workers.specs.declared.shelf.Shelf.{Shelf}
-use Rattle.cilk_workers.specs.Keys.{AreKeys, AreKeysFrom, IsFree, IsKeyAt, IsKeyFor}
+use Rattle.cilk_workers.specs.Keys.{AreKeys, AreKeysFrom, IsFree, IsKeyAt, IsKeyFor, Makes, MakesFor}
+use Rattle.cilk_workers.specs.Locks.{IsFreeAt, freed}
+use Rattle.cilk_workers.specs.ShelfHistories.{ShelfStep}
 use Rattle.cilk_workers.specs.Shelves.{place}
 
 abbrev pub Key : Type 0
 Key = Pass Shelf KeyState
+
+pub is_free : (v w : KeyState) (back : Shelf) → w ≡ freed v back → IsFreeAt back.place w
+is_free v w back is = subst (IsFreeAt back.place) (sym is) (by v)
+  where
+    by : (u : KeyState) → IsFreeAt back.place (freed u back)
+    by New = refl
+    by (Holds s n) = refl
+    by (Free s last n) = refl
+
+pub made_for : (ps new : List Key) (b i m : ℕ) (p q : Key) (step : ShelfStep) → i ≡ b % m → m ≡ length ps → i < length ps → p ≡ slice_index_or ps i p → new ≡ slice_set ps i q → Makes p step q → MakesFor b ps step new
+made_for ps new b i m p q step is all lt there changed made =
+    let same : i ≡ b % length ps = is ∙ ap (λ (k : ℕ). b % k) all in (
+      p,
+      q,
+      subst (λ (k : ℕ). slice_get ps k ≡ Some p) same (slice_get_read ps (length ps) i p refl lt there),
+      subst (λ (k : ℕ). new ≡ slice_set ps k q) same changed,
+      made,
+    )
 
 module _ {A : Type 0} where
   take_whole : (xs : List A) (k : ℕ) → length xs ≤ k → take k xs ≡ xs

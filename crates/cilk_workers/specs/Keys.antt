@@ -1,9 +1,10 @@
 -- A worker's keys, one for each shelf.
-use Rattle.std.specs.Prelude.{◌≡◌, ◌+◌, ℕ, List, [], ◌∷◌, Option, length, slice_index_or}
+use Rattle.std.specs.Prelude.{◌≡◌, ◌+◌, ◌%◌, ℕ, suc, List, [], ◌∷◌, Option, Some, length, slice_get, slice_index_or, slice_set}
 use Rattle.crossbeam_queue.specs.declared.array_queue.Doing.{Doing}
 use Rattle.crossbeam_queue.specs.declared.array_queue.Slotted.{Slotted}
 use Rattle.crossbeam_queue.specs.Passes.{Pass, IsPassOf, view}
-use Rattle.cilk_workers.specs.ShelfHistories.{IsOneStep}
+use Rattle.cilk_workers.specs.Locks.{IsFreeAt, uses}
+use Rattle.cilk_workers.specs.ShelfHistories.{IsOneStep, LeadsBy, ShelfStep}
 use Rattle.cilk_workers.specs.Shelves.{IsPlaceOf, ShelfValue, place}
 use Rattle.cilk_workers.specs.declared.lock.KeyState.{KeyState}
 use Rattle.cilk_workers.specs.declared.lock.KeyState.TheVariants.{Holds, Free}
@@ -12,12 +13,21 @@ use Rattle.cilk_workers.specs.declared.shelf.Shelf.{Shelf}
 
 -- the key holds a shelf, from which one step leads to this one
 abbrev pub HoldsBefore : Pass Shelf KeyState → ShelfValue → Type 0
-HoldsBefore p new = (s : Shelf) × (view p ≡ Holds s) × IsOneStep s new
+HoldsBefore p new = (s : Shelf) × (n : ℕ) × (view p ≡ Holds s n) × IsOneStep s new
+
+-- The key was used once, for this step: it held the shelf from which the step leads to the one that it put back.
+abbrev pub Makes : Pass Shelf KeyState → ShelfStep → Pass Shelf KeyState → Type 0
+Makes p step q = (s back : Shelf) × (view q ≡ Free s back (suc (uses (view p)))) × LeadsBy step s back
+
+-- So was the key for block b, and no other of these keys.
+abbrev pub MakesFor : ℕ → List (Pass Shelf KeyState) → ShelfStep → List (Pass Shelf KeyState) → Type 0
+MakesFor b ps step new =
+    let i = b % length ps in (p q : Pass Shelf KeyState) × (slice_get ps i ≡ Some p) × (new ≡ slice_set ps i q) × Makes p step q
 
 module _ {Q A : Type 0} where
   -- the key is of the lock of the shelf at this place, and doesn't hold that
   abbrev pub IsFree : Slotted (Option Shelf) (Doing Shelf KeyState) Q A → Place → Pass Shelf KeyState → Type 0
-  IsFree d at p = IsPassOf d p × (view p ≡ Free at)
+  IsFree d at p = IsPassOf d p × IsFreeAt at (view p)
 
   -- if the one key is of the lock and free, so is the other, for the same place
   abbrev pub IsFreeLike : Slotted (Option Shelf) (Doing Shelf KeyState) Q A → Pass Shelf KeyState → Pass Shelf KeyState → Type 0

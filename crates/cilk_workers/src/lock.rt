@@ -3,18 +3,19 @@
 //! Popping the shelf locks it, and pushing it back unlocks it. Each worker has a key for each lock;
 //! keys are made before the threads start. The rule is that there is one shelf, in the queue or with
 //! one key, so the queue has room whenever a shelf is put back. What is put back is the shelf that was
-//! popped, after one steal or arrival at one of its blocks.
+//! popped, after one steal or arrival at one of its blocks. The key knows both shelves, and how often
+//! it was used, so contracts say which step a call made, and that it made no other.
 
 ghost use Rattle.std.specs.Prelude.{◌≡◌, true, false, IfOk};
 ghost use Rattle.crossbeam_queue.specs.Passes.{IsPassOf, view};
 ghost use Rattle.cilk_workers.specs.Keys.{HoldsBefore, IsFree, IsFreeLike};
-ghost use Rattle.cilk_workers.specs.Locks.{IsPopped, IsShelf};
+ghost use Rattle.cilk_workers.specs.Locks.{IsPopped, IsShelf, freed, uses};
 ghost use Rattle.cilk_workers.specs.Shelves.{IsEmptyShelf};
 ghost use Rattle.cilk_workers.specs.declared.lock.KeyState.TheVariants.{Holds};
 ghost use Rattle.cilk_workers.specs.declared.shelf.Place.{Place};
 
 use crate::naming::Naming;
-use crate::shelf::{Place, Shelf};
+use crate::shelf::Shelf;
 use crossbeam_queue::protocol::{Lesson, Outcome, Protocol, Split};
 use crossbeam_queue::{Pass, RuledArrayQueue};
 use crossbeam_utils::Backoff;
@@ -22,14 +23,15 @@ use std::alloc::{AllocError, Global};
 use std::marker::PhantomData;
 use std::sync::Wait;
 
-/// The state of a key. It exists in contracts alone.
+/// The state of a key. It exists in contracts alone. The number counts the uses of the key: each shelf
+/// that was put back with it, and each key that was made of it.
 pub enum KeyState {
     /// The lock is new, and has no shelf yet.
     New,
     /// The key holds this shelf.
-    Holds(Shelf),
-    /// The key doesn't hold the shelf, which is at this place.
-    Free(Place),
+    Holds(Shelf, u64),
+    /// The key doesn't hold the shelf. It held the first one here, and put back the second one.
+    Free(Shelf, Shelf, u64),
 }
 
 /// The rule of a shelf's queue: the one shelf, which belongs to the run that `N` names, is in the
@@ -55,9 +57,9 @@ pub struct Locks<N: Naming> {
 impl<N: Naming> Outcome<Shelf, KeyState> for Locks<N> {
     ghost use Rattle.std.specs.Prelude.{◌≡◌};
     ghost use Rattle.cilk_workers.specs.declared.lock.KeyState.TheVariants.{Holds};
-    ghost use Rattle.cilk_workers.specs.Locks.{IsPopped};
+    ghost use Rattle.cilk_workers.specs.Locks.{IsPopped, uses};
 
-    ghost then = { λ v x w. IsPopped N.run N.replay v x × (w ≡ Holds x) };
+    ghost then = { λ v x w. IsPopped N.run N.replay v x × (w ≡ Holds x (uses v)) };
 }
 
 impl<N: Naming> Lesson<Shelf, KeyState> for Locks<N> {
@@ -71,10 +73,9 @@ pub struct Unlocks;
 
 impl Outcome<Shelf, KeyState> for Unlocks {
     ghost use Rattle.std.specs.Prelude.{◌≡◌};
-    ghost use Rattle.cilk_workers.specs.declared.lock.KeyState.TheVariants.{Free};
-    ghost use Rattle.cilk_workers.specs.Locks.{MayPush};
+    ghost use Rattle.cilk_workers.specs.Locks.{MayPush, freed};
 
-    ghost then = { λ v x w. MayPush v x × (w ≡ Free x.place) };
+    ghost then = { λ v x w. MayPush v x × (w ≡ freed v x) };
 }
 
 impl Lesson<Shelf, KeyState> for Unlocks {
@@ -84,11 +85,13 @@ impl Lesson<Shelf, KeyState> for Unlocks {
     ghost fact = { λ v items. held v ≡ 1 → items ≡ [] };
 }
 
-/// Another key knows what the first one knows.
+/// Another key knows what the first one knows, which counts that as a use.
 pub struct Alike;
 
 impl Split<KeyState> for Alike {
-    ghost left = { λ v. v };
+    ghost use Rattle.cilk_workers.specs.Locks.{copied};
+
+    ghost left = { copied };
 
     ghost right = { λ v. v };
 }
@@ -129,7 +132,7 @@ pub(crate) fn never<R: Wait>(rt: &R)
 /// Locks the shelf: waits until it is there, and pops it.
 pub fn lock<N: Naming, R: Wait>(rt: &R, lock: &Lock<N>, key: &mut Key) -> Shelf
     requires { IsPassOf lock.now key.old }
-    ensures key { IsPassOf lock.now key.new × (view key.new ≡ Holds result) }
+    ensures key { IsPassOf lock.now key.new × (view key.new ≡ Holds result (uses (view key.old))) }
     ensures found { IsPopped N.run N.replay (view key.old) result }
 {
     let backoff = Backoff::new();
@@ -146,7 +149,7 @@ pub fn lock<N: Naming, R: Wait>(rt: &R, lock: &Lock<N>, key: &mut Key) -> Shelf
 pub fn unlock<N: Naming, R: Wait>(rt: &R, lock: &Lock<N>, key: &mut Key, back: Shelf)
     requires key { IsPassOf lock.now key.old }
     requires back { HoldsBefore key.old back }
-    ensures { IsFree lock.now back.place key.new }
+    ensures { IsPassOf lock.now key.new × (view key.new ≡ freed (view key.old) back) }
 {
     if lock.push_as::<Unlocks, R>(rt, key, back).is_err() {
         unreachable!();

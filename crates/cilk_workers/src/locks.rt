@@ -12,7 +12,8 @@ ghost use Rattle.cilk_workers.specs.Shared.{IsNumberOf, event_order_in};
 ghost use Rattle.cilk_workers.specs.Activities.{IsMet, IsMetWhole};
 ghost use Rattle.cilk_workers.specs.Boxes.{EndsAtKey, is_some};
 ghost use Rattle.cilk_workers.specs.Arrivals.{AnswersBy, HasArrived, HasRecorded, is_passing};
-ghost use Rattle.cilk_workers.specs.Keys.{AreKeys, IsFreeLike, IsKeyFor};
+ghost use Rattle.cilk_workers.specs.Keys.{AreKeys, IsFreeLike, IsKeyFor, Makes, MakesFor};
+ghost use Rattle.cilk_workers.specs.ShelfHistories.{ArrivesAt, StealsAt};
 ghost use Rattle.cilk_workers.specs.WorkerContexts.{IsWorkerContext};
 
 use crate::columns::Block;
@@ -182,6 +183,7 @@ impl<'a, 'b, N: Naming, R: Wait, G: Gate> WorkerContext<'a, 'b, N, R, G> {
         requires chain { IfSome arrival.chain (λ c. c ≡ standing self.now.shared.now.replay arrival.piece.upto) }
         requires ends { EndsAtKey (event_order_in self.now.shared.now) arrival.by arrival.piece (is_some arrival.chain) }
         ensures key { IsFreeLike shelf_lock.now key.old key.new }
+        ensures made { Makes key.old (ArrivesAt block.sync arrival result) key.new }
         ensures met { IsMet self.now.shared.now result }
         ensures whole { IsMetWhole (event_order_in self.now.shared.now) block.sync result }
     {
@@ -206,7 +208,8 @@ impl<'a, 'b, N: Naming, R: Wait, G: Gate> WorkerContext<'a, 'b, N, R, G> {
         requires block { IsOfBlock (event_order_in self.now.shared.now) block.sync goes_on }
         requires sync { event (event_order_in self.now.shared.now) block.sync ≡ Some Sync }
         requires resumes { word_step (event_order_in self.now.shared.now) goes_on ≡ resume child }
-        ensures { IsFreeLike shelf_lock.now key.old key.new }
+        ensures key { IsFreeLike shelf_lock.now key.old key.new }
+        ensures made { Makes key.old (StealsAt block.sync child goes_on result) key.new }
     {
         let mut shelf = lock(self.rt, shelf_lock, key);
         let told = self.record_steal_on(&mut shelf, block, child, goes_on);
@@ -214,7 +217,8 @@ impl<'a, 'b, N: Naming, R: Wait, G: Gate> WorkerContext<'a, 'b, N, R, G> {
         told
     }
 
-    /// Takes a piece to a block. What passes has the whole block.
+    /// Takes a piece to a block. What passes has the whole block. Under the block's lock this arrival
+    /// is made, and nothing else.
     pub fn arrive(&self, keys: &mut Vec<Key>, block: Block, arrival: Arrival) -> Met
         requires context { IsWorkerContext N.run N.replay N.taken self.now }
         requires keys { AreKeys self.now.locks.now.items keys.old.items }
@@ -226,6 +230,7 @@ impl<'a, 'b, N: Naming, R: Wait, G: Gate> WorkerContext<'a, 'b, N, R, G> {
         requires chain { IfSome arrival.chain (λ c. c ≡ standing self.now.shared.now.replay arrival.piece.upto) }
         requires ends { EndsAtKey (event_order_in self.now.shared.now) arrival.by arrival.piece (is_some arrival.chain) }
         ensures keys { AreKeys self.now.locks.now.items keys.new.items }
+        ensures made { MakesFor block.number keys.old.items (ArrivesAt block.sync arrival result) keys.new.items }
         ensures met { IsMet self.now.shared.now result }
         ensures whole { IsMetWhole (event_order_in self.now.shared.now) block.sync result }
     {
@@ -236,8 +241,8 @@ impl<'a, 'b, N: Naming, R: Wait, G: Gate> WorkerContext<'a, 'b, N, R, G> {
         self.arrive_locked(shelf_lock, key, block, arrival)
     }
 
-    /// Records at a block that a thief took the continuation of the spawn at
-    /// `child`, which continues at `goes_on`. False if memory ran out.
+    /// Records at a block that a thief took the continuation of the spawn at `child`, which continues
+    /// at `goes_on`, and nothing else. False if memory ran out.
     pub fn record_steal(&self, keys: &mut Vec<Key>, block: Block, child: Pos, goes_on: Pos) -> bool
         requires context { IsWorkerContext N.run N.replay N.taken self.now }
         requires keys { AreKeys self.now.locks.now.items keys.old.items }
@@ -245,7 +250,8 @@ impl<'a, 'b, N: Naming, R: Wait, G: Gate> WorkerContext<'a, 'b, N, R, G> {
         requires block { IsOfBlock (event_order_in self.now.shared.now) block.sync goes_on }
         requires sync { event (event_order_in self.now.shared.now) block.sync ≡ Some Sync }
         requires resumes { word_step (event_order_in self.now.shared.now) goes_on ≡ resume child }
-        ensures { AreKeys self.now.locks.now.items keys.new.items }
+        ensures keys { AreKeys self.now.locks.now.items keys.new.items }
+        ensures made { MakesFor block.number keys.old.items (StealsAt block.sync child goes_on result) keys.new.items }
     {
         let locks = self.locks;
         let number = shelf_of(block.number, locks.len());

@@ -1,5 +1,6 @@
-use Rattle.std.proofs.Common.{◌≡◌, ◌<◌, length, arith}
-use Rattle.cilk_workers.proofs.Keys.{widths, at, changed, key_for}
+use Rattle.std.proofs.Common.{◌≡◌, ◌<◌, length, refl, arith}
+use Rattle.cilk_workers.specs.ShelfHistories.{ArrivesAt, ShelfStep}
+use Rattle.cilk_workers.proofs.Keys.{widths, at, changed, key_for, made_for}
 use Rattle.cilk_workers.proofs.context.WorkerContext.arrive.Goals as goal
 
 pub shelf_of-at-requires : goal.shelf_of-at-requires
@@ -22,3 +23,12 @@ returns-clause-keys g c =
     let there : c.shelf_of-at.result < length c.args.self.now.locks.now.items = omega (arith, n, c.shelf_of-at.ensures.there) in
     let its = at _ _ c.requires.keys c.shelf_of-at.result there _ _ c.index-shelf_lock.ensures c.index_mut-key.ensures.value in
     changed _ _ c.requires.keys c.shelf_of-at.result there _ c.arrive_locked.new.key c.index-shelf_lock.ensures (c.arrive_locked.ensures.key _ its)
+
+pub returns-clause-made : goal.returns-clause-made
+returns-clause-made g c =
+    let n = c.len.ensures in
+    let w = widths _ _ c.requires.keys in
+    let step : ShelfStep = ArrivesAt c.args.block.sync c.args.arrival c.arrive_locked.result in
+    let all : c.len.result ≡ length c.args.keys.now.items = omega (arith, w, n) in
+    made_for c.args.keys.now.items _ c.args.block.number c.shelf_of-at.result c.len.result c.index_mut-key.result.now c.arrive_locked.new.key step c.shelf_of-at.ensures.number all
+    (omega (arith, w, n, c.shelf_of-at.ensures.there)) c.index_mut-key.ensures.value refl c.arrive_locked.ensures.made

@@ -1,5 +1,6 @@
-use Rattle.std.proofs.Common.{◌≡◌, ◌<◌, length, arith}
-use Rattle.cilk_workers.proofs.Keys.{widths, at, changed, key_for}
+use Rattle.std.proofs.Common.{◌≡◌, ◌<◌, length, refl, arith}
+use Rattle.cilk_workers.specs.ShelfHistories.{ShelfStep, StealsAt}
+use Rattle.cilk_workers.proofs.Keys.{widths, at, changed, key_for, made_for}
 use Rattle.cilk_workers.proofs.context.WorkerContext.record_steal.Goals as goal
 
 pub shelf_of-number-requires : goal.shelf_of-number-requires
@@ -16,9 +17,18 @@ record_steal_locked-requires-clause-key g c =
     key_for c.index-shelf_lock.result.now c.index_mut-key.result.now c.args.block.number c.shelf_of-number.result c.len.result (length c.args.self.now.locks.now.items) c.shelf_of-number.ensures.number all
     (at _ _ c.requires.keys c.shelf_of-number.result there _ _ c.index-shelf_lock.ensures c.index_mut-key.ensures.value)
 
-pub returns : goal.returns
-returns g c =
+pub returns-clause-keys : goal.returns-clause-keys
+returns-clause-keys g c =
     let n = c.len.ensures in
     let there : c.shelf_of-number.result < length c.args.self.now.locks.now.items = omega (arith, n, c.shelf_of-number.ensures.there) in
     let its = at _ _ c.requires.keys c.shelf_of-number.result there _ _ c.index-shelf_lock.ensures c.index_mut-key.ensures.value in
-    changed _ _ c.requires.keys c.shelf_of-number.result there _ c.record_steal_locked.new.key c.index-shelf_lock.ensures (c.record_steal_locked.ensures _ its)
+    changed _ _ c.requires.keys c.shelf_of-number.result there _ c.record_steal_locked.new.key c.index-shelf_lock.ensures (c.record_steal_locked.ensures.key _ its)
+
+pub returns-clause-made : goal.returns-clause-made
+returns-clause-made g c =
+    let n = c.len.ensures in
+    let w = widths _ _ c.requires.keys in
+    let step : ShelfStep = StealsAt c.args.block.sync c.args.child c.args.goes_on c.record_steal_locked.result in
+    let all : c.len.result ≡ length c.args.keys.now.items = omega (arith, w, n) in
+    made_for c.args.keys.now.items _ c.args.block.number c.shelf_of-number.result c.len.result c.index_mut-key.result.now c.record_steal_locked.new.key step c.shelf_of-number.ensures.number all
+    (omega (arith, w, n, c.shelf_of-number.ensures.there)) c.index_mut-key.ensures.value refl c.record_steal_locked.ensures.made
