@@ -2,6 +2,7 @@
 //! piece at the `sync` arrives last.
 
 ghost use Rattle.std.specs.Prelude.{◌≡◌, IfSome, IsTrue, None};
+ghost use Rattle.cilk_tree.specs.Word.{resume, word_step};
 ghost use Rattle.cilk_workers.specs.Boxes.{EndsAtKey};
 ghost use Rattle.cilk_workers.specs.Rows.{IsGood};
 ghost use Rattle.cilk_workers.specs.Shared.{event_order_in};
@@ -72,11 +73,29 @@ fn made<R: Abort>(rt: &R, alloc: Global, shared: &Shared<'_>, mut work: Work) ->
     panic!(rt; "no end");
 }
 
+// Whether the continuation of the spawn at `key` resumes at a position.
+fn resumes_at(shared: &Shared<'_>, key: Pos, at: Pos) -> bool
+    ensures { IsTrue result → word_step (event_order_in shared.now) at ≡ resume key }
+{
+    match shared.resumed_by(at) {
+        Some(child) => child == key,
+        None => false,
+    }
+}
+
 // A thief steals the continuation of a child's spawn.
-fn record_steal<R: Abort>(rt: &R, found: &mut JoinBox, key: Pos, goes_on: Pos)
+fn record_steal<R: Abort>(
+    rt: &R,
+    shared: &Shared<'_>,
+    found: &mut JoinBox,
+    key: Pos,
+    goes_on: Pos,
+)
+    requires { found.old.rows.of ≡ shared.now.run }
     ensures { (found.new.rows.of ≡ found.old.rows.of) × (found.new.replay ≡ found.old.replay) }
 {
     assert!(rt; found.open(key, goes_on));
+    assert!(rt; resumes_at(shared, key, goes_on));
     assert!(rt; found.record_steal(key, goes_on).is_ok());
 }
 
@@ -88,6 +107,7 @@ fn child<R: Abort>(
     found: &mut JoinBox,
     begun: Stretch,
 ) -> (Arrival, Work)
+    requires run { (found.old.rows.of ≡ shared.now.run) × (found.old.replay ≡ shared.now.replay) }
     requires piece { IsGood shared.now.run begun.piece }
     requires task { IfSome begun.task (λ t. t.of ≡ shared.now.replay) }
     ensures same { (found.new.rows.of ≡ found.old.rows.of) × (found.new.replay ≡ found.old.replay) }
@@ -104,7 +124,7 @@ fn child<R: Abort>(
         panic!(rt; "no task");
     };
     let by = task.ticket();
-    record_steal(rt, found, by, task.at());
+    record_steal(rt, shared, found, by, task.at());
     let (piece, spare) = piece.apart(alloc, shared.yard(), shared.reducers());
     let Ok(work) = begin(shared, spare, task) else {
         panic!(rt; "not taken");
@@ -131,11 +151,9 @@ fn ends_at(shared: &Shared<'_>, by: Pos, piece: &Piece, last: bool) -> bool
 {
     let at = piece.upto();
     if last {
-        return at == by;
-    }
-    match shared.resumed_by(at) {
-        Some(child) => child == by,
-        None => false,
+        at == by
+    } else {
+        resumes_at(shared, by, at)
     }
 }
 

@@ -10,7 +10,8 @@ use Rattle.cilk_tree.specs.declared.event_order.EventOrder.{EventOrder}
 use Rattle.cilk_tree.specs.Word.{event, plain, predecessors_of, resume, word_event, word_step}
 use Rattle.std.specs.Prelude.{OnErr, OnOk, Result, Ok, Err}
 use Rattle.std.specs.Result.{is_ok}
-use Rattle.cilk_workers.specs.Boxes.{BoxValue, EndsAtKey, is_some, stolen_at}
+use Rattle.cilk_workers.specs.Boxes.{BoxValue, EndsAtKey, IsOpen, MayArrive, is_some, stolen_at}
+use Rattle.cilk_workers.specs.Rows.{FitsIn}
 use Rattle.cilk_workers.specs.Shelves.{HasPassed, PutsBack, ShelfValue, TakesOff, passed_with}
 use Rattle.cilk_workers.specs.Arrivals.{AnswersBy, EndsWhereItWaits, HasArrived, HasRecorded, IsAsBefore, is_passing}
 use Rattle.cilk_workers.specs.declared.locks.Arrival.{Arrival}
@@ -34,11 +35,13 @@ put_same s rest new sync found after off same back passed = record {
 pub unmoved : (s new : ShelfValue) (sync : ℕ) → new.passed ≡ s.passed → new.boxes ≡ s.boxes → IsAsBefore s sync new
 unmoved s new sync passed same = record { passed = passed; boxes = inl same }
 
-pub arrives : (s rest new : ShelfValue) (sync : ℕ) (a : Arrival) (found after : BoxValue) (met : Met) → (HasPassed s sync → ⊥) → TakesOff s sync found rest → AnswersBy found a met after → PutsBack rest after new
+pub arrives : (s rest new : ShelfValue) (sync : ℕ) (a : Arrival) (found after : BoxValue) (met : Met) → (HasPassed s sync → ⊥) → TakesOff s sync found rest → MayArrive found a.by a.piece a.chain → FitsIn found.rows a.by a.piece → AnswersBy found a met after → PutsBack rest after new
     → new.passed ≡ passed_with s.passed sync (is_passing met) → HasArrived s sync a met new
-arrives s rest new sync a found after (mets.Passes w) waits off answers back passed = record { waits = waits; found = found; rest = rest; after = after; off = off; answers = answers; back = back; passed = passed }
-arrives s rest new sync a found after mets.Waits waits off answers back passed = record { waits = waits; found = found; rest = rest; after = after; off = off; answers = answers; back = back; passed = passed }
-arrives s rest new sync a found after mets.Stopped waits off answers back passed = put_same s rest new sync found after off answers back passed
+arrives s rest new sync a found after (mets.Passes w) waits off may fits answers back passed =
+    record { waits = waits; found = found; rest = rest; after = after; off = off; may = may; fits = fits; answers = answers; back = back; passed = passed }
+arrives s rest new sync a found after mets.Waits waits off may fits answers back passed =
+    record { waits = waits; found = found; rest = rest; after = after; off = off; may = may; fits = fits; answers = answers; back = back; passed = passed }
+arrives s rest new sync a found after mets.Stopped waits off may fits answers back passed = put_same s rest new sync found after off answers back passed
 
 if_ok : {T E : Type 0} (P : Type 0) (r : Result T E) (told : Bool) → told ≡ is_ok r → told ≡ true → OnOk r P → P
 if_ok P (Ok x) told is so h = h
@@ -48,17 +51,18 @@ if_err : {T E : Type 0} (P : Type 0) (r : Result T E) (told : Bool) → told ≡
 if_err P (Ok x) told is so h = absurd (let both : true ≡ false = sym is ∙ so in cc both)
 if_err P (Err e) told is so h = h
 
-pub records : {T E : Type 0} (s rest new : ShelfValue) (sync k goes_on : ℕ) (found after : BoxValue) (r : Result T E) (told : Bool) → (HasPassed s sync → ⊥) → TakesOff s sync found rest
+pub records : {T E : Type 0} (s rest new : ShelfValue) (sync k goes_on : ℕ) (found after : BoxValue) (r : Result T E) (told : Bool) → (HasPassed s sync → ⊥) → TakesOff s sync found rest → IsOpen found k goes_on
     → OnOk r (after ≡ stolen_at found k goes_on) → OnErr r (after ≡ found) → told ≡ is_ok r → PutsBack rest after new → new.passed ≡ s.passed → HasRecorded s sync k goes_on told new
-records s rest new sync k goes_on found after r true waits off stolen same is back passed = record {
+records s rest new sync k goes_on found after r true waits off may stolen same is back passed = record {
   waits = waits;
   found = found;
   rest = rest;
   off = off;
+  may = may;
   back = subst (λ (b : BoxValue). PutsBack rest b new) (if_ok (after ≡ stolen_at found k goes_on) r true is refl stolen) back;
   passed = passed;
 }
-records s rest new sync k goes_on found after r false waits off stolen same is back passed =
+records s rest new sync k goes_on found after r false waits off may stolen same is back passed =
     put_same s rest new sync found after off (if_err (after ≡ found) r false is refl same) back passed
 
 no_resume : (s : EventOrder) (p k : ℕ) → event s p ≡ Some Sync → word_step s p ≡ resume k → ⊥

@@ -2,6 +2,7 @@ pub mod Arrivals
 pub mod Begun
 pub mod BegunTurn
 pub mod BlocksAt
+pub mod BoxHistories
 pub mod Boxes
 pub mod Due
 pub mod Ending

@@ -9,10 +9,11 @@ use Rattle.cilk_replay.specs.Replays.{ReplayValue}
 use Rattle.cilk_workers.specs.Histories.{Has, IsOnce}
 use Rattle.cilk_workers.specs.Locks.{IsShelf, IsShelfAt}
 use Rattle.cilk_workers.specs.Rows.{RunValue}
-use Rattle.cilk_workers.specs.ShelfHistories.{AreAt, ArrivesAt, BlocksPassOnce, IsOneStep, IsShelfHistory, ShelfStep, StealsAt, passed_blocks}
+use Rattle.cilk_workers.specs.ShelfHistories.{ArrivesAt, BlocksPassOnce, IsOneStep, IsShelfHistory, ShelfStep, StealsAt, passed_blocks}
 use Rattle.cilk_workers.specs.Shelves.{HasPassed, ShelfValue, passed_with}
 use Rattle.cilk_workers.specs.declared.locks.Met.TheVariants as mets
 use Rattle.cilk_workers.specs.declared.shelf.Place.{Place}
+use Rattle.cilk_workers.proofs.BoxHistories.{kept}
 
 has_last : (qs : List ℕ) (q x : ℕ) → Has (qs ++ q ∷ []) x → Has qs x ⊎ (q ≡ x)
 has_last [] q x (inl same) = inr same
@@ -29,11 +30,11 @@ once_last (p ∷ qs) q once not = (
 
 known : (steps : List ShelfStep) (s : ShelfValue) → IsShelfHistory steps s → s.passed ≡ passed_blocks steps
 known [] s h = h.1
-known (StealsAt q k a true ∷ steps) s h = let r = h.2 in r.passed ∙ known steps h.0 h.1
-known (StealsAt q k a false ∷ steps) s h = let r = h.2 in r.passed ∙ known steps h.0 h.1
-known (ArrivesAt q a (mets.Passes w) ∷ steps) s h = let r = h.2 in r.passed ∙ ap (λ (qs : List ℕ). passed_with qs q true) (known steps h.0 h.1)
-known (ArrivesAt q a mets.Waits ∷ steps) s h = let r = h.2 in r.passed ∙ known steps h.0 h.1
-known (ArrivesAt q a mets.Stopped ∷ steps) s h = let r = h.2 in r.passed ∙ known steps h.0 h.1
+known (StealsAt q k a true ∷ steps) s h = let r = h.2.2 in r.passed ∙ known steps h.0 h.1
+known (StealsAt q k a false ∷ steps) s h = let r = h.2.2 in r.passed ∙ known steps h.0 h.1
+known (ArrivesAt q a (mets.Passes w) ∷ steps) s h = let r = h.2.2 in r.passed ∙ ap (λ (qs : List ℕ). passed_with qs q true) (known steps h.0 h.1)
+known (ArrivesAt q a mets.Waits ∷ steps) s h = let r = h.2.2 in r.passed ∙ known steps h.0 h.1
+known (ArrivesAt q a mets.Stopped ∷ steps) s h = let r = h.2.2 in r.passed ∙ known steps h.0 h.1
 
 -- a block that has passed, to the shelf
 is_known : (steps : List ShelfStep) (s : ShelfValue) → IsShelfHistory steps s → (q : ℕ) → Has (passed_blocks steps) q → HasPassed s q
@@ -42,7 +43,7 @@ is_known steps s h q has = subst (λ (qs : List ℕ). Has qs q) (sym (known step
 once : (steps : List ShelfStep) (s : ShelfValue) → IsShelfHistory steps s → IsOnce (passed_blocks steps)
 once [] s h = tt
 once (StealsAt q k a recorded ∷ steps) s h = once steps h.0 h.1
-once (ArrivesAt q a (mets.Passes w) ∷ steps) s h = let r = h.2 in once_last (passed_blocks steps) q (once steps h.0 h.1) (λ has. r.waits (is_known steps h.0 h.1 q has))
+once (ArrivesAt q a (mets.Passes w) ∷ steps) s h = let r = h.2.2 in once_last (passed_blocks steps) q (once steps h.0 h.1) (λ has. r.waits (is_known steps h.0 h.1 q has))
 once (ArrivesAt q a mets.Waits ∷ steps) s h = once steps h.0 h.1
 once (ArrivesAt q a mets.Stopped ∷ steps) s h = once steps h.0 h.1
 
@@ -51,13 +52,13 @@ laws steps s h = record {
   once = once steps s h;
   none_stolen = λ q k a new has r. r.waits (is_known steps s h q has);
   none_arrives = λ q a met new has r. r.waits (is_known steps s h q has);
+  one_box = let k = kept steps s h in k.0;
+  joined = let k = kept steps s h in k.1;
 }
 
 pub still : (y : RunValue) (replay : ReplayValue → Type 0) (s new : ShelfValue) → IsShelf y replay s → IsOneStep s new → IsShelf y replay new
-still y replay s new is (same, step, keeps, leads) =
-    let h = is.2 in
-    let at = subst (λ (z : RunValue × Place). AreAt z.0 z.1 (step ∷ h.0)) (λ i. (sym same.0 i, sym same.2 i)) (keeps, h.2) in
-    (same.0 ∙ is.0, subst replay (sym same.1) is.1, (step ∷ h.0, (s, h.1, leads), at))
+still y replay s new is (step, (same, at, leads)) =
+    let h = is.2 in (same.0 ∙ is.0, subst replay (sym same.1) is.1, (step ∷ h.0, (s, h.1, (same, at, leads))))
 
 pub still_at : (y : RunValue) (replay : ReplayValue → Type 0) (place : Place) (s new : ShelfValue) → IsShelfAt y replay place s → IsOneStep s new → IsShelfAt y replay place new
-still_at y replay place s new is step = (still y replay s new is.0 step, (let same = step.0 in same.2) ∙ is.1)
+still_at y replay place s new is step = (still y replay s new is.0 step, (let same = step.1.0 in same.2) ∙ is.1)

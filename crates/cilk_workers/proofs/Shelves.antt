@@ -1,6 +1,6 @@
 -- The rest of a list from which one element is removed.
 --
--- - `all_without`: the others, where one is removed;
+-- - `without`, `all_without`: the others, where one is removed;
 -- - `one_of`: the one that came out;
 -- - `all_behind`: one more at the end.
 use Rattle.std.proofs.Common.{◌≡◌, ◌<◌, ◌+◌, ℕ, zero, suc, List, [], ◌∷◌, ◌++◌, length, take, drop, slice_index_or, sym, ◌∙◌, subst, arith}
@@ -15,7 +15,7 @@ module _ {A : Type 0} (P : A → Type 0) where
   cons x xs one h zero d lt = one
   cons x xs one h (suc k) d lt = h k d (omega (arith, lt))
 
-  without : (xs : List A) (i : ℕ) → All P xs → All P (take i xs ++ drop (suc i) xs)
+  pub without : (xs : List A) (i : ℕ) → All P xs → All P (take i xs ++ drop (suc i) xs)
   without [] zero h = h
   without [] (suc i) h = h
   without (x ∷ xs) zero h = tail x xs h

@@ -7,7 +7,8 @@ use Rattle.cilk_tree.specs.Word.{event, resume, word_step}
 use Rattle.cilk_replay.specs.Chains.{ChainValue}
 use Rattle.cilk_replay.specs.Starts.{BeginsInBlock}
 use Rattle.cilk_workers.specs.Answers.{Answers}
-use Rattle.cilk_workers.specs.Boxes.{BoxValue, arrived_at, is_some, stolen_at}
+use Rattle.cilk_workers.specs.Boxes.{BoxValue, IsOpen, MayArrive, arrived_at, is_some, stolen_at}
+use Rattle.cilk_workers.specs.Rows.{FitsIn}
 use Rattle.cilk_workers.specs.Shelves.{HasPassed, PutsBack, ShelfValue, TakesOff, passed_with}
 use Rattle.cilk_workers.specs.declared.join.Boxed.TheVariants as boxes
 use Rattle.cilk_workers.specs.declared.locks.Arrival.{Arrival}
@@ -21,12 +22,13 @@ EndsWhereItWaits s p None = (k : ℕ) × (word_step s p.upto ≡ resume k) × (p
 EndsWhereItWaits s p (Some c) = (event s p.upto ≡ Some Sync) × BeginsInBlock s p.from p.upto
 
 -- In the box of the block, and in no other, it is recorded that the continuation of the spawn at k,
--- which continues at a, is stolen. The block hasn't passed.
+-- which continues at a, is stolen, as it may be there. The block hasn't passed.
 pub record Records (s : ShelfValue) (sync k a : ℕ) (new : ShelfValue) : Type 0 where
   pub waits : HasPassed s sync → ⊥
   pub found : BoxValue
   pub rest : ShelfValue
   pub off : TakesOff s sync found rest
+  pub may : IsOpen found k a
   pub back : PutsBack rest (stolen_at found k a) new
   pub passed : new.passed ≡ s.passed
 
@@ -53,14 +55,16 @@ is_passing (mets.Passes w) = true
 is_passing mets.Waits = false
 is_passing mets.Stopped = false
 
--- The arrival is in the box of the block, and in no other. The block hadn't passed, and has passed
--- exactly if that is the answer; of each other block it is as before.
+-- The arrival is in the box of the block, where it may come and its piece fits, and in no other. The block
+-- hadn't passed, and has passed exactly if that is the answer; of each other block it is as before.
 pub record Arrives (s : ShelfValue) (sync : ℕ) (a : Arrival) (met : Met) (new : ShelfValue) : Type 0 where
   pub waits : HasPassed s sync → ⊥
   pub found : BoxValue
   pub rest : ShelfValue
   pub after : BoxValue
   pub off : TakesOff s sync found rest
+  pub may : MayArrive found a.by a.piece a.chain
+  pub fits : FitsIn found.rows a.by a.piece
   pub answers : AnswersBy found a met after
   pub back : PutsBack rest after new
   pub passed : new.passed ≡ passed_with s.passed sync (is_passing met)

@@ -4,8 +4,9 @@ use Rattle.cilk_shared.specs.Pieces.{PieceValue}
 use Rattle.cilk_replay.specs.Chains.{ChainValue}
 use Rattle.cilk_replay.specs.Replays.{ReplayValue}
 use Rattle.cilk_workers.specs.Answers.{Answers}
-use Rattle.cilk_workers.specs.Boxes.{BoxValue, IsOpen, MayArrive, Stands, arrived_at, is_some, opening, passes, stolen_at}
-use Rattle.cilk_workers.specs.Rows.{IsLowest, RunValue}
+use Rattle.cilk_tree.specs.Word.{resume, word_step}
+use Rattle.cilk_workers.specs.Boxes.{BoxValue, EndsAtKey, IsOpen, MayArrive, Stands, arrived_at, is_some, opening, passes, stolen_at}
+use Rattle.cilk_workers.specs.Rows.{FitsIn, IsLowest, RunValue}
 use Rattle.cilk_workers.specs.declared.join.Boxed.{Boxed}
 use Rattle.cilk_workers.specs.declared.join.Boxed.TheVariants as boxes
 
@@ -55,15 +56,21 @@ module _ (y : RunValue) (u : ReplayValue) (sync : ℕ) where
   joined (Steals k a ∷ steps) = stolen_at (joined steps) k a
   joined (Arrives k x c ∷ steps) = arrived_at (joined steps) k x (is_some c)
 
-  -- each step is allowed when it is made
+  -- each step is allowed when it is made: a stolen continuation is that of its key, and a piece fits and ends at
+  -- its key
   abbrev pub IsHistory : List BoxStep → Type 0
   IsHistory [] = Unit {0}
-  IsHistory (Steals k a ∷ steps) = IsHistory steps × IsOpen (joined steps) k a
-  IsHistory (Arrives k x c ∷ steps) = IsHistory steps × MayArrive (joined steps) k x c
+  IsHistory (Steals k a ∷ steps) = IsHistory steps × IsOpen (joined steps) k a × (word_step y.event_order a ≡ resume k)
+  IsHistory (Arrives k x c ∷ steps) =
+      IsHistory steps × MayArrive (joined steps) k x c × FitsIn (let j = joined steps in j.rows) k x × EndsAtKey y.event_order k x (is_some c)
 
   -- this key's piece is still to come
   abbrev pub IsAwaited : List BoxStep → ℕ → Type 0
   IsAwaited steps k = let j = joined steps in let r = j.rows in let w = r.row in Stands w.waits k
+
+-- the box has a history
+abbrev pub HasSteps : RunValue → ReplayValue → BoxValue → Type 0
+HasSteps y u b = (steps : List BoxStep) × IsHistory y u b.sync steps × (b ≡ joined y u b.sync steps)
 
 -- the laws of a box, after each of its histories
 pub record BoxLaws (y : RunValue) (u : ReplayValue) (sync : ℕ) (steps : List BoxStep) : Type 0 where

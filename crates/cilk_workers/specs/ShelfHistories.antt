@@ -1,15 +1,15 @@
 -- The histories of a shelf: at its blocks continuations are stolen and pieces arrive.
-use Rattle.std.specs.Prelude.{◌≡◌, ℕ, Bool, List, [], ◌∷◌}
+use Rattle.std.specs.Prelude.{◌≡◌, ℕ, All, Bool, List, [], ◌∷◌}
 use Rattle.cilk_shared.specs.Pieces.{PieceValue}
 use Rattle.cilk_tree.specs.Columns.{IsOfBlock}
 use Rattle.cilk_tree.specs.Word.{resume, word_step}
 use Rattle.cilk_tree.specs.declared.event_order.EventOrder.{EventOrder}
 use Rattle.cilk_workers.specs.Arrivals.{Arrives, HasArrived, HasRecorded, Records, is_passing}
 use Rattle.cilk_workers.specs.Boxes.{EndsAtKey, is_some}
-use Rattle.cilk_workers.specs.Histories.{Has, IsOnce}
+use Rattle.cilk_workers.specs.Histories.{Has, HasSteps, IsOnce}
 use Rattle.cilk_workers.specs.Rows.{RunValue}
 use Rattle.cilk_workers.specs.Shared.{IsNumberOf}
-use Rattle.cilk_workers.specs.Shelves.{IsEmptyShelf, IsPlaceOf, IsSameShelf, ShelfValue, passed_with}
+use Rattle.cilk_workers.specs.Shelves.{HasOneEach, IsEmptyShelf, IsPlaceOf, IsSameShelf, ShelfValue, passed_with}
 use Rattle.cilk_workers.specs.declared.locks.Arrival.{Arrival}
 use Rattle.cilk_workers.specs.declared.locks.Met.{Met}
 use Rattle.cilk_workers.specs.declared.shelf.Place.{Place}
@@ -48,25 +48,24 @@ IsOwnStep s (ArrivesAt q a met) = EndsInBlock s q a.piece × EndsAtKey s a.by a.
 abbrev pub IsStepAt : RunValue → Place → ShelfStep → Type 0
 IsStepAt y at step = KeepsBlock y at (sync_of step) × IsOwnStep y.event_order step
 
--- one step at its own block, which is one of the shelf's, leads to the new shelf
+-- the step at its own block, which is one of the shelf's, leads to the new shelf
+abbrev pub StepsTo : ShelfValue → ShelfStep → ShelfValue → Type 0
+StepsTo s step new = IsSameShelf s new × IsStepAt s.of s.place step × LeadsBy step s new
+
+-- so does one step
 abbrev pub IsOneStep : ShelfValue → ShelfValue → Type 0
-IsOneStep s new = IsSameShelf s new × (step : ShelfStep) × IsStepAt s.of s.place step × LeadsBy step s new
+IsOneStep s new = (step : ShelfStep) × StepsTo s step new
 
 -- ---- steps from an empty shelf on, the latest step first
 
--- they lead to this shelf
+-- they lead to this shelf, each at its own block
 abbrev pub IsShelfHistory : List ShelfStep → ShelfValue → Type 0
 IsShelfHistory [] s = IsEmptyShelf s
-IsShelfHistory (step ∷ steps) new = (s : ShelfValue) × IsShelfHistory steps s × LeadsBy step s new
+IsShelfHistory (step ∷ steps) new = (s : ShelfValue) × IsShelfHistory steps s × StepsTo s step new
 
--- each is at its own block, which is one of the shelf's at this place
-abbrev pub AreAt : RunValue → Place → List ShelfStep → Type 0
-AreAt y at [] = Unit {0}
-AreAt y at (step ∷ steps) = IsStepAt y at step × AreAt y at steps
-
--- some history leads to this shelf, at its own blocks alone
+-- some history leads to this shelf
 abbrev pub HasHistory : ShelfValue → Type 0
-HasHistory s = (steps : List ShelfStep) × IsShelfHistory steps s × AreAt s.of s.place steps
+HasHistory s = (steps : List ShelfStep) × IsShelfHistory steps s
 
 -- the blocks that have passed, by their `sync`s
 abbrev pub passed_blocks : List ShelfStep → List ℕ
@@ -81,6 +80,9 @@ pub record ShelfLaws (steps : List ShelfStep) (s : ShelfValue) : Type 0 where
   -- at a block that has passed nothing is stolen and nothing arrives
   pub none_stolen : (q k a : ℕ) (new : ShelfValue) → Has (passed_blocks steps) q → Records s q k a new → ⊥
   pub none_arrives : (q : ℕ) (a : Arrival) (met : Met) (new : ShelfValue) → Has (passed_blocks steps) q → Arrives s q a met new → ⊥
+  -- a block has one box at most, and each box has a history
+  pub one_box : HasOneEach s.boxes
+  pub joined : All (HasSteps s.of s.replay) s.boxes
 
 abbrev pub BlocksPassOnce : Type 0
 BlocksPassOnce = (steps : List ShelfStep) (s : ShelfValue) → IsShelfHistory steps s → ShelfLaws steps s

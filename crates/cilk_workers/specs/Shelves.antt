@@ -61,6 +61,11 @@ ComesOut old k b new = (slice_get old k ≡ Some b) × (new ≡ take k old ++ dr
 abbrev pub HasNone : List BoxValue → ℕ → Type 0
 HasNone boxes sync = All (λ (b : BoxValue). b.sync ≢ sync) boxes
 
+-- each block has one of the boxes at most
+abbrev pub HasOneEach : List BoxValue → Type 0
+HasOneEach [] = Unit {0}
+HasOneEach (b ∷ boxes) = HasNone boxes b.sync × HasOneEach boxes
+
 -- The box of a block is taken off the shelf, if it is there. Otherwise it is a new box, and the
 -- shelf is unchanged.
 abbrev pub TakesOff : ShelfValue → ℕ → BoxValue → ShelfValue → Type 0

@@ -5,7 +5,7 @@
 
 ghost use Rattle.std.specs.Prelude.{nat_lt, if◌then◌else◌, Some, None, ◌≡◌, ◌<◌, ◌≤◌, ◌↔◌, IfOk, IfErr, OnOk, OnErr, IsTrue, true, false};
 ghost use Rattle.cilk_types.specs.declared.event.Event.TheVariants.{Sync};
-ghost use Rattle.cilk_tree.specs.Word.{event};
+ghost use Rattle.cilk_tree.specs.Word.{event, resume, word_step};
 ghost use Rattle.cilk_workers.specs.Rows.{FitsIn, IsGood, IsLowest, PiecesLieApart, parts_in, yard_of};
 ghost use Rattle.cilk_workers.specs.Boxes.{is_some, later, opening, BeginsByFirst, Comes, EndsAtKey, IsFresh, IsOpen, IsUnused, MayArrive, stolen_at, arrived_at};
 ghost use Rattle.cilk_workers.specs.Answers.{Answers, PassesWhole};
@@ -153,10 +153,11 @@ impl JoinBox {
         self.runs.is_whole() && self.runs.parts() == 0
     }
 
-    /// Records that a thief took the continuation of the child `key`, which continues at `goes_on`.
+    /// Records that a thief took the continuation of the child `key`, which resumes at `goes_on`.
     /// If memory runs out, nothing changes.
     pub fn record_steal(&mut self, key: Pos, goes_on: Pos) -> Result<(), AllocError>
-        requires { IsOpen self.old key goes_on }
+        requires may { IsOpen self.old key goes_on }
+        requires resumes { word_step self.old.rows.of.event_order goes_on ≡ resume key }
         ensures ok { OnOk result (self.new ≡ stolen_at self.old key goes_on) }
         ensures err { OnErr result (self.new ≡ self.old) }
     {

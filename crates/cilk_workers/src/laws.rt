@@ -24,7 +24,8 @@ pub fn passes_with_all()
 {}
 
 /// After every history of a shelf, each block has passed once at most. At a block that has passed
-/// nothing is stolen and nothing arrives.
+/// nothing is stolen and nothing arrives. A block has one box at most on it, and each box there has a
+/// history.
 pub fn blocks_pass_once()
     ensures { BlocksPassOnce }
 {}

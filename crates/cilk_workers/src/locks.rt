@@ -2,7 +2,7 @@
 
 ghost use Rattle.std.specs.Prelude.{◌≡◌, ◌%◌, ◌<◌, ◌≤◌, Some, IfOk, IfSome, OnErr, OnOk};
 ghost use Rattle.cilk_types.specs.declared.event.Event.TheVariants.{Sync};
-ghost use Rattle.cilk_workers.specs.Rows.{IsGood};
+ghost use Rattle.cilk_workers.specs.Rows.{FitsIn, IsGood, IsLowest};
 ghost use Rattle.cilk_workers.specs.Shelves.{HasPassed, HasRoom, IsSameShelf, LiesOn, TakesOff};
 ghost use Rattle.cilk_replay.specs.Chains.{standing};
 ghost use Rattle.cilk_workers.specs.Locks.{IsShelf};
@@ -10,7 +10,7 @@ ghost use Rattle.cilk_tree.specs.Columns.{IsFirstSpawn, IsOfBlock};
 ghost use Rattle.cilk_tree.specs.Word.{event, resume, word_step};
 ghost use Rattle.cilk_workers.specs.Shared.{IsNumberOf, event_order_in};
 ghost use Rattle.cilk_workers.specs.Activities.{IsMet, IsMetWhole};
-ghost use Rattle.cilk_workers.specs.Boxes.{EndsAtKey, is_some};
+ghost use Rattle.cilk_workers.specs.Boxes.{EndsAtKey, MayArrive, is_some};
 ghost use Rattle.cilk_workers.specs.Arrivals.{AnswersBy, HasArrived, HasRecorded, is_passing};
 ghost use Rattle.cilk_workers.specs.Keys.{AreKeys, IsFreeLike, IsKeyFor, Makes, MakesFor};
 ghost use Rattle.cilk_workers.specs.ShelfHistories.{ArrivesAt, StealsAt};
@@ -71,6 +71,20 @@ fn shelf_of(block: usize, shelves: usize) -> usize
 }
 
 impl<'a, 'b, N: Naming, R: Wait, G: Gate> WorkerContext<'a, 'b, N, R, G> {
+    // Waits forever unless a piece may arrive at this box and fits, where the block's first spawn is at
+    // `first`.
+    fn wait_unless_fits(&self, found: &JoinBox, first: Pos, arrival: &Arrival)
+        requires chain { IfSome arrival.now.chain (λ c. c ≡ standing found.now.replay arrival.now.piece.upto) }
+        ensures may { MayArrive found.now arrival.now.by arrival.now.piece arrival.now.chain }
+        ensures fits { FitsIn found.now.rows arrival.now.by arrival.now.piece }
+        ensures begins { arrival.now.piece.from ≤ arrival.now.by }
+        ensures first { IsLowest found.now.rows arrival.now.by → arrival.now.piece.from ≤ first }
+    {
+        if !found.fits(arrival.by, &arrival.piece, arrival.chain.is_some(), first) {
+            never(self.rt);
+        }
+    }
+
     // A piece arrives at this box of a block, whose first spawn is at `first`.
     fn arrive_at(&self, found: &mut JoinBox, first: Pos, arrival: Arrival) -> Met
         requires run { (found.old.rows.of ≡ self.now.shared.now.run) × (found.old.replay ≡ self.now.shared.now.replay) }
@@ -79,14 +93,14 @@ impl<'a, 'b, N: Naming, R: Wait, G: Gate> WorkerContext<'a, 'b, N, R, G> {
         requires chain { IfSome arrival.chain (λ c. c ≡ standing self.now.shared.now.replay arrival.piece.upto) }
         requires ends { EndsAtKey (event_order_in self.now.shared.now) arrival.by arrival.piece (is_some arrival.chain) }
         ensures met { IsMet self.now.shared.now result }
+        ensures may { MayArrive found.old arrival.by arrival.piece arrival.chain }
+        ensures fits { FitsIn found.old.rows arrival.by arrival.piece }
         ensures answers { AnswersBy found.old arrival result found.new }
         ensures whole { IsMetWhole (event_order_in self.now.shared.now) found.old.sync result }
         ensures same { (found.new.rows.of ≡ found.old.rows.of) × (found.new.replay ≡ found.old.replay) × (found.new.sync ≡ found.old.sync) }
     {
+        self.wait_unless_fits(found, first, &arrival);
         let Arrival { by, piece, chain } = arrival;
-        if !found.fits(by, &piece, chain.is_some(), first) {
-            never(self.rt);
-        }
         match found.arrive(self.alloc, self.shared.yard(), by, piece, chain) {
             Ok(Boxed::Waits) => Met::Waits,
             Ok(Boxed::Passes(piece, chain)) => Met::Passes(Work { piece, chain }),

@@ -1,21 +1,16 @@
-use Rattle.std.proofs.Common.{◌≡◌, false, true, sym, subst}
+use Rattle.std.proofs.Common.{sym, subst}
 use Rattle.cilk_workers.specs.Answers.{PassesWhole}
 use Rattle.cilk_workers.specs.Boxes.{HoldsBlock}
 use Rattle.cilk_tree.specs.Columns.{IsFirstSpawn}
 use Rattle.cilk_workers.specs.Rows.{RunValue}
 use Rattle.cilk_workers.proofs.Boxes.{by_first}
 use Rattle.cilk_workers.proofs.context.WorkerContext.arrive_at.Goals as goal
-use Rattle.cilk_workers.proofs.context.WorkerContext.arrive_at.Goals.{then-not-fits, else-not-fits}
 
 pub arrive-requires-clause-first : goal.arrive-requires-clause-first
-arrive-requires-clause-first g c =
+arrive-requires-clause-first g c = λ low.
     let found = c.args.found.now in
     let first = subst (λ (y : RunValue). IsFirstSpawn y.event_order found.sync c.args.first) (sym c.requires.run.0) c.requires.first in
-    elim c.if-not-fits.branch [
-      | then-not-fits w ↦ absurd (let no : false ≡ true = w.never.ensures in cc no)
-      | else-not-fits w ↦ λ low.
-          by_first found.rows.of.event_order found.sync c.args.first c.args.arrival.piece first ((c.fits.ensures.0 w.if-not-fits.false).3 low)
-    ]
+    by_first found.rows.of.event_order found.sync c.args.first c.args.arrival.piece first (c.wait_unless_fits.ensures.first low)
 
 pub returns-in-Ok-Passes-clause-whole : goal.returns-in-Ok-Passes-clause-whole
 returns-in-Ok-Passes-clause-whole g c =

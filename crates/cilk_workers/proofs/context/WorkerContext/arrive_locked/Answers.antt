@@ -11,7 +11,7 @@ unlock-requires-clause-back g c =
     let popped = c.lock-shelf.ensures.found in
     let step : ShelfStep = ArrivesAt c.args.block.sync c.args.arrival c.arrive_on-met.result in
     let its = keeps g.N.Naming.run c.args.self.now.shared.now.run key.0 c.lock-shelf.result c.args.block.number step c.requires.context.name.run popped.0.0 (popped.1 key.0 key.1.1) c.requires.number key.2 (c.requires.block, c.requires.ends) in
-    (c.lock-shelf.result, uses (view c.args.key.now), c.lock-shelf.ensures.key.1, (c.arrive_on-met.ensures.shelf, step, its, c.arrive_on-met.ensures.arrived))
+    (c.lock-shelf.result, uses (view c.args.key.now), c.lock-shelf.ensures.key.1, (step, (c.arrive_on-met.ensures.shelf, its, c.arrive_on-met.ensures.arrived)))
 
 pub returns-clause-key : goal.returns-clause-key
 returns-clause-key g c =
