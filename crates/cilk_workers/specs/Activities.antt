@@ -1,13 +1,18 @@
 -- The state of a worker between two turns, and the reasons why it ends.
-use Rattle.std.specs.Prelude.{◌≤◌, ℕ}
+use Rattle.std.specs.Prelude.{◌≡◌, ◌≤◌, ℕ, true, List}
+use Rattle.crossbeam_queue.specs.Passes.{Pass}
 use Rattle.cilk_workers.specs.Boxes.{HoldsBlock}
 use Rattle.cilk_workers.specs.Rows.{OfRun}
 use Rattle.cilk_tree.specs.Runs.{Departs}
+use Rattle.cilk_tree.specs.Word.{resume, word_step}
 use Rattle.cilk_tree.specs.declared.event_order.EventOrder.{EventOrder}
+use Rattle.cilk_workers.specs.Keys.{TellsSteal}
 use Rattle.cilk_workers.specs.Shared.{SharedValue, event_order_in}
 use Rattle.cilk_workers.specs.Turns.{Works, HasEnded}
+use Rattle.cilk_workers.specs.declared.lock.KeyState.{KeyState}
 use Rattle.cilk_workers.specs.declared.locks.Met.{Met}
 use Rattle.cilk_workers.specs.declared.locks.Met.TheVariants as mets
+use Rattle.cilk_workers.specs.declared.shelf.Shelf.{Shelf}
 use Rattle.cilk_workers.specs.declared.activity.ExitReason.{ExitReason}
 use Rattle.cilk_workers.specs.declared.activity.ExitReason.TheVariants as finishes
 use Rattle.cilk_workers.specs.declared.activity.Activity.{Activity}
@@ -25,6 +30,12 @@ abbrev pub IsActivity : SharedValue → Activity → Type 0
 IsActivity y (hands.Holds w) = Works y w
 IsActivity y (hands.Idle p) = OfRun y.run p × (p.upto ≤ p.from)
 IsActivity y (hands.Done f) = IsExitReason y f
+
+-- a thief that begins has told its block, and no other, of the steal
+abbrev pub HasTold : EventOrder → List (Pass Shelf KeyState) → Activity → List (Pass Shelf KeyState) → Type 0
+HasTold s keys (hands.Holds w) new = let p = w.piece in (k : ℕ) × (word_step s p.from ≡ resume k) × TellsSteal s k p.from keys true new
+HasTold s keys (hands.Idle p) new = Unit {0}
+HasTold s keys (hands.Done f) new = Unit {0}
 
 -- the outcome of an arrival: what passes is good work of the run
 abbrev pub IsMet : SharedValue → Met → Type 0

@@ -1,10 +1,13 @@
 -- A worker's keys, one for each shelf.
-use Rattle.std.specs.Prelude.{◌≡◌, ◌+◌, ◌%◌, ℕ, suc, List, [], ◌∷◌, Option, Some, length, slice_get, slice_index_or, slice_set}
+use Rattle.std.specs.Prelude.{◌≡◌, ◌+◌, ◌%◌, ℕ, suc, Bool, List, [], ◌∷◌, Option, Some, length, slice_get, slice_index_or, slice_set}
 use Rattle.crossbeam_queue.specs.declared.array_queue.Doing.{Doing}
 use Rattle.crossbeam_queue.specs.declared.array_queue.Slotted.{Slotted}
 use Rattle.crossbeam_queue.specs.Passes.{Pass, IsPassOf, view}
 use Rattle.cilk_workers.specs.Locks.{IsFreeAt, uses}
-use Rattle.cilk_workers.specs.ShelfHistories.{IsOneStep, LeadsBy, ShelfStep}
+use Rattle.cilk_tree.specs.Columns.{IsOfBlock}
+use Rattle.cilk_tree.specs.declared.event_order.EventOrder.{EventOrder}
+use Rattle.cilk_workers.specs.Shared.{IsNumberOf}
+use Rattle.cilk_workers.specs.ShelfHistories.{IsOneStep, LeadsBy, ShelfStep, StealsAt}
 use Rattle.cilk_workers.specs.Shelves.{IsPlaceOf, ShelfValue, place}
 use Rattle.cilk_workers.specs.declared.lock.KeyState.{KeyState}
 use Rattle.cilk_workers.specs.declared.lock.KeyState.TheVariants.{Holds, Free}
@@ -23,6 +26,11 @@ Makes p step q = (s back : Shelf) × (view q ≡ Free s back (suc (uses (view p)
 abbrev pub MakesFor : ℕ → List (Pass Shelf KeyState) → ShelfStep → List (Pass Shelf KeyState) → Type 0
 MakesFor b ps step new =
     let i = b % length ps in (p q : Pass Shelf KeyState) × (slice_get ps i ≡ Some p) × (new ≡ slice_set ps i q) × Makes p step q
+
+-- The steal of the continuation that resumes at a, after the spawn at k, was recorded at its block, or not if memory ran
+-- out. Nothing else was done with these keys.
+abbrev pub TellsSteal : EventOrder → ℕ → ℕ → List (Pass Shelf KeyState) → Bool → List (Pass Shelf KeyState) → Type 0
+TellsSteal s k a ps told new = (b q : ℕ) × IsNumberOf s b q × IsOfBlock s q a × MakesFor b ps (StealsAt q k a told) new
 
 module _ {Q A : Type 0} where
   -- the key is of the lock of the shelf at this place, and doesn't hold that

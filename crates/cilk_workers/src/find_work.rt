@@ -5,8 +5,8 @@ ghost use Rattle.cilk_tree.specs.Word.{resume, word_step};
 ghost use Rattle.cilk_workers.specs.Rows.{OfRun};
 ghost use Rattle.cilk_workers.specs.Held.{AreTaken};
 ghost use Rattle.cilk_workers.specs.Racks.{MayPick, Of};
-ghost use Rattle.cilk_workers.specs.Activities.{IsActivity};
-ghost use Rattle.cilk_workers.specs.Keys.{AreKeys};
+ghost use Rattle.cilk_workers.specs.Activities.{HasTold, IsActivity};
+ghost use Rattle.cilk_workers.specs.Keys.{AreKeys, TellsSteal};
 ghost use Rattle.cilk_workers.specs.Shared.{event_order_in};
 ghost use Rattle.cilk_workers.specs.WorkerContexts.{IsWorkerContext};
 
@@ -51,12 +51,13 @@ fn found<N: Naming>(rack: &mut Rack<N>, pickers: &mut Vec<Picker<N>>) -> Option<
 
 impl<'a, 'b, N: Naming, R: Wait, G: Gate> WorkerContext<'a, 'b, N, R, G> {
     // Records at its block the steal of the continuation of the spawn at `child`, which resumes at
-    // `at`. False if memory ran out.
+    // `at`, and nothing else. False if memory ran out.
     fn announce_steal(&self, keys: &mut Vec<Key>, child: Pos, at: Pos) -> bool
         requires context { IsWorkerContext N.run N.replay N.taken self.now }
         requires keys { AreKeys self.now.locks.now.items keys.old.items }
         requires resumes { word_step (event_order_in self.now.shared.now) at ≡ resume child }
-        ensures { AreKeys self.now.locks.now.items keys.new.items }
+        ensures keys { AreKeys self.now.locks.now.items keys.new.items }
+        ensures told { TellsSteal (event_order_in self.now.shared.now) child at keys.old.items result keys.new.items }
     {
         let Some(block) = self.shared.block_at(at) else {
             unreachable!()
@@ -65,13 +66,14 @@ impl<'a, 'b, N: Naming, R: Wait, G: Gate> WorkerContext<'a, 'b, N, R, G> {
     }
 
     /// Makes one turn of a worker without work: it takes its own newest task, or steals the oldest
-    /// of another. If it finds none, it ends once it sees that the run has ended.
+    /// of another, and tells its block. If it finds none, it ends once it sees that the run has ended.
     pub fn find_work(&self, tools: &mut Tools<N>, backoff: &Backoff, mut piece: Piece) -> Activity
         requires context { IsWorkerContext N.run N.replay N.taken self.now }
         requires keys { AreKeys self.now.locks.now.items tools.old.keys.items }
         requires piece { OfRun self.now.shared.now.run piece × (piece.upto ≤ piece.from) }
         ensures keys { AreKeys self.now.locks.now.items tools.new.keys.items }
         ensures hand { IsActivity self.now.shared.now result }
+        ensures told { HasTold (event_order_in self.now.shared.now) tools.old.keys.items result tools.new.keys.items }
     {
         let Some(task) = found(&mut tools.rack, &mut tools.pickers) else {
             if piece.ended(self.shared.yard()) {
