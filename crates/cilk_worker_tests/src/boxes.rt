@@ -84,13 +84,7 @@ fn resumes_at(shared: &Shared<'_>, key: Pos, at: Pos) -> bool
 }
 
 // A thief steals the continuation of a child's spawn.
-fn record_steal<R: Abort>(
-    rt: &R,
-    shared: &Shared<'_>,
-    found: &mut JoinBox,
-    key: Pos,
-    goes_on: Pos,
-)
+fn record_steal<R: Abort>(rt: &R, shared: &Shared<'_>, found: &mut JoinBox, key: Pos, goes_on: Pos)
     requires { found.old.rows.of ≡ shared.now.run }
     ensures { (found.new.rows.of ≡ found.old.rows.of) × (found.new.replay ≡ found.old.replay) }
 {
