@@ -24,10 +24,11 @@
 //! ```text
 //! let plan = plan(alloc, &accepted)?;
 //! let (yard, segment) = yard(alloc, &plan, &input)?;
-//! let replay = replay(alloc, &plan, &yard, input)?;
+//! let replay = replay(&plan, &yard, &input);
 //! ```
 #![tactic(auto)]
 
+pub mod entries;
 pub mod laws;
 pub mod planning;
 pub mod program_plan;

@@ -344,12 +344,12 @@ inner_entry None a other q = absurd (let z : None ≡ Some a = q in cc z)
 inner_entry (Some b) a other q = cc q
 
 -- where a course's list has a frame
-pub lies_at : (u v : ReplayValue) (entries there : List FrameEntry) (number place : ℕ) (other found : FrameEntry) → u ≡ v → there ≡ entries → AreEntriesOf u entries → place ≡ number - 1
-    → found ≡ unwrap_or (slice_get there place) other → IsEntryOf v number found
-lies_at u v entries there number place other found same list are at is run path b callee prog frame runs q =
+pub lies_at : (u v : ReplayValue) (entries : List FrameEntry) (number place : ℕ) (other found : FrameEntry) → u ≡ v → AreEntriesOf u entries → place ≡ number - 1
+    → found ≡ unwrap_or (slice_get entries place) other → IsEntryOf v number found
+lies_at u v entries number place other found same are at is run path b callee prog frame runs q =
     let here = subst (λ (z : ReplayValue). AreEntriesOf z entries) same are run prog path b callee frame runs in
     let spot : place ≡ b.number - 1 = omega (arith, at, q) in
-    is ∙ inner_entry (slice_get there place) (entry_of (source v.program) callee b) other (ap (λ l. slice_get l place) list ∙ ap (slice_get entries) spot ∙ here)
+    is ∙ inner_entry (slice_get entries place) (entry_of (source v.program) callee b) other (ap (slice_get entries) spot ∙ here)
 
 -- the frame there
 pub block_in : (u : ReplayValue) (number : ℕ) (entry : FrameEntry) → IsEntryOf u number entry → IsBlockOf u number entry.block

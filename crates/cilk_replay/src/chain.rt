@@ -8,7 +8,7 @@ ghost use Rattle.cilk_replay.specs.Chains.{standing, task_of};
 use crate::child::{body_asked, body_matches};
 use crate::plan_match::PlanMatch;
 use crate::reducer::{reducer_asked, reducer_matches};
-use crate::replay::Replay;
+use crate::replay::{Replay, ReplayModel};
 use crate::replay_frame::{ReplayFrame, go_on};
 use crate::sight::{cell_asked, cell_matches};
 use crate::sort::{asked_sort, kind_sort};
@@ -24,7 +24,7 @@ use std::snapshot::Snapshot;
 
 /// A frame that has requested an event, and its callers up to the nearest frame that was spawned.
 pub struct Chain {
-    of: Snapshot<Replay>,
+    of: Snapshot<ReplayModel>,
     at: Pos,
     asked: AskSlot,
     top: Box<ReplayFrame>,
@@ -61,7 +61,7 @@ impl Model for Chain {
 /// nearest frame that was spawned.
 #[derive(Drop)]
 pub struct Rest {
-    of: Snapshot<Replay>,
+    of: Snapshot<ReplayModel>,
     at: Pos,
     top: Box<ReplayFrame>,
     below: Vec<ReplayFrame>,
@@ -96,7 +96,7 @@ impl Chain {
         let replay_frame = ReplayFrame::root(alloc, replay, replay.root())?;
         let top = Box::new(alloc, replay_frame)?;
         Ok(Chain {
-            of: Snapshot::of(replay),
+            of: replay.snapshot(),
             at: 1,
             asked: AskSlot::new(),
             top,
@@ -204,7 +204,7 @@ impl Chain {
         let replay_frame = ReplayFrame::begun(alloc, operands, replay, &self.asked, layout, sight)?;
         let child = Box::new(alloc, replay_frame)?;
         let rest = Rest {
-            of: Snapshot::of(replay),
+            of: replay.snapshot(),
             at: next,
             top: mem::replace(&mut self.top, child),
             below: mem::replace(&mut self.below, Vec::new(alloc)),

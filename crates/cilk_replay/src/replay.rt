@@ -23,53 +23,70 @@ pub struct FrameEntry {
     pub block: CellBlock,
 }
 
-/// The code of a program and an input for it, along the plan of one of the program's runs; and for
-/// each frame of that run its body and its cells.
-pub struct Replay {
+/// A replay as contracts see it: its event order, program, code and inputs. It has no bytes.
+#[derive(Drop)]
+pub struct ReplayModel {
     yard: Snapshot<Yard>,
     program: Snapshot<Program>,
+    code: Snapshot<Code>,
     own: Snapshot<Input>,
-    code: Code,
-    input: Input,
-    globals: usize,
-    reducers: u32,
-    entries: Vec<FrameEntry>,
+    input: Snapshot<Input>,
 }
 
-// A function of its own, so that a proof follows one call where a replay is dropped.
-impl Drop for Replay {
-    fn drop(self) {
-        let Replay {
-            yard: _yard,
-            program: _program,
-            own: _own,
-            code: _code,
-            input: _input,
-            globals: _,
-            reducers: _,
-            entries: _entries,
-        } = self;
-    }
-}
-
-impl Model for Replay {
-    ghost use Rattle.std.specs.Prelude.{◌≡◌, length};
-    ghost use Rattle.cilk_program.specs.Sources.{source};
-    ghost use Rattle.cilk_replay.specs.Replays.{AreEntriesOf, ReplayValue, IsReplay, replay_code, replay_with};
+impl Model for ReplayModel {
+    ghost use Rattle.cilk_replay.specs.Replays.{ReplayValue, replay_code, replay_with};
 
     ghost Value = { ReplayValue };
 
     ghost coded = { replay_code };
 
-    ghost view = { λ c. replay_with c.yard.value c.program.value c.code c.own.value c.input };
-
-    ghost invariant = { λ c. IsReplay (replay_with c.yard.value c.program.value c.code c.own.value c.input)
-        × (c.globals ≡ (let p = source c.program.value in length p.openings))
-        × (c.reducers ≡ (let p = source c.program.value in length p.reducers))
-        × AreEntriesOf (replay_with c.yard.value c.program.value c.code c.own.value c.input) c.entries.items };
+    ghost view = { λ c. replay_with c.yard.value c.program.value c.code.value c.own.value c.input.value };
 }
 
-impl Replay {
+impl ReplayModel {
+    fn of(yard: &Yard, program: &Program, code: &Code, own: &Input, input: &Input) -> ReplayModel
+        ensures { result ≡ replay_with yard.now program.now code.now own.now input.now }
+    {
+        ReplayModel {
+            yard: Snapshot::of(yard),
+            program: Snapshot::of(program),
+            code: Snapshot::of(code),
+            own: Snapshot::of(own),
+            input: Snapshot::of(input),
+        }
+    }
+}
+
+/// The code of a program and an input for it, along the plan of one of the program's runs; and for
+/// each frame of that run its body and its cells.
+#[derive(Drop)]
+pub struct Replay<'p> {
+    model: ReplayModel,
+    code: &'p Code,
+    input: &'p Input,
+    globals: usize,
+    reducers: u32,
+    entries: &'p [FrameEntry],
+}
+
+impl<'p> Model for Replay<'p> {
+    ghost use Rattle.std.specs.Prelude.{◌≡◌, length};
+    ghost use Rattle.cilk_program.specs.Sources.{source};
+    ghost use Rattle.cilk_replay.specs.Replays.{AreEntriesOf, ReplayValue, IsReplay, replay_code};
+
+    ghost Value = { ReplayValue };
+
+    ghost coded = { replay_code };
+
+    ghost view = { λ c. c.model };
+
+    ghost invariant = { λ c. IsReplay c.model × (c.code.now ≡ c.model.code) × (c.input.now ≡ c.model.inputs)
+        × (c.globals ≡ (let p = source c.model.program in length p.openings))
+        × (c.reducers ≡ (let p = source c.model.program in length p.reducers))
+        × AreEntriesOf c.model c.entries.now };
+}
+
+impl<'p> Replay<'p> {
     /// Creates the replay of a program on `input`, along the plan of its serial run on `own`. The
     /// event order of `yard` is that plan as the program makes it on `input`. `entries` has each
     /// frame of that run, by number.
@@ -77,24 +94,29 @@ impl Replay {
         yard: &Yard,
         program: &Program,
         own: &Input,
-        code: Code,
-        input: Input,
-        entries: Vec<FrameEntry>,
-    ) -> Replay
-        requires replay { IsReplay (replay_with yard.now program.now code own.now input) }
-        requires entries { AreEntriesOf (replay_with yard.now program.now code own.now input) entries.items }
-        ensures { result ≡ replay_with yard.now program.now code own.now input }
+        code: &'p Code,
+        input: &'p Input,
+        entries: &'p [FrameEntry],
+    ) -> Replay<'p>
+        requires replay { IsReplay (replay_with yard.now program.now code.now own.now input.now) }
+        requires entries { AreEntriesOf (replay_with yard.now program.now code.now own.now input.now) entries.now }
+        ensures { result ≡ replay_with yard.now program.now code.now own.now input.now }
     {
         Replay {
-            yard: Snapshot::of(yard),
-            program: Snapshot::of(program),
-            own: Snapshot::of(own),
+            model: ReplayModel::of(yard, program, code, own, input),
             code,
             input,
             globals: program.globals.len(),
             reducers: program.reducers.len() as u32,
             entries,
         }
+    }
+
+    /// Returns the replay as contracts see it.
+    pub fn snapshot(&self) -> Snapshot<ReplayModel>
+        ensures { result.value ≡ self.now }
+    {
+        Snapshot::of(&self.model)
     }
 
     /// Returns the number of global cells.
@@ -155,28 +177,28 @@ impl Replay {
             body: Body::Function(0),
             block: CellBlock { first: 0, cells: 0 },
         };
-        entry_at(&self.entries, frame.saturating_sub(1), none)
+        entry_at(self.entries, frame.saturating_sub(1), none)
     }
 
     /// Returns the program's code.
     pub fn code(&self) -> &Code
         ensures { result.now ≡ self.now.code }
     {
-        &self.code
+        self.code
     }
 
     /// Returns the current input.
     pub fn input(&self) -> &Input
         ensures { result.now ≡ self.now.inputs }
     {
-        &self.input
+        self.input
     }
 
     /// States the invariant of a replay.
     pub fn laws(&self)
         ensures { IsReplay self.now }
     {
-        let _input = self.input.count();
+        let _code = self.code;
     }
 
     /// States that a frame that requests a spawn requests the `resume` after it: the run doesn't

@@ -1,5 +1,6 @@
 -- The values that may be sent to another thread.
 use denote.Param.Send.{IsSend, IsSync, sendable}
+use denote.Ref.{NamedLft}
 use Rattle.std.proofs.Crossing.{crosses}
 use Rattle.cilk_hypermap.proofs.hypermap.Hypermap.TheSendSync as hypermap
 use Rattle.cilk_shared.proofs.yard.Segment.TheSendSync as segment
@@ -12,6 +13,7 @@ use Rattle.cilk_types.proofs.input.Input.TheSendSync as input
 use Rattle.cilk_shared.specs.contracts.piece.Piece as Piece
 use Rattle.cilk_tree.specs.contracts.plan.Plan as Plan
 use Rattle.cilk_replay.specs.contracts.replay.Replay as Replay
+use Rattle.cilk_replay.specs.contracts.replay.ReplayModel as ReplayModel
 use Rattle.cilk_replay.specs.contracts.chain.Chain as Chain
 use Rattle.cilk_replay.specs.contracts.chain.Rest as Rest
 use Rattle.cilk_replay.specs.contracts.chain.Task as Task
@@ -43,5 +45,8 @@ shelf_send = search (box_send, sendable, crosses) depth 20
 pub plan_sync : IsSync Plan.the_row
 plan_sync = search (kind.the_field_sync, sendable, crosses) depth 20
 
-pub replay_sync : IsSync Replay.the_row
-replay_sync = search (code.the_sync, input.the_sync, entry.the_field_sync, sendable, crosses) depth 20
+model_sync : IsSync ReplayModel.the_row
+model_sync = search (sendable, crosses) depth 20
+
+pub replay_sync : (κ : NamedLft) → IsSync (Replay.the_row κ)
+replay_sync κ = search (model_sync, code.the_sync, input.the_sync, entry.the_sync, sendable, crosses) depth 20

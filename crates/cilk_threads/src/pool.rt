@@ -1,6 +1,6 @@
 //! A pool of workers, each in a thread of its own.
 
-ghost use Rattle.std.specs.Prelude.{◌≡◌, ◌≤◌, All, Some, length, IfOk, IfSome};
+ghost use Rattle.std.specs.Prelude.{◌≡◌, ◌≤◌, ◌+◌, All, Some, length, vec_len, IfOk, IfSome};
 ghost use Rattle.std.specs.Thread.{IsSend, IsSync};
 ghost use Rattle.cilk_workers.specs.Turns.{Works};
 ghost use Rattle.cilk_workers.specs.Activities.{IsExitReason};
@@ -149,6 +149,7 @@ fn last_seed<N: Naming>(
     requires { All (IsWorkerSeed shared.now locks.now.items) seeds.old.items }
     ensures rest { All (IsWorkerSeed shared.now locks.now.items) seeds.new.items }
     ensures one { IfSome result (IsWorkerSeed shared.now locks.now.items) }
+    ensures fewer { IfSome result (λ _. vec_len seeds.new + 1 ≡ vec_len seeds.old) }
 {
     let _ = shared;
     let _ = locks;
@@ -206,8 +207,7 @@ fn pool<'a, 'b, N: Naming + Send + Sync, R: Threads + Wait + Sync, G: Gate + Syn
                     stop.store(true, Ordering::SeqCst);
                     return Err(AllocError);
                 };
-                // The vector has room for each handle.
-                handles.push(handle)?;
+                handles.push_reserved(handle);
             }
             Ok(joined(rt, shared, handles))
         },

@@ -1,7 +1,6 @@
 //! A run of an accepted program by several workers, on an input.
 
 ghost use Rattle.std.specs.Prelude.{◌≡◌, IfOk, IfErr};
-ghost use Rattle.cilk_plan.specs.Replays.{IsReplayOn};
 ghost use Rattle.cilk_shared.specs.Reducers.{HasFew};
 ghost use Rattle.cilk_tree.specs.Along.{IsAlong};
 ghost use Rattle.cilk_plan.specs.Plans.{IsEventOrderOn};
@@ -22,13 +21,11 @@ use cilk_plan::yards::yard;
 use cilk_replay::laws::{
     inputs_run_along, own_event_order, programs_have_one_course, runs_are_elided,
 };
-use cilk_replay::replay::Replay;
 use cilk_shared::piece::Piece;
 use cilk_shared::reducers::Reducers;
 use cilk_shared::yard::{Segment, Yard};
 use cilk_types::input::Input;
 use cilk_types::outcome::Outcome;
-use cilk_types::word_list::WordList;
 use cilk_workers::columns::Columns;
 use cilk_workers::gate::Gate;
 use cilk_workers::shared::Shared;
@@ -116,9 +113,7 @@ fn run_on<R: Threads + Wait + Sync, G: Gate + Sync>(
     accepted_event_orders_have_numbers();
     inputs_are_words(input);
     plan.laws();
-    let Ok(replay) = replay_on(alloc, plan, yard, input) else {
-        return Err(ThreadFault::Memory);
-    };
+    let replay = replay(plan, yard, input);
     let blocks = plan.blocks();
     let columns = Columns {
         syncs: plan.syncs(),
@@ -126,38 +121,12 @@ fn run_on<R: Threads + Wait + Sync, G: Gate + Sync>(
         blocks,
         strands: plan.strands(),
     };
-    let shared = Shared::new(yard, plan.events(), table, &replay, columns);
+    let shared = Shared::new(yard, plan.events(), table, replay, columns);
     let piece = Piece::new(alloc, yard, segment, table);
     let Ok(work) = first(alloc, &shared, piece) else {
         return Err(ThreadFault::Memory);
     };
     run(rt, alloc, &shared, gate, work, workers)
-}
-
-// The replay of the plan's run on the input.
-fn replay_on(
-    alloc: Global,
-    plan: &ProgramPlan<'_>,
-    yard: &Yard,
-    input: &Input,
-) -> Result<Replay, AllocError>
-    requires { IsEventOrderOn plan.now.run plan.now.event_order.opening input.now yard.now.event_order }
-    ensures { IfOk result (λ c. IsReplayOn plan.now.run yard.now input.now c) }
-{
-    let same = copied(alloc, input)?;
-    replay(alloc, plan, yard, same)
-}
-
-// A copy of the input.
-fn copied(alloc: Global, input: &Input) -> Result<Input, AllocError>
-    ensures { IfOk result (λ same. same ≡ input.now) }
-{
-    let given = input.as_slice();
-    let mut numbers = WordList::new(alloc);
-    'each: for number in given {
-        numbers.push(*number)?;
-    }
-    Ok(Input::new(numbers))
 }
 
 // The outcome, from the piece of the whole run.

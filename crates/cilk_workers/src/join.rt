@@ -14,7 +14,7 @@ ghost use Rattle.cilk_workers.specs.Shared.{event_order_in};
 use crate::runs::Runs;
 use crate::shared::Shared;
 use cilk_replay::chain::Chain;
-use cilk_replay::replay::Replay;
+use cilk_replay::replay::ReplayModel;
 use cilk_shared::piece::Piece;
 use cilk_shared::yard::Yard;
 use cilk_types::event::Pos;
@@ -38,7 +38,7 @@ pub enum Boxed {
 /// first spawn, and that the chain, once the block's own piece has come, is at the sync.
 #[derive(Drop)]
 pub struct JoinBox {
-    replay: Snapshot<Replay>,
+    replay: Snapshot<ReplayModel>,
     sync: Pos,
     runs: Runs,
     stolen: Pos,
@@ -89,7 +89,7 @@ impl JoinBox {
         ensures { result ≡ opening shared.now.run shared.now.replay sync }
     {
         JoinBox {
-            replay: Snapshot::of(shared.replay()),
+            replay: shared.replay().snapshot(),
             sync,
             runs: Runs::new(alloc, shared),
             stolen: 0,

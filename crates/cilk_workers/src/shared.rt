@@ -33,7 +33,7 @@ pub struct Shared<'a> {
     yard: &'a Yard,
     plan: &'a Plan,
     reducers: &'a Reducers,
-    replay: &'a Replay,
+    replay: Replay<'a>,
     columns: Columns<'a>,
 }
 
@@ -50,9 +50,9 @@ impl<'a> Model for Shared<'a> {
 
     ghost coded = { Prim.hlevel (codes, replay_code) };
 
-    ghost view = { λ c. shared_with c.yard.now c.reducers.now c.replay.now };
+    ghost view = { λ c. shared_with c.yard.now c.reducers.now c.replay };
 
-    ghost invariant = { λ c. IsAlong c.plan.now c.yard.now.event_order × HasFew c.reducers.now × (c.replay.now.yard ≡ c.yard.now)
+    ghost invariant = { λ c. IsAlong c.plan.now c.yard.now.event_order × HasFew c.reducers.now × (c.replay.yard ≡ c.yard.now)
         × HasCells c.yard.now.event_order × HasNumbers c.yard.now.event_order c.reducers.now
         × AreColumns c.yard.now.event_order c.columns.syncs.now c.columns.firsts.now c.columns.blocks.now c.columns.strands.now };
 }
@@ -64,16 +64,16 @@ impl<'a> Shared<'a> {
         yard: &'a Yard,
         plan: &'a Plan,
         reducers: &'a Reducers,
-        replay: &'a Replay,
+        replay: Replay<'a>,
         columns: Columns<'a>,
     ) -> Shared<'a>
         requires along { IsAlong plan.now yard.now.event_order }
         requires few { HasFew reducers.now }
         requires cells { HasCells yard.now.event_order }
         requires numbers { HasNumbers yard.now.event_order reducers.now }
-        requires replay { replay.now.yard ≡ yard.now }
+        requires replay { replay.yard ≡ yard.now }
         requires columns { AreColumns yard.now.event_order columns.syncs.now columns.firsts.now columns.blocks.now columns.strands.now }
-        ensures { result ≡ shared_with yard.now reducers.now replay.now }
+        ensures { result ≡ shared_with yard.now reducers.now replay.entry }
     {
         Shared {
             yard,
@@ -122,11 +122,11 @@ impl<'a> Shared<'a> {
     }
 
     /// Returns the run's replay.
-    pub fn replay(&self) -> &Replay
+    pub fn replay(&self) -> &Replay<'a>
         ensures replay { result.now ≡ self.now.replay }
         ensures yard { self.now.replay.yard ≡ yard_of self.now.run }
     {
-        self.replay
+        &self.replay
     }
 
     /// Returns the kind and frame of the event at a position, or `Nothing` if there is no event.

@@ -11,7 +11,7 @@ ghost use Rattle.cilk_workers.specs.Shelves.{ComesOut, HasNone, HasPassed, HasRo
 
 use crate::join::JoinBox;
 use crate::shared::Shared;
-use cilk_replay::replay::Replay;
+use cilk_replay::replay::ReplayModel;
 use cilk_shared::reducers::Reducers;
 use cilk_shared::yard::Yard;
 use cilk_types::event::Pos;
@@ -36,7 +36,7 @@ pub struct Place {
 pub struct Shelf {
     of: Snapshot<Yard>,
     reducers: Snapshot<Reducers>,
-    replay: Snapshot<Replay>,
+    replay: Snapshot<ReplayModel>,
     place: Snapshot<Place>,
     boxes: Vec<JoinBox>,
     passed: Vec<Pos>,
@@ -104,7 +104,7 @@ impl Shelf {
         Shelf {
             of: Snapshot::of(shared.yard()),
             reducers: Snapshot::of(shared.reducers()),
-            replay: Snapshot::of(shared.replay()),
+            replay: shared.replay().snapshot(),
             place: Snapshot::of(&place),
             boxes: Vec::new(alloc),
             passed: Vec::new(alloc),

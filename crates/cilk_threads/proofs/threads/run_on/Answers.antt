@@ -56,8 +56,8 @@ pub returns-clause-ok : goal.returns-clause-ok
 returns-clause-ok g c =
     IfOk-weaker c.run.result _ _
     (λ r h.
-    whole_of c.args.start.yard.now c.args.start.table.now c.in-Ok.replay (source c.args.plan.now.run.program) (let a = c.args.plan.now.run in a.input) c.args.input.now c.new-shared.result r.0 r.1 c.new-shared.ensures
-    (ap source c.in-Ok.ensures.program) c.in-Ok.ensures.own c.in-Ok.ensures.inputs h.0)
+    whole_of c.args.start.yard.now c.args.start.table.now c.replay-replay.result (source c.args.plan.now.run.program) (let a = c.args.plan.now.run in a.input) c.args.input.now c.new-shared.result r.0 r.1 c.new-shared.ensures
+    (ap source c.replay-replay.ensures.program) c.replay-replay.ensures.own c.replay-replay.ensures.inputs h.0)
     c.run.ensures.ok
 
 pub returns-clause-err : goal.returns-clause-err

@@ -9,7 +9,7 @@ use Rattle.cilk_replay.proofs.chain.Chain.root.Goals as goal
 
 pub invariant_of-result : goal.invariant_of-result
 invariant_of-result c =
-    subst (λ (u : ReplayValue). Stand u 1 c.new-2.result c.in_ok-top.top.value c.new-3.result.items) (sym c.of.ensures)
+    subst (λ (u : ReplayValue). Stand u 1 c.new-2.result c.in_ok-top.top.value c.new-3.result.items) (sym c.snapshot.ensures)
     (subst (λ (k : Ask). Stand c.args.replay.now 1 k c.in_ok-top.top.value c.new-3.result.items) (sym c.new-2.ensures)
     (subst (λ (xs : List ReplayFrame). Stand c.args.replay.now 1 Begin c.in_ok-top.top.value xs) (sym c.new-3.ensures.items)
     (subst (λ (l : ReplayFrame). Stand c.args.replay.now 1 Begin l []) (sym c.in_ok-top.ensures.ok)

@@ -47,9 +47,9 @@ invariant_of-self-2 c =
 pub invariant_of-rest : goal.invariant_of-rest
 invariant_of-rest c =
     let same = ap (λ (v : ChainValue). v.of) c.self.view_is ∙ sym c.requires.replay in
-    subst (λ (l : ReplayFrame). Rest c.of.result.value c.args.next l c.replace-2.result.items) (sym (ap (λ (b : Box ReplayFrame Global). b.value) c.replace.ensures.value))
-    (subst (λ (xs : List ReplayFrame). Rest c.of.result.value c.args.next c.self.inside.top.value xs) (sym (ap (λ v. v.items) c.replace-2.ensures.value))
-    (subst (λ (u : ReplayValue). Rest u c.args.next c.self.inside.top.value c.self.inside.below.items) (same ∙ sym c.of.ensures)
+    subst (λ (l : ReplayFrame). Rest c.snapshot.result.value c.args.next l c.replace-2.result.items) (sym (ap (λ (b : Box ReplayFrame Global). b.value) c.replace.ensures.value))
+    (subst (λ (xs : List ReplayFrame). Rest c.snapshot.result.value c.args.next c.self.inside.top.value xs) (sym (ap (λ v. v.items) c.replace-2.ensures.value))
+    (subst (λ (u : ReplayValue). Rest u c.args.next c.self.inside.top.value c.self.inside.below.items) (same ∙ sym c.snapshot.ensures)
     (along.spawned_parent c.self.inside.of.value c.args.replay.now same c.self.inside.at c.self.inside.asked c.self.inside.top.value c.self.inside.below.items c.self.invariant c.in_ok-replay_frame.replay_frame c.args.next (along.of_chain (λ s at. Spawns s at c.args.next) c.self.inside.of.value c.self.inside.at _ c.self.view_is c.requires.spawns)
     (record {
       number = c.args.frame;

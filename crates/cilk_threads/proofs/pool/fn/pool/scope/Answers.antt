@@ -1,4 +1,4 @@
-use Rattle.std.proofs.Common.{◌≡◌, ap}
+use Rattle.std.proofs.Common.{◌≡◌, ap, arith}
 use denote.Param.Send.{sendable}
 use Rattle.std.proofs.Crossing.{crosses}
 use Rattle.std.proofs.sync.atomic.AtomicBool.TheSendSync as flag
@@ -29,4 +29,16 @@ spawn_with-started-requires-send-F g c κs within =
 
 pub each-preserved : goal.each-preserved
 each-preserved g c =
-    (c.last_seed.ensures.rest, more (λ h. h.promise.shared.now ≡ c.captures.shared.now) _ _ _ c.in_ok-push.ensures.items c.each.invariant.1 (ap (λ (p : Ends). p.shared.now) c.in-Ok.ensures.ok))
+    let pushed = c.push_reserved.ensures in (
+      c.last_seed.ensures.rest,
+      more (λ h. h.promise.shared.now ≡ c.captures.shared.now) _ _ _ pushed.items c.each.invariant.1 (ap (λ (p : Ends). p.shared.now) c.in-Ok.ensures.ok),
+      (let fewer = c.in-Some.ensures.fewer in
+          let room = c.each.invariant.2 in
+          omega (arith, fewer, room, pushed.len, pushed.capacity)),
+    )
+
+pub push_reserved-requires : goal.push_reserved-requires
+push_reserved-requires g c =
+    let fewer = c.in-Some.ensures.fewer in
+    let room = c.each.invariant.2 in
+    omega (arith, fewer, room)
