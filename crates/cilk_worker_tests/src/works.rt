@@ -48,12 +48,12 @@ fn tried_on<R: Abort>(
     rt: &R,
     alloc: Global,
     plan: &ProgramPlan<'_>,
-    input: Input,
+    input: &Input,
     start: Start<'_>,
     trial: Trial,
 )
     requires table { IsTableOf plan.now.run start.table.now × HasFew start.table.now }
-    requires event_order { IsEventOrderOn plan.now.run plan.now.event_order.opening input start.yard.now.event_order }
+    requires event_order { IsEventOrderOn plan.now.run plan.now.event_order.opening input.now start.yard.now.event_order }
     requires along { IsAlong plan.now.event_order start.yard.now.event_order }
     requires segment { OfYard start.yard.now start.segment × (start.segment.from ≡ 1) × (start.segment.upto ≡ 2) }
 {
@@ -63,11 +63,9 @@ fn tried_on<R: Abort>(
         segment,
     } = start;
     accepted_event_orders_have_numbers();
-    inputs_are_words(&input);
+    inputs_are_words(input);
     plan.laws();
-    let Ok(replay) = replay(alloc, plan, yard, input) else {
-        panic!(rt; "no memory for the replay");
-    };
+    let replay = replay(plan, yard, input);
     let blocks = plan.blocks();
     let columns = Columns {
         syncs: plan.syncs(),
@@ -75,7 +73,7 @@ fn tried_on<R: Abort>(
         blocks,
         strands: plan.strands(),
     };
-    let shared = Shared::new(yard, plan.events(), table, &replay, columns);
+    let shared = Shared::new(yard, plan.events(), table, replay, columns);
     let piece = Piece::new(alloc, yard, segment, table);
     let Ok(work) = first(alloc, &shared, piece) else {
         panic!(rt; "no memory for a frame");
@@ -102,5 +100,5 @@ pub fn tried<R: Abort>(rt: &R, alloc: Global, text: &str, trial: Trial) {
         table: &table,
         segment,
     };
-    tried_on(rt, alloc, &plan, input, start, trial);
+    tried_on(rt, alloc, &plan, &input, start, trial);
 }

@@ -19,7 +19,7 @@ new-shared-requires-clause-cells g c = cells_along c.args.plan.now.run c.args.pl
 pub new-shared-requires-clause-numbers : goal.new-shared-requires-clause-numbers
 new-shared-requires-clause-numbers g c =
     let w = c.args.plan.now in
-    c.accepted_event_orders_have_numbers.ensures w.run c.args.plan.now.event_order.opening c.args.input c.args.start.yard.now.event_order c.args.start.table.now c.laws.ensures.determinate c.requires.table.0 c.inputs_are_words.ensures c.requires.event_order
+    c.accepted_event_orders_have_numbers.ensures w.run c.args.plan.now.event_order.opening c.args.input.now c.args.start.yard.now.event_order c.args.start.table.now c.laws.ensures.determinate c.requires.table.0 c.inputs_are_words.ensures c.requires.event_order
 
 pub new-piece-requires-clause-settled : goal.new-piece-requires-clause-settled
 new-piece-requires-clause-settled g c =
