@@ -121,6 +121,7 @@ impl Chain {
     }
 
     /// Returns whether the frame requests the plan's event at its position, which is of this kind.
+    #[inline(always)]
     pub fn matches_plan(&self, replay: &Replay, kind: Kind) -> PlanMatch
         requires replay { replay.now ≡ self.now.of }
         requires kind { kind_of_event (event self.now.of.yard.event_order self.now.at) ≡ Some kind }

@@ -61,7 +61,8 @@ fn resumed(shared: &Shared<'_>, work: &mut Work) -> Turn
     }
 }
 
-// An event that isn't the run's last.
+// An event that isn't the run's last. Inlined: it is made for each event.
+#[inline(always)]
 fn made(alloc: Global, shared: &Shared<'_>, work: &mut Work, frame: FrameNo, kind: Kind) -> Turn
     requires due { IsDue shared.now work.old kind }
     requires more { HasMore shared.now work.old }
