@@ -46,7 +46,7 @@ freed New back = Free back back 1
 freed (Holds s n) back = Free s back (suc n)
 freed (Free s _ n) back = Free s back (suc n)
 
--- a key of which another was made
+-- a key, after another was made of it
 abbrev pub copied : KeyState → KeyState
 copied New = New
 copied (Holds s n) = Holds s (suc n)
