@@ -1,6 +1,6 @@
 -- Words about the tool request exactly one thing.
 --
--- - `one_request`: one of five holds of words about the tool, and none of others.
+-- - `one_request`: one of six holds of words about the tool, and none of others.
 use Rattle.std.proofs.Common.{◌≡◌, Bool, true, false, not, ◌&&◌, ◌||◌, cond, count_by, List, [], ◌∷◌, codes, bytes_eq, refl, ap, ◌∙◌, inl, inr}
 use Rattle.std.proofs.lemmas.Bool.{and_left, and_parts, and_right, both_ways, false_from_ne_true, not-true, or_cases, or_from, true≢false}
 use Rattle.std.proofs.lemmas.Slice.Eq.{bytes_eq-Decides}
@@ -51,7 +51,7 @@ explained_is_no_help word other is =
     (and_right _ _ (false_from_ne_true (is_help other) (λ help. both_ways (is_option other) (not-true _ parts.1) (help_is_option other help))))
 
 alone : (version help explain : Bool) → (version ≡ true → help ≡ false) → (version ≡ true → explain ≡ false) → (help ≡ true → explain ≡ false)
-    → count_by (λ asked. asked) (version ∷ help ∷ false ∷ explain ∷ false ∷ []) ≡ cond (version || (help || explain)) 1 0
+    → count_by (λ asked. asked) (version ∷ help ∷ false ∷ explain ∷ false ∷ false ∷ []) ≡ cond (version || (help || explain)) 1 0
 alone true true explain p q r = absurd (true≢false (p refl))
 alone true false true p q r = absurd (true≢false (q refl))
 alone true false false p q r = refl
@@ -61,14 +61,14 @@ alone false false true p q r = refl
 alone false false false p q r = refl
 
 pair : (explained help spells : Bool) → (explained ≡ true → help ≡ false)
-    → count_by (λ asked. asked) (false ∷ false ∷ help ∷ (explained && spells) ∷ (explained && not spells) ∷ []) ≡ cond (explained || help) 1 0
+    → count_by (λ asked. asked) (false ∷ false ∷ help ∷ false ∷ (explained && spells) ∷ (explained && not spells) ∷ []) ≡ cond (explained || help) 1 0
 pair true true spells p = absurd (true≢false (p refl))
 pair true false true p = refl
 pair true false false p = refl
 pair false true spells p = refl
 pair false false spells p = refl
 
--- one of five holds of words about the tool, and none of others
+-- one of six holds of words about the tool, and none of others
 pub one_request : (words : List Text) → count_by (λ asked. asked) (requests words) ≡ cond (is_about words) 1 0
 one_request [] = refl
 one_request (word ∷ []) =

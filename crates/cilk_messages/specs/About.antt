@@ -1,5 +1,5 @@
 -- Command lines about the tool itself.
-use Rattle.std.specs.Prelude.{◌≡◌, ◌<◌, ℕ, ◌==◌, nat_le, ◌&&◌, ◌||◌, Bool, true, false, not, List, [], ◌∷◌, codes, length, string_bytes}
+use Rattle.std.specs.Prelude.{◌≡◌, ◌<◌, ℕ, ◌==◌, nat_le, ◌&&◌, ◌||◌, Bool, true, false, not, List, [], ◌∷◌, ◌++◌, codes, decimal, length, string_bytes}
 use Rattle.std.specs.Str.{bytes_eq}
 use Rattle.cilk_syntax.specs.Lexing.{all_digits, value_of}
 use Rattle.cilk_messages.specs.Asked.{Text, asks, is_option}
@@ -99,12 +99,24 @@ asks_help_on (word ∷ []) = false
 asks_help_on (word ∷ other ∷ []) = is_help_on word other
 asks_help_on (word ∷ other ∷ more ∷ words) = false
 
--- the words request the meaning of a number that has one, or the list of all numbers
+-- the words request the list of all numbers
+abbrev pub asks_list : List Text → Bool
+asks_list [] = false
+asks_list (word ∷ []) = is_explain word
+asks_list (word ∷ other ∷ words) = false
+
+-- the words request the meaning of a number that has one
 abbrev pub asks_meaning : List Text → Bool
 asks_meaning [] = false
-asks_meaning (word ∷ []) = is_explain word
+asks_meaning (word ∷ []) = false
 asks_meaning (word ∷ other ∷ []) = is_explained word other && spells_meaning other
 asks_meaning (word ∷ other ∷ more ∷ words) = false
+
+-- the number whose meaning two words request
+abbrev pub number_asked : List Text → ℕ
+number_asked [] = 0
+number_asked (word ∷ []) = 0
+number_asked (word ∷ other ∷ words) = value_of other
 
 -- the words request the meaning of what is no such number
 abbrev pub asks_unknown : List Text → Bool
@@ -115,7 +127,12 @@ asks_unknown (word ∷ other ∷ more ∷ words) = false
 
 -- what words about the tool may request, each with whether these words do
 abbrev pub requests : List Text → List Bool
-requests words = asks_version words ∷ asks_help words ∷ asks_help_on words ∷ asks_meaning words ∷ asks_unknown words ∷ []
+requests words =
+    asks_version words ∷ asks_help words ∷ asks_help_on words ∷ asks_list words ∷ asks_meaning words ∷ asks_unknown words ∷ []
+
+-- the page of a number: it begins with the number and a colon
+abbrev pub IsPage : ℕ → Text → Type 0
+IsPage number text = (rest : Text) × (text ≡ decimal number ++ (codes ": " ++ rest))
 
 -- this text for standard output
 abbrev pub IsText : Text → AboutAnswer → Type 0
@@ -129,11 +146,11 @@ IsWrong wanted answers.Other = ⊥
 IsWrong wanted (answers.Text text) = ⊥
 IsWrong wanted (answers.Wrong text) = string_bytes text ≡ wanted
 
--- a longer text than this for standard output
-abbrev pub IsLongerText : Text → AboutAnswer → Type 0
-IsLongerText short answers.Other = ⊥
-IsLongerText short (answers.Text text) = length short < length (string_bytes text)
-IsLongerText short (answers.Wrong text) = ⊥
+-- the page of this number for standard output, a longer text than that
+abbrev pub IsPageText : ℕ → Text → AboutAnswer → Type 0
+IsPageText number short answers.Other = ⊥
+IsPageText number short (answers.Text text) = IsPage number (string_bytes text) × (length short < length (string_bytes text))
+IsPageText number short (answers.Wrong text) = ⊥
 
 -- a longer text than this for standard error
 abbrev pub IsLongerWrong : Text → AboutAnswer → Type 0

@@ -2,8 +2,10 @@
 
 ghost use Rattle.std.specs.Prelude.{◌≡◌, List, [], ◌∷◌, IfOk, cond, count_by, false, true};
 ghost use Rattle.cilk_messages.specs.Asked.{Text};
-ghost use Rattle.cilk_messages.specs.About.{IsAnswer, IsAskedFor, IsLongerText, IsLongerWrong, IsText, IsWrong, asks_help, asks_help_on, asks_meaning, asks_unknown, asks_version, has_meaning, is_about, is_command, is_explained, is_help, is_help_on, is_help_on_all, is_version, requests, spells_meaning};
+ghost use Rattle.cilk_messages.specs.About.{IsAnswer, IsAskedFor, IsLongerWrong, IsPageText, IsText, IsWrong, asks_help, asks_help_on, asks_list, asks_meaning, asks_unknown, asks_version, has_meaning, is_about, is_command, is_explained, is_help, is_help_on, is_help_on_all, is_version, number_asked, requests, spells_meaning};
 ghost use Rattle.cilk_messages.specs.Words.{texts};
+ghost use Rattle.cilk_messages.specs.declared.numbers.TheConstants.{TITLES};
+ghost use Rattle.cilk_syntax.specs.Lexing.{value_of};
 
 use crate::asked::{asks, is_option, number_of};
 use crate::help::{HELP, VERSION, help_on};
@@ -68,21 +70,22 @@ fn is_explained(word: &str, other: &str) -> bool
     word == "explain" && !is_option(other)
 }
 
-/// Words about the tool request exactly one of five things, and other words none of them: the
-/// version, the help on all commands or on one, or an explanation, of what has a meaning or of what
+/// Words about the tool request exactly one of six things, and other words none of them: the version,
+/// the help on all commands or on one, the list of all numbers, or the meaning of a number, or of what
 /// has none.
 pub fn requests_are_one()
     ensures { (words : List Text) → count_by (λ asked. asked) (requests words) ≡ cond (is_about words) 1 0 }
 {}
 
-/// Answers a command line about the tool: the version, an explanation, or the error that lists the
-/// numbers; or the help, on all commands or on one. Any text but the version is longer than it.
+/// Answers a command line about the tool: the version, the list of all numbers, the page of one, or the
+/// error that lists the numbers; or the help, on all commands or on one.
 pub fn answer_about(alloc: Global, words: &[&str]) -> Result<About, AllocError>
     ensures asked { IfOk result (λ answer. IsAskedFor (texts words.now) answer) }
     ensures version { asks_version (texts words.now) ≡ true → IfOk result (λ answer. IsText VERSION.now answer) }
     ensures help { asks_help (texts words.now) ≡ true → IfOk result (λ answer. IsWrong HELP.now answer) }
     ensures help_on { asks_help_on (texts words.now) ≡ true → IfOk result (λ answer. IsLongerWrong VERSION.now answer) }
-    ensures meaning { asks_meaning (texts words.now) ≡ true → IfOk result (λ answer. IsLongerText VERSION.now answer) }
+    ensures list { asks_list (texts words.now) ≡ true → IfOk result (λ answer. IsText TITLES.now answer) }
+    ensures meaning { asks_meaning (texts words.now) ≡ true → IfOk result (λ answer. IsPageText (number_asked (texts words.now)) VERSION.now answer) }
     ensures unknown { asks_unknown (texts words.now) ≡ true → IfOk result (λ answer. IsLongerWrong VERSION.now answer) }
 {
     match words {
@@ -97,7 +100,7 @@ fn answer_one(alloc: Global, word: &str) -> Result<About, AllocError>
     ensures asked { IfOk result (λ answer. IsAskedFor (word.now ∷ []) answer) }
     ensures version { asks_version (word.now ∷ []) ≡ true → IfOk result (λ answer. IsText VERSION.now answer) }
     ensures help { asks_help (word.now ∷ []) ≡ true → IfOk result (λ answer. IsWrong HELP.now answer) }
-    ensures meaning { asks_meaning (word.now ∷ []) ≡ true → IfOk result (λ answer. IsLongerText VERSION.now answer) }
+    ensures list { asks_list (word.now ∷ []) ≡ true → IfOk result (λ answer. IsText TITLES.now answer) }
 {
     if is_version(word) {
         Ok(About::Text(String::from_str(alloc, VERSION)?))
@@ -114,7 +117,7 @@ fn answer_one(alloc: Global, word: &str) -> Result<About, AllocError>
 fn answer_two(alloc: Global, word: &str, other: &str) -> Result<About, AllocError>
     ensures asked { IfOk result (λ answer. IsAskedFor (word.now ∷ other.now ∷ []) answer) }
     ensures help_on { asks_help_on (word.now ∷ other.now ∷ []) ≡ true → IfOk result (λ answer. IsLongerWrong VERSION.now answer) }
-    ensures meaning { asks_meaning (word.now ∷ other.now ∷ []) ≡ true → IfOk result (λ answer. IsLongerText VERSION.now answer) }
+    ensures meaning { asks_meaning (word.now ∷ other.now ∷ []) ≡ true → IfOk result (λ answer. IsPageText (number_asked (word.now ∷ other.now ∷ [])) VERSION.now answer) }
     ensures unknown { asks_unknown (word.now ∷ other.now ∷ []) ≡ true → IfOk result (λ answer. IsLongerWrong VERSION.now answer) }
 {
     if is_explained(word, other) {
@@ -127,10 +130,10 @@ fn answer_two(alloc: Global, word: &str, other: &str) -> Result<About, AllocErro
     }
 }
 
-/// Returns the meaning of the number that a word spells, or an error that lists the numbers.
+/// Returns the page of the number that a word spells, or an error that lists the numbers.
 fn explained(alloc: Global, word: &str) -> Result<About, AllocError>
     ensures answer { IfOk result (λ answer. IsAnswer answer) }
-    ensures meaning { spells_meaning word.now ≡ true → IfOk result (λ answer. IsLongerText VERSION.now answer) }
+    ensures meaning { spells_meaning word.now ≡ true → IfOk result (λ answer. IsPageText (value_of word.now) VERSION.now answer) }
     ensures unknown { spells_meaning word.now ≡ false → IfOk result (λ answer. IsLongerWrong VERSION.now answer) }
 {
     if let Some(text) = of_number(alloc, number_in(word))? {
@@ -144,7 +147,8 @@ fn explained(alloc: Global, word: &str) -> Result<About, AllocError>
 
 /// Returns the number that a word spells, or 0 if it spells none up to 65,535.
 fn number_in(word: &str) -> u16
-    ensures { has_meaning result ≡ spells_meaning word.now }
+    ensures meaning { has_meaning result ≡ spells_meaning word.now }
+    ensures number { spells_meaning word.now ≡ true → result ≡ value_of word.now }
 {
     match number_of(word.as_bytes()) {
         Some(number) if number <= 65_535 => number as u16,

@@ -31,7 +31,7 @@
 //! | [`threads_words::read`], [`check_words::read_check`] | the same of `threads`, and of `check` with `--helpers` |
 //! | [`asked`], [`batch`], [`flags`] | `measure`, `schedule`, `settle` of several; words that add a text |
 //! | [`about::answer_about`] | the answer to a command line about the tool: its help, a number, its version |
-//! | [`about::requests_are_one`] | such a command line requests exactly one of five things |
+//! | [`about::requests_are_one`] | such a command line requests exactly one of six things |
 //! | [`raced::Raced`] | the race of a trace, by a table of sites ([`table::Sites`]) |
 //!
 //! ```text

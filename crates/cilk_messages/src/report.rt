@@ -1,7 +1,7 @@
 //! The texts of explanations.
 
 ghost use Rattle.std.specs.Prelude.{◌≡◌, ◌<◌, is_some, length, string_bytes, IfOk, IfSome, OnOk};
-ghost use Rattle.cilk_messages.specs.About.{has_meaning};
+ghost use Rattle.cilk_messages.specs.About.{IsPage, has_meaning};
 
 use crate::at_hand::at_hand;
 use crate::excerpt::push_excerpt;
@@ -37,18 +37,19 @@ pub struct Wanted<'a> {
     pub semicolon: bool,
 }
 
-/// Returns the text of `explain NUMBER`, which is longer than the version, or `None` if the number has
-/// no meaning.
+/// Returns the text of `explain NUMBER`, which begins with the number and is longer than the version, or
+/// `None` if the number has no meaning.
 pub fn of_number(alloc: Global, number: u16) -> Result<Option<String>, AllocError>
     ensures known { IfOk result (λ told. is_some told ≡ has_meaning number) }
+    ensures page { IfOk result (λ told. IfSome told (λ text. IsPage number (string_bytes text))) }
     ensures longer { IfOk result (λ told. IfSome told (λ text. length VERSION.now < length (string_bytes text))) }
 {
     if !has_meaning(number) {
         return Ok(None);
     }
-    let mut text = String::new(alloc);
-    push_meaning(alloc, &mut text, number, title_of(number))?;
-    Ok(Some(text))
+    let mut meaning = String::new(alloc);
+    push_meaning(alloc, &mut meaning, number, title_of(number))?;
+    Ok(Some(format!(in alloc; "{number}: {meaning}")?))
 }
 
 fn push_meaning(
@@ -72,13 +73,8 @@ fn push_meaning(
         302 => CUT_TRACE,
         _ => "\n",
     };
-    let meaning = line_of(number, MEANING);
-    let head = [
-        Part::Count(number as usize),
-        Part::Text(title),
-        Part::Text(meaning),
-    ];
-    push_said(alloc, text, "{}: {}\n\n{}\n\n", &head)?;
+    let head = [Part::Text(title), Part::Text(line_of(number, MEANING))];
+    push_said(alloc, text, "{}\n\n{}\n\n", &head)?;
     let line = line_of(number, LINE);
     push_said(alloc, text, words, &[Part::Text(shown), Part::Text(line)])?;
     text.push_str("The place is read as: ")?;
