@@ -3,8 +3,9 @@
 //! [`serve`] reads the words, reads the texts that they name, judges them, and shows one reply. The
 //! reply is a text on standard output or a line on standard error. Texts are read and judged in
 //! order, and the first one that fails is shown. The outside world is abstract: [`serve`]
-//! works with any [`files::Files`], any reader and any writers. So its contract can say what it
-//! shows, given what these hold (`specs/Serving.antt`), and tests run it without a file system.
+//! works with any [`files::Files`], any reader that counts its reads, and any writers. So its
+//! contract can say what it shows, given what these hold (`specs/Serving.antt`), and tests run it
+//! without a file system.
 //!
 //! | Call | Result |
 //! |---|---|
@@ -14,6 +15,7 @@
 //! | [`settle`] | the answer to an order to settle a program |
 //! | [`trace_texts::judge`] | the verdict on the text of a trace, which is read twice |
 //! | [`disk::Disk`] | the files of the system |
+//! | [`counted::CountedReader`] | a reader that counts its reads, as standard input has to be |
 //! | [`parts::PartSource`] | a file as a source of a certificate's or a trace's text |
 //! | [`reply::Answer`], [`reply::Failure`] | the replies, with their texts and statuses |
 //! | [`laws::reply_is_one`] | one reply to the same words and texts, devices and memory aside |
@@ -48,6 +50,7 @@ pub mod trace_fault;
 pub mod trace_pieces;
 pub mod trace_texts;
 
+pub use counted::{CountedRead, CountedReader};
 pub use programs::{input, names, stopped};
 pub use running::{given, read_file, refused, settle};
 pub use serving::{Served, carry_out, complain, serve, serve_and_tell, show, tell};

@@ -1,6 +1,6 @@
 //! The commands. Texts are read and judged in order, and the error is the first one that fails.
 
-ghost use Rattle.std.specs.Prelude.{◌≡◌, ◌≢◌, ◌<◌, ℕ, List, IfOk, IfErr, OnOk, option_map, codes};
+ghost use Rattle.std.specs.Prelude.{◌≡◌, ◌≢◌, ◌+◌, ◌<◌, ◌≤◌, ℕ, List, IfOk, IfErr, OnOk, option_map, codes};
 ghost use Rattle.cilk_checker.specs.Judging.{meant};
 ghost use Rattle.cilk_commands.specs.Files.{IsHeld};
 ghost use Rattle.cilk_checker.specs.Numbers.{fields_of, number_of};
@@ -12,7 +12,7 @@ ghost use Rattle.cilk_commands.specs.Streams.{TakesAtMost};
 ghost use Rattle.cilk_commands.specs.declared.streams.TheConstants.{MAX_READ};
 ghost use Rattle.cilk_messages.specs.Words.{origin_view};
 
-use crate::counted::CountedReader;
+use crate::counted::CountedRead;
 use crate::files::{FileFault, Files};
 use crate::parts::PartSource;
 use crate::programs;
@@ -24,7 +24,6 @@ use cilk_messages::words::Origin;
 use cilk_program::program::Program;
 use cilk_types::input::Input;
 use std::alloc::Global;
-use std::io::Read;
 
 /// Reads the text of a file.
 pub fn read_file<'a, F: Files>(
@@ -46,12 +45,13 @@ pub fn read_file<'a, F: Files>(
 }
 
 // The text of standard input.
-fn read_standard<'a, R: Read>(alloc: Global, reader: &mut R) -> Result<Vec<u8>, Failure<'a>>
+fn read_standard<'a, R: CountedRead>(alloc: Global, reader: &mut R) -> Result<Vec<u8>, Failure<'a>>
     ensures given { IfOk result (λ text. IsReceived (R.remaining reader.old) text.items) }
     ensures fault { IfErr result (λ e. StandardFails (failure_view e)) }
     ensures most { TakesAtMost MAX_READ (R.remaining reader.old) (R.remaining reader.new) }
+    ensures few { R.reads reader.new ≤ R.reads reader.old + MAX_READ }
 {
-    match receive(alloc, &mut CountedReader::new(reader)) {
+    match receive(alloc, reader) {
         Ok(text) => Ok(text),
         Err(FileFault::Device) => Err(Failure::Unreadable("-")),
         Err(FileFault::Memory) => Err(Failure::Memory),
@@ -60,7 +60,7 @@ fn read_standard<'a, R: Read>(alloc: Global, reader: &mut R) -> Result<Vec<u8>, 
 
 // A program text.
 #[tactic(auto, using(crate::proofs::Reading::takes_same))]
-fn read_program<'a, F: Files, R: Read>(
+fn read_program<'a, F: Files, R: CountedRead>(
     alloc: Global,
     origin: Origin<'a>,
     files: &mut F,
@@ -73,6 +73,7 @@ fn read_program<'a, F: Files, R: Read>(
     ensures same { (p : List ℕ) → F.holds files.new p ≡ F.holds files.old p }
     ensures untouched { (IsStandard (origin_view origin.entry) → ⊥) → reader.new ≡ reader.old }
     ensures most { TakesAtMost MAX_READ (R.remaining reader.old) (R.remaining reader.new) }
+    ensures few { R.reads reader.new ≤ R.reads reader.old + MAX_READ }
 {
     match origin {
         Origin::Standard => read_standard(alloc, reader),
@@ -99,7 +100,7 @@ fn read_input<'a, F: Files>(
 }
 
 /// Reads a program and its input. Each text is judged before the next one is read.
-pub fn given<'a, F: Files, R: Read>(
+pub fn given<'a, F: Files, R: CountedRead>(
     alloc: Global,
     program: Origin<'a>,
     input: Option<&'a str>,
@@ -117,6 +118,7 @@ pub fn given<'a, F: Files, R: Read>(
     ensures same { (p : List ℕ) → F.holds files.new p ≡ F.holds files.old p }
     ensures untouched { (IsStandard (origin_view program.entry) → ⊥) → reader.new ≡ reader.old }
     ensures most { TakesAtMost MAX_READ (R.remaining reader.old) (R.remaining reader.new) }
+    ensures few { R.reads reader.new ≤ R.reads reader.old + MAX_READ }
 {
     let text = read_program(alloc, program, files, reader)?;
     let program = programs::program(alloc, text.as_slice())?;
@@ -126,7 +128,7 @@ pub fn given<'a, F: Files, R: Read>(
 }
 
 /// Runs a program on an input.
-pub fn run<'a, F: Files, R: Read>(
+pub fn run<'a, F: Files, R: CountedRead>(
     alloc: Global,
     program: Origin<'a>,
     input: Option<&'a str>,
@@ -140,6 +142,7 @@ pub fn run<'a, F: Files, R: Read>(
         (origin_view program.entry) (option_map (λ p. p.now) input.entry) (failure_view e)) }
     ensures untouched { (IsStandard (origin_view program.entry) → ⊥) → reader.new ≡ reader.old }
     ensures most { TakesAtMost MAX_READ (R.remaining reader.old) (R.remaining reader.new) }
+    ensures few { R.reads reader.new ≤ R.reads reader.old + MAX_READ }
 {
     let (program, input) = given(alloc, program, input, files, reader)?;
     programs::run(alloc, &program, &input)
@@ -147,7 +150,7 @@ pub fn run<'a, F: Files, R: Read>(
 
 /// Settles a program on an input: one serial run tells whether it races. If not, no schedule changes
 /// its outcome.
-pub fn settle<'a, F: Files, R: Read>(
+pub fn settle<'a, F: Files, R: CountedRead>(
     alloc: Global,
     program: &'a str,
     input: Option<&'a str>,
@@ -162,13 +165,14 @@ pub fn settle<'a, F: Files, R: Read>(
     ensures same { (p : List ℕ) → F.holds files.new p ≡ F.holds files.old p }
     ensures untouched { reader.new ≡ reader.old }
     ensures most { TakesAtMost MAX_READ (R.remaining reader.old) (R.remaining reader.new) }
+    ensures few { R.reads reader.new ≤ R.reads reader.old + MAX_READ }
 {
     let (program, input) = given(alloc, Origin::File(program), input, files, reader)?;
     programs::settle(alloc, &program, &input)
 }
 
 /// Makes the certificate of a program's run on an input.
-pub fn certify<'a, F: Files, R: Read>(
+pub fn certify<'a, F: Files, R: CountedRead>(
     alloc: Global,
     program: &'a str,
     input: Option<&'a str>,
@@ -182,6 +186,7 @@ pub fn certify<'a, F: Files, R: Read>(
         program.entry.now (option_map (λ p. p.now) input.entry) (failure_view e)) }
     ensures untouched { reader.new ≡ reader.old }
     ensures most { TakesAtMost MAX_READ (R.remaining reader.old) (R.remaining reader.new) }
+    ensures few { R.reads reader.new ≤ R.reads reader.old + MAX_READ }
 {
     let (program, input) = given(alloc, Origin::File(program), input, files, reader)?;
     programs::certificate(alloc, &program, &input)
@@ -222,7 +227,7 @@ fn checked<'a, F: Files>(
 
 /// Checks the certificate of a program's run on an input. The certificate is read after the two
 /// texts are judged.
-pub fn check<'a, F: Files, R: Read>(
+pub fn check<'a, F: Files, R: CountedRead>(
     alloc: Global,
     program: &'a str,
     certificate: &'a str,
@@ -237,6 +242,7 @@ pub fn check<'a, F: Files, R: Read>(
         program.entry.now certificate.entry.now (option_map (λ p. p.now) input.entry) (failure_view e)) }
     ensures untouched { reader.new ≡ reader.old }
     ensures most { TakesAtMost MAX_READ (R.remaining reader.old) (R.remaining reader.new) }
+    ensures few { R.reads reader.new ≤ R.reads reader.old + MAX_READ }
 {
     let (program, input) = given(alloc, Origin::File(program), input, files, reader)?;
     checked(alloc, program, input, certificate, files)
@@ -264,7 +270,7 @@ fn played<'a, F: Files>(
 
 /// Plays a script for a program and an input, with `workers` workers, at least 1. The script is read
 /// after the two texts are judged.
-pub fn play<'a, F: Files, R: Read>(
+pub fn play<'a, F: Files, R: CountedRead>(
     alloc: Global,
     program: &'a str,
     script: &'a str,
@@ -281,6 +287,7 @@ pub fn play<'a, F: Files, R: Read>(
         program.entry.now script.entry.now workers (option_map (λ p. p.now) input.entry) (failure_view e)) }
     ensures untouched { reader.new ≡ reader.old }
     ensures most { TakesAtMost MAX_READ (R.remaining reader.old) (R.remaining reader.new) }
+    ensures few { R.reads reader.new ≤ R.reads reader.old + MAX_READ }
 {
     let (program, input) = given(alloc, Origin::File(program), input, files, reader)?;
     played(alloc, &program, &input, script, workers, files)

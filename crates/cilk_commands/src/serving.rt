@@ -1,6 +1,6 @@
 //! From words to a reply that is shown.
 
-ghost use Rattle.std.specs.Prelude.{◌≡◌, ◌<◌, Bool, IfOk, IfErr};
+ghost use Rattle.std.specs.Prelude.{◌≡◌, ◌+◌, ◌<◌, ◌≤◌, Bool, IfOk, IfErr};
 ghost use Rattle.cilk_commands.specs.OneReply.{HasOneReply};
 ghost use Rattle.cilk_commands.specs.Replies.{Reply, answer_view, failure_view, status_of};
 ghost use Rattle.cilk_commands.specs.Serving.{Answers, HasWorkers, IsOrNoMemory, ReadsStandard, Serves, Shows, ShowsError, world};
@@ -8,6 +8,7 @@ ghost use Rattle.cilk_commands.specs.Streams.{AppendsFront, TakesAtMost};
 ghost use Rattle.cilk_commands.specs.declared.streams.TheConstants.{MAX_READ};
 ghost use Rattle.cilk_messages.specs.Words.{order_in, order_view, texts};
 
+use crate::counted::CountedRead;
 use crate::files::Files;
 use crate::judging::judge;
 use crate::reply::{Answer, Failure, NO_MEMORY, NO_MEMORY_LINE, WRONG};
@@ -15,12 +16,12 @@ use crate::running::{certify, check, play, run, settle};
 use crate::streams::send;
 use cilk_messages::words::{Order, WordsFault, read};
 use std::alloc::Global;
-use std::io::{Read, Write};
+use std::io::Write;
 
 /// Carries out an order. An order to play names at least 1 worker, as each one from
 /// [`read`](cilk_messages::words::read) does.
 #[tactic(auto, using(crate::proofs::Reading::takes_same))]
-pub fn carry_out<'a, F: Files, R: Read>(
+pub fn carry_out<'a, F: Files, R: CountedRead>(
     alloc: Global,
     order: Order<'a>,
     files: &mut F,
@@ -34,6 +35,7 @@ pub fn carry_out<'a, F: Files, R: Read>(
         (Some (order_view order.entry)) (failure_view e)) }
     ensures untouched { (ReadsStandard (Some (order_view order.entry)) → ⊥) → input.new ≡ input.old }
     ensures most { TakesAtMost MAX_READ (R.remaining input.old) (R.remaining input.new) }
+    ensures few { R.reads input.new ≤ R.reads input.old + MAX_READ }
 {
     match order {
         Order::Run {
@@ -65,7 +67,7 @@ pub fn carry_out<'a, F: Files, R: Read>(
 
 // Carries out the order of the words.
 #[tactic(auto, using(crate::proofs::Reading::takes_same))]
-fn answer<'a, F: Files, R: Read>(
+fn answer<'a, F: Files, R: CountedRead>(
     alloc: Global,
     words: &'a [&'a str],
     files: &mut F,
@@ -78,6 +80,7 @@ fn answer<'a, F: Files, R: Read>(
         (order_in (texts words.entry.now)) (failure_view e)) }
     ensures untouched { (ReadsStandard (order_in (texts words.entry.now)) → ⊥) → input.new ≡ input.old }
     ensures most { TakesAtMost MAX_READ (R.remaining input.old) (R.remaining input.new) }
+    ensures few { R.reads input.new ≤ R.reads input.old + MAX_READ }
 {
     match read(alloc, words) {
         Ok(order) => carry_out(alloc, order, files, input),
@@ -138,7 +141,7 @@ pub fn show<O: Write, E: Write>(alloc: Global, answer: &Answer, out: &mut O, err
 }
 
 /// Does what [`serve`] does, and also returns whether standard error was written.
-pub fn serve_and_tell<F: Files, R: Read, O: Write, E: Write>(
+pub fn serve_and_tell<F: Files, R: CountedRead, O: Write, E: Write>(
     alloc: Global,
     words: &[&str],
     files: &mut F,
@@ -152,6 +155,7 @@ pub fn serve_and_tell<F: Files, R: Read, O: Write, E: Write>(
         (O.contents out.old) (O.contents out.new) (E.contents err.old) (E.contents err.new) }
     ensures untouched { (ReadsStandard (order_in (texts words.now)) → ⊥) → input.new ≡ input.old }
     ensures most { TakesAtMost MAX_READ (R.remaining input.old) (R.remaining input.new) }
+    ensures few { R.reads input.new ≤ R.reads input.old + MAX_READ }
 {
     match answer(alloc, words, files, input) {
         Ok(answer) => show(alloc, &answer, out, err),
@@ -163,8 +167,8 @@ pub fn serve_and_tell<F: Files, R: Read, O: Write, E: Write>(
 /// returns the status.
 ///
 /// A failure of `err` changes nothing else. Standard input is read only if there are no words, in
-/// at most 262,145 reads; see [`receive`](crate::streams::receive).
-pub fn serve<F: Files, R: Read, O: Write, E: Write>(
+/// at most [`MAX_READ`](crate::streams::MAX_READ) reads.
+pub fn serve<F: Files, R: CountedRead, O: Write, E: Write>(
     alloc: Global,
     words: &[&str],
     files: &mut F,
@@ -180,6 +184,7 @@ pub fn serve<F: Files, R: Read, O: Write, E: Write>(
         (order_in (texts words.now)) }
     ensures untouched { (ReadsStandard (order_in (texts words.now)) → ⊥) → input.new ≡ input.old }
     ensures most { TakesAtMost MAX_READ (R.remaining input.old) (R.remaining input.new) }
+    ensures few { R.reads input.new ≤ R.reads input.old + MAX_READ }
 {
     serve_and_tell(alloc, words, files, input, out, err).status
 }

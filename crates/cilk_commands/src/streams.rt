@@ -1,17 +1,17 @@
 //! Reads and writes of whole texts.
 
-ghost use Rattle.std.specs.Prelude.{◌≡◌, ℕ, ◌+◌, ◌^◌, ◌≤◌, ◌<◌, length, take, IsTrue, IsFalse, IfOk, IfSome};
+ghost use Rattle.std.specs.Prelude.{◌≡◌, ◌+◌, ◌≤◌, ◌<◌, length, take, IsTrue, IsFalse, IfOk, IfSome};
 ghost use Rattle.std.specs.Io.KnownBytes.{Appends, Consumes};
 ghost use Rattle.cilk_cert_text.specs.Certificates.{text_of};
 ghost use Rattle.cilk_commands.specs.Streams.{AppendsPart, ReadsOn, TakesAtMost};
 
-use crate::counted::CountedReader;
+use crate::counted::CountedRead;
 use crate::files::FileFault;
 use cilk_cert_text::certificate::Certificate;
 use cilk_cert_text::writer::LineWriter;
 use cilk_types::limits::MAX_TEXT;
 use std::alloc::Global;
-use std::io::{Read, Write};
+use std::io::Write;
 
 /// The most bytes that are read from standard input: one more than a program text may have.
 pub const MAX_READ: usize = MAX_TEXT + 1;
@@ -23,19 +23,16 @@ const MAX_PIECE: usize = 16_384;
 
 // Reads once, and appends the bytes to the text. The count is 0 only at the end of the input.
 #[tactic(auto, using(crate::proofs::Reading::takes_none, crate::proofs::Reading::takes_read))]
-fn receive_some<R: Read>(
-    input: &mut CountedReader<'_, R>,
+fn receive_some<R: CountedRead>(
+    input: &mut R,
     text: &mut Vec<u8>,
     piece: &mut [u8],
 ) -> Result<usize, FileFault>
     requires room { 0 < length piece.old }
-    requires few { input.old.reads + 1 < 2 ^ 32 }
-    ensures grows { IfOk result (λ n. ReadsOn (R.remaining input.old.reader.now) (R.remaining input.new.reader.now)
-        text.old.items text.new.items n) }
+    ensures grows { IfOk result (λ n. ReadsOn (R.remaining input.old) (R.remaining input.new) text.old.items text.new.items n) }
     ensures within { IfOk result (λ n. n ≤ length piece.old) }
-    ensures counted { input.new.reads ≡ input.old.reads + 1 }
-    ensures some { TakesAtMost (length piece.old) (R.remaining input.old.reader.now) (R.remaining input.new.reader.now) }
-    ensures same_reference { input.new.reader.ghost_name ≡ input.old.reader.ghost_name }
+    ensures one { R.reads input.new ≤ R.reads input.old + 1 }
+    ensures some { TakesAtMost (length piece.old) (R.remaining input.old) (R.remaining input.new) }
 {
     let Ok(count) = input.read(piece) else {
         return Err(FileFault::Device);
@@ -46,17 +43,12 @@ fn receive_some<R: Read>(
 
 /// Reads a text of at most [`MAX_READ`] bytes; later bytes remain unread.
 ///
-/// It makes at most 262,145 reads. A failed read ends the reading.
-pub fn receive<R: Read>(
-    alloc: Global,
-    input: &mut CountedReader<'_, R>,
-) -> Result<Vec<u8>, FileFault>
-    requires { input.old.reads + 262145 < 2 ^ 32 }
-    ensures few { input.new.reads ≤ input.old.reads + 262145 }
-    ensures whole { IfOk result (λ text. IfSome (R.remaining input.old.reader.now) (λ all. text.items ≡ take MAX_READ all)) }
-    ensures taken { IfOk result (λ text. Consumes (R.remaining input.old.reader.now) (R.remaining input.new.reader.now) text.items) }
-    ensures most { TakesAtMost MAX_READ (R.remaining input.old.reader.now) (R.remaining input.new.reader.now) }
-    ensures same_reference { input.new.reader.ghost_name ≡ input.old.reader.ghost_name }
+/// It makes at most as many reads. A failed read ends the reading.
+pub fn receive<R: CountedRead>(alloc: Global, input: &mut R) -> Result<Vec<u8>, FileFault>
+    ensures whole { IfOk result (λ text. IfSome (R.remaining input.old) (λ all. text.items ≡ take MAX_READ all)) }
+    ensures taken { IfOk result (λ text. Consumes (R.remaining input.old) (R.remaining input.new) text.items) }
+    ensures most { TakesAtMost MAX_READ (R.remaining input.old) (R.remaining input.new) }
+    ensures few { R.reads input.new ≤ R.reads input.old + MAX_READ }
 {
     let mut text = Vec::new(alloc);
     let mut buffer = [0u8; PIECE];

@@ -1,4 +1,4 @@
-use Rattle.std.proofs.Common.{◌≡◌, length, take, subst, ◌∙◌, arith, length-take}
+use Rattle.std.proofs.Common.{◌≡◌, length, take, subst, arith, length-take}
 use Rattle.std.specs.Prelude.{IfSome}
 use Rattle.cilk_commands.proofs.Reading.{more_read, longer, read_last, read_enough, takes_on}
 use Rattle.cilk_commands.proofs.streams.receive.Goals as goal
@@ -9,8 +9,7 @@ loop-turn-preserved g c =
     record {
       within = omega (arith, c.in_ok-count.ensures.within, same, length-take c.min-room.result c.loop-turn.buffer);
       far = omega (arith, same);
-      few = omega (arith, c.in_ok-count.ensures.counted);
-      same = c.receive_some.ensures.same_reference ∙ c.loop-turn.invariant.same;
+      few = omega (arith, c.receive_some.ensures.one);
       read = more_read _ _ _ _ _ _ c.loop-turn.invariant.read c.in_ok-count.ensures.grows;
     }
 
@@ -21,12 +20,12 @@ returns-then-count-eq0-clause-whole g c =
 pub returns-then-room-eq0-clause-whole : goal.returns-then-room-eq0-clause-whole
 returns-then-room-eq0-clause-whole g c =
     let full : length c.loop-turn.text.items ≡ 262145 = omega arith in
-    subst (λ n. IfSome (g.R.Read.remaining c.args.input.now.reader.now) (λ all. c.loop-turn.text.items ≡ take n all)) full (read_enough _ _ _ c.loop-turn.invariant.read)
+    subst (λ n. IfSome (g.R.CountedRead.remaining c.args.input.now) (λ all. c.loop-turn.text.items ≡ take n all)) full (read_enough _ _ _ c.loop-turn.invariant.read)
 
 pub returns-clause-whole : goal.returns-clause-whole
 returns-clause-whole g c =
     let full : length c.loop-turn.text.items ≡ 262145 = omega arith in
-    subst (λ n. IfSome (g.R.Read.remaining c.args.input.now.reader.now) (λ all. c.loop-turn.text.items ≡ take n all)) full (read_enough _ _ _ c.loop-turn.invariant.read)
+    subst (λ n. IfSome (g.R.CountedRead.remaining c.args.input.now) (λ all. c.loop-turn.text.items ≡ take n all)) full (read_enough _ _ _ c.loop-turn.invariant.read)
 
 pub returns-then-count-eq0-clause-taken : goal.returns-then-count-eq0-clause-taken
 returns-then-count-eq0-clause-taken g c = more_read _ _ _ _ _ _ c.loop-turn.invariant.read c.in_ok-count.ensures.grows

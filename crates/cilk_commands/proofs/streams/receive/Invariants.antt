@@ -1,4 +1,4 @@
-use Rattle.std.proofs.Common.{◌≡◌, ◌≤◌, ◌+◌, length}
+use Rattle.std.proofs.Common.{◌≤◌, ◌+◌, length}
 use Rattle.std.specs.Io.KnownBytes.{Consumes}
 use Rattle.cilk_commands.proofs.streams.receive.Given as goal
 
@@ -6,7 +6,6 @@ abbrev pub invariant-loop-turn : goal.invariant-loop-turn
 invariant-loop-turn g l = record {
   within : length l.text.items ≤ 262145;
   far : l._turn ≤ length l.text.items;
-  few : l.input.reads ≤ l.initial.input.reads + l._turn;
-  same : l.input.reader.ghost_name ≡ l.initial.input.reader.ghost_name;
-  read : Consumes (g.R.Read.remaining l.initial.input.reader.now) (g.R.Read.remaining l.input.reader.now) l.text.items;
+  few : g.R.CountedRead.reads l.input ≤ g.R.CountedRead.reads l.initial.input + l._turn;
+  read : Consumes (g.R.CountedRead.remaining l.initial.input) (g.R.CountedRead.remaining l.input) l.text.items;
 }
