@@ -14,11 +14,12 @@ use Rattle.cilk_parser.specs.Scripts.{IsScript}
 use Rattle.cilk_parser.specs.declared.script.LineOrder.{LineOrder}
 use Rattle.cilk_parser.specs.declared.script.LineOrder.TheVariants.{Steal}
 use Rattle.cilk_parser.specs.declared.script.Step.{Step}
-use Rattle.cilk_messages.specs.About.{asks_help, asks_help_on, asks_meaning, asks_unknown, asks_version, is_about}
+use Rattle.cilk_messages.specs.About.{IsPage, asks_help, asks_help_on, asks_list, asks_meaning, asks_unknown, asks_version, is_about, number_asked}
 use Rattle.cilk_messages.specs.Asked.{explains_itself, is_measure, is_schedule, measured_run, unflagged, words_of_check}
 use Rattle.cilk_messages.specs.Batches.{Batch, batch_in, is_settling}
 use Rattle.cilk_messages.specs.Words.{Judge, Origin, Requested, order_in}
 use Rattle.cilk_messages.specs.declared.help.TheConstants.{HELP, VERSION}
+use Rattle.cilk_messages.specs.declared.numbers.TheConstants.{TITLES}
 use Rattle.cilk_profile.specs.Measured.{IsMeasureText, is_drawn}
 use Rattle.cilk_report.specs.Measured.{AreTotalsOf}
 use Rattle.cilk_report.specs.Settling.{SettlesEach, state}
@@ -59,10 +60,6 @@ WritesText text status out out' err err' =
     ((status ≡ 0) × Appends out out' text × (err' ≡ err))
     ⊎ ((status ≡ 2) × AppendsPart out out' text × ((told : Bool) × AppendsFront told err err' (line (codes "cannot write"))))
 
--- some text goes to standard output in that way
-abbrev pub WritesAbout : ℕ → Option Text → Option Text → Option Text → Option Text → Type 0
-WritesAbout status out out' err err' = (text : Text) × WritesText text status out out' err err'
-
 -- the reply of `serve` to these words, then a text on standard error; all failed reads of files are
 -- those of `serve`, but for a trace that is read again for the text
 abbrev pub ServesThenExplains : List Text → (Text → Option Text) → Option Text → Failures → Failures → ℕ
@@ -87,22 +84,24 @@ Complains r status out out' err err' =
 abbrev pub WritesError : Text → ℕ → Option Text → Option Text → Option Text → Option Text → Type 0
 WritesError text status out out' err err' = (out' ≡ out) × (status ≡ 2) × ((told : Bool) × AppendsFront told err err' text)
 
--- a longer text than this goes to standard output
-abbrev pub WritesLonger : Text → ℕ → Option Text → Option Text → Option Text → Option Text → Type 0
-WritesLonger short status out out' err err' = (text : Text) × (length short < length text) × WritesText text status out out' err err'
+-- the page of this number, a longer text than that, goes to standard output
+abbrev pub WritesPage : ℕ → Text → ℕ → Option Text → Option Text → Option Text → Option Text → Type 0
+WritesPage number short status out out' err err' =
+    (text : Text) × IsPage number text × (length short < length text) × WritesText text status out out' err err'
 
 -- a longer text than this goes to standard error
 abbrev pub WritesLongerError : Text → ℕ → Option Text → Option Text → Option Text → Option Text → Type 0
 WritesLongerError short status out out' err err' = (text : Text) × (length short < length text) × WritesError text status out out' err err'
 
 -- The answers to words about the tool, unless memory runs out: the version on standard output; the help, on all commands or
--- on one, on standard error; the meaning of a number that has one, and the list of all, on standard output; and an error for
--- what is no such number. Each text but the version is longer than that.
+-- on one, on standard error; the list of all numbers, and the page of one that has a meaning, on standard output; and an
+-- error for what is no such number. The help on a command, a page and an error are longer than the version.
 pub record AnswersAbout (words : List Text) (status : ℕ) (out out' err err' : Option Text) : Type 0 where
   pub version : asks_version words ≡ true → WritesText VERSION.now status out out' err err' ⊎ Complains NoMemory status out out' err err'
   pub help : asks_help words ≡ true → WritesError HELP.now status out out' err err' ⊎ Complains NoMemory status out out' err err'
   pub help_on : asks_help_on words ≡ true → WritesLongerError VERSION.now status out out' err err' ⊎ Complains NoMemory status out out' err err'
-  pub meaning : asks_meaning words ≡ true → WritesLonger VERSION.now status out out' err err' ⊎ Complains NoMemory status out out' err err'
+  pub list : asks_list words ≡ true → WritesText TITLES.now status out out' err err' ⊎ Complains NoMemory status out out' err err'
+  pub meaning : asks_meaning words ≡ true → WritesPage (number_asked words) VERSION.now status out out' err err' ⊎ Complains NoMemory status out out' err err'
   pub unknown : asks_unknown words ≡ true → WritesLongerError VERSION.now status out out' err err' ⊎ Complains NoMemory status out out' err err'
 
 -- The replies of `measure`.
@@ -197,6 +196,6 @@ pub data ServesExplained (words : List Text) (files : Text → Option Text) (inp
   -- the words aren't a command line of `serve` and settle several programs, or use a short form
   SettlingEach : order_in words ≡ None → is_settling words ≡ true → Settles words files input failed failed' status out out' err err'
       → ServesExplained words files input failed failed' status out out' err err'
-  -- the words are about the tool itself: a text about it
-  About : order_in words ≡ None → is_about words ≡ true → WritesAbout status out out' err err'
+  -- the words are about the tool itself, and are answered
+  About : order_in words ≡ None → is_about words ≡ true → AnswersAbout words status out out' err err'
       → ServesExplained words files input failed failed' status out out' err err'

@@ -13,7 +13,7 @@ use crate::explaining::{of_answer, of_failure, race_of, texts_of};
 use crate::serving::{follow, tell_text};
 use crate::totals::wrong_words;
 use cilk_commands::reply::{Answer, Failure};
-use cilk_commands::{carry_out, complain, show};
+use cilk_commands::{CountedRead, carry_out, complain, show};
 use cilk_findings::fault::CaseFault;
 use cilk_messages::asked::{asks, check_words};
 use cilk_messages::words::{Order, WordsFault, read};
@@ -21,10 +21,10 @@ use cilk_parser::script::{LineOrder, ScriptFault, Step, read as read_script};
 use cilk_profile::Kept;
 use cilk_races::races::script_of_race;
 use std::alloc::{AllocError, Global};
-use std::io::{Read, Write};
+use std::io::Write;
 
 /// Serves the command `schedule`.
-pub fn serve_schedule<F: Keeps, R: Read, O: Write, E: Write>(
+pub fn serve_schedule<F: Keeps, R: CountedRead, O: Write, E: Write>(
     alloc: Global,
     words: &[&str],
     files: &mut F,
@@ -52,7 +52,7 @@ const USAGE: &str =
     hint: the script goes to standard output: `cilk schedule prog.c prog.certificate > prog.script`\n";
 
 // Serves the command by the words of the check.
-fn serve_checked<F: Keeps, R: Read, O: Write, E: Write>(
+fn serve_checked<F: Keeps, R: CountedRead, O: Write, E: Write>(
     alloc: Global,
     words: &[&str],
     explains: bool,

@@ -1,6 +1,6 @@
 //! From a command line to its reply and explanation.
 
-ghost use Rattle.std.specs.Prelude.{◌≡◌, ◌≢◌, ◌<◌, [], Bool, IsTrue, None, Some, false, length, option_map, true};
+ghost use Rattle.std.specs.Prelude.{◌≡◌, ◌≢◌, ◌+◌, ◌<◌, ◌≤◌, [], Bool, IsTrue, None, Some, false, length, option_map, true};
 ghost use Rattle.cilk_report.specs.Explained.{AnswersAbout, Follows, IsReadAgain, Measures, Schedules, ServesExplained, ServesThenExplains, Settles, WritesText, explanation_text, missing_line};
 ghost use Rattle.cilk_messages.specs.Asked.{explains_itself, is_measure, is_schedule, measured_run, unflagged, words_of_check, words_of_run};
 ghost use Rattle.cilk_messages.specs.About.{is_about};
@@ -21,7 +21,7 @@ use crate::settling::serve_settling;
 use crate::totals::{totals_of, undrawn, wrong_words};
 use cilk_commands::reply::{Answer, Failure, NO_MEMORY, WRONG};
 use cilk_commands::streams::send;
-use cilk_commands::{Served, carry_out, complain, serve, show, tell};
+use cilk_commands::{CountedRead, Served, carry_out, complain, serve, show, tell};
 use cilk_findings::fault::CaseFault;
 use cilk_messages::about::{About, answer_about};
 use cilk_messages::asked::{asks, is_measure, is_schedule, run_of, run_words};
@@ -31,7 +31,7 @@ use cilk_messages::help::{help_on, push_advice};
 use cilk_messages::words::{Order, Origin, WordsFault, read};
 use cilk_profile::{Kept, text_of};
 use std::alloc::{AllocError, Global};
-use std::io::{Read, Write};
+use std::io::Write;
 
 /// Serves the words after the program's name and returns the exit status. Command lines of
 /// [`cilk_commands::serve`] are served as that function does. With `--explain` an explanation
@@ -40,7 +40,7 @@ use std::io::{Read, Write};
 /// questions about the tool are answered as well. Standard input is read only if there are no words
 /// but those that add a text.
 #[tactic(auto, using(cilk_commands::proofs::Reading::takes_same))]
-pub fn serve_explained<F: Keeps, R: Read, O: Write, E: Write>(
+pub fn serve_explained<F: Keeps, R: CountedRead, O: Write, E: Write>(
     alloc: Global,
     words: &[&str],
     files: &mut F,
@@ -73,6 +73,7 @@ pub fn serve_explained<F: Keeps, R: Read, O: Write, E: Write>(
         result (O.contents out.old) (O.contents out.new) (E.contents err.old) (E.contents err.new) }
     ensures untouched { unflagged (texts words.now) ≢ [] → input.new ≡ input.old }
     ensures most { TakesAtMost MAX_READ (R.remaining input.old) (R.remaining input.new) }
+    ensures few { R.reads input.new ≤ R.reads input.old + MAX_READ }
 {
     match read(alloc, words) {
         Ok(order) if explains_itself(&order) => {
@@ -90,7 +91,7 @@ pub fn serve_explained<F: Keeps, R: Read, O: Write, E: Write>(
 
 /// Serves a command line that isn't one of `serve`.
 #[tactic(auto, using(cilk_commands::proofs::Reading::takes_same))]
-fn serve_other<F: Keeps, R: Read, O: Write, E: Write>(
+fn serve_other<F: Keeps, R: CountedRead, O: Write, E: Write>(
     alloc: Global,
     words: &[&str],
     usage: &str,
@@ -122,6 +123,7 @@ fn serve_other<F: Keeps, R: Read, O: Write, E: Write>(
         → AnswersAbout (texts words.now) result (O.contents out.old) (O.contents out.new) (E.contents err.old) (E.contents err.new) }
     ensures untouched { unflagged (texts words.now) ≢ [] → input.new ≡ input.old }
     ensures most { TakesAtMost MAX_READ (R.remaining input.old) (R.remaining input.new) }
+    ensures few { R.reads input.new ≤ R.reads input.old + MAX_READ }
 {
     if is_measure(words) {
         serve_measure(alloc, words, files, input, out, err)
@@ -132,7 +134,7 @@ fn serve_other<F: Keeps, R: Read, O: Write, E: Write>(
 
 /// Serves a command line that isn't one of `serve` or `measure`.
 #[tactic(auto, using(cilk_commands::proofs::Reading::takes_same))]
-fn serve_unmeasured<F: Keeps, R: Read, O: Write, E: Write>(
+fn serve_unmeasured<F: Keeps, R: CountedRead, O: Write, E: Write>(
     alloc: Global,
     words: &[&str],
     usage: &str,
@@ -159,6 +161,7 @@ fn serve_unmeasured<F: Keeps, R: Read, O: Write, E: Write>(
         → AnswersAbout (texts words.now) result (O.contents out.old) (O.contents out.new) (E.contents err.old) (E.contents err.new) }
     ensures untouched { unflagged (texts words.now) ≢ [] → input.new ≡ input.old }
     ensures most { TakesAtMost MAX_READ (R.remaining input.old) (R.remaining input.new) }
+    ensures few { R.reads input.new ≤ R.reads input.old + MAX_READ }
 {
     if is_schedule(words) {
         serve_schedule(alloc, words, files, input, out, err)
@@ -172,7 +175,7 @@ fn serve_unmeasured<F: Keeps, R: Read, O: Write, E: Write>(
 /// Serves a command line that isn't one of `serve`, `measure` or `schedule`, nor of `settle` for
 /// several programs.
 #[tactic(auto, using(cilk_commands::proofs::Reading::takes_same))]
-fn serve_unscheduled<F: Keeps, R: Read, O: Write, E: Write>(
+fn serve_unscheduled<F: Keeps, R: CountedRead, O: Write, E: Write>(
     alloc: Global,
     words: &[&str],
     usage: &str,
@@ -192,6 +195,7 @@ fn serve_unscheduled<F: Keeps, R: Read, O: Write, E: Write>(
         → AnswersAbout (texts words.now) result (O.contents out.old) (O.contents out.new) (E.contents err.old) (E.contents err.new) }
     ensures untouched { unflagged (texts words.now) ≢ [] → input.new ≡ input.old }
     ensures most { TakesAtMost MAX_READ (R.remaining input.old) (R.remaining input.new) }
+    ensures few { R.reads input.new ≤ R.reads input.old + MAX_READ }
 {
     match answer_about(alloc, words) {
         Ok(About::Text(text)) => tell_text(text.as_bytes(), out, err),
@@ -235,7 +239,7 @@ const WHY_USAGE: &str =
 
 /// Serves a command line as `serve` does, then adds what else is requested.
 #[tactic(auto, using(cilk_commands::proofs::Reading::takes_same))]
-fn serve_flagged<F: Keeps, R: Read, O: Write, E: Write>(
+fn serve_flagged<F: Keeps, R: CountedRead, O: Write, E: Write>(
     alloc: Global,
     words: &[&str],
     extras: Extras,
@@ -249,6 +253,7 @@ fn serve_flagged<F: Keeps, R: Read, O: Write, E: Write>(
         result (O.contents out.old) (O.contents out.new) (E.contents err.old) (E.contents err.new) }
     ensures untouched { (ReadsStandard (order_in (texts words.now)) → ⊥) → input.new ≡ input.old }
     ensures most { TakesAtMost MAX_READ (R.remaining input.old) (R.remaining input.new) }
+    ensures few { R.reads input.new ≤ R.reads input.old + MAX_READ }
 {
     match read(alloc, words) {
         Ok(order) => match carry_out(alloc, order, files, input) {
@@ -326,7 +331,7 @@ fn failed<F: Keeps>(
 }
 
 /// Serves `measure`.
-fn serve_measure<F: Keeps, R: Read, O: Write, E: Write>(
+fn serve_measure<F: Keeps, R: CountedRead, O: Write, E: Write>(
     alloc: Global,
     words: &[&str],
     files: &mut F,
@@ -351,7 +356,7 @@ const USAGE: &str =
     hint: what it shows goes to standard output, a picture too: `cilk measure prog.c --svg > prog.svg`\n";
 
 /// Serves `measure` by the words of the run.
-fn serve_run<F: Keeps, R: Read, O: Write, E: Write>(
+fn serve_run<F: Keeps, R: CountedRead, O: Write, E: Write>(
     alloc: Global,
     words: &[&str],
     plain: &[&str],
@@ -382,7 +387,7 @@ fn serve_run<F: Keeps, R: Read, O: Write, E: Write>(
 
 /// Shows the measures of a run. If the run fails, shows why, with an explanation.
 #[tactic(auto, using(crate::proofs::Standard::measured_file))]
-fn show_measured<F: Keeps, R: Read, O: Write, E: Write>(
+fn show_measured<F: Keeps, R: CountedRead, O: Write, E: Write>(
     alloc: Global,
     words: &[&str],
     run: (Origin<'_>, Option<&str>),

@@ -18,12 +18,12 @@ use crate::serving::missing;
 use crate::totals::wrong_words;
 use cilk_commands::reply::{Answer, Failure, NO_MEMORY, WRONG};
 use cilk_commands::streams::send;
-use cilk_commands::{complain, settle, tell};
+use cilk_commands::{CountedRead, complain, settle, tell};
 use cilk_messages::batch::{Batch, Form, batch_of, object, place_in, short};
 use cilk_messages::words::Order;
 use cilk_profile::Kept;
 use std::alloc::{AllocError, Global};
-use std::io::{Read, Write};
+use std::io::Write;
 
 // The error of `settle` for words that name no programs.
 const USAGE: &str = "error: these words name no programs to settle: \
@@ -31,7 +31,7 @@ const USAGE: &str = "error: these words name no programs to settle: \
     hint: `cilk help settle` describes `settle` and its options\n";
 
 /// Serves `settle` for several programs, or in a short form.
-pub fn serve_settling<F: Keeps, R: Read, O: Write, E: Write>(
+pub fn serve_settling<F: Keeps, R: CountedRead, O: Write, E: Write>(
     alloc: Global,
     words: &[&str],
     files: &mut F,
@@ -51,7 +51,7 @@ pub fn serve_settling<F: Keeps, R: Read, O: Write, E: Write>(
 }
 
 // Settles the programs in order, and returns the greatest status.
-fn settle_each<F: Keeps, R: Read, O: Write, E: Write>(
+fn settle_each<F: Keeps, R: CountedRead, O: Write, E: Write>(
     alloc: Global,
     batch: &Batch<'_>,
     files: &mut F,
@@ -84,7 +84,7 @@ struct Step {
 }
 
 // Settles a program, and shows the reply.
-fn settle_one<F: Keeps, R: Read, O: Write, E: Write>(
+fn settle_one<F: Keeps, R: CountedRead, O: Write, E: Write>(
     alloc: Global,
     program: &str,
     batch: &Batch<'_>,

@@ -1,6 +1,6 @@
 //! The totals of a run, from the files of a program and its input, or why nothing is shown of it.
 
-ghost use Rattle.std.specs.Prelude.{◌≡◌, ◌<◌, IfErr, IfOk, option_map};
+ghost use Rattle.std.specs.Prelude.{◌≡◌, ◌+◌, ◌<◌, ◌≤◌, IfErr, IfOk, option_map};
 ghost use Rattle.cilk_report.specs.Measured.{AreTotalsOf, TellsWhy};
 ghost use Rattle.cilk_commands.specs.Replies.{failure_view};
 ghost use Rattle.cilk_commands.specs.Serving.{IsStandard, RunReply, WordsFail, world};
@@ -10,15 +10,14 @@ ghost use Rattle.cilk_messages.specs.Words.{origin_view};
 
 use cilk_commands::files::Files;
 use cilk_commands::reply::Failure;
-use cilk_commands::{given, stopped};
+use cilk_commands::{CountedRead, given, stopped};
 use cilk_messages::words::Origin;
 use cilk_profile::{NoText, Totals, measure};
 use std::alloc::{AllocError, Global};
-use std::io::Read;
 
 /// Returns the totals of a program's run on its input. Its failures are those of `run`.
 #[tactic(auto, using(cilk_commands::proofs::Reading::takes_same))]
-pub fn totals_of<'a, F: Files, R: Read>(
+pub fn totals_of<'a, F: Files, R: CountedRead>(
     alloc: Global,
     program: Origin<'a>,
     numbers: Option<&'a str>,
@@ -32,6 +31,7 @@ pub fn totals_of<'a, F: Files, R: Read>(
         (origin_view program.entry) (option_map (λ p. p.now) numbers.entry) (failure_view e)) }
     ensures untouched { (IsStandard (origin_view program.entry) → ⊥) → input.new ≡ input.old }
     ensures most { TakesAtMost MAX_READ (R.remaining input.old) (R.remaining input.new) }
+    ensures few { R.reads input.new ≤ R.reads input.old + MAX_READ }
 {
     let (program, numbers) = given(alloc, program, numbers, files, input)?;
     match measure(alloc, &program, &numbers) {

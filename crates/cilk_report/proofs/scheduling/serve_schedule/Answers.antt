@@ -8,7 +8,7 @@ use Rattle.cilk_report.proofs.scheduling.serve_schedule.Goals as goal
 
 pub returns-in-Ok-clause-shown : goal.returns-in-Ok-clause-shown
 returns-in-Ok-clause-shown g c =
-    subst (λ (ws : List Text). Schedules ws (g.F.Files.holds c.args.files.now) (g.R.Read.remaining c.args.input.now)
+    subst (λ (ws : List Text). Schedules ws (g.F.Files.holds c.args.files.now) (g.R.CountedRead.remaining c.args.input.now)
     (g.F.Files.failed c.args.files.now) (g.F.Files.failed c.serve_checked.new.files) c.serve_checked.result (g.O.Write.contents c.args.out.now) (g.O.Write.contents c.serve_checked.new.out)
     (g.E.Write.contents c.args.err.now) (g.E.Write.contents c.serve_checked.new.err)) (ap texts c.as_slice.ensures.value ∙ c.in-Ok.ensures) c.serve_checked.ensures.shown
 

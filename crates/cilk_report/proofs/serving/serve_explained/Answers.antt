@@ -24,13 +24,13 @@ serve_other-requires-clause-other g c =
 
 pub returns-in-Err-Usage-clause-measured : goal.returns-in-Err-Usage-clause-measured
 returns-in-Err-Usage-clause-measured g c = λ _ measures.
-    of_kept (λ fs f. Measures (texts c.args.words.now) fs (g.R.Read.remaining c.args.input.now) f (g.F.Files.failed c.serve_other.new.files)
+    of_kept (λ fs f. Measures (texts c.args.words.now) fs (g.R.CountedRead.remaining c.args.input.now) f (g.F.Files.failed c.serve_other.new.files)
     c.serve_other.result (g.O.Write.contents c.args.out.now) (g.O.Write.contents c.serve_other.new.out) (g.E.Write.contents c.args.err.now)
     (g.E.Write.contents c.serve_other.new.err)) _ _ _ _ c.keep-in-Err-Usage.ensures.failures c.keep-in-Err-Usage.ensures.same (c.serve_other.ensures.measured measures)
 
 pub returns-in-Err-Usage-clause-served : goal.returns-in-Err-Usage-clause-served
 returns-in-Err-Usage-clause-served g c =
-    of_kept (λ fs f. ServesExplained (texts c.args.words.now) fs (g.R.Read.remaining c.args.input.now) f (g.F.Files.failed c.serve_other.new.files)
+    of_kept (λ fs f. ServesExplained (texts c.args.words.now) fs (g.R.CountedRead.remaining c.args.input.now) f (g.F.Files.failed c.serve_other.new.files)
     c.serve_other.result (g.O.Write.contents c.args.out.now) (g.O.Write.contents c.serve_other.new.out) (g.E.Write.contents c.args.err.now)
     (g.E.Write.contents c.serve_other.new.err)) _ _ _ _ c.keep-in-Err-Usage.ensures.failures c.keep-in-Err-Usage.ensures.same c.serve_other.ensures.served
 
@@ -45,7 +45,7 @@ returns-in-Ok-2-clause-explained g c = λ empty _ _ _ _ _. absurd (measuring.ask
 
 pub returns-in-Err-Usage-clause-explained : goal.returns-in-Err-Usage-clause-explained
 returns-in-Err-Usage-clause-explained g c = λ _ isnt other settles about less.
-    of_kept (λ fs f. ServesThenExplains (unflagged (texts c.args.words.now)) fs (g.R.Read.remaining c.args.input.now) f (g.F.Files.failed c.serve_other.new.files)
+    of_kept (λ fs f. ServesThenExplains (unflagged (texts c.args.words.now)) fs (g.R.CountedRead.remaining c.args.input.now) f (g.F.Files.failed c.serve_other.new.files)
     c.serve_other.result (g.O.Write.contents c.args.out.now) (g.O.Write.contents c.serve_other.new.out) (g.E.Write.contents c.args.err.now)
     (g.E.Write.contents c.serve_other.new.err)) _ _ _ _ c.keep-in-Err-Usage.ensures.failures c.keep-in-Err-Usage.ensures.same (c.serve_other.ensures.explained isnt other settles about less)
 
@@ -62,7 +62,7 @@ returns-in-Ok-2-clause-scheduled g c = λ empty _ _. absurd (measuring.asked _ _
 
 pub returns-in-Err-Usage-clause-scheduled : goal.returns-in-Err-Usage-clause-scheduled
 returns-in-Err-Usage-clause-scheduled g c = λ _ isnt schedules.
-    of_kept (λ fs f. Schedules (words_of_check (texts c.args.words.now)) fs (g.R.Read.remaining c.args.input.now) f (g.F.Files.failed c.serve_other.new.files)
+    of_kept (λ fs f. Schedules (words_of_check (texts c.args.words.now)) fs (g.R.CountedRead.remaining c.args.input.now) f (g.F.Files.failed c.serve_other.new.files)
     c.serve_other.result (g.O.Write.contents c.args.out.now) (g.O.Write.contents c.serve_other.new.out) (g.E.Write.contents c.args.err.now)
     (g.E.Write.contents c.serve_other.new.err)) _ _ _ _ c.keep-in-Err-Usage.ensures.failures c.keep-in-Err-Usage.ensures.same (c.serve_other.ensures.scheduled isnt schedules)
 
@@ -93,13 +93,13 @@ returns-in-Err-Memory-clause-settled g c = λ _. (
 pub returns-in-Ok-clause-served : goal.returns-in-Ok-clause-served
 returns-in-Ok-clause-served g c =
     Settling (yes _ _ _ c.in-Ok.ensures.order c.explains_itself.ensures c.if-explains_itself.true)
-    (of_kept (λ fs f. ServesThenExplains (texts c.args.words.now) fs (g.R.Read.remaining c.args.input.now) f (g.F.Files.failed c.serve_flagged.new.files)
+    (of_kept (λ fs f. ServesThenExplains (texts c.args.words.now) fs (g.R.CountedRead.remaining c.args.input.now) f (g.F.Files.failed c.serve_flagged.new.files)
     c.serve_flagged.result (g.O.Write.contents c.args.out.now) (g.O.Write.contents c.serve_flagged.new.out) (g.E.Write.contents c.args.err.now)
     (g.E.Write.contents c.serve_flagged.new.err)) _ _ _ _ c.keep.ensures.failures c.keep.ensures.same c.serve_flagged.ensures.shown)
 
 pub returns-in-Ok-clause-settled : goal.returns-in-Ok-clause-settled
 returns-in-Ok-clause-settled g c = λ _.
-    of_kept (λ fs f. ServesThenExplains (texts c.args.words.now) fs (g.R.Read.remaining c.args.input.now) f (g.F.Files.failed c.serve_flagged.new.files)
+    of_kept (λ fs f. ServesThenExplains (texts c.args.words.now) fs (g.R.CountedRead.remaining c.args.input.now) f (g.F.Files.failed c.serve_flagged.new.files)
     c.serve_flagged.result (g.O.Write.contents c.args.out.now) (g.O.Write.contents c.serve_flagged.new.out) (g.E.Write.contents c.args.err.now)
     (g.E.Write.contents c.serve_flagged.new.err)) _ _ _ _ c.keep.ensures.failures c.keep.ensures.same c.serve_flagged.ensures.shown
 
@@ -120,7 +120,7 @@ returns-in-Ok-2-clause-settles g c = λ empty _ _ _. absurd (measuring.asked _ _
 
 pub returns-in-Err-Usage-clause-settles : goal.returns-in-Err-Usage-clause-settles
 returns-in-Err-Usage-clause-settles g c = λ _ isnt other held.
-    of_kept (λ fs f. Settles (texts c.args.words.now) fs (g.R.Read.remaining c.args.input.now) f (g.F.Files.failed c.serve_other.new.files)
+    of_kept (λ fs f. Settles (texts c.args.words.now) fs (g.R.CountedRead.remaining c.args.input.now) f (g.F.Files.failed c.serve_other.new.files)
     c.serve_other.result (g.O.Write.contents c.args.out.now) (g.O.Write.contents c.serve_other.new.out) (g.E.Write.contents c.args.err.now)
     (g.E.Write.contents c.serve_other.new.err)) _ _ _ _ c.keep-in-Err-Usage.ensures.failures c.keep-in-Err-Usage.ensures.same (c.serve_other.ensures.settles isnt other held)
 

@@ -19,7 +19,7 @@ pub returns-in-Ok-carry_out-clause-shown : goal.returns-in-Ok-carry_out-clause-s
 returns-in-Ok-carry_out-clause-shown g c = (
   g.E.Write.contents c.show-served.new.err,
   c.show-served.result.told,
-  ended _ _ _ _ _ _ _ _ _ _ _ c.in-Ok.ensures.order (reread (g.F.Files.holds c.args.files.now) (g.R.Read.remaining c.args.input.now) (g.F.Files.failed c.args.files.now) _ _
+  ended _ _ _ _ _ _ _ _ _ _ _ c.in-Ok.ensures.order (reread (g.F.Files.holds c.args.files.now) (g.R.CountedRead.remaining c.args.input.now) (g.F.Files.failed c.args.files.now) _ _
       (Some (order_view c.in-Ok.order)) (answer_view c.in-Ok-carry_out.answer) c.answered.ensures c.in-Ok-carry_out.ensures.answer) c.show-served.ensures c.follow.ensures.status,
   c.follow.ensures.follows,
 )
@@ -28,7 +28,7 @@ pub returns-in-Err-clause-shown : goal.returns-in-Err-clause-shown
 returns-in-Err-clause-shown g c = (
   g.E.Write.contents c.complain-served.new.err,
   c.complain-served.result.told,
-  failed _ _ _ _ _ _ _ _ _ _ c.in-Ok.ensures.order (reread (g.F.Files.holds c.args.files.now) (g.R.Read.remaining c.args.input.now) (g.F.Files.failed c.args.files.now) _ _
+  failed _ _ _ _ _ _ _ _ _ _ c.in-Ok.ensures.order (reread (g.F.Files.holds c.args.files.now) (g.R.CountedRead.remaining c.args.input.now) (g.F.Files.failed c.args.files.now) _ _
       (Some (order_view c.in-Ok.order)) (failure_view c.in-Err.failure) c.failed.ensures c.in-Err.ensures.failure) c.complain-served.ensures c.follow-in-Err.ensures.status,
   c.follow-in-Err.ensures.follows,
 )

@@ -42,8 +42,8 @@ returns-else-is_measure-clause-settles g c = λ _. c.serve_unmeasured.ensures.se
 
 pub returns-then-is_measure-clause-most : goal.returns-then-is_measure-clause-most
 returns-then-is_measure-clause-most g c =
-    subst (λ (o : Option (List ℕ)). TakesAtMost MAX_READ (g.R.Read.remaining c.args.input.now) o) (sym (ap g.R.Read.remaining c.serve_measure.ensures.untouched))
-    (takes_same MAX_READ (g.R.Read.remaining c.args.input.now))
+    subst (λ (o : Option (List ℕ)). TakesAtMost MAX_READ (g.R.CountedRead.remaining c.args.input.now) o) (sym (ap g.R.CountedRead.remaining c.serve_measure.ensures.untouched))
+    (takes_same MAX_READ (g.R.CountedRead.remaining c.args.input.now))
 
 pub returns-then-is_measure-clause-about : goal.returns-then-is_measure-clause-about
 returns-then-is_measure-clause-about g c =

@@ -60,5 +60,5 @@ returns-else-is_settling-clause-about g c = λ _ _. c.serve_unscheduled.ensures.
 
 pub returns-then-is_schedule-clause-most : goal.returns-then-is_schedule-clause-most
 returns-then-is_schedule-clause-most g c =
-    subst (λ (o : Option (List ℕ)). TakesAtMost MAX_READ (g.R.Read.remaining c.args.input.now) o) (sym (ap g.R.Read.remaining c.serve_schedule.ensures.untouched))
-    (takes_same MAX_READ (g.R.Read.remaining c.args.input.now))
+    subst (λ (o : Option (List ℕ)). TakesAtMost MAX_READ (g.R.CountedRead.remaining c.args.input.now) o) (sym (ap g.R.CountedRead.remaining c.serve_schedule.ensures.untouched))
+    (takes_same MAX_READ (g.R.CountedRead.remaining c.args.input.now))
