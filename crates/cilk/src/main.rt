@@ -29,6 +29,7 @@
 //! ```
 #![tactic(auto)]
 
+use cilk_commands::CountedReader;
 use cilk_commands::disk::Disk;
 use cilk_commands::reply::{NO_MEMORY, NO_MEMORY_LINE, WRONG};
 use cilk_report::{KeptFiles, without_color};
@@ -79,7 +80,7 @@ fn main(rt: HostRuntime) -> ExitCode {
         rt.alloc(),
         words.as_slice(),
         &mut KeptFiles::new(rt.alloc(), Disk::new(rt.alloc(), &rt), has_colors),
-        &mut rt.reader(),
+        &mut CountedReader::new(rt.reader()),
         &mut rt.stdout(),
         &mut rt.stderr(),
     );

@@ -11,19 +11,19 @@ ghost use Rattle.cilk_tool.specs.Helped.{HelpedThenExplains, IsHelpedReply};
 use crate::helping::check_by_helpers;
 use crate::serving::System;
 use cilk_commands::reply::Failure;
-use cilk_commands::{complain, show};
+use cilk_commands::{CountedRead, complain, show};
 use cilk_messages::check_words::read_check;
 use cilk_messages::words::WordsFault;
 use cilk_report::{Keeps, follow, of_answer, of_failure, unflagged};
 use std::alloc::Global;
-use std::io::{Read, Write};
+use std::io::Write;
 use std::thread::Threads;
 
 // Follows the error of a command line that isn't valid.
 const HINT: &str = "\nhint: `cilk help check` describes `check` and its options\n";
 
 /// Serves `check` with `--helpers`, and waits for the helpers.
-pub fn serve_check<H: Threads + Sync, F: Keeps, R: Read, O: Write, E: Write>(
+pub fn serve_check<H: Threads + Sync, F: Keeps, R: CountedRead, O: Write, E: Write>(
     rt: &H,
     alloc: Global,
     words: &[&str],
@@ -55,7 +55,7 @@ pub fn serve_check<H: Threads + Sync, F: Keeps, R: Read, O: Write, E: Write>(
 
 /// Serves a command line that can't be read as it is. If `--explain` is among the words, the others
 /// are served.
-fn serve_unread<H: Threads + Sync, F: Keeps, R: Read, O: Write, E: Write>(
+fn serve_unread<H: Threads + Sync, F: Keeps, R: CountedRead, O: Write, E: Write>(
     system: &System<'_, H>,
     words: &[&str],
     usage: String,
@@ -83,7 +83,7 @@ fn serve_unread<H: Threads + Sync, F: Keeps, R: Read, O: Write, E: Write>(
 }
 
 /// Serves the command, then explains what was shown.
-fn serve_flagged<H: Threads + Sync, F: Keeps, R: Read, O: Write, E: Write>(
+fn serve_flagged<H: Threads + Sync, F: Keeps, R: CountedRead, O: Write, E: Write>(
     system: &System<'_, H>,
     words: &[&str],
     files: &mut F,

@@ -14,7 +14,7 @@ use cilk_checker::refusal::Unaccepted;
 use cilk_checker::source::Whole;
 use cilk_commands::files::Files;
 use cilk_commands::reply::{Answer, Failure};
-use cilk_commands::{carry_out, given, read_file, refused};
+use cilk_commands::{CountedRead, carry_out, given, read_file, refused};
 use cilk_helpers::many::{MAX_HELPERS, listed_run};
 use cilk_helpers::watch::Unwatched;
 use cilk_messages::check_words::CheckOrder;
@@ -22,7 +22,6 @@ use cilk_messages::words::Origin;
 use cilk_program::program::Program;
 use cilk_types::input::Input;
 use std::alloc::Global;
-use std::io::Read;
 use std::thread::Threads;
 
 /// Checks a certificate's file by `helpers` helpers, or by the most that are allowed.
@@ -59,7 +58,7 @@ fn checked<'a, H: Threads + Sync, F: Files>(
 /// Checks the certificate of a program's run on an input by helpers. The program is read and judged
 /// first, then its input, then the whole certificate. A single helper checks as `check` does, a part of the
 /// file at a time, without a thread.
-pub fn check_by_helpers<'a, H: Threads + Sync, F: Files, R: Read>(
+pub fn check_by_helpers<'a, H: Threads + Sync, F: Files, R: CountedRead>(
     rt: &H,
     alloc: Global,
     order: &CheckOrder<'a>,

@@ -18,7 +18,7 @@ use cilk_checker::refusal::Unaccepted;
 use cilk_commands::files::Files;
 use cilk_commands::parts::PartSource;
 use cilk_commands::reply::{Answer, Failure};
-use cilk_commands::{given, input as judge_input, names, read_file, refused};
+use cilk_commands::{CountedRead, given, input as judge_input, names, read_file, refused};
 use cilk_messages::threads_words::Order;
 use cilk_messages::words::Origin;
 use cilk_plan::program_plan::plan;
@@ -30,7 +30,6 @@ use cilk_types::input::Input;
 use cilk_types::outcome::Outcome;
 use cilk_workers::gate::Gate;
 use std::alloc::Global;
-use std::io::Read;
 use std::marker::{Brand, PhantomData};
 use std::sync::Wait;
 use std::thread::Threads;
@@ -189,7 +188,7 @@ fn judged<'a, H: Threads + Wait + Sync, G: Gate + Sync, F: Files>(
 
 /// Carries out an order of `threads`. The program is read and judged first, then its input, then
 /// the certificate, then the input of `--on`. The gate is called as each strand of a run begins.
-pub fn carry_out<'a, H: Threads + Wait + Sync, G: Gate + Sync, F: Files, R: Read>(
+pub fn carry_out<'a, H: Threads + Wait + Sync, G: Gate + Sync, F: Files, R: CountedRead>(
     rt: &H,
     alloc: Global,
     order: &Order<'a>,

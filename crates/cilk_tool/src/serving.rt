@@ -1,6 +1,6 @@
 //! From a command line to its reply.
 
-ghost use Rattle.std.specs.Prelude.{◌≡◌, ◌≢◌, ◌<◌, ◌++◌, [], IfOk, None, OnOk, flat_map, length};
+ghost use Rattle.std.specs.Prelude.{◌≡◌, ◌≢◌, ◌+◌, ◌<◌, ◌≤◌, ◌++◌, [], IfOk, None, OnOk, flat_map, length};
 ghost use Rattle.cilk_messages.specs.Asked.{unflagged};
 ghost use Rattle.cilk_commands.specs.Replies.{Refused, Reply, failure_view, place_text, refused_line};
 ghost use Rattle.cilk_commands.specs.Serving.{IsOrNoMemory, Shows, WordsFail};
@@ -16,7 +16,7 @@ use crate::running::{Ending, carry_out};
 use crate::stats::{Tally, Watch};
 use cilk_commands::reply::{Failure, REFUSED, WRONG};
 use cilk_commands::streams::send;
-use cilk_commands::{Served, complain, show, tell};
+use cilk_commands::{CountedRead, Served, complain, show, tell};
 use cilk_messages::check_words::is_helped;
 use cilk_messages::threads_words::read;
 use cilk_messages::words::WordsFault;
@@ -25,7 +25,7 @@ use cilk_types::event::Pos;
 use cilk_workers::gate::Open;
 use itoa::Buffer;
 use std::alloc::{AllocError, Global};
-use std::io::{Read, Write};
+use std::io::Write;
 use std::sync::Wait;
 use std::thread::Threads;
 use std::time::Clock;
@@ -52,7 +52,7 @@ pub struct System<'a, H> {
 /// [`cilk_report::serve_explained`]. Standard input is read only if there are no words but those
 /// that add a text.
 #[tactic(auto, using(cilk_commands::proofs::Reading::takes_same))]
-pub fn serve<H: Threads + Wait + Clock + Sync, F: Keeps, R: Read, O: Write, E: Write>(
+pub fn serve<H: Threads + Wait + Clock + Sync, F: Keeps, R: CountedRead, O: Write, E: Write>(
     rt: &H,
     alloc: Global,
     words: &[&str],
@@ -66,6 +66,7 @@ pub fn serve<H: Threads + Wait + Clock + Sync, F: Keeps, R: Read, O: Write, E: W
         result (O.contents out.old) (O.contents out.new) (E.contents err.old) (E.contents err.new) }
     ensures untouched { unflagged (texts words.now) ≢ [] → input.new ≡ input.old }
     ensures most { TakesAtMost MAX_READ (R.remaining input.old) (R.remaining input.new) }
+    ensures few { R.reads input.new ≤ R.reads input.old + MAX_READ }
 {
     if is_threads(words) {
         serve_threads(rt, alloc, words, files, input, out, err)
@@ -87,7 +88,7 @@ fn is_threads(words: &[&str]) -> bool
 }
 
 /// Serves `threads`.
-fn serve_threads<H: Threads + Wait + Clock + Sync, F: Keeps, R: Read, O: Write, E: Write>(
+fn serve_threads<H: Threads + Wait + Clock + Sync, F: Keeps, R: CountedRead, O: Write, E: Write>(
     rt: &H,
     alloc: Global,
     words: &[&str],
@@ -119,7 +120,7 @@ fn serve_threads<H: Threads + Wait + Clock + Sync, F: Keeps, R: Read, O: Write, 
 
 /// Serves a command line that can't be read as it is. If `--explain` or `--stats` is among the words,
 /// the others are served.
-fn serve_unread<H: Threads + Wait + Clock + Sync, F: Keeps, R: Read, O: Write, E: Write>(
+fn serve_unread<H: Threads + Wait + Clock + Sync, F: Keeps, R: CountedRead, O: Write, E: Write>(
     system: &System<'_, H>,
     words: &[&str],
     usage: String,
@@ -147,7 +148,7 @@ fn serve_unread<H: Threads + Wait + Clock + Sync, F: Keeps, R: Read, O: Write, E
 }
 
 /// Serves `threads` by the words without those that add a text, then adds it.
-fn serve_flagged<H: Threads + Wait + Clock + Sync, F: Keeps, R: Read, O: Write, E: Write>(
+fn serve_flagged<H: Threads + Wait + Clock + Sync, F: Keeps, R: CountedRead, O: Write, E: Write>(
     system: &System<'_, H>,
     words: &[&str],
     plain: &[&str],
@@ -171,7 +172,7 @@ fn serve_flagged<H: Threads + Wait + Clock + Sync, F: Keeps, R: Read, O: Write, 
 }
 
 /// Serves `threads`, then adds what is known of the run.
-fn serve_watched<H: Threads + Wait + Sync, W: Watch, F: Keeps, R: Read, O: Write, E: Write>(
+fn serve_watched<H: Threads + Wait + Sync, W: Watch, F: Keeps, R: CountedRead, O: Write, E: Write>(
     system: &System<'_, H>,
     words: &[&str],
     watch: &W,

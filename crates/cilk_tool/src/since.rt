@@ -13,8 +13,8 @@ pub(crate) trait Moment {
     ghost failed: { Failures };
 }
 
-// A caller that takes a brand tells in its proofs (`ghosts-checked`) which moment it stands for. This
-// value, before all reads, is that of a brand of which nothing is told.
+// The proof of a call with a brand picks its moment (`ghosts-checked`). If it picks none, the moment is
+// this one, before all reads.
 impl Moment for Brand {
     ghost failed = { failures 0 (λ _. 0) };
 }

@@ -30,13 +30,13 @@ serve_unread-requires-clause-unread g c = λ _ _.
 
 pub returns-in-Err-Usage-clause-explained : goal.returns-in-Err-Usage-clause-explained
 returns-in-Err-Usage-clause-explained g c = λ _ less.
-    of_kept (λ fs f. HelpedThenExplains (unflagged (texts c.args.words.now)) (world fs (g.R.Read.remaining c.args.input.now) f (g.F.Files.failed c.serve_unread.new.files))
+    of_kept (λ fs f. HelpedThenExplains (unflagged (texts c.args.words.now)) (world fs (g.R.CountedRead.remaining c.args.input.now) f (g.F.Files.failed c.serve_unread.new.files))
     c.serve_unread.result (g.O.Write.contents c.args.out.now) (g.O.Write.contents c.serve_unread.new.out) (g.E.Write.contents c.args.err.now)
     (g.E.Write.contents c.serve_unread.new.err)) _ _ _ _ c.keep.ensures.failures c.keep.ensures.same (c.serve_unread.ensures.explained less)
 
 pub returns-in-Err-Usage-clause-served : goal.returns-in-Err-Usage-clause-served
 returns-in-Err-Usage-clause-served g c =
-    of_kept (λ fs f. IsHelpedReply (texts c.args.words.now) (world fs (g.R.Read.remaining c.args.input.now) f (g.F.Files.failed c.serve_unread.new.files))
+    of_kept (λ fs f. IsHelpedReply (texts c.args.words.now) (world fs (g.R.CountedRead.remaining c.args.input.now) f (g.F.Files.failed c.serve_unread.new.files))
     c.serve_unread.result (g.O.Write.contents c.args.out.now) (g.O.Write.contents c.serve_unread.new.out) (g.E.Write.contents c.args.err.now)
     (g.E.Write.contents c.serve_unread.new.err)) _ _ _ _ c.keep.ensures.failures c.keep.ensures.same c.serve_unread.ensures.served
 

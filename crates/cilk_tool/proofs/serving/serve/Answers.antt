@@ -22,10 +22,10 @@ returns-else-is_helped-clause-shown g c =
 
 pub returns-then-is_threads-clause-most : goal.returns-then-is_threads-clause-most
 returns-then-is_threads-clause-most g c =
-    subst (λ (o : Option (List ℕ)). TakesAtMost MAX_READ (g.R.Read.remaining c.args.input.now) o) (sym (ap g.R.Read.remaining c.serve_threads.ensures.untouched))
-    (takes_same MAX_READ (g.R.Read.remaining c.args.input.now))
+    subst (λ (o : Option (List ℕ)). TakesAtMost MAX_READ (g.R.CountedRead.remaining c.args.input.now) o) (sym (ap g.R.CountedRead.remaining c.serve_threads.ensures.untouched))
+    (takes_same MAX_READ (g.R.CountedRead.remaining c.args.input.now))
 
 pub returns-then-is_helped-clause-most : goal.returns-then-is_helped-clause-most
 returns-then-is_helped-clause-most g c =
-    subst (λ (o : Option (List ℕ)). TakesAtMost MAX_READ (g.R.Read.remaining c.args.input.now) o) (sym (ap g.R.Read.remaining c.serve_check.ensures.untouched))
-    (takes_same MAX_READ (g.R.Read.remaining c.args.input.now))
+    subst (λ (o : Option (List ℕ)). TakesAtMost MAX_READ (g.R.CountedRead.remaining c.args.input.now) o) (sym (ap g.R.CountedRead.remaining c.serve_check.ensures.untouched))
+    (takes_same MAX_READ (g.R.CountedRead.remaining c.args.input.now))

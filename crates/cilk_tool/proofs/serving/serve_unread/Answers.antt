@@ -14,7 +14,7 @@ returns-in-Ok-clause-served g c =
     ap texts c.as_slice.ensures.value ∙ c.in-Ok.ensures in
     let less : length c.as_slice.result.now < length c.args.words.now = search rules in
     Explained c.requires.unread (fewer _ _ same less)
-    (subst (λ (ws : List Text). ThreadsThenExplains ws (g.F.Files.holds c.args.files.now) (g.R.Read.remaining c.args.input.now)
+    (subst (λ (ws : List Text). ThreadsThenExplains ws (g.F.Files.holds c.args.files.now) (g.R.CountedRead.remaining c.args.input.now)
     (g.F.Files.failed c.args.files.now) (g.F.Files.failed c.serve_flagged.new.files) c.serve_flagged.result (g.O.Write.contents c.args.out.now) (g.O.Write.contents c.serve_flagged.new.out)
     (g.E.Write.contents c.args.err.now) (g.E.Write.contents c.serve_flagged.new.err)) same c.serve_flagged.ensures.shown)
 
@@ -22,7 +22,7 @@ pub returns-in-Ok-clause-explained : goal.returns-in-Ok-clause-explained
 returns-in-Ok-clause-explained g c = λ _.
     let same : texts c.as_slice.result.now ≡ unflagged (texts c.args.words.now) =
     ap texts c.as_slice.ensures.value ∙ c.in-Ok.ensures in
-    subst (λ (ws : List Text). ThreadsThenExplains ws (g.F.Files.holds c.args.files.now) (g.R.Read.remaining c.args.input.now)
+    subst (λ (ws : List Text). ThreadsThenExplains ws (g.F.Files.holds c.args.files.now) (g.R.CountedRead.remaining c.args.input.now)
     (g.F.Files.failed c.args.files.now) (g.F.Files.failed c.serve_flagged.new.files) c.serve_flagged.result (g.O.Write.contents c.args.out.now) (g.O.Write.contents c.serve_flagged.new.out)
     (g.E.Write.contents c.args.err.now) (g.E.Write.contents c.serve_flagged.new.err)) same c.serve_flagged.ensures.shown
 
