@@ -20,7 +20,7 @@
 
 use cilk_commands::disk::Disk;
 use cilk_commands::files::Files;
-use cilk_commands::serve;
+use cilk_commands::{CountedReader, serve};
 use std::io;
 use std::process::ExitCode;
 
@@ -30,7 +30,7 @@ fn show(rt: &HostRuntime, words: &[&str]) -> io::Result<()> {
         rt.alloc(),
         words,
         &mut Disk::new(rt.alloc(), rt),
-        &mut rt.reader(),
+        &mut CountedReader::new(rt.reader()),
         &mut rt.stdout(),
         &mut rt.stdout(),
     );

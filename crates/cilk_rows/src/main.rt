@@ -33,6 +33,7 @@ mod folder;
 use crate::case::{Case, loaded, text_of};
 use crate::compare::{agrees, start_of};
 use crate::folder::{File, Folder, bytes_of};
+use cilk_commands::CountedReader;
 use cilk_report::{KeptFiles, without_color};
 use cilk_tool::serve;
 use std::alloc::AllocError;
@@ -63,7 +64,7 @@ fn served<H: Threads + Wait + Clock + Sync>(
     let all: Vec<&str> = words.lines().collect(alloc)?;
     let words = without_color(alloc, all.as_slice())?;
     let has_colors = words.len() < all.len();
-    let mut input = bytes_of(files, "stdin");
+    let mut input = CountedReader::new(bytes_of(files, "stdin"));
     let mut folder = KeptFiles::new(alloc, Folder::new(files, left), has_colors);
     let (mut out, mut err) = (Vec::new(alloc), Vec::new(alloc));
     let status = serve(

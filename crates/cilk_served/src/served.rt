@@ -6,7 +6,7 @@ ghost use Rattle.cilk_commands.specs.declared.disk.TheConstants.{MAX_FILE};
 
 use cilk_commands::disk::MAX_FILE;
 use cilk_commands::files::{FileFault, Files};
-use cilk_commands::{Served, serve, serve_and_tell};
+use cilk_commands::{CountedReader, Served, serve, serve_and_tell};
 use std::alloc::Global;
 use std::io;
 use std::io::{ErrorKind, Read, Write};
@@ -220,7 +220,8 @@ fn served<R: Read>(alloc: Global, words: &[&str], mut files: Folder<'_>, standar
     requires { files.failures ≡ 0 }
 {
     let (mut out, mut err) = (Vec::new(alloc), Vec::new(alloc));
-    let status = serve(alloc, words, &mut files, standard, &mut out, &mut err);
+    let mut counted = CountedReader::new(standard);
+    let status = serve(alloc, words, &mut files, &mut counted, &mut out, &mut err);
     Ended {
         status,
         out,
@@ -238,7 +239,8 @@ pub fn served_over<O: Write, E: Write>(
     err: &mut E,
 ) -> Served {
     let mut files = Folder::new(b"", b"", b"", b"");
-    serve_and_tell(alloc, &[], &mut files, standard, out, err)
+    let mut counted = CountedReader::new(standard);
+    serve_and_tell(alloc, &[], &mut files, &mut counted, out, err)
 }
 
 /// Returns the status of a call over a program and a certificate and these two writers.
@@ -251,5 +253,6 @@ pub fn status_with<O: Write, E: Write>(
     err: &mut E,
 ) -> u8 {
     let mut files = Folder::new(program, b"", certificate, b"");
-    serve(alloc, words, &mut files, &mut Broken, out, err)
+    let mut counted = CountedReader::new(Broken);
+    serve(alloc, words, &mut files, &mut counted, out, err)
 }
