@@ -7,6 +7,7 @@
 //! | Module | Tests |
 //! |---|---|
 //! | [`messages`] | the texts of faults |
+//! | [`numbers`] | that the list of `explain` has each number with a meaning, and no other |
 //! | [`reads`] | the number of files that a call reads |
 //! | [`failing`] | replies where a reader, writer or file fails |
 //! | [`disk`] | paths that aren't files |
@@ -25,5 +26,7 @@ mod disk;
 mod failing;
 #[cfg(test)]
 mod messages;
+#[cfg(test)]
+mod numbers;
 #[cfg(test)]
 mod reads;
