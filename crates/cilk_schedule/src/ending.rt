@@ -20,6 +20,8 @@ ghost use Rattle.cilk_schedule.specs.Sound.{IsQuiet, IsTurn, Makes, SameRest};
 
 use crate::arrivals::leave;
 use cilk_frames::activation::Activation;
+use cilk_frames::asked::AskSlot;
+use cilk_frames::cursor::Cursor;
 use cilk_frames::outcome::outcome;
 use cilk_hypermap::hypermap::Hypermap;
 use cilk_lower::code::Code;
@@ -55,8 +57,18 @@ pub fn end(
     let views = &mut scheduler.workers[worker].views;
     retire_at(code, scheduler.frames.as_slice(), views, frame);
     depart(alloc, code, scheduler, worker, frame, value)?;
-    finish(&mut scheduler.frames, frame);
+    let cursor = finish(&mut scheduler.frames, frame);
+    keep_operands(alloc, &mut scheduler.asked, cursor);
     Ok(Event::End)
+}
+
+// Keeps the operands of a frame that has ended, for frames that begin later.
+fn keep_operands(alloc: Global, asked: &mut AskSlot, cursor: Option<Cursor>)
+    ensures { asked.new ≡ asked.old }
+{
+    let Some(mut cursor) = cursor else { return };
+    let operands = cursor.take_operands(alloc);
+    asked.keep(alloc, operands);
 }
 
 // Removes the reducers that the frame created from the views.

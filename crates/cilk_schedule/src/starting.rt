@@ -38,6 +38,7 @@ pub fn start_function(
     ensures kind { IfOk result (λ e. e ≡ events.Sync → ⊥) }
     ensures starts { IfOk result (λ e. Started code.now scheduler.old scheduler.new worker frame e) }
 {
+    let operands = scheduler.asked.spare(alloc);
     let (how, call) = scheduler.asked.invocation();
     let count = code.layout().function_cells(call.function);
     let starter = Starter {
@@ -45,7 +46,8 @@ pub fn start_function(
         worker: worker as u32,
         base: scheduler.cells.len() as u32,
     };
-    let child = function_child(alloc, code, scheduler.frames.as_slice(), starter, how, call)?;
+    let frames = scheduler.frames.as_slice();
+    let child = function_child(alloc, operands, code, frames, starter, how, call)?;
     begin(scheduler, worker as u32, frame, how, child, count)
 }
 
@@ -71,19 +73,14 @@ pub fn start_turns(
     ensures kind { IfOk result (λ e. e ≡ events.Sync → ⊥) }
     ensures starts { IfOk result (λ e. Started code.now scheduler.old scheduler.new worker frame e) }
 {
+    let operands = scheduler.asked.spare(alloc);
     let count = code.layout().part_cells(&part);
     let starter = Starter {
         frame,
         worker: worker as u32,
         base: scheduler.cells.len() as u32,
     };
-    let child = turns_child(
-        alloc,
-        code,
-        scheduler.frames.as_slice(),
-        starter,
-        how,
-        &part,
-    )?;
+    let frames = scheduler.frames.as_slice();
+    let child = turns_child(alloc, operands, code, frames, starter, how, &part)?;
     begin(scheduler, worker as u32, frame, how, child, count)
 }

@@ -68,7 +68,8 @@ pub fn begin(
     let place = scheduler.frames.len() as u32;
     offer(&mut scheduler.workers[worker as usize], how, frame, place)?;
     add_cells(&mut scheduler.cells, count)?;
-    scheduler.frames.push(child)?;
+    scheduler.frames.reserve(1)?;
+    scheduler.frames.push_reserved(child);
     scheduler.workers[worker as usize].frame = Some(place);
     match how {
         Invocation::Call => {

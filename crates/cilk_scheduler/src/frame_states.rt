@@ -7,7 +7,7 @@ ghost use Rattle.cilk_scheduler.specs.FrameStates.{answered, changed, counted, f
 
 use crate::frame_state::{Due, FrameState, Status};
 use cilk_frames::activation::Activation;
-use cilk_frames::cursor::Answer;
+use cilk_frames::cursor::{Answer, Cursor};
 
 /// Sets the answer from which the frame continues.
 pub fn answer(frames: &mut Vec<Activation<FrameState>>, frame: usize, answer: Answer)
@@ -66,14 +66,14 @@ pub fn wait(frames: &mut Vec<Activation<FrameState>>, frame: usize)
     frame_state.due = Due::Sync;
 }
 
-/// Marks the frame as ended and drops its cursor.
-pub fn finish(frames: &mut Vec<Activation<FrameState>>, frame: usize)
+/// Marks the frame as ended. Returns its cursor, which it has no more.
+pub fn finish(frames: &mut Vec<Activation<FrameState>>, frame: usize) -> Option<Cursor>
     requires { frame < length frames.old.items }
     ensures { frames.new.items ≡ changed finished frames.old.items frame }
 {
     let frame_state = &mut frames[frame].cursor;
     frame_state.status = Status::Finished;
-    frame_state.cursor = None;
+    frame_state.cursor.take()
 }
 
 /// Marks the continuation beside the frame as stolen.

@@ -14,6 +14,7 @@ use crate::frame_state::FrameState;
 use cilk_frames::activation::Activation;
 use cilk_frames::beginnings::{function, turns};
 use cilk_frames::cursor::Cursor;
+use cilk_frames::operands::Operands;
 use cilk_lower::code::Code;
 use cilk_program::ask::{FunctionCall, LoopPart};
 use cilk_types::event::Cell;
@@ -29,9 +30,11 @@ pub struct Starter {
     pub base: Cell,
 }
 
-/// Returns the frame of a called or spawned function. It isn't in the list of frames yet.
+/// Returns the frame of a called or spawned function, in the operands of a frame that has ended. It
+/// isn't in the list of frames yet.
 pub fn function_child(
     alloc: Global,
+    operands: Operands,
     code: &Code,
     frames: &[Activation<FrameState>],
     starter: Starter,
@@ -47,16 +50,17 @@ pub fn function_child(
     let here = starter.frame as usize;
     let top = &frames[here];
     let number = frames.len() as u32 + 1;
-    let cursor = Cursor::function(alloc, code, call)?;
+    let cursor = Cursor::function_in::<true>(alloc, operands, code, call)?;
     let ordinal = top.cursor.children + 1;
     let frame_state = FrameState::new(starter.frame, ordinal, how, starter.worker, cursor);
-    let child = function(alloc, frame_state, number, starter.base, frames, top, call)?;
-    Ok(child)
+    function(alloc, frame_state, number, starter.base, frames, top, call)
 }
 
-/// Returns the frame of some turns of a loop. It isn't in the list of frames yet.
+/// Returns the frame of some turns of a loop, in the operands of a frame that has ended. It isn't in
+/// the list of frames yet.
 pub fn turns_child(
     alloc: Global,
+    operands: Operands,
     code: &Code,
     frames: &[Activation<FrameState>],
     starter: Starter,
@@ -72,7 +76,7 @@ pub fn turns_child(
     let here = starter.frame as usize;
     let top = &frames[here];
     let number = frames.len() as u32 + 1;
-    let cursor = Cursor::turns(alloc, code, part)?;
+    let cursor = Cursor::turns_in::<true>(alloc, operands, code, part)?;
     let ordinal = top.cursor.children + 1;
     let frame_state = FrameState::new(starter.frame, ordinal, how, starter.worker, cursor);
     let child = turns(alloc, frame_state, number, starter.base, here, top, part);

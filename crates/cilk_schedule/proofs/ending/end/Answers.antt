@@ -12,10 +12,10 @@ pub returns-clause-made : goal.returns-clause-made
 returns-clause-made c =
     let f = c.args.scheduler.now.frames.items in
     let q = c.depart.new.scheduler.frames.items in
-    let g = c.finish.new.frames.items in
+    let g = c.finish-cursor.new.frames.items in
     let still = c.in_ok-depart.ensures.quiet in (
-      λ inputs t. ends_made c.args.code.now inputs c.args.scheduler.now c.args.frame t (asks.End c.args.value) c.requires.ends _ q still c.finish.ensures c.depart.ensures.cells c.depart.ensures.rest.journal c.depart.ensures.fewer,
-      end_ticks f q g c.args.frame still c.finish.ensures,
+      λ inputs t. ends_made c.args.code.now inputs c.args.scheduler.now c.args.frame t (asks.End c.args.value) c.requires.ends _ q still c.finish-cursor.ensures c.depart.ensures.cells c.depart.ensures.rest.journal c.depart.ensures.fewer,
+      end_ticks f q g c.args.frame still c.finish-cursor.ensures,
     )
 
 pub returns-clause-ends : goal.returns-clause-ends
@@ -47,7 +47,7 @@ returns-clause-ends c = (
         retires = c.retire_at.ensures top.0 (ap (λ z. slice_get z c.args.frame) c.as_slice.ensures.value ∙ top.1);
         departs = subst (λ ws. PartsFrom c.args.code.now f b.cells.items ws b.offered b.outcome views c.depart.new.scheduler c.args.worker c.args.frame c.args.value) (viewing_at views l c.args.worker u c.index_mut.ensures.value c.requires.works)
             (subst (λ z. PartsFrom c.args.code.now f b.cells.items seen b.offered b.outcome views c.depart.new.scheduler c.args.worker c.args.frame z) same departs);
-        frames = c.finish.ensures;
+        frames = c.finish-cursor.ensures;
         workers = refl;
         offered = refl;
         outcome = refl;

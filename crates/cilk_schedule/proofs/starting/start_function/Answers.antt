@@ -3,6 +3,7 @@ use Rattle.cilk_program.specs.declared.ask.Callee.TheVariants as callees
 use Rattle.cilk_lower.specs.Layout.{cells_in, function_frame}
 use Rattle.cilk_lower.specs.declared.layout.Layout.{Layout}
 use Rattle.cilk_scheduler.specs.Events.{SeesAt}
+use Rattle.cilk_scheduler.specs.Invocations.{ChildBegins}
 use Rattle.cilk_scheduler.specs.Invoking.{IsChild}
 use Rattle.cilk_schedule.proofs.Answering.{on_ok}
 use Rattle.cilk_schedule.proofs.Started.{if_both, no_touch, started_by}
@@ -13,8 +14,8 @@ use Rattle.cilk_schedule.proofs.starting.start_function.Goals as goal
 pub function_child-requires-clause-sees : goal.function_child-requires-clause-sees
 function_child-requires-clause-sees c =
     let q = c.requires.turn in
-    let m = function_may c.args.code.now q.0 c.args.scheduler.now c.args.frame q.1 c.invocation-how.result.0 c.invocation-how.result.1.now c.invocation-how.ensures in
-    (m.0, subst (λ l. SeesAt l c.args.frame m.0) (sym c.as_slice.ensures.value) m.1, m.2, m.3)
+    let m = function_may c.args.code.now q.0 c.args.scheduler.now c.args.frame q.1 c.invocation-how.result.0 c.invocation-how.result.1.now (sym c.spare-operands.ensures ∙ c.invocation-how.ensures) in
+    (m.0, subst (λ l. SeesAt l c.args.frame m.0) (sym c.as_slice-frames.ensures.value) m.1, m.2, m.3)
 
 pub begin-requires-clause-children : goal.begin-requires-clause-children
 begin-requires-clause-children c = let q = c.requires.turn in can_start c.args.code.now q.0 c.args.scheduler.now c.args.frame q.1
@@ -25,16 +26,17 @@ returns-clause-made c =
     let call = c.invocation-how.result.1.now in
     let old = c.args.scheduler.now in
     let new = c.begin.new.scheduler in
+    let same : record old { asked = c.spare-operands.new.self } ≡ old = ap (λ a. record old { asked = a }) c.spare-operands.ensures in
     let child = c.in_ok-child.child in
     let fine = c.args.scheduler.now.cells.ok in
     let counts = c.len.ensures in
     let base : c.len.result ≡ length c.args.scheduler.now.cells.items = omega (arith, fine, counts) in
     let count : c.function_cells-count.result ≡ cells_in c.args.code.now.layout (callees.Function call) = c.function_cells-count.ensures ∙ ap (λ (l : Layout). let f = function_frame l call.function in f.cells) c.layout.ensures in
-    let is = subst (λ l. IsChild c.args.code.now l c.args.frame c.args.worker c.len.result how (callees.Function call) child) c.as_slice.ensures.value c.in_ok-child.ensures in
+    let is = subst (λ l. IsChild c.args.code.now l c.args.frame c.args.worker c.len.result how (callees.Function call) child) c.as_slice-frames.ensures.value c.in_ok-child.ensures in
     on_ok c.begin.result c.begin.ensures.begins
     (λ h. (
-      λ inputs t. begun_made c.args.code.now inputs old c.args.frame t how (callees.Function call) c.invocation-how.ensures c.args.worker c.len.result c.function_cells-count.result child base is count new h c.begin.ensures.journal,
-      begun_ticks old new c.args.worker c.args.frame how child c.function_cells-count.result h,
+      λ inputs t. begun_made c.args.code.now inputs old c.args.frame t how (callees.Function call) (sym c.spare-operands.ensures ∙ c.invocation-how.ensures) c.args.worker c.len.result c.function_cells-count.result child base is count new (subst (λ b. ChildBegins b new c.args.worker c.args.frame how child c.function_cells-count.result) same h) c.begin.ensures.journal,
+      begun_ticks old new c.args.worker c.args.frame how child c.function_cells-count.result (subst (λ b. ChildBegins b new c.args.worker c.args.frame how child c.function_cells-count.result) same h),
     ))
 
 pub returns-clause-event : goal.returns-clause-event
@@ -46,11 +48,12 @@ returns-clause-starts c =
     let call = c.invocation-how.result.1.now in
     let old = c.args.scheduler.now in
     let new = c.begin.new.scheduler in
+    let same : record old { asked = c.spare-operands.new.self } ≡ old = ap (λ a. record old { asked = a }) c.spare-operands.ensures in
     let child = c.in_ok-child.child in
     let fine = c.args.scheduler.now.cells.ok in
     let counts = c.len.ensures in
     let base : c.len.result ≡ length c.args.scheduler.now.cells.items = omega (arith, fine, counts) in
     let count : c.function_cells-count.result ≡ cells_in c.args.code.now.layout (callees.Function call) = c.function_cells-count.ensures ∙ ap (λ (l : Layout). let f = function_frame l call.function in f.cells) c.layout.ensures in
-    let is = subst (λ l. IsChild c.args.code.now l c.args.frame c.args.worker c.len.result how (callees.Function call) child) c.as_slice.ensures.value c.in_ok-child.ensures in
+    let is = subst (λ l. IsChild c.args.code.now l c.args.frame c.args.worker c.len.result how (callees.Function call) child) c.as_slice-frames.ensures.value c.in_ok-child.ensures in
     if_both _ _ _ c.begin.result c.begin.ensures.event c.begin.ensures.begins
-    (λ e at begins. started_by c.args.code.now old new c.args.worker c.args.frame c.len.result c.function_cells-count.result how (callees.Function call) child e c.invocation-how.ensures base is count at begins)
+    (λ e at begins. started_by c.args.code.now old new c.args.worker c.args.frame c.len.result c.function_cells-count.result how (callees.Function call) child e (sym c.spare-operands.ensures ∙ c.invocation-how.ensures) base is count at (subst (λ b. ChildBegins b new c.args.worker c.args.frame how child c.function_cells-count.result) same begins))

@@ -2,6 +2,7 @@ use Rattle.std.proofs.Common.{◌≡◌, length, ap, ◌∙◌, subst, arith}
 use Rattle.cilk_program.specs.declared.ask.Callee.TheVariants as callees
 use Rattle.cilk_lower.specs.Layout.{cells_in}
 use Rattle.cilk_lower.specs.declared.layout.Layout.{Layout}
+use Rattle.cilk_scheduler.specs.Invocations.{ChildBegins}
 use Rattle.cilk_scheduler.specs.Invoking.{IsChild}
 use Rattle.cilk_schedule.proofs.Answering.{on_ok}
 use Rattle.cilk_schedule.proofs.Started.{if_both, no_touch, started_by}
@@ -21,16 +22,17 @@ returns-clause-made c =
     let part = c.args.part in
     let old = c.args.scheduler.now in
     let new = c.begin.new.scheduler in
+    let same : record old { asked = c.spare-operands.new.self } ≡ old = ap (λ a. record old { asked = a }) c.spare-operands.ensures in
     let child = c.in_ok-child.child in
     let fine = c.args.scheduler.now.cells.ok in
     let counts = c.len.ensures in
     let base : c.len.result ≡ length c.args.scheduler.now.cells.items = omega (arith, fine, counts) in
     let count : c.part_cells-count.result ≡ cells_in c.args.code.now.layout (callees.Loop part) = c.part_cells-count.ensures ∙ ap (λ (l : Layout). cells_in l (callees.Loop part)) c.layout.ensures in
-    let is = subst (λ l. IsChild c.args.code.now l c.args.frame c.args.worker c.len.result how (callees.Loop part) child) c.as_slice.ensures.value c.in_ok-child.ensures in
+    let is = subst (λ l. IsChild c.args.code.now l c.args.frame c.args.worker c.len.result how (callees.Loop part) child) c.as_slice-frames.ensures.value c.in_ok-child.ensures in
     on_ok c.begin.result c.begin.ensures.begins
     (λ h. (
-      λ inputs t. begun_made c.args.code.now inputs old c.args.frame t how (callees.Loop part) c.requires.begins c.args.worker c.len.result c.part_cells-count.result child base is count new h c.begin.ensures.journal,
-      begun_ticks old new c.args.worker c.args.frame how child c.part_cells-count.result h,
+      λ inputs t. begun_made c.args.code.now inputs old c.args.frame t how (callees.Loop part) c.requires.begins c.args.worker c.len.result c.part_cells-count.result child base is count new (subst (λ b. ChildBegins b new c.args.worker c.args.frame how child c.part_cells-count.result) same h) c.begin.ensures.journal,
+      begun_ticks old new c.args.worker c.args.frame how child c.part_cells-count.result (subst (λ b. ChildBegins b new c.args.worker c.args.frame how child c.part_cells-count.result) same h),
     ))
 
 pub returns-clause-event : goal.returns-clause-event
@@ -42,11 +44,12 @@ returns-clause-starts c =
     let part = c.args.part in
     let old = c.args.scheduler.now in
     let new = c.begin.new.scheduler in
+    let same : record old { asked = c.spare-operands.new.self } ≡ old = ap (λ a. record old { asked = a }) c.spare-operands.ensures in
     let child = c.in_ok-child.child in
     let fine = c.args.scheduler.now.cells.ok in
     let counts = c.len.ensures in
     let base : c.len.result ≡ length c.args.scheduler.now.cells.items = omega (arith, fine, counts) in
     let count : c.part_cells-count.result ≡ cells_in c.args.code.now.layout (callees.Loop part) = c.part_cells-count.ensures ∙ ap (λ (l : Layout). cells_in l (callees.Loop part)) c.layout.ensures in
-    let is = subst (λ l. IsChild c.args.code.now l c.args.frame c.args.worker c.len.result how (callees.Loop part) child) c.as_slice.ensures.value c.in_ok-child.ensures in
+    let is = subst (λ l. IsChild c.args.code.now l c.args.frame c.args.worker c.len.result how (callees.Loop part) child) c.as_slice-frames.ensures.value c.in_ok-child.ensures in
     if_both _ _ _ c.begin.result c.begin.ensures.event c.begin.ensures.begins
-    (λ e at begins. started_by c.args.code.now old new c.args.worker c.args.frame c.len.result c.part_cells-count.result how (callees.Loop part) child e c.requires.begins base is count at begins)
+    (λ e at begins. started_by c.args.code.now old new c.args.worker c.args.frame c.len.result c.part_cells-count.result how (callees.Loop part) child e c.requires.begins base is count at (subst (λ b. ChildBegins b new c.args.worker c.args.frame how child c.part_cells-count.result) same begins))
