@@ -54,27 +54,18 @@ pub fn make(
             begin_strand(&mut scheduler.frames, frame);
             Ok(Event::Resume { parent: place + 1 })
         }
-        SmallAsk::Read(cell) => Ok(read(
-            &mut scheduler.frames,
-            scheduler.cells.as_slice(),
-            frame,
-            cell,
-        )),
-        SmallAsk::Write(cell, word) => {
-            Ok(write(
-                &mut scheduler.frames,
-                &mut scheduler.cells,
-                frame,
-                cell,
-                word,
-            ))
+        SmallAsk::Read(cell) => {
+            let cells = scheduler.cells.as_slice();
+            Ok(read(&mut scheduler.frames, cells, frame, cell))
         }
-        SmallAsk::Result(word) => Ok(write_result(
-            &mut scheduler.frames,
-            &mut scheduler.cells,
-            frame,
-            word,
-        )),
+        SmallAsk::Write(cell, word) => {
+            let cells = &mut scheduler.cells;
+            Ok(write(&mut scheduler.frames, cells, frame, cell, word))
+        }
+        SmallAsk::Result(word) => {
+            let cells = &mut scheduler.cells;
+            Ok(write_result(&mut scheduler.frames, cells, frame, word))
+        }
         SmallAsk::Turns(how, part) => start_turns(alloc, code, scheduler, worker, place, how, part),
         SmallAsk::Sync => sync(alloc, scheduler, worker, frame),
         SmallAsk::End(word) => end(alloc, code, scheduler, worker, frame, word),

@@ -61,7 +61,7 @@ returns-in-Resume-clause-made c =
 pub returns-in-Read-clause-made : goal.returns-in-Read-clause-made
 returns-in-Read-clause-made c =
     let is : c.args.scheduler.now.asked ≡ asks.Read c.in-Read.cell = c.in-Some.ensures ∙ ap in_full c.in-Read.is in (
-      λ inputs t. settles_made c.args.code.now inputs c.args.scheduler.now c.args.place t (asks.Read c.in-Read.cell) is (record c.args.scheduler.now { frames = c.read.new.frames }) (subst (λ l. Settles c.args.scheduler.now.frames.items c.read.new.frames.items (length l) (length l) c.args.place (asks.Read c.in-Read.cell)) c.as_slice.ensures.value c.read.ensures.settles) refl refl,
+      λ inputs t. settles_made c.args.code.now inputs c.args.scheduler.now c.args.place t (asks.Read c.in-Read.cell) is (record c.args.scheduler.now { frames = c.read.new.frames }) (subst (λ l. Settles c.args.scheduler.now.frames.items c.read.new.frames.items (length l) (length l) c.args.place (asks.Read c.in-Read.cell)) c.as_slice-cells.ensures.value c.read.ensures.settles) refl refl,
       c.read.ensures.ticks,
     )
 
@@ -145,7 +145,7 @@ returns-in-Read-clause-touched c = λ it.
     let new = record b { frames = c.read.new.frames } in
     touched_still b new c.args.worker c.args.place c.read.result c.requires.works refl refl refl
     (λ views. subst (λ k. MakesEvent b.frames.items c.read.new.frames.items b.cells.items b.cells.items views views c.args.place k c.read.result) (sym is)
-    (subst (λ l. MakesEvent b.frames.items c.read.new.frames.items l l views views c.args.place (asks.Read c.in-Read.cell) c.read.result) c.as_slice.ensures.value (c.read.ensures.makes views)))
+    (subst (λ l. MakesEvent b.frames.items c.read.new.frames.items l l views views c.args.place (asks.Read c.in-Read.cell) c.read.result) c.as_slice-cells.ensures.value (c.read.ensures.makes views)))
 
 pub returns-in-Write-clause-touched : goal.returns-in-Write-clause-touched
 returns-in-Write-clause-touched c = λ it.
