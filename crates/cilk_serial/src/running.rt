@@ -110,14 +110,8 @@ impl Running {
         };
         match effect {
             Told::Goes(told) => {
-                step_into(
-                    code,
-                    input,
-                    &mut self.frames.top.cursor,
-                    told,
-                    &mut self.left,
-                    &mut self.ask,
-                );
+                let cursor = &mut self.frames.top.cursor;
+                step_into(code, input, cursor, told, &mut self.left, &mut self.ask);
                 Step::Made
             }
             Told::Turns(how, part) => self.invoke_turns(alloc, program, code, how, &part),
@@ -164,10 +158,7 @@ impl Running {
                         Told::Goes(told) => cursor.receive(told),
                         _ => return Ok(self.pause(cursor, left, ask)),
                     },
-                    Err(error) => {
-                        self.put_back(cursor, left);
-                        return Err(error);
-                    }
+                    Err(error) => return Err(self.give_up(cursor, left, error)),
                 },
                 Moved::Stops(ask) => return Ok(self.pause(cursor, left, ask)),
                 Moved::Invokes(number) => {
@@ -186,6 +177,16 @@ impl Running {
     {
         self.frames.top.cursor = cursor;
         self.left = left;
+    }
+
+    // Puts the running frame's cursor back after memory was refused. To drop it instead would keep
+    // it in memory in the whole loop.
+    #[inline(always)]
+    fn give_up(&mut self, cursor: Cursor, left: u32, error: AllocError) -> AllocError
+        ensures { self.new ≡ run_of self.old.state self.old.frames cursor self.old.ask left }
+    {
+        self.put_back(cursor, left);
+        error
     }
 
     // Puts the running frame's cursor back, with its next request.

@@ -166,7 +166,7 @@ invoke-requires g c =
     let same = c.exec_plain.ensures.stays c.if-exec_plain.false in
     let b = still c.args.code.now (source c.args.program.now) c.args.input.now c.each.self.state c.each.self.frames c.each.cursor c.exec_plain.new.cursor c.each.left c.exec_plain.new.left same.0 same.1 c.each.invariant.between in
     let moves = goes_on c.args.code.now c.args.input.now b.before.frames.top.cursor b.answer b.before.left c.exec_plain.new.cursor c.exec_plain.new.left b.moves (runs c.args.code.now (source c.args.program.now) c.args.input.now c.each.self.state c.each.self.frames c.exec_plain.new.cursor c.exec_plain.new.left b) in
-    let there = ap (λ (r : Running). r.frames.top.cursor) c.put_back-in-Invokes.ensures in
+    let there = ap (λ (r : Running). r.frames.top.cursor) c.put_back.ensures in
     (c.exec_instr.new.left, λ stuck. moves (c.in-Invokes.ensures.moves ∙ ap (λ x. invoking c.args.code.now c.in-Invokes.number x c.exec_instr.new.left) (sym there) ∙ stuck))
 
 pub returns-in_default-effect : goal.returns-in_default-effect
@@ -194,9 +194,9 @@ pub returns-in-Invokes-clause-going : goal.returns-in-Invokes-clause-going
 returns-in-Invokes-clause-going g c =
     let same = c.exec_plain.ensures.stays c.if-exec_plain.false in
     let b = still c.args.code.now (source c.args.program.now) c.args.input.now c.each.self.state c.each.self.frames c.each.cursor c.exec_plain.new.cursor c.each.left c.exec_plain.new.left same.0 same.1 c.each.invariant.between in
-    let there = ap (λ (r : Running). r.frames.top.cursor) c.put_back-in-Invokes.ensures in
+    let there = ap (λ (r : Running). r.frames.top.cursor) c.put_back.ensures in
     let room = c.invoke.ensures.room ∙ ap (λ (x : CursorView). x.room) there ∙ c.exec_instr.ensures.room in
     let given = c.invoke.ensures.given ∙ ap (λ (x : CursorView). x.given) there ∙ c.exec_instr.ensures.given in
     let moves = c.in-Invokes.ensures.moves ∙ ap (λ x. invoking c.args.code.now c.in-Invokes.number x c.exec_instr.new.left) (sym there) ∙ c.invoke.ensures.moves c.exec_instr.new.left in
     let g = asks c.args.code.now (source c.args.program.now) c.args.input.now c.each.self.state c.each.self.frames c.exec_plain.new.cursor c.exec_plain.new.left b c.invoke.new.cursor c.exec_instr.new.left room given c.invoke.new.asked moves in
-    subst (λ (r : Running). Going c.args.code.now (source c.args.program.now) c.args.input.now (run_of r.state r.frames c.invoke.new.cursor c.invoke.new.asked r.left)) (sym c.put_back-in-Invokes.ensures) g
+    subst (λ (r : Running). Going c.args.code.now (source c.args.program.now) c.args.input.now (run_of r.state r.frames c.invoke.new.cursor c.invoke.new.asked r.left)) (sym c.put_back.ensures) g
