@@ -254,6 +254,7 @@ fn statement<'a>(
         });
     }
     match first.kind {
+        Kind::Semicolon => Ok((Stmt::Empty(first.at), rest)),
         Kind::OpenBrace => {
             let (list, rest) = statements(alloc, rest, depth + 1)?;
             let rest = one(rest, Punct::CloseBrace)?;
