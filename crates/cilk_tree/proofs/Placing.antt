@@ -1,7 +1,7 @@
 -- The blocks and resumptions of a plan, found in one pass.
 --
 -- - `one_next`, `next_on`: a frame's next `sync` after a position;
--- - `asked_spawn`, `asked_resume`, `asked_sync`, `asked_plain`: the next event by its kind;
+-- - `next_spawn`, `next_resume`, `next_sync`, `next_plain`: the next event by its kind;
 -- - `met_first`, `met_plain`, `met_known`, `met_new`, `met_resume`, `met_end`, `met_sync`: the columns
 --   at the start and after an event of each sort;
 -- - `block_listed`: a frame's block that has yet to end is listed;
@@ -19,11 +19,9 @@ use Rattle.cilk_tree.specs.Word.{WordEvent, event, predecessors_of, plain, read,
 use Rattle.cilk_tree.specs.Frames.{IsInFrame}
 use Rattle.cilk_tree.specs.Blocks.{EndsBlockOf, IsNextSync, SyncsAt}
 use Rattle.cilk_tree.specs.Resumptions.{AreResumptions}
-use Rattle.cilk_tree.specs.declared.kind.Asked.{Asked}
-use Rattle.cilk_tree.specs.declared.kind.Asked.TheVariants.{Next}
 use Rattle.cilk_tree.specs.declared.kind.Kind.{Kind}
 use Rattle.cilk_tree.specs.declared.kind.Kind.TheVariants as kinds
-use Rattle.cilk_tree.specs.Kinds.{IsBehind, kind_of_event}
+use Rattle.cilk_tree.specs.Kinds.{kind_behind, kind_of_event}
 use Rattle.cilk_tree.proofs.Continuing.{kind_there, not_resume, not_spawn, not_sync_kind, one_frame, sync_kind}
 use Rattle.cilk_tree.specs.Columns.{AreBlockEnds, AreBlocks, AreFirstSpawns, BlocksEnd, IsFirstSpawn, IsOfBlock, IsSpawnOf, no_block}
 use Rattle.cilk_tree.specs.Placing.{AreListed, AreMarked, AreOpened, AreResumed, HasMet, IsPlaced}
@@ -124,34 +122,29 @@ spawn_kind : (es : List Event) (p : ℕ) (o : Option Event) (ps : List ℕ) (f :
 spawn_kind es p (Some (events.Spawn g)) ps f is = refl
 spawn_kind es p o ps f is = absurd (cc is)
 
--- the kind at i + 1 and its frame, by what comes after i events
-asked_at : (s : EventOrder) (i frame : ℕ) (asked : Asked) (kind : Kind) → asked ≡ Next frame kind → IsBehind s i asked → (kind_of_event (event s (i + 1)) ≡ Some kind) × IsInFrame s.events (i + 1) frame
-asked_at s i frame asked kind is behind =
-    let told : IsBehind s i (Next frame kind) = subst (IsBehind s i) is behind in
+-- the kind at i + 1, by what comes after i events
+kind_next : (s : EventOrder) (i : ℕ) (kind : Kind) → kind_behind s i ≡ Some kind → kind_of_event (event s (i + 1)) ≡ Some kind
+kind_next s i kind behind =
     let place : i + 1 - 1 ≡ i = omega arith in
-    (ap (λ (n : ℕ). kind_of_event (slice_get s.events n)) place ∙ (sym (kind_there s.events i) ∙ told.0), told.1)
+    ap (λ (n : ℕ). kind_of_event (slice_get s.events n)) place ∙ (sym (kind_there s.events i) ∙ behind)
 
-pub asked_spawn : (s : EventOrder) (i frame f : ℕ) (asked : Asked) (kind : Kind) → asked ≡ Next frame kind → kind ≡ kinds.Spawn f → IsBehind s i asked
-    → (word_step s (i + 1) ≡ spawn) × IsInFrame s.events (i + 1) frame
-asked_spawn s i frame f asked kind is sort behind =
-    let h = asked_at s i frame asked kind is behind in
-    (spawn_kind s.events (i + 1) (event s (i + 1)) (predecessors_of s (i + 1)) f (h.0 ∙ ap Some sort), h.1)
+pub next_spawn : (s : EventOrder) (i f : ℕ) (kind : Kind) → kind_behind s i ≡ Some kind → kind ≡ kinds.Spawn f → word_step s (i + 1) ≡ spawn
+next_spawn s i f kind behind sort = spawn_kind s.events (i + 1) (event s (i + 1)) (predecessors_of s (i + 1)) f (kind_next s i kind behind ∙ ap Some sort)
 
-pub asked_resume : (s : EventOrder) (i frame f : ℕ) (asked : Asked) (kind : Kind) → asked ≡ Next frame kind → kind ≡ kinds.Resume f → IsBehind s i asked
-    → (word_step s (i + 1) ≢ spawn) × (event s (i + 1) ≢ Some events.Sync)
-asked_resume s i frame f asked kind is sort behind =
-    let h = (asked_at s i frame asked kind is behind).0 ∙ ap Some sort in (
+pub next_resume : (s : EventOrder) (i f : ℕ) (kind : Kind) → kind_behind s i ≡ Some kind → kind ≡ kinds.Resume f → (word_step s (i + 1) ≢ spawn) × (event s (i + 1) ≢ Some events.Sync)
+next_resume s i f kind behind sort =
+    let h = kind_next s i kind behind ∙ ap Some sort in (
       not_spawn s.events (i + 1) (event s (i + 1)) (predecessors_of s (i + 1)) (kinds.Resume f) h (λ g e. cc e),
       not_sync_kind (event s (i + 1)) (kinds.Resume f) h (λ e. cc e),
     )
 
-pub asked_sync : (s : EventOrder) (i frame : ℕ) (asked : Asked) (kind : Kind) → asked ≡ Next frame kind → kind ≡ kinds.Sync → IsBehind s i asked → SyncsAt s.events frame (i + 1)
-asked_sync s i frame asked kind is sort behind = let h = asked_at s i frame asked kind is behind in (sync_kind (event s (i + 1)) (h.0 ∙ ap Some sort), h.1)
+pub next_sync : (s : EventOrder) (i : ℕ) (kind : Kind) → kind_behind s i ≡ Some kind → kind ≡ kinds.Sync → event s (i + 1) ≡ Some events.Sync
+next_sync s i kind behind sort = sync_kind (event s (i + 1)) (kind_next s i kind behind ∙ ap Some sort)
 
-pub asked_plain : (s : EventOrder) (i frame : ℕ) (asked : Asked) (kind : Kind) → asked ≡ Next frame kind → ((f : ℕ) → kind ≢ kinds.Spawn f) → ((f : ℕ) → kind ≢ kinds.Resume f) → kind ≢ kinds.Sync
-    → IsBehind s i asked → (word_step s (i + 1) ≢ spawn) × (event s (i + 1) ≢ Some events.Sync) × ((k : ℕ) → word_step s (i + 1) ≡ resume k → ⊥)
-asked_plain s i frame asked kind is no_spawn no_resume no_sync behind =
-    let h = (asked_at s i frame asked kind is behind).0 in (
+pub next_plain : (s : EventOrder) (i : ℕ) (kind : Kind) → kind_behind s i ≡ Some kind → ((f : ℕ) → kind ≢ kinds.Spawn f) → ((f : ℕ) → kind ≢ kinds.Resume f) → kind ≢ kinds.Sync
+    → (word_step s (i + 1) ≢ spawn) × (event s (i + 1) ≢ Some events.Sync) × ((k : ℕ) → word_step s (i + 1) ≡ resume k → ⊥)
+next_plain s i kind behind no_spawn no_resume no_sync =
+    let h = kind_next s i kind behind in (
       not_spawn s.events (i + 1) (event s (i + 1)) (predecessors_of s (i + 1)) kind h no_spawn,
       not_sync_kind (event s (i + 1)) kind h no_sync,
       not_resume s.events (i + 1) (event s (i + 1)) (predecessors_of s (i + 1)) kind h no_resume,

@@ -8,7 +8,7 @@ ghost use Rattle.cilk_tree.specs.Placing.{HasMet, IsPlaced, Met};
 ghost use Rattle.cilk_tree.specs.Resumptions.{AreResumptions};
 ghost use Rattle.cilk_tree.specs.Word.{event, resume, spawn, word_step};
 
-use crate::kind::{Asked, Kind};
+use crate::kind::Kind;
 use crate::plan::Plan;
 use cilk_types::event::{FrameNo, Pos};
 use std::alloc::{AllocError, Global};
@@ -51,13 +51,11 @@ pub fn blocks_of(alloc: Global, plan: &Plan) -> Result<PlanBlocks, AllocError>
     let mut pass = Pass::new(alloc, count)?;
     'each: for met in 0..count {
         let at = met as Pos + 1;
-        if let Asked::Next { frame, kind } = plan.next(met as Pos) {
-            match kind {
-                Kind::Spawn { .. } => pass.spawn(plan, at, frame)?,
-                Kind::Resume { .. } => pass.resume(plan, at, plan.resumed_by(at)),
-                Kind::Sync => pass.sync(plan, at, frame),
-                _ => {}
-            }
+        match plan.kind_behind(met) {
+            Kind::Spawn { .. } => pass.spawn(plan, at, plan.frame_behind(met))?,
+            Kind::Resume { .. } => pass.resume(plan, at, plan.resumed_by(at)),
+            Kind::Sync => pass.sync(plan, at, plan.frame_behind(met)),
+            _ => {}
         }
     }
     let Pass {

@@ -38,11 +38,12 @@ pub(crate) fn event_columns(alloc: Global, trace: &Trace) -> Result<EventColumns
     let mut at: Pos = 0;
     for event in trace.as_slice() {
         at += 1;
+        let kind = without_value(event);
+        frame = entered(frame, event);
         let first = pass.meet(Mark::of(event), at)?;
         earliest.push_reserved(number(first));
-        frame = entered(frame, event);
         frames.push_reserved(frame);
-        kinds.push_reserved(without_value(event));
+        kinds.push_reserved(kind);
     }
     Ok(EventColumns {
         kinds,

@@ -8,7 +8,8 @@ ghost use Rattle.cilk_tree.specs.Runs.{IsAsked};
 ghost use Rattle.cilk_tree.specs.Values.{HasValues};
 ghost use Rattle.cilk_tree.specs.Word.{predecessors_of, event, resume, word_step, word, IsWord};
 ghost use Rattle.cilk_tree.specs.Earliest.{earliest as earliest_of};
-ghost use Rattle.cilk_tree.specs.Kinds.{kind_of_event, IsBehind};
+ghost use Rattle.cilk_tree.specs.Frames.{IsInFrame};
+ghost use Rattle.cilk_tree.specs.Kinds.{kind_behind, kind_of_event, IsBehind};
 ghost use Rattle.cilk_tree.specs.Planned.{planned, HasOneAhead, HasPlan};
 ghost use Rattle.cilk_tree.specs.Resumptions.{AreResumptions};
 
@@ -99,12 +100,28 @@ impl Plan {
         let place = after as usize;
         if place < self.kinds.len() {
             Asked::Next {
-                frame: self.frames[place],
-                kind: self.kinds[place],
+                frame: self.frame_behind(place),
+                kind: self.kind_behind(place),
             }
         } else {
             Asked::Nothing
         }
+    }
+
+    /// Returns the kind of the event after the first `after` events.
+    pub(crate) fn kind_behind(&self, after: usize) -> Kind
+        requires { after < length self.now.events }
+        ensures { kind_behind self.now after ≡ Some result }
+    {
+        self.kinds[after]
+    }
+
+    /// Returns the frame of the event after the first `after` events.
+    pub(crate) fn frame_behind(&self, after: usize) -> FrameNo
+        requires { after < length self.now.events }
+        ensures { IsInFrame self.now.events (after + 1) result }
+    {
+        self.frames[after]
     }
 
     /// Returns the earliest immediate predecessor of the event at a position, or `None` for the

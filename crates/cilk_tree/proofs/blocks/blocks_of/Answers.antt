@@ -1,9 +1,9 @@
 use Rattle.std.proofs.Common.{◌+◌, ℕ, List, sym, ap, ◌∙◌, subst, arith, refl}
 use Rattle.cilk_tree.specs.declared.event_order.EventOrder.{EventOrder}
 use Rattle.cilk_tree.specs.Placing.{HasMet, Met}
-use Rattle.cilk_tree.proofs.Placing.{asked_plain, asked_resume, asked_spawn, asked_sync, blocks_last, ends_last, firsts_last, met_first, met_plain, resumed_last}
+use Rattle.cilk_tree.proofs.Placing.{blocks_last, ends_last, firsts_last, met_first, met_plain, next_plain, next_resume, next_spawn, next_sync, resumed_last}
 use Rattle.cilk_tree.proofs.blocks.blocks_of.Goals as goal
-use Rattle.cilk_tree.proofs.blocks.blocks_of.Goals.{in-Next+in-Spawn+in_ok-spawn-in-Spawn, in-Next+in-Resume, in-Next+in-Sync, in-Next+in_default-kind, in_default}
+use Rattle.cilk_tree.proofs.blocks.blocks_of.Goals.{in-Spawn+in_ok-spawn-in-Spawn, in-Resume, in-Sync, in_default}
 
 pub each-init : goal.each-init
 each-init c =
@@ -17,13 +17,13 @@ each-init c =
     (met_first s c.laws.ensures.order p.blocks.items p.resumptions.items h.blocks.0 (h.blocks.1 ∙ many) h.resumptions.0 (h.resumptions.1 ∙ many))))
 
 pub spawn-requires-clause-there : goal.spawn-requires-clause-there
-spawn-requires-clause-there c = asked_spawn c.args.plan.now c.each.met c.in-Next.frame _ c.next.result c.in-Next.kind c.in-Next.is c.in-Spawn.is c.next.ensures
+spawn-requires-clause-there c = (next_spawn c.args.plan.now c.each.met _ c.kind_behind.result c.kind_behind.ensures c.in-Spawn.is, c.frame_behind.ensures)
 
 pub resume-requires-clause-plain : goal.resume-requires-clause-plain
-resume-requires-clause-plain c = asked_resume c.args.plan.now c.each.met c.in-Next.frame _ c.next.result c.in-Next.kind c.in-Next.is c.in-Resume.is c.next.ensures
+resume-requires-clause-plain c = next_resume c.args.plan.now c.each.met _ c.kind_behind.result c.kind_behind.ensures c.in-Resume.is
 
 pub sync-requires-clause-there : goal.sync-requires-clause-there
-sync-requires-clause-there c = asked_sync c.args.plan.now c.each.met c.in-Next.frame c.next.result c.in-Next.kind c.in-Next.is c.in-Sync.is c.next.ensures
+sync-requires-clause-there c = (next_sync c.args.plan.now c.each.met c.kind_behind.result c.kind_behind.ensures c.in-Sync.is, c.frame_behind-in-Sync.ensures)
 
 pub each-preserved : goal.each-preserved
 each-preserved c =
@@ -31,15 +31,14 @@ each-preserved c =
     let i : ℕ = c.each.met in
     let events = c.count-count.ensures.events in
     let test = c.each-test.true in
-    elim c.match-next.branch [
-      | in-Next+in-Spawn+in_ok-spawn-in-Spawn w ↦ subst (Met s (i + 1)) (sym w.pass-is) w.in_ok-spawn-in-Spawn.ensures
-      | in-Next+in-Resume w ↦ subst (Met s (i + 1)) (sym w.pass-is) w.resume.ensures
-      | in-Next+in-Sync w ↦ subst (Met s (i + 1)) (sym w.pass-is) w.sync.ensures
-      | in-Next+in_default-kind w ↦ (
-          let plain = asked_plain s i w.in-Next.frame c.next.result w.in-Next.kind w.in-Next.is w.in_default-kind.not-Spawn w.in_default-kind.not-Resume w.in_default-kind.not-Sync c.next.ensures in
+    elim c.match-kind_behind.branch [
+      | in-Spawn+in_ok-spawn-in-Spawn w ↦ subst (Met s (i + 1)) (sym w.pass-is) w.in_ok-spawn-in-Spawn.ensures
+      | in-Resume w ↦ subst (Met s (i + 1)) (sym w.pass-is) w.resume.ensures
+      | in-Sync w ↦ subst (Met s (i + 1)) (sym w.pass-is) w.sync.ensures
+      | in_default w ↦ (
+          let plain = next_plain s i c.kind_behind.result c.kind_behind.ensures w.in_default.not-Spawn w.in_default.not-Resume w.in_default.not-Sync in
           subst (Met s (i + 1)) (sym w.pass-is)
           (met_plain s c.laws.ensures.order i (i + 1) refl (omega (arith, events, test)) _ _ _ _ _ c.each.invariant plain.0 plain.1 plain.2))
-      | in_default w ↦ absurd (let past = w.in_default.ensures in omega (arith, past, test, events))
     ]
 
 pub returns-clause-syncs : goal.returns-clause-syncs
