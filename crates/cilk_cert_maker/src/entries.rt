@@ -25,9 +25,9 @@ pub(crate) fn entries(alloc: Global, trace: &Trace) -> Result<Vec<Entry>, AllocE
 {
     let events = trace.as_slice();
     let mut writes = LastWrites::new(alloc, cells_written(events))?;
-    let mut entries = Vec::new(alloc);
+    let mut entries = Vec::with_capacity(alloc, events.len())?;
     for (index, event) in events.iter().enumerate() {
-        entries.push(entry(event, &writes))?;
+        entries.push_reserved(entry(event, &writes));
         writes.meet(event, index as Pos + 1);
     }
     Ok(entries)

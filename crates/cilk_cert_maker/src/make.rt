@@ -58,11 +58,17 @@ pub fn certificate(
     ensures version { IfOk result (λ c. c.version ≡ Two) }
     ensures certificate { IfOk result (λ c. IsCertificate c) }
 {
+    // A trace has few events, so few strands.
+    let _count = trace.len();
     let value = result_of(outcome);
+    // The labels are dropped before the entries are made, which take most of the memory.
+    let (frames, strands) = {
+        let Columns { frames, owners } = columns(alloc, trace)?;
+        let (labels, classes) = labels(alloc, trace)?;
+        let strands = strands(alloc, owners.as_slice(), &labels, &classes)?;
+        (frames, strands)
+    };
     let entries = entries(alloc, trace)?;
-    let (labels, classes) = labels(alloc, trace)?;
-    let Columns { frames, owners } = columns(alloc, trace)?;
-    let strands = strands(alloc, owners.as_slice(), &labels, &classes)?;
     Ok(Certificate::new(Version::Two, frames, strands, entries, value))
 }
 

@@ -9,7 +9,7 @@ pub strands-requires-clause-few : goal.strands-requires-clause-few
 strands-requires-clause-few c =
     let s = c.requires.0 in
     let spells = c.requires.1 in
-    owners_few s c.args.trace.now spells _ (c.as_slice.ensures.value ∙ c.in_ok-frames.ensures.owners s spells) (events_few _ _ c.in_ok-entries.ensures.many c.in_ok-entries.ensures.few)
+    owners_few s c.args.trace.now spells _ (c.as_slice.ensures.value ∙ c.in_ok-frames.ensures.owners s spells) (events_few _ _ c.len-count.ensures.events c.len-count.ensures.within)
 
 pub strands-requires-clause-labels : goal.strands-requires-clause-labels
 strands-requires-clause-labels c =
