@@ -23,6 +23,7 @@ pub(crate) struct EventColumns {
 }
 
 /// Returns the columns of a run's events. Cost and memory: linear in the events.
+#[inline(never)]
 pub(crate) fn event_columns(alloc: Global, trace: &Trace) -> Result<EventColumns, AllocError>
     requires { BeginsAFrame trace.now }
     ensures kinds { IfOk result (λ v. v.kinds.items ≡ map kind_of trace.now) }
@@ -38,8 +39,8 @@ pub(crate) fn event_columns(alloc: Global, trace: &Trace) -> Result<EventColumns
     let mut at: Pos = 0;
     for event in trace.as_slice() {
         at += 1;
-        let kind = without_value(event);
         frame = entered(frame, event);
+        let kind = without_value(event);
         let first = pass.meet(Mark::of(event), at)?;
         earliest.push_reserved(number(first));
         frames.push_reserved(frame);
