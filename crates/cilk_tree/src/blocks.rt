@@ -53,7 +53,7 @@ pub fn blocks_of(alloc: Global, plan: &Plan) -> Result<PlanBlocks, AllocError>
         let at = met as Pos + 1;
         match plan.kind_behind(met) {
             Kind::Spawn { .. } => pass.spawn(plan, at, plan.frame_behind(met))?,
-            Kind::Resume { .. } => pass.resume(plan, at, plan.resumed_by(at)),
+            Kind::Resume { .. } => pass.resume(plan, at, resumed_by(plan, at)),
             Kind::Sync => pass.sync(plan, at, plan.frame_behind(met)),
             _ => {}
         }
@@ -158,6 +158,15 @@ impl Pass {
             put(&mut self.pending, frame as usize, u32::MAX);
         }
     }
+}
+
+// The spawn whose continuation is resumed at a position, if there is one. Not inlined, since its
+// arithmetic would be done at each event.
+#[inline(never)]
+fn resumed_by(plan: &Plan, at: Pos) -> Option<Pos>
+    ensures { (k : ℕ) → (result ≡ Some k) ↔ (word_step plan.now at ≡ resume k) }
+{
+    plan.resumed_by(at)
 }
 
 // The block at a place, or `u32::MAX` if there is none.

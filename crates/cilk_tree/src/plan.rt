@@ -136,7 +136,6 @@ impl Plan {
 
     /// Returns the spawn whose continuation is resumed at a position, if the event there is the
     /// `resume` after a spawn.
-    #[inline(never)]
     pub fn resumed_by(&self, at: Pos) -> Option<Pos>
         ensures { (k : ℕ) → (result ≡ Some k) ↔ (word_step self.now at ≡ resume k) }
     {
