@@ -22,7 +22,7 @@ loop-index-preserved c =
     let kept = c.push_reserved.ensures.capacity in
     record {
       lists = lists_next _ _ _ _ _ _ _ _ _ c.loop-index.invariant.lists c.loop-index-test.true c.entry.ensures.event c.entry.ensures.source c.entry.ensures.small
-      c.push_reserved.ensures.items refl c.meet.ensures.last c.meet.ensures.cells;
+          c.push_reserved.ensures.items refl c.meet.ensures.last c.meet.ensures.cells;
       room = omega (arith, room, kept);
     }
 
