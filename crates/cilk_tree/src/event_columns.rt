@@ -22,7 +22,8 @@ pub(crate) struct EventColumns {
     pub(crate) earliest: Vec<Pos>,
 }
 
-/// Returns the columns of a run's events. Cost and memory: linear in the events.
+/// Returns the columns of a run's events. Cost and memory: linear in the events. Not inlined, so
+/// that its loop's values stay in registers.
 #[inline(never)]
 pub(crate) fn event_columns(alloc: Global, trace: &Trace) -> Result<EventColumns, AllocError>
     requires { BeginsAFrame trace.now }
