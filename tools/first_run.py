@@ -154,8 +154,11 @@ class Progress:
     def text(self):
         """The line that is shown."""
         done, of = len(self.estimate.done), len(self.sums)
-        left = max(1, round(self.estimate.left(self.now())))
-        return f"{done} of {of} crates proved, {self.now():.0f} min; about {left} min left"
+        left = self.estimate.left(self.now())
+        if not done and not self.record["proved"]:  # (nothing is known of this machine, nor of what the kit keeps)
+            return f"0 of {of} crates proved; on the machine of docs/GATE.md it takes about {left:.0f} min"
+        about = f"about {left:.0f} min" if left >= 1 else "less than a minute"
+        return f"{done} of {of} crates proved, {self.now():.0f} min; {about} left"
 
     def show(self, at_once=False):
         """Shows the line, where the terminal allows in place of the one before."""
