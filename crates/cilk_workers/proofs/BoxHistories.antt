@@ -86,7 +86,7 @@ changes : (s rest new : ShelfValue) (q : ℕ) (b after : BoxValue) → TakesOff 
 changes s rest new q b after off back same on (one, all) =
     let P : BoxValue → Type 0 = HasSteps s.of s.replay in
     let apart = apart_off s q b rest off one in
-    let its = taken_off P s q b rest off ([], tt, refl) all in
+    let its = taken_off P s q b rest off ([], tt, tt, refl) all in
     ⊎_elim
     (λ (is : new.boxes ≡ rest.boxes). (subst HasOneEach (sym is) apart.0, subst (All P) (sym is) its.1))
     (λ (used : (IsUnused after → ⊥) × (new.boxes ≡ rest.boxes ++ after ∷ [])). (
@@ -104,7 +104,7 @@ as_before s new q is kept = by is.boxes
 
 one_step : (s new : ShelfValue) (step : ShelfStep) → StepsTo s step new → Kept s.of s.replay s.boxes → Kept s.of s.replay new.boxes
 one_step s new (StealsAt q k a true) (same, (block, (own, resumes)), r) kept = changes s r.rest new q r.found (stolen_at r.found k a) r.off r.back refl
-    (λ h _. (Steals k a ∷ h.0, (h.1, subst (λ (b : BoxValue). IsOpen b k a) h.2 r.may, resumes), ap (λ (b : BoxValue). stolen_at b k a) h.2)) kept
+    (λ h _. (Steals k a ∷ h.0, (h.1, subst (λ (b : BoxValue). IsOpen b k a) h.3 r.may), (h.2, resumes), ap (λ (b : BoxValue). stolen_at b k a) h.3)) kept
 one_step s new (StealsAt q k a false) (same, at, r) kept = as_before s new q r kept
 one_step s new (ArrivesAt q a (mets.Passes w)) (same, at, r) kept =
     let answers = r.answers in
@@ -114,8 +114,9 @@ one_step s new (ArrivesAt q a mets.Waits) (same, (block, (own, ends)), r) kept =
     changes s r.rest new q r.found r.after r.off r.back (ap (λ (b : BoxValue). b.sync) answers.1)
     (λ h _. subst (HasSteps s.of s.replay) (sym answers.1) (
       Arrives a.by a.piece a.chain ∷ h.0,
-      (h.1, subst (λ (b : BoxValue). MayArrive b a.by a.piece a.chain) h.2 r.may, subst (λ (b : BoxValue). FitsIn b.rows a.by a.piece) h.2 r.fits, ends),
-      ap (λ (b : BoxValue). arrived_at b a.by a.piece (is_some a.chain)) h.2,
+      (h.1, subst (λ (b : BoxValue). MayArrive b a.by a.piece a.chain) h.3 r.may),
+      (h.2, subst (λ (b : BoxValue). FitsIn b.rows a.by a.piece) h.3 r.fits, ends),
+      ap (λ (b : BoxValue). arrived_at b a.by a.piece (is_some a.chain)) h.3,
     )) kept
 one_step s new (ArrivesAt q a mets.Stopped) (same, at, r) kept = as_before s new q r kept
 

@@ -465,14 +465,14 @@ module _ (j : BoxValue) (stolen arrived : List ℕ) (Own : ℕ → Type 0) (h : 
 module _ (y : RunValue) (u : ReplayValue) (sync : ℕ) where
   holds : (steps : List BoxStep) → IsHistory y u sync steps → Holds (joined y u sync steps) (stolen_keys steps) (arrived_keys steps) (IsOwn steps)
   holds [] tt = opens y u sync
-  holds (Steals k a ∷ steps) (before, may, own) = steals (joined y u sync steps) (stolen_keys steps) (arrived_keys steps) (IsOwn steps) (holds steps before) k a may
-  holds (Arrives k x None ∷ steps) (before, may, fits, ends) = child_arrives (joined y u sync steps) (stolen_keys steps) (arrived_keys steps) (IsOwn steps) (holds steps before) k x may
-  holds (Arrives k x (Some c) ∷ steps) (before, may, fits, ends) = own_arrives (joined y u sync steps) (stolen_keys steps) (arrived_keys steps) (IsOwn steps) (holds steps before) k x c may
+  holds (Steals k a ∷ steps) (before, may) = steals (joined y u sync steps) (stolen_keys steps) (arrived_keys steps) (IsOwn steps) (holds steps before) k a may
+  holds (Arrives k x None ∷ steps) (before, may) = child_arrives (joined y u sync steps) (stolen_keys steps) (arrived_keys steps) (IsOwn steps) (holds steps before) k x may
+  holds (Arrives k x (Some c) ∷ steps) (before, may) = own_arrives (joined y u sync steps) (stolen_keys steps) (arrived_keys steps) (IsOwn steps) (holds steps before) k x c may
 
   ordered : (steps : List BoxStep) → IsHistory y u sync steps → Ordered (joined y u sync steps) (arrived_keys steps)
   ordered [] tt = record { ascend = tt; below = λ i s. s }
-  ordered (Steals k a ∷ steps) (before, may, own) = steal_ordered (joined y u sync steps) (stolen_keys steps) (arrived_keys steps) (IsOwn steps) (holds steps before) k a may (ordered steps before)
-  ordered (Arrives k x c ∷ steps) (before, may, fits, ends) =
+  ordered (Steals k a ∷ steps) (before, may) = steal_ordered (joined y u sync steps) (stolen_keys steps) (arrived_keys steps) (IsOwn steps) (holds steps before) k a may (ordered steps before)
+  ordered (Arrives k x c ∷ steps) (before, may) =
       let j = joined y u sync steps in
       let h = holds steps before in
       arrive_ordered j (stolen_keys steps) (arrived_keys steps) (IsOwn steps) h k x (is_some c) (comes j (stolen_keys steps) (arrived_keys steps) (IsOwn steps) h k x c may) (ordered steps before)

@@ -137,17 +137,17 @@ module _ (y : RunValue) (replay : ReplayValue → Type 0) where
       let out = taken_out place v x items views port h at in
       (Holds x (uses v), inr (place, out.0), (out.1, refl))
 
-  pub forks : (port : ℕ) (v : KeyState) (free : Place) → IsFreeAt free v → Forks (λ items views. Shelved y replay items views) port v (copied v) v
+  pub forks : (port : ℕ) (v : KeyState) (free : Place) → IsFreeAt free v → Forks (λ items views. Shelved y replay items views) port v (copied v) (copied v)
   forks port New free is items views h at = absurd is
   forks port (Holds s n) free is items views h at = absurd is
   forks port (Free s back n) free is items views (inl h) at = absurd (let z : New ≡ Free s back n = only_new views port (Free s back n) h.1 at in cc z)
   forks port (Free s back n) free is items views (inr (place, h)) at =
       let v : KeyState = Free s back n in
       let count = holders_set views port v (copied v) at in
-      let last = holders_last (set views port (copied v)) v in
+      let last = holders_last (set views port (copied v)) (copied v) in
       let all = h.2 in
       let its = view_at (IsKeyOfPlace y replay place) views port v at h.1 in
-      let keys = All-push (IsKeyOfPlace y replay place) (set views port (copied v)) v (All-set (IsKeyOfPlace y replay place) views port (copied v) its h.1) its in
+      let keys = All-push (IsKeyOfPlace y replay place) (set views port (copied v)) (copied v) (All-set (IsKeyOfPlace y replay place) views port (copied v) its h.1) its in
       inr (place, (h.0, keys, omega (arith, count, last, all)))
 
 -- so the queue isn't full

@@ -50,6 +50,7 @@ once (ArrivesAt q a mets.Stopped ∷ steps) s h = once steps h.0 h.1
 pub laws : BlocksPassOnce
 laws steps s h = record {
   once = once steps s h;
+  known = is_known steps s h;
   none_stolen = λ q k a new has r. r.waits (is_known steps s h q has);
   none_arrives = λ q a met new has r. r.waits (is_known steps s h q has);
   one_box = let k = kept steps s h in k.0;

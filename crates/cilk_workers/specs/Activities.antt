@@ -1,5 +1,5 @@
 -- The state of a worker between two turns, and the reasons why it ends.
-use Rattle.std.specs.Prelude.{◌≡◌, ◌≤◌, ℕ, true, List}
+use Rattle.std.specs.Prelude.{◌≡◌, ◌≤◌, ◌⊎◌, ℕ, false, true, List}
 use Rattle.crossbeam_queue.specs.Passes.{Pass}
 use Rattle.cilk_workers.specs.Boxes.{HoldsBlock}
 use Rattle.cilk_workers.specs.Rows.{OfRun}
@@ -31,11 +31,12 @@ IsActivity y (hands.Holds w) = Works y w
 IsActivity y (hands.Idle p) = OfRun y.run p × (p.upto ≤ p.from)
 IsActivity y (hands.Done f) = IsExitReason y f
 
--- a thief that begins has told its block, and no other, of the steal
+-- A thief that begins has told its block, and no other, of the steal. One that finds nothing tells nobody; one that ends
+-- does neither, or its block had no memory for that.
 abbrev pub HasTold : EventOrder → List (Pass Shelf KeyState) → Activity → List (Pass Shelf KeyState) → Type 0
 HasTold s keys (hands.Holds w) new = let p = w.piece in (k : ℕ) × (word_step s p.from ≡ resume k) × TellsSteal s k p.from keys true new
-HasTold s keys (hands.Idle p) new = Unit {0}
-HasTold s keys (hands.Done f) new = Unit {0}
+HasTold s keys (hands.Idle p) new = new ≡ keys
+HasTold s keys (hands.Done f) new = (new ≡ keys) ⊎ ((k a : ℕ) × (word_step s a ≡ resume k) × TellsSteal s k a keys false new)
 
 -- the outcome of an arrival: what passes is good work of the run
 abbrev pub IsMet : SharedValue → Met → Type 0

@@ -56,21 +56,25 @@ module _ (y : RunValue) (u : ReplayValue) (sync : ℕ) where
   joined (Steals k a ∷ steps) = stolen_at (joined steps) k a
   joined (Arrives k x c ∷ steps) = arrived_at (joined steps) k x (is_some c)
 
-  -- each step is allowed when it is made: a stolen continuation is that of its key, and a piece fits and ends at
-  -- its key
+  -- each step is allowed when it is made
   abbrev pub IsHistory : List BoxStep → Type 0
   IsHistory [] = Unit {0}
-  IsHistory (Steals k a ∷ steps) = IsHistory steps × IsOpen (joined steps) k a × (word_step y.event_order a ≡ resume k)
-  IsHistory (Arrives k x c ∷ steps) =
-      IsHistory steps × MayArrive (joined steps) k x c × FitsIn (let j = joined steps in j.rows) k x × EndsAtKey y.event_order k x (is_some c)
+  IsHistory (Steals k a ∷ steps) = IsHistory steps × IsOpen (joined steps) k a
+  IsHistory (Arrives k x c ∷ steps) = IsHistory steps × MayArrive (joined steps) k x c
+
+  -- a stolen continuation is that of its key, and a piece fits and ends at its key
+  abbrev pub AreOfRun : List BoxStep → Type 0
+  AreOfRun [] = Unit {0}
+  AreOfRun (Steals k a ∷ steps) = AreOfRun steps × (word_step y.event_order a ≡ resume k)
+  AreOfRun (Arrives k x c ∷ steps) = AreOfRun steps × FitsIn (let j = joined steps in j.rows) k x × EndsAtKey y.event_order k x (is_some c)
 
   -- this key's piece is still to come
   abbrev pub IsAwaited : List BoxStep → ℕ → Type 0
   IsAwaited steps k = let j = joined steps in let r = j.rows in let w = r.row in Stands w.waits k
 
--- the box has a history
+-- the box has a history of steps of the run
 abbrev pub HasSteps : RunValue → ReplayValue → BoxValue → Type 0
-HasSteps y u b = (steps : List BoxStep) × IsHistory y u b.sync steps × (b ≡ joined y u b.sync steps)
+HasSteps y u b = (steps : List BoxStep) × IsHistory y u b.sync steps × AreOfRun y u b.sync steps × (b ≡ joined y u b.sync steps)
 
 -- the laws of a box, after each of its histories
 pub record BoxLaws (y : RunValue) (u : ReplayValue) (sync : ℕ) (steps : List BoxStep) : Type 0 where

@@ -1,15 +1,19 @@
 -- A worker's keys, one for each shelf.
-use Rattle.std.specs.Prelude.{◌≡◌, ◌+◌, ◌%◌, ℕ, suc, Bool, List, [], ◌∷◌, Option, Some, length, slice_get, slice_index_or, slice_set}
+use Rattle.std.specs.Prelude.{◌≡◌, ◌⊎◌, ◌+◌, ◌%◌, ℕ, suc, Bool, List, [], ◌∷◌, Option, Some, length, slice_get, slice_index_or, slice_set}
 use Rattle.crossbeam_queue.specs.declared.array_queue.Doing.{Doing}
 use Rattle.crossbeam_queue.specs.declared.array_queue.Slotted.{Slotted}
 use Rattle.crossbeam_queue.specs.Passes.{Pass, IsPassOf, view}
 use Rattle.cilk_workers.specs.Locks.{IsFreeAt, uses}
+use Rattle.cilk_replay.specs.Chains.{ChainValue}
+use Rattle.cilk_shared.specs.Pieces.{PieceValue}
 use Rattle.cilk_tree.specs.Columns.{IsOfBlock}
 use Rattle.cilk_tree.specs.declared.event_order.EventOrder.{EventOrder}
 use Rattle.cilk_workers.specs.Shared.{IsNumberOf}
-use Rattle.cilk_workers.specs.ShelfHistories.{IsOneStep, LeadsBy, ShelfStep, StealsAt}
+use Rattle.cilk_workers.specs.ShelfHistories.{ArrivesAt, IsOneStep, LeadsBy, ShelfStep, StealsAt}
 use Rattle.cilk_workers.specs.Shelves.{IsPlaceOf, ShelfValue, place}
 use Rattle.cilk_workers.specs.declared.lock.KeyState.{KeyState}
+use Rattle.cilk_workers.specs.declared.locks.Arrival.{Arrival}
+use Rattle.cilk_workers.specs.declared.locks.Met.{Met}
 use Rattle.cilk_workers.specs.declared.lock.KeyState.TheVariants.{Holds, Free}
 use Rattle.cilk_workers.specs.declared.shelf.Place.{Place}
 use Rattle.cilk_workers.specs.declared.shelf.Shelf.{Shelf}
@@ -31,6 +35,15 @@ MakesFor b ps step new =
 -- out. Nothing else was done with these keys.
 abbrev pub TellsSteal : EventOrder → ℕ → ℕ → List (Pass Shelf KeyState) → Bool → List (Pass Shelf KeyState) → Type 0
 TellsSteal s k a ps told new = (b q : ℕ) × IsNumberOf s b q × IsOfBlock s q a × MakesFor b ps (StealsAt q k a told) new
+
+-- A piece arrived at the block of its next position, with a chain or without, and nothing else was done with these keys.
+abbrev pub Arrived : EventOrder → PieceValue → Option ChainValue → List (Pass Shelf KeyState) → List (Pass Shelf KeyState) → Type 0
+Arrived s p c ps new =
+    (b q : ℕ) × (a : Arrival) × (met : Met) × IsNumberOf s b q × IsOfBlock s q p.upto × (a.piece ≡ p) × (a.chain ≡ c) × MakesFor b ps (ArrivesAt q a met) new
+
+-- So did one piece, or nothing was done with these keys.
+abbrev pub ArrivedOnce : EventOrder → List (Pass Shelf KeyState) → List (Pass Shelf KeyState) → Type 0
+ArrivedOnce s ps new = (new ≡ ps) ⊎ ((p : PieceValue) × (c : Option ChainValue) × Arrived s p c ps new)
 
 module _ {Q A : Type 0} where
   -- the key is of the lock of the shelf at this place, and doesn't hold that

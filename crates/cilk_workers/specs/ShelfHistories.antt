@@ -9,7 +9,7 @@ use Rattle.cilk_workers.specs.Boxes.{EndsAtKey, is_some}
 use Rattle.cilk_workers.specs.Histories.{Has, HasSteps, IsOnce}
 use Rattle.cilk_workers.specs.Rows.{RunValue}
 use Rattle.cilk_workers.specs.Shared.{IsNumberOf}
-use Rattle.cilk_workers.specs.Shelves.{HasOneEach, IsEmptyShelf, IsPlaceOf, IsSameShelf, ShelfValue, passed_with}
+use Rattle.cilk_workers.specs.Shelves.{HasOneEach, HasPassed, IsEmptyShelf, IsPlaceOf, IsSameShelf, ShelfValue, passed_with}
 use Rattle.cilk_workers.specs.declared.locks.Arrival.{Arrival}
 use Rattle.cilk_workers.specs.declared.locks.Met.{Met}
 use Rattle.cilk_workers.specs.declared.shelf.Place.{Place}
@@ -77,7 +77,8 @@ passed_blocks (ArrivesAt q a met ∷ steps) = passed_with (passed_blocks steps) 
 pub record ShelfLaws (steps : List ShelfStep) (s : ShelfValue) : Type 0 where
   -- each block passes once
   pub once : IsOnce (passed_blocks steps)
-  -- at a block that has passed nothing is stolen and nothing arrives
+  -- the shelf knows the blocks that have passed; there nothing is stolen and nothing arrives
+  pub known : (q : ℕ) → Has (passed_blocks steps) q → HasPassed s q
   pub none_stolen : (q k a : ℕ) (new : ShelfValue) → Has (passed_blocks steps) q → Records s q k a new → ⊥
   pub none_arrives : (q : ℕ) (a : Arrival) (met : Met) (new : ShelfValue) → Has (passed_blocks steps) q → Arrives s q a met new → ⊥
   -- a block has one box at most, and each box has a history

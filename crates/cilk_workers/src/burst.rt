@@ -10,7 +10,7 @@ ghost use Rattle.cilk_workers.specs.Racks.{Of};
 ghost use Rattle.cilk_workers.specs.Turns.{Works};
 ghost use Rattle.cilk_workers.specs.Activities.{IsActivity};
 ghost use Rattle.cilk_workers.specs.Held.{AreTaken, IsOfferedIf, IsSameRack};
-ghost use Rattle.cilk_workers.specs.Keys.{AreKeys};
+ghost use Rattle.cilk_workers.specs.Keys.{AreKeys, Arrived, ArrivedOnce};
 ghost use Rattle.cilk_workers.specs.WorkerContexts.{IsWorkerContext};
 
 use crate::activity::{Activity, ExitReason, Tools};
@@ -65,8 +65,8 @@ impl<'a, 'b, N: Naming, R: Wait, G: Gate> WorkerContext<'a, 'b, N, R, G> {
             .follow(self.alloc, self.shared.replay(), task.rest());
     }
 
-    // A piece arrives at the block of its next position. The worker continues with what passes, or
-    // with an empty piece.
+    // A piece arrives at the block of its next position, and nothing else is told. The worker continues
+    // with what passes, or with an empty piece.
     fn arrived(&self, keys: &mut Vec<Key>, piece: Piece, chain: Option<Chain>) -> Activity
         requires context { IsWorkerContext N.run N.replay N.taken self.now }
         requires keys { AreKeys self.now.locks.now.items keys.old.items }
@@ -74,6 +74,7 @@ impl<'a, 'b, N: Naming, R: Wait, G: Gate> WorkerContext<'a, 'b, N, R, G> {
         requires chain { IfSome chain (λ c. c ≡ standing self.now.shared.now.replay piece.upto) }
         requires ends { EndsWhereItWaits (event_order_in self.now.shared.now) piece chain }
         ensures keys { AreKeys self.now.locks.now.items keys.new.items }
+        ensures told { Arrived (event_order_in self.now.shared.now) piece chain keys.old.items keys.new.items }
         ensures hand { IsActivity self.now.shared.now result }
     {
         let shared = self.shared;
@@ -104,12 +105,13 @@ impl<'a, 'b, N: Naming, R: Wait, G: Gate> WorkerContext<'a, 'b, N, R, G> {
     ///
     /// When a child has ended, the worker continues with its own newest task, the child's
     /// continuation. If it has none, or a thief took the continuation that it was to resume, its
-    /// piece arrives at the block.
+    /// piece arrives at the block. It arrives once at most, and tells no block anything else.
     pub fn run_burst(&self, tools: &mut Tools<N>, mut work: Work) -> Activity
         requires context { IsWorkerContext N.run N.replay N.taken self.now }
         requires keys { AreKeys self.now.locks.now.items tools.old.keys.items }
         requires works { Works self.now.shared.now work }
         ensures keys { AreKeys self.now.locks.now.items tools.new.keys.items }
+        ensures told { ArrivedOnce (event_order_in self.now.shared.now) tools.old.keys.items tools.new.keys.items }
         ensures hand { IsActivity self.now.shared.now result }
     {
         'each: for _ in 0..TURNS {

@@ -24,7 +24,7 @@ use std::marker::PhantomData;
 use std::sync::Wait;
 
 /// The state of a key. It exists in contracts alone. The number counts the uses of the key: each shelf
-/// that was put back with it, and each key that was made of it.
+/// that was put back with it, and each key that was made of it or of which it was made.
 pub enum KeyState {
     /// The lock is new, and has no shelf yet.
     New,
@@ -85,7 +85,7 @@ impl Lesson<Shelf, KeyState> for Unlocks {
     ghost fact = { λ v items. held v ≡ 1 → items ≡ [] };
 }
 
-/// Another key knows what the first one knows, which counts that as a use.
+/// Another key knows what the first one knows, and both count that as a use.
 pub struct Alike;
 
 impl Split<KeyState> for Alike {
@@ -93,7 +93,7 @@ impl Split<KeyState> for Alike {
 
     ghost left = { copied };
 
-    ghost right = { λ v. v };
+    ghost right = { copied };
 }
 
 /// A shelf's queue.

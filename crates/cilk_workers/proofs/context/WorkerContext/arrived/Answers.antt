@@ -1,4 +1,4 @@
-use Rattle.std.proofs.Common.{◌≡◌, ◌∙◌, false, true, sym, subst}
+use Rattle.std.proofs.Common.{◌≡◌, ◌∙◌, false, true, refl, sym, subst}
 use Rattle.std.specs.Prelude.{IfSome, IsSome}
 use Rattle.cilk_replay.specs.Chains.{standing}
 use Rattle.cilk_tree.specs.Columns.{IsOfBlock, IsSpawnOf}
@@ -34,3 +34,18 @@ arrive-requires-clause-ends g c =
     (at_key s c.args.piece c.args.chain by c.requires.ends
     (λ k is. c.key_at-by.ensures.child k (subst (λ n. word_step s n ≡ resume k) (sym c.upto-at.ensures) is))
     (λ none. c.key_at-by.ensures.own (λ k is. none k (subst (λ n. word_step s n ≡ resume k) c.upto-at.ensures is)) ∙ c.upto-at.ensures))
+
+pub returns-in-Passes-clause-told : goal.returns-in-Passes-clause-told
+returns-in-Passes-clause-told g c =
+    let of = subst (IsOfBlock (event_order_in c.args.self.now.shared.now) c.in-Some.block.sync) c.upto-at.ensures c.in-Some.ensures.block in
+    (c.in-Some.block.number, c.in-Some.block.sync, _, c.arrive.result, c.in-Some.ensures.number, of, c.apart-piece.ensures.first, refl, c.arrive.ensures.made)
+
+pub returns-in-Waits-clause-told : goal.returns-in-Waits-clause-told
+returns-in-Waits-clause-told g c =
+    let of = subst (IsOfBlock (event_order_in c.args.self.now.shared.now) c.in-Some.block.sync) c.upto-at.ensures c.in-Some.ensures.block in
+    (c.in-Some.block.number, c.in-Some.block.sync, _, c.arrive.result, c.in-Some.ensures.number, of, c.apart-piece.ensures.first, refl, c.arrive.ensures.made)
+
+pub returns-in-Stopped-clause-told : goal.returns-in-Stopped-clause-told
+returns-in-Stopped-clause-told g c =
+    let of = subst (IsOfBlock (event_order_in c.args.self.now.shared.now) c.in-Some.block.sync) c.upto-at.ensures c.in-Some.ensures.block in
+    (c.in-Some.block.number, c.in-Some.block.sync, _, c.arrive.result, c.in-Some.ensures.number, of, c.apart-piece.ensures.first, refl, c.arrive.ensures.made)
