@@ -276,7 +276,7 @@ impl From<AllocError> for Stop {
     }
 }
 
-// The bytes of a pull. Large, since a file is opened anew for each pull.
+// The bytes of a pull. Large, since each pull of a file is a read.
 const PIECE: usize = 32_768;
 
 // Reads the whole text of a source. Stops pulling once the text has a fault.
@@ -311,14 +311,8 @@ fn hear_all<S: Source>(
                 };
             }
             Ok(count) => {
-                if let Err(fault) = hear(
-                    alloc,
-                    &mut block,
-                    &mut reader,
-                    tally,
-                    right,
-                    &buffer[..count],
-                ) {
+                let piece = &buffer[..count];
+                if let Err(fault) = hear(alloc, &mut block, &mut reader, tally, right, piece) {
                     return Err(Stop::Fault(fault));
                 }
             }

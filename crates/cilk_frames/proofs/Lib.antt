@@ -6,5 +6,4 @@ pub mod Following
 pub mod Given
 pub mod Links
 pub mod Middle
-pub mod Popped
 pub mod Straight

@@ -62,8 +62,8 @@ impl AskSlot {
         }
     }
 
-    /// Keeps the operands of a frame that has ended. They are dropped if many are kept already, or if
-    /// memory is refused.
+    /// Keeps the operands of a frame that has ended. Those of the first one are dropped, and others if
+    /// many are kept already, or if memory is refused.
     #[inline(always)]
     pub fn keep(&mut self, alloc: Global, operands: Operands)
         ensures { self.new ≡ self.old }

@@ -1,11 +1,11 @@
 //! The state of a frame in its code.
 
-ghost use Rattle.std.specs.Prelude.{◌≡◌, ◌≢◌, ◌+◌, ◌-◌, ◌<◌, ◌≤◌, ◌^◌, ◌∷◌, length, slice_get, ℤ, List, [], IfOk, IfSome, IsSome, MatchOption, None, Some};
+ghost use Rattle.std.specs.Prelude.{◌≡◌, ◌≢◌, ◌+◌, ◌-◌, ◌<◌, ◌≤◌, ◌^◌, ◌∷◌, length, slice_get, suc, ℤ, List, [], IfOk, IfSome, IsSome, MatchOption, None, Some};
 ghost use Rattle.cilk_program.specs.Syntax.{Source};
 ghost use Rattle.cilk_program.specs.Inside.{CalleeIsFit};
 ghost use Rattle.cilk_program.specs.declared.ask.Ask.TheVariants.{Begin};
 ghost use Rattle.cilk_lower.specs.Behaves.{Behaves};
-ghost use Rattle.cilk_lower.specs.Machine.{Move, on_words};
+ghost use Rattle.cilk_lower.specs.Machine.{Goes, Move, Stuck, on_two, on_words};
 ghost use Rattle.cilk_frames.specs.Cursor.{begins_at};
 ghost use Rattle.cilk_frames.specs.Following.{Fits, Stands, child_of, owed_for};
 ghost use Rattle.cilk_frames.specs.Moving.{HasRoom, told};
@@ -106,7 +106,7 @@ impl Cursor {
     }
 
     /// Returns the same frame as [`Cursor::function`], in the operands of a frame that has ended.
-    /// Each caller takes another `COPY`, so that the compiler makes this a part of each.
+    /// Hot callers take another `COPY` than others, so that the compiler makes this a part of each.
     #[inline(always)]
     pub fn function_in<const COPY: bool>(
         alloc: Global,
@@ -283,6 +283,23 @@ impl Cursor {
         ensures bound { length self.new.stack < self.new.room }
     {
         self.operands.pop()
+    }
+
+    // Pops an operator's two operands.
+    #[inline(always)]
+    pub(crate) fn pop_two(&mut self) -> (i64, i64)
+        requires { on_two self.old.stack (λ x y rest. Goes 0 rest x 0) ≢ Stuck }
+        ensures stack { self.old.stack ≡ result.1 ∷ (result.0 ∷ self.new.stack) }
+        ensures place { self.new.place ≡ self.old.place }
+        ensures owed { self.new.owed ≡ self.old.owed }
+        ensures room { self.new.room ≡ self.old.room }
+        ensures given { self.new.given ≡ self.old.given }
+        ensures held { self.new.held ≡ self.old.held }
+        ensures bound { suc (length self.new.stack) < self.new.room }
+    {
+        let y = self.pop();
+        let x = self.pop();
+        (x, y)
     }
 
     // Pops `count` operands into `words`, in the order of their pushes.

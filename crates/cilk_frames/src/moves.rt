@@ -1,6 +1,6 @@
 //! The effect of single instructions on a frame's cursor.
 
-ghost use Rattle.std.specs.Prelude.{◌≡◌, ◌≢◌, ◌+◌, ◌<◌, ◌≤◌, ◌^◌, ◌∷◌, [], if◌then◌else◌, int_lt, length, suc, ℕ};
+ghost use Rattle.std.specs.Prelude.{◌≡◌, ◌≢◌, ◌+◌, ◌<◌, ◌≤◌, ◌^◌, ◌∷◌, [], if◌then◌else◌, int_lt, length, suc, ℕ, false};
 ghost use Rattle.cilk_types.specs.declared.fault.Fault.TheVariants.{DivisionByZero, IndexOutside};
 ghost use Rattle.cilk_program.specs.Operators.{apply};
 ghost use Rattle.cilk_program.specs.Syntax.{element};
@@ -313,6 +313,58 @@ pub(crate) fn apply_number(
     let x = cursor.pop();
     let word = apply(operator, x, number);
     give_checked(cursor, word, Fault::DivisionByZero, left)
+}
+
+/// Pushes a word, for a tick that is there.
+#[inline(always)]
+pub(crate) fn put_counted(cursor: &mut Cursor, word: i64, left: &mut u32)
+    requires room { length cursor.old.stack < cursor.old.room }
+    requires tick { 0 < left.old }
+    requires small { cursor.old.place < 2 ^ 63 }
+    ensures cursor { cursor.new ≡ record cursor.old { place = cursor.old.place + 1; stack = word ∷ cursor.old.stack } }
+    ensures left { left.old ≡ suc left.new }
+{
+    *left -= 1;
+    cursor.push(word);
+    cursor.next();
+}
+
+/// Pushes the result of an operator and a number, for two ticks that are there. Skips the `Apply`
+/// that follows.
+#[inline(always)]
+pub(crate) fn put_past_next(cursor: &mut Cursor, word: i64, left: &mut u32)
+    requires room { length cursor.old.stack < cursor.old.room }
+    requires ticks { 1 < left.old }
+    requires small { cursor.old.place + 1 < 2 ^ 63 }
+    ensures cursor { cursor.new ≡ record cursor.old { place = cursor.old.place + 2; stack = word ∷ cursor.old.stack } }
+    ensures left { left.old ≡ suc (suc left.new) }
+{
+    *left -= 2;
+    cursor.push(word);
+    cursor.pass_next();
+}
+
+/// Puts back an operand that was popped. Returns false.
+#[inline(always)]
+pub(crate) fn put_back(cursor: &mut Cursor, x: i64) -> bool
+    requires { length cursor.old.stack < cursor.old.room }
+    ensures done { result ≡ false }
+    ensures cursor { cursor.new ≡ record cursor.old { stack = x ∷ cursor.old.stack } }
+{
+    cursor.push(x);
+    false
+}
+
+/// Puts back two operands that were popped. Returns false.
+#[inline(always)]
+pub(crate) fn put_back_two(cursor: &mut Cursor, x: i64, y: i64) -> bool
+    requires { suc (length cursor.old.stack) < cursor.old.room }
+    ensures done { result ≡ false }
+    ensures cursor { cursor.new ≡ record cursor.old { stack = y ∷ (x ∷ cursor.old.stack) } }
+{
+    cursor.push(x);
+    cursor.push(y);
+    false
 }
 
 // Uses one tick. Returns false if none is left.

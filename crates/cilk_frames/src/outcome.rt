@@ -53,8 +53,9 @@ fn printed(alloc: Global, views: &mut Hypermap) -> Sequence<i64>
     }
 }
 
-// The last values of the global reducers, in order.
-fn finals(
+/// Returns the last values of the global reducers with these monoids, in order. They are taken out of
+/// `views`.
+pub fn finals(
     alloc: Global,
     kinds: &[MonoidKind],
     views: &mut Hypermap,

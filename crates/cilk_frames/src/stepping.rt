@@ -12,7 +12,8 @@ use crate::cursor::{Answer, Cursor};
 use crate::halves::{first_half, is_single, second_half};
 use crate::moves::{
     Moved, apply_number, call_loop, fetch_element, give, give_checked, give_result, invoke_turns,
-    load, load_element, put, skip_if, stop, store, store_element, tick, wait,
+    load, load_element, put, put_back, put_back_two, put_counted, put_past_next, skip_if, stop,
+    store, store_element, tick, wait,
 };
 use crate::operators::{apply, change, negation, truth};
 use crate::small_ask::SmallAsk;
@@ -91,8 +92,8 @@ fn go_on(
     }
 }
 
-/// Executes one instruction if it makes no request, is a common one, and has the tick that it uses.
-/// Returns false otherwise, and changes nothing. `instrs` are those of the code.
+/// Executes one instruction if it makes no request, is a common one, has the ticks that it uses, and
+/// no fault. Returns false otherwise, and changes nothing. `instrs` are those of the code.
 #[inline(always)]
 #[tactic(auto, using(crate::proofs::Effort::effort_back, crate::proofs::Effort::effort_again))]
 pub fn exec_plain(code: &Code, instrs: &[Instr], cursor: &mut Cursor, left: &mut u32) -> bool
@@ -108,68 +109,34 @@ pub fn exec_plain(code: &Code, instrs: &[Instr], cursor: &mut Cursor, left: &mut
         Instr::Tick if *left > 0 => {
             *left -= 1;
             cursor.next();
-            true
         }
-        Instr::Push(word) if *left > 0 => {
-            *left -= 1;
-            cursor.push(*word);
-            cursor.next();
-            true
-        }
+        Instr::Push(word) if *left > 0 => put_counted(cursor, *word, left),
         Instr::Apply(operator) if *left > 0 => {
-            let y = cursor.pop();
-            let x = cursor.pop();
-            match apply(*operator, x, y) {
-                Some(word) => {
-                    *left -= 1;
-                    cursor.push(word);
-                    cursor.next();
-                    true
-                }
-                None => {
-                    cursor.push(x);
-                    cursor.push(y);
-                    false
-                }
-            }
+            let (x, y) = cursor.pop_two();
+            let Some(word) = apply(*operator, x, y) else {
+                return put_back_two(cursor, x, y);
+            };
+            put_counted(cursor, word, left);
         }
-        Instr::JumpIfZero(count) => {
-            if cursor.pop() == 0 {
-                cursor.skip(*count);
-            } else {
-                cursor.next();
-            }
-            true
-        }
+        Instr::JumpIfZero(count) => match cursor.pop() {
+            0 => cursor.skip(*count),
+            _ => cursor.next(),
+        },
         Instr::ApplyNumber(operator, number) if *left > 1 => {
             let x = cursor.pop();
-            match apply(*operator, x, *number) {
-                Some(word) => {
-                    *left -= 2;
-                    cursor.push(word);
-                    cursor.pass_next();
-                    true
-                }
-                None => {
-                    cursor.push(x);
-                    false
-                }
-            }
+            let Some(word) = apply(*operator, x, *number) else {
+                return put_back(cursor, x);
+            };
+            put_past_next(cursor, word, left);
         }
-        Instr::JumpBack(count) => {
-            cursor.go_back(*count);
-            true
-        }
-        Instr::JumpBackUnlessZero(count) => {
-            if cursor.pop() == 0 {
-                cursor.next();
-            } else {
-                cursor.go_back(*count);
-            }
-            true
-        }
-        _ => false,
+        Instr::JumpBack(count) => cursor.go_back(*count),
+        Instr::JumpBackUnlessZero(count) => match cursor.pop() {
+            0 => cursor.next(),
+            _ => cursor.go_back(*count),
+        },
+        _ => return false,
     }
+    true
 }
 
 /// Executes one instruction. `instrs` are those of the code.
@@ -288,11 +255,9 @@ pub fn exec_instr(
             Moved::Goes
         }
         Instr::JumpBackUnlessZero(count) => {
-            let word = cursor.pop();
-            if word == 0 {
-                cursor.next();
-            } else {
-                cursor.go_back(*count);
+            match cursor.pop() {
+                0 => cursor.next(),
+                _ => cursor.go_back(*count),
             }
             Moved::Goes
         }

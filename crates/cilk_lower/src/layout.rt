@@ -135,7 +135,8 @@ pub fn lay_out(alloc: Global, program: &Program) -> Result<Layout, AllocError>
     })
 }
 
-fn global_kinds(
+/// Returns the monoids of global reducers, in order.
+pub fn global_kinds(
     alloc: Global,
     reducers: &[GlobalReducer],
 ) -> Result<Sequence<MonoidKind>, AllocError>

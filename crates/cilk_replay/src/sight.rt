@@ -55,31 +55,25 @@ impl Sight {
         ensures { IfOk result (λ s. (how : Invocation) (callee : Callee) → asked.now ≡ Invoke how callee
             → IsSightOf globals callee layout caller.now s) }
     {
-        match asked.small_ask() {
+        let (outer, given, result) = match asked.small_ask() {
             None => {
                 let call = asked.invocation().1;
-                let result = caller.taking(globals, call.result);
                 let given = given_to(alloc, caller, call.reducers.as_slice())?;
-                Ok(Sight {
-                    own: layout,
-                    outer: Vec::new(alloc),
-                    given,
-                    result,
-                })
+                (Vec::new(alloc), given, caller.taking(globals, call.result))
             }
             Some(SmallAsk::Turns(_, part)) => {
-                let result = global(globals, 0);
                 let outer = caller.outer(alloc, part.up)?;
                 let given = given_outer(alloc, &outer, &caller.given)?;
-                Ok(Sight {
-                    own: layout,
-                    outer,
-                    given,
-                    result,
-                })
+                (outer, given, global(globals, 0))
             }
             Some(_) => unreachable!(),
-        }
+        };
+        Ok(Sight {
+            own: layout,
+            outer,
+            given,
+            result,
+        })
     }
 
     // The layouts `up` static links out and further out.

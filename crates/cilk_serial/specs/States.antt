@@ -1,5 +1,5 @@
 -- The memory that the code's store, counters and events represent.
-use Rattle.std.specs.Prelude.{◌≡◌, ℕ, suc, ◌+◌, ◌-◌, ◌<◌, ◌≤◌, false, ℤ, pos, [], ◌∷◌, ◌++◌, length, slice_index_or, Result, Ok, Err, IsErr, List}
+use Rattle.std.specs.Prelude.{◌≡◌, ℕ, suc, ◌+◌, ◌-◌, ◌<◌, ◌≤◌, ℤ, pos, [], ◌∷◌, ◌++◌, length, slice_index_or, Result, Ok, Err, IsErr, List}
 use Rattle.cilk_types.specs.declared.event.Event.{Event}
 use Rattle.cilk_types.specs.declared.event.Instance.{Instance}
 use Rattle.cilk_types.specs.declared.limits.TheConstants.{MAX_EVENTS}
@@ -87,7 +87,3 @@ Begins s s' how count = (m : Memory) → Shows s m → EventMade s s' (invocatio
 -- the hypermap represents the views of a store, where an absent view counts as the unit
 abbrev pub ShowsViews : Hypermap → Store Instance → Type 0
 ShowsViews h m = (k : MonoidKind) (i : Instance) → m.views k i ≡ value_in h k i
-
--- the values of all other reducers are unchanged
-abbrev pub KeepsOthers : Hypermap → Hypermap → Instance → Type 0
-KeepsOthers old new i = (k : MonoidKind) (j : Instance) → same_instance i j ≡ false → value_in new k j ≡ value_in old k j

@@ -5,9 +5,10 @@
 //! program without its parallel keywords (Frigo, Leiserson and Randall 1998). The trace, which is
 //! the list of all events, is the input of the race and determinacy checks.
 //!
-//! The run steps frames with [`cilk_frames::stepping::step_into`], over one store of cells, one
-//! hypermap of views and a stack of frames. It doesn't recurse on the depth of the run, and no
-//! event costs the scan of a list: each frame has its first cell, reducers and static link.
+//! The run executes the instructions of one frame after another, over one store of cells, one
+//! hypermap of views and a stack of frames ([`running::Running::run_on`]). It doesn't recurse on the
+//! depth of the run, and no event costs the scan of a list: each frame has its first cell, reducers
+//! and static link.
 //!
 //! | Item | Purpose |
 //! |---|---|
@@ -24,9 +25,9 @@
 //! let code = lower(alloc, &program)?;
 //! let mut serial = SerialRun::new(alloc, &program, &code, &input)?;
 //! loop {
-//!     let callee = serial.callee();                // of the frame that the next event begins
+//!     let target = serial.target();                // what the next event begins
 //!     match serial.next()? {
-//!         Next::Made(event) => show(event, callee),
+//!         Next::Made(event) => show(event, target),
 //!         Next::Ended => return serial.finish(),   // the outcome and the trace
 //!         Next::Stops(fault) => return Err(fault), // into_trace() keeps the events before it
 //!     }

@@ -123,9 +123,9 @@ impl Running {
 
     /// Makes more events of the running frame, up to its next invocation, its end or a fault.
     ///
-    /// Each request is answered in the arm of its instruction, and the cursor is a local value, so
-    /// that the place and the operands' top stay in registers. Each caller takes another `COPY`, so
-    /// that the compiler makes the loop a part of each.
+    /// Each request is answered in this loop, and the cursor is a local value, so that the place and
+    /// the operands' top stay in registers. Each caller takes another `COPY`, so that the compiler
+    /// makes the loop a part of each.
     pub fn run_on<const COPY: bool>(
         &mut self,
         alloc: Global,

@@ -252,7 +252,7 @@ impl<'a> SerialRun<'a> {
         self.running.frames.top.cursor.last_operands()
     }
 
-    /// Returns the ticks that the run has taken.
+    /// Returns the ticks that the run has taken. For messages: nothing is proved of them.
     pub fn ticks(&self) -> u32 {
         MAX_TICKS.saturating_sub(self.running.left)
     }

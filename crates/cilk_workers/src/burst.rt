@@ -126,10 +126,8 @@ impl<'a, 'b, N: Naming, R: Wait, G: Gate> WorkerContext<'a, 'b, N, R, G> {
                 }
                 Turn::Ended => {
                     tell(self.gate, self.worker, self.shared, before, &work.piece);
-                    let taken = work.piece.upto() == before;
-                    let Some(task) = behind(&mut tools.rack, taken) else {
-                        let Work { piece, chain: _ } = work;
-                        return self.arrived(&mut tools.keys, piece, None);
+                    let Some(task) = behind(&mut tools.rack, work.piece.upto() == before) else {
+                        return self.arrived(&mut tools.keys, work.into_piece(), None);
                     };
                     self.own(&mut work, task);
                 }
@@ -139,8 +137,7 @@ impl<'a, 'b, N: Naming, R: Wait, G: Gate> WorkerContext<'a, 'b, N, R, G> {
                 }
                 Turn::Finished(value) => {
                     tell(self.gate, self.worker, self.shared, before, &work.piece);
-                    let Work { piece, chain: _ } = work;
-                    return Activity::Done(ExitReason::Whole(piece, value));
+                    return Activity::Done(ExitReason::Whole(work.into_piece(), value));
                 }
                 Turn::Departed(at) => return Activity::Done(ExitReason::Departed(at)),
                 Turn::Stopped => return Activity::Done(ExitReason::Stopped),

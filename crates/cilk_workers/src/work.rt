@@ -1,5 +1,7 @@
 //! The work of a worker, and the outcome of a turn.
 
+ghost use Rattle.std.specs.Prelude.{◌≡◌};
+
 use cilk_replay::chain::{Chain, Task};
 use cilk_shared::piece::Piece;
 use cilk_types::event::Pos;
@@ -10,6 +12,16 @@ use cilk_types::event::Pos;
 pub struct Work {
     pub piece: Piece,
     pub chain: Chain,
+}
+
+impl Work {
+    /// Returns the piece. The frames are dropped.
+    pub fn into_piece(self) -> Piece
+        ensures { result ≡ self.piece }
+    {
+        let Work { piece, chain: _ } = self;
+        piece
+    }
 }
 
 /// The outcome of a turn. The turn also changes the worker's piece and chain.

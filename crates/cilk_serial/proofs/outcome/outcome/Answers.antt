@@ -1,13 +1,12 @@
-use Rattle.std.proofs.Common.{length, take, ap, ◌∙◌, arith, w64}
+use Rattle.std.proofs.Common.{length, map, take, ap, ◌∙◌, arith, w64}
 use Rattle.std.proofs.lemmas.Int.{to_z-of_z}
 use Rattle.std.proofs.lemmas.List.{length-map}
 use Rattle.cilk_program.specs.declared.program.GlobalReducer.{GlobalReducer}
-use Rattle.cilk_program.specs.Outcomes.{finals_from}
 use Rattle.cilk_program.specs.Sources.{source}
-use Rattle.cilk_program.specs.SerialRun.{global_reducer}
 use Rattle.cilk_program.proofs.Naming.{well_named_parts}
+use Rattle.cilk_frames.specs.Leaving.{finals_of}
 use Rattle.cilk_serial.proofs.Endings.{leaves}
-use Rattle.cilk_serial.proofs.Finals.{kinds}
+use Rattle.cilk_serial.proofs.Finals.{finals_shown}
 use Rattle.cilk_serial.proofs.outcome.outcome.Goals as goal
 
 pub finals-requires : goal.finals-requires
@@ -16,7 +15,7 @@ finals-requires c =
     let named = well_named_parts (source p) p.well_named in
     let few = named.reducers in
     let many = length-map p.reducers.items (λ (r : GlobalReducer). r.kind) in
-    let same = ap length c.deref.ensures.value in
+    let same = ap length (c.as_slice.ensures ∙ c.in_ok-kinds.ensures ∙ ap (λ rs. map (λ (r : GlobalReducer). r.kind) rs) c.deref.ensures.value) in
     omega (arith, few, many, same)
 
 pub new-requires-4 : goal.new-requires-4
@@ -31,5 +30,5 @@ returns-clause-ran c = λ inputs h.
     leaves (source p) p.well_named inputs s c.args.value _ c.new.result c.new-2.result c.new-3.result c.new-4.result h (to_z-of_z w64 c.args.value c.ranges.value)
     (c.new.ensures ∙ c.truncate.ensures.items ∙ ap (λ n. take n s.cells.items) c.len.ensures)
     c.new-2.ensures
-    (c.new-3.ensures ∙ c.in_ok-reducers.ensures m.store sh.view ∙ ap (λ rs. finals_from global_reducer 0 (kinds rs) m.store) c.deref.ensures.value)
+    (c.new-3.ensures ∙ c.in_ok-reducers.ensures ∙ ap (finals_of s.views 0) (c.as_slice.ensures ∙ c.in_ok-kinds.ensures ∙ ap (λ rs. map (λ (r : GlobalReducer). r.kind) rs) c.deref.ensures.value) ∙ finals_shown s.views m.store sh.view 0 (source p).reducers)
     c.new-4.ensures

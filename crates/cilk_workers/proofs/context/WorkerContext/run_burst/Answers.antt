@@ -23,8 +23,8 @@ each-preserved g c = elim c.match-act.branch [ in-Goes w ↦ search rules | in-O
 
 pub returns-in_default-clause-told : goal.returns-in_default-clause-told
 returns-in_default-clause-told g c =
-    let its = λ (ks : List Key). Arrived (event_order_in c.args.self.now.shared.now) c.act.new.work.piece None ks c.arrived.new.keys.items in
-    inr (c.act.new.work.piece, None, subst its c.each.invariant.2 c.arrived.ensures.told)
+    let its = λ (ks : List Key). Arrived (event_order_in c.args.self.now.shared.now) c.into_piece.result None ks c.arrived.new.keys.items in
+    inr (c.into_piece.result, None, subst its c.each.invariant.2 c.arrived.ensures.told)
 
 pub returns-in-Arrives-clause-told : goal.returns-in-Arrives-clause-told
 returns-in-Arrives-clause-told g c =
