@@ -7,7 +7,7 @@ ghost use Rattle.cilk_tree.specs.Frames.{IsInFrame};
 ghost use Rattle.cilk_shared.specs.Values.{OfYard, NextRead, NextWrite, NextSpawn, NextFinish, CanTake, CanPass};
 ghost use Rattle.cilk_tree.specs.Runs.{IsFollowed};
 ghost use Rattle.cilk_tree.specs.Word.{event};
-ghost use Rattle.cilk_shared.specs.Pieces.{AreOfOne, Adjoining, IsPieceOf, IsPieceTaken, PassesOn, grown, joined, none_beside, number_ahead, piece_of, segment_of};
+ghost use Rattle.cilk_shared.specs.Pieces.{AreOfOne, Adjoining, Covers, IsPieceOf, IsPieceTaken, PassesOn, grown, joined, none_beside, number_ahead, piece_of, segment_of};
 ghost use Rattle.cilk_shared.specs.Rule.{IsStart, Whole};
 ghost use Rattle.cilk_shared.specs.Reducers.{HasFew, events_at, events_over, kind_in};
 ghost use Rattle.cilk_shared.specs.Settled.{AreSettled};
@@ -51,6 +51,18 @@ pub struct Parts {
 }
 
 impl Piece {
+    // The piece of these parts.
+    fn of(views: Hypermap, segment: Segment, reducers: Snapshot<Reducers>) -> Piece
+        requires { Covers views reducers.value segment }
+        ensures { result ≡ piece_of reducers.value segment }
+    {
+        Piece {
+            views,
+            segment,
+            reducers,
+        }
+    }
+
     /// Makes the piece of a yard's first segment, the one of the run's first event.
     pub fn new(alloc: Global, yard: &Yard, segment: Segment, reducers: &Reducers) -> Piece
         requires yard { OfYard yard.now segment }
@@ -344,22 +356,10 @@ impl Piece {
             reducers: later_reducers,
         } = right;
         match Hypermap::merge(alloc, views, later_views) {
-            Ok(views) => Ok(Piece {
-                views,
-                segment: yard.together(segment, later),
-                reducers,
-            }),
+            Ok(views) => Ok(Piece::of(views, yard.together(segment, later), reducers)),
             Err((views, later_views)) => Err((
-                Piece {
-                    views,
-                    segment,
-                    reducers,
-                },
-                Piece {
-                    views: later_views,
-                    segment: later,
-                    reducers: later_reducers,
-                },
+                Piece::of(views, segment, reducers),
+                Piece::of(later_views, later, later_reducers),
             )),
         }
     }
@@ -396,28 +396,12 @@ impl Piece {
             Ok(views) => {
                 let both = yard.together(one, two);
                 let all = yard.together(both, three);
-                Ok(Piece {
-                    views,
-                    segment: all,
-                    reducers,
-                })
+                Ok(Piece::of(views, all, reducers))
             }
             Err((first, second, third)) => Err((
-                Piece {
-                    views: first,
-                    segment: one,
-                    reducers,
-                },
-                Piece {
-                    views: second,
-                    segment: two,
-                    reducers: second_reducers,
-                },
-                Piece {
-                    views: third,
-                    segment: three,
-                    reducers: third_reducers,
-                },
+                Piece::of(first, one, reducers),
+                Piece::of(second, two, second_reducers),
+                Piece::of(third, three, third_reducers),
             )),
         }
     }

@@ -83,17 +83,16 @@ impl<'a, 'b, N: Naming, R: Wait, G: Gate> WorkerContext<'a, 'b, N, R, G> {
             return Activity::Idle(piece);
         };
         let child = task.ticket();
-        match begin(self.shared, piece, task) {
-            Ok(work) => {
-                backoff.reset();
-                tell(self.gate, self.worker, self.shared, 0, &work.piece);
-                if self.announce_steal(&mut tools.keys, child, work.piece.from()) {
-                    Activity::Holds(work)
-                } else {
-                    Activity::Done(ExitReason::Stopped)
-                }
-            }
-            Err((piece, _denied)) => Activity::Idle(piece),
+        let work = match begin(self.shared, piece, task) {
+            Ok(work) => work,
+            Err((piece, _denied)) => return Activity::Idle(piece),
+        };
+        backoff.reset();
+        tell(self.gate, self.worker, self.shared, 0, &work.piece);
+        if self.announce_steal(&mut tools.keys, child, work.piece.from()) {
+            Activity::Holds(work)
+        } else {
+            Activity::Done(ExitReason::Stopped)
         }
     }
 }

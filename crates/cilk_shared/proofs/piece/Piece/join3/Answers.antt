@@ -17,8 +17,8 @@ together-all-requires-clause-near c =
     let right : c.right.inside.segment ≡ segment_of c.args.right = ap segment_of c.right.view_is in
     subst (λ (x : SegmentValue × SegmentValue). Adjoin x.0 x.1) (λ i. (sym (c.together-both.ensures ∙ both) i, sym right i)) c.requires.near.1
 
-pub invariant_of-result : goal.invariant_of-result
-invariant_of-result c =
+pub of-requires : goal.of-requires
+of-requires c =
     let y = c.args.yard.now in
     let one = two_pieces (AreOfOne y) c.left.view_is c.middle.view_is c.requires.one.0 in
     let two = two_pieces (AreOfOne y) c.left.view_is c.right.view_is c.requires.one.1 in
@@ -30,20 +30,20 @@ invariant_of-result c =
     covers_three y c.laws.ensures.order c.left.inside.reducers.value c.middle.inside.reducers.value c.right.inside.reducers.value c.left.inside.segment c.middle.inside.segment c.right.inside.segment
     c.left.inside.views c.middle.inside.views c.right.inside.views c.in-Ok.views one.0 one.1 two.1 one.2 two.2 c.left.invariant c.middle.invariant c.right.invariant near near' c.in-Ok.ensures.values _ _ c.together-both.ensures c.together-all.ensures
 
-pub invariant_of-result-in-Err : goal.invariant_of-result-in-Err
-invariant_of-result-in-Err c =
+pub of-requires-in-Err : goal.of-requires-in-Err
+of-requires-in-Err c =
     let g = c.left.inside.segment in
     let r = c.left.inside.reducers.value in
     covers_kept r c.left.inside.views c.in-Err.first g (shows_same (kind_in r) c.left.inside.views c.in-Err.first (events_over g.event_order r g.from g.upto) c.in-Err.ensures.err.0 c.left.invariant.shows) c.left.invariant
 
-pub invariant_of-result-in-Err-2 : goal.invariant_of-result-in-Err-2
-invariant_of-result-in-Err-2 c =
+pub of-requires-in-Err-2 : goal.of-requires-in-Err-2
+of-requires-in-Err-2 c =
     let g = c.middle.inside.segment in
     let r = c.middle.inside.reducers.value in
     covers_kept r c.middle.inside.views c.in-Err.second g (shows_same (kind_in r) c.middle.inside.views c.in-Err.second (events_over g.event_order r g.from g.upto) c.in-Err.ensures.err.1 c.middle.invariant.shows) c.middle.invariant
 
-pub invariant_of-result-in-Err-3 : goal.invariant_of-result-in-Err-3
-invariant_of-result-in-Err-3 c =
+pub of-requires-in-Err-3 : goal.of-requires-in-Err-3
+of-requires-in-Err-3 c =
     let g = c.right.inside.segment in
     let r = c.right.inside.reducers.value in
     covers_kept r c.right.inside.views c.in-Err.third g (shows_same (kind_in r) c.right.inside.views c.in-Err.third (events_over g.event_order r g.from g.upto) c.in-Err.ensures.err.2 c.right.invariant.shows) c.right.invariant
