@@ -42,11 +42,12 @@ module _ (known left : Option (List ℕ)) where
       → Heard r text [] reader t → TakesAll known left
   all_taken r text reader t taken end h = (end, (text, taken, formed_within text (heard_formed r text reader t h)))
 
-  -- a piece has a fault
+module _ (known left : Option (List ℕ)) (last : ℕ) where
+  -- the piece that the last pull gave has a fault
   pub until_fault : (r : Right) (before piece : List ℕ) (reader : LineReader) (t : Tally) (f : CertFault)
-      → Consumes known left (before ++ piece) → length piece ≤ 32768 → Heard r before [] reader t
-      → IsEarly f → IsFaultOf (before ++ piece) f → TakesUntil known left (told (Fault f))
-  until_fault r before piece reader t (cert_faults.Malformed line) taken short h early fault =
+      → Consumes known left (before ++ piece) → length piece ≡ last → length piece ≤ 32768 → Heard r before [] reader t
+      → IsEarly f → IsFaultOf (before ++ piece) f → TakesUntil known left last (told (Fault f))
+  until_fault r before piece reader t (cert_faults.Malformed line) taken all short h early fault =
       let formed = heard_formed r before reader t h in (
         before ++ piece,
         taken,
@@ -54,27 +55,30 @@ module _ (known left : Option (List ℕ)) where
           before = before;
           piece = piece;
           parts = refl;
+          all = all;
           formed = formed;
           within = formed_within before formed;
           short = short;
           malformed = ap (λ (l : List ℕ). (reading_of l).fault) (sym (append-nil (before ++ piece))) ∙ fault (λ e. cc) [];
         },
       )
-  until_fault r before piece reader t (cert_faults.Truncated line) taken short h early fault = absurd early
-  until_fault r before piece reader t cert_faults.Memory taken short h early fault = tt
+  until_fault r before piece reader t (cert_faults.Truncated line) taken all short h early fault = absurd early
+  until_fault r before piece reader t cert_faults.Memory taken all short h early fault = tt
 
   -- the text has ended too early
   pub until_end : (r : Right) (text : List ℕ) (reader : LineReader) (t : Tally) (f : CertFault) → Consumes known left text
-      → IsAtEnd left → Heard r text [] reader t → ahead reader [] ≡ stops f → TakesUntil known left (told (Fault f))
+      → IsAtEnd left → Heard r text [] reader t → ahead reader [] ≡ stops f
+      → TakesUntil known left last (told (Fault f))
   until_end r text reader t (cert_faults.Malformed line) taken end h e =
       absurd (heard_formed r text reader t h line
       (ap (λ (l : List ℕ). (reading_of l).fault) (sym (append-nil text)) ∙ heard_fault_end r text reader t (cert_faults.Malformed line) h e))
-  until_end r text reader t (cert_faults.Truncated line) taken end h e = all_taken r text reader t taken end h
+  until_end r text reader t (cert_faults.Truncated line) taken end h e =
+      all_taken known left r text reader t taken end h
   until_end r text reader t cert_faults.Memory taken end h e = tt
 
   -- a refusal for which the text was read to its end
   pub until_found : (s : Shape) (es : List Event) (value : ℤ) (c : Contents) (r : Refusal) → IsFound s es value c r → TakesAll known left
-      → TakesUntil known left (unaccepted.Refusal r)
+      → TakesUntil known left last (unaccepted.Refusal r)
   until_found s es value c (refusals.Program fault place) h all = all
   until_found s es value c (refusals.Name fault place) h all = all
   until_found s es value c (refusals.Input fault place) h all = all
@@ -93,7 +97,7 @@ module _ (known left : Option (List ℕ)) where
   until_found s es value c refusals.Memory h all = tt
 
   pub until_before : (es : List Event) (c : Contents) (r : Refusal) → IsFoundBefore es c r → TakesAll known left
-      → TakesUntil known left (unaccepted.Refusal r)
+      → TakesUntil known left last (unaccepted.Refusal r)
   until_before es c (refusals.Program fault place) h all = all
   until_before es c (refusals.Name fault place) h all = all
   until_before es c (refusals.Input fault place) h all = all
@@ -111,7 +115,8 @@ module _ (known left : Option (List ℕ)) where
   until_before es c (refusals.ViewRace created used) h all = all
   until_before es c refusals.Memory h all = tt
 
-  pub until_judged : (r : Refusal) → IsJudgement r → (IsOfTexts (unaccepted.Refusal r) → ⊥) → TakesUntil known left (unaccepted.Refusal r)
+  pub until_judged : (r : Refusal) → IsJudgement r → (IsOfTexts (unaccepted.Refusal r) → ⊥)
+      → TakesUntil known left last (unaccepted.Refusal r)
   until_judged (refusals.Program fault place) j other = absurd (other tt)
   until_judged (refusals.Name fault place) j other = absurd (other tt)
   until_judged (refusals.Input fault place) j other = absurd (other tt)

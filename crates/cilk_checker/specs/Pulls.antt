@@ -18,11 +18,13 @@ IsEarly (cert_faults.Malformed line) = Unit {0}
 IsEarly (cert_faults.Truncated line) = ⊥
 IsEarly cert_faults.Memory = Unit {0}
 
--- These bytes end with the piece that has the malformed line: those before that piece have none.
-pub record EndsWithFault (line : ℕ) (bytes : List ℕ) : Type 0 where
+-- These bytes end with those of the last pull, which has the malformed line: those before have none. So nothing is
+-- pulled after it.
+pub record EndsWithFault (line last : ℕ) (bytes : List ℕ) : Type 0 where
   pub before : List ℕ
   pub piece : List ℕ
   pub parts : bytes ≡ before ++ piece
+  pub all : length piece ≡ last
   pub formed : HasNoMalformedLine before
   pub within : length before ≤ 134217728
   pub short : length piece ≤ 32768
@@ -38,10 +40,10 @@ module _ (known left : Option (List ℕ)) where
   abbrev pub TakesAll : Type 0
   TakesAll = IsAtEnd left × Takes (λ bytes. length bytes ≤ 134217728)
 
-  -- The bytes that were taken where a certificate isn't accepted. Nothing is pulled after the piece
-  -- with a malformed line.
-  abbrev pub TakesUntil : Unaccepted → Type 0
-  TakesUntil (unaccepted.Refusal (refusals.Malformed line)) = Takes (EndsWithFault line)
-  TakesUntil (unaccepted.Refusal refusals.Memory) = Unit {0}
-  TakesUntil (unaccepted.Refusal r) = TakesAll
-  TakesUntil unaccepted.Unread = Unit {0}
+  -- The bytes that were taken where a certificate isn't accepted, if the last pull gave this many. It is the one that
+  -- has a malformed line.
+  abbrev pub TakesUntil : ℕ → Unaccepted → Type 0
+  TakesUntil last (unaccepted.Refusal (refusals.Malformed line)) = Takes (EndsWithFault line last)
+  TakesUntil last (unaccepted.Refusal refusals.Memory) = Unit {0}
+  TakesUntil last (unaccepted.Refusal r) = TakesAll
+  TakesUntil last unaccepted.Unread = Unit {0}

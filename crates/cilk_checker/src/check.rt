@@ -38,7 +38,8 @@ pub fn check_run<S: Source>(
     ensures unaccepted { let failed = S.failed source.old in let failed' = S.failed source.new in
         IfErr result (λ e. IsUnaccepted (source_of program) input (S.remaining source.old) failed failed' e) }
     ensures whole { OnOk result (TakesAll (S.remaining source.old) (S.remaining source.new)) }
-    ensures part { IfErr result (λ e. TakesUntil (S.remaining source.old) (S.remaining source.new) e) }
+    ensures part { IfErr result (λ e.
+        TakesUntil (S.remaining source.old) (S.remaining source.new) (S.last source.new) e) }
     ensures uncounted { OnOk result (S.failed source.new ≡ S.failed source.old) }
     ensures lender { S.lender source.new ≡ S.lender source.old }
     ensures kept { S.kept source.new ≡ S.kept source.old }
@@ -67,7 +68,8 @@ pub fn check_end<S: Source>(
     ensures unaccepted { let failed = S.failed source.old in let failed' = S.failed source.new in
         IfErr result (λ e. IsUnaccepted (source_of program) input (S.remaining source.old) failed failed' e) }
     ensures whole { OnOk result (TakesAll (S.remaining source.old) (S.remaining source.new)) }
-    ensures part { IfErr result (λ e. TakesUntil (S.remaining source.old) (S.remaining source.new) e) }
+    ensures part { IfErr result (λ e.
+        TakesUntil (S.remaining source.old) (S.remaining source.new) (S.last source.new) e) }
     ensures uncounted { OnOk result (S.failed source.new ≡ S.failed source.old) }
     ensures lender { S.lender source.new ≡ S.lender source.old }
     ensures kept { S.kept source.new ≡ S.kept source.old }

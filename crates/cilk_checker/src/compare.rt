@@ -40,7 +40,8 @@ pub fn stopped<S: Source>(
         IfErr result (λ e. (p : Meaning) (inputs : List ℤ)
         → IsUnaccepted p inputs (S.remaining source.old) failed failed' e) }
     ensures whole { OnOk result (TakesAll (S.remaining source.old) (S.remaining source.new)) }
-    ensures part { IfErr result (λ e. TakesUntil (S.remaining source.old) (S.remaining source.new) e) }
+    ensures part { IfErr result (λ e.
+        TakesUntil (S.remaining source.old) (S.remaining source.new) (S.last source.new) e) }
     ensures lender { S.lender source.new ≡ S.lender source.old }
     ensures kept { S.kept source.new ≡ S.kept source.old }
 {
@@ -86,7 +87,7 @@ pub fn ended<S: Source>(
         → IsUnaccepted p inputs (S.remaining source.old) failed failed' e) }
     ensures whole { OnOk result (TakesAll (S.remaining source.old) (S.remaining source.new)) }
     ensures part { IfErr result (λ e. (s : Shape) → HasColumns s right.now → HasCreations right.now.trace
-        → TakesUntil (S.remaining source.old) (S.remaining source.new) e) }
+        → TakesUntil (S.remaining source.old) (S.remaining source.new) (S.last source.new) e) }
     ensures uncounted { OnOk result (S.failed source.new ≡ S.failed source.old) }
     ensures lender { S.lender source.new ≡ S.lender source.old }
     ensures kept { S.kept source.new ≡ S.kept source.old }

@@ -292,7 +292,8 @@ fn hear_all<S: Source>(
     ensures heard { OnOk result (IsHeard right.now (S.remaining source.old) tally.new) }
     ensures stop { IfErr result (λ e. IsStop (S.remaining source.old) (S.failed source.old) (S.failed source.new) e) }
     ensures whole { OnOk result (TakesAll (S.remaining source.old) (S.remaining source.new)) }
-    ensures part { IfErr result (λ e. TakesUntil (S.remaining source.old) (S.remaining source.new) (told e)) }
+    ensures part { IfErr result (λ e.
+        TakesUntil (S.remaining source.old) (S.remaining source.new) (S.last source.new) (told e)) }
     ensures uncounted { OnOk result (S.failed source.new ≡ S.failed source.old) }
     ensures lender { S.lender source.new ≡ S.lender source.old }
     ensures kept { S.kept source.new ≡ S.kept source.old }
@@ -327,7 +328,8 @@ pub fn heard<S: Source>(alloc: Global, right: &Right, source: &mut S) -> Result<
     ensures heard { IfOk result (λ t. IsHeard right.now (S.remaining source.old) t) }
     ensures stop { IfErr result (λ e. IsStop (S.remaining source.old) (S.failed source.old) (S.failed source.new) e) }
     ensures whole { OnOk result (TakesAll (S.remaining source.old) (S.remaining source.new)) }
-    ensures part { IfErr result (λ e. TakesUntil (S.remaining source.old) (S.remaining source.new) (told e)) }
+    ensures part { IfErr result (λ e.
+        TakesUntil (S.remaining source.old) (S.remaining source.new) (S.last source.new) (told e)) }
     ensures uncounted { OnOk result (S.failed source.new ≡ S.failed source.old) }
     ensures lender { S.lender source.new ≡ S.lender source.old }
     ensures kept { S.kept source.new ≡ S.kept source.old }

@@ -43,7 +43,8 @@ pub fn check_from<S: Source>(
         IfErr result (λ e. IsTrueAnswer program.now input.now (S.remaining source.old) failed failed' e) }
     ensures unpulled { IfErr result (λ e. IsOfTexts e → source.new ≡ source.old) }
     ensures whole { OnOk result (TakesAll (S.remaining source.old) (S.remaining source.new)) }
-    ensures part { IfErr result (λ e. (IsOfTexts e → ⊥) → TakesUntil (S.remaining source.old) (S.remaining source.new) e) }
+    ensures part { IfErr result (λ e. (IsOfTexts e → ⊥)
+        → TakesUntil (S.remaining source.old) (S.remaining source.new) (S.last source.new) e) }
     ensures uncounted { OnOk result (S.failed source.new ≡ S.failed source.old) }
     ensures only { (text : List ℕ) → S.remaining source.old ≡ Some text
         → AnswersOnly program.now input.now text result (λ e. IsNoVerdict e) }

@@ -15,6 +15,8 @@ pub struct PartSource<'f, 'p, F> {
     path: &'p str,
     other: &'p str,
     at: u64,
+    // The number of bytes that the last pull gave.
+    last: usize,
 }
 
 impl<'f, 'p, F: Files> PartSource<'f, 'p, F> {
@@ -31,6 +33,7 @@ impl<'f, 'p, F: Files> PartSource<'f, 'p, F> {
             path,
             other,
             at: 0,
+            last: 0,
         }
     }
 }
@@ -39,6 +42,8 @@ impl<F: Files> Source for PartSource<'_, '_, F> {
     ghost failed = { λ s. (F.failed s.files.now).count };
 
     ghost remaining = { λ s. option_map (drop s.at) (F.holds s.files.now s.path.now) };
+
+    ghost last = { λ s. s.last };
 
     ghost lender = { λ s. s.files.ghost_name };
 
@@ -50,7 +55,8 @@ impl<F: Files> Source for PartSource<'_, '_, F> {
         ensures within { IfOk result (λ n. n ≤ length into.old) }
         ensures taken { IfOk result (λ n. Consumes (option_map (drop self.old.at) (F.holds self.old.files.now self.old.path.now))
             (option_map (drop self.new.at) (F.holds self.new.files.now self.new.path.now)) (take n into.new)) }
-        ensures last { IfOk result (λ n. n ≡ 0 → 0 < length into.old
+        ensures given { IfOk result (λ n. self.new.last ≡ n) }
+        ensures ended { IfOk result (λ n. n ≡ 0 → 0 < length into.old
             → IsAtEnd (option_map (drop self.new.at) (F.holds self.new.files.now self.new.path.now))) }
         ensures counted { result ≡ Err PullFault.Device → (F.failed self.old.files.now).count < (F.failed self.new.files.now).count }
         ensures uncounted { OnOk result ((F.failed self.new.files.now).count ≡ (F.failed self.old.files.now).count) }
@@ -62,6 +68,7 @@ impl<F: Files> Source for PartSource<'_, '_, F> {
         match self.files.part(self.path, self.at, into) {
             Ok(count) => {
                 self.at += count as u64;
+                self.last = count;
                 Ok(count)
             }
             Err(FileFault::Device) => Err(PullFault::Device),

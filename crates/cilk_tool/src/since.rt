@@ -37,6 +37,8 @@ impl<F: Files, M: Moment> Source for PartsSince<'_, '_, F, M> {
 
     ghost remaining = { λ s. option_map (drop s.parts.at) (F.holds s.parts.files.now s.parts.path.now) };
 
+    ghost last = { λ s. s.parts.last };
+
     ghost lender = { λ s. s.parts.files.ghost_name };
 
     // Failed reads of other files than the certificate's, both paths, and the contents of `other`.

@@ -71,8 +71,8 @@ returns-in_err-refusal-in-Stopped-clause-part g c =
 pub returns-in_ok-refusal-in-Stopped-clause-part : goal.returns-in_ok-refusal-in-Stopped-clause-part
 returns-in_ok-refusal-in-Stopped-clause-part g c =
     let found = c.in_ok-refusal-in-Stopped.ensures.refused in
-    until_before (g.S.Source.remaining c.args.source.now) (g.S.Source.remaining c.stopped.new.source) c.in_ok-right-in-Stopped.right.trace found.certificate c.in_ok-refusal-in-Stopped.refusal
-    found.holds c.in_ok-refusal-in-Stopped.ensures.whole
+    until_before (g.S.Source.remaining c.args.source.now) (g.S.Source.remaining c.stopped.new.source) (g.S.Source.last c.stopped.new.source)
+    c.in_ok-right-in-Stopped.right.trace found.certificate c.in_ok-refusal-in-Stopped.refusal found.holds c.in_ok-refusal-in-Stopped.ensures.whole
 
 pub returns-in_err-ended-in-Left-clause-part : goal.returns-in_err-ended-in-Left-clause-part
 returns-in_err-ended-in-Left-clause-part g c =

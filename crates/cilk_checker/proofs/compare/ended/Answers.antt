@@ -20,7 +20,8 @@ returns-in_err-tally-clause-refused g c =
 pub returns-in-Some-clause-part : goal.returns-in-Some-clause-part
 returns-in-Some-clause-part g c = λ s columns created.
     let h = c.in_ok-tally.ensures.heard in
-    until_found (g.S.Source.remaining c.args.source.now) (g.S.Source.remaining c.heard.new.source) s c.args.right.now.trace c.args.outcome.now.result h.certificate c.in-Some.refusal
+    until_found (g.S.Source.remaining c.args.source.now) (g.S.Source.remaining c.heard.new.source) (g.S.Source.last c.heard.new.source) s c.args.right.now.trace
+    c.args.outcome.now.result h.certificate c.in-Some.refusal
     (rw c.in-Some.is at (c.in_ok-refusal.ensures s h.certificate columns created h.holds)) c.in_ok-tally.ensures.whole
 
 pub returns-in_err-tally-clause-part : goal.returns-in_err-tally-clause-part
