@@ -16,3 +16,4 @@ pub mod Settled
 pub mod Standing
 pub mod Taking
 pub mod Tallying
+pub mod Uncounted

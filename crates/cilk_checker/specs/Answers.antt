@@ -1,5 +1,5 @@
 -- The possible results of a check of a certificate.
-use Rattle.std.specs.Prelude.{ℕ, ◌<◌, ℤ, List, Option}
+use Rattle.std.specs.Prelude.{◌≡◌, ℕ, ◌<◌, ℤ, List, Option}
 use Rattle.cilk_types.specs.declared.event.Event.{Event}
 use Rattle.cilk_types.specs.declared.outcome.Outcome.{Outcome}
 use Rattle.cilk_program.specs.Syntax.{Source}
@@ -32,3 +32,9 @@ module _ (p : Source) (inputs : List ℤ) where
   abbrev pub IsUnaccepted : Option (List ℕ) → ℕ → ℕ → Unaccepted → Type 0
   IsUnaccepted known failed failed' (unaccepted.Refusal r) = IsRefusedText known r
   IsUnaccepted known failed failed' unaccepted.Unread = failed < failed'
+
+-- a check that ends with a refusal met no failing device, unless memory ran out: of that nothing is said
+abbrev pub IsUncounted : ℕ → ℕ → Unaccepted → Type 0
+IsUncounted failed failed' (unaccepted.Refusal refusals.Memory) = Unit {0}
+IsUncounted failed failed' (unaccepted.Refusal r) = failed' ≡ failed
+IsUncounted failed failed' unaccepted.Unread = Unit {0}

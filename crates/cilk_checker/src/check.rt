@@ -3,7 +3,7 @@
 ghost use Rattle.std.specs.Prelude.{◌≡◌, ◌<◌, IfOk, IfErr, OnOk};
 ghost use Rattle.cilk_program.specs.Sources.{source as source_of};
 ghost use Rattle.cilk_checker.specs.Runs.{EndsWith};
-ghost use Rattle.cilk_checker.specs.Answers.{IsCertified, IsUnaccepted};
+ghost use Rattle.cilk_checker.specs.Answers.{IsCertified, IsUnaccepted, IsUncounted};
 ghost use Rattle.cilk_checker.specs.Pulls.{TakesAll, TakesUntil};
 
 use crate::accepted::Accepted;
@@ -37,6 +37,7 @@ pub fn check_run<S: Source>(
         IsCertified (source_of program) input (S.remaining source.old) a.trace a.outcome) }
     ensures unaccepted { let failed = S.failed source.old in let failed' = S.failed source.new in
         IfErr result (λ e. IsUnaccepted (source_of program) input (S.remaining source.old) failed failed' e) }
+    ensures unfailed { IfErr result (λ e. IsUncounted (S.failed source.old) (S.failed source.new) e) }
     ensures whole { OnOk result (TakesAll (S.remaining source.old) (S.remaining source.new)) }
     ensures part { IfErr result (λ e.
         TakesUntil (S.remaining source.old) (S.remaining source.new) (S.last source.new) e) }
@@ -67,6 +68,7 @@ pub fn check_end<S: Source>(
         IsCertified (source_of program) input (S.remaining source.old) a.trace a.outcome) }
     ensures unaccepted { let failed = S.failed source.old in let failed' = S.failed source.new in
         IfErr result (λ e. IsUnaccepted (source_of program) input (S.remaining source.old) failed failed' e) }
+    ensures unfailed { IfErr result (λ e. IsUncounted (S.failed source.old) (S.failed source.new) e) }
     ensures whole { OnOk result (TakesAll (S.remaining source.old) (S.remaining source.new)) }
     ensures part { IfErr result (λ e.
         TakesUntil (S.remaining source.old) (S.remaining source.new) (S.last source.new) e) }

@@ -8,7 +8,7 @@ ghost use Rattle.cilk_tree.specs.Races.{HasNoRace};
 ghost use Rattle.cilk_cert_text.specs.Certificates.{Contents};
 ghost use Rattle.cilk_cert_maker.specs.Right.{IsRight};
 ghost use Rattle.cilk_determinacy.specs.Events.{HasCreations};
-ghost use Rattle.cilk_checker.specs.Answers.{IsUnaccepted};
+ghost use Rattle.cilk_checker.specs.Answers.{IsUnaccepted, IsUncounted};
 ghost use Rattle.cilk_checker.specs.Columns.{HasColumns};
 ghost use Rattle.cilk_checker.specs.Pulls.{TakesAll, TakesUntil};
 ghost use Rattle.cilk_checker.specs.Refusals.{Ended, IsClean, IsFound, IsFoundBefore};
@@ -39,6 +39,8 @@ pub fn stopped<S: Source>(
     ensures unaccepted { let failed = S.failed source.old in let failed' = S.failed source.new in
         IfErr result (λ e. (p : Meaning) (inputs : List ℤ)
         → IsUnaccepted p inputs (S.remaining source.old) failed failed' e) }
+    ensures uncounted { OnOk result (S.failed source.new ≡ S.failed source.old) }
+    ensures unfailed { IfErr result (λ e. IsUncounted (S.failed source.old) (S.failed source.new) e) }
     ensures whole { OnOk result (TakesAll (S.remaining source.old) (S.remaining source.new)) }
     ensures part { IfErr result (λ e.
         TakesUntil (S.remaining source.old) (S.remaining source.new) (S.last source.new) e) }
@@ -85,6 +87,7 @@ pub fn ended<S: Source>(
         IfErr result (λ e. (p : Meaning) (inputs : List ℤ) (s : Shape) → HasColumns s right.now
         → Ended p inputs s right.now.trace outcome.now → HasCreations right.now.trace
         → IsUnaccepted p inputs (S.remaining source.old) failed failed' e) }
+    ensures unfailed { IfErr result (λ e. IsUncounted (S.failed source.old) (S.failed source.new) e) }
     ensures whole { OnOk result (TakesAll (S.remaining source.old) (S.remaining source.new)) }
     ensures part { IfErr result (λ e. (s : Shape) → HasColumns s right.now → HasCreations right.now.trace
         → TakesUntil (S.remaining source.old) (S.remaining source.new) (S.last source.new) e) }

@@ -3,6 +3,7 @@
 ghost use Rattle.std.specs.Prelude.{◌≡◌, ◌≤◌, ◌<◌, ◌+◌, ℕ, List, [], ◌++◌, IfErr, IfOk, OnOk, length, drop};
 ghost use Rattle.cilk_cert_text.specs.Gathering.{nothing};
 ghost use Rattle.cilk_cert_text.specs.Readers.{room_of};
+ghost use Rattle.cilk_checker.specs.Answers.{IsUncounted};
 ghost use Rattle.cilk_checker.specs.Tallies.{AreFew, Heard, IsFaultOf, Tallied};
 ghost use Rattle.cilk_checker.specs.Stops.{IsHeard, IsStop};
 ghost use Rattle.cilk_checker.specs.Pulls.{IsEarly, TakesAll, TakesUntil};
@@ -291,6 +292,7 @@ fn hear_all<S: Source>(
     requires counted { S.failed source.old < 18446744073709551615 }
     ensures heard { OnOk result (IsHeard right.now (S.remaining source.old) tally.new) }
     ensures stop { IfErr result (λ e. IsStop (S.remaining source.old) (S.failed source.old) (S.failed source.new) e) }
+    ensures unfailed { IfErr result (λ e. IsUncounted (S.failed source.old) (S.failed source.new) (told e)) }
     ensures whole { OnOk result (TakesAll (S.remaining source.old) (S.remaining source.new)) }
     ensures part { IfErr result (λ e.
         TakesUntil (S.remaining source.old) (S.remaining source.new) (S.last source.new) (told e)) }
@@ -327,6 +329,7 @@ pub fn heard<S: Source>(alloc: Global, right: &Right, source: &mut S) -> Result<
     requires counted { S.failed source.old < 18446744073709551615 }
     ensures heard { IfOk result (λ t. IsHeard right.now (S.remaining source.old) t) }
     ensures stop { IfErr result (λ e. IsStop (S.remaining source.old) (S.failed source.old) (S.failed source.new) e) }
+    ensures unfailed { IfErr result (λ e. IsUncounted (S.failed source.old) (S.failed source.new) (told e)) }
     ensures whole { OnOk result (TakesAll (S.remaining source.old) (S.remaining source.new)) }
     ensures part { IfErr result (λ e.
         TakesUntil (S.remaining source.old) (S.remaining source.new) (S.last source.new) (told e)) }

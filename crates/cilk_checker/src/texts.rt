@@ -4,7 +4,7 @@ ghost use Rattle.std.specs.Prelude.{◌≡◌, ◌<◌, ℕ, List, Option, Some,
 ghost use Rattle.cilk_program.specs.Sources.{source as source_of};
 ghost use Rattle.cilk_parser.specs.Inputs.{IsInput};
 ghost use Rattle.cilk_checker.specs.Judging.{IsProgramText, Meant, meant as meant_by};
-ghost use Rattle.cilk_checker.specs.Answers.{IsCertified};
+ghost use Rattle.cilk_checker.specs.Answers.{IsCertified, IsUncounted};
 ghost use Rattle.cilk_checker.specs.Pulls.{TakesAll, TakesUntil};
 ghost use Rattle.cilk_checker.specs.OneVerdict.{AnswersOne, AnswersOnly, IsNoVerdict};
 ghost use Rattle.cilk_checker.specs.Texts.{AreTexts, IsJudgement, IsOfTexts, IsTrueAnswer, IsTrueRefusal};
@@ -41,6 +41,7 @@ pub fn check_from<S: Source>(
         IsCertified (source_of a.program) a.input (S.remaining source.old) a.trace a.outcome) }
     ensures unaccepted { let failed = S.failed source.old in let failed' = S.failed source.new in
         IfErr result (λ e. IsTrueAnswer program.now input.now (S.remaining source.old) failed failed' e) }
+    ensures unfailed { IfErr result (λ e. IsUncounted (S.failed source.old) (S.failed source.new) e) }
     ensures unpulled { IfErr result (λ e. IsOfTexts e → source.new ≡ source.old) }
     ensures whole { OnOk result (TakesAll (S.remaining source.old) (S.remaining source.new)) }
     ensures part { IfErr result (λ e. (IsOfTexts e → ⊥)

@@ -104,21 +104,21 @@ text_of : (path : Text) (known : Option Text) (failed failed' : Failures) (worke
     → (text : Text) × IsHeld known text × TextShows workers text m inputs r
 text_of path known failed failed' workers m inputs (Unreadable name) v h = absurd v
 text_of path known failed failed' workers m inputs NoMemory v h = absurd v
-text_of path known failed failed' workers m inputs BadWords v h = h
-text_of path known failed failed' workers m inputs (BadProgram n p) v h = h
-text_of path known failed failed' workers m inputs (BadInput n p) v h = h
-text_of path known failed failed' workers m inputs (Faulted n p) v h = h
-text_of path known failed failed' workers m inputs (FaultedIn n name) v h = h
-text_of path known failed failed' workers m inputs (BadScript at) v h = h
-text_of path known failed failed' workers m inputs (Ended names o) v h = h
-text_of path known failed failed' workers m inputs (Certified c) v h = h
-text_of path known failed failed' workers m inputs Accepted v h = h
-text_of path known failed failed' workers m inputs (Refused n ps) v h = h
-text_of path known failed failed' workers m inputs NotEnded v h = h
-text_of path known failed failed' workers m inputs (replies.Settled names o) v h = h
-text_of path known failed failed' workers m inputs replies.RaceFree v h = h
-text_of path known failed failed' workers m inputs (replies.BadTrace n at) v h = h
-text_of path known failed failed' workers m inputs (replies.Changed name) v h = h
+text_of path known failed failed' workers m inputs BadWords v h = h.1
+text_of path known failed failed' workers m inputs (BadProgram n p) v h = h.1
+text_of path known failed failed' workers m inputs (BadInput n p) v h = h.1
+text_of path known failed failed' workers m inputs (Faulted n p) v h = h.1
+text_of path known failed failed' workers m inputs (FaultedIn n name) v h = h.1
+text_of path known failed failed' workers m inputs (BadScript at) v h = h.1
+text_of path known failed failed' workers m inputs (Ended names o) v h = h.1
+text_of path known failed failed' workers m inputs (Certified c) v h = h.1
+text_of path known failed failed' workers m inputs Accepted v h = h.1
+text_of path known failed failed' workers m inputs (Refused n ps) v h = h.1
+text_of path known failed failed' workers m inputs NotEnded v h = h.1
+text_of path known failed failed' workers m inputs (replies.Settled names o) v h = h.1
+text_of path known failed failed' workers m inputs replies.RaceFree v h = h.1
+text_of path known failed failed' workers m inputs (replies.BadTrace n at) v h = h.1
+text_of path known failed failed' workers m inputs (replies.Changed name) v h = h.1
 
 one_text : (known : Option Text) (x y : Text) → IsSome known → IsHeld known x → IsHeld known y → y ≡ x
 one_text None x y there h k = cc

@@ -20,7 +20,7 @@ use Rattle.cilk_commands.specs.declared.streams.TheConstants.{MAX_READ}
 use Rattle.cilk_commands.specs.OneReply.{HasOneReply, IsKnown, IsKnownInput, IsOfTexts}
 use Rattle.cilk_commands.specs.Files.{Failures}
 use Rattle.cilk_commands.specs.Replies.{BadInput, BadWords, NoMemory, Reply, Text, Unreadable}
-use Rattle.cilk_commands.specs.Serving.{AreGiven, CertifyReply, CheckReply, GivesInput, GivesProgram, InputFileFails, InputRefused, InputUnread, JudgeReply, Judged, JudgedReply, NoneGiven, OriginFails, PlayReply, ProgramRefused, ProgramUnread, RunReply, SettleReply, Unjudged, WordsFail, Surroundings}
+use Rattle.cilk_commands.specs.Serving.{AreGiven, CertifyReply, CheckReply, GivesInput, GivesProgram, InputFileFails, InputRefused, InputUnread, JudgeReply, Judged, JudgedReply, NoneFailed, NoneGiven, OriginFails, PlayReply, ProgramRefused, ProgramUnread, RunReply, SettleReply, Unjudged, WordsFail, Surroundings}
 use Rattle.cilk_commands.specs.Shown.{CertifyShows, CheckShows, InputFails, PlayShows, ProgramFails, RunShows, SettleShows, input_fault_view, program_fault_view}
 use Rattle.cilk_messages.specs.Words.{Requested, File, Origin, Standard, order_in}
 use Rattle.cilk_messages.specs.Words as words
@@ -162,18 +162,21 @@ one_judged IsShown once w program input r q x y (Judged m inputs given h) (Judge
 one_run : (w : Surroundings) (program : Origin) (input : Option Text) (r q : Reply) → IsKnown w program → IsKnownInput w input
     → RunReply w program input r → RunReply w program input q → IsOfTexts r → IsOfTexts q → r ≡ q
 one_run w program input r q x y h k v u =
-    one_judged RunShows (λ m inputs text numbers i j r q. shows_once m inputs r q) w program input r q x y h k v u
+    one_judged (NoneFailed w RunShows) (λ m inputs text numbers i j r q v u h k. shows_once m inputs r q v u h.1 k.1)
+    w program input r q x y h k v u
 
 one_settle : (w : Surroundings) (program : Text) (input : Option Text) (r q : Reply) → IsKnown w (File program) → IsKnownInput w input
     → SettleReply w program input r → SettleReply w program input q → IsOfTexts r → IsOfTexts q → r ≡ q
 one_settle w program input r q x y h k v u =
-    one_judged SettleShows (λ m inputs text numbers i j r q. settles_once m inputs r q) w (File program) input r q x y h k v u
+    one_judged (NoneFailed w SettleShows) (λ m inputs text numbers i j r q v u h k. settles_once m inputs r q v u h.1 k.1)
+    w (File program) input r q x y h k v u
 
 one_certify : (w : Surroundings) (program : Text) (input : Option Text) (r q : Reply) → IsKnown w (File program)
     → IsKnownInput w input → CertifyReply w program input r → CertifyReply w program input q → IsOfTexts r → IsOfTexts q
     → r ≡ q
 one_certify w program input r q x y h k v u =
-    one_judged CertifyShows (λ m inputs text numbers i j r q. certifies_once m inputs (resolved_named i.0 m.source i.2.0) r q)
+    one_judged (NoneFailed w CertifyShows)
+    (λ m inputs text numbers i j r q v u h k. certifies_once m inputs (resolved_named i.0 m.source i.2.0) r q v u h.1 k.1)
     w (File program) input r q x y h k v u
 
 one_check : (w : Surroundings) (program certificate : Text) (input : Option Text) (r q : Reply) → IsKnown w (File program)

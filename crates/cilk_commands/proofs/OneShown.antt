@@ -164,9 +164,9 @@ data Checked (known : Option Text) (m : Meant) (inputs : List ℤ) (r : Reply) :
 
 checked : (path : Text) (known : Option Text) (failed failed' : Failures) (m : Meant) (inputs : List ℤ) (r : Reply)
     → IsOfTexts r → CheckShows path known failed failed' m inputs r → Checked known m inputs r
-checked path known failed failed' m inputs replies.Accepted v h = Accepts h.0 h.1 refl h.2
+checked path known failed failed' m inputs replies.Accepted v h = let run = h.1 in Accepts run.0 run.1 refl run.2
 checked path known failed failed' m inputs (replies.Refused n ps) v h =
-    Refuses h.0 h.1 (ap (λ x. replies.Refused x ps) h.2 ∙ ap (replies.Refused (number_of h.0)) h.3) h.4
+    Refuses h.0 h.1 (ap (λ x. replies.Refused x ps) h.2 ∙ ap (replies.Refused (number_of h.0)) h.3) h.5
 checked path known failed failed' m inputs (Unreadable name) v h = absurd v
 checked path known failed failed' m inputs NoMemory v h = absurd v
 checked path known failed failed' m inputs (Ended names o) v h = absurd h

@@ -4,13 +4,13 @@
 -- `no_memory`: out of memory may be the reply to anything. `fails`, `ends`: a failure, or an
 -- answer, is served. `handed`: an error that was passed on. `program_refused`, `input_unread`,
 -- `input_refused`: no program and input are given. `both_given`: both are. `judged_ok`,
--- `judged_err`: the answer to a command on both, and its failure. `given_later`: they are given
--- whatever is read afterwards. `checked_ok`, `checked_err`: the answer to a check, and its failure.
--- `refused_ok`, `refused_err`: a refusal that is shown, or out of memory. `refused_whole`: a
--- refusal of a file's text. `fault_shown`: a fault of a script's steps. `steps_shown`,
--- `steps_fail`: the reply to the steps of a script's text. `script_unread`, `text_played`: a script
--- that isn't read, and the reply to its text. `played_ok`, `played_err`: the answer to `play`, and
--- its failure.
+-- `judged_err`: the answer to a command on both, and its failure. `alone_ok`, `alone_err`: the same
+-- for a command that reads no other file. `given_later`: they are given whatever is read
+-- afterwards. `checked_ok`, `checked_err`: the answer to a check, and its failure. `refused_ok`,
+-- `refused_err`: a refusal that is shown, or out of memory. `refused_whole`: a refusal of a file's
+-- text. `fault_shown`: a fault of a script's steps. `steps_shown`, `steps_fail`: the reply to the
+-- steps of a script's text. `script_unread`, `text_played`: a script that isn't read, and the reply
+-- to its text. `played_ok`, `played_err`: the answer to `play`, and its failure.
 use Rattle.std.proofs.Common.{◌≡◌, ℕ, List, [], Bool, true, false, Option, Some, None, option_map, drop, refl, sym, ap, subst, inl, inr, ◌∙◌}
 use Rattle.std.specs.Prelude.{◌≢◌, ◌<◌, IsTrue, IsFalse, Result, Ok, Err, IfOk, IfErr, IsErrAnd, ℤ}
 use Rattle.std.specs.Io.KnownBytes.{Appends}
@@ -28,8 +28,8 @@ use Rattle.cilk_commands.specs.Replies as replies
 use Rattle.cilk_commands.specs.Replies.{NoMemory, Refused, Reply, Text, Unreadable, answer_view, failure_view, out_text, places_of, status_of}
 use Rattle.cilk_parser.specs.Inputs.{IsInput}
 use Rattle.cilk_checker.specs.Judging.{IsProgramText, Meant}
-use Rattle.cilk_commands.specs.Files.{Failures, IsHeld}
-use Rattle.cilk_commands.specs.Serving.{Answers, AreGiven, FileFails, GivesInput, GivesProgram, InputFileFails, InputRefused, InputUnread, IsOrNoMemory, Judged, JudgedReply, NoneGiven, ProgramRefused, ProgramUnread, Serves, Shows, ShowsError, Unjudged, Surroundings, world}
+use Rattle.cilk_commands.specs.Files.{Failures, IsHeld, IsUnfailed}
+use Rattle.cilk_commands.specs.Serving.{Answers, AreGiven, FileFails, GivesInput, GivesProgram, InputFileFails, InputRefused, InputUnread, IsOrNoMemory, Judged, JudgedReply, NoneFailed, NoneGiven, ProgramRefused, ProgramUnread, Serves, Shows, ShowsError, Unjudged, Surroundings, world}
 use Rattle.cilk_parser.specs.Scripts.{IsScript}
 use Rattle.cilk_parser.specs.declared.script.Step.{Step}
 use Rattle.cilk_commands.specs.Shown.{CheckShows, InputFails, PlayShows, ProgramFails, StepsShow, TextShows, play_fault_view}
@@ -151,6 +151,22 @@ pub judged_err : {T : Type 0} (IsShown : Meant → List ℤ → Reply → Type 0
 judged_err IsShown (Ok a) w p i q inputs given h = tt
 judged_err IsShown (Err e) w p i q inputs given h = Judged q inputs given h
 
+-- the answer to a command that reads no other file
+pub alone_ok : {T : Type 0} (IsShown : Meant → List ℤ → Reply → Type 0) (x : Result Answer T) (w : Surroundings) (p : Origin)
+    (i : Option Text) (q : Meant) (inputs : List ℤ)
+    → AreGiven w p i q inputs → w.failed' ≡ w.failed → IfOk x (λ a. IsShown q inputs (answer_view a))
+    → IfOk x (λ a. JudgedReply (NoneFailed w IsShown) w p i (answer_view a))
+alone_ok IsShown (Ok a) w p i q inputs given none h = Judged q inputs given (none, h)
+alone_ok IsShown (Err e) w p i q inputs given none h = tt
+
+-- its failure
+pub alone_err : {T : Type 0} (IsShown : Meant → List ℤ → Reply → Type 0) (x : Result T Failure) (w : Surroundings) (p : Origin)
+    (i : Option Text) (q : Meant) (inputs : List ℤ)
+    → AreGiven w p i q inputs → w.failed' ≡ w.failed → IfErr x (λ e. IsShown q inputs (failure_view e))
+    → IfErr x (λ e. JudgedReply (NoneFailed w IsShown) w p i (failure_view e))
+alone_err IsShown (Ok a) w p i q inputs given none h = tt
+alone_err IsShown (Err e) w p i q inputs given none h = Judged q inputs given (none, h)
+
 -- a program and its input are given whatever is read afterwards
 pub given_later : (files : Text → Option Text) (input : Option Text) (failed before after : Failures) (p : Origin)
     (i : Option Text) (q : Meant) (inputs : List ℤ)
@@ -186,11 +202,11 @@ checked_err x path known known' n m failed q inputs e d h =
 pub refused_ok : {F T : Type 0} (x : Result Answer T) (path : Text) (known : Option Text) (failed : F → Failures) (old new : F)
     (q : Meant) (inputs : List ℤ) (f : Refusal)
     → IfOk x (λ a. (f ≢ refusals.Memory) × (answer_view a ≡ Refused (number_of f) (places_of (fields_of f))))
-    → IsRefusedText q.source inputs known f
+    → (f ≢ refusals.Memory → IsUnfailed (failed old) (failed new) path) → IsRefusedText q.source inputs known f
     → IfOk x (λ a. CheckShows path known (failed old) (failed new) q inputs (answer_view a))
-refused_ok (Ok a) path known failed old new q inputs f h k =
-    subst (λ (r : Reply). CheckShows path known (failed old) (failed new) q inputs r) (sym h.1) (f, h.0, refl, refl, k)
-refused_ok (Err e) path known failed old new q inputs f h k = tt
+refused_ok (Ok a) path known failed old new q inputs f h none k =
+    subst (λ (r : Reply). CheckShows path known (failed old) (failed new) q inputs r) (sym h.1) (f, h.0, refl, refl, none h.0, k)
+refused_ok (Err e) path known failed old new q inputs f h none k = tt
 
 pub refused_err : {F T : Type 0} (x : Result T Failure) (path : Text) (known : Option Text) (failed : F → Failures) (old new : F)
     (q : Meant) (inputs : List ℤ) → IfErr x (λ e. failure_view e ≡ NoMemory)
@@ -253,55 +269,41 @@ script_unread path known failed failed' workers q inputs (Unreadable name) h = h
 script_unread path known failed failed' workers q inputs NoMemory h = tt
 script_unread path known failed failed' workers q inputs _ h = absurd h
 
--- the reply to a script's text
-pub text_played : (path : Text) (known : Option Text) (failed failed' : Failures) (workers : ℕ) (q : Meant) (inputs : List ℤ) (r : Reply)
-    (text slice : Text) → IsHeld known text → slice ≡ text → TextShows workers slice q inputs r → PlayShows path known failed failed' workers q inputs r
-text_played path known failed failed' workers q inputs (Unreadable name) text slice held e h = elim h [ inl k ↦ absurd k | inr k ↦ absurd k.2 ]
-text_played path known failed failed' workers q inputs NoMemory text slice held e h = tt
-text_played path known failed failed' workers q inputs replies.BadWords text slice held e h =
-    (text, held, subst (λ t. TextShows workers t q inputs replies.BadWords) e h)
-text_played path known failed failed' workers q inputs (replies.BadProgram n p) text slice held e h =
-    (text, held, subst (λ t. TextShows workers t q inputs (replies.BadProgram n p)) e h)
-text_played path known failed failed' workers q inputs (replies.BadInput n p) text slice held e h =
-    (text, held, subst (λ t. TextShows workers t q inputs (replies.BadInput n p)) e h)
-text_played path known failed failed' workers q inputs (replies.Faulted n at) text slice held e h =
-    (text, held, subst (λ t. TextShows workers t q inputs (replies.Faulted n at)) e h)
-text_played path known failed failed' workers q inputs (replies.FaultedIn n name) text slice held e h =
-    (text, held, subst (λ t. TextShows workers t q inputs (replies.FaultedIn n name)) e h)
-text_played path known failed failed' workers q inputs (replies.BadScript at) text slice held e h =
-    (text, held, subst (λ t. TextShows workers t q inputs (replies.BadScript at)) e h)
-text_played path known failed failed' workers q inputs (replies.Ended names o) text slice held e h =
-    (text, held, subst (λ t. TextShows workers t q inputs (replies.Ended names o)) e h)
-text_played path known failed failed' workers q inputs (replies.Certified c) text slice held e h =
-    (text, held, subst (λ t. TextShows workers t q inputs (replies.Certified c)) e h)
-text_played path known failed failed' workers q inputs replies.Accepted text slice held e h =
-    (text, held, subst (λ t. TextShows workers t q inputs replies.Accepted) e h)
-text_played path known failed failed' workers q inputs (replies.Refused n ps) text slice held e h =
-    (text, held, subst (λ t. TextShows workers t q inputs (replies.Refused n ps)) e h)
-text_played path known failed failed' workers q inputs replies.NotEnded text slice held e h =
-    (text, held, subst (λ t. TextShows workers t q inputs replies.NotEnded) e h)
-text_played path known failed failed' workers q inputs (replies.Settled names o) text slice held e h =
-    (text, held, subst (λ t. TextShows workers t q inputs (replies.Settled names o)) e h)
-text_played path known failed failed' workers q inputs replies.RaceFree text slice held e h =
-    (text, held, subst (λ t. TextShows workers t q inputs replies.RaceFree) e h)
-text_played path known failed failed' workers q inputs (replies.BadTrace n at) text slice held e h =
-    (text, held, subst (λ t. TextShows workers t q inputs (replies.BadTrace n at)) e h)
-text_played path known failed failed' workers q inputs (replies.Changed name) text slice held e h =
-    (text, held, subst (λ t. TextShows workers t q inputs (replies.Changed name)) e h)
+-- the reply to a script's text, of which no read failed
+module _ (path : Text) (known : Option Text) (failed failed' : Failures) (none : failed' ≡ failed) (workers : ℕ) (q : Meant) (inputs : List ℤ) where
+  pub text_played : (r : Reply) (text slice : Text) → IsHeld known text → slice ≡ text → TextShows workers slice q inputs r
+      → PlayShows path known failed failed' workers q inputs r
+  text_played r text slice held e h = by r (none, (text, held, subst (λ t. TextShows workers t q inputs r) e h))
+    where
+      by : (x : Reply) → (failed' ≡ failed) × ((t : Text) × IsHeld known t × TextShows workers t q inputs x)
+          → PlayShows path known failed failed' workers q inputs x
+      by (Unreadable name) k = let shown = k.1 in elim shown.2 [ inl l ↦ absurd l | inr l ↦ absurd l.2 ]
+      by NoMemory k = tt
+      by replies.BadWords k = k
+      by (replies.BadProgram n p) k = k
+      by (replies.BadInput n p) k = k
+      by (replies.Faulted n at) k = k
+      by (replies.FaultedIn n name) k = k
+      by (replies.BadScript at) k = k
+      by (replies.Ended names o) k = k
+      by (replies.Certified c) k = k
+      by replies.Accepted k = k
+      by (replies.Refused n ps) k = k
+      by replies.NotEnded k = k
+      by (replies.Settled names o) k = k
+      by replies.RaceFree k = k
+      by (replies.BadTrace n at) k = k
+      by (replies.Changed name) k = k
 
-pub texts_played : {T : Type 0} (x : Result Answer T) (path : Text) (known : Option Text) (failed failed' : Failures) (workers : ℕ) (q : Meant)
-    (inputs : List ℤ) (text slice : Text) → IsHeld known text → slice ≡ text → IfOk x (λ a. TextShows workers slice q inputs (answer_view a))
-    → IfOk x (λ a. PlayShows path known failed failed' workers q inputs (answer_view a))
-texts_played (Ok a) path known failed failed' workers q inputs text slice held e h =
-    text_played path known failed failed' workers q inputs (answer_view a) text slice held e h
-texts_played (Err f) path known failed failed' workers q inputs text slice held e h = tt
+  pub texts_played : {T : Type 0} (x : Result Answer T) (text slice : Text) → IsHeld known text → slice ≡ text
+      → IfOk x (λ a. TextShows workers slice q inputs (answer_view a)) → IfOk x (λ a. PlayShows path known failed failed' workers q inputs (answer_view a))
+  texts_played (Ok a) text slice held e h = text_played (answer_view a) text slice held e h
+  texts_played (Err f) text slice held e h = tt
 
-pub texts_fail : {T : Type 0} (x : Result T Failure) (path : Text) (known : Option Text) (failed failed' : Failures) (workers : ℕ) (q : Meant)
-    (inputs : List ℤ) (text slice : Text) → IsHeld known text → slice ≡ text → IfErr x (λ f. TextShows workers slice q inputs (failure_view f))
-    → IfErr x (λ f. PlayShows path known failed failed' workers q inputs (failure_view f))
-texts_fail (Ok a) path known failed failed' workers q inputs text slice held e h = tt
-texts_fail (Err f) path known failed failed' workers q inputs text slice held e h =
-    text_played path known failed failed' workers q inputs (failure_view f) text slice held e h
+  pub texts_fail : {T : Type 0} (x : Result T Failure) (text slice : Text) → IsHeld known text → slice ≡ text
+      → IfErr x (λ f. TextShows workers slice q inputs (failure_view f)) → IfErr x (λ f. PlayShows path known failed failed' workers q inputs (failure_view f))
+  texts_fail (Ok a) text slice held e h = tt
+  texts_fail (Err f) text slice held e h = text_played (failure_view f) text slice held e h
 
 -- the answer to `play`, in terms of the surroundings before the two texts were read
 pub played_ok : {T : Type 0} (x : Result Answer T) (path : Text) (known known' : Option Text) (n m failed : Failures) (workers : ℕ) (q : Meant)

@@ -84,13 +84,17 @@ pub data JudgedReply (IsShown : Meant → List ℤ → Reply → Type 0) (w : Su
   Judged : (p : Meant) (inputs : List ℤ) → AreGiven w program input p inputs → IsShown p inputs r
       → JudgedReply IsShown w program input r
 
--- the reply to `run`
-abbrev pub RunReply : Surroundings → Origin → Option Text → Reply → Type 0
-RunReply w program input r = JudgedReply RunShows w program input r
+-- no read of a file failed, and this holds of the reply
+abbrev pub NoneFailed : Surroundings → (Meant → List ℤ → Reply → Type 0) → Meant → List ℤ → Reply → Type 0
+NoneFailed w IsShown m inputs r = (w.failed' ≡ w.failed) × IsShown m inputs r
 
--- the reply to `certify`
+-- the reply to `run`; behind both texts no file is read
+abbrev pub RunReply : Surroundings → Origin → Option Text → Reply → Type 0
+RunReply w program input r = JudgedReply (NoneFailed w RunShows) w program input r
+
+-- the reply to `certify`; behind both texts no file is read
 abbrev pub CertifyReply : Surroundings → Text → Option Text → Reply → Type 0
-CertifyReply w program input r = JudgedReply CertifyShows w (File program) input r
+CertifyReply w program input r = JudgedReply (NoneFailed w CertifyShows) w (File program) input r
 
 -- the reply to `check`; the certificate is read after the two texts are judged
 abbrev pub CheckReply : Surroundings → Text → Text → Option Text → Reply → Type 0
@@ -102,9 +106,9 @@ abbrev pub PlayReply : Surroundings → Text → Text → ℕ → Option Text �
 PlayReply w program script workers input r =
     JudgedReply (PlayShows script (w.files script) w.failed w.failed' workers) w (File program) input r
 
--- the reply to `settle`
+-- the reply to `settle`; behind both texts no file is read
 abbrev pub SettleReply : Surroundings → Text → Option Text → Reply → Type 0
-SettleReply w program input r = JudgedReply SettleShows w (File program) input r
+SettleReply w program input r = JudgedReply (NoneFailed w SettleShows) w (File program) input r
 
 -- the reply to `judge`; the table of sites isn't read for it
 abbrev pub JudgeReply : Surroundings → Text → Reply → Type 0

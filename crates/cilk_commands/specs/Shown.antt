@@ -31,7 +31,7 @@ use Rattle.cilk_checker.specs.declared.settle.FirstRace.TheVariants.{Determinacy
 use Rattle.cilk_schedule.specs.declared.fault.PlayFault.{PlayFault}
 use Rattle.cilk_schedule.specs.declared.fault.PlayFault.TheVariants as play_faults
 use Rattle.cilk_schedule.specs.Playing.{Ends, IsLeft, LeavesAsSettled, Passed, StopsBy}
-use Rattle.cilk_commands.specs.Files.{Failures, HasFailed, IsHeld}
+use Rattle.cilk_commands.specs.Files.{Failures, HasFailed, IsHeld, IsUnfailed}
 use Rattle.cilk_commands.specs.Replies.{Accepted, BadInput, BadProgram, BadScript, Certified, Ended, Faulted, FaultedIn, NoMemory, NotEnded, Refused, Reply, Settled, Text, Unreadable, places_of}
 
 abbrev pub program_fault_view : ProgramFault → Reply
@@ -88,15 +88,15 @@ abbrev pub CertifyShows : Meant → List ℤ → Reply → Type 0
 CertifyShows m inputs (Certified c) = (c.version ≡ Two) × IsCertificate c × made.IsCertificateOf m.source inputs c
 CertifyShows m inputs r = RunFails m inputs r
 
--- The reply to the certificate in the file of this path: it is accepted or refused, or the file
--- can't be read. `known` are the contents of the file, if they are known; `failed` and `failed'`
--- are the failed reads before and after.
+-- The reply to the certificate in the file of this path: it is accepted or refused, and no read
+-- failed; or the file can't be read. `known` are the contents of the file, if they are known;
+-- `failed` and `failed'` are the failed reads before and after.
 abbrev pub CheckShows : Text → Option Text → Failures → Failures → Meant → List ℤ → Reply → Type 0
 CheckShows path known failed failed' m inputs Accepted =
-    (events : List Event) × (o : Outcome) × IsCertified m.source inputs known events o
+    IsUnfailed failed failed' path × ((events : List Event) × (o : Outcome) × IsCertified m.source inputs known events o)
 CheckShows path known failed failed' m inputs (Refused number places) =
     (f : Refusal) × (f ≢ refusals.Memory) × (number ≡ number_of f) × (places ≡ places_of (fields_of f))
-    × IsRefusedText m.source inputs known f
+    × IsUnfailed failed failed' path × IsRefusedText m.source inputs known f
 CheckShows path known failed failed' m inputs (Unreadable name) = (name ≡ path) × HasFailed path failed failed'
 CheckShows path known failed failed' m inputs NoMemory = Unit {0}
 CheckShows path known failed failed' m inputs _ = ⊥
@@ -126,8 +126,9 @@ abbrev pub TextShows : ℕ → Text → Meant → List ℤ → Reply → Type 0
 TextShows workers text m inputs r = ScriptFails text r ⊎ ((steps : List Step) × IsScript text steps × StepsShow workers steps m inputs r)
 
 -- The reply to the script in the file of this path: the file can't be read, or the reply to its
--- text. `known`, `failed` and `failed'` are as above.
+-- text, and no read failed. `known`, `failed` and `failed'` are as above.
 abbrev pub PlayShows : Text → Option Text → Failures → Failures → ℕ → Meant → List ℤ → Reply → Type 0
 PlayShows path known failed failed' workers m inputs (Unreadable name) = (name ≡ path) × HasFailed path failed failed'
 PlayShows path known failed failed' workers m inputs NoMemory = Unit {0}
-PlayShows path known failed failed' workers m inputs r = (text : Text) × IsHeld known text × TextShows workers text m inputs r
+PlayShows path known failed failed' workers m inputs r =
+    (failed' ≡ failed) × ((text : Text) × IsHeld known text × TextShows workers text m inputs r)

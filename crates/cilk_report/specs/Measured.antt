@@ -10,11 +10,13 @@ use Rattle.cilk_commands.specs.Replies.{NoMemory, Reply, Text}
 use Rattle.cilk_commands.specs.Serving.{AreGiven, Surroundings, WordsFail}
 use Rattle.cilk_messages.specs.Words.{Origin}
 
--- the totals of the run of a program on its input, which are read from files and standard input
+-- the totals of the run of a program on its input, which are read from files and standard input; no
+-- read of a file failed
 pub record AreTotalsOf (w : Surroundings) (program : Origin) (input : Option Text) (t : Totals) : Type 0 where
   pub meant : Meant
   pub inputs : List ℤ
   pub given : AreGiven w program input meant inputs
+  pub unfailed : w.failed' ≡ w.failed
   pub events : List Event
   pub measures : AreMeasures meant.source inputs t events
 

@@ -89,20 +89,20 @@ module _ (files : Text → Option Text) (failed failed' : Failures) where
       → AreNotGiven files failed failed' path.now r → AcceptedShow files failed failed' (option_map (λ p. p.now) on) workers a m r
   ungiven path on workers a m r e (inl h) =
       NumbersUnread (subst (λ (o : Option (Bor Text)). InputFileFails failed failed' (option_map (λ p. p.now) o) r) (sym e) h)
-  ungiven path on workers a m r e (inr h) = NumbersRefused path.now h.0 (ap (option_map (λ (p : Bor Text). p.now)) e) h.1 h.2
+  ungiven path on workers a m r e (inr h) = NumbersRefused path.now h.0 (ap (option_map (λ (p : Bor Text). p.now)) e) h.1 h.2 h.3
 
   -- the answer of the run on given numbers
   pub runs : {T : Type 0} (x : Result Ending T) (on : Option Text) (numbers : List ℤ) (workers : ℕ) (a : AcceptedRun) (m : Meant)
-      → GivesNumbers files on a.input numbers → IfOk x (λ e. RunShows a m numbers workers (ending_view e))
+      → failed' ≡ failed → GivesNumbers files on a.input numbers → IfOk x (λ e. RunShows a m numbers workers (ending_view e))
       → IfOk x (λ e. AcceptedShow files failed failed' on workers a m (ending_view e))
-  runs (Ok e) on numbers workers a m given h = Ran numbers given h
-  runs (Err f) on numbers workers a m given h = tt
+  runs (Ok e) on numbers workers a m none given h = Ran numbers given h none
+  runs (Err f) on numbers workers a m none given h = tt
 
   pub fails : {T : Type 0} (x : Result T Failure) (on : Option Text) (numbers : List ℤ) (workers : ℕ) (a : AcceptedRun) (m : Meant)
-      → GivesNumbers files on a.input numbers → IfErr x (λ f. RunShows a m numbers workers (failure_view f))
+      → failed' ≡ failed → GivesNumbers files on a.input numbers → IfErr x (λ f. RunShows a m numbers workers (failure_view f))
       → IfErr x (λ f. AcceptedShow files failed failed' on workers a m (failure_view f))
-  fails (Ok e) on numbers workers a m given h = tt
-  fails (Err f) on numbers workers a m given h = Ran numbers given h
+  fails (Ok e) on numbers workers a m none given h = tt
+  fails (Err f) on numbers workers a m none given h = Ran numbers given h none
 
 -- numbers that the same files give
 same_numbers : (files files' : Text → Option Text) (on : Option Text) (own numbers : List ℤ)
@@ -114,10 +114,10 @@ same_accepted : (files files' : Text → Option Text) (failed failed' : Failures
     → ((path : Text) → on ≡ Some path → files' path ≡ files path) → AcceptedShow files' failed failed' on workers a m r
     → AcceptedShow files failed failed' on workers a m r
 same_accepted files files' failed failed' on workers a m r same (NumbersUnread h) = NumbersUnread h
-same_accepted files files' failed failed' on workers a m r same (NumbersRefused path text e held h) =
-    NumbersRefused path text e (subst (λ (k : Option Text). IsHeld k text) (same path e) held) h
-same_accepted files files' failed failed' on workers a m r same (Ran numbers given h) =
-    Ran numbers (same_numbers files files' on a.input numbers same given) h
+same_accepted files files' failed failed' on workers a m r same (NumbersRefused path text e held h none) =
+    NumbersRefused path text e (subst (λ (k : Option Text). IsHeld k text) (same path e) held) h none
+same_accepted files files' failed failed' on workers a m r same (Ran numbers given h none) =
+    Ran numbers (same_numbers files files' on a.input numbers same given) h none
 
 -- the answer for an accepted program
 module _ (files files' : Text → Option Text) (failed accepted failed' : Failures) (asked : Requested) (m : Meant) (inputs : List ℤ) (a : AcceptedRun)

@@ -11,7 +11,7 @@ use Rattle.cilk_checker.specs.declared.refusal.Refusal.TheVariants as refusals
 use Rattle.cilk_checker.specs.declared.refusal.Unaccepted.{Unaccepted}
 use Rattle.cilk_checker.specs.declared.refusal.Unaccepted.TheVariants as unaccepted
 use Rattle.cilk_checker.specs.Judging.{Meant}
-use Rattle.cilk_commands.specs.Files.{Failures}
+use Rattle.cilk_commands.specs.Files.{Failures, IsUnfailed}
 use Rattle.cilk_commands.specs.Replies.{Accepted, Refused, Reply, Text, Unreadable, answer_view, places_of}
 use Rattle.cilk_commands.specs.Shown.{CheckShows}
 use Rattle.cilk_commands.specs.declared.reply.Answer.{Answer}
@@ -31,9 +31,10 @@ module _ {F : Type 0} (failed : F → Failures) (holds : F → Text → Option T
 
 -- why the certificate is refused
 pub refuses : {F : Type 0} (failed : F → Failures) (old new : F) (a : Answer) (path : Text) (known : Option Text) (m : Meant) (inputs : List ℤ) (f : Refusal)
-    → (f ≢ refusals.Memory) × (answer_view a ≡ Refused (number_of f) (places_of (fields_of f))) → IsRefusedText m.source inputs known f
+    → (f ≢ refusals.Memory) × (answer_view a ≡ Refused (number_of f) (places_of (fields_of f))) → (f ≢ refusals.Memory → IsUnfailed (failed old) (failed new) path)
+    → IsRefusedText m.source inputs known f
     → (answer_view a ≢ Accepted) × CheckShows path known (failed old) (failed new) m inputs (answer_view a)
-refuses failed old new a path known m inputs f h text = (
+refuses failed old new a path known m inputs f h none text = (
   λ e. let wrong : Refused (number_of f) (places_of (fields_of f)) ≡ Accepted = sym h.1 ∙ e in absurd (cc wrong),
-  subst (λ (r : Reply). CheckShows path known (failed old) (failed new) m inputs r) (sym h.1) (f, h.0, refl, refl, text),
+  subst (λ (r : Reply). CheckShows path known (failed old) (failed new) m inputs r) (sym h.1) (f, h.0, refl, refl, none h.0, text),
 )

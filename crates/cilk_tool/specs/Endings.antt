@@ -28,9 +28,10 @@ abbrev pub StaysBeside : Failures → Failures → Option Text → Option Text �
 StaysBeside failed failed' known known' (verdicts.Accepted a) = (failed' ≡ failed) × (known' ≡ known)
 StaysBeside failed failed' known known' (verdicts.Refused answer) = Unit {0}
 
--- the file of other numbers can't be read, or its text is refused
+-- the file of other numbers can't be read; or its text is refused, and no read failed
 abbrev pub AreNotGiven : (Text → Option Text) → Failures → Failures → Text → Reply → Type 0
-AreNotGiven files failed failed' path r = FileFails failed failed' path r ⊎ ((text : Text) × IsHeld (files path) text × InputFails text r)
+AreNotGiven files failed failed' path r =
+    FileFails failed failed' path r ⊎ ((text : Text) × IsHeld (files path) text × InputFails text r × (failed' ≡ failed))
 
 -- the places of a refusal: one or none
 abbrev pub place_of : Option ℕ → List ℕ

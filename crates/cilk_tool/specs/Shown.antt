@@ -54,14 +54,14 @@ RunShows a m numbers workers (Refused number places) = IsUnrun a numbers workers
 RunShows a m numbers workers NoMemory = Unit {0}
 RunShows a m numbers workers _ = ⊥
 
--- The answer for an accepted run. Either the file of other numbers is the first that can't be read,
--- or its text is refused, or the answer is that of the run.
+-- The answer for an accepted run. Either the file of other numbers is the first that can't be read;
+-- or its text is refused, or the answer is that of the run, and no read of a file failed.
 pub data AcceptedShow (files : Text → Option Text) (failed failed' : Failures) (on : Option Text) (workers : ℕ) (a : AcceptedRun) (m : Meant)
     (r : Reply) : Type 0 where
   NumbersUnread : InputFileFails failed failed' on r → AcceptedShow files failed failed' on workers a m r
-  NumbersRefused : (path text : Text) → on ≡ Some path → IsHeld (files path) text → InputFails text r
+  NumbersRefused : (path text : Text) → on ≡ Some path → IsHeld (files path) text → InputFails text r → failed' ≡ failed
       → AcceptedShow files failed failed' on workers a m r
-  Ran : (numbers : List ℤ) → GivesNumbers files on a.input numbers → RunShows a m numbers workers r
+  Ran : (numbers : List ℤ) → GivesNumbers files on a.input numbers → RunShows a m numbers workers r → failed' ≡ failed
       → AcceptedShow files failed failed' on workers a m r
 
 -- The answer for a program and its input: that of the check, if it doesn't accept; otherwise that

@@ -1,6 +1,6 @@
 //! The command `threads`: a program is checked, and run by workers if its certificate is accepted.
 
-ghost use Rattle.std.specs.Prelude.{◌≡◌, ◌≢◌, ◌<◌, [], Some, IfOk, IfErr, option_map};
+ghost use Rattle.std.specs.Prelude.{◌≡◌, ◌≢◌, ◌<◌, [], Some, IfOk, IfErr, OnOk, option_map};
 ghost use Rattle.cilk_checker.specs.Judging.{meant};
 ghost use Rattle.cilk_commands.specs.Replies as replies;
 ghost use Rattle.cilk_commands.specs.Replies.{failure_view};
@@ -94,6 +94,7 @@ fn numbers<'a, F: Files>(alloc: Global, path: &'a str, files: &mut F) -> Result<
     requires { (F.failed files.old).count < 18446744073709551615 }
     ensures numbers { IfOk result (λ i. GivesNumbers (F.holds files.old) (Some path.entry.now) [] i) }
     ensures failure { IfErr result (λ e. AreNotGiven (F.holds files.old) (F.failed files.old) (F.failed files.new) path.entry.now (failure_view e)) }
+    ensures uncounted { OnOk result (F.failed files.new ≡ F.failed files.old) }
 {
     let text = read_file(alloc, path, files)?;
     judge_input(alloc, text.as_slice())

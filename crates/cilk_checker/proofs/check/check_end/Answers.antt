@@ -5,6 +5,7 @@ use Rattle.cilk_program.specs.Sources.{source}
 use Rattle.cilk_tree.specs.Shape.{Spells}
 use Rattle.cilk_checker.proofs.Checked.{certified, frames_at, ran_at, refused_before, run_creates, run_spelled, stops_at}
 use Rattle.cilk_checker.proofs.Taking.{until_before}
+use Rattle.cilk_checker.proofs.Uncounted.{by_refusal}
 use Rattle.cilk_checker.proofs.check.check_end.Goals as goal
 
 pub returns-in_err-refusal-in-Stopped-clause-unaccepted : goal.returns-in_err-refusal-in-Stopped-clause-unaccepted
@@ -84,3 +85,17 @@ returns-in_err-ended-in-Left-clause-part g c =
     let columns = c.in_ok-right-in-Left.ensures.columns e.0 (subst (λ (l : List Event). Spells e.0 l) same e.1.spells) in
     let q = err_from_is_err_and c.from_residual-in_err-ended-in-Left.result c.from_residual-in_err-ended-in-Left.ensures.1 in
     rw (q.1, q.2) (c.in_err-ended-in-Left.ensures.part e.0 columns (run_creates p c.args.input c.args.program.well_named c.in-Left.outcome es ran))
+
+pub returns-in_err-refusal-in-Stopped-clause-unfailed : goal.returns-in_err-refusal-in-Stopped-clause-unfailed
+returns-in_err-refusal-in-Stopped-clause-unfailed g c =
+    let q = err_from_is_err_and c.from_residual-in_err-refusal-in-Stopped.result c.from_residual-in_err-refusal-in-Stopped.ensures.1 in
+    rw (q.1, q.2) c.in_err-refusal-in-Stopped.ensures.unfailed
+
+pub returns-in_ok-refusal-in-Stopped-clause-unfailed : goal.returns-in_ok-refusal-in-Stopped-clause-unfailed
+returns-in_ok-refusal-in-Stopped-clause-unfailed g c =
+    by_refusal (g.S.Source.failed c.args.source.now) (g.S.Source.failed c.stopped.new.source) c.in_ok-refusal-in-Stopped.refusal c.in_ok-refusal-in-Stopped.ensures.uncounted
+
+pub returns-in_err-ended-in-Left-clause-unfailed : goal.returns-in_err-ended-in-Left-clause-unfailed
+returns-in_err-ended-in-Left-clause-unfailed g c =
+    let q = err_from_is_err_and c.from_residual-in_err-ended-in-Left.result c.from_residual-in_err-ended-in-Left.ensures.1 in
+    rw (q.1, q.2) c.in_err-ended-in-Left.ensures.unfailed

@@ -14,3 +14,8 @@ pub returns-in_err-tally-clause-part : goal.returns-in_err-tally-clause-part
 returns-in_err-tally-clause-part g c =
     let q = err_from_is_err_and c.from_residual.result c.from_residual.ensures.1 in
     rw (q.1, q.2) c.in_err-tally.ensures.part
+
+pub returns-in_err-tally-clause-unfailed : goal.returns-in_err-tally-clause-unfailed
+returns-in_err-tally-clause-unfailed g c =
+    let q = err_from_is_err_and c.from_residual.result c.from_residual.ensures.1 in
+    rw (q.1, q.2) c.in_err-tally.ensures.unfailed

@@ -1,9 +1,11 @@
+use Rattle.std.proofs.Common.{refl}
 use Rattle.std.proofs.lemmas.Result.{IfErr-weaker, err_from_is_err_and}
 use Rattle.cilk_program.specs.Sources.{source}
 use Rattle.cilk_checker.specs.Judging.{meant}
 use Rattle.cilk_checker.proofs.Judged.{certified_kept, not_of_texts, texts_kept, true_answer}
 use Rattle.cilk_checker.proofs.OneVerdict.{one_by, only_by}
 use Rattle.cilk_checker.proofs.Taking.{until_judged}
+use Rattle.cilk_checker.proofs.Uncounted.{by_refusal}
 use Rattle.cilk_checker.proofs.texts.check_from.Goals as goal
 
 pub returns-in_err-meant-clause-unaccepted : goal.returns-in_err-meant-clause-unaccepted
@@ -100,3 +102,13 @@ returns-in_err-numbers-clause-part g c =
 
 pub returns-clause-part : goal.returns-clause-part
 returns-clause-part g c = IfErr-weaker c.check_run.result _ _ (λ e h other. h) c.check_run.ensures.part
+
+pub returns-in_err-meant-clause-unfailed : goal.returns-in_err-meant-clause-unfailed
+returns-in_err-meant-clause-unfailed g c =
+    let q = err_from_is_err_and c.from_residual.result c.from_residual.ensures.1 in
+    rw (q.1, q.2) (by_refusal _ _ c.in_err-meant.field-0.0 refl)
+
+pub returns-in_err-numbers-clause-unfailed : goal.returns-in_err-numbers-clause-unfailed
+returns-in_err-numbers-clause-unfailed g c =
+    let q = err_from_is_err_and c.from_residual-in_err-numbers.result c.from_residual-in_err-numbers.ensures.1 in
+    rw (q.1, q.2) (by_refusal _ _ c.in_err-numbers.field-0.0 refl)

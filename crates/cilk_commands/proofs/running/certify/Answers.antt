@@ -1,7 +1,7 @@
 use Rattle.cilk_checker.specs.Judging.{meant}
 use Rattle.cilk_commands.specs.Serving.{Unjudged}
 use Rattle.cilk_commands.specs.Shown.{CertifyShows}
-use Rattle.cilk_commands.proofs.Replying.{handed, judged_err, judged_ok}
+use Rattle.cilk_commands.proofs.Replying.{alone_err, alone_ok, handed}
 use Rattle.cilk_commands.proofs.running.certify.Goals as goal
 
 pub returns-in_err-program-clause-failure : goal.returns-in_err-program-clause-failure
@@ -10,10 +10,10 @@ returns-in_err-program-clause-failure g c =
 
 pub returns-clause-answer : goal.returns-clause-answer
 returns-clause-answer g c =
-    judged_ok CertifyShows c.certificate.result _ _ _ (meant c.in_ok-program.program) c.in_ok-program.input
-    c.in_ok-program.ensures.given c.certificate.ensures.ok
+    alone_ok CertifyShows c.certificate.result _ _ _ (meant c.in_ok-program.program) c.in_ok-program.input
+    c.in_ok-program.ensures.given c.in_ok-program.ensures.uncounted c.certificate.ensures.ok
 
 pub returns-clause-failure : goal.returns-clause-failure
 returns-clause-failure g c =
-    judged_err CertifyShows c.certificate.result _ _ _ (meant c.in_ok-program.program) c.in_ok-program.input
-    c.in_ok-program.ensures.given c.certificate.ensures.err
+    alone_err CertifyShows c.certificate.result _ _ _ (meant c.in_ok-program.program) c.in_ok-program.input
+    c.in_ok-program.ensures.given c.in_ok-program.ensures.uncounted c.certificate.ensures.err

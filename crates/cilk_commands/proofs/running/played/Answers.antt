@@ -11,12 +11,12 @@ returns-in_err-text-clause-failure g c =
 
 pub returns-clause-answer : goal.returns-clause-answer
 returns-clause-answer g c =
-    texts_played c.script.result c.args.path.now (g.F.Files.holds c.args.files.now c.args.path.now) (g.F.Files.failed c.args.files.now)
-    (g.F.Files.failed c.read_file.new.files) c.args.workers (meant c.args.program.now) c.args.input.now _ _ c.in_ok-text.ensures.held c.as_slice.ensures.value
-    c.script.ensures.ok
+    texts_played c.args.path.now (g.F.Files.holds c.args.files.now c.args.path.now) (g.F.Files.failed c.args.files.now) (g.F.Files.failed c.read_file.new.files)
+    c.in_ok-text.ensures.uncounted c.args.workers (meant c.args.program.now) c.args.input.now c.script.result _ _ c.in_ok-text.ensures.held
+    c.as_slice.ensures.value c.script.ensures.ok
 
 pub returns-clause-failure : goal.returns-clause-failure
 returns-clause-failure g c =
-    texts_fail c.script.result c.args.path.now (g.F.Files.holds c.args.files.now c.args.path.now) (g.F.Files.failed c.args.files.now)
-    (g.F.Files.failed c.read_file.new.files) c.args.workers (meant c.args.program.now) c.args.input.now _ _ c.in_ok-text.ensures.held c.as_slice.ensures.value
-    c.script.ensures.err
+    texts_fail c.args.path.now (g.F.Files.holds c.args.files.now c.args.path.now) (g.F.Files.failed c.args.files.now) (g.F.Files.failed c.read_file.new.files)
+    c.in_ok-text.ensures.uncounted c.args.workers (meant c.args.program.now) c.args.input.now c.script.result _ _ c.in_ok-text.ensures.held
+    c.as_slice.ensures.value c.script.ensures.err

@@ -21,6 +21,8 @@ returns-in_err-program-clause-failure g c =
 
 pub returns-clause-failure : goal.returns-clause-failure
 returns-clause-failure g c =
-    Judged (meant c.in_ok-program.program) c.in_ok-program.numbers c.in_ok-program.ensures.given
-    (subst (λ (r : Reply). RunShows (meant c.in_ok-program.program) c.in_ok-program.numbers r) (sym c.stopped.ensures)
-    (shown (meant c.in_ok-program.program) c.in_ok-program.numbers c.in-Err.fault c.in-Err.ensures.fault))
+    Judged (meant c.in_ok-program.program) c.in_ok-program.numbers c.in_ok-program.ensures.given (
+      c.in_ok-program.ensures.uncounted,
+      subst (λ (r : Reply). RunShows (meant c.in_ok-program.program) c.in_ok-program.numbers r) (sym c.stopped.ensures)
+          (shown (meant c.in_ok-program.program) c.in_ok-program.numbers c.in-Err.fault c.in-Err.ensures.fault),
+    )

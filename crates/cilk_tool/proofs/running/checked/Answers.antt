@@ -1,5 +1,7 @@
 use Rattle.std.proofs.Common.{ap₂, rules}
+use Rattle.cilk_checker.proofs.Uncounted.{refused_by}
 use Rattle.cilk_checker.specs.Judging.{meant}
+use Rattle.cilk_commands.proofs.Kept.{stays}
 use Rattle.cilk_commands.proofs.Replying.{refused_whole}
 use Rattle.cilk_tool.proofs.Checked.{refuses, unread}
 use Rattle.cilk_tool.proofs.Moments.{still}
@@ -26,5 +28,8 @@ returns-in_ok-refused-in-Err-Refusal-clause-verdict g c =
     refuses (λ files. g.F.Files.failed files) c.args.files.now _ c.in_ok-refused-in-Err-Refusal.field-0 c.args.paths.path.now
     (g.F.Files.holds c.args.files.now c.args.paths.path.now) (meant c.args.program) c.args.input c.in-Err-Refusal.refusal
     c.in_ok-refused-in-Err-Refusal.ensures.answer
+    (λ other. (stays (λ files. g.F.Files.failed files) (λ files. g.F.Files.holds files) c.args.files.now c.new.result.files.now c.check_run.new.source.parts.files.now _
+    _ _ _ _ c.args.paths.path.now c.args.paths.other.now made.files made.path made.other c.check_run.ensures.kept (search rules)
+    (refused_by _ _ c.in-Err-Refusal.field-0 c.in-Err-Refusal.refusal (search rules) c.in-Err-Refusal.ensures.unfailed other)).0)
     (refused_whole _ _ _ _ _ _ _ c.in-Err-Refusal.field-0 _ (ap₂ (λ files path. g.F.Files.holds files path) made.files made.path)
     made.at (search rules) c.in-Err-Refusal.ensures.unaccepted)
