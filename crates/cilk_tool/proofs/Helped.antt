@@ -2,8 +2,9 @@
 --
 -- - `certified_held`, `refused_held`: the text that was read is certified, or refused: so are the
 --   contents of its file, as far as they are known;
--- - `refused_text`: the same, by the answer of a check.
-use Rattle.std.proofs.Common.{◌≡◌, ℕ, List, Option, Some, None, subst, ◌∙◌}
+-- - `refused_text`: the same, by the answer of a check;
+-- - `none_failed`: the failed reads are the same.
+use Rattle.std.proofs.Common.{◌≡◌, ℕ, List, Option, Some, None, ap, subst, ◌∙◌}
 use Rattle.std.specs.Prelude.{ℤ}
 use Rattle.cilk_cert_text.specs.Certificates.{Contents}
 use Rattle.cilk_cert_text.specs.declared.fault.CertFault.{CertFault}
@@ -16,7 +17,7 @@ use Rattle.cilk_checker.specs.declared.refusal.Unaccepted.{Unaccepted}
 use Rattle.cilk_checker.specs.declared.refusal.Unaccepted.TheVariants as unaccepted
 use Rattle.cilk_types.specs.declared.event.Event.{Event}
 use Rattle.cilk_types.specs.declared.outcome.Outcome.{Outcome}
-use Rattle.cilk_commands.specs.Files.{IsHeld}
+use Rattle.cilk_commands.specs.Files.{Failures, IsHeld, IsUnfailed}
 use Rattle.cilk_commands.specs.Replies.{Text}
 
 -- what the text gives, the known contents give
@@ -54,3 +55,6 @@ pub refused_text : (p : Source) (inputs : List ℤ) (known : Option Text) (text 
 refused_text p inputs known text rest n m u r held same is h =
     refused_held p inputs known text r held
     (subst (λ (x : Unaccepted). IsUnaccepted p inputs (Some text) n m x) is (subst (λ (t : Text). IsUnaccepted p inputs (Some t) n m u) same h))
+
+pub none_failed : (failed failed' : Failures) (path : Text) → failed' ≡ failed → IsUnfailed failed failed' path
+none_failed failed failed' path e = record { count = ap (λ (f : Failures). f.count) e; elsewhere = ap (λ (f : Failures). f.elsewhere path) e }

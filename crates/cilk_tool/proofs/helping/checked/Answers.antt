@@ -1,12 +1,30 @@
-use Rattle.std.proofs.Common.{rules, ◌∙◌}
+use Rattle.std.proofs.Common.{Some, rules, subst, ◌∙◌}
+use Rattle.cilk_checker.specs.Answers.{IsCertified}
 use Rattle.cilk_checker.specs.Judging.{meant}
+use Rattle.cilk_program.specs.Sources.{source}
 use Rattle.cilk_commands.proofs.Replying.{refused_ok}
-use Rattle.cilk_tool.proofs.Helped.{refused_text}
+use Rattle.cilk_commands.specs.Replies.{Text}
+use Rattle.cilk_tool.proofs.Helped.{certified_held, none_failed, refused_text}
 use Rattle.cilk_tool.proofs.helping.checked.Goals as goal
 
 pub returns-clause-answer : goal.returns-clause-answer
 returns-clause-answer g c =
     refused_ok c.refused.result c.args.path.now (g.F.Files.holds c.args.files.now c.args.path.now) (λ files. g.F.Files.failed files) c.args.files.now _
     (meant c.args.program) c.args.input c.in-Err-Refusal.refusal c.refused.ensures.answer
+    (λ _. none_failed (g.F.Files.failed c.args.files.now) (g.F.Files.failed c.read_file.new.files) c.args.path.now c.in_ok-text.ensures.uncounted)
     (refused_text _ _ _ c.in_ok-text.text.items _ _ _ c.in-Err-Refusal.field-0 _ c.in_ok-text.ensures.held
     (c.new-source.ensures ∙ c.as_slice-text.ensures.value) (search rules) c.in-Err-Refusal.ensures.unaccepted)
+
+pub returns-in-Ok-check_end-clause-answer : goal.returns-in-Ok-check_end-clause-answer
+returns-in-Ok-check_end-clause-answer g c =
+    let a = c.in-Ok-check_end._accepted in (
+      none_failed (g.F.Files.failed c.args.files.now) (g.F.Files.failed c.read_file.new.files) c.args.path.now c.in_ok-text.ensures.uncounted,
+      (
+        a.trace,
+        a.outcome,
+        certified_held (source c.args.program) c.args.input (g.F.Files.holds c.args.files.now c.args.path.now) c.in_ok-text.text.items a.trace a.outcome
+            c.in_ok-text.ensures.held
+            (subst (λ (t : Text). IsCertified (source c.args.program) c.args.input (Some t) a.trace a.outcome)
+            (c.new-source.ensures ∙ c.as_slice-text.ensures.value) c.in-Ok-check_end.ensures.accepted),
+      ),
+    )

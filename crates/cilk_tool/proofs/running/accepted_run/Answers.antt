@@ -33,3 +33,11 @@ returns-in_ok-numbers-in-Some-clause-answer g c =
     (named_numbers (g.F.Files.holds c.args.files.now) c.args.on c.in-Some.path c.args.accepted.now.input c.in_ok-numbers-in-Some.numbers c.in-Some.is
     c.in_ok-numbers-in-Some.ensures.numbers)
     c.run-in-Some.ensures.answer
+
+pub returns-in_ok-numbers-in-Some-clause-failure : goal.returns-in_ok-numbers-in-Some-clause-failure
+returns-in_ok-numbers-in-Some-clause-failure g c =
+    fails (g.F.Files.holds c.args.files.now) (g.F.Files.failed c.args.files.now) (g.F.Files.failed c.numbers.new.files) c.run-in-Some.result _ _ c.args.workers
+    c.args.accepted.now (meant c.args.accepted.now.program) c.in_ok-numbers-in-Some.ensures.uncounted
+    (named_numbers (g.F.Files.holds c.args.files.now) c.args.on c.in-Some.path c.args.accepted.now.input c.in_ok-numbers-in-Some.numbers c.in-Some.is
+    c.in_ok-numbers-in-Some.ensures.numbers)
+    c.run-in-Some.ensures.failure
