@@ -88,11 +88,11 @@ pub data JudgedReply (IsShown : Meant → List ℤ → Reply → Type 0) (w : Su
 abbrev pub NoneFailed : Surroundings → (Meant → List ℤ → Reply → Type 0) → Meant → List ℤ → Reply → Type 0
 NoneFailed w IsShown m inputs r = (w.failed' ≡ w.failed) × IsShown m inputs r
 
--- the reply to `run`; behind both texts no file is read
+-- the reply to `run`; after both texts no file is read
 abbrev pub RunReply : Surroundings → Origin → Option Text → Reply → Type 0
 RunReply w program input r = JudgedReply (NoneFailed w RunShows) w program input r
 
--- the reply to `certify`; behind both texts no file is read
+-- the reply to `certify`; after both texts no file is read
 abbrev pub CertifyReply : Surroundings → Text → Option Text → Reply → Type 0
 CertifyReply w program input r = JudgedReply (NoneFailed w CertifyShows) w (File program) input r
 
@@ -106,7 +106,7 @@ abbrev pub PlayReply : Surroundings → Text → Text → ℕ → Option Text �
 PlayReply w program script workers input r =
     JudgedReply (PlayShows script (w.files script) w.failed w.failed' workers) w (File program) input r
 
--- the reply to `settle`; behind both texts no file is read
+-- the reply to `settle`; after both texts no file is read
 abbrev pub SettleReply : Surroundings → Text → Option Text → Reply → Type 0
 SettleReply w program input r = JudgedReply (NoneFailed w SettleShows) w (File program) input r
 

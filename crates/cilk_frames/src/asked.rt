@@ -5,7 +5,6 @@ ghost use Rattle.cilk_program.specs.declared.ask.Ask.TheVariants.{Begin, Invoke}
 ghost use Rattle.cilk_program.specs.declared.ask.Callee.TheVariants as callees;
 ghost use Rattle.cilk_lower.specs.Machine.{Move, invoked, on_words};
 ghost use Rattle.cilk_frames.specs.AskSlot.{IsFunctionCall, in_full, words_in};
-ghost use Rattle.cilk_frames.specs.Following.{child_of};
 
 use crate::cursor::Cursor;
 use crate::operands::Operands;
@@ -105,17 +104,6 @@ impl AskSlot {
         ensures { self.now ≡ Invoke result.0 (callees.Function result.1.now) }
     {
         (self.how, &self.call)
-    }
-
-    /// Returns the callee of an invocation; none for other requests.
-    pub fn callee(&self) -> Option<Callee>
-        ensures { result ≡ child_of self.now }
-    {
-        match self.small_ask {
-            None => Some(function(&self.call)),
-            Some(SmallAsk::Turns(_, part)) => Some(Callee::Loop(part)),
-            Some(_) => None,
-        }
     }
 
     /// Returns the request by value.

@@ -4,7 +4,7 @@ ghost use Rattle.std.specs.Prelude.{◌≡◌, [], IfOk, IfSome, IsSome, OnOk, O
 ghost use Rattle.cilk_program.specs.Sources.{source};
 ghost use Rattle.cilk_lower.specs.Behaves.{Behaves};
 ghost use Rattle.cilk_serial.specs.Ran.{Ran};
-ghost use Rattle.cilk_serial.specs.SoFar.{BeginsNext, BeginsTarget, Comes, IsIntact, IsOver, IsSoFar, IsTargetOf, MakesRest, RunsOn};
+ghost use Rattle.cilk_serial.specs.SoFar.{BeginsTarget, Comes, IsIntact, IsOver, IsSoFar, IsTargetOf, MakesRest, RunsOn};
 ghost use Rattle.cilk_frames.specs.Following.{child_of};
 ghost use Rattle.cilk_serial.specs.declared.serial_run.Stage.TheVariants.{Going, Ended, Failed};
 
@@ -14,7 +14,7 @@ use cilk_frames::asked::AskSlot;
 use cilk_frames::operands::LastOperands;
 use cilk_frames::small_ask::SmallAsk;
 use cilk_lower::code::Code;
-use cilk_program::ask::{Callee, LoopPart};
+use cilk_program::ask::LoopPart;
 use cilk_program::program::Program;
 use cilk_types::event::Event;
 use cilk_types::fault::Fault;
@@ -218,19 +218,8 @@ impl<'a> SerialRun<'a> {
         self.running.state.events.as_slice()
     }
 
-    /// Returns the callee of the frame that the next event begins, if it begins one. To be called
-    /// before that event is made.
-    pub fn callee(&self) -> Option<Callee>
-        ensures { IsIntact self.now.stage → BeginsNext (source self.now.program) self.now.inputs self.now.events result }
-    {
-        match self.stage {
-            Stage::Going => self.running.ask.callee(),
-            Stage::Ended(_) => None,
-            Stage::Failed => None,
-        }
-    }
-
-    /// Returns what [`SerialRun::callee`] does, without the callee's arguments.
+    /// Returns what the next event calls or spawns, if it begins a frame, without the arguments. To
+    /// be called before that event is made.
     pub fn target(&self) -> Option<Target>
         ensures { BeginsTarget self.now result }
     {
