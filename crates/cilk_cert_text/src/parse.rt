@@ -1,6 +1,8 @@
 // Parsing a line of a known form.
 
 ghost use Rattle.std.specs.Prelude.{◌≡◌, IfSome, IsTrue, option_map};
+ghost use Rattle.cilk_cert_text.specs.declared.line.Keyword.TheVariants as keywords;
+ghost use Rattle.cilk_cert_text.specs.declared.line.Version.TheVariants as versions;
 ghost use Rattle.cilk_cert_text.specs.Lines.{keyword_of, reducer_at, reducer_value_at, entry_at, event_line, version_of, version_line, is_size, size_line, frame_line, strand_line, result_line, end_line, line_of};
 ghost use Rattle.cilk_cert_text.specs.Words.{words};
 ghost use Rattle.cilk_cert_text.specs.Parsing.{words_in};
@@ -88,6 +90,22 @@ fn reducer_value<'a>(
     Some(((reducer, value), rest))
 }
 
+/// Parses a read's cell, value and source, which have one form in both versions.
+#[tactic(auto, unfolding(crate::specs::Lines::entry_at))]
+fn read<'a>(left: Option<&'a [u8]>) -> Option<(Entry, Option<&'a [u8]>)>
+    ensures { option_map (λ r. (r.0, words_in r.1)) result ≡ entry_at versions.One keywords.Read (words_in left.entry) }
+{
+    let (cell, rest) = number(left)?;
+    let (value, rest) = value(rest)?;
+    let (source, rest) = number(rest)?;
+    let read = Entry::Read {
+        cell,
+        value,
+        source,
+    };
+    Some((read, rest))
+}
+
 /// Parses the rest of an event's line after its keyword.
 #[tactic(auto, unfolding(crate::specs::Lines::entry_at))]
 fn entry<'a>(
@@ -116,17 +134,7 @@ fn entry<'a>(
         }
         Keyword::Sync => Some((Entry::Sync, left)),
         Keyword::End => Some((Entry::End, left)),
-        Keyword::Read => {
-            let (cell, rest) = number(left)?;
-            let (value, rest) = value(rest)?;
-            let (source, rest) = number(rest)?;
-            let read = Entry::Read {
-                cell,
-                value,
-                source,
-            };
-            Some((read, rest))
-        }
+        Keyword::Read => read(left),
         Keyword::Write => {
             let (cell, rest) = number(left)?;
             let (value, rest) = value(rest)?;

@@ -14,6 +14,15 @@ pub struct Parts {
     pub right: Option<Hypermap>,
 }
 
+impl Parts {
+    #[inline(always)]
+    fn of(left: Option<Hypermap>, piece: Hypermap, right: Option<Hypermap>) -> Parts
+        ensures { result ≡ record { left = left; piece = piece; right = right } }
+    {
+        Parts { left, piece, right }
+    }
+}
+
 /// Returns the product of the three, from left to right. If memory runs out, they come back with
 /// the same values.
 #[tactic(auto, using(crate::proofs::Products::of_left, crate::proofs::Products::of_right, crate::proofs::Products::of_three, crate::proofs::Products::alone, crate::proofs::Products::kept, crate::proofs::Products::kept_run))]
@@ -28,27 +37,15 @@ pub fn merge(alloc: Global, parts: Parts) -> Result<Hypermap, Parts>
         (None, None) => Ok(piece),
         (Some(left), None) => match Hypermap::merge(alloc, left, piece) {
             Ok(both) => Ok(both),
-            Err((left, piece)) => Err(Parts {
-                left: Some(left),
-                piece,
-                right: None,
-            }),
+            Err((left, piece)) => Err(Parts::of(Some(left), piece, None)),
         },
         (None, Some(right)) => match Hypermap::merge(alloc, piece, right) {
             Ok(both) => Ok(both),
-            Err((piece, right)) => Err(Parts {
-                left: None,
-                piece,
-                right: Some(right),
-            }),
+            Err((piece, right)) => Err(Parts::of(None, piece, Some(right))),
         },
         (Some(left), Some(right)) => match Hypermap::merge3(alloc, left, piece, right) {
             Ok(all) => Ok(all),
-            Err((left, piece, right)) => Err(Parts {
-                left: Some(left),
-                piece,
-                right: Some(right),
-            }),
+            Err((left, piece, right)) => Err(Parts::of(Some(left), piece, Some(right))),
         },
     }
 }

@@ -5,12 +5,14 @@ ghost use Rattle.cilk_frames.specs.declared.activation.Activation.{Activation};
 ghost use Rattle.cilk_program.specs.declared.ask.Ask.TheVariants as asks;
 ghost use Rattle.cilk_types.specs.declared.fault.Fault.{Fault};
 ghost use Rattle.cilk_scheduler.specs.declared.frame_state.FrameState.{FrameState};
-ghost use Rattle.cilk_scheduler.specs.Asking.{IsReady, WentOn, cells_asked, crowded, own_fault, refusal};
+ghost use Rattle.cilk_scheduler.specs.declared.frame_state.Due.TheVariants as dues;
+ghost use Rattle.cilk_scheduler.specs.Asking.{Came, IsReady, IsReadyFor, WentOn, cells_asked, crowded, own_fault, refusal};
 ghost use Rattle.cilk_scheduler.specs.FrameStates.{changed};
 
 use crate::frame_state::{Due, FrameState};
 use cilk_frames::activation::Activation;
 use cilk_frames::asked::AskSlot;
+use cilk_frames::cursor::Answer;
 use cilk_frames::small_ask::SmallAsk;
 use cilk_frames::stepping::step_into;
 use cilk_lower::code::Code;
@@ -43,15 +45,27 @@ fn advance(code: &Code, input: &Input, frame_state: &mut FrameState, asked: &mut
     match frame_state.due {
         Due::Begin => asked.put(SmallAsk::Begin),
         Due::Sync => asked.put(SmallAsk::Sync),
-        Due::Answer(answer) => {
-            let Some(cursor) = &mut frame_state.cursor else {
-                unreachable!()
-            };
-            let mut left = MAX_TICKS - frame_state.took;
-            step_into(code, input, cursor, answer, &mut left, asked);
-            frame_state.took = MAX_TICKS - left;
-        }
+        Due::Answer(answer) => take_up(code, input, frame_state, answer, asked),
     }
+}
+
+// `advance` where an answer is due.
+fn take_up(
+    code: &Code,
+    input: &Input,
+    frame_state: &mut FrameState,
+    answer: Answer,
+    asked: &mut AskSlot,
+)
+    requires { IsReadyFor code.now input.now frame_state.old (dues.Answer answer) }
+    ensures { Came code.now input.now frame_state.old answer asked.new frame_state.new }
+{
+    let Some(cursor) = &mut frame_state.cursor else {
+        unreachable!()
+    };
+    let mut left = MAX_TICKS - frame_state.took;
+    step_into(code, input, cursor, answer, &mut left, asked);
+    frame_state.took = MAX_TICKS - left;
 }
 
 /// Returns the number of cells of the frame that the request starts, or `None` if it starts none.

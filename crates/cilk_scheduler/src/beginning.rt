@@ -71,23 +71,14 @@ pub fn begin(
     scheduler.frames.reserve(1)?;
     scheduler.frames.push_reserved(child);
     scheduler.workers[worker as usize].frame = Some(place);
+    let at = frame as usize;
     match how {
         Invocation::Call => {
-            start(
-                &mut scheduler.frames,
-                frame as usize,
-                place,
-                Status::Calling,
-            );
+            start(&mut scheduler.frames, at, place, Status::Calling);
             Ok(Event::Call { child: place + 1 })
         }
         Invocation::Spawn => {
-            start(
-                &mut scheduler.frames,
-                frame as usize,
-                place,
-                Status::Offered(worker),
-            );
+            start(&mut scheduler.frames, at, place, Status::Offered(worker));
             scheduler.offered += 1;
             Ok(Event::Spawn { child: place + 1 })
         }

@@ -6,7 +6,7 @@
 ghost use Rattle.std.specs.Prelude.{◌≡◌, ◌+◌, ◌<◌, ◌≤◌, ◌^◌, length, IfOk};
 ghost use Rattle.cilk_tree.specs.Shape.{Shape, Spells, SpellsMarks};
 ghost use Rattle.cilk_tree.specs.Tree.{tree, preorder};
-ghost use Rattle.cilk_tree.specs.Building.{opening, step, strand_closed, block_closed, frame_closed};
+ghost use Rattle.cilk_tree.specs.Building.{opening, place_at, step, strand_closed, block_closed, frame_closed};
 
 use crate::mark::Mark;
 use crate::tree::{Node, SpTree};
@@ -22,6 +22,20 @@ pub struct StrandCounts {
     pub frame: u32,
     pub block: u32,
     pub child: u32,
+}
+
+impl StrandCounts {
+    // At the end of a frame, with so many strands met.
+    #[inline(always)]
+    fn at(strands: u32) -> StrandCounts
+        ensures { result ≡ place_at strands }
+    {
+        StrandCounts {
+            frame: strands,
+            block: strands,
+            child: strands,
+        }
+    }
 }
 
 /// A tree under construction: its nodes so far, the outer frames, the current frame, the number of
@@ -50,11 +64,7 @@ impl Building {
         Building {
             nodes: Stack::new(alloc),
             outer: Stack::new(alloc),
-            place: StrandCounts {
-                frame: 0,
-                block: 0,
-                child: 0,
-            },
+            place: StrandCounts::at(0),
             strands: 0,
             events: 0,
         }
@@ -103,11 +113,7 @@ impl Building {
             Mark::Plain => {}
             Mark::End => {
                 self.outer.push(self.place)?;
-                self.place = StrandCounts {
-                    frame: self.strands,
-                    block: self.strands,
-                    child: self.strands,
-                };
+                self.place = StrandCounts::at(self.strands);
             }
             Mark::Begin => {
                 self.close_strand()?;

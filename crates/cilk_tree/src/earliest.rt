@@ -83,18 +83,19 @@ impl Pass {
     fn end(&mut self, at: Pos)
         ensures { self.new ≡ returned at self.old.ends self.old.waiting }
     {
-        match self.waiting.pop() {
-            None => self.ahead = Some(at),
-            Some(parent) => match parent.how {
-                Invocation::Call => {
-                    self.ahead = Some(at);
-                    self.ends = parent.ends;
-                }
-                Invocation::Spawn => {
-                    self.ahead = Some(parent.at);
-                    self.ends = earlier(Some(at), parent.ends);
-                }
-            },
+        let Some(parent) = self.waiting.pop() else {
+            self.ahead = Some(at);
+            return;
+        };
+        match parent.how {
+            Invocation::Call => {
+                self.ahead = Some(at);
+                self.ends = parent.ends;
+            }
+            Invocation::Spawn => {
+                self.ahead = Some(parent.at);
+                self.ends = earlier(Some(at), parent.ends);
+            }
         }
     }
 }

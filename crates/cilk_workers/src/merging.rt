@@ -15,6 +15,15 @@ pub struct Parts {
     pub right: Option<Piece>,
 }
 
+impl Parts {
+    #[inline(always)]
+    fn of(left: Option<Piece>, piece: Piece, right: Option<Piece>) -> Parts
+        ensures { result ≡ record { left = left; piece = piece; right = right } }
+    {
+        Parts { left, piece, right }
+    }
+}
+
 /// Makes one piece of the three, from left to right. If memory runs out, they come back.
 pub fn merge(alloc: Global, yard: &Yard, parts: Parts) -> Result<Piece, Parts>
     requires good { AreGood (run_of yard.now parts.piece.reducers) parts.left parts.piece parts.right }
@@ -29,27 +38,15 @@ pub fn merge(alloc: Global, yard: &Yard, parts: Parts) -> Result<Piece, Parts>
         (None, None) => Ok(piece),
         (Some(left), None) => match Piece::join(alloc, yard, left, piece) {
             Ok(both) => Ok(both),
-            Err((left, piece)) => Err(Parts {
-                left: Some(left),
-                piece,
-                right: None,
-            }),
+            Err((left, piece)) => Err(Parts::of(Some(left), piece, None)),
         },
         (None, Some(right)) => match Piece::join(alloc, yard, piece, right) {
             Ok(both) => Ok(both),
-            Err((piece, right)) => Err(Parts {
-                left: None,
-                piece,
-                right: Some(right),
-            }),
+            Err((piece, right)) => Err(Parts::of(None, piece, Some(right))),
         },
         (Some(left), Some(right)) => match Piece::join3(alloc, yard, left, piece, right) {
             Ok(all) => Ok(all),
-            Err((left, piece, right)) => Err(Parts {
-                left: Some(left),
-                piece,
-                right: Some(right),
-            }),
+            Err((left, piece, right)) => Err(Parts::of(Some(left), piece, Some(right))),
         },
     }
 }
