@@ -23,6 +23,7 @@
 //! | [`write::write`], [`writer::LineWriter`] | Write a text; the second without allocating. |
 //! | [`read::read`], [`read::read_pieces`] | Read a text that is in memory. |
 //! | [`reader::LineReader`] | Reads a text piece by piece without allocating. |
+//! | [`word::first`], [`word::number`], [`word::alone`] | Read a line word by word. |
 //!
 //! Reading stops at the first fault: a [`fault::CertFault`] with its line, from 1. A line is
 //! malformed if it has 97 bytes or more before its LF, isn't of the form due there, or follows the
@@ -46,6 +47,6 @@ mod place;
 pub mod read;
 pub mod reader;
 pub mod spelling;
-mod word;
+pub mod word;
 pub mod write;
 pub mod writer;

@@ -1,5 +1,5 @@
-// Words of a line, and the numbers that they spell. The rest of a line is the bytes after the last
-// space read, or none at the end of the line.
+//! Words of a line, and the numbers that they spell. The rest of a line is the bytes after the last
+//! space read, or none at the end of the line.
 
 ghost use Rattle.std.specs.Prelude.{◌≡◌, ◌≢◌, ℕ, ◌^◌, ◌≤◌, [], ◌∷◌, IfSome, IfNone, option_map};
 ghost use Rattle.std.specs.Fmt.{decimal};
@@ -19,7 +19,7 @@ fn cut(bytes: &[u8]) -> (&[u8], Option<&[u8]>)
 }
 
 /// Returns the first word and the rest.
-pub(crate) fn first<'a>(left: Option<&'a [u8]>) -> Option<(&'a [u8], Option<&'a [u8]>)>
+pub fn first<'a>(left: Option<&'a [u8]>) -> Option<(&'a [u8], Option<&'a [u8]>)>
     ensures found { IfSome result (λ r. words_in left.entry ≡ r.0.now ∷ words_in r.1) }
     ensures none { IfNone result (words_in left.entry ≡ []) }
 {
@@ -37,7 +37,7 @@ pub(crate) fn after<'a>(word: &[u8], left: Option<&'a [u8]>) -> Option<Option<&'
 
 /// Returns the result, if nothing is left.
 #[tactic(auto, using(crate::proofs::Cuts::ended_words))]
-pub(crate) fn alone<T: Copy>(read: T, left: Option<&[u8]>) -> Option<T>
+pub fn alone<T: Copy>(read: T, left: Option<&[u8]>) -> Option<T>
     ensures { result ≡ ended read (words_in left.entry) }
 {
     match left {
@@ -80,7 +80,7 @@ fn number_in(word: &[u8]) -> Option<u32>
 }
 
 /// Parses the first word as a number of 32 bits, and returns the rest.
-pub(crate) fn number<'a>(left: Option<&'a [u8]>) -> Option<(u32, Option<&'a [u8]>)>
+pub fn number<'a>(left: Option<&'a [u8]>) -> Option<(u32, Option<&'a [u8]>)>
     ensures { option_map (λ r. (r.0, words_in r.1)) result ≡ number_at (words_in left.entry) }
 {
     let (word, rest) = first(left)?;

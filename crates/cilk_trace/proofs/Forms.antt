@@ -19,10 +19,10 @@ use Rattle.cilk_trace.specs.Forms.{binary_header, reading_of}
 use Rattle.cilk_trace.specs.Numbers.{Numbers, NoMore, Cut, Wrong, Next, numbers}
 use Rattle.cilk_trace.specs.Reading.{Reading, after_line, count_of, text_reading, with_lines}
 use Rattle.cilk_trace.specs.Texts.{AreWithin, EndsOnce, IsText, IsTraceText, ReadsTraces}
-use Rattle.cilk_trace.specs.Words.{◌>>=◌}
+use Rattle.cilk_cert_text.specs.Words.{◌>>=◌}
 use Rattle.cilk_trace.proofs.EventReadings.{over_numbers}
 use Rattle.cilk_trace.proofs.Limits.{AreRanged, IsRanged, number_within}
-use Rattle.cilk_trace.proofs.Spellings.{bind_some, cond_none, map_some, some_is}
+use Rattle.cilk_cert_text.proofs.Spellings.{bind_some, cond_none, map_some, some_is}
 use Rattle.cilk_trace.proofs.Wholes.{after_end, ends_more, no_stop, read_as, taken_whole, text_again, text_sound, with_line_is}
 
 -- ---- a binary form that is read whole

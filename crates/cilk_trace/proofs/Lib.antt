@@ -1,5 +1,4 @@
 pub mod Appended
-pub mod Cuts
 pub mod EventReadings
 pub mod Finding
 pub mod Forms
@@ -11,14 +10,12 @@ pub mod Lifetimes
 pub mod Limits
 pub mod LineWords
 pub mod Meeting
-pub mod Numerals
 pub mod Passing
 pub mod Readings
 pub mod ReducerReads
 pub mod ReducerSteps
 pub mod Results
 pub mod Shapes
-pub mod Spellings
 pub mod Strands
 pub mod Surveying
 pub mod Touching

@@ -19,9 +19,9 @@ use Rattle.cilk_trace.specs.declared.place.Place.TheVariants.{Header, Lines, Ove
 use Rattle.cilk_trace.specs.Binary.{Events, after_number, after_step, unless_over, used}
 use Rattle.cilk_trace.specs.Events.{access_line, deed_of, moved, reducer_line, small, step_of, tag_step, touch_of, uses}
 use Rattle.cilk_trace.specs.Lines.{AreCells, IsNumber, IsWithin, are_cells}
-use Rattle.cilk_trace.specs.Words.{◌>>=◌}
+use Rattle.cilk_cert_text.specs.Words.{◌>>=◌}
 use Rattle.cilk_trace.proofs.LineWords.{within}
-use Rattle.cilk_trace.proofs.Spellings.{cond_none, map_some, some_is}
+use Rattle.cilk_cert_text.proofs.Spellings.{cond_none, map_some, some_is}
 
 -- ---- what a number says
 

@@ -1,6 +1,6 @@
 -- A line is read exactly where it is spelled: `line_sound`, and `line_again` with `line_fine`, which says that a spelling has no LF and
 -- at most 64 bytes.
-use Rattle.std.proofs.Common.{◌≡◌, ℕ, ◌+◌, ◌≤◌, Bool, true, false, cond, ◌&&◌, List, [], ◌∷◌, ◌++◌, length, Option, Some, refl, sym, ap, subst, ◌∙◌, append-nil, ltb, arith, length-append}
+use Rattle.std.proofs.Common.{◌≡◌, ℕ, ◌+◌, ◌≤◌, Bool, true, false, cond, not, ◌&&◌, List, [], ◌∷◌, ◌++◌, length, Option, Some, refl, sym, ap, subst, ◌∙◌, append-nil, eqb, ltb, arith, length-append}
 use Rattle.std.specs.Prelude.{codes}
 use Rattle.std.specs.Fmt.{decimal}
 use Rattle.std.specs.Str.{bytes_eq}
@@ -12,10 +12,26 @@ use Rattle.cilk_trace.specs.declared.line.Line.{Line}
 use Rattle.cilk_trace.specs.declared.line.Line.TheVariants as lines
 use Rattle.cilk_trace.specs.declared.keyword.Keyword.{Keyword}
 use Rattle.cilk_trace.specs.declared.keyword.Keyword.TheVariants as keywords
-use Rattle.cilk_trace.specs.Words.{joined, words, number_at}
+use Rattle.cilk_cert_text.specs.Words.{joined, words, number_at}
 use Rattle.cilk_trace.specs.Lines.{line_words, spelled, IsNumber, AreCells, IsWithin, spelling, first_spelled, all_keywords, keyword_of, are_cells, cells_at, rest_at, words_line, line_of}
-use Rattle.cilk_trace.specs.Reading.{HasNoLf}
-use Rattle.cilk_trace.proofs.Spellings.{is_plain, are_plain, and_left, and_right, both, words_joined, joined_line, joined_words, number_plain, number_again, bind_some, number_step, ended_step, prepend, some_is, cond_none}
+use Rattle.cilk_trace.specs.Reading.{HasNoLf, with_front}
+use Rattle.cilk_trace.proofs.Readings.{no_lf_append}
+use Rattle.cilk_cert_text.proofs.Spellings.{is_plain, are_plain, and_left, and_right, both, not_true, words_joined, joined_words, number_plain, number_again, bind_some, number_step, ended_step, prepend, some_is, cond_none}
+
+-- ---- joined words have no LF
+
+plain_line : (w : List ℕ) → is_plain w ≡ true → HasNoLf w
+plain_line [] h = refl
+plain_line (b ∷ w) h =
+    let more = and_right (not (eqb b 32)) (not (eqb b 10) && is_plain w) h in
+    let no_lf = not_true (eqb b 10) (and_left (not (eqb b 10)) (is_plain w) more) in
+    rw no_lf (ap (with_front (b ∷ [])) (plain_line w (and_right (not (eqb b 10)) (is_plain w) more)))
+
+joined_line : (w : List ℕ) (ws : List (List ℕ)) → are_plain (w ∷ ws) ≡ true → HasNoLf (joined (w ∷ ws))
+joined_line w [] h = plain_line w (and_left (is_plain w) true h)
+joined_line w (v ∷ ws) h =
+    no_lf_append w (32 ∷ joined (v ∷ ws)) (plain_line w (and_left (is_plain w) (are_plain (v ∷ ws)) h))
+    (ap (with_front (32 ∷ [])) (joined_line v ws (and_right (is_plain w) (are_plain (v ∷ ws)) h)))
 
 -- ---- a line that is read is spelled so
 

@@ -15,7 +15,7 @@ use Rattle.cilk_trace.specs.Reading.{TextLines, lines_after, with_front, with_lf
 use Rattle.cilk_trace.specs.TextReaders.{reading_lines}
 use Rattle.cilk_trace.specs.Texts.{lines_text, AreWithin, EndsOnce, IsText}
 use Rattle.cilk_trace.proofs.Readings.{rest_after, line_law}
-use Rattle.cilk_trace.proofs.Spellings.{and_right, both, map_some, some_is, cond_none}
+use Rattle.cilk_cert_text.proofs.Spellings.{and_right, both, map_some, some_is, cond_none}
 use Rattle.cilk_trace.proofs.LineWords.{line_sound, line_again}
 
 -- ---- lines of a text, joined again

@@ -13,7 +13,7 @@ use Rattle.cilk_trace.specs.declared.place.Place.TheVariants.{Lines, Over}
 use Rattle.cilk_trace.specs.Events.{access_line, step_of}
 use Rattle.cilk_trace.specs.Numbers.{Numbers, NoMore, Cut, Wrong, Next, numbers}
 use Rattle.cilk_trace.specs.Reading.{Reading, after_line, count_of, stops, taken, whole, with_lines}
-use Rattle.cilk_trace.specs.Words.{◌>>=◌}
+use Rattle.cilk_cert_text.specs.Words.{◌>>=◌}
 
 -- the kinds of lines that are declared, the first cell of the last line that has cells, what is due, and which number of an event
 pub record Events : Type 0 where

@@ -13,7 +13,7 @@ use Rattle.cilk_trace.specs.declared.event.Step.TheVariants.{More, Declares, Say
 use Rattle.cilk_trace.specs.declared.event.Touch.{Touch}
 use Rattle.cilk_trace.specs.declared.event.Touch.TheVariants as touches
 use Rattle.cilk_trace.specs.Lines.{are_cells}
-use Rattle.cilk_trace.specs.Words.{◌>>=◌}
+use Rattle.cilk_cert_text.specs.Words.{◌>>=◌}
 
 -- a number below 2^32
 abbrev pub small : ℕ → Option ℕ

@@ -10,7 +10,6 @@ pub mod Judging
 pub mod Lines
 pub mod Marks
 pub mod Numbers
-pub mod Parsing
 pub mod Passes
 pub mod Readers
 pub mod Reading
@@ -22,4 +21,3 @@ pub mod Texts
 pub mod Touching
 pub mod Viewing
 pub mod Views
-pub mod Words

@@ -7,7 +7,7 @@ use Rattle.cilk_trace.specs.declared.line.Line.{Line}
 use Rattle.cilk_trace.specs.declared.line.Line.TheVariants as lines
 use Rattle.cilk_trace.specs.declared.keyword.Keyword.{Keyword}
 use Rattle.cilk_trace.specs.declared.keyword.Keyword.TheVariants as keywords
-use Rattle.cilk_trace.specs.Words.{◌>>=◌, joined, words, number_at, ended}
+use Rattle.cilk_cert_text.specs.Words.{◌>>=◌, joined, words, number_at, ended}
 
 -- the words of a line
 abbrev pub line_words : Line → List (List ℕ)

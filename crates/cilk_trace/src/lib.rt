@@ -83,4 +83,3 @@ pub mod survey;
 mod text;
 pub mod text_laws;
 pub mod views;
-mod word;

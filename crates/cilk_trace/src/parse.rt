@@ -3,13 +3,13 @@
 ghost use Rattle.std.specs.Prelude.{◌≡◌, option_map};
 ghost use Rattle.cilk_trace.specs.Lines.{are_cells, cells_at, rest_at, words_line, line_of};
 ghost use Rattle.cilk_trace.specs.Reading.{after_line, line_at, numbered};
-ghost use Rattle.cilk_trace.specs.Words.{words};
-ghost use Rattle.cilk_trace.specs.Parsing.{words_in};
+ghost use Rattle.cilk_cert_text.specs.Words.{words};
+ghost use Rattle.cilk_cert_text.specs.Parsing.{words_in};
 
 use crate::keyword::{Keyword, keyword_in};
 use crate::line::{Cells, Line};
 use crate::place::Place;
-use crate::word::{alone, first, number};
+use cilk_cert_text::word::{alone, first, number};
 
 /// The most cells of a line.
 pub(crate) const MAX_CELLS: u32 = 4096;
