@@ -8,12 +8,12 @@ use Rattle.std.proofs.lemmas.Option.{same_Some, slice_get_within, slice_get_case
 use Rattle.std.specs.List.{AllByRecursion}
 use Rattle.cilk_cert_maker.specs.Right.{is_wrong, IsWrongAt, IsNowhere, EachAt}
 
-get_front : {A : Type 0} (given : List A) (x : A) (k : ℕ) → k < length given → slice_get (given ++ x ∷ []) k ≡ slice_get given k
+pub get_front : {A : Type 0} (given : List A) (x : A) (k : ℕ) → k < length given → slice_get (given ++ x ∷ []) k ≡ slice_get given k
 get_front [] x k h = absurd (omega (arith, h))
 get_front (y ∷ given) x zero h = refl
 get_front (y ∷ given) x (suc k) h = get_front given x k (omega (arith, h))
 
-get_last : {A : Type 0} (given : List A) (x : A) → slice_get (given ++ x ∷ []) (length given) ≡ Some x
+pub get_last : {A : Type 0} (given : List A) (x : A) → slice_get (given ++ x ∷ []) (length given) ≡ Some x
 get_last [] x = refl
 get_last (y ∷ given) x = get_last given x
 

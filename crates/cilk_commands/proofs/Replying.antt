@@ -80,7 +80,7 @@ silent (failures.Trace number at) = refl
 silent (failures.Changed name) = refl
 silent failures.Memory = refl
 
-still_silent : (f : Failure) (r : Reply) → IsOrNoMemory (failure_view f) r → out_text r ≡ []
+pub still_silent : (f : Failure) (r : Reply) → IsOrNoMemory (failure_view f) r → out_text r ≡ []
 still_silent f r (inl e) = ap out_text e ∙ silent f
 still_silent f r (inr e) = ap out_text e
 

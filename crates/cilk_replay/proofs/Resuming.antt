@@ -60,7 +60,7 @@ good_shape (shapes.child invocations.Spawn u r) tail g = (
 
 -- ---- the plan's deed, by marks
 
-abbrev IsOfMark : Mark → Deed FrameEnv → Type 0
+abbrev pub IsOfMark : Mark → Deed FrameEnv → Type 0
 IsOfMark Begin d = GoesOn d
 IsOfMark End d = (v : _) × (gone : List Instance) × (d ≡ Does (Ends v gone))
 IsOfMark Sync d = GoesOn d
@@ -152,13 +152,13 @@ module _ (s : Setting) (h : IsOfProgram s) where
   abbrev States : ℕ → List Mark → List ℕ → List Waiting → Type 0
   States i ms ahead ws = (x : Point FrameEnv) → point_at s i ≡ Some x → State i ms ahead ws x
 
-  deed : (i : ℕ) (x : Point FrameEnv) (m : Mark) → point_at s i ≡ Some x → slice_get all i ≡ Some m → IsOfMark m x.planned
+  pub deed : (i : ℕ) (x : Point FrameEnv) (m : Mark) → point_at s i ≡ Some x → slice_get all i ≡ Some m → IsOfMark m x.planned
   deed i x m is at =
       let found = event_there (slice_get h.events i) m (sym (slice_get-map mark_of h.events i) ∙ at) in
       subst (λ n. IsOfMark n x.planned) found.2 (of_mark found.0 x.planned (plan_deed s h i x found.0 is found.1))
 
   -- the point before one
-  before : (i : ℕ) (y : Point FrameEnv) → point_at s (suc i) ≡ Some y → (x : Point FrameEnv) × (point_at s i ≡ Some x)
+  pub before : (i : ℕ) (y : Point FrameEnv) → point_at s (suc i) ≡ Some y → (x : Point FrameEnv) × (point_at s i ≡ Some x)
   before i y is = following s h i (let less = within s h (suc i) y is in omega (arith, less))
 
   no_spawn : (i : ℕ) (m : Mark) → slice_get all i ≡ Some m → (m ≡ Spawn → ⊥) → NoSpawnAhead (suc i)

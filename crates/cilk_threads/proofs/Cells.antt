@@ -11,7 +11,7 @@ use Rattle.cilk_tree.specs.Kinds.{kind_of_event}
 use Rattle.cilk_checker.specs.Determinate.{AcceptedRun}
 use Rattle.cilk_plan.specs.Plans.{IsPlanOf, Names}
 use Rattle.cilk_workers.specs.Shared.{HasCells}
-use Rattle.cilk_threads.proofs.Placed.{same_kind_at}
+use Rattle.cilk_replay.proofs.AlongBlocks.{same_kind_at}
 
 same_cell : (c d : ℕ) → Some (kinds.Read c) ≡ Some (kinds.Read d) → c ≡ d
 same_cell c d h = cc h

@@ -1,52 +1,16 @@
 -- The columns of a plan are those of each event order along it: `columns_along`.
-use Rattle.std.proofs.Common.{◌≡◌, ℕ, ◌+◌, List, inl, inr, sym, ap, ◌∙◌}
-use Rattle.cilk_shared.proofs.Along.{frames_along}
+use Rattle.std.proofs.Common.{ℕ, ◌+◌, List, inl, inr, sym, ap, ◌∙◌}
 use Rattle.cilk_tree.specs.Along.{IsAlong}
-use Rattle.cilk_tree.specs.Blocks.{EndsBlockOf}
 use Rattle.cilk_tree.specs.Columns.{AreBlockEnds, AreBlocks, AreFirstSpawns, AreStrands, BlocksEnd, IsOfBlock, IsSpawnOf}
 use Rattle.cilk_tree.specs.declared.event_order.EventOrder.{EventOrder}
 use Rattle.cilk_tree.specs.Orders.{IsOrderly}
-use Rattle.cilk_tree.specs.Word.{spawn, word_step}
 use Rattle.cilk_tree.proofs.AlongPlans.{along_orderly, many, same_resume}
 use Rattle.cilk_plan.specs.Continuations.{SpawnsHaveContinuations}
 use Rattle.cilk_workers.specs.Shared.{AreColumns}
-use Rattle.cilk_threads.proofs.Placed.{sync_along}
+use Rattle.cilk_replay.proofs.AlongBlocks.{back, block_ends, spawn_of}
 use Rattle.cilk_threads.proofs.Strands.{strands_along}
 
-back : (plan s : EventOrder) → IsAlong plan s → IsAlong s plan
-back plan s along = record {
-  kinds = sym along.kinds;
-  preceding = sym along.preceding;
-  opening = sym along.opening;
-}
-
 -- ---- from one of two orders along each other to the other
-block_ends : (plan s : EventOrder) → IsAlong plan s → (k q : ℕ) → EndsBlockOf plan.events k q → EndsBlockOf s.events k q
-block_ends plan s along k q h =
-    let next = h.2 in
-    let at = next.syncs in (
-      h.0,
-      frames_along plan s along k h.0 h.1,
-      record {
-        later = next.later;
-        syncs = (sync_along s.events plan.events along.kinds q at.0, frames_along plan s along q h.0 at.1);
-        first = λ p low less is. next.first p low less (
-          sync_along plan.events s.events (sym along.kinds) p is.0,
-          frames_along s plan (back plan s along) p h.0 is.1,
-        );
-      },
-    )
-
-spawns : (plan s : EventOrder) → IsAlong plan s → IsOrderly plan → IsOrderly s → (k : ℕ) → word_step plan k ≡ spawn → word_step s k ≡ spawn
-spawns plan s along order order' k is =
-    let next = order.returns k is in
-    (order'.resumed next.0 k ((same_resume plan s along next.0 k).1 next.1)).0
-
-spawn_of : (plan s : EventOrder) → IsAlong plan s → IsOrderly plan → IsOrderly s → (q k : ℕ) → IsSpawnOf plan q k → IsSpawnOf s q k
-spawn_of plan s along order order' q k h = record {
-  spawns = spawns plan s along order order' k h.spawns;
-  ends = block_ends plan s along k q h.ends;
-}
 
 of_block : (plan s : EventOrder) → IsAlong plan s → (q p : ℕ) → IsOfBlock plan q p → IsOfBlock s q p
 of_block plan s along q p (inl same) = inl same

@@ -16,7 +16,6 @@ pub mod Crossing
 pub mod Leaving
 pub mod Left
 pub mod Opened
-pub mod Placed
 pub mod Popped
 pub mod Sent
 pub mod Strands

@@ -16,10 +16,9 @@ use Rattle.cilk_commands.specs.declared.reply.Failure.TheVariants as failures
 use Rattle.cilk_messages.specs.declared.words.WordsFault.{WordsFault}
 use Rattle.cilk_messages.specs.declared.words.WordsFault.TheVariants as faults
 use Rattle.cilk_report.proofs.Replies.{IsUsage}
-use Rattle.cilk_commands.proofs.Replying.{keeps, no_memory}
+use Rattle.cilk_commands.proofs.Replying.{keeps, no_memory, still_silent}
 use Rattle.cilk_messages.specs.CheckWords.{Helped, IsWordsFault, check_in}
 use Rattle.cilk_tool.specs.Helped.{Answers, ServesHelped}
-use Rattle.cilk_tool.proofs.Showing.{still_silent}
 
 starving : (w : Surroundings) (asked : Option Helped) → Answers w asked NoMemory
 starving w None = tt

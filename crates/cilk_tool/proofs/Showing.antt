@@ -6,7 +6,7 @@
 -- - `asked`: words with an order aren't words without one;
 -- - `unasked`: words with a usage error have no order;
 -- - `sent`, `cut`: a refusal's line is written, all of it or a beginning.
-use Rattle.std.proofs.Common.{◌≡◌, ℕ, List, [], Bool, true, codes, Option, Some, None, refl, sym, ap, subst, inl, inr, ◌∙◌}
+use Rattle.std.proofs.Common.{◌≡◌, ℕ, List, [], Bool, true, codes, Option, Some, None, refl, sym, subst, inl, inr, ◌∙◌}
 use Rattle.std.proofs.lemmas.Bool.{true≢false}
 use Rattle.std.specs.Prelude.{IsSome}
 use Rattle.std.specs.Io.KnownBytes.{Appends}
@@ -18,7 +18,7 @@ use Rattle.cilk_commands.specs.declared.reply.Failure.TheVariants as failures
 use Rattle.cilk_messages.specs.declared.words.WordsFault.{WordsFault}
 use Rattle.cilk_messages.specs.declared.words.WordsFault.TheVariants as faults
 use Rattle.cilk_report.proofs.Replies.{IsUsage}
-use Rattle.cilk_commands.proofs.Replying.{keeps}
+use Rattle.cilk_commands.proofs.Replying.{keeps, still_silent}
 use Rattle.cilk_tool.specs.Serving.{Answers, ServesThreads}
 use Rattle.cilk_messages.specs.ThreadsWords.{IsWordsFault, Requested, order_in}
 
@@ -29,23 +29,6 @@ no_memory w (Some asked) = Unjudged (ProgramUnread tt)
 or_no_memory : (w : Surroundings) (asked : Option Requested) (wanted r : Reply) → Answers w asked wanted → IsOrNoMemory wanted r → Answers w asked r
 or_no_memory w asked wanted r h (inl e) = subst (λ (x : Reply). Answers w asked x) (sym e) h
 or_no_memory w asked wanted r h (inr e) = subst (λ (x : Reply). Answers w asked x) (sym e) (no_memory w asked)
-
--- a failure has nothing for standard output
-silent : (f : Failure) → out_text (failure_view f) ≡ []
-silent (failures.Words text) = refl
-silent (failures.Unreadable name) = refl
-silent (failures.Program number place) = refl
-silent (failures.Input number place) = refl
-silent (failures.Run number at) = refl
-silent (failures.Strand number name) = refl
-silent (failures.Script at) = refl
-silent (failures.Trace number at) = refl
-silent (failures.Changed name) = refl
-silent failures.Memory = refl
-
-pub still_silent : (f : Failure) (r : Reply) → IsOrNoMemory (failure_view f) r → out_text r ≡ []
-still_silent f r (inl e) = ap out_text e ∙ silent f
-still_silent f r (inr e) = ap out_text e
 
 pub answered : (words : List Text) (w : Surroundings) (asked : Option Requested) (r : Reply) → order_in words ≡ asked → Answers w asked r
     → Answers w (order_in words) r

@@ -4,7 +4,7 @@
 -- - `Chained`: the frames that the pass over a plan's events keeps;
 -- - `walk`: the pass gives the spawn to the event after the child's `end`;
 -- - `stuck`: the same for the piece of a worker.
-use Rattle.std.proofs.Common.{◌≡◌, ⊎_elim, ℕ, zero, suc, ◌+◌, ◌-◌, ◌<◌, List, [], ◌∷◌, ◌++◌, length, map, Option, Some, None, slice_get, slice_index_or, refl, sym, ap, ◌∙◌, subst, arith, append_assoc, append-nil}
+use Rattle.std.proofs.Common.{◌≡◌, ⊎_elim, ℕ, zero, suc, ◌+◌, ◌-◌, ◌<◌, List, [], ◌∷◌, ◌++◌, length, map, Some, None, slice_get, slice_index_or, refl, sym, ap, ◌∙◌, subst, arith, append_assoc, append-nil}
 use Rattle.std.specs.Option.{option_map}
 use Rattle.std.proofs.lemmas.Option.{slice_get-map}
 use Rattle.cilk_types.specs.declared.event.Event.{Event}
@@ -16,12 +16,11 @@ use Rattle.cilk_tree.specs.declared.mark.Mark.TheVariants.{Begin, End, Sync, Res
 use Rattle.cilk_tree.specs.Marks.{mark_of}
 use Rattle.cilk_tree.specs.Shape as shapes
 use Rattle.cilk_tree.specs.Reach.{resumed_from, awaited}
-use Rattle.cilk_tree.specs.Kinds.{kind_of}
 use Rattle.cilk_tree.specs.Passes.{Waiting, pass}
 use Rattle.cilk_tree.specs.Word.{event, predecessors_of, word_step, resume}
 use Rattle.cilk_tree.specs.declared.event_order.EventOrder.{EventOrder}
 use Rattle.cilk_tree.proofs.Events.{mark_at, return_what, spawn_what}
-use Rattle.cilk_determinacy.specs.Runs.{Deed, Does, Invokes, Ends}
+use Rattle.cilk_determinacy.specs.Runs.{Deed, Invokes}
 use Rattle.cilk_determinacy.specs.Traces.{shape_of}
 use Rattle.cilk_determinacy.specs.FrameEnvs.{FrameEnv}
 use Rattle.cilk_determinacy.specs.Nested.{named}
@@ -30,9 +29,9 @@ use Rattle.cilk_replay.specs.Points.{Point, IsLater, IsFirst, IsReturn}
 use Rattle.cilk_replay.specs.Replays.{ReplayValue, Setting, IsOfProgram, point_at, setting_of}
 use Rattle.cilk_replay.specs.Standing.{IsOutermost, IsSpawned, IsTheOutermost}
 use Rattle.cilk_replay.proofs.Along.{event_order_of}
-use Rattle.cilk_replay.proofs.OfKind.{some_inner, GoesOn, IsOfKind}
-use Rattle.cilk_replay.proofs.Going.{got, here, first, following, within, plan_event, plan_deed}
-use Rattle.cilk_replay.proofs.Resuming.{mark_in, mark_is}
+use Rattle.cilk_replay.proofs.OfKind.{some_inner, GoesOn}
+use Rattle.cilk_replay.proofs.Going.{got, here, first, following, within, plan_event}
+use Rattle.cilk_replay.proofs.Resuming.{IsOfMark, before, deed, mark_in, mark_is}
 use Rattle.cilk_replay.specs.Chains.{ChainValue}
 use Rattle.cilk_shared.specs.Pieces.{PieceValue, grown}
 use Rattle.cilk_shared.specs.Values.{YardValue}
@@ -67,35 +66,7 @@ all_return (shapes.child invocations.Spawn u r) tail next g =
     subst AllReturn (sym (append_assoc (shapes.marks u) (Resume ∷ shapes.marks r) tail))
     (all_return u (Resume ∷ (shapes.marks r ++ tail)) (λ m q. sym (some_inner Resume m q)) (all_return r tail next g))
 
--- ---- the plan's deed, by marks
-
-abbrev IsOfMark : Mark → Deed FrameEnv → Type 0
-IsOfMark Begin d = GoesOn d
-IsOfMark End d = (v : _) × (gone : List _) × (d ≡ Does (Ends v gone))
-IsOfMark Sync d = GoesOn d
-IsOfMark Resume d = GoesOn d
-IsOfMark Spawn d = (w : FrameEnv) × (d ≡ Invokes invocations.Spawn w)
-IsOfMark Call d = (w : FrameEnv) × (d ≡ Invokes invocations.Call w)
-IsOfMark Plain d = GoesOn d
-
-of_mark : (e : Event) (d : Deed FrameEnv) → IsOfKind (kind_of e) d → IsOfMark (mark_of e) d
-of_mark (events.Begin f) d h = h
-of_mark (events.Spawn f) d h = h
-of_mark (events.Call f) d h = h
-of_mark (events.Resume f) d h = h
-of_mark events.Sync d h = h
-of_mark events.End d h = h
-of_mark (events.Read c v) d h = h
-of_mark (events.Write c v) d h = h
-of_mark (events.Create i) d h = h
-of_mark (events.Update i v) d h = h
-of_mark (events.Set i v) d h = h
-of_mark (events.Value i v) d h = h
-of_mark (events.Print v) d h = h
-
-event_there : (o : Option Event) (m : Mark) → option_map mark_of o ≡ Some m → (e : Event) × (o ≡ Some e) × (mark_of e ≡ m)
-event_there None m q = absurd (cc q)
-event_there (Some e) m q = (e, refl, some_inner (mark_of e) m q)
+-- ---- what the pass gives
 
 index_at : (xs : List (List ℕ)) (j : ℕ) (x : List ℕ) → slice_get xs j ≡ Some x → slice_index_or xs j [] ≡ x
 index_at [] j x h = absurd (let z : None ≡ Some x = h in cc z)
@@ -130,34 +101,25 @@ module _ (s : Setting) (h : IsOfProgram s) where
   abbrev Chains : ℕ → List Waiting → Type 0
   Chains i ws = (x : Point FrameEnv) → point_at s i ≡ Some x → Chained x.since ws
 
-  deed : (i : ℕ) (x : Point FrameEnv) (m : Mark) → point_at s i ≡ Some x → slice_get all i ≡ Some m → IsOfMark m x.planned
-  deed i x m is at =
-      let found = event_there (slice_get h.events i) m (sym (slice_get-map mark_of h.events i) ∙ at) in
-      subst (λ n. IsOfMark n x.planned) found.2 (of_mark found.0 x.planned (plan_deed s h i x found.0 is found.1))
-
-  -- the point before one
-  before : (i : ℕ) (y : Point FrameEnv) → point_at s (suc i) ≡ Some y → (x : Point FrameEnv) × (point_at s i ≡ Some x)
-  before i y is = following s h i (let less = within s h (suc i) y is in omega (arith, less))
-
   on : (i : ℕ) (m : Mark) (ws : List Waiting) → slice_get all i ≡ Some m → ((d : Deed FrameEnv) → IsOfMark m d → GoesOn d) → Chains i ws → Chains (suc i) ws
   on i m ws at goes ch y yis =
-      let x = before i y yis in
-      let go = goes (let z = x.0 in z.planned) (deed i x.0 m x.1 at) in
+      let x = before s h i y yis in
+      let go = goes (let z = x.0 in z.planned) (deed s h i x.0 m x.1 at) in
       let later : IsLater x.0 y = (here s h i x.0 x.1).0.goes go.0 go.1 go.2 y yis in
       subst (λ n. Chained n ws) (sym later.since) (ch x.0 x.1)
 
   starts : (i : ℕ) (how : Invocation) (ends : List ℕ) (ws : List Waiting) → slice_get all i ≡ Some (shapes.start_of how)
       → ((d : Deed FrameEnv) → IsOfMark (shapes.start_of how) d → (w : FrameEnv) × (d ≡ Invokes how w)) → Chains i ws → Chains (suc i) (record { how = how; at = suc i; ends = ends } ∷ ws)
   starts i how ends ws at invokes ch y yis =
-      let x = before i y yis in
-      let invoked = invokes (let z = x.0 in z.planned) (deed i x.0 (shapes.start_of how) x.1 at) in
+      let x = before s h i y yis in
+      let invoked = invokes (let z = x.0 in z.planned) (deed s h i x.0 (shapes.start_of how) x.1 at) in
       let child : IsFirst i x.0 how y = (here s h i x.0 x.1).0.starts how invoked.0 invoked.1 y yis in
       (i, x.0, sym child.since, x.1, sym child.since, at, (y.frame, child.started), ch x.0 x.1)
 
   back : (i : ℕ) (y : Point FrameEnv) → slice_get all i ≡ Some End → point_at s (suc i) ≡ Some y → (x : Point FrameEnv) × (point_at s i ≡ Some x) × IsReturn (point_at s) x y
   back i y at yis =
-      let x = before i y yis in
-      let end = deed i x.0 End x.1 at in
+      let x = before s h i y yis in
+      let end = deed s h i x.0 End x.1 at in
       (x.0, x.1, (here s h i x.0 x.1).0.returns end.0 end.1 end.2 y yis)
 
   ends_alone : (i : ℕ) → slice_get all i ≡ Some End → Chains i [] → Chains (suc i) []
