@@ -13,7 +13,11 @@ use Rattle.cilk_workers.specs.ShelfHistories.{ArrivesAt, IsOneStep, LeadsBy, She
 use Rattle.cilk_workers.specs.Shelves.{IsPlaceOf, ShelfValue, place}
 use Rattle.cilk_workers.specs.declared.lock.KeyState.{KeyState}
 use Rattle.cilk_workers.specs.declared.locks.Arrival.{Arrival}
+use Rattle.cilk_workers.specs.declared.activity.Activity.{Activity}
+use Rattle.cilk_workers.specs.declared.activity.Activity.TheVariants as hands
+use Rattle.cilk_workers.specs.declared.activity.ExitReason.TheVariants as finishes
 use Rattle.cilk_workers.specs.declared.locks.Met.{Met}
+use Rattle.cilk_workers.specs.declared.locks.Met.TheVariants as mets
 use Rattle.cilk_workers.specs.declared.lock.KeyState.TheVariants.{Holds, Free}
 use Rattle.cilk_workers.specs.declared.shelf.Place.{Place}
 use Rattle.cilk_workers.specs.declared.shelf.Shelf.{Shelf}
@@ -36,14 +40,29 @@ MakesFor b ps step new =
 abbrev pub TellsSteal : EventOrder → ℕ → ℕ → List (Pass Shelf KeyState) → Bool → List (Pass Shelf KeyState) → Type 0
 TellsSteal s k a ps told new = (b q : ℕ) × IsNumberOf s b q × IsOfBlock s q a × MakesFor b ps (StealsAt q k a told) new
 
--- A piece arrived at the block of its next position, with a chain or without, and nothing else was done with these keys.
-abbrev pub Arrived : EventOrder → PieceValue → Option ChainValue → List (Pass Shelf KeyState) → List (Pass Shelf KeyState) → Type 0
-Arrived s p c ps new =
-    (b q : ℕ) × (a : Arrival) × (met : Met) × IsNumberOf s b q × IsOfBlock s q p.upto × (a.piece ≡ p) × (a.chain ≡ c) × MakesFor b ps (ArrivesAt q a met) new
+-- After an arrival a worker continues with what passes; or it has no work, since its piece waits; or it has ended.
+abbrev pub GoesOnBy : Met → Activity → Type 0
+GoesOnBy (mets.Passes passed) (hands.Holds work) = work ≡ passed
+GoesOnBy mets.Waits (hands.Idle p) = Unit {0}
+GoesOnBy mets.Stopped (hands.Done finishes.Stopped) = Unit {0}
+GoesOnBy _ _ = ⊥
 
--- So did one piece, or nothing was done with these keys.
-abbrev pub ArrivedOnce : EventOrder → List (Pass Shelf KeyState) → List (Pass Shelf KeyState) → Type 0
-ArrivedOnce s ps new = (new ≡ ps) ⊎ ((p : PieceValue) × (c : Option ChainValue) × Arrived s p c ps new)
+-- A piece arrived at the block of its next position, with a chain or without, the worker went on by the answer, and nothing
+-- else was done with these keys.
+abbrev pub Arrived : EventOrder → PieceValue → Option ChainValue → List (Pass Shelf KeyState) → Activity → List (Pass Shelf KeyState) → Type 0
+Arrived s p c ps next new =
+    (b q : ℕ) × (a : Arrival) × (met : Met) × IsNumberOf s b q × IsOfBlock s q p.upto × (a.piece ≡ p) × (a.chain ≡ c) × GoesOnBy met next
+    × MakesFor b ps (ArrivesAt q a met) new
+
+-- a worker without work
+abbrev pub IsIdle : Activity → Type 0
+IsIdle (hands.Idle p) = Unit {0}
+IsIdle _ = ⊥
+
+-- So did one piece; or nothing was done with these keys, and the worker isn't without work.
+abbrev pub ArrivedOnce : EventOrder → List (Pass Shelf KeyState) → Activity → List (Pass Shelf KeyState) → Type 0
+ArrivedOnce s ps next new =
+    ((new ≡ ps) × (IsIdle next → ⊥)) ⊎ ((p : PieceValue) × (c : Option ChainValue) × Arrived s p c ps next new)
 
 module _ {Q A : Type 0} where
   -- the key is of the lock of the shelf at this place, and doesn't hold that

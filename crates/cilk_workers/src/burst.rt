@@ -74,7 +74,7 @@ impl<'a, 'b, N: Naming, R: Wait, G: Gate> WorkerContext<'a, 'b, N, R, G> {
         requires chain { IfSome chain (λ c. c ≡ standing self.now.shared.now.replay piece.upto) }
         requires ends { EndsWhereItWaits (event_order_in self.now.shared.now) piece chain }
         ensures keys { AreKeys self.now.locks.now.items keys.new.items }
-        ensures told { Arrived (event_order_in self.now.shared.now) piece chain keys.old.items keys.new.items }
+        ensures told { Arrived (event_order_in self.now.shared.now) piece chain keys.old.items result keys.new.items }
         ensures hand { IsActivity self.now.shared.now result }
     {
         let shared = self.shared;
@@ -111,7 +111,7 @@ impl<'a, 'b, N: Naming, R: Wait, G: Gate> WorkerContext<'a, 'b, N, R, G> {
         requires keys { AreKeys self.now.locks.now.items tools.old.keys.items }
         requires works { Works self.now.shared.now work }
         ensures keys { AreKeys self.now.locks.now.items tools.new.keys.items }
-        ensures told { ArrivedOnce (event_order_in self.now.shared.now) tools.old.keys.items tools.new.keys.items }
+        ensures told { ArrivedOnce (event_order_in self.now.shared.now) tools.old.keys.items result tools.new.keys.items }
         ensures hand { IsActivity self.now.shared.now result }
     {
         'each: for _ in 0..TURNS {

@@ -5,6 +5,10 @@ use Rattle.cilk_tree.specs.Columns.{IsOfBlock, IsSpawnOf}
 use Rattle.cilk_workers.specs.Shared.{event_order_in}
 use Rattle.cilk_shared.specs.Pieces.{PieceValue}
 use Rattle.cilk_tree.specs.Word.{resume, word_step}
+use Rattle.cilk_workers.specs.declared.activity.Activity.TheVariants as hands
+use Rattle.cilk_workers.specs.declared.activity.ExitReason.TheVariants as finishes
+use Rattle.cilk_workers.specs.declared.locks.Met.{Met}
+use Rattle.cilk_workers.specs.Keys.{GoesOnBy}
 use Rattle.cilk_workers.specs.Boxes.{EndsAtKey, is_some}
 use Rattle.cilk_workers.proofs.Arrivals.{at_key, has_block}
 use Rattle.cilk_workers.proofs.context.WorkerContext.arrived.Goals as goal
@@ -37,15 +41,45 @@ arrive-requires-clause-ends g c =
 
 pub returns-in-Passes-clause-told : goal.returns-in-Passes-clause-told
 returns-in-Passes-clause-told g c =
-    let of = subst (IsOfBlock (event_order_in c.args.self.now.shared.now) c.in-Some.block.sync) c.upto-at.ensures c.in-Some.ensures.block in
-    (c.in-Some.block.number, c.in-Some.block.sync, _, c.arrive.result, c.in-Some.ensures.number, of, c.apart-piece.ensures.first, refl, c.arrive.ensures.made)
+    let of = subst (IsOfBlock (event_order_in c.args.self.now.shared.now) c.in-Some.block.sync) c.upto-at.ensures c.in-Some.ensures.block in (
+      c.in-Some.block.number,
+      c.in-Some.block.sync,
+      _,
+      c.arrive.result,
+      c.in-Some.ensures.number,
+      of,
+      c.apart-piece.ensures.first,
+      refl,
+      subst (λ (m : Met). GoesOnBy m (hands.Holds c.in-Passes.work)) (sym c.in-Passes.is) refl,
+      c.arrive.ensures.made,
+    )
 
 pub returns-in-Waits-clause-told : goal.returns-in-Waits-clause-told
 returns-in-Waits-clause-told g c =
-    let of = subst (IsOfBlock (event_order_in c.args.self.now.shared.now) c.in-Some.block.sync) c.upto-at.ensures c.in-Some.ensures.block in
-    (c.in-Some.block.number, c.in-Some.block.sync, _, c.arrive.result, c.in-Some.ensures.number, of, c.apart-piece.ensures.first, refl, c.arrive.ensures.made)
+    let of = subst (IsOfBlock (event_order_in c.args.self.now.shared.now) c.in-Some.block.sync) c.upto-at.ensures c.in-Some.ensures.block in (
+      c.in-Some.block.number,
+      c.in-Some.block.sync,
+      _,
+      c.arrive.result,
+      c.in-Some.ensures.number,
+      of,
+      c.apart-piece.ensures.first,
+      refl,
+      subst (λ (m : Met). GoesOnBy m (hands.Idle c.apart-piece.result.1)) (sym c.in-Waits.is) tt,
+      c.arrive.ensures.made,
+    )
 
 pub returns-in-Stopped-clause-told : goal.returns-in-Stopped-clause-told
 returns-in-Stopped-clause-told g c =
-    let of = subst (IsOfBlock (event_order_in c.args.self.now.shared.now) c.in-Some.block.sync) c.upto-at.ensures c.in-Some.ensures.block in
-    (c.in-Some.block.number, c.in-Some.block.sync, _, c.arrive.result, c.in-Some.ensures.number, of, c.apart-piece.ensures.first, refl, c.arrive.ensures.made)
+    let of = subst (IsOfBlock (event_order_in c.args.self.now.shared.now) c.in-Some.block.sync) c.upto-at.ensures c.in-Some.ensures.block in (
+      c.in-Some.block.number,
+      c.in-Some.block.sync,
+      _,
+      c.arrive.result,
+      c.in-Some.ensures.number,
+      of,
+      c.apart-piece.ensures.first,
+      refl,
+      subst (λ (m : Met). GoesOnBy m (hands.Done finishes.Stopped)) (sym c.in-Stopped.is) tt,
+      c.arrive.ensures.made,
+    )

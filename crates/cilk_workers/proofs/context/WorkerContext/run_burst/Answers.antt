@@ -23,11 +23,11 @@ each-preserved g c = elim c.match-act.branch [ in-Goes w ↦ search rules | in-O
 
 pub returns-in_default-clause-told : goal.returns-in_default-clause-told
 returns-in_default-clause-told g c =
-    let its = λ (ks : List Key). Arrived (event_order_in c.args.self.now.shared.now) c.into_piece.result None ks c.arrived.new.keys.items in
+    let its = λ (ks : List Key). Arrived (event_order_in c.args.self.now.shared.now) c.into_piece.result None ks c.arrived.result c.arrived.new.keys.items in
     inr (c.into_piece.result, None, subst its c.each.invariant.2 c.arrived.ensures.told)
 
 pub returns-in-Arrives-clause-told : goal.returns-in-Arrives-clause-told
 returns-in-Arrives-clause-told g c =
     let chain = Some c.act.new.work.chain in
-    let its = λ (ks : List Key). Arrived (event_order_in c.args.self.now.shared.now) c.act.new.work.piece chain ks c.arrived-in-Arrives.new.keys.items in
+    let its = λ (ks : List Key). Arrived (event_order_in c.args.self.now.shared.now) c.act.new.work.piece chain ks c.arrived-in-Arrives.result c.arrived-in-Arrives.new.keys.items in
     inr (c.act.new.work.piece, chain, subst its c.each.invariant.2 c.arrived-in-Arrives.ensures.told)
