@@ -78,28 +78,28 @@ from_first P known known' at e d h = let same : option_map (drop at) known' ≡ 
 judged_shown : (path : Text) (known : Option Text) (failed failed' : Failures) (v : Verdict) → IsUnfailed failed failed' path
     → GivesText known (λ text. HasVerdict text v) → JudgeShows path known failed failed' (verdict_view v)
 judged_shown path known failed failed' verdicts.RaceFree none h = (none, h)
-judged_shown path known failed failed' (verdicts.Race p q) none h = (p, q, refl, (h.0, h.1, inl (refl, h.2)))
-judged_shown path known failed failed' (verdicts.ViewRace p q) none h = (p, q, refl, (h.0, h.1, inr (refl, h.2)))
+judged_shown path known failed failed' (verdicts.Race p q) none h = (none, (p, q, refl, (h.0, h.1, inl (refl, h.2))))
+judged_shown path known failed failed' (verdicts.ViewRace p q) none h = (none, (p, q, refl, (h.0, h.1, inr (refl, h.2))))
 
 pub verdict_shown : {F : Type 0} (path : Text) (known : Option Text) (failed : F → Failures) (old new : F) (v : Verdict) (r : Reply) → r ≡ verdict_view v
     → IsUnfailed (failed old) (failed new) path → GivesText known (λ text. HasVerdict text v) → JudgeShows path known (failed old) (failed new) r
 verdict_shown path known failed old new v r e none h =
     subst (λ (x : Reply). JudgeShows path known (failed old) (failed new) x) (sym e) (judged_shown path known (failed old) (failed new) v none h)
 
-unsurveyed_view : (path : Text) (known : Option Text) (failed failed' : Failures) (a b : ℕ) (e : Unjudged) → (a < b → HasFailed path failed failed')
-    → IsUnsurveyed known a b e → JudgeShows path known failed failed' (unjudged_view path e)
-unsurveyed_view path known failed failed' a b (faults.Malformed line) fails h = (h.0, h.1, inl (refl, h.2))
-unsurveyed_view path known failed failed' a b (faults.Truncated line) fails h = (h.0, h.1, inr (refl, h.2))
-unsurveyed_view path known failed failed' a b faults.Changed fails h = absurd h
-unsurveyed_view path known failed failed' a b faults.Unread fails h = (refl, fails h)
-unsurveyed_view path known failed failed' a b faults.Memory fails h = tt
+unsurveyed_view : (path : Text) (known : Option Text) (failed failed' : Failures) (a b : ℕ) (e : Unjudged) → (b ≡ a → IsUnfailed failed failed' path)
+    → (a < b → HasFailed path failed failed') → IsUnsurveyed known a b e → JudgeShows path known failed failed' (unjudged_view path e)
+unsurveyed_view path known failed failed' a b (faults.Malformed line) stays fails h = let t = h.1 in (stays h.0, (t.0, t.1, inl (refl, t.2)))
+unsurveyed_view path known failed failed' a b (faults.Truncated line) stays fails h = let t = h.1 in (stays h.0, (t.0, t.1, inr (refl, t.2)))
+unsurveyed_view path known failed failed' a b faults.Changed stays fails h = absurd h
+unsurveyed_view path known failed failed' a b faults.Unread stays fails h = (refl, fails h)
+unsurveyed_view path known failed failed' a b faults.Memory stays fails h = tt
 
 pub unsurveyed_shown : {F : Type 0} (path : Text) (known known' : Option Text) (at : ℕ) (failed : F → Failures) (old new : F) (a b : ℕ) (e : Unjudged)
-    (r : Reply) → known' ≡ known → at ≡ 0 → r ≡ unjudged_view path e → (a < b → HasFailed path (failed old) (failed new))
-    → IsUnsurveyed (option_map (drop at) known') a b e → JudgeShows path known (failed old) (failed new) r
-unsurveyed_shown path known known' at failed old new a b e r same first is fails h =
+    (r : Reply) → known' ≡ known → at ≡ 0 → r ≡ unjudged_view path e → (b ≡ a → IsUnfailed (failed old) (failed new) path)
+    → (a < b → HasFailed path (failed old) (failed new)) → IsUnsurveyed (option_map (drop at) known') a b e → JudgeShows path known (failed old) (failed new) r
+unsurveyed_shown path known known' at failed old new a b e r same first is stays fails h =
     subst (λ (x : Reply). JudgeShows path known (failed old) (failed new) x) (sym is)
-    (unsurveyed_view path known (failed old) (failed new) a b e fails
+    (unsurveyed_view path known (failed old) (failed new) a b e stays fails
     (from_first (λ k. IsUnsurveyed k a b e) known known' at same first h))
 
 -- a text that is known doesn't change
@@ -127,12 +127,13 @@ unjudged_shown path known known' at failed old new a b first e r same from is he
 
 -- the reply of the second reading
 module _ (path : Text) (known known' : Option Text) (before between after : Failures) (none : IsUnfailed before between path) (same : known' ≡ known) where
+  still : IsUnfailed between after path → IsUnfailed before after path
+  still later = record { count = later.count ∙ none.count; elsewhere = later.elsewhere ∙ none.elsewhere }
+
   as_known : (r : Reply) → JudgeShows path known between after r → JudgeShows path known before after r
-  as_known replies.RaceFree shown =
-      let later = shown.0 in
-      (record { count = later.count ∙ none.count; elsewhere = later.elsewhere ∙ none.elsewhere }, shown.1)
-  as_known (replies.Refused number places) shown = shown
-  as_known (replies.BadTrace number at) shown = shown
+  as_known replies.RaceFree shown = (still shown.0, shown.1)
+  as_known (replies.Refused number places) shown = (still shown.0, shown.1)
+  as_known (replies.BadTrace number at) shown = (still shown.0, shown.1)
   as_known (replies.Changed name) shown = shown
   as_known (replies.Unreadable name) shown =
       (shown.0, (subst (λ (n : ℕ). n < after.count) none.count shown.1.0, shown.1.1 ∙ none.elsewhere))

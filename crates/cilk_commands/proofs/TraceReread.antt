@@ -101,23 +101,24 @@ whole_given known left ls p le end e r = (
       ∙ ap (λ (l : List Line). record { lines = l; fault = None }) (append-nil ls)),
 )
 
-by_fault : (known : Option (List ℕ)) (ls : List Line) (a b : ℕ) (fault : TraceFault) → IsTextFault known ls fault → IsUnreadAfter known ls a b (told fault)
-by_fault known ls a b (text_faults.Malformed line) h = h
-by_fault known ls a b (text_faults.Truncated line) h = h
+by_fault : (known : Option (List ℕ)) (ls : List Line) (a b : ℕ) (fault : TraceFault) → b ≡ a → IsTextFault known ls fault
+    → IsUnreadAfter known ls a b (told fault)
+by_fault known ls a b (text_faults.Malformed line) same h = (same, h)
+by_fault known ls a b (text_faults.Truncated line) same h = (same, h)
 
 -- and has ended too early
-pub end_given : (known left : Option (List ℕ)) (ls : List Line) (p : Pieces) (fault : TraceFault) (a b : ℕ) → p.end ≤ p.at → IsAtEnd left
+pub end_given : (known left : Option (List ℕ)) (ls : List Line) (p : Pieces) (fault : TraceFault) (a b : ℕ) → b ≡ a → p.end ≤ p.at → IsAtEnd left
     → ahead p.reader [] ≡ stops fault → IsReading known left ls p → IsUnreadAfter known ls a b (told fault)
-end_given known left ls p fault a b le end e r =
-    by_fault known ls a b fault (
+end_given known left ls p fault a b same le end e r =
+    by_fault known ls a b fault same (
       r.pulled,
       gives_all known left r.pulled r.taken end,
       read_to_end ls p r.pulled (stops fault) le e r.read ∙ ap (λ (l : List Line). record { lines = l; fault = Some fault }) (append-nil ls),
     )
 
 -- a fault of every text that begins with the bytes that were taken
-pub fault_given : (known left : Option (List ℕ)) (ls : List Line) (p : Pieces) (fault : TraceFault) (a b : ℕ)
+pub fault_given : (known left : Option (List ℕ)) (ls : List Line) (p : Pieces) (fault : TraceFault) (a b : ℕ) → b ≡ a
     → ((text : List ℕ) (ks : List Line) → HasRead text ks p → StopsAt text ks fault) → IsReading known left ls p → IsUnreadAfter known ls a b (told fault)
-fault_given known left ls p fault a b law r =
+fault_given known left ls p fault a b same law r =
     let g = gives_more known left r.pulled r.taken in
-    by_fault known ls a b fault (r.pulled ++ g.0, g.1, law r.pulled ls r.read g.0)
+    by_fault known ls a b fault same (r.pulled ++ g.0, g.1, law r.pulled ls r.read g.0)

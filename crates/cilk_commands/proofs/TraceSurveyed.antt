@@ -31,9 +31,9 @@ begins_read text ls fault e b = subst BeginsTrace (sym (ap (λ (r : Reading). r.
 pub unsurveyed : (known : Option (List ℕ)) (ls : List Line) (v : Survey) (a b : ℕ) (e : Unjudged) → IsSurvey ls v → IsUnreadAfter known ls a b e
     → IsUnsurveyed known a b e
 unsurveyed known ls v a b (faults.Malformed line) s h =
-    (h.0, h.1, inl (ap (λ (r : Reading). r.fault) h.2, begins_read h.0 ls _ h.2 (begins_trace ls v s)))
+    let t = h.1 in (h.0, (t.0, t.1, inl (ap (λ (r : Reading). r.fault) t.2, begins_read t.0 ls _ t.2 (begins_trace ls v s))))
 unsurveyed known ls v a b (faults.Truncated line) s h =
-    (h.0, h.1, record { cut = ap (λ (r : Reading). r.fault) h.2; begins = begins_read h.0 ls _ h.2 (begins_trace ls v s) })
+    let t = h.1 in (h.0, (t.0, t.1, record { cut = ap (λ (r : Reading). r.fault) t.2; begins = begins_read t.0 ls _ t.2 (begins_trace ls v s) }))
 unsurveyed known ls v a b faults.Changed s h = h
 unsurveyed known ls v a b faults.Unread s h = h
 unsurveyed known ls v a b faults.Memory s h = tt
@@ -93,8 +93,8 @@ fault_changed known text all ls fault t h e =
 
 pub again_fault : (known : Option (List ℕ)) (text : List ℕ) (all ls : List Line) (a b : ℕ) (e : Unjudged) → IsTraceText text all
     → IsUnreadAfter known ls a b e → IsUnjudgedAgain text known a b (again e)
-again_fault known text all ls a b (faults.Malformed line) t h = fault_changed known text all ls _ t h
-again_fault known text all ls a b (faults.Truncated line) t h = fault_changed known text all ls _ t h
+again_fault known text all ls a b (faults.Malformed line) t h = fault_changed known text all ls _ t h.1
+again_fault known text all ls a b (faults.Truncated line) t h = fault_changed known text all ls _ t h.1
 again_fault known text all ls a b faults.Changed t h = absurd h
 again_fault known text all ls a b faults.Unread t h = h
 again_fault known text all ls a b faults.Memory t h = tt

@@ -16,18 +16,18 @@ told (text_faults.Truncated line) = faults.Truncated line
 abbrev pub IsTextFault : Option (List ℕ) → List Line → TraceFault → Type 0
 IsTextFault known ls fault = GivesText known (λ text. reading_of text ≡ record { lines = ls; fault = Some fault })
 
--- Why no next line was read after these; `failed` and `failed'` are the failed pulls before and after.
+-- Why no next line was read after these; `failed` and `failed'` are the failed pulls before and after. At a fault of the text none failed.
 abbrev pub IsUnreadAfter : Option (List ℕ) → List Line → ℕ → ℕ → Unjudged → Type 0
-IsUnreadAfter known ls failed failed' (faults.Malformed line) = IsTextFault known ls (text_faults.Malformed line)
-IsUnreadAfter known ls failed failed' (faults.Truncated line) = IsTextFault known ls (text_faults.Truncated line)
+IsUnreadAfter known ls failed failed' (faults.Malformed line) = (failed' ≡ failed) × IsTextFault known ls (text_faults.Malformed line)
+IsUnreadAfter known ls failed failed' (faults.Truncated line) = (failed' ≡ failed) × IsTextFault known ls (text_faults.Truncated line)
 IsUnreadAfter known ls failed failed' faults.Changed = ⊥
 IsUnreadAfter known ls failed failed' faults.Unread = failed < failed'
 IsUnreadAfter known ls failed failed' faults.Memory = Unit {0}
 
--- Why the first reading of a source fails: the text's first fault, a pull that failed, or memory.
+-- Why the first reading of a source fails: the text's first fault, where no pull failed, a pull that failed, or memory.
 abbrev pub IsUnsurveyed : Option (List ℕ) → ℕ → ℕ → Unjudged → Type 0
-IsUnsurveyed known failed failed' (faults.Malformed line) = GivesText known (λ text. IsMalformedAt text line)
-IsUnsurveyed known failed failed' (faults.Truncated line) = GivesText known (λ text. IsTruncatedAt text line)
+IsUnsurveyed known failed failed' (faults.Malformed line) = (failed' ≡ failed) × GivesText known (λ text. IsMalformedAt text line)
+IsUnsurveyed known failed failed' (faults.Truncated line) = (failed' ≡ failed) × GivesText known (λ text. IsTruncatedAt text line)
 IsUnsurveyed known failed failed' faults.Changed = ⊥
 IsUnsurveyed known failed failed' faults.Unread = failed < failed'
 IsUnsurveyed known failed failed' faults.Memory = Unit {0}

@@ -1,6 +1,5 @@
 -- The replies of `serve_explained`.
 --
--- - `ended`, `failed`: an answer to an order, or a failure, is shown as `serve` shows it;
 -- - `refused`: the command line isn't valid;
 -- - `asked_for`: the answer to an order is the answer to its words;
 -- - `starved`, `starved_or_settled`: out of memory;
@@ -8,9 +7,10 @@
 -- - `silence`: nothing follows;
 -- - `unasked`: words with a usage error have no order;
 -- - `of_kept`: a call of `keep` changes nothing that is stated of the files;
--- - `reread`: a reply after which a trace is read again doesn't depend on failed reads.
-use Rattle.std.proofs.Common.{◌≡◌, ℕ, Bool, true, false, Option, Some, None, [], List, refl, sym, ap, subst, ◌∙◌}
-use Rattle.cilk_report.specs.Explained.{Follows, IsReadAgain, Served, ServesExplained, Settling}
+-- - `answered`, `complained`: an answer to an order, or a failure, is shown as `serve` shows it, and a text follows;
+-- - `silent`: a reply that no text follows.
+use Rattle.std.proofs.Common.{◌≡◌, ℕ, Bool, true, false, Option, Some, None, [], List, refl, sym, ap, subst, ◌∙◌, inl, inr}
+use Rattle.cilk_report.specs.Explained.{Follows, IsReadAgain, Served, ServesExplained, ServesThenExplains, Settling}
 use Rattle.cilk_messages.specs.Asked.{explains_itself}
 use Rattle.cilk_commands.proofs.Replying.{ends, fails, keeps, no_memory}
 use Rattle.cilk_commands.specs.Files.{Failures}
@@ -21,21 +21,6 @@ use Rattle.cilk_messages.specs.declared.words.WordsFault.{WordsFault}
 use Rattle.cilk_messages.specs.declared.words.WordsFault.TheVariants as faults
 use Rattle.cilk_commands.specs.declared.reply.Failure.{Failure}
 use Rattle.cilk_commands.specs.declared.reply.Failure.TheVariants as failures
-
-pub ended : (words : List Text) (w : Surroundings) (asked : Option Requested) (wanted : Reply) (status status' : ℕ) (told : Bool) (o o' e e' : Option Text)
-    → order_in words ≡ asked → Answers w asked wanted → (r : Reply) × IsOrNoMemory wanted r × Shows r status told o o' e e'
-    → status' ≡ status → Serves words w status' told o o' e e'
-ended words w asked wanted status status' told o o' e e' order h shown same =
-    subst (λ (s : ℕ). Serves words w s told o o' e e') (sym same)
-    (ends words w wanted status told o o' e e' (subst (λ (a : Option Requested). Answers w a wanted) (sym order) h) shown)
-
-pub failed : (words : List Text) (w : Surroundings) (asked : Option Requested) (f : Failure) (status status' : ℕ) (told : Bool) (o e e' : Option Text)
-    → order_in words ≡ asked → Answers w asked (failure_view f)
-    → (r : Reply) × IsOrNoMemory (failure_view f) r × (status ≡ status_of r) × ShowsError r told e e'
-    → status' ≡ status → Serves words w status' told o o e e'
-failed words w asked f status status' told o e e' order h shown same =
-    subst (λ (s : ℕ). Serves words w s told o o e e') (sym same)
-    (fails words w f status told o e e' (subst (λ (a : Option Requested). Answers w a (failure_view f)) (sym order) h) shown)
 
 pub refused : (words : List Text) (w : Surroundings) (f : Failure) (status : ℕ) (told : Bool) (o e e' : Option Text)
     → order_in words ≡ None → WordsFail (failure_view f)
@@ -52,10 +37,15 @@ starved words w status told o e e' shown = fails words w failures.Memory status 
 pub silence : (status : ℕ) (e : Option Text) → Follows status e e
 silence status e = (([], true, keeps e), λ _. refl)
 
+pub silent : (words : List Text) (files : Text → Option Text) (input : Option Text) (failed failed' : Failures) (status : ℕ) (told : Bool)
+    (o o' e e' : Option Text) → Serves words (world files input failed failed') status told o o' e e'
+    → ServesThenExplains words files input failed failed' status o o' e e'
+silent words files input failed failed' status told o o' e e' served = (e', told, failed', served, λ _. refl, silence status e')
+
 module _ (words : List Text) (files : Text → Option Text) (input : Option Text) (failed failed' : Failures) (status : ℕ) (told : Bool)
     (o e e' : Option Text) (shown : (r : Reply) × IsOrNoMemory (failure_view failures.Memory) r × (status ≡ status_of r) × ShowsError r told e e') where
   either : (b : Bool) → explains_itself (order_in words) ≡ b → ServesExplained words files input failed failed' status o o e e'
-  either true is = Settling is (e', told, starved words (world files input failed failed') status told o e e' shown, silence status e')
+  either true is = Settling is (silent words files input failed failed' status told o o e e' (starved words (world files input failed failed') status told o e e' shown))
   either false is = Served told is (starved words (world files input failed failed') status told o e e' shown)
 
   pub starved_or_settled : ServesExplained words files input failed failed' status o o e e'
@@ -89,34 +79,55 @@ of_kept P files files' failed failed' unfailed same h =
 pub asked_for : (words : List Text) (w : Surroundings) (asked : Option Requested) (r : Reply) → order_in words ≡ asked → Answers w asked r → Answers w (order_in words) r
 asked_for words w asked r order h = subst (λ (a : Option Requested). Answers w a r) (sym order) h
 
--- a reply after which a trace is read again doesn't depend on failed reads
-module _ (files : Text → Option Text) (input : Option Text) (failed reached failed' : Failures) where
-  carried : (asked : Option Requested) (r : Reply) → failed' ≡ reached → Answers (world files input failed reached) asked r
-      → Answers (world files input failed failed') asked r
-  carried asked r same h = subst (λ (f : Failures). Answers (world files input failed f) asked r) (sym same) h
+-- A trace may be read again after a reply that is out of memory.
+again : (asked : Option Requested) (wanted r : Reply) (P : Type 0) → IsOrNoMemory wanted r → ((IsReadAgain asked wanted → ⊥) → P)
+    → (IsReadAgain asked r → ⊥) → P
+again asked wanted r P (inl e) h not = h (λ yes. not (subst (λ (x : Reply). IsReadAgain asked x) (sym e) yes))
+again asked wanted r P (inr e) h not = starving asked h (λ yes. not (subst (λ (x : Reply). IsReadAgain asked x) (sym e) yes))
+  where
+    starving : (asked : Option Requested) → ((IsReadAgain asked wanted → ⊥) → P) → (IsReadAgain asked NoMemory → ⊥) → P
+    starving None h not = h (λ x. x)
+    starving (Some (Run program numbers)) h not = h (λ x. x)
+    starving (Some (Certify program numbers)) h not = h (λ x. x)
+    starving (Some (Check program certificate numbers)) h not = h (λ x. x)
+    starving (Some (Play program script workers numbers)) h not = h (λ x. x)
+    starving (Some (Settle program numbers)) h not = h (λ x. x)
+    starving (Some (Judge trace sites)) h not = absurd (not tt)
 
-  pub reread : (asked : Option Requested) (r : Reply) → ((IsReadAgain asked r → ⊥) → failed' ≡ reached) → Answers (world files input failed reached) asked r
-      → Answers (world files input failed failed') asked r
-  reread None r same h = carried None r (same (λ x. x)) h
-  reread (Some (Run program numbers)) r same h = carried (Some (Run program numbers)) r (same (λ x. x)) h
-  reread (Some (Certify program numbers)) r same h = carried (Some (Certify program numbers)) r (same (λ x. x)) h
-  reread (Some (Check program certificate numbers)) r same h = carried (Some (Check program certificate numbers)) r (same (λ x. x)) h
-  reread (Some (Play program script workers numbers)) r same h = carried (Some (Play program script workers numbers)) r (same (λ x. x)) h
-  reread (Some (Settle program numbers)) r same h = carried (Some (Settle program numbers)) r (same (λ x. x)) h
-  reread (Some (Judge trace sites)) (Refused number places) same h = h
-  reread (Some (Judge trace sites)) (BadTrace number at) same h = h
-  reread (Some (Judge trace sites)) BadWords same h = carried (Some (Judge trace sites)) BadWords (same (λ x. x)) h
-  reread (Some (Judge trace sites)) (Unreadable name) same h = carried (Some (Judge trace sites)) (Unreadable name) (same (λ x. x)) h
-  reread (Some (Judge trace sites)) (BadProgram number place) same h = carried (Some (Judge trace sites)) (BadProgram number place) (same (λ x. x)) h
-  reread (Some (Judge trace sites)) (BadInput number place) same h = carried (Some (Judge trace sites)) (BadInput number place) (same (λ x. x)) h
-  reread (Some (Judge trace sites)) (Faulted number at) same h = carried (Some (Judge trace sites)) (Faulted number at) (same (λ x. x)) h
-  reread (Some (Judge trace sites)) (FaultedIn number name) same h = carried (Some (Judge trace sites)) (FaultedIn number name) (same (λ x. x)) h
-  reread (Some (Judge trace sites)) (BadScript at) same h = carried (Some (Judge trace sites)) (BadScript at) (same (λ x. x)) h
-  reread (Some (Judge trace sites)) (Ended names outcome) same h = carried (Some (Judge trace sites)) (Ended names outcome) (same (λ x. x)) h
-  reread (Some (Judge trace sites)) (Certified certificate) same h = carried (Some (Judge trace sites)) (Certified certificate) (same (λ x. x)) h
-  reread (Some (Judge trace sites)) Accepted same h = carried (Some (Judge trace sites)) Accepted (same (λ x. x)) h
-  reread (Some (Judge trace sites)) NotEnded same h = carried (Some (Judge trace sites)) NotEnded (same (λ x. x)) h
-  reread (Some (Judge trace sites)) (Settled names outcome) same h = carried (Some (Judge trace sites)) (Settled names outcome) (same (λ x. x)) h
-  reread (Some (Judge trace sites)) RaceFree same h = carried (Some (Judge trace sites)) RaceFree (same (λ x. x)) h
-  reread (Some (Judge trace sites)) (Changed name) same h = carried (Some (Judge trace sites)) (Changed name) (same (λ x. x)) h
-  reread (Some (Judge trace sites)) NoMemory same h = carried (Some (Judge trace sites)) NoMemory (same (λ x. x)) h
+module _ (words : List Text) (files : Text → Option Text) (input : Option Text) (failed reached failed' : Failures) (asked : Option Requested)
+    (order : order_in words ≡ asked) where
+  since : (wanted r : Reply) → IsOrNoMemory wanted r → ((IsReadAgain asked wanted → ⊥) → failed' ≡ reached)
+      → (IsReadAgain (order_in words) r → ⊥) → failed' ≡ reached
+  since wanted r either rest not =
+      again asked wanted r (failed' ≡ reached) either rest (λ yes. not (subst (λ (a : Option Requested). IsReadAgain a r) (sym order) yes))
+
+  pub answered : (wanted : Reply) (status status' : ℕ) (told : Bool) (o o' e e' e'' : Option Text)
+      → Answers (world files input failed reached) asked wanted → (r : Reply) × IsOrNoMemory wanted r × Shows r status told o o' e e'
+      → status' ≡ status → ((IsReadAgain asked wanted → ⊥) → failed' ≡ reached) → Follows status' e' e''
+      → ServesThenExplains words files input failed failed' status' o o' e e''
+  answered wanted status status' told o o' e e' e'' h shown same rest follows =
+      let w = world files input failed reached in
+      subst (λ (s : ℕ). ServesThenExplains words files input failed failed' s o o' e e'') (sym same) (
+        e',
+        told,
+        reached,
+        ends words w wanted status told o o' e e' (asked_for words w asked wanted order h) shown,
+        since wanted shown.0 shown.1 rest,
+        subst (λ (s : ℕ). Follows s e' e'') same follows,
+      )
+
+  pub complained : (f : Failure) (status status' : ℕ) (told : Bool) (o e e' e'' : Option Text)
+      → Answers (world files input failed reached) asked (failure_view f)
+      → (r : Reply) × IsOrNoMemory (failure_view f) r × (status ≡ status_of r) × ShowsError r told e e'
+      → status' ≡ status → ((IsReadAgain asked (failure_view f) → ⊥) → failed' ≡ reached) → Follows status' e' e''
+      → ServesThenExplains words files input failed failed' status' o o e e''
+  complained f status status' told o e e' e'' h shown same rest follows =
+      let w = world files input failed reached in
+      subst (λ (s : ℕ). ServesThenExplains words files input failed failed' s o o e e'') (sym same) (
+        e',
+        told,
+        reached,
+        fails words w f status told o e e' (asked_for words w asked (failure_view f) order h) shown,
+        since (failure_view f) shown.0 shown.1 rest,
+        subst (λ (s : ℕ). Follows s e' e'') same follows,
+      )

@@ -33,6 +33,7 @@ IsTraceFault _ = ⊥
 abbrev pub IsReadAgain : Option Requested → Reply → Type 0
 IsReadAgain (Some (Judge trace sites)) (Refused number places) = Unit {0}
 IsReadAgain (Some (Judge trace sites)) (BadTrace number at) = Unit {0}
+IsReadAgain (Some (Judge trace sites)) NoMemory = Unit {0}
 IsReadAgain _ _ = ⊥
 
 -- some text follows the old one, all of it or a beginning
@@ -60,13 +61,14 @@ WritesText text status out out' err err' =
     ((status ≡ 0) × Appends out out' text × (err' ≡ err))
     ⊎ ((status ≡ 2) × AppendsPart out out' text × ((told : Bool) × AppendsFront told err err' (line (codes "cannot write"))))
 
--- the reply of `serve` to these words, then a text on standard error; all failed reads of files are
--- those of `serve`, but for a trace that is read again for the text
+-- The reply of `serve` to these words, then a text on standard error. `reached` are the failed reads of files up to the reply: no later
+-- read fails, but of a trace that is read again for the text.
 abbrev pub ServesThenExplains : List Text → (Text → Option Text) → Option Text → Failures → Failures → ℕ
     → Option Text → Option Text → Option Text → Option Text → Type 0
 ServesThenExplains words files input failed failed' status out out' err err' =
-    (middle : Option Text) × (told : Bool) × Serves words (world files input failed failed') status told out out' err middle
-    × Follows status middle err'
+    (middle : Option Text) × (told : Bool) × (reached : Failures)
+    × (served : Serves words (world files input failed reached) status told out out' err middle)
+    × ((IsReadAgain (order_in words) served.0 → ⊥) → failed' ≡ reached) × Follows status middle err'
 
 -- a reply other than the outcome of a run
 abbrev pub IsNoOutcome : Reply → Type 0

@@ -1,5 +1,5 @@
-use Rattle.std.proofs.Common.{subst, sym}
-use Rattle.cilk_report.proofs.Replies.{IsUsage, asked_for, ended, failed, refused, silence, starved, unasked}
+use Rattle.std.proofs.Common.{Some, refl, subst, sym}
+use Rattle.cilk_report.proofs.Replies.{IsUsage, answered, asked_for, complained, refused, silent, starved, unasked}
 use Rattle.std.specs.String.{string_bytes}
 use Rattle.cilk_report.specs.Explained.{Checked, IsRace, IsStealingScript, Told}
 use Rattle.cilk_commands.specs.Replies.{answer_view}
@@ -20,43 +20,27 @@ returns-in-Ok-Some-clause-shown g c =
     c.tell_text.ensures
 
 pub returns-in-Ok-None-clause-shown : goal.returns-in-Ok-None-clause-shown
-returns-in-Ok-None-clause-shown g c = Checked (
-  g.E.Write.contents c.show-served.new.err,
-  c.show-served.result.told,
-  ended _ _ _ _ _ _ _ _ _ _ _ c.in-Ok.ensures.order c.in-Ok-carry_out.ensures.answer c.show-served.ensures c.follow.ensures.status,
-  c.follow.ensures.follows,
-)
+returns-in-Ok-None-clause-shown g c =
+    Checked (answered _ (g.F.Files.holds c.args.files.now) (g.R.CountedRead.remaining c.args.input.now) (g.F.Files.failed c.args.files.now) _ _
+    (Some (order_view c.in-Ok.order)) c.in-Ok.ensures.order (answer_view c.in-Ok-carry_out.answer) _ _ c.show-served.result.told _ _ _ _ _
+    c.in-Ok-carry_out.ensures.answer c.show-served.ensures c.follow.ensures.status (λ _. refl) c.follow.ensures.follows)
 
 pub returns-in-Ok-carry_out-clause-shown : goal.returns-in-Ok-carry_out-clause-shown
-returns-in-Ok-carry_out-clause-shown g c = Checked (
-  g.E.Write.contents c.complain.new.err,
-  c.complain.result.told,
-  starved _ _ _ _ _ _ _ c.complain.ensures,
-  silence _ _,
-)
+returns-in-Ok-carry_out-clause-shown g c =
+    Checked (silent _ _ _ _ _ _ c.complain.result.told _ _ _ _ (starved _ _ _ _ _ _ _ c.complain.ensures))
 
 pub returns-in-Ok-clause-shown : goal.returns-in-Ok-clause-shown
-returns-in-Ok-clause-shown g c = Checked (
-  g.E.Write.contents c.complain-served.new.err,
-  c.complain-served.result.told,
-  failed _ _ _ _ _ _ _ _ _ _ c.in-Ok.ensures.order c.in-Err.ensures.failure c.complain-served.ensures c.follow-in-Err.ensures.status,
-  c.follow-in-Err.ensures.follows,
-)
+returns-in-Ok-clause-shown g c =
+    Checked (complained _ (g.F.Files.holds c.args.files.now) (g.R.CountedRead.remaining c.args.input.now) (g.F.Files.failed c.args.files.now) _ _
+    (Some (order_view c.in-Ok.order)) c.in-Ok.ensures.order c.in-Err.failure _ _ c.complain-served.result.told _ _ _ _
+    c.in-Err.ensures.failure c.complain-served.ensures c.follow-in-Err.ensures.status (λ _. refl) c.follow-in-Err.ensures.follows)
 
 pub returns-in-Err-Usage-clause-shown : goal.returns-in-Err-Usage-clause-shown
-returns-in-Err-Usage-clause-shown g c = Checked (
-  g.E.Write.contents c.complain-in-Err-Usage.new.err,
-  c.complain-in-Err-Usage.result.told,
-  refused _ _ c.wrong_words.result _ _ _ _ _
-      (unasked _ _ (subst (λ (e : WordsFault). IsUsage e) (sym c.in-Err-Usage.field-0-is) tt) c.in-Err-Usage.ensures.fault)
-      c.wrong_words.ensures c.complain-in-Err-Usage.ensures,
-  silence _ _,
-)
+returns-in-Err-Usage-clause-shown g c =
+    Checked (silent _ _ _ _ _ _ c.complain-in-Err-Usage.result.told _ _ _ _ (refused _ _ c.wrong_words.result _ _ _ _ _
+    (unasked _ _ (subst (λ (e : WordsFault). IsUsage e) (sym c.in-Err-Usage.field-0-is) tt) c.in-Err-Usage.ensures.fault)
+    c.wrong_words.ensures c.complain-in-Err-Usage.ensures))
 
 pub returns-clause-shown : goal.returns-clause-shown
-returns-clause-shown g c = Checked (
-  g.E.Write.contents c.complain-in-Err-Memory.new.err,
-  c.complain-in-Err-Memory.result.told,
-  starved _ _ _ _ _ _ _ c.complain-in-Err-Memory.ensures,
-  silence _ _,
-)
+returns-clause-shown g c =
+    Checked (silent _ _ _ _ _ _ c.complain-in-Err-Memory.result.told _ _ _ _ (starved _ _ _ _ _ _ _ c.complain-in-Err-Memory.ensures))

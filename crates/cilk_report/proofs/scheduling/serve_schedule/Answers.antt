@@ -1,5 +1,5 @@
 use Rattle.std.proofs.Common.{List, ap, subst, sym, ◌∙◌}
-use Rattle.cilk_report.proofs.Replies.{silence, starved}
+use Rattle.cilk_report.proofs.Replies.{silent, starved}
 use Rattle.cilk_report.proofs.Standard.{some_check, some_words}
 use Rattle.cilk_report.specs.Explained.{Checked, Schedules}
 use Rattle.cilk_commands.specs.Replies.{Text}
@@ -13,12 +13,8 @@ returns-in-Ok-clause-shown g c =
     (g.E.Write.contents c.args.err.now) (g.E.Write.contents c.serve_checked.new.err)) (ap texts c.as_slice.ensures.value ∙ c.in-Ok.ensures) c.serve_checked.ensures.shown
 
 pub returns-in-Err-clause-shown : goal.returns-in-Err-clause-shown
-returns-in-Err-clause-shown g c = Checked (
-  g.E.Write.contents c.complain.new.err,
-  c.complain.result.told,
-  starved _ _ _ _ _ _ _ c.complain.ensures,
-  silence _ _,
-)
+returns-in-Err-clause-shown g c =
+    Checked (silent _ _ _ _ _ _ c.complain.result.told _ _ _ _ (starved _ _ _ _ _ _ _ c.complain.ensures))
 
 pub returns-in-Ok-clause-untouched : goal.returns-in-Ok-clause-untouched
 returns-in-Ok-clause-untouched g c =

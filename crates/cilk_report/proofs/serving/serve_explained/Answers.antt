@@ -3,7 +3,7 @@ use Rattle.std.proofs.lemmas.Bool.{true≢false}
 use Rattle.cilk_report.proofs.About.{unanswered}
 use Rattle.cilk_report.proofs.Batches as batches
 use Rattle.cilk_report.proofs.Measuring as measuring
-use Rattle.cilk_report.proofs.Replies.{IsUsage, of_kept, other, silence, starved, starved_or_settled, unasked, yes}
+use Rattle.cilk_report.proofs.Replies.{IsUsage, of_kept, other, silence, silent, starved, starved_or_settled, unasked, yes}
 use Rattle.cilk_report.proofs.Standard.{some_left, some_words}
 use Rattle.cilk_report.specs.Explained.{Checked, Measures, Schedules, Served, ServesExplained, ServesThenExplains, Settles, Settling}
 use Rattle.cilk_messages.specs.Asked.{explains_itself, unflagged, words_of_check}
@@ -50,12 +50,8 @@ returns-in-Err-Usage-clause-explained g c = λ _ isnt other settles about less.
     (g.E.Write.contents c.serve_other.new.err)) _ _ _ _ c.keep-in-Err-Usage.ensures.failures c.keep-in-Err-Usage.ensures.same (c.serve_other.ensures.explained isnt other settles about less)
 
 pub returns-in-Err-Memory-clause-explained : goal.returns-in-Err-Memory-clause-explained
-returns-in-Err-Memory-clause-explained g c = λ _ _ _ _ _ _. (
-  g.E.Write.contents c.complain.new.err,
-  c.complain.result.told,
-  starved _ _ _ _ _ _ _ c.complain.ensures,
-  silence _ _,
-)
+returns-in-Err-Memory-clause-explained g c =
+    λ _ _ _ _ _ _. silent _ _ _ _ _ _ c.complain.result.told _ _ _ _ (starved _ _ _ _ _ _ _ c.complain.ensures)
 
 pub returns-in-Ok-2-clause-scheduled : goal.returns-in-Ok-2-clause-scheduled
 returns-in-Ok-2-clause-scheduled g c = λ empty _ _. absurd (measuring.asked _ _ c.in-Ok.ensures.order empty)
@@ -67,12 +63,8 @@ returns-in-Err-Usage-clause-scheduled g c = λ _ isnt schedules.
     (g.E.Write.contents c.serve_other.new.err)) _ _ _ _ c.keep-in-Err-Usage.ensures.failures c.keep-in-Err-Usage.ensures.same (c.serve_other.ensures.scheduled isnt schedules)
 
 pub returns-in-Err-Memory-clause-scheduled : goal.returns-in-Err-Memory-clause-scheduled
-returns-in-Err-Memory-clause-scheduled g c = λ _ _ _. Checked (
-  g.E.Write.contents c.complain.new.err,
-  c.complain.result.told,
-  starved _ _ _ _ _ _ _ c.complain.ensures,
-  silence _ _,
-)
+returns-in-Err-Memory-clause-scheduled g c =
+    λ _ _ _. Checked (silent _ _ _ _ _ _ c.complain.result.told _ _ _ _ (starved _ _ _ _ _ _ _ c.complain.ensures))
 
 pub returns-in-Ok-2-clause-settled : goal.returns-in-Ok-2-clause-settled
 returns-in-Ok-2-clause-settled g c = λ yes.
@@ -83,12 +75,8 @@ returns-in-Err-Usage-clause-settled g c = λ yes.
     absurd (true≢false (sym yes ∙ ap explains_itself (unasked _ _ (subst (λ (e : WordsFault). IsUsage e) (sym c.in-Err-Usage.field-0-is) tt) c.in-Err-Usage.ensures-1.fault)))
 
 pub returns-in-Err-Memory-clause-settled : goal.returns-in-Err-Memory-clause-settled
-returns-in-Err-Memory-clause-settled g c = λ _. (
-  g.E.Write.contents c.complain.new.err,
-  c.complain.result.told,
-  starved _ _ _ _ _ _ _ c.complain.ensures,
-  silence _ _,
-)
+returns-in-Err-Memory-clause-settled g c =
+    λ _. silent _ _ _ _ _ _ c.complain.result.told _ _ _ _ (starved _ _ _ _ _ _ _ c.complain.ensures)
 
 pub returns-in-Ok-clause-served : goal.returns-in-Ok-clause-served
 returns-in-Ok-clause-served g c =

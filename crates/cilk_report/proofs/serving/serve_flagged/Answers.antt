@@ -2,7 +2,7 @@ use Rattle.std.proofs.Common.{Some, subst, sym}
 use Rattle.cilk_commands.specs.Replies.{answer_view, failure_view}
 use Rattle.cilk_commands.proofs.Workers.{read_workers}
 use Rattle.cilk_messages.specs.Words.{order_view, texts}
-use Rattle.cilk_report.proofs.Replies.{IsUsage, ended, failed, refused, reread, silence, starved, unasked}
+use Rattle.cilk_report.proofs.Replies.{IsUsage, answered, complained, refused, silent, starved, unasked}
 use Rattle.cilk_messages.specs.declared.words.WordsFault.{WordsFault}
 use Rattle.cilk_report.proofs.serving.serve_flagged.Goals as goal
 
@@ -16,37 +16,23 @@ pub failed-requires : goal.failed-requires
 failed-requires g c = read_workers (texts c.args.words.now) (order_view c.in-Ok.order) c.in-Ok.ensures.order
 
 pub returns-in-Ok-carry_out-clause-shown : goal.returns-in-Ok-carry_out-clause-shown
-returns-in-Ok-carry_out-clause-shown g c = (
-  g.E.Write.contents c.show-served.new.err,
-  c.show-served.result.told,
-  ended _ _ _ _ _ _ _ _ _ _ _ c.in-Ok.ensures.order (reread (g.F.Files.holds c.args.files.now) (g.R.CountedRead.remaining c.args.input.now) (g.F.Files.failed c.args.files.now) _ _
-      (Some (order_view c.in-Ok.order)) (answer_view c.in-Ok-carry_out.answer) c.answered.ensures c.in-Ok-carry_out.ensures.answer) c.show-served.ensures c.follow.ensures.status,
-  c.follow.ensures.follows,
-)
+returns-in-Ok-carry_out-clause-shown g c =
+    answered _ (g.F.Files.holds c.args.files.now) (g.R.CountedRead.remaining c.args.input.now) (g.F.Files.failed c.args.files.now) _ _
+    (Some (order_view c.in-Ok.order)) c.in-Ok.ensures.order (answer_view c.in-Ok-carry_out.answer) _ _ c.show-served.result.told _ _ _ _ _ c.in-Ok-carry_out.ensures.answer c.show-served.ensures c.follow.ensures.status
+    c.answered.ensures c.follow.ensures.follows
 
 pub returns-in-Err-clause-shown : goal.returns-in-Err-clause-shown
-returns-in-Err-clause-shown g c = (
-  g.E.Write.contents c.complain-served.new.err,
-  c.complain-served.result.told,
-  failed _ _ _ _ _ _ _ _ _ _ c.in-Ok.ensures.order (reread (g.F.Files.holds c.args.files.now) (g.R.CountedRead.remaining c.args.input.now) (g.F.Files.failed c.args.files.now) _ _
-      (Some (order_view c.in-Ok.order)) (failure_view c.in-Err.failure) c.failed.ensures c.in-Err.ensures.failure) c.complain-served.ensures c.follow-in-Err.ensures.status,
-  c.follow-in-Err.ensures.follows,
-)
+returns-in-Err-clause-shown g c =
+    complained _ (g.F.Files.holds c.args.files.now) (g.R.CountedRead.remaining c.args.input.now) (g.F.Files.failed c.args.files.now) _ _
+    (Some (order_view c.in-Ok.order)) c.in-Ok.ensures.order c.in-Err.failure _ _ c.complain-served.result.told _ _ _ _ c.in-Err.ensures.failure c.complain-served.ensures c.follow-in-Err.ensures.status
+    c.failed.ensures c.follow-in-Err.ensures.follows
 
 pub returns-in-Err-Usage-clause-shown : goal.returns-in-Err-Usage-clause-shown
-returns-in-Err-Usage-clause-shown g c = (
-  g.E.Write.contents c.complain.new.err,
-  c.complain.result.told,
-  refused _ _ c.refusal.result _ _ _ _ _
-      (unasked _ _ (subst (λ (e : WordsFault). IsUsage e) (sym c.in-Err-Usage.field-0-is) tt) c.in-Err-Usage.ensures.fault)
-      c.refusal.ensures c.complain.ensures,
-  silence _ _,
-)
+returns-in-Err-Usage-clause-shown g c =
+    silent _ _ _ _ _ _ c.complain.result.told _ _ _ _ (refused _ _ c.refusal.result _ _ _ _ _
+    (unasked _ _ (subst (λ (e : WordsFault). IsUsage e) (sym c.in-Err-Usage.field-0-is) tt) c.in-Err-Usage.ensures.fault)
+    c.refusal.ensures c.complain.ensures)
 
 pub returns-in-Err-Memory-clause-shown : goal.returns-in-Err-Memory-clause-shown
-returns-in-Err-Memory-clause-shown g c = (
-  g.E.Write.contents c.complain-in-Err-Memory.new.err,
-  c.complain-in-Err-Memory.result.told,
-  starved _ _ _ _ _ _ _ c.complain-in-Err-Memory.ensures,
-  silence _ _,
-)
+returns-in-Err-Memory-clause-shown g c =
+    silent _ _ _ _ _ _ c.complain-in-Err-Memory.result.told _ _ _ _ (starved _ _ _ _ _ _ _ c.complain-in-Err-Memory.ensures)

@@ -2,7 +2,7 @@ use Rattle.std.proofs.Common.{◌≡◌, ◌<◌, ◌≤◌, List, ap, length, r
 use Rattle.std.proofs.lemmas.Bool.{true≢false}
 use Rattle.cilk_messages.proofs.Plain.{as_many, fewer}
 use Rattle.cilk_report.proofs.About.{error_about, text_about, unanswered}
-use Rattle.cilk_report.proofs.Replies.{refused, silence, starved}
+use Rattle.cilk_report.proofs.Replies.{refused, silent, starved}
 use Rattle.cilk_report.proofs.Standard.{some_words}
 use Rattle.cilk_report.specs.Explained.{About, Explained, Served, ServesThenExplains}
 use Rattle.cilk_messages.specs.Asked.{explains_itself, unflagged}
@@ -81,23 +81,15 @@ pub returns-in-Err-unflagged-clause-served : goal.returns-in-Err-unflagged-claus
 returns-in-Err-unflagged-clause-served g c = Served c.complain-in-Err-unflagged.result.told (ap explains_itself c.requires.other) (starved _ _ _ _ _ _ _ c.complain-in-Err-unflagged.ensures)
 
 pub returns-in-Err-unflagged-clause-explained : goal.returns-in-Err-unflagged-clause-explained
-returns-in-Err-unflagged-clause-explained g c = λ _ _. (
-  g.E.Write.contents c.complain-in-Err-unflagged.new.err,
-  c.complain-in-Err-unflagged.result.told,
-  starved _ _ _ _ _ _ _ c.complain-in-Err-unflagged.ensures,
-  silence _ _,
-)
+returns-in-Err-unflagged-clause-explained g c =
+    λ _ _. silent _ _ _ _ _ _ c.complain-in-Err-unflagged.result.told _ _ _ _ (starved _ _ _ _ _ _ _ c.complain-in-Err-unflagged.ensures)
 
 pub returns-in-Err-clause-served : goal.returns-in-Err-clause-served
 returns-in-Err-clause-served g c = Served c.complain-in-Err.result.told (ap explains_itself c.requires.other) (starved _ _ _ _ _ _ _ c.complain-in-Err.ensures)
 
 pub returns-in-Err-clause-explained : goal.returns-in-Err-clause-explained
-returns-in-Err-clause-explained g c = λ _ _. (
-  g.E.Write.contents c.complain-in-Err.new.err,
-  c.complain-in-Err.result.told,
-  starved _ _ _ _ _ _ _ c.complain-in-Err.ensures,
-  silence _ _,
-)
+returns-in-Err-clause-explained g c =
+    λ _ _. silent _ _ _ _ _ _ c.complain-in-Err.result.told _ _ _ _ (starved _ _ _ _ _ _ _ c.complain-in-Err.ensures)
 
 pub returns-in-Ok-clause-untouched : goal.returns-in-Ok-clause-untouched
 returns-in-Ok-clause-untouched g c = λ some.

@@ -21,7 +21,7 @@ returns-in_err-end-clause-fault g c = λ known ls r.
     let p = err_from_is_err_and c.from_residual-in_err-end.result c.from_residual-in_err-end.ensures.1 in
     let end = c.in_ok-fill.ensures.end c.if-not-branch.true in
     let at = end.1 in
-    rw (p.1, p.2) (end_given known (g.S.Source.remaining c.fill.new.source) ls c.fill.new.self c.in_err-end.field-0.0 _ _ (omega (arith, at)) end.0
+    rw (p.1, p.2) (end_given known (g.S.Source.remaining c.fill.new.source) ls c.fill.new.self c.in_err-end.field-0.0 _ _ (c.in_ok-fill.ensures.uncounted ∙ c.steps.invariant.2) (omega (arith, at)) end.0
     c.in_err-end.ensures.fault (c.in_ok-fill.ensures.reading known ls (c.steps.invariant.0 known ls r)))
 
 pub returns-then-not-branch-clause-whole : goal.returns-then-not-branch-clause-whole
@@ -34,7 +34,7 @@ returns-then-not-branch-clause-whole g c = λ known ls r.
 pub returns-in_err-found-clause-fault : goal.returns-in_err-found-clause-fault
 returns-in_err-found-clause-fault g c = λ known ls r.
     let p = err_from_is_err_and c.from_residual-in_err-found.result c.from_residual-in_err-found.ensures.1 in
-    rw (p.1, p.2) (fault_given known (g.S.Source.remaining c.fill.new.source) ls c.reserve.new.self c.in_err-found.field-0.0 _ _ c.in_err-found.ensures.fault
+    rw (p.1, p.2) (fault_given known (g.S.Source.remaining c.fill.new.source) ls c.reserve.new.self c.in_err-found.field-0.0 _ _ (c.in_ok-fill.ensures.uncounted ∙ c.steps.invariant.2) c.in_err-found.ensures.fault
     (reserved known (g.S.Source.remaining c.fill.new.source) ls c.fill.new.self c.reserve.new.self c.reserve.ensures.read
     (c.in_ok-fill.ensures.reading known ls (c.steps.invariant.0 known ls r))))
 
