@@ -207,7 +207,7 @@ raced text number p q places e (inr (is, h)) = Judges (verdicts.ViewRace p q) (a
 said : (path all : Text) (failed failed' : Failures) (r : Reply) → IsOfTexts r → JudgeShows path (Some all) failed failed' r
     → (text : Text) × (text ≡ all) × Tells text r
 said path all failed failed' replies.RaceFree v h = let given = h.1 in (given.0, given.1, Judges verdicts.RaceFree refl given.2)
-said path all failed failed' (replies.Refused number places) v (none, (p, q, e, (text, held, h))) = (text, held, raced text number p q places e h)
+said path all failed failed' (replies.Refused number places) v (none, p, q, e, (text, held, h)) = (text, held, raced text number p q places e h)
 said path all failed failed' (replies.BadTrace number line) v h = let given = h.1 in (given.0, given.1, Blames number line refl given.2)
 said path all failed failed' (replies.Changed name) v h = let none : Some all ≡ None = h.1 in absurd (cc none)
 said path all failed failed' replies.NoMemory v h = absurd v

@@ -78,8 +78,8 @@ from_first P known known' at e d h = let same : option_map (drop at) known' ≡ 
 judged_shown : (path : Text) (known : Option Text) (failed failed' : Failures) (v : Verdict) → IsUnfailed failed failed' path
     → GivesText known (λ text. HasVerdict text v) → JudgeShows path known failed failed' (verdict_view v)
 judged_shown path known failed failed' verdicts.RaceFree none h = (none, h)
-judged_shown path known failed failed' (verdicts.Race p q) none h = (none, (p, q, refl, (h.0, h.1, inl (refl, h.2))))
-judged_shown path known failed failed' (verdicts.ViewRace p q) none h = (none, (p, q, refl, (h.0, h.1, inr (refl, h.2))))
+judged_shown path known failed failed' (verdicts.Race p q) none h = (none, p, q, refl, (h.0, h.1, inl (refl, h.2)))
+judged_shown path known failed failed' (verdicts.ViewRace p q) none h = (none, p, q, refl, (h.0, h.1, inr (refl, h.2)))
 
 pub verdict_shown : {F : Type 0} (path : Text) (known : Option Text) (failed : F → Failures) (old new : F) (v : Verdict) (r : Reply) → r ≡ verdict_view v
     → IsUnfailed (failed old) (failed new) path → GivesText known (λ text. HasVerdict text v) → JudgeShows path known (failed old) (failed new) r
@@ -132,7 +132,7 @@ module _ (path : Text) (known known' : Option Text) (before between after : Fail
 
   as_known : (r : Reply) → JudgeShows path known between after r → JudgeShows path known before after r
   as_known replies.RaceFree shown = (still shown.0, shown.1)
-  as_known (replies.Refused number places) shown = (still shown.0, shown.1)
+  as_known (replies.Refused number places) shown = (still shown.0, shown.1, shown.2, shown.3, shown.4)
   as_known (replies.BadTrace number at) shown = (still shown.0, shown.1)
   as_known (replies.Changed name) shown = shown
   as_known (replies.Unreadable name) shown =

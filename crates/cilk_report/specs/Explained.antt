@@ -29,7 +29,7 @@ abbrev pub IsTraceFault : Reply → Type 0
 IsTraceFault (BadTrace number at) = Unit {0}
 IsTraceFault _ = ⊥
 
--- a trace has a race or a fault: its file may be read again for an explanation
+-- a trace has a race or a fault, or memory ran out: its file may be read again for an explanation
 abbrev pub IsReadAgain : Option Requested → Reply → Type 0
 IsReadAgain (Some (Judge trace sites)) (Refused number places) = Unit {0}
 IsReadAgain (Some (Judge trace sites)) (BadTrace number at) = Unit {0}
@@ -62,7 +62,7 @@ WritesText text status out out' err err' =
     ⊎ ((status ≡ 2) × AppendsPart out out' text × ((told : Bool) × AppendsFront told err err' (line (codes "cannot write"))))
 
 -- The reply of `serve` to these words, then a text on standard error. `reached` are the failed reads of files up to the reply: no later
--- read fails, but of a trace that is read again for the text.
+-- read fails, but for the text that follows `judge`, whose trace is read again.
 abbrev pub ServesThenExplains : List Text → (Text → Option Text) → Option Text → Failures → Failures → ℕ
     → Option Text → Option Text → Option Text → Option Text → Type 0
 ServesThenExplains words files input failed failed' status out out' err err' =
