@@ -7,7 +7,7 @@ use Rattle.cilk_tree.specs.Orders.{IsOrderly}
 use Rattle.cilk_tree.proofs.AlongPlans.{along_orderly, many, same_resume}
 use Rattle.cilk_plan.specs.Continuations.{SpawnsHaveContinuations}
 use Rattle.cilk_workers.specs.Shared.{AreColumns}
-use Rattle.cilk_replay.proofs.AlongBlocks.{back, block_ends, spawn_of}
+use Rattle.cilk_replay.proofs.AlongBlocks.{back, block_ends, spawn_of, spawns}
 use Rattle.cilk_threads.proofs.Strands.{strands_along}
 
 -- ---- from one of two orders along each other to the other

@@ -29,7 +29,7 @@ returns-in-Err-clause-failure g c =
     c.in-Err.fault _
     (ap₂ (λ files path. g.F.Files.holds files path) made.files made.path) made.at c.unjudged.ensures
     (λ same. let kept = stays (λ files. g.F.Files.failed files) (λ files. g.F.Files.holds files) c.args.files.now c.new-source.result.files.now c.survey_text.new.source.files.now _
-        _ _ _ _ c.args.path.now c.args.path.now made.files made.path made.other c.survey_text.ensures.kept (search rules) same in kept.0)
+    _ _ _ _ c.args.path.now c.args.path.now made.files made.path made.other c.survey_text.ensures.kept (search rules) same in kept.0)
     (fails (λ files. g.F.Files.failed files) (λ files. g.F.Files.holds files) c.args.files.now c.new-source.result.files.now c.survey_text.new.source.files.now _
     _ _ _ _ c.args.path.now c.args.path.now made.files made.path made.other c.survey_text.ensures.kept (search rules))
     c.in-Err.ensures.fault

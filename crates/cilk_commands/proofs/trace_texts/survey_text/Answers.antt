@@ -40,8 +40,7 @@ returns-in-Misplaced-clause-fault g c =
     let known = g.S.Source.remaining c.args.source.now in
     let left = g.S.Source.remaining c.next.new.source in
     let n = subst (λ (o : Option Found). IfSome o (λ f. IsReading known left (i.0 ++ f.line ∷ []) c.next.new.self × (f.number ≡ length i.0 + 2)))
-    c.in-Some.is (c.in_ok-found.ensures.line known i.0 i.1) in
-    (
+    c.in-Some.is (c.in_ok-found.ensures.line known i.0 i.1) in (
       c.in_ok-found.ensures.uncounted ∙ i.3,
       misplaced_given known left i.0 c.in-Some.found.line c.next.new.self c.lines.survey c.in-Some.found.number n.0 n.1 i.2
           (λ more t. c.in_ok-meet.ensures.misplaced c.in-Misplaced.is i.0 more i.2 t),
