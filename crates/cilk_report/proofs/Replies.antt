@@ -12,9 +12,10 @@
 use Rattle.std.proofs.Common.{◌≡◌, ℕ, Bool, true, false, Option, Some, None, [], List, refl, sym, ap, subst, ◌∙◌, inl, inr}
 use Rattle.cilk_report.specs.Explained.{Follows, IsReadAgain, Served, ServesExplained, ServesThenExplains, Settling}
 use Rattle.cilk_messages.specs.Asked.{explains_itself}
-use Rattle.cilk_commands.proofs.Replying.{ends, fails, keeps, no_memory}
+use Rattle.std.specs.Io.KnownBytes.{Appends}
+use Rattle.cilk_commands.proofs.Replying.{fails, keeps, no_memory, still_silent}
 use Rattle.cilk_commands.specs.Files.{Failures}
-use Rattle.cilk_commands.specs.Replies.{Accepted, BadInput, BadProgram, BadScript, BadTrace, BadWords, Certified, Changed, Ended, Faulted, FaultedIn, NoMemory, NotEnded, RaceFree, Refused, Reply, Settled, Text, Unreadable, failure_view, status_of}
+use Rattle.cilk_commands.specs.Replies.{NoMemory, Reply, Text, failure_view, status_of}
 use Rattle.cilk_commands.specs.Serving.{Answers, IsOrNoMemory, Serves, Shows, ShowsError, Surroundings, WordsFail, world}
 use Rattle.cilk_messages.specs.Words.{Certify, Check, IsWordsFault, Judge, Play, Requested, Run, Settle, order_in}
 use Rattle.cilk_messages.specs.declared.words.WordsFault.{WordsFault}
@@ -79,6 +80,10 @@ of_kept P files files' failed failed' unfailed same h =
 pub asked_for : (words : List Text) (w : Surroundings) (asked : Option Requested) (r : Reply) → order_in words ≡ asked → Answers w asked r → Answers w (order_in words) r
 asked_for words w asked r order h = subst (λ (a : Option Requested). Answers w a r) (sym order) h
 
+answers : (w : Surroundings) (asked : Option Requested) (wanted r : Reply) → IsOrNoMemory wanted r → Answers w asked wanted → Answers w asked r
+answers w asked wanted r (inl e) h = subst (λ (x : Reply). Answers w asked x) (sym e) h
+answers w asked wanted r (inr e) h = subst (λ (x : Reply). Answers w asked x) (sym e) (no_memory w asked)
+
 -- A trace may be read again after a reply that is out of memory.
 again : (asked : Option Requested) (wanted r : Reply) (P : Type 0) → IsOrNoMemory wanted r → ((IsReadAgain asked wanted → ⊥) → P)
     → (IsReadAgain asked r → ⊥) → P
@@ -111,7 +116,7 @@ module _ (words : List Text) (files : Text → Option Text) (input : Option Text
         e',
         told,
         reached,
-        ends words w wanted status told o o' e e' (asked_for words w asked wanted order h) shown,
+        (shown.0, answers w (order_in words) wanted shown.0 shown.1 (asked_for words w asked wanted order h), shown.2),
         since wanted shown.0 shown.1 rest,
         subst (λ (s : ℕ). Follows s e' e'') same follows,
       )
@@ -127,7 +132,11 @@ module _ (words : List Text) (files : Text → Option Text) (input : Option Text
         e',
         told,
         reached,
-        fails words w f status told o e e' (asked_for words w asked (failure_view f) order h) shown,
+        (
+          shown.0,
+          answers w (order_in words) (failure_view f) shown.0 shown.1 (asked_for words w asked (failure_view f) order h),
+          inl (shown.2, subst (λ (t : Text). Appends o o t) (sym (still_silent f shown.0 shown.1)) (keeps o), shown.3),
+        ),
         since (failure_view f) shown.0 shown.1 rest,
         subst (λ (s : ℕ). Follows s e' e'') same follows,
       )

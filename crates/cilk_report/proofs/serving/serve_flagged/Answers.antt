@@ -1,5 +1,5 @@
 use Rattle.std.proofs.Common.{Some, subst, sym}
-use Rattle.cilk_commands.specs.Replies.{answer_view, failure_view}
+use Rattle.cilk_commands.specs.Replies.{answer_view}
 use Rattle.cilk_commands.proofs.Workers.{read_workers}
 use Rattle.cilk_messages.specs.Words.{order_view, texts}
 use Rattle.cilk_report.proofs.Replies.{IsUsage, answered, complained, refused, silent, starved, unasked}
