@@ -28,7 +28,7 @@ COUNTS = [
     ("docs/GATE.md", "tries the N that aren't in `must-fail/`", BESIDE_GATE),
     ("docs/TESTED.md", "`tools/cases.py` | N cases |", CASES),
     ("docs/TESTED.md", "`crates/*/must-fail` | N edits |", IN_GATE),
-    ("docs/TESTED.md", "`tools/edits` | N edits |", BESIDE_GATE),
+    ("docs/TESTED.md", "`tools/edits`: N wrong bodies", BESIDE_GATE),
     ("docs/TESTED.md", "`cilk_base_tests` | N programs |", PROGRAMS),
 ]
 
