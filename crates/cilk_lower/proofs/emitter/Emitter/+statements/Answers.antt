@@ -1,16 +1,32 @@
-use Rattle.std.proofs.Common.{◌≡◌, ◌+◌, ◌<◌, ◌++◌, ◌∷◌, length, map, max, take, sym, ap, ◌∙◌, subst, rules, arith, append_assoc, List}
+use Rattle.std.proofs.Common.{◌≡◌, ℕ, ◌+◌, ◌<◌, ◌++◌, ◌∷◌, [], OnOk, length, map, max, take, sym, ap, ◌∙◌, subst, rules, arith, append_assoc, length-append, List}
 use Rattle.std.proofs.lemmas.Result.{on_ok_weaker}
+use Rattle.std.specs.declared.result.Result.{Result}
+use Rattle.std.specs.declared.result.Result.TheVariants.{Ok, Err}
+use Rattle.std.specs.declared.alloc.AllocError.{AllocError}
 use Rattle.cilk_program.specs.declared.syntax.Stmt.{Stmt, the_lemmas}
 use Rattle.cilk_program.specs.declared.syntax.Declaration.{Declaration}
+use Rattle.cilk_program.specs.declared.syntax.Expr.{Expr}
+use Rattle.cilk_program.specs.Syntax as trees
+use Rattle.cilk_lower.specs.declared.code.Instr.{Instr}
 use Rattle.cilk_program.specs.Programs.{declaration, expression, optional, statement, statements}
-use Rattle.cilk_lower.specs.declared.code.Instr.TheVariants.{Tick}
+use Rattle.cilk_lower.specs.declared.code.Instr.TheVariants.{Tick, JumpIfZero}
 use Rattle.cilk_lower.specs.Code.{SitesFit, declarations_sites, expr_code, if_code, if_else_code, stmt_code, stmt_sites, all_code, all_sites}
-use Rattle.cilk_lower.specs.Rooms.{deepest, deepest_of_all}
+use Rattle.cilk_lower.specs.Rooms.{depth, deepest, deepest_of_all}
 use Rattle.cilk_lower.specs.Turns.{test_code}
+use Rattle.cilk_lower.proofs.Lists.{append_none}
 use Rattle.cilk_lower.proofs.Named.{front_fits, back_fits}
 use Rattle.cilk_lower.proofs.Patch.{patch_if, patch_if_else, patch_for, turn_follows, turn_starts}
-use Rattle.cilk_lower.proofs.Rows.{block_is, for_is, row_fits, code_more, sites_more, room_more, row_code, meant, block_code, else_code, three_sites, for_code, stmt_some}
+use Rattle.cilk_lower.proofs.Rows.{block_is, for_is, row_fits, code_more, sites_more, room_more, row_code, meant, block_code, else_code, two_sites, three_sites, for_code, stmt_some}
 use Rattle.cilk_lower.proofs.emitter.Emitter.+statements.Goals as goal
+
+always : (r : Result (Unit {0}) AllocError) (P : Type 0) → P → OnOk r P
+always (Ok u) P p = p
+always (Err e) P p = tt
+
+-- the place of a test that is patched
+test_stands : (base tc ac c2 c3 : List Instr) (n : ℕ) → n ≡ length base + 1 + length tc → c2 ≡ base ++ (Tick ∷ (tc ++ JumpIfZero 0 ∷ [])) → c3 ≡ c2 ++ ac → n < length c3
+test_stands base tc ac c2 c3 n m e2 e3 =
+    omega (arith, m, ap length e2, ap length e3, length-append base (Tick ∷ (tc ++ JumpIfZero 0 ∷ [])), length-append tc (JumpIfZero 0 ∷ []), length-append c2 ac)
 
 pub emit_all-emit_stmt-requires : goal.emit_all-emit_stmt-requires
 emit_all-emit_stmt-requires t c =
@@ -184,3 +200,150 @@ emit_stmt-returns-in_ok-end_turn-in-For-clause-room t c =
     let step = c.deref-in-For-3.result.now in
     let room = ap deepest (meant _ c.args.s.now c.in-For.beginning c.in-For.step c.in-For.test c.in-For.body row step body c.in-For.is c.deref-in-For.ensures.value c.deref-in-For-3.ensures.value c.deref-in-For-2.ensures) in
     omega (arith, room, c.in_ok-emit_all-in-For.ensures.room, c.in_ok-emit_test-in-For.ensures.room, c.in_ok-emit_stmt-in-For.ensures.room, c.in_ok-emit_all-in-For-2.ensures.room, c.in_ok-end_turn-in-For.ensures.room)
+
+pub emit_stmt-returns-in-Empty-clause-code : goal.emit_stmt-returns-in-Empty-clause-code
+emit_stmt-returns-in-Empty-clause-code t c = subst (λ (s : Stmt). OnOk c.begin.result (c.begin.new.code.items ≡ c.args.self.now.instrs.items ++ stmt_code (length c.args.self.now.sites.items) (statement s))) (sym c.in-Empty.is) c.begin.ensures
+
+pub emit_stmt-returns-in-Empty-clause-sites : goal.emit_stmt-returns-in-Empty-clause-sites
+emit_stmt-returns-in-Empty-clause-sites t c = subst (λ (s : Stmt). OnOk c.begin.result (c.args.self.now.sites.items ≡ c.args.self.now.sites.items ++ stmt_sites (statement s))) (sym c.in-Empty.is) (always c.begin.result _ (sym (append_none c.args.self.now.sites.items)))
+
+pub emit_stmt-returns-in-Empty-clause-room : goal.emit_stmt-returns-in-Empty-clause-room
+emit_stmt-returns-in-Empty-clause-room t c = subst (λ (s : Stmt). OnOk c.begin.result (c.args.self.now.room ≡ max c.args.self.now.room (deepest (statement s)))) (sym c.in-Empty.is) (always c.begin.result _ (omega arith))
+
+pub emit_stmt-returns-in-Assign-clause-code : goal.emit_stmt-returns-in-Assign-clause-code
+emit_stmt-returns-in-Assign-clause-code t c = subst (λ (s : Stmt). OnOk c.emit_assign.result (c.emit_assign.new.code.items ≡ c.args.self.now.instrs.items ++ stmt_code (length c.args.self.now.sites.items) (statement s))) (sym c.in-Assign.is) c.emit_assign.ensures.code
+
+pub emit_stmt-returns-in-Assign-clause-sites : goal.emit_stmt-returns-in-Assign-clause-sites
+emit_stmt-returns-in-Assign-clause-sites t c = subst (λ (s : Stmt). OnOk c.emit_assign.result (c.args.self.now.sites.items ≡ c.args.self.now.sites.items ++ stmt_sites (statement s))) (sym c.in-Assign.is) (always c.emit_assign.result _ (sym (append_none c.args.self.now.sites.items)))
+
+pub emit_stmt-returns-in-Assign-clause-room : goal.emit_stmt-returns-in-Assign-clause-room
+emit_stmt-returns-in-Assign-clause-room t c = subst (λ (s : Stmt). OnOk c.emit_assign.result (c.emit_assign.new.room ≡ max c.args.self.now.room (deepest (statement s)))) (sym c.in-Assign.is) c.emit_assign.ensures.room
+
+pub emit_stmt-returns-in-Change-clause-code : goal.emit_stmt-returns-in-Change-clause-code
+emit_stmt-returns-in-Change-clause-code t c = subst (λ (s : Stmt). OnOk c.emit_change.result (c.emit_change.new.code.items ≡ c.args.self.now.instrs.items ++ stmt_code (length c.args.self.now.sites.items) (statement s))) (sym c.in-Change.is) c.emit_change.ensures.code
+
+pub emit_stmt-returns-in-Change-clause-sites : goal.emit_stmt-returns-in-Change-clause-sites
+emit_stmt-returns-in-Change-clause-sites t c = subst (λ (s : Stmt). OnOk c.emit_change.result (c.args.self.now.sites.items ≡ c.args.self.now.sites.items ++ stmt_sites (statement s))) (sym c.in-Change.is) (always c.emit_change.result _ (sym (append_none c.args.self.now.sites.items)))
+
+pub emit_stmt-returns-in-Change-clause-room : goal.emit_stmt-returns-in-Change-clause-room
+emit_stmt-returns-in-Change-clause-room t c = subst (λ (s : Stmt). OnOk c.emit_change.result (c.emit_change.new.room ≡ max c.args.self.now.room (deepest (statement s)))) (sym c.in-Change.is) c.emit_change.ensures.room
+
+pub emit_stmt-returns-in-Step-clause-sites : goal.emit_stmt-returns-in-Step-clause-sites
+emit_stmt-returns-in-Step-clause-sites t c = subst (λ (s : Stmt). OnOk c.emit_step.result (c.args.self.now.sites.items ≡ c.args.self.now.sites.items ++ stmt_sites (statement s))) (sym c.in-Step.is) (always c.emit_step.result _ (sym (append_none c.args.self.now.sites.items)))
+
+pub emit_stmt-returns-in-Step-clause-room : goal.emit_stmt-returns-in-Step-clause-room
+emit_stmt-returns-in-Step-clause-room t c = subst (λ (s : Stmt). OnOk c.emit_step.result (c.emit_step.new.room ≡ max c.args.self.now.room (deepest (statement s)))) (sym c.in-Step.is) c.emit_step.ensures.room
+
+pub emit_stmt-returns-in-Sync-clause-code : goal.emit_stmt-returns-in-Sync-clause-code
+emit_stmt-returns-in-Sync-clause-code t c = subst (λ (s : Stmt). OnOk c.emit_sync.result (c.emit_sync.new.code.items ≡ c.args.self.now.instrs.items ++ stmt_code (length c.args.self.now.sites.items) (statement s))) (sym c.in-Sync.is) c.emit_sync.ensures
+
+pub emit_stmt-returns-in-Sync-clause-sites : goal.emit_stmt-returns-in-Sync-clause-sites
+emit_stmt-returns-in-Sync-clause-sites t c = subst (λ (s : Stmt). OnOk c.emit_sync.result (c.args.self.now.sites.items ≡ c.args.self.now.sites.items ++ stmt_sites (statement s))) (sym c.in-Sync.is) (always c.emit_sync.result _ (sym (append_none c.args.self.now.sites.items)))
+
+pub emit_stmt-returns-in-Sync-clause-room : goal.emit_stmt-returns-in-Sync-clause-room
+emit_stmt-returns-in-Sync-clause-room t c = subst (λ (s : Stmt). OnOk c.emit_sync.result (c.args.self.now.room ≡ max c.args.self.now.room (deepest (statement s)))) (sym c.in-Sync.is) (always c.emit_sync.result _ (omega arith))
+
+pub emit_stmt-returns-in-Print-clause-code : goal.emit_stmt-returns-in-Print-clause-code
+emit_stmt-returns-in-Print-clause-code t c = subst (λ (s : Stmt). OnOk c.emit_last.result (c.emit_last.new.code.items ≡ c.args.self.now.instrs.items ++ stmt_code (length c.args.self.now.sites.items) (statement s))) (sym c.in-Print.is) c.emit_last.ensures.code
+
+pub emit_stmt-returns-in-Print-clause-sites : goal.emit_stmt-returns-in-Print-clause-sites
+emit_stmt-returns-in-Print-clause-sites t c = subst (λ (s : Stmt). OnOk c.emit_last.result (c.args.self.now.sites.items ≡ c.args.self.now.sites.items ++ stmt_sites (statement s))) (sym c.in-Print.is) (always c.emit_last.result _ (sym (append_none c.args.self.now.sites.items)))
+
+pub emit_stmt-returns-in-Print-clause-room : goal.emit_stmt-returns-in-Print-clause-room
+emit_stmt-returns-in-Print-clause-room t c = subst (λ (s : Stmt). OnOk c.emit_last.result (c.emit_last.new.room ≡ max c.args.self.now.room (deepest (statement s)))) (sym c.in-Print.is) c.emit_last.ensures.room
+
+pub emit_stmt-returns-in-Update-clause-code : goal.emit_stmt-returns-in-Update-clause-code
+emit_stmt-returns-in-Update-clause-code t c = subst (λ (s : Stmt). OnOk c.emit_last-in-Update.result (c.emit_last-in-Update.new.code.items ≡ c.args.self.now.instrs.items ++ stmt_code (length c.args.self.now.sites.items) (statement s))) (sym c.in-Update.is) c.emit_last-in-Update.ensures.code
+
+pub emit_stmt-returns-in-Update-clause-sites : goal.emit_stmt-returns-in-Update-clause-sites
+emit_stmt-returns-in-Update-clause-sites t c = subst (λ (s : Stmt). OnOk c.emit_last-in-Update.result (c.args.self.now.sites.items ≡ c.args.self.now.sites.items ++ stmt_sites (statement s))) (sym c.in-Update.is) (always c.emit_last-in-Update.result _ (sym (append_none c.args.self.now.sites.items)))
+
+pub emit_stmt-returns-in-Update-clause-room : goal.emit_stmt-returns-in-Update-clause-room
+emit_stmt-returns-in-Update-clause-room t c = subst (λ (s : Stmt). OnOk c.emit_last-in-Update.result (c.emit_last-in-Update.new.room ≡ max c.args.self.now.room (deepest (statement s)))) (sym c.in-Update.is) c.emit_last-in-Update.ensures.room
+
+pub emit_stmt-returns-in-Set-clause-code : goal.emit_stmt-returns-in-Set-clause-code
+emit_stmt-returns-in-Set-clause-code t c = subst (λ (s : Stmt). OnOk c.emit_last-in-Set.result (c.emit_last-in-Set.new.code.items ≡ c.args.self.now.instrs.items ++ stmt_code (length c.args.self.now.sites.items) (statement s))) (sym c.in-Set.is) c.emit_last-in-Set.ensures.code
+
+pub emit_stmt-returns-in-Set-clause-sites : goal.emit_stmt-returns-in-Set-clause-sites
+emit_stmt-returns-in-Set-clause-sites t c = subst (λ (s : Stmt). OnOk c.emit_last-in-Set.result (c.args.self.now.sites.items ≡ c.args.self.now.sites.items ++ stmt_sites (statement s))) (sym c.in-Set.is) (always c.emit_last-in-Set.result _ (sym (append_none c.args.self.now.sites.items)))
+
+pub emit_stmt-returns-in-Set-clause-room : goal.emit_stmt-returns-in-Set-clause-room
+emit_stmt-returns-in-Set-clause-room t c = subst (λ (s : Stmt). OnOk c.emit_last-in-Set.result (c.emit_last-in-Set.new.room ≡ max c.args.self.now.room (deepest (statement s)))) (sym c.in-Set.is) c.emit_last-in-Set.ensures.room
+
+pub emit_stmt-returns-in-Return-clause-code : goal.emit_stmt-returns-in-Return-clause-code
+emit_stmt-returns-in-Return-clause-code t c = subst (λ (s : Stmt). OnOk c.emit_return.result (c.emit_return.new.code.items ≡ c.args.self.now.instrs.items ++ stmt_code (length c.args.self.now.sites.items) (statement s))) (sym c.in-Return.is) c.emit_return.ensures.code
+
+pub emit_stmt-returns-in-Return-clause-sites : goal.emit_stmt-returns-in-Return-clause-sites
+emit_stmt-returns-in-Return-clause-sites t c = subst (λ (s : Stmt). OnOk c.emit_return.result (c.args.self.now.sites.items ≡ c.args.self.now.sites.items ++ stmt_sites (statement s))) (sym c.in-Return.is) (always c.emit_return.result _ (sym (append_none c.args.self.now.sites.items)))
+
+pub emit_stmt-returns-in-Return-clause-room : goal.emit_stmt-returns-in-Return-clause-room
+emit_stmt-returns-in-Return-clause-room t c = subst (λ (s : Stmt). OnOk c.emit_return.result (c.emit_return.new.room ≡ max c.args.self.now.room (deepest (statement s)))) (sym c.in-Return.is) c.emit_return.ensures.room
+
+pub emit_stmt-returns-in-ParallelFor-clause-code : goal.emit_stmt-returns-in-ParallelFor-clause-code
+emit_stmt-returns-in-ParallelFor-clause-code t c =
+    subst (λ (s : Stmt). OnOk c.emit_parallel.result (c.emit_parallel.new.code.items ≡ c.args.self.now.instrs.items ++ stmt_code (length c.args.self.now.sites.items) (statement s))) (sym c.in-ParallelFor.is)
+    (subst (λ (b : Expr). OnOk c.emit_parallel.result (c.emit_parallel.new.code.items ≡ c.args.self.now.instrs.items ++ stmt_code (length c.args.self.now.sites.items) (trees.ParallelFor (expression c.in-ParallelFor.a.value) (expression b) c.in-ParallelFor.n))) c.deref-in-ParallelFor-2.ensures
+    (subst (λ (a : Expr). OnOk c.emit_parallel.result (c.emit_parallel.new.code.items ≡ c.args.self.now.instrs.items ++ stmt_code (length c.args.self.now.sites.items) (trees.ParallelFor (expression a) (expression c.deref-in-ParallelFor-2.result.now) c.in-ParallelFor.n))) c.deref-in-ParallelFor.ensures c.emit_parallel.ensures.code))
+
+pub emit_stmt-returns-in-ParallelFor-clause-sites : goal.emit_stmt-returns-in-ParallelFor-clause-sites
+emit_stmt-returns-in-ParallelFor-clause-sites t c = subst (λ (s : Stmt). OnOk c.emit_parallel.result (c.args.self.now.sites.items ≡ c.args.self.now.sites.items ++ stmt_sites (statement s))) (sym c.in-ParallelFor.is) (always c.emit_parallel.result _ (sym (append_none c.args.self.now.sites.items)))
+
+pub emit_stmt-returns-in-ParallelFor-clause-room : goal.emit_stmt-returns-in-ParallelFor-clause-room
+emit_stmt-returns-in-ParallelFor-clause-room t c =
+    subst (λ (s : Stmt). OnOk c.emit_parallel.result (c.emit_parallel.new.room ≡ max c.args.self.now.room (deepest (statement s)))) (sym c.in-ParallelFor.is)
+    (subst (λ (b : Expr). OnOk c.emit_parallel.result (c.emit_parallel.new.room ≡ max c.args.self.now.room (deepest (trees.ParallelFor (expression c.in-ParallelFor.a.value) (expression b) c.in-ParallelFor.n)))) c.deref-in-ParallelFor-2.ensures
+    (subst (λ (a : Expr). OnOk c.emit_parallel.result (c.emit_parallel.new.room ≡ max c.args.self.now.room (deepest (trees.ParallelFor (expression a) (expression c.deref-in-ParallelFor-2.result.now) c.in-ParallelFor.n)))) c.deref-in-ParallelFor.ensures c.emit_parallel.ensures.room))
+
+pub emit_stmt-returns-in-Invoke-clause-code : goal.emit_stmt-returns-in-Invoke-clause-code
+emit_stmt-returns-in-Invoke-clause-code t c = subst (λ (s : Stmt). OnOk c.emit_statement_invoke.result (c.emit_statement_invoke.new.self.instrs.items ≡ c.args.self.now.instrs.items ++ stmt_code (length c.args.self.now.sites.items) (statement s))) (sym c.in-Invoke.is) c.emit_statement_invoke.ensures.code
+
+pub emit_stmt-returns-in-Invoke-clause-sites : goal.emit_stmt-returns-in-Invoke-clause-sites
+emit_stmt-returns-in-Invoke-clause-sites t c = subst (λ (s : Stmt). OnOk c.emit_statement_invoke.result (c.emit_statement_invoke.new.self.sites.items ≡ c.args.self.now.sites.items ++ stmt_sites (statement s))) (sym c.in-Invoke.is) c.emit_statement_invoke.ensures.sites
+
+pub emit_stmt-returns-in-Invoke-clause-room : goal.emit_stmt-returns-in-Invoke-clause-room
+emit_stmt-returns-in-Invoke-clause-room t c = subst (λ (s : Stmt). OnOk c.emit_statement_invoke.result (c.emit_statement_invoke.new.self.room ≡ max c.args.self.now.room (deepest (statement s)))) (sym c.in-Invoke.is) c.emit_statement_invoke.ensures.room
+
+pub emit_stmt-returns-in-Declare-clause-code : goal.emit_stmt-returns-in-Declare-clause-code
+emit_stmt-returns-in-Declare-clause-code t c = subst (λ (s : Stmt). OnOk c.emit_declarations.result (c.emit_declarations.new.self.instrs.items ≡ c.args.self.now.instrs.items ++ stmt_code (length c.args.self.now.sites.items) (statement s))) (sym c.in-Declare.is)
+    (subst (λ (row : List Declaration). OnOk c.emit_declarations.result (c.emit_declarations.new.self.instrs.items ≡ c.args.self.now.instrs.items ++ stmt_code (length c.args.self.now.sites.items) (trees.Declare (map declaration row)))) c.deref-in-Declare.ensures.value c.emit_declarations.ensures.code)
+
+pub emit_stmt-returns-in-Declare-clause-sites : goal.emit_stmt-returns-in-Declare-clause-sites
+emit_stmt-returns-in-Declare-clause-sites t c = subst (λ (s : Stmt). OnOk c.emit_declarations.result (c.emit_declarations.new.self.sites.items ≡ c.args.self.now.sites.items ++ stmt_sites (statement s))) (sym c.in-Declare.is)
+    (subst (λ (row : List Declaration). OnOk c.emit_declarations.result (c.emit_declarations.new.self.sites.items ≡ c.args.self.now.sites.items ++ stmt_sites (trees.Declare (map declaration row)))) c.deref-in-Declare.ensures.value c.emit_declarations.ensures.sites)
+
+pub emit_stmt-returns-in-Declare-clause-room : goal.emit_stmt-returns-in-Declare-clause-room
+emit_stmt-returns-in-Declare-clause-room t c = subst (λ (s : Stmt). OnOk c.emit_declarations.result (c.emit_declarations.new.self.room ≡ max c.args.self.now.room (deepest (statement s)))) (sym c.in-Declare.is)
+    (subst (λ (row : List Declaration). OnOk c.emit_declarations.result (c.emit_declarations.new.self.room ≡ max c.args.self.now.room (deepest (trees.Declare (map declaration row))))) c.deref-in-Declare.ensures.value c.emit_declarations.ensures.room)
+
+pub emit_stmt-returns-in_ok-emit_stmt-in-If-clause-sites : goal.emit_stmt-returns-in_ok-emit_stmt-in-If-clause-sites
+emit_stmt-returns-in_ok-emit_stmt-in-If-clause-sites t c =
+    c.in_ok-emit_stmt-in-If.ensures.sites
+    ∙ ap (λ s. c.args.self.now.sites.items ++ stmt_sites (statement s)) c.deref-in-If.ensures
+    ∙ ap (λ s. c.args.self.now.sites.items ++ stmt_sites (statement s)) (sym c.in-If.is)
+
+pub emit_stmt-returns-in_ok-emit_stmt-in-If-clause-room : goal.emit_stmt-returns-in_ok-emit_stmt-in-If-clause-room
+emit_stmt-returns-in_ok-emit_stmt-in-If-clause-room t c =
+    let body = ap (λ s. deepest (statement s)) c.deref-in-If.ensures in
+    let is : deepest (statement c.args.s.now) ≡ max (depth (expression c.in-If.test)) (deepest (statement c.in-If.body.value)) = ap (λ s. deepest (statement s)) c.in-If.is in
+    omega (arith, is, body, c.in_ok-skip-in-If.ensures.room, c.in_ok-emit_stmt-in-If.ensures.room)
+
+pub emit_stmt-returns-in_ok-emit_stmt-in-IfElse-2-clause-sites : goal.emit_stmt-returns-in_ok-emit_stmt-in-IfElse-2-clause-sites
+emit_stmt-returns-in_ok-emit_stmt-in-IfElse-2-clause-sites t c =
+    let sites = c.args.self.now.sites.items in
+    two_sites sites _ _ _ _ c.in_ok-emit_stmt-in-IfElse.ensures.sites c.in_ok-emit_stmt-in-IfElse-2.ensures.sites
+    ∙ ap (λ s. sites ++ (stmt_sites (statement s) ++ stmt_sites (statement c.deref-in-IfElse-2.result.now))) c.deref-in-IfElse.ensures
+    ∙ ap (λ s. sites ++ (stmt_sites (statement c.in-IfElse.first.value) ++ stmt_sites (statement s))) c.deref-in-IfElse-2.ensures
+    ∙ ap (λ s. sites ++ stmt_sites (statement s)) (sym c.in-IfElse.is)
+
+pub emit_stmt-returns-in_ok-emit_stmt-in-IfElse-2-clause-room : goal.emit_stmt-returns-in_ok-emit_stmt-in-IfElse-2-clause-room
+emit_stmt-returns-in_ok-emit_stmt-in-IfElse-2-clause-room t c =
+    let first = ap (λ s. deepest (statement s)) c.deref-in-IfElse.ensures in
+    let second = ap (λ s. deepest (statement s)) c.deref-in-IfElse-2.ensures in
+    let is : deepest (statement c.args.s.now) ≡ max (depth (expression c.in-IfElse.test)) (max (deepest (statement c.in-IfElse.first.value)) (deepest (statement c.in-IfElse.second.value))) = ap (λ s. deepest (statement s)) c.in-IfElse.is in
+    omega (arith, is, first, second, c.in_ok-skip-in-IfElse.ensures.room, c.in_ok-emit_stmt-in-IfElse.ensures.room, c.in_ok-emit_stmt-in-IfElse-2.ensures.room)
+
+pub emit_stmt-pass_if_zero-requires : goal.emit_stmt-pass_if_zero-requires
+emit_stmt-pass_if_zero-requires t c = test_stands _ (expr_code (expression c.in-If.test)) _ _ _ _ c.in_ok-skip-in-If.ensures.place c.in_ok-skip-in-If.ensures.code c.in_ok-emit_stmt-in-If.ensures.code
+
+pub emit_stmt-begin_else-requires : goal.emit_stmt-begin_else-requires
+emit_stmt-begin_else-requires t c = test_stands _ (expr_code (expression c.in-IfElse.test)) _ _ _ _ c.in_ok-skip-in-IfElse.ensures.place c.in_ok-skip-in-IfElse.ensures.code c.in_ok-emit_stmt-in-IfElse.ensures.code
