@@ -5,7 +5,8 @@ ghost use Rattle.cilk_lower.specs.declared.code.Instr.{Instr};
 ghost use Rattle.cilk_lower.specs.Bodies.{FunctionFits, LoopFits};
 ghost use Rattle.cilk_lower.specs.Code.{all_code, all_sites, declaration_code, declaration_sites, declarations_code, declarations_sites, function_code, invoke_code, loop_code, site, SitesFit, stmt_code, stmt_sites};
 ghost use Rattle.cilk_lower.specs.Rooms.{declaration_depth, declarations_depth, deepest, deepest_of_all, depths};
-ghost use Rattle.cilk_program.specs.Programs.{declaration, function, invoke, loop, statement, statements};
+ghost use Rattle.cilk_program.specs.Programs.{declaration, expression, function, invoke, loop, optional, statement, statements};
+ghost use Rattle.cilk_program.specs.Syntax.{For, If, IfElse};
 
 use crate::bodies::{put_own, put_words};
 use crate::code::{EntryPoint, Instr, Site};
@@ -20,7 +21,7 @@ use crate::simple::{
 };
 use cilk_program::given::References;
 use cilk_program::program::{Function, Loop};
-use cilk_program::syntax::{Declaration, Invoke, Place, Reducer, Stmt};
+use cilk_program::syntax::{Declaration, Expr, Invoke, Place, Reducer, Stmt};
 use std::alloc::AllocError;
 
 /// The instructions and call sites so far, and the room that the current body needs.
@@ -109,29 +110,10 @@ impl Emitter {
             Stmt::Step(to, n) => emit_step(&mut self.instrs, &mut self.room, to, *n),
             Stmt::Invoke(call) => self.emit_statement_invoke(call),
             Stmt::Sync(at) => emit_sync(&mut self.instrs, *at),
-            Stmt::If(at, test, body) => {
-                let skip = emit_choice(&mut self.instrs, &mut self.room, *at, test)?;
-                self.emit_stmt(body)?;
-                pass_if_zero(&mut self.instrs, skip);
-                Ok(())
-            }
-            Stmt::IfElse(at, test, first, second) => {
-                let skip = emit_choice(&mut self.instrs, &mut self.room, *at, test)?;
-                self.emit_stmt(first)?;
-                let jump = begin_else(&mut self.instrs, *at, skip)?;
-                self.emit_stmt(second)?;
-                pass(&mut self.instrs, jump);
-                Ok(())
-            }
+            Stmt::If(at, test, body) => self.emit_if(*at, test, body),
+            Stmt::IfElse(at, test, first, second) => self.emit_if_else(*at, test, first, second),
             Stmt::For(at, beginning, test, step, body) => {
-                begin(&mut self.instrs, *at)?;
-                self.emit_all(beginning)?;
-                emit_test(&mut self.instrs, &mut self.room, *at, test)?;
-                let start = self.instrs.len();
-                self.emit_stmt(body)?;
-                self.emit_all(step)?;
-                end_turn(&mut self.instrs, &mut self.room, *at, test, start)?;
-                Ok(())
+                self.emit_for(*at, beginning, test, step, body)
             }
             Stmt::ParallelFor(at, a, b, n) => {
                 emit_parallel(&mut self.instrs, &mut self.room, *at, a, b, *n)
@@ -147,6 +129,64 @@ impl Emitter {
             }
             Stmt::Return(at, e) => emit_return(&mut self.instrs, &mut self.room, *at, e),
         }
+    }
+
+    #[cycle(statements)]
+    fn emit_if(&mut self, at: usize, test: &Expr, body: &Stmt) -> Result<(), AllocError>
+        requires { SitesFit (stmt_sites (If (expression test.now) (statement body.now))) }
+        ensures code { OnOk result (self.new.instrs.items ≡ self.old.instrs.items ++ stmt_code (length self.old.sites.items) (If (expression test.now) (statement body.now))) }
+        ensures sites { OnOk result (self.new.sites.items ≡ self.old.sites.items ++ stmt_sites (If (expression test.now) (statement body.now))) }
+        ensures room { OnOk result (self.new.room ≡ max self.old.room (deepest (If (expression test.now) (statement body.now)))) }
+    {
+        let skip = emit_choice(&mut self.instrs, &mut self.room, at, test)?;
+        self.emit_stmt(body)?;
+        pass_if_zero(&mut self.instrs, skip);
+        Ok(())
+    }
+
+    #[cycle(statements)]
+    fn emit_if_else(
+        &mut self,
+        at: usize,
+        test: &Expr,
+        first: &Stmt,
+        second: &Stmt,
+    ) -> Result<(), AllocError>
+        requires { SitesFit (stmt_sites (IfElse (expression test.now) (statement first.now) (statement second.now))) }
+        ensures code { OnOk result (self.new.instrs.items ≡ self.old.instrs.items ++ stmt_code (length self.old.sites.items) (IfElse (expression test.now) (statement first.now) (statement second.now))) }
+        ensures sites { OnOk result (self.new.sites.items ≡ self.old.sites.items ++ stmt_sites (IfElse (expression test.now) (statement first.now) (statement second.now))) }
+        ensures room { OnOk result (self.new.room ≡ max self.old.room (deepest (IfElse (expression test.now) (statement first.now) (statement second.now)))) }
+    {
+        let skip = emit_choice(&mut self.instrs, &mut self.room, at, test)?;
+        self.emit_stmt(first)?;
+        let jump = begin_else(&mut self.instrs, at, skip)?;
+        self.emit_stmt(second)?;
+        pass(&mut self.instrs, jump);
+        Ok(())
+    }
+
+    #[cycle(statements)]
+    fn emit_for(
+        &mut self,
+        at: usize,
+        beginning: &[Stmt],
+        test: &Option<Box<Expr>>,
+        step: &[Stmt],
+        body: &Stmt,
+    ) -> Result<(), AllocError>
+        requires { SitesFit (stmt_sites (For (statements beginning.now) (optional test.now) (statements step.now) (statement body.now))) }
+        ensures code { OnOk result (self.new.instrs.items ≡ self.old.instrs.items ++ stmt_code (length self.old.sites.items) (For (statements beginning.now) (optional test.now) (statements step.now) (statement body.now))) }
+        ensures sites { OnOk result (self.new.sites.items ≡ self.old.sites.items ++ stmt_sites (For (statements beginning.now) (optional test.now) (statements step.now) (statement body.now))) }
+        ensures room { OnOk result (self.new.room ≡ max self.old.room (deepest (For (statements beginning.now) (optional test.now) (statements step.now) (statement body.now)))) }
+    {
+        begin(&mut self.instrs, at)?;
+        self.emit_all(beginning)?;
+        emit_test(&mut self.instrs, &mut self.room, at, test)?;
+        let start = self.instrs.len();
+        self.emit_stmt(body)?;
+        self.emit_all(step)?;
+        end_turn(&mut self.instrs, &mut self.room, at, test, start)?;
+        Ok(())
     }
 
     // The variables of a declaration, in order.

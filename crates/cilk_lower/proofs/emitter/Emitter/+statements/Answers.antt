@@ -59,64 +59,6 @@ emit_stmt-emit_all-requires t c =
     let fits : SitesFit (all_sites (statements c.in-Block.row.items)) = subst (λ s. SitesFit (stmt_sites s)) (ap statement c.in-Block.is ∙ block_is c.in-Block.at c.in-Block.row) c.requires in
     (search (rules, the_lemmas), subst (λ (row : List Stmt). SitesFit (all_sites (statements row))) (sym c.deref.ensures.value) fits)
 
-pub emit_stmt-emit_stmt-requires : goal.emit_stmt-emit_stmt-requires
-emit_stmt-emit_stmt-requires t c =
-    let fits : SitesFit (stmt_sites (statement c.in-If.body.value)) = subst (λ (s : Stmt). SitesFit (stmt_sites (statement s))) c.in-If.is c.requires in
-    (search (rules, the_lemmas), subst (λ (s : Stmt). SitesFit (stmt_sites (statement s))) (sym c.deref-in-If.ensures) fits)
-
-pub emit_stmt-emit_stmt-requires-in-IfElse : goal.emit_stmt-emit_stmt-requires-in-IfElse
-emit_stmt-emit_stmt-requires-in-IfElse t c =
-    let first = stmt_sites (statement c.in-IfElse.first.value) in
-    let second = stmt_sites (statement c.in-IfElse.second.value) in
-    let fits : SitesFit (first ++ second) = subst (λ (s : Stmt). SitesFit (stmt_sites (statement s))) c.in-IfElse.is c.requires in
-    (search (rules, the_lemmas), subst (λ (s : Stmt). SitesFit (stmt_sites (statement s))) (sym c.deref-in-IfElse.ensures) (front_fits first second fits))
-
-pub emit_stmt-emit_stmt-requires-in-IfElse-2 : goal.emit_stmt-emit_stmt-requires-in-IfElse-2
-emit_stmt-emit_stmt-requires-in-IfElse-2 t c =
-    let first = stmt_sites (statement c.in-IfElse.first.value) in
-    let second = stmt_sites (statement c.in-IfElse.second.value) in
-    let fits : SitesFit (first ++ second) = subst (λ (s : Stmt). SitesFit (stmt_sites (statement s))) c.in-IfElse.is c.requires in
-    (search (rules, the_lemmas), subst (λ (s : Stmt). SitesFit (stmt_sites (statement s))) (sym c.deref-in-IfElse-2.ensures) (back_fits first second fits))
-
-pub emit_stmt-emit_all-requires-in-For : goal.emit_stmt-emit_all-requires-in-For
-emit_stmt-emit_all-requires-in-For t c =
-    let a = c.in-For in
-    let row = all_sites (statements a.beginning.items) in
-    let body = stmt_sites (statement a.body.value) in
-    let step = all_sites (statements a.step.items) in
-    let fits : SitesFit (row ++ (body ++ step)) = subst (λ s. SitesFit (stmt_sites s)) (ap statement a.is ∙ for_is a.at a.beginning a.step a.test a.body) c.requires in
-    (search (rules, the_lemmas), subst (λ (row : List Stmt). SitesFit (all_sites (statements row))) (sym c.deref-in-For.ensures.value) (front_fits row (body ++ step) fits))
-
-pub emit_stmt-emit_stmt-requires-in-For : goal.emit_stmt-emit_stmt-requires-in-For
-emit_stmt-emit_stmt-requires-in-For t c =
-    let a = c.in-For in
-    let row = all_sites (statements a.beginning.items) in
-    let body = stmt_sites (statement a.body.value) in
-    let step = all_sites (statements a.step.items) in
-    let fits : SitesFit (row ++ (body ++ step)) = subst (λ s. SitesFit (stmt_sites s)) (ap statement a.is ∙ for_is a.at a.beginning a.step a.test a.body) c.requires in
-    (search (rules, the_lemmas), subst (λ (s : Stmt). SitesFit (stmt_sites (statement s))) (sym c.deref-in-For-2.ensures) (front_fits body step (back_fits row (body ++ step) fits)))
-
-pub emit_stmt-emit_all-requires-in-For-2 : goal.emit_stmt-emit_all-requires-in-For-2
-emit_stmt-emit_all-requires-in-For-2 t c =
-    let a = c.in-For in
-    let row = all_sites (statements a.beginning.items) in
-    let body = stmt_sites (statement a.body.value) in
-    let step = all_sites (statements a.step.items) in
-    let fits : SitesFit (row ++ (body ++ step)) = subst (λ s. SitesFit (stmt_sites s)) (ap statement a.is ∙ for_is a.at a.beginning a.step a.test a.body) c.requires in
-    (search (rules, the_lemmas), subst (λ (row : List Stmt). SitesFit (all_sites (statements row))) (sym c.deref-in-For-3.ensures.value) (back_fits body step (back_fits row (body ++ step) fits)))
-
-pub emit_stmt-end_turn-requires-clause-first : goal.emit_stmt-end_turn-requires-clause-first
-emit_stmt-end_turn-requires-clause-first t c =
-    let follows = turn_follows c.args.self.now.instrs.items (all_code (length c.args.self.now.sites.items) (statements c.deref-in-For.result.now)) (test_code (optional c.in-For.test)) _ _ c.emit_test.new.code.items c.in_ok-begin-in-For.ensures c.in_ok-emit_all-in-For.ensures.code c.in_ok-emit_test-in-For.ensures.code in
-    omega (arith, follows, c.len-start.ensures)
-
-pub emit_stmt-end_turn-requires-clause-start : goal.emit_stmt-end_turn-requires-clause-start
-emit_stmt-end_turn-requires-clause-start t c =
-    let s = statement c.deref-in-For-2.result.now in
-    let sites = c.emit_all-in-For.new.self.sites.items in
-    let starts = turn_starts (stmt_code (length sites) s) (all_code (length c.emit_stmt-in-For.new.self.sites.items) (statements c.deref-in-For-3.result.now)) c.emit_test.new.code.items _ _ c.in_ok-emit_stmt-in-For.ensures.code c.in_ok-emit_all-in-For-2.ensures.code (stmt_some (length sites) s) in
-    omega (arith, starts, c.len-start.ensures)
-
 pub emit_stmt-emit_declarations-requires : goal.emit_stmt-emit_declarations-requires
 emit_stmt-emit_declarations-requires t c =
     let fits : SitesFit (declarations_sites (map declaration c.in-Declare.row.items)) = subst (λ (s : Stmt). SitesFit (stmt_sites (statement s))) c.in-Declare.is c.requires in
@@ -147,59 +89,6 @@ emit_stmt-returns-in_ok-begin-in-Block-clause-room t c =
     on_ok_weaker {P = c.emit_all.new.self.room ≡ max room (deepest_of_all (statements c.deref.result.now))} {Q = c.emit_all.new.self.room ≡ max room (deepest (statement c.args.s.now))} c.emit_all.result (λ e. e
     ∙ ap (λ row. max room (deepest_of_all (statements row))) c.deref.ensures.value
     ∙ ap (λ s. max room (deepest s)) (sym (ap statement c.in-Block.is ∙ block_is c.in-Block.at c.in-Block.row))) c.emit_all.ensures.room
-
-pub emit_stmt-returns-in_ok-emit_stmt-in-If-clause-code : goal.emit_stmt-returns-in_ok-emit_stmt-in-If-clause-code
-emit_stmt-returns-in_ok-emit_stmt-in-If-clause-code t c =
-    let base = c.args.self.now.instrs.items in
-    let k = length c.args.self.now.sites.items in
-    patch_if _ _ _ _ _ _ _ c.in_ok-skip-in-If.ensures.code c.in_ok-skip-in-If.ensures.place c.in_ok-emit_stmt-in-If.ensures.code c.pass_if_zero.ensures
-    ∙ ap (λ s. base ++ (Tick ∷ if_code (expr_code (expression c.in-If.test)) (stmt_code k (statement s)))) c.deref-in-If.ensures
-    ∙ ap (λ s. base ++ stmt_code k (statement s)) (sym c.in-If.is)
-
-pub emit_stmt-returns-in_ok-emit_stmt-in-IfElse-2-clause-code : goal.emit_stmt-returns-in_ok-emit_stmt-in-IfElse-2-clause-code
-emit_stmt-returns-in_ok-emit_stmt-in-IfElse-2-clause-code t c =
-    let base = c.args.self.now.instrs.items in
-    let sites = c.args.self.now.sites.items in
-    let k = length sites in
-    let test = expr_code (expression c.in-IfElse.test) in
-    let first = c.deref-in-IfElse.result.now in
-    let second = c.deref-in-IfElse-2.result.now in
-    let other = else_code c.begin_else.new.code.items _ sites c.emit_stmt-in-IfElse.new.self.sites.items (statement first) (statement second) c.in_ok-emit_stmt-in-IfElse.ensures.sites c.in_ok-emit_stmt-in-IfElse-2.ensures.code in
-    patch_if_else _ _ _ _ _ _ _ _ _ _ _ c.in_ok-skip-in-IfElse.ensures.code c.in_ok-skip-in-IfElse.ensures.place c.in_ok-emit_stmt-in-IfElse.ensures.code c.in_ok-jump-in-IfElse.ensures.place c.in_ok-jump-in-IfElse.ensures.code other c.pass.ensures
-    ∙ ap (λ s. base ++ (Tick ∷ if_else_code test (stmt_code k (statement s)) (stmt_code (k + length (stmt_sites (statement s))) (statement second)))) c.deref-in-IfElse.ensures
-    ∙ ap (λ s. base ++ (Tick ∷ if_else_code test (stmt_code k (statement c.in-IfElse.first.value)) (stmt_code (k + length (stmt_sites (statement c.in-IfElse.first.value))) (statement s)))) c.deref-in-IfElse-2.ensures
-    ∙ ap (λ s. base ++ stmt_code k (statement s)) (sym c.in-IfElse.is)
-
-pub emit_stmt-returns-in_ok-end_turn-in-For-clause-code : goal.emit_stmt-returns-in_ok-end_turn-in-For-clause-code
-emit_stmt-returns-in_ok-end_turn-in-For-clause-code t c =
-    let base = c.args.self.now.instrs.items in
-    let sites = c.args.self.now.sites.items in
-    let row = c.deref-in-For.result.now in
-    let body = c.deref-in-For-2.result.now in
-    let step = c.deref-in-For-3.result.now in
-    let test = optional c.in-For.test in
-    let s1 = c.emit_all-in-For.new.self.sites.items in
-    let s2 = c.emit_stmt-in-For.new.self.sites.items in
-    patch_for test base (all_code (length sites) (statements row)) (stmt_code (length s1) (statement body)) (all_code (length s2) (statements step)) _ _ _ _ _ _ _ c.in_ok-begin-in-For.ensures c.in_ok-emit_all-in-For.ensures.code c.in_ok-emit_test-in-For.ensures.code c.len-start.ensures c.in_ok-emit_stmt-in-For.ensures.code c.in_ok-emit_all-in-For-2.ensures.code c.in_ok-end_turn-in-For.ensures.code
-    ∙ ap (λ l. base ++ l) (for_code sites s1 s2 (statements row) (statements step) test (statement body) c.in_ok-emit_all-in-For.ensures.sites c.in_ok-emit_stmt-in-For.ensures.sites)
-    ∙ ap (λ s. base ++ stmt_code (length sites) s) (sym (meant _ c.args.s.now c.in-For.beginning c.in-For.step c.in-For.test c.in-For.body row step body c.in-For.is c.deref-in-For.ensures.value c.deref-in-For-3.ensures.value c.deref-in-For-2.ensures))
-
-pub emit_stmt-returns-in_ok-end_turn-in-For-clause-sites : goal.emit_stmt-returns-in_ok-end_turn-in-For-clause-sites
-emit_stmt-returns-in_ok-end_turn-in-For-clause-sites t c =
-    let sites = c.args.self.now.sites.items in
-    let row = c.deref-in-For.result.now in
-    let body = c.deref-in-For-2.result.now in
-    let step = c.deref-in-For-3.result.now in
-    three_sites sites c.emit_all-in-For.new.self.sites.items c.emit_stmt-in-For.new.self.sites.items _ (all_sites (statements row)) (stmt_sites (statement body)) (all_sites (statements step)) c.in_ok-emit_all-in-For.ensures.sites c.in_ok-emit_stmt-in-For.ensures.sites c.in_ok-emit_all-in-For-2.ensures.sites
-    ∙ ap (λ s. sites ++ stmt_sites s) (sym (meant _ c.args.s.now c.in-For.beginning c.in-For.step c.in-For.test c.in-For.body row step body c.in-For.is c.deref-in-For.ensures.value c.deref-in-For-3.ensures.value c.deref-in-For-2.ensures))
-
-pub emit_stmt-returns-in_ok-end_turn-in-For-clause-room : goal.emit_stmt-returns-in_ok-end_turn-in-For-clause-room
-emit_stmt-returns-in_ok-end_turn-in-For-clause-room t c =
-    let row = c.deref-in-For.result.now in
-    let body = c.deref-in-For-2.result.now in
-    let step = c.deref-in-For-3.result.now in
-    let room = ap deepest (meant _ c.args.s.now c.in-For.beginning c.in-For.step c.in-For.test c.in-For.body row step body c.in-For.is c.deref-in-For.ensures.value c.deref-in-For-3.ensures.value c.deref-in-For-2.ensures) in
-    omega (arith, room, c.in_ok-emit_all-in-For.ensures.room, c.in_ok-emit_test-in-For.ensures.room, c.in_ok-emit_stmt-in-For.ensures.room, c.in_ok-emit_all-in-For-2.ensures.room, c.in_ok-end_turn-in-For.ensures.room)
 
 pub emit_stmt-returns-in-Empty-clause-code : goal.emit_stmt-returns-in-Empty-clause-code
 emit_stmt-returns-in-Empty-clause-code t c = subst (λ (s : Stmt). OnOk c.begin.result (c.begin.new.code.items ≡ c.args.self.now.instrs.items ++ stmt_code (length c.args.self.now.sites.items) (statement s))) (sym c.in-Empty.is) c.begin.ensures
@@ -315,35 +204,152 @@ pub emit_stmt-returns-in-Declare-clause-room : goal.emit_stmt-returns-in-Declare
 emit_stmt-returns-in-Declare-clause-room t c = subst (λ (s : Stmt). OnOk c.emit_declarations.result (c.emit_declarations.new.self.room ≡ max c.args.self.now.room (deepest (statement s)))) (sym c.in-Declare.is)
     (subst (λ (row : List Declaration). OnOk c.emit_declarations.result (c.emit_declarations.new.self.room ≡ max c.args.self.now.room (deepest (trees.Declare (map declaration row))))) c.deref-in-Declare.ensures.value c.emit_declarations.ensures.room)
 
-pub emit_stmt-returns-in_ok-emit_stmt-in-If-clause-sites : goal.emit_stmt-returns-in_ok-emit_stmt-in-If-clause-sites
-emit_stmt-returns-in_ok-emit_stmt-in-If-clause-sites t c =
-    c.in_ok-emit_stmt-in-If.ensures.sites
-    ∙ ap (λ s. c.args.self.now.sites.items ++ stmt_sites (statement s)) c.deref-in-If.ensures
-    ∙ ap (λ s. c.args.self.now.sites.items ++ stmt_sites (statement s)) (sym c.in-If.is)
+pub emit_stmt-emit_if-requires : goal.emit_stmt-emit_if-requires
+emit_stmt-emit_if-requires t c =
+    let fits = subst (λ (s : Stmt). SitesFit (stmt_sites (statement s))) c.in-If.is c.requires in
+    (search (rules, the_lemmas), subst (λ (s : Stmt). SitesFit (stmt_sites (statement s))) (sym c.deref-in-If.ensures) fits)
 
-pub emit_stmt-returns-in_ok-emit_stmt-in-If-clause-room : goal.emit_stmt-returns-in_ok-emit_stmt-in-If-clause-room
-emit_stmt-returns-in_ok-emit_stmt-in-If-clause-room t c =
-    let body = ap (λ s. deepest (statement s)) c.deref-in-If.ensures in
-    let is : deepest (statement c.args.s.now) ≡ max (depth (expression c.in-If.test)) (deepest (statement c.in-If.body.value)) = ap (λ s. deepest (statement s)) c.in-If.is in
-    omega (arith, is, body, c.in_ok-skip-in-If.ensures.room, c.in_ok-emit_stmt-in-If.ensures.room)
+pub emit_stmt-returns-in-If-clause-code : goal.emit_stmt-returns-in-If-clause-code
+emit_stmt-returns-in-If-clause-code t c =
+    subst (λ (s : Stmt). OnOk c.emit_if.result (c.emit_if.new.self.instrs.items ≡ c.args.self.now.instrs.items ++ stmt_code (length c.args.self.now.sites.items) (statement s))) (sym c.in-If.is)
+    (subst (λ (s : Stmt). OnOk c.emit_if.result (c.emit_if.new.self.instrs.items ≡ c.args.self.now.instrs.items ++ stmt_code (length c.args.self.now.sites.items) (trees.If (expression c.in-If.test) (statement s)))) c.deref-in-If.ensures c.emit_if.ensures.code)
 
-pub emit_stmt-returns-in_ok-emit_stmt-in-IfElse-2-clause-sites : goal.emit_stmt-returns-in_ok-emit_stmt-in-IfElse-2-clause-sites
-emit_stmt-returns-in_ok-emit_stmt-in-IfElse-2-clause-sites t c =
+pub emit_stmt-returns-in-If-clause-sites : goal.emit_stmt-returns-in-If-clause-sites
+emit_stmt-returns-in-If-clause-sites t c =
+    subst (λ (s : Stmt). OnOk c.emit_if.result (c.emit_if.new.self.sites.items ≡ c.args.self.now.sites.items ++ stmt_sites (statement s))) (sym c.in-If.is)
+    (subst (λ (s : Stmt). OnOk c.emit_if.result (c.emit_if.new.self.sites.items ≡ c.args.self.now.sites.items ++ stmt_sites (trees.If (expression c.in-If.test) (statement s)))) c.deref-in-If.ensures c.emit_if.ensures.sites)
+
+pub emit_stmt-returns-in-If-clause-room : goal.emit_stmt-returns-in-If-clause-room
+emit_stmt-returns-in-If-clause-room t c =
+    subst (λ (s : Stmt). OnOk c.emit_if.result (c.emit_if.new.self.room ≡ max c.args.self.now.room (deepest (statement s)))) (sym c.in-If.is)
+    (subst (λ (s : Stmt). OnOk c.emit_if.result (c.emit_if.new.self.room ≡ max c.args.self.now.room (deepest (trees.If (expression c.in-If.test) (statement s))))) c.deref-in-If.ensures c.emit_if.ensures.room)
+
+pub emit_stmt-emit_if_else-requires : goal.emit_stmt-emit_if_else-requires
+emit_stmt-emit_if_else-requires t c =
+    let fits = subst (λ (s : Stmt). SitesFit (stmt_sites (statement s))) c.in-IfElse.is c.requires in
+    let first = subst (λ (s : Stmt). SitesFit (stmt_sites (statement s) ++ stmt_sites (statement c.in-IfElse.second.value))) (sym c.deref-in-IfElse.ensures) fits in
+    (search (rules, the_lemmas), subst (λ (s : Stmt). SitesFit (stmt_sites (statement c.deref-in-IfElse.result.now) ++ stmt_sites (statement s))) (sym c.deref-in-IfElse-2.ensures) first)
+
+pub emit_stmt-returns-in-IfElse-clause-code : goal.emit_stmt-returns-in-IfElse-clause-code
+emit_stmt-returns-in-IfElse-clause-code t c =
+    subst (λ (s : Stmt). OnOk c.emit_if_else.result (c.emit_if_else.new.self.instrs.items ≡ c.args.self.now.instrs.items ++ stmt_code (length c.args.self.now.sites.items) (statement s))) (sym c.in-IfElse.is)
+    (subst (λ (s : Stmt). OnOk c.emit_if_else.result (c.emit_if_else.new.self.instrs.items ≡ c.args.self.now.instrs.items ++ stmt_code (length c.args.self.now.sites.items) (trees.IfElse (expression c.in-IfElse.test) (statement c.in-IfElse.first.value) (statement s)))) c.deref-in-IfElse-2.ensures
+    (subst (λ (s : Stmt). OnOk c.emit_if_else.result (c.emit_if_else.new.self.instrs.items ≡ c.args.self.now.instrs.items ++ stmt_code (length c.args.self.now.sites.items) (trees.IfElse (expression c.in-IfElse.test) (statement s) (statement c.deref-in-IfElse-2.result.now)))) c.deref-in-IfElse.ensures c.emit_if_else.ensures.code))
+
+pub emit_stmt-returns-in-IfElse-clause-sites : goal.emit_stmt-returns-in-IfElse-clause-sites
+emit_stmt-returns-in-IfElse-clause-sites t c =
+    subst (λ (s : Stmt). OnOk c.emit_if_else.result (c.emit_if_else.new.self.sites.items ≡ c.args.self.now.sites.items ++ stmt_sites (statement s))) (sym c.in-IfElse.is)
+    (subst (λ (s : Stmt). OnOk c.emit_if_else.result (c.emit_if_else.new.self.sites.items ≡ c.args.self.now.sites.items ++ stmt_sites (trees.IfElse (expression c.in-IfElse.test) (statement c.in-IfElse.first.value) (statement s)))) c.deref-in-IfElse-2.ensures
+    (subst (λ (s : Stmt). OnOk c.emit_if_else.result (c.emit_if_else.new.self.sites.items ≡ c.args.self.now.sites.items ++ stmt_sites (trees.IfElse (expression c.in-IfElse.test) (statement s) (statement c.deref-in-IfElse-2.result.now)))) c.deref-in-IfElse.ensures c.emit_if_else.ensures.sites))
+
+pub emit_stmt-returns-in-IfElse-clause-room : goal.emit_stmt-returns-in-IfElse-clause-room
+emit_stmt-returns-in-IfElse-clause-room t c =
+    subst (λ (s : Stmt). OnOk c.emit_if_else.result (c.emit_if_else.new.self.room ≡ max c.args.self.now.room (deepest (statement s)))) (sym c.in-IfElse.is)
+    (subst (λ (s : Stmt). OnOk c.emit_if_else.result (c.emit_if_else.new.self.room ≡ max c.args.self.now.room (deepest (trees.IfElse (expression c.in-IfElse.test) (statement c.in-IfElse.first.value) (statement s))))) c.deref-in-IfElse-2.ensures
+    (subst (λ (s : Stmt). OnOk c.emit_if_else.result (c.emit_if_else.new.self.room ≡ max c.args.self.now.room (deepest (trees.IfElse (expression c.in-IfElse.test) (statement s) (statement c.deref-in-IfElse-2.result.now))))) c.deref-in-IfElse.ensures c.emit_if_else.ensures.room))
+
+pub emit_stmt-emit_for-requires : goal.emit_stmt-emit_for-requires
+emit_stmt-emit_for-requires t c =
+    (search (rules, the_lemmas), subst (λ s. SitesFit (stmt_sites s)) (meant _ c.args.s.now c.in-For.beginning c.in-For.step c.in-For.test c.in-For.body c.deref-in-For.result.now c.deref-in-For-2.result.now c.deref-in-For-3.result.now c.in-For.is c.deref-in-For.ensures.value c.deref-in-For-2.ensures.value c.deref-in-For-3.ensures) c.requires)
+
+pub emit_stmt-returns-in-For-clause-code : goal.emit_stmt-returns-in-For-clause-code
+emit_stmt-returns-in-For-clause-code t c =
+    subst (λ s. OnOk c.emit_for.result (c.emit_for.new.self.instrs.items ≡ c.args.self.now.instrs.items ++ stmt_code (length c.args.self.now.sites.items) (s))) (sym (meant _ c.args.s.now c.in-For.beginning c.in-For.step c.in-For.test c.in-For.body c.deref-in-For.result.now c.deref-in-For-2.result.now c.deref-in-For-3.result.now c.in-For.is c.deref-in-For.ensures.value c.deref-in-For-2.ensures.value c.deref-in-For-3.ensures))
+    c.emit_for.ensures.code
+
+pub emit_stmt-returns-in-For-clause-sites : goal.emit_stmt-returns-in-For-clause-sites
+emit_stmt-returns-in-For-clause-sites t c =
+    subst (λ s. OnOk c.emit_for.result (c.emit_for.new.self.sites.items ≡ c.args.self.now.sites.items ++ stmt_sites (s))) (sym (meant _ c.args.s.now c.in-For.beginning c.in-For.step c.in-For.test c.in-For.body c.deref-in-For.result.now c.deref-in-For-2.result.now c.deref-in-For-3.result.now c.in-For.is c.deref-in-For.ensures.value c.deref-in-For-2.ensures.value c.deref-in-For-3.ensures))
+    c.emit_for.ensures.sites
+
+pub emit_stmt-returns-in-For-clause-room : goal.emit_stmt-returns-in-For-clause-room
+emit_stmt-returns-in-For-clause-room t c =
+    subst (λ s. OnOk c.emit_for.result (c.emit_for.new.self.room ≡ max c.args.self.now.room (deepest (s)))) (sym (meant _ c.args.s.now c.in-For.beginning c.in-For.step c.in-For.test c.in-For.body c.deref-in-For.result.now c.deref-in-For-2.result.now c.deref-in-For-3.result.now c.in-For.is c.deref-in-For.ensures.value c.deref-in-For-2.ensures.value c.deref-in-For-3.ensures))
+    c.emit_for.ensures.room
+
+pub emit_if-emit_stmt-requires : goal.emit_if-emit_stmt-requires
+emit_if-emit_stmt-requires t c = (search (rules, the_lemmas), c.requires)
+
+pub emit_if-pass_if_zero-requires : goal.emit_if-pass_if_zero-requires
+emit_if-pass_if_zero-requires t c = test_stands _ (expr_code (expression c.args.test.now)) _ _ _ _ c.in_ok-skip.ensures.place c.in_ok-skip.ensures.code c.in_ok-emit_stmt.ensures.code
+
+pub emit_if-returns-clause-code : goal.emit_if-returns-clause-code
+emit_if-returns-clause-code t c = patch_if _ _ _ _ _ _ _ c.in_ok-skip.ensures.code c.in_ok-skip.ensures.place c.in_ok-emit_stmt.ensures.code c.pass_if_zero.ensures
+
+pub emit_if-returns-clause-sites : goal.emit_if-returns-clause-sites
+emit_if-returns-clause-sites t c = c.in_ok-emit_stmt.ensures.sites
+
+pub emit_if-returns-clause-room : goal.emit_if-returns-clause-room
+emit_if-returns-clause-room t c = omega (arith, c.in_ok-skip.ensures.room, c.in_ok-emit_stmt.ensures.room)
+
+pub emit_if_else-emit_stmt-requires : goal.emit_if_else-emit_stmt-requires
+emit_if_else-emit_stmt-requires t c = (search (rules, the_lemmas), front_fits (stmt_sites (statement c.args.first.now)) (stmt_sites (statement c.args.second.now)) c.requires)
+
+pub emit_if_else-emit_stmt-requires-2 : goal.emit_if_else-emit_stmt-requires-2
+emit_if_else-emit_stmt-requires-2 t c = (search (rules, the_lemmas), back_fits (stmt_sites (statement c.args.first.now)) (stmt_sites (statement c.args.second.now)) c.requires)
+
+pub emit_if_else-begin_else-requires : goal.emit_if_else-begin_else-requires
+emit_if_else-begin_else-requires t c = test_stands _ (expr_code (expression c.args.test.now)) _ _ _ _ c.in_ok-skip.ensures.place c.in_ok-skip.ensures.code c.in_ok-emit_stmt.ensures.code
+
+pub emit_if_else-returns-clause-code : goal.emit_if_else-returns-clause-code
+emit_if_else-returns-clause-code t c =
+    let other = else_code c.begin_else.new.code.items _ c.args.self.now.sites.items c.emit_stmt.new.self.sites.items (statement c.args.first.now) (statement c.args.second.now) c.in_ok-emit_stmt.ensures.sites c.in_ok-emit_stmt-2.ensures.code in
+    patch_if_else _ _ _ _ _ _ _ _ _ _ _ c.in_ok-skip.ensures.code c.in_ok-skip.ensures.place c.in_ok-emit_stmt.ensures.code c.in_ok-jump.ensures.place c.in_ok-jump.ensures.code other c.pass.ensures
+
+pub emit_if_else-returns-clause-sites : goal.emit_if_else-returns-clause-sites
+emit_if_else-returns-clause-sites t c = two_sites c.args.self.now.sites.items _ _ _ _ c.in_ok-emit_stmt.ensures.sites c.in_ok-emit_stmt-2.ensures.sites
+
+pub emit_if_else-returns-clause-room : goal.emit_if_else-returns-clause-room
+emit_if_else-returns-clause-room t c = omega (arith, c.in_ok-skip.ensures.room, c.in_ok-emit_stmt.ensures.room, c.in_ok-emit_stmt-2.ensures.room)
+
+pub emit_for-emit_all-requires : goal.emit_for-emit_all-requires
+emit_for-emit_all-requires t c =
+    let row = all_sites (statements c.args.beginning.now) in
+    let body = stmt_sites (statement c.args.body.now) in
+    let step = all_sites (statements c.args.step.now) in
+    (search (rules, the_lemmas), front_fits row (body ++ step) c.requires)
+
+pub emit_for-emit_stmt-requires : goal.emit_for-emit_stmt-requires
+emit_for-emit_stmt-requires t c =
+    let row = all_sites (statements c.args.beginning.now) in
+    let body = stmt_sites (statement c.args.body.now) in
+    let step = all_sites (statements c.args.step.now) in
+    (search (rules, the_lemmas), front_fits body step (back_fits row (body ++ step) c.requires))
+
+pub emit_for-emit_all-requires-2 : goal.emit_for-emit_all-requires-2
+emit_for-emit_all-requires-2 t c =
+    let row = all_sites (statements c.args.beginning.now) in
+    let body = stmt_sites (statement c.args.body.now) in
+    let step = all_sites (statements c.args.step.now) in
+    (search (rules, the_lemmas), back_fits body step (back_fits row (body ++ step) c.requires))
+
+pub emit_for-end_turn-requires-clause-first : goal.emit_for-end_turn-requires-clause-first
+emit_for-end_turn-requires-clause-first t c =
+    let follows = turn_follows c.args.self.now.instrs.items (all_code (length c.args.self.now.sites.items) (statements c.args.beginning.now)) (test_code (optional c.args.test.now)) _ _ c.emit_test.new.code.items c.in_ok-begin.ensures c.in_ok-emit_all.ensures.code c.in_ok-emit_test.ensures.code in
+    omega (arith, follows, c.len-start.ensures)
+
+pub emit_for-end_turn-requires-clause-start : goal.emit_for-end_turn-requires-clause-start
+emit_for-end_turn-requires-clause-start t c =
+    let s = statement c.args.body.now in
+    let sites = c.emit_all.new.self.sites.items in
+    let starts = turn_starts (stmt_code (length sites) s) (all_code (length c.emit_stmt.new.self.sites.items) (statements c.args.step.now)) c.emit_test.new.code.items _ _ c.in_ok-emit_stmt.ensures.code c.in_ok-emit_all-2.ensures.code (stmt_some (length sites) s) in
+    omega (arith, starts, c.len-start.ensures)
+
+pub emit_for-returns-clause-code : goal.emit_for-returns-clause-code
+emit_for-returns-clause-code t c =
+    let base = c.args.self.now.instrs.items in
     let sites = c.args.self.now.sites.items in
-    two_sites sites _ _ _ _ c.in_ok-emit_stmt-in-IfElse.ensures.sites c.in_ok-emit_stmt-in-IfElse-2.ensures.sites
-    ∙ ap (λ s. sites ++ (stmt_sites (statement s) ++ stmt_sites (statement c.deref-in-IfElse-2.result.now))) c.deref-in-IfElse.ensures
-    ∙ ap (λ s. sites ++ (stmt_sites (statement c.in-IfElse.first.value) ++ stmt_sites (statement s))) c.deref-in-IfElse-2.ensures
-    ∙ ap (λ s. sites ++ stmt_sites (statement s)) (sym c.in-IfElse.is)
+    let row = statements c.args.beginning.now in
+    let body = statement c.args.body.now in
+    let step = statements c.args.step.now in
+    let test = optional c.args.test.now in
+    let s1 = c.emit_all.new.self.sites.items in
+    let s2 = c.emit_stmt.new.self.sites.items in
+    patch_for test base (all_code (length sites) row) (stmt_code (length s1) body) (all_code (length s2) step) _ _ _ _ _ _ _ c.in_ok-begin.ensures c.in_ok-emit_all.ensures.code c.in_ok-emit_test.ensures.code c.len-start.ensures c.in_ok-emit_stmt.ensures.code c.in_ok-emit_all-2.ensures.code c.in_ok-end_turn.ensures.code
+    ∙ ap (λ l. base ++ l) (for_code sites s1 s2 row step test body c.in_ok-emit_all.ensures.sites c.in_ok-emit_stmt.ensures.sites)
 
-pub emit_stmt-returns-in_ok-emit_stmt-in-IfElse-2-clause-room : goal.emit_stmt-returns-in_ok-emit_stmt-in-IfElse-2-clause-room
-emit_stmt-returns-in_ok-emit_stmt-in-IfElse-2-clause-room t c =
-    let first = ap (λ s. deepest (statement s)) c.deref-in-IfElse.ensures in
-    let second = ap (λ s. deepest (statement s)) c.deref-in-IfElse-2.ensures in
-    let is : deepest (statement c.args.s.now) ≡ max (depth (expression c.in-IfElse.test)) (max (deepest (statement c.in-IfElse.first.value)) (deepest (statement c.in-IfElse.second.value))) = ap (λ s. deepest (statement s)) c.in-IfElse.is in
-    omega (arith, is, first, second, c.in_ok-skip-in-IfElse.ensures.room, c.in_ok-emit_stmt-in-IfElse.ensures.room, c.in_ok-emit_stmt-in-IfElse-2.ensures.room)
+pub emit_for-returns-clause-sites : goal.emit_for-returns-clause-sites
+emit_for-returns-clause-sites t c = three_sites c.args.self.now.sites.items c.emit_all.new.self.sites.items c.emit_stmt.new.self.sites.items _ (all_sites (statements c.args.beginning.now)) (stmt_sites (statement c.args.body.now)) (all_sites (statements c.args.step.now)) c.in_ok-emit_all.ensures.sites c.in_ok-emit_stmt.ensures.sites c.in_ok-emit_all-2.ensures.sites
 
-pub emit_stmt-pass_if_zero-requires : goal.emit_stmt-pass_if_zero-requires
-emit_stmt-pass_if_zero-requires t c = test_stands _ (expr_code (expression c.in-If.test)) _ _ _ _ c.in_ok-skip-in-If.ensures.place c.in_ok-skip-in-If.ensures.code c.in_ok-emit_stmt-in-If.ensures.code
-
-pub emit_stmt-begin_else-requires : goal.emit_stmt-begin_else-requires
-emit_stmt-begin_else-requires t c = test_stands _ (expr_code (expression c.in-IfElse.test)) _ _ _ _ c.in_ok-skip-in-IfElse.ensures.place c.in_ok-skip-in-IfElse.ensures.code c.in_ok-emit_stmt-in-IfElse.ensures.code
+pub emit_for-returns-clause-room : goal.emit_for-returns-clause-room
+emit_for-returns-clause-room t c = omega (arith, c.in_ok-emit_all.ensures.room, c.in_ok-emit_test.ensures.room, c.in_ok-emit_stmt.ensures.room, c.in_ok-emit_all-2.ensures.room, c.in_ok-end_turn.ensures.room)
