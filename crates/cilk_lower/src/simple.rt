@@ -119,7 +119,6 @@ pub fn emit_assign(
 }
 
 /// Emits a compound assignment, whose mark is at byte `mark`.
-#[tactic(auto, using(crate::proofs::Lists::changed))]
 pub fn emit_change(
     code: &mut Listing,
     room: &mut usize,

@@ -10,13 +10,13 @@ use Rattle.cilk_program.specs.Syntax as trees
 use Rattle.cilk_lower.specs.declared.code.Instr.{Instr}
 use Rattle.cilk_program.specs.Programs.{declaration, expression, optional, statement, statements}
 use Rattle.cilk_lower.specs.declared.code.Instr.TheVariants.{Tick, JumpIfZero}
-use Rattle.cilk_lower.specs.Code.{SitesFit, declarations_sites, expr_code, if_code, if_else_code, stmt_code, stmt_sites, all_code, all_sites}
-use Rattle.cilk_lower.specs.Rooms.{depth, deepest, deepest_of_all}
+use Rattle.cilk_lower.specs.Code.{SitesFit, declarations_sites, expr_code, stmt_code, stmt_sites, all_code, all_sites}
+use Rattle.cilk_lower.specs.Rooms.{deepest, deepest_of_all}
 use Rattle.cilk_lower.specs.Turns.{test_code}
 use Rattle.cilk_lower.proofs.Lists.{append_none}
 use Rattle.cilk_lower.proofs.Named.{front_fits, back_fits}
 use Rattle.cilk_lower.proofs.Patch.{patch_if, patch_if_else, patch_for, turn_follows, turn_starts}
-use Rattle.cilk_lower.proofs.Rows.{block_is, for_is, row_fits, code_more, sites_more, room_more, row_code, meant, block_code, else_code, two_sites, three_sites, for_code, stmt_some}
+use Rattle.cilk_lower.proofs.Rows.{block_is, row_fits, code_more, sites_more, room_more, row_code, meant, block_code, else_code, two_sites, three_sites, for_code, stmt_some}
 use Rattle.cilk_lower.proofs.emitter.Emitter.+statements.Goals as goal
 
 always : (r : Result (Unit {0}) AllocError) (P : Type 0) → P → OnOk r P
