@@ -10,6 +10,7 @@ pub mod Laid
 pub mod Lands
 pub mod Leads
 pub mod Lists
+pub mod Mapped
 pub mod Named
 pub mod Numbers
 pub mod Once
