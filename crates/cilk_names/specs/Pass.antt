@@ -65,6 +65,12 @@ abbrev pub or_empty : {A : Type 0} → Option A → (A → Statement) → Statem
 or_empty None f = Empty
 or_empty (Some x) f = f x
 
+abbrev pub target_in : trees.Assignment → trees.Lvalue
+target_in (trees.Assignment.Set p e) = p
+target_in (trees.Compound op p e) = p
+target_in (trees.Increment p) = p
+target_in (trees.Decrement p) = p
+
 abbrev pub assignment_of : Names → trees.Assignment → Statement
 assignment_of names (trees.Assignment.Set p e) = or_empty (target_of names p) (λ t. Assign t (expression_of names e))
 assignment_of names (trees.Compound op p e) = or_empty (target_of names p) (λ t. Change t op (expression_of names e))

@@ -6,7 +6,7 @@ ghost use Rattle.cilk_program.specs.Programs.{expression, optional, statement, t
 ghost use Rattle.cilk_program.specs.Syntax.{Assign, Change, Step};
 ghost use Rattle.cilk_names.specs.Faults.{earliest};
 ghost use Rattle.cilk_names.specs.Misnamings.{expression_faults, optional_faults, place_faults, assignment_faults};
-ghost use Rattle.cilk_names.specs.Pass.{assignment_of, element_of, expression_of, optional_of, or_empty, read_of, target_of, value_of};
+ghost use Rattle.cilk_names.specs.Pass.{assignment_of, element_of, expression_of, optional_of, or_empty, read_of, target_in, target_of, value_of};
 ghost use Rattle.cilk_names.specs.Tables.{names_of};
 
 use crate::kind::Misnaming;
@@ -151,6 +151,18 @@ fn place_of(tree: &tree::Lvalue) -> usize {
     }
 }
 
+/// Returns the target of an assignment.
+fn target_in(tree: &tree::Assignment) -> &tree::Lvalue
+    ensures { trees.place result.now ≡ target_in (trees.assignment tree.now) }
+{
+    match tree {
+        tree::Assignment::Set(place, _)
+        | tree::Assignment::Compound(_, _, place, _)
+        | tree::Assignment::Increment(place)
+        | tree::Assignment::Decrement(place) => place,
+    }
+}
+
 /// Makes an assignment of a value to a target named at a place of the text, or an empty statement if
 /// there is no target.
 fn assign(at: usize, place: Option<Target>, value: Expr) -> Stmt
@@ -195,26 +207,19 @@ pub(crate) fn assignment(
     ensures faults { OnOk result (first.new ≡ earliest first.old (assignment_faults (names_of table.now) (trees.assignment tree.now))) }
     ensures value { IfOk result (λ r. statement r ≡ assignment_of (names_of table.now) (trees.assignment tree.now)) }
 {
+    let named = target_in(tree);
+    let at = place_of(named);
+    let place = target(alloc, table, named, first)?;
     match tree {
-        tree::Assignment::Set(place, value) => {
-            let at = place_of(place);
-            let place = target(alloc, table, place, first)?;
+        tree::Assignment::Set(_, value) => {
             let value = expression(alloc, table, value, first)?;
             Ok(assign(at, place, value))
         }
-        tree::Assignment::Compound(mark, operator, place, value) => {
-            let at = place_of(place);
-            let place = target(alloc, table, place, first)?;
+        tree::Assignment::Compound(mark, operator, _, value) => {
             let value = expression(alloc, table, value, first)?;
             Ok(change(at, place, *mark, *operator, value))
         }
-        tree::Assignment::Increment(place) => {
-            let at = place_of(place);
-            Ok(step(at, target(alloc, table, place, first)?, 1))
-        }
-        tree::Assignment::Decrement(place) => {
-            let at = place_of(place);
-            Ok(step(at, target(alloc, table, place, first)?, -1))
-        }
+        tree::Assignment::Increment(_) => Ok(step(at, place, 1)),
+        tree::Assignment::Decrement(_) => Ok(step(at, place, -1)),
     }
 }
