@@ -2,7 +2,8 @@
 --
 -- `one_statement`, `one_row`: by pairs of trees that begin with the same token (`same_tag`).
 -- `one_body`: the body of a function.
-use Rattle.std.proofs.Common.{◌≡◌, ℕ, true, List, ◌∷◌, Option, Some, None, refl, sym, ap, ◌∙◌, subst}
+use Rattle.std.proofs.Common.{◌≡◌, ℕ, true, false, eqb, List, ◌∷◌, Option, Some, None, refl, sym, ap, ◌∙◌, subst}
+use Rattle.std.proofs.lemmas.Bool.{eqb-false}
 use Rattle.cilk_syntax.specs.declared.token.Kind.{Kind}
 use Rattle.cilk_syntax.specs.declared.token.Kind.TheVariants as kinds
 use Rattle.cilk_syntax.specs.declared.token.Token.{Token}
@@ -95,6 +96,10 @@ tagged (trees.Return at value) ts r h = (kinds.Return, h.0, is_at h.1, refl)
 tagged (trees.Print e) ts r h = (kinds.Print, h.0, h.2, refl)
 tagged (trees.Update name e) ts r h = (kinds.Update, h.0, h.1, refl)
 tagged (Statement.Set name e) ts r h = (kinds.Set, h.0, h.1, refl)
+
+-- trees that begin with different tokens are apart
+other_tag : {A : Type 0} (m n : ℕ) → eqb m n ≡ false → m ≡ n → A
+other_tag m n e t = absurd (eqb-false m n e t)
 
 same_some : (m n : ℕ) → ◌≡◌ {A = Option ℕ} (Some m) (Some n) → m ≡ n
 same_some m n e = cc
@@ -227,7 +232,7 @@ mutual
       let a = same_is p h.1 k.1 in
       let b = one_update m n e f h.0 k.0 r z a.1 h.2 k.2 in
       (ap (λ x. Statement.Set x e) b.0 ∙ ap (λ x. Statement.Set n x) b.1, b.2)
-  one_statement _ _ ts us r z t p h k = cc
+  one_statement s q ts us r z t p h k = other_tag (tag s) (tag q) refl t
 
   one_row : (s q : Statements) (ts us r z x y : List Token) → ts ≡ us → SpellsAll s ts r → SpellsAll q us z
       → Is kinds.CloseBrace r x → Is kinds.CloseBrace z y → (s ≡ q) × (r ≡ z)
