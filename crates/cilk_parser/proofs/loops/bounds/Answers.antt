@@ -13,6 +13,22 @@ second d stack = Named ∷ One marks.Less ∷ Operand d ∷ Tail d ∷ Anew ∷ 
 abbrev first : ℕ → List Symbol → List Symbol
 first d stack = Named ∷ One marks.Assign ∷ Operand d ∷ Tail d ∷ Anew ∷ One marks.Semicolon ∷ second d stack
 
+pub returns-clause-reads : goal.returns-clause-reads
+returns-clause-reads c =
+    let d = c.args.depth in
+    λ stack. c.in_ok-rest.ensures.reads (One marks.Int ∷ first d stack) 0
+    ∙ (c.in_ok-rest-2.ensures.reads (first d stack) 0
+    ∙ (c.in_ok-variable.ensures.reads (second d stack)
+    ∙ (c.in_ok-tested.ensures.reads (UnitStep ∷ One marks.Close ∷ stack) ∙ c.in_ok-stepped.ensures.reads stack)))
+
+pub returns-in_err-variable-clause-stops : goal.returns-in_err-variable-clause-stops
+returns-in_err-variable-clause-stops c =
+    let d = c.args.depth in
+    handed c.from_residual-in_err-variable.result c.in_err-variable.field-0.0 _ c.from_residual-in_err-variable.ensures.1
+    (λ stack. along _ c.args.tokens.now c.in_ok-rest-2.rest.now (One marks.Open ∷ One marks.Int ∷ first d stack) (first d stack)
+    (c.in_ok-rest.ensures.reads (One marks.Int ∷ first d stack) 0 ∙ c.in_ok-rest-2.ensures.reads (first d stack) 0)
+    (c.in_err-variable.ensures.stops (second d stack)))
+
 pub returns-in_err-tested-clause-stops : goal.returns-in_err-tested-clause-stops
 returns-in_err-tested-clause-stops c =
     let d = c.args.depth in
