@@ -1,4 +1,4 @@
-use Rattle.std.proofs.Common.{◌≡◌, ◌≢◌, ◌≤◌, ℕ, pos, List, [], ◌∷◌, ◌∙◌, length, ap, sym, refl, false, rules, arith, slice_index_or}
+use Rattle.std.proofs.Common.{◌≡◌, ◌≢◌, ◌≤◌, ℕ, pos, List, [], ◌∷◌, ◌∙◌, length, ap, sym, subst, refl, false, rules, arith, slice_index_or}
 use Rattle.cilk_syntax.specs.declared.token.Kind.{Kind}
 use Rattle.cilk_syntax.specs.declared.token.Kind.TheVariants as kinds
 use Rattle.cilk_syntax.specs.declared.token.Token.{Token}
@@ -6,6 +6,7 @@ use Rattle.cilk_syntax.specs.declared.marks.Punct.TheVariants as marks
 use Rattle.cilk_syntax.specs.Expected.{Symbol, One, Named, Subscript, Assignment, Statement, Goes, Fails, Unexpected, after, settled, nests, first_nests, run}
 use Rattle.cilk_syntax.specs.Grammar.{Is}
 use Rattle.cilk_syntax.specs.Limits.{is_deep}
+use Rattle.cilk_syntax.specs.Stops.{IsStop}
 use Rattle.cilk_syntax.proofs.Runs.{takes, shallow}
 use Rattle.cilk_syntax.proofs.Stopping.{along, first_is, if_ok, if_err}
 use Rattle.cilk_parser.proofs.statements.simple.Goals as goal
@@ -99,3 +100,71 @@ returns-in-Decrement-clause-stops c =
     (λ e h stack. along _ c.args.tokens.now c.args.tokens.now (Statement c.args.depth ∷ stack) (Assignment c.args.depth ∷ One marks.Semicolon ∷ stack)
     (stepped kinds.Decrement _ _ c.args.depth stack (omega arith) (first_is _ t0 kinds.Decrement c.in-len1-up.len_at_least kind) refl refl) (h stack))
     c.ended_assignment-in-Decrement.ensures.stops
+
+-- a token that begins a statement is read
+opens : (k : Kind) (ts ts1 : List Token) (d : ℕ) (stack front : List Symbol) → d ≤ 64 → Is k ts ts1 → after (Statement d ∷ stack) 0 k ≡ Goes (is_deep d) front 0 → run ts (Statement d ∷ stack) 0 ≡ run ts1 front 0
+opens k ts ts1 d stack front l is e = takes k ts ts1 (Statement d ∷ stack) front 0 0 is (e ∙ ap (λ b. Goes b front 0) (shallow d l))
+
+pub returns-in-Int-clause-reads : goal.returns-in-Int-clause-reads
+returns-in-Int-clause-reads c =
+    let t0 : Token = record { kind = kinds.Number (pos 0); at = 0; end = 0 } in
+    let kind : (slice_index_or c.args.tokens.now 0 t0).kind ≡ kinds.Int = search rules in
+    let is = first_is _ t0 kinds.Int c.in-len1-up.len_at_least kind in
+    let low : c.args.depth ≤ 64 = omega arith in
+    if_ok c.declaration.result _ _ (λ v h stack. opens kinds.Int _ _ c.args.depth stack _ low is refl ∙ h stack) c.declaration.ensures.reads
+
+pub returns-in-Int-clause-stops : goal.returns-in-Int-clause-stops
+returns-in-Int-clause-stops c =
+    let t0 : Token = record { kind = kinds.Number (pos 0); at = 0; end = 0 } in
+    let kind : (slice_index_or c.args.tokens.now 0 t0).kind ≡ kinds.Int = search rules in
+    let is = first_is _ t0 kinds.Int c.in-len1-up.len_at_least kind in
+    let low : c.args.depth ≤ 64 = omega arith in
+    if_err c.declaration.result _ _ (λ e h stack. subst (IsStop e) (sym (opens kinds.Int _ _ c.args.depth stack _ low is refl)) (h stack)) c.declaration.ensures.stops
+
+pub returns-in-Name-clause-reads : goal.returns-in-Name-clause-reads
+returns-in-Name-clause-reads c =
+    let t0 : Token = record { kind = kinds.Number (pos 0); at = 0; end = 0 } in
+    let kind : (slice_index_or c.args.tokens.now 0 t0).kind ≡ kinds.Name = search rules in
+    let is = first_is _ t0 kinds.Name c.in-len1-up.len_at_least kind in
+    let low : c.args.depth ≤ 64 = omega arith in
+    if_ok c.named.result _ _ (λ v h stack. opens kinds.Name _ _ c.args.depth stack _ low is refl ∙ h stack) c.named.ensures.reads
+
+pub returns-in-Name-clause-stops : goal.returns-in-Name-clause-stops
+returns-in-Name-clause-stops c =
+    let t0 : Token = record { kind = kinds.Number (pos 0); at = 0; end = 0 } in
+    let kind : (slice_index_or c.args.tokens.now 0 t0).kind ≡ kinds.Name = search rules in
+    let is = first_is _ t0 kinds.Name c.in-len1-up.len_at_least kind in
+    let low : c.args.depth ≤ 64 = omega arith in
+    if_err c.named.result _ _ (λ e h stack. subst (IsStop e) (sym (opens kinds.Name _ _ c.args.depth stack _ low is refl)) (h stack)) c.named.ensures.stops
+
+pub returns-in-CilkSpawn-clause-reads : goal.returns-in-CilkSpawn-clause-reads
+returns-in-CilkSpawn-clause-reads c =
+    let t0 : Token = record { kind = kinds.Number (pos 0); at = 0; end = 0 } in
+    let kind : (slice_index_or c.args.tokens.now 0 t0).kind ≡ kinds.CilkSpawn = search rules in
+    let is = first_is _ t0 kinds.CilkSpawn c.in-len1-up.len_at_least kind in
+    let low : c.args.depth ≤ 64 = omega arith in
+    if_ok c.spawned.result _ _ (λ v h stack. opens kinds.CilkSpawn _ _ c.args.depth stack _ low is refl ∙ h stack) c.spawned.ensures.reads
+
+pub returns-in-CilkSpawn-clause-stops : goal.returns-in-CilkSpawn-clause-stops
+returns-in-CilkSpawn-clause-stops c =
+    let t0 : Token = record { kind = kinds.Number (pos 0); at = 0; end = 0 } in
+    let kind : (slice_index_or c.args.tokens.now 0 t0).kind ≡ kinds.CilkSpawn = search rules in
+    let is = first_is _ t0 kinds.CilkSpawn c.in-len1-up.len_at_least kind in
+    let low : c.args.depth ≤ 64 = omega arith in
+    if_err c.spawned.result _ _ (λ e h stack. subst (IsStop e) (sym (opens kinds.CilkSpawn _ _ c.args.depth stack _ low is refl)) (h stack)) c.spawned.ensures.stops
+
+pub returns-in-Print-clause-reads : goal.returns-in-Print-clause-reads
+returns-in-Print-clause-reads c =
+    let t0 : Token = record { kind = kinds.Number (pos 0); at = 0; end = 0 } in
+    let kind : (slice_index_or c.args.tokens.now 0 t0).kind ≡ kinds.Print = search rules in
+    let is = first_is _ t0 kinds.Print c.in-len1-up.len_at_least kind in
+    let low : c.args.depth ≤ 64 = omega arith in
+    if_ok c.printed.result _ _ (λ v h stack. opens kinds.Print _ _ c.args.depth stack _ low is refl ∙ h stack) c.printed.ensures.reads
+
+pub returns-in-Print-clause-stops : goal.returns-in-Print-clause-stops
+returns-in-Print-clause-stops c =
+    let t0 : Token = record { kind = kinds.Number (pos 0); at = 0; end = 0 } in
+    let kind : (slice_index_or c.args.tokens.now 0 t0).kind ≡ kinds.Print = search rules in
+    let is = first_is _ t0 kinds.Print c.in-len1-up.len_at_least kind in
+    let low : c.args.depth ≤ 64 = omega arith in
+    if_err c.printed.result _ _ (λ e h stack. subst (IsStop e) (sym (opens kinds.Print _ _ c.args.depth stack _ low is refl)) (h stack)) c.printed.ensures.stops
