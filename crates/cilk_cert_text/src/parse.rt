@@ -1,9 +1,9 @@
 // Parsing a line of a known form.
 
-ghost use Rattle.std.specs.Prelude.{◌≡◌, IfSome, IsTrue, option_map};
+ghost use Rattle.std.specs.Prelude.{◌≡◌, IfSome, IsTrue, option_map, take, drop};
 ghost use Rattle.cilk_cert_text.specs.declared.line.Keyword.TheVariants as keywords;
 ghost use Rattle.cilk_cert_text.specs.declared.line.Version.TheVariants as versions;
-ghost use Rattle.cilk_cert_text.specs.Lines.{keyword_of, reducer_at, reducer_value_at, entry_at, event_line, version_of, version_line, is_size, size_line, frame_line, strand_line, result_line, end_line, line_of};
+ghost use Rattle.cilk_cert_text.specs.Lines.{all_keywords, first_spelled, keyword_of, reducer_at, reducer_value_at, entry_at, event_line, version_of, version_line, is_size, size_line, frame_line, strand_line, result_line, end_line, line_of};
 ghost use Rattle.cilk_cert_text.specs.Words.{words};
 ghost use Rattle.cilk_cert_text.specs.Parsing.{words_in};
 
@@ -12,10 +12,10 @@ use crate::word::{self, after, alone, first, number, value};
 use cilk_types::event::{FrameNo, Instance, StrandNo};
 use cilk_types::limits::{MAX_EVENTS, MAX_FRAMES};
 
-/// Returns the keyword with this spelling.
-#[tactic(auto, unfolding(crate::specs::Lines::keyword_of))]
-fn keyword(word: &[u8]) -> Option<Keyword>
-    ensures { result ≡ keyword_of word.now }
+/// Returns the keyword with this spelling, if it is one of the first seven.
+#[inline(always)]
+fn first_keyword(word: &[u8]) -> Option<Keyword>
+    ensures { result ≡ first_spelled (take 7 all_keywords) word.now }
 {
     if word == b"begin".as_slice() {
         return Some(Keyword::Begin);
@@ -38,6 +38,14 @@ fn keyword(word: &[u8]) -> Option<Keyword>
     if word == b"read".as_slice() {
         return Some(Keyword::Read);
     }
+    None
+}
+
+/// Returns the keyword with this spelling, if it is one of the others.
+#[inline(always)]
+fn later_keyword(word: &[u8]) -> Option<Keyword>
+    ensures { result ≡ first_spelled (drop 7 all_keywords) word.now }
+{
     if word == b"write".as_slice() {
         return Some(Keyword::Write);
     }
@@ -57,6 +65,16 @@ fn keyword(word: &[u8]) -> Option<Keyword>
         return Some(Keyword::Print);
     }
     None
+}
+
+/// Returns the keyword with this spelling.
+fn keyword(word: &[u8]) -> Option<Keyword>
+    ensures { result ≡ keyword_of word.now }
+{
+    if let Some(keyword) = first_keyword(word) {
+        return Some(keyword);
+    }
+    later_keyword(word)
 }
 
 /// Parses a reducer's name, in the form of the version.
