@@ -31,11 +31,14 @@
 mod helpers;
 #[cfg(test)]
 mod other_inputs;
-pub mod others;
+#[cfg(test)]
+mod others;
 #[cfg(test)]
 mod plans;
-pub mod settings;
-pub mod steps;
+#[cfg(test)]
+mod settings;
+#[cfg(test)]
+mod steps;
 #[cfg(test)]
 mod texts;
 #[cfg(test)]
