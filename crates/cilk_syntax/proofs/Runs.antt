@@ -1,5 +1,5 @@
 -- How the reading of tokens continues.
-use Rattle.std.proofs.Common.{◌≡◌, ◌≢◌, ℕ, ◌+◌, ◌<◌, ◌≤◌, true, false, cond, ◌&&◌, ◌||◌, List, [], ◌∷◌, Option, Some, None, refl, sym, ap, ◌∙◌, arith, lit≤}
+use Rattle.std.proofs.Common.{◌≡◌, ◌≢◌, ℕ, ◌+◌, ◌<◌, ◌≤◌, Bool, true, false, cond, ◌&&◌, ◌||◌, List, [], ◌∷◌, Option, Some, None, refl, sym, ap, subst, ◌∙◌, arith, lit≤}
 use Rattle.cilk_syntax.specs.declared.token.Token.{Token}
 use Rattle.cilk_syntax.specs.declared.token.Kind.{Kind}
 use Rattle.cilk_syntax.specs.declared.token.Kind.TheVariants as kinds
@@ -221,12 +221,32 @@ signs_end op ts ts1 d stack n is h l =
     ∙ (signed op is.0 ts1 d stack n is.2 h
     ∙ (ap (λ b. cond b (PastLimit (is.0 ∷ ts1)) (run ts1 (Operand (d + 1) ∷ stack) (n + 1))) (many (n + 1) l) ∙ ap PastLimit (sym is.1)))
 
-call_source : (k k' : Kind) (d : ℕ) (t' : Token) (ts here : List Token) (stack : List Symbol) (n : ℕ) → t'.kind ≡ k' → is_name k && is_open k' ≡ true → is_deep d ≡ false → settled (after (Source d ∷ stack) n k) (run (t' ∷ ts)) here ≡ settled (after (Named ∷ One Open ∷ Arguments d ∷ stack) n k) (run (t' ∷ ts)) here
-call_source kinds.Name kinds.Open d t' ts here stack n e h deep =
+never : {A : Type 0} → false ≡ true → A
+never h = cc
+
+named_kind : (k : Kind) → is_name k ≡ true → k ≡ kinds.Name
+named_kind kinds.Name h = refl
+named_kind _ h = never h
+
+open_kind : (k : Kind) → is_open k ≡ true → k ≡ kinds.Open
+open_kind kinds.Open h = refl
+open_kind _ h = never h
+
+both : (a b : Bool) → (a && b) ≡ true → (a ≡ true) × (b ≡ true)
+both true b h = (refl, h)
+both false b h = never h
+
+named_source : (d : ℕ) (t' : Token) (ts here : List Token) (stack : List Symbol) (n : ℕ) → t'.kind ≡ kinds.Open → is_deep d ≡ false → settled (after (Source d ∷ stack) n kinds.Name) (run (t' ∷ ts)) here ≡ settled (after (Named ∷ One Open ∷ Arguments d ∷ stack) n kinds.Name) (run (t' ∷ ts)) here
+named_source d t' ts here stack n e deep =
     ap (λ b. cond b (PastLimit here) (run (t' ∷ ts) (SourceRest d ∷ stack) n)) deep
     ∙ (takes kinds.Open (t' ∷ ts) ts (SourceRest d ∷ stack) (Arguments d ∷ stack) n n (t', refl, e) refl
     ∙ sym (takes kinds.Open (t' ∷ ts) ts (One Open ∷ Arguments d ∷ stack) (Arguments d ∷ stack) n n (t', refl, e) refl))
-call_source _ _ d t' ts here stack n e h deep = cc
+
+call_source : (k k' : Kind) (d : ℕ) (t' : Token) (ts here : List Token) (stack : List Symbol) (n : ℕ) → t'.kind ≡ k' → is_name k && is_open k' ≡ true → is_deep d ≡ false → settled (after (Source d ∷ stack) n k) (run (t' ∷ ts)) here ≡ settled (after (Named ∷ One Open ∷ Arguments d ∷ stack) n k) (run (t' ∷ ts)) here
+call_source k k' d t' ts here stack n e h deep =
+    let b = both (is_name k) (is_open k') h in
+    subst (λ (x : Kind). settled (after (Source d ∷ stack) n x) (run (t' ∷ ts)) here ≡ settled (after (Named ∷ One Open ∷ Arguments d ∷ stack) n x) (run (t' ∷ ts)) here)
+    (sym (named_kind k b.0)) (named_source d t' ts here stack n (e ∙ open_kind k' b.1) deep)
 
 -- a name and a parenthesis after an `=` begin a call
 pub called_source : (ts : List Token) (d : ℕ) (stack : List Symbol) (n : ℕ) → begins_call ts ≡ true → d ≤ 64 → run ts (Source d ∷ stack) n ≡ run ts (Named ∷ One Open ∷ Arguments d ∷ stack) n

@@ -1,6 +1,6 @@
 -- A text has only one list of tokens: its first piece is a function of its bytes.
 use Rattle.std.proofs.Common.{◌≡◌, ◌≢◌, ℕ, ◌+◌, ◌<◌, Bool, true, false, cond, ◌||◌, ◌&&◌, ◌==◌, nat_lt, if◌then◌else◌, List, [], ◌∷◌, length, drop, Option, Some, None, pos, ◌⊎◌, inl, inr, refl, sym, ap, ◌∙◌, subst, arith}
-use Rattle.std.proofs.lemmas.Bool.Decides.{nat_tests}
+use Rattle.std.proofs.lemmas.Bool.{eqb-true, ltb-true, le-ltb, ne_eqb}
 use Rattle.cilk_syntax.specs.declared.token.Kind.{Kind}
 use Rattle.cilk_syntax.specs.declared.token.Kind.TheVariants as kinds
 use Rattle.cilk_syntax.specs.declared.token.Token.{Token}
@@ -10,6 +10,9 @@ use Rattle.cilk_syntax.specs.Gaps.{Gap}
 use Rattle.cilk_syntax.specs.Gaps as gaps
 use Rattle.cilk_syntax.specs.Lexing.{is_blank, is_digit, is_letter, belongs, front_of, behind, begins_with, after_close, value_of, starts_digit, starts_letter, Passes, Spells, Lexes, Ended, Skipped, Found, AreTokens}
 
+never : {A : Type 0} → false ≡ true → A
+never h = cc
+
 same_bytes : List ℕ → List ℕ → Bool
 same_bytes [] [] = true
 same_bytes [] (c ∷ cs) = false
@@ -18,16 +21,16 @@ same_bytes (b ∷ bs) (c ∷ cs) = (b == c) && same_bytes bs cs
 
 both : (a b : Bool) → (a && b) ≡ true → (a ≡ true) × (b ≡ true)
 both true b h = (refl, h)
-both false b h = cc
+both false b h = never h
 
 pub same_byte : (b c : ℕ) → (b == c) ≡ true → b ≡ c
-same_byte b c h = grind (arith, nat_tests)
+same_byte b c h = eqb-true b c h
 
 same_are : (bs cs : List ℕ) → same_bytes bs cs ≡ true → bs ≡ cs
 unfolding same_bytes
 same_are [] [] h = refl
-same_are [] (c ∷ cs) h = cc
-same_are (b ∷ bs) [] h = cc
+same_are [] (c ∷ cs) h = never h
+same_are (b ∷ bs) [] h = never h
 same_are (b ∷ bs) (c ∷ cs) h =
     let p = both (b == c) (same_bytes bs cs) h in
     ap (λ x. x ∷ bs) (same_byte b c p.0) ∙ ap (λ x. c ∷ x) (same_are bs cs p.1)
@@ -96,28 +99,28 @@ no_letter b x y z =
     ap (λ t. ((t && nat_lt b 91) || (nat_lt 96 b && nat_lt b 123)) || (b == 95)) x ∙ (ap (λ t. (t && nat_lt b 123) || (b == 95)) y ∙ z)
 
 below_64 : (b : ℕ) → b < 58 → nat_lt 64 b ≡ false
-below_64 b h = grind (arith, nat_tests)
+below_64 b h = le-ltb 64 b (omega (arith, h))
 
 below_96 : (b : ℕ) → b < 58 → nat_lt 96 b ≡ false
-below_96 b h = grind (arith, nat_tests)
+below_96 b h = le-ltb 96 b (omega (arith, h))
 
 not_95 : (b : ℕ) → b < 58 → (b == 95) ≡ false
-not_95 b h = grind (arith, nat_tests)
+not_95 b h = ne_eqb b 95 (λ e. omega (arith, h, e))
 
 pub low_no_letter : (b : ℕ) → b < 58 → is_letter b ≡ false
 low_no_letter b h = no_letter b (below_64 b h) (below_96 b h) (not_95 b h)
 
 below_58 : (b : ℕ) → nat_lt b 58 ≡ true → b < 58
-below_58 b h = grind (arith, nat_tests)
+below_58 b h = ltb-true b 58 h
 
 pub digit_no_letter : (b : ℕ) → is_digit b ≡ true → is_letter b ≡ false
 digit_no_letter b h = low_no_letter b (below_58 b (both (nat_lt 47 b) (nat_lt b 58) h).1)
 
 is_32 : (b : ℕ) → (b == 32) ≡ true → b < 33
-is_32 b h = grind (arith, nat_tests)
+is_32 b h = omega (arith, eqb-true b 32 h)
 
 below_14 : (b : ℕ) → nat_lt b 14 ≡ true → b < 33
-below_14 b h = grind (arith, nat_tests)
+below_14 b h = omega (arith, ltb-true b 14 h)
 
 either : (a c : Bool) → (a || c) ≡ true → (a ≡ true) ⊎ (c ≡ true)
 either true c h = inl refl
@@ -131,7 +134,7 @@ blank_low b h = choose (either (b == 32) (nat_lt 8 b && nat_lt b 14) h)
     choose (inr e) = below_14 b (both (nat_lt 8 b) (nat_lt b 14) e).1
 
 pub below_47 : (b : ℕ) → b < 33 → nat_lt 47 b ≡ false
-below_47 b h = grind (arith, nat_tests)
+below_47 b h = le-ltb 47 b (omega (arith, h))
 
 word_front : (fresh : Bool) (bytes : List ℕ) → starts_letter bytes ≡ true → front fresh bytes ≡ Cuts (named words (front_of classes.Word bytes)) (behind classes.Word bytes)
 word_front fresh [] h = cc
@@ -178,7 +181,7 @@ word_named kinds.Set h = refl
 word_named kinds.Value h = refl
 word_named kinds.Input h = refl
 word_named kinds.InputCount h = refl
-word_named _ h = cc
+word_named _ h = never h
 
 word_starts : (k : Kind) → is_reserved k ≡ true → starts_letter (spelling k) ≡ true
 word_starts kinds.Int h = refl
@@ -198,7 +201,7 @@ word_starts kinds.Set h = refl
 word_starts kinds.Value h = refl
 word_starts kinds.Input h = refl
 word_starts kinds.InputCount h = refl
-word_starts _ h = cc
+word_starts _ h = never h
 
 -- a word that isn't reserved is a name
 pub not_same : (t : Bool) → (t ≡ true → ⊥) → t ≡ false
