@@ -8,6 +8,7 @@ ghost use Rattle.std.specs.Prelude.{◌≡◌, ◌≢◌, ℕ, ◌+◌, ◌<◌,
 ghost use Rattle.cilk_syntax.specs.declared.lexer.LexErrorKind.TheVariants as bads;
 ghost use Rattle.cilk_syntax.specs.declared.lexer.Class.TheVariants as classes;
 ghost use Rattle.cilk_syntax.specs.declared.token.Kind.{Kind};
+ghost use Rattle.cilk_syntax.specs.declared.token.Kind.TheVariants as kinds;
 ghost use Rattle.cilk_syntax.specs.declared.token.Token.{Token};
 ghost use Rattle.cilk_syntax.specs.Kinds.{spelling, is_reserved};
 ghost use Rattle.cilk_syntax.specs.Lexing;
@@ -173,10 +174,14 @@ fn slash(fresh: bool, tail: &[u8]) -> Front<'_>
     Front::Word(Kind::Slash, tail)
 }
 
-/// Returns the reserved word with this spelling.
-fn reserved(word: &[u8]) -> Option<Kind>
+/// Returns the word of C with this spelling.
+#[inline(always)]
+fn word_of_c(word: &[u8]) -> Option<Kind>
     ensures found { IfSome result (λ k. (word.now ≡ spelling k) × (is_reserved k ≡ true)) }
-    ensures none { IfNone result ((k : Kind) → is_reserved k ≡ true → word.now ≢ spelling k) }
+    ensures none { IfNone result ((word.now ≢ spelling kinds.Int) × (word.now ≢ spelling kinds.Void)
+        × (word.now ≢ spelling kinds.If) × (word.now ≢ spelling kinds.Else)
+        × (word.now ≢ spelling kinds.While) × (word.now ≢ spelling kinds.For)
+        × (word.now ≢ spelling kinds.Return)) }
 {
     if word == b"int".as_slice() {
         return Some(Kind::Int);
@@ -199,6 +204,16 @@ fn reserved(word: &[u8]) -> Option<Kind>
     if word == b"return".as_slice() {
         return Some(Kind::Return);
     }
+    None
+}
+
+/// Returns the word of Cilk with this spelling.
+#[inline(always)]
+fn word_of_cilk(word: &[u8]) -> Option<Kind>
+    ensures found { IfSome result (λ k. (word.now ≡ spelling k) × (is_reserved k ≡ true)) }
+    ensures none { IfNone result ((word.now ≢ spelling kinds.CilkSpawn) × (word.now ≢ spelling kinds.CilkSync)
+        × (word.now ≢ spelling kinds.CilkFor) × (word.now ≢ spelling kinds.CilkReducer)) }
+{
     if word == b"cilk_spawn".as_slice() {
         return Some(Kind::CilkSpawn);
     }
@@ -211,6 +226,17 @@ fn reserved(word: &[u8]) -> Option<Kind>
     if word == b"cilk_reducer".as_slice() {
         return Some(Kind::CilkReducer);
     }
+    None
+}
+
+/// Returns the word of this language alone with this spelling.
+#[inline(always)]
+fn own_word(word: &[u8]) -> Option<Kind>
+    ensures found { IfSome result (λ k. (word.now ≡ spelling k) × (is_reserved k ≡ true)) }
+    ensures none { IfNone result ((word.now ≢ spelling kinds.Print) × (word.now ≢ spelling kinds.Update)
+        × (word.now ≢ spelling kinds.Set) × (word.now ≢ spelling kinds.Value)
+        × (word.now ≢ spelling kinds.Input) × (word.now ≢ spelling kinds.InputCount)) }
+{
     if word == b"print".as_slice() {
         return Some(Kind::Print);
     }
@@ -230,6 +256,20 @@ fn reserved(word: &[u8]) -> Option<Kind>
         return Some(Kind::InputCount);
     }
     None
+}
+
+/// Returns the reserved word with this spelling.
+fn reserved(word: &[u8]) -> Option<Kind>
+    ensures found { IfSome result (λ k. (word.now ≡ spelling k) × (is_reserved k ≡ true)) }
+    ensures none { IfNone result ((k : Kind) → is_reserved k ≡ true → word.now ≢ spelling k) }
+{
+    if let Some(kind) = word_of_c(word) {
+        return Some(kind);
+    }
+    if let Some(kind) = word_of_cilk(word) {
+        return Some(kind);
+    }
+    own_word(word)
 }
 
 /// Reads a name or a reserved word.
