@@ -1,7 +1,9 @@
 -- Items and programs: the same tokens spell only one.
 --
 -- `one_item`: by pairs. `one_program`: a list of tokens spells at most one program.
-use Rattle.std.proofs.Common.{◌≡◌, ℤ, inl, inr, List, [], ◌∷◌, refl, sym, ap, ◌∙◌, subst}
+use Rattle.std.proofs.Common.{◌≡◌, ℕ, ℤ, false, eqb, inl, inr, List, [], ◌∷◌, refl, sym, ap, ◌∙◌, subst}
+use Rattle.std.proofs.lemmas.Bool.{eqb-false}
+use Rattle.cilk_syntax.specs.declared.token.Kind.{Kind}
 use Rattle.cilk_syntax.specs.declared.token.Kind.TheVariants as kinds
 use Rattle.cilk_syntax.specs.declared.token.Token.{Token}
 use Rattle.cilk_syntax.specs.declared.tree.Name.{Name}
@@ -22,6 +24,24 @@ use Rattle.cilk_parser.proofs.Parts.{no_end}
 use Rattle.cilk_parser.proofs.UniqueDeclarations.{one_reducer, reducer_starts}
 use Rattle.cilk_parser.proofs.UniqueStatements.{one_body}
 
+-- the kinds that are told apart, numbered
+abbrev code : Kind → ℕ
+code kinds.Semicolon = 1
+code kinds.Comma = 2
+code kinds.Assign = 3
+code kinds.OpenBracket = 4
+code kinds.Open = 5
+code kinds.Close = 6
+code kinds.Name = 7
+code kinds.CilkReducer = 8
+code kinds.Minus = 9
+code kinds.Int = 10
+code kinds.Void = 11
+code _ = 0
+
+other_kind : {A : Type 0} {j k : Kind} → eqb (code j) (code k) ≡ false → j ≡ k → A
+other_kind {A} {j} {k} h e = absurd (eqb-false (code j) (code k) h (ap code e))
+
 same_number : {m n : ℤ} {ts us r s : List Token} → ts ≡ us → Is (kinds.Number m) ts r → Is (kinds.Number n) us s
     → (m ≡ n) × (r ≡ s)
 same_number p h k =
@@ -34,8 +54,8 @@ one_literal (initializers.Number m) initializers.Absent ts us r s p h k = absurd
 one_literal (initializers.Negative m) initializers.Absent ts us r s p h k = absurd k
 one_literal (initializers.Number m) (initializers.Number n) ts us r s p h k =
     let a = same_number p h k in (ap (λ x. initializers.Number x) a.0, a.1)
-one_literal (initializers.Number m) (initializers.Negative n) ts us r s p h k = apart p h k.1 (λ e. cc)
-one_literal (initializers.Negative m) (initializers.Number n) ts us r s p h k = apart p h.1 k (λ e. cc)
+one_literal (initializers.Number m) (initializers.Negative n) ts us r s p h k = apart p h k.1 (other_kind refl)
+one_literal (initializers.Negative m) (initializers.Number n) ts us r s p h k = apart p h.1 k (other_kind refl)
 one_literal (initializers.Negative m) (initializers.Negative n) ts us r s p h k =
     let a = same_number (same_is p h.1 k.1).1 h.2 k.2 in (ap (λ x. initializers.Negative x) a.0, a.1)
 
@@ -59,7 +79,7 @@ one_initial i j ts us r s p (Set ts1 h l) (Set us1 k m) x y = one_literal i j ts
 initial_no_bracket : {A : Type 0} (i : Initializer) (ts us r s : List Token) → ts ≡ us → Initial i ts r → Ends r
     → Is kinds.OpenBracket us s → A
 initial_no_bracket i ts us r s p (Bare e h) x k = no_end (sym h ∙ p) x k refl
-initial_no_bracket i ts us r s p (Set ts1 h l) x k = apart p h k (λ e. cc)
+initial_no_bracket i ts us r s p (Set ts1 h l) x k = apart p h k (other_kind refl)
 
 one_global : (v w : GlobalVariable) (m n : Name) (ts us r s : List Token) → m ≡ n → ts ≡ us → SpellsGlobal v m ts r
     → SpellsGlobal w n us s → Ends r → Ends s → (v ≡ w) × (r ≡ s)
@@ -84,8 +104,8 @@ more_end (v ∷ list) ts r z h c = ends_at h.4 refl
 one_more : (l m : List GlobalVariable) (ts us r s y z : List Token) → ts ≡ us → SpellsMore l ts r → SpellsMore m us s
     → Is kinds.Semicolon r y → Is kinds.Semicolon s z → (l ≡ m) × (r ≡ s)
 one_more [] [] ts us r s y z p h k c d = (refl, sym h ∙ (p ∙ k))
-one_more [] (b ∷ m) ts us r s y z p h k c d = apart (sym h ∙ p) c k.4 (λ e. cc)
-one_more (a ∷ l) [] ts us r s y z p h k c d = apart (p ∙ k) h.4 d (λ e. cc)
+one_more [] (b ∷ m) ts us r s y z p h k c d = apart (sym h ∙ p) c k.4 (other_kind refl)
+one_more (a ∷ l) [] ts us r s y z p h k c d = apart (p ∙ k) h.4 d (other_kind refl)
 one_more (a ∷ l) (b ∷ m) ts us r s y z p h k c d =
     let e = same_is p h.4 k.4 in
     let f = same_name e.1 h.5 k.5 in
@@ -113,12 +133,12 @@ one_line m n l k ts us r s q p h i =
 initial_no_open : {A : Type 0} (i : Initializer) (ts us r s : List Token) → ts ≡ us → Initial i ts r → Ends r
     → Is kinds.Open us s → A
 initial_no_open i ts us r s p (Bare e h) x k = no_end (sym h ∙ p) x k refl
-initial_no_open i ts us r s p (Set ts1 h l) x k = apart p h k (λ e. cc)
+initial_no_open i ts us r s p (Set ts1 h l) x k = apart p h k (other_kind refl)
 
 global_no_open : {A : Type 0} (v : GlobalVariable) (m : Name) (ts us r s : List Token) → ts ≡ us
     → SpellsGlobal v m ts r → Ends r → Is kinds.Open us s → A
 global_no_open (globals.Variable a i) m ts us r s p h x k = initial_no_open i ts us r s p (initial i ts r h.1) x k
-global_no_open (globals.Array a l) m ts us r s p h x k = apart p h.3 k (λ e. cc)
+global_no_open (globals.Array a l) m ts us r s p h x k = apart p h.3 k (other_kind refl)
 
 variables_no_open : {A : Type 0} (m : Name) (l : List GlobalVariable) (ts us r s z : List Token) → ts ≡ us
     → SpellsVariables m l ts r → Is kinds.Semicolon r z → Is kinds.Open us s → A
@@ -136,17 +156,17 @@ one_parameter : (a b : Parameter) (ts us r s : List Token) → ts ≡ us → Spe
 one_parameter (parameters.Variable m) (parameters.Variable n) ts us r s p h k =
     let a = same_name p h k in (ap (λ x. parameters.Variable x) a.0, a.1)
 one_parameter (parameters.Variable m) (parameters.Reducer b) ts us r s p h k =
-    apart p (is_name h) (reducer_starts b us s k).1 (λ e. cc)
+    apart p (is_name h) (reducer_starts b us s k).1 (other_kind refl)
 one_parameter (parameters.Reducer a) (parameters.Variable n) ts us r s p h k =
-    apart p (reducer_starts a ts r h).1 (is_name k) (λ e. cc)
+    apart p (reducer_starts a ts r h).1 (is_name k) (other_kind refl)
 one_parameter (parameters.Reducer a) (parameters.Reducer b) ts us r s p h k =
     let c = one_reducer a b ts us r s p h k in (ap (λ x. parameters.Reducer x) c.0, c.1)
 
 more_parameters : (l m : List Parameter) (ts us r s y z : List Token) → ts ≡ us → SpellsMoreParameters l ts r
     → SpellsMoreParameters m us s → Is kinds.Close r y → Is kinds.Close s z → (l ≡ m) × (r ≡ s)
 more_parameters [] [] ts us r s y z p h k c d = (refl, sym h ∙ (p ∙ k))
-more_parameters [] (b ∷ m) ts us r s y z p h k c d = apart (sym h ∙ p) c k.3 (λ e. cc)
-more_parameters (a ∷ l) [] ts us r s y z p h k c d = apart (p ∙ k) h.3 d (λ e. cc)
+more_parameters [] (b ∷ m) ts us r s y z p h k c d = apart (sym h ∙ p) c k.3 (other_kind refl)
+more_parameters (a ∷ l) [] ts us r s y z p h k c d = apart (p ∙ k) h.3 d (other_kind refl)
 more_parameters (a ∷ l) (b ∷ m) ts us r s y z p h k c d =
     let e = same_is p h.3 k.3 in
     let f = same_is e.1 h.4 k.4 in
@@ -155,13 +175,13 @@ more_parameters (a ∷ l) (b ∷ m) ts us r s y z p h k c d =
     (ap (λ x. x ∷ l) g.0 ∙ ap (λ x. b ∷ x) o.0, o.1)
 
 no_parameters : {A : Type 0} (ts us r s : List Token) → ts ≡ us → SpellsParameters [] ts r → Is kinds.Int us s → A
-no_parameters ts us r s p (inl h) k = apart p h k (λ e. cc)
-no_parameters ts us r s p (inr h) k = apart p h.1 k (λ e. cc)
+no_parameters ts us r s p (inl h) k = apart p h k (other_kind refl)
+no_parameters ts us r s p (inr h) k = apart p h.1 k (other_kind refl)
 
 none_given : (ts us r s : List Token) → ts ≡ us → SpellsParameters [] ts r → SpellsParameters [] us s → r ≡ s
 none_given ts us r s p (inl h) (inl k) = (same_is p h k).1
-none_given ts us r s p (inl h) (inr k) = apart p h k.1 (λ e. cc)
-none_given ts us r s p (inr h) (inl k) = apart p h.1 k (λ e. cc)
+none_given ts us r s p (inl h) (inr k) = apart p h k.1 (other_kind refl)
+none_given ts us r s p (inr h) (inl k) = apart p h.1 k (other_kind refl)
 none_given ts us r s p (inr h) (inr k) = (same_is (same_is p h.1 k.1).1 h.2 k.2).1
 
 one_parameters : (l m : List Parameter) (ts us r s : List Token) → ts ≡ us → SpellsParameters l ts r
@@ -195,21 +215,21 @@ one_item (trees.Globals l) (trees.Globals m) ts us r s p h k =
     let c = one_line h.0 k.0 l m h.2 k.2 r s b.0 b.1 h.5 k.5 in
     (ap (λ x. trees.Globals x) c.0, c.1)
 one_item (trees.Globals l) (Item.Reducer b) ts us r s p h k =
-    apart (same_is p h.3 k.2).1 (is_name h.4) (reducer_starts b k.0 k.1 k.3).1 (λ e. cc)
+    apart (same_is p h.3 k.2).1 (is_name h.4) (reducer_starts b k.0 k.1 k.3).1 (other_kind refl)
 one_item (trees.Globals l) (trees.Function type name list row) ts us r s p h k =
     line_no_open h.0 l h.2 k.1 r k.2 (same_name (same_is p h.3 k.3).1 h.4 k.4).1 h.5 k.5
 one_item (Item.Reducer a) (trees.Globals m) ts us r s p h k =
-    apart (same_is p h.2 k.3).1 (reducer_starts a h.0 h.1 h.3).1 (is_name k.4) (λ e. cc)
+    apart (same_is p h.2 k.3).1 (reducer_starts a h.0 h.1 h.3).1 (is_name k.4) (other_kind refl)
 one_item (Item.Reducer a) (Item.Reducer b) ts us r s p h k =
     let c = same_is p h.2 k.2 in
     let d = one_reducer a b h.0 k.0 h.1 k.1 c.1 h.3 k.3 in
     (ap (λ x. Item.Reducer x) d.0, (same_is d.1 h.4 k.4).1)
 one_item (Item.Reducer a) (trees.Function type name list row) ts us r s p h k =
-    apart (same_is p h.2 k.3).1 (reducer_starts a h.0 h.1 h.3).1 (is_name k.4) (λ e. cc)
+    apart (same_is p h.2 k.3).1 (reducer_starts a h.0 h.1 h.3).1 (is_name k.4) (other_kind refl)
 one_item (trees.Function type name list row) (trees.Globals m) ts us r s p h k =
     line_no_open k.0 m k.2 h.1 s h.2 (sym (same_name (same_is p h.3 k.3).1 h.4 k.4).1) k.5 h.5
 one_item (trees.Function type name list row) (Item.Reducer b) ts us r s p h k =
-    apart (same_is p h.3 k.2).1 (is_name h.4) (reducer_starts b k.0 k.1 k.3).1 (λ e. cc)
+    apart (same_is p h.3 k.2).1 (is_name h.4) (reducer_starts b k.0 k.1 k.3).1 (other_kind refl)
 one_item (trees.Function t m l s) (trees.Function v n o q) ts us r z p h k =
     let a = same_is p h.3 k.3 in
     let b = same_name a.1 h.4 k.4 in
