@@ -1,5 +1,6 @@
 -- Closed scopes, loops in their reserved places, and one more statement of a row.
-use Rattle.std.proofs.Common.{◌≡◌, OnOk, IfOk, map, ap, ◌∙◌, ◌++◌, subst}
+use Rattle.std.proofs.Common.{◌≡◌, Result, Ok, Err, OnOk, IfOk, map, sym, ap, ◌∙◌, ◌++◌, subst}
+use Rattle.std.proofs.lemmas.List.{append-nil}
 use Rattle.cilk_syntax.specs.Trees as trees
 use Rattle.cilk_program.specs.Programs.{loop, statement}
 use Rattle.cilk_names.specs.declared.scene.Frame.{Frame}
@@ -13,6 +14,11 @@ use Rattle.cilk_names.proofs.Behinds.{scope_closed, row_closed, head_closed, loo
 use Rattle.cilk_names.proofs.Loops.{place_taken, loop_taken}
 use Rattle.cilk_names.proofs.Rows.{row_context, row_step, row_loops_step, row_value_step, row_context_end, row_end, row_loops_end, row_value_end}
 use Rattle.cilk_names.proofs.scene.Resolver.+statements.Goals as goal
+
+-- what holds anyway, holds if there is a value
+always : {T E P : Type 0} (r : Result T E) → P → OnOk r P
+always (Ok x) p = p
+always (Err e) p = tt
 
 pub block-returns-clause-context : goal.block-returns-clause-context
 block-returns-clause-context t c =
@@ -38,6 +44,160 @@ pub statement-returns-in-Block-clause-value : goal.statement-returns-in-Block-cl
 statement-returns-in-Block-clause-value t c =
     subst (λ (s : trees.Statement). IfOk c.block.result (λ r. statement r ≡ statement_of (context_of c.args.self.now) s))
     (tree_block c.args.tree.now c.in-Block.at c.in-Block.list c.deref.result.now c.in-Block.is c.deref.ensures.value) c.block.ensures.value
+
+pub statement-returns-in-Assign-clause-context : goal.statement-returns-in-Assign-clause-context
+statement-returns-in-Assign-clause-context t c =
+    always c.assignment.result (ap (behind (context_of c.args.self.now)) (ap (λ a. trees.Assign (trees.assignment a)) c.deref-in-Assign.ensures ∙ sym (ap trees.statement c.in-Assign.is)))
+
+pub statement-returns-in-Assign-clause-faults : goal.statement-returns-in-Assign-clause-faults
+statement-returns-in-Assign-clause-faults t c =
+    subst (λ (s : trees.Statement). OnOk c.assignment.result (c.assignment.new.first ≡ earliest c.args.self.now.first (statement_faults (context_of c.args.self.now) s)))
+    (ap (λ a. trees.Assign (trees.assignment a)) c.deref-in-Assign.ensures ∙ sym (ap trees.statement c.in-Assign.is)) c.assignment.ensures.faults
+
+pub statement-returns-in-Assign-clause-loops : goal.statement-returns-in-Assign-clause-loops
+statement-returns-in-Assign-clause-loops t c =
+    let loops = map loop c.args.self.now.loops.items in
+    always c.assignment.result (sym (append-nil loops) ∙ ap (λ s. loops ++ loops_of (context_of c.args.self.now) s) (ap (λ a. trees.Assign (trees.assignment a)) c.deref-in-Assign.ensures ∙ sym (ap trees.statement c.in-Assign.is)))
+
+pub statement-returns-in-Assign-clause-value : goal.statement-returns-in-Assign-clause-value
+statement-returns-in-Assign-clause-value t c =
+    subst (λ (s : trees.Statement). IfOk c.assignment.result (λ r. statement r ≡ statement_of (context_of c.args.self.now) s))
+    (ap (λ a. trees.Assign (trees.assignment a)) c.deref-in-Assign.ensures ∙ sym (ap trees.statement c.in-Assign.is)) c.assignment.ensures.value
+
+pub statement-returns-in-Invoke-clause-context : goal.statement-returns-in-Invoke-clause-context
+statement-returns-in-Invoke-clause-context t c =
+    always c.invoked.result (ap (behind (context_of c.args.self.now)) (ap (λ k. trees.Statement.Invoke c.in-Invoke.how (trees.call k)) c.deref-in-Invoke.ensures ∙ sym (ap trees.statement c.in-Invoke.is)))
+
+pub statement-returns-in-Invoke-clause-faults : goal.statement-returns-in-Invoke-clause-faults
+statement-returns-in-Invoke-clause-faults t c =
+    subst (λ (s : trees.Statement). OnOk c.invoked.result (c.invoked.new.first ≡ earliest c.args.self.now.first (statement_faults (context_of c.args.self.now) s)))
+    (ap (λ k. trees.Statement.Invoke c.in-Invoke.how (trees.call k)) c.deref-in-Invoke.ensures ∙ sym (ap trees.statement c.in-Invoke.is)) c.invoked.ensures.faults
+
+pub statement-returns-in-Invoke-clause-loops : goal.statement-returns-in-Invoke-clause-loops
+statement-returns-in-Invoke-clause-loops t c =
+    let loops = map loop c.args.self.now.loops.items in
+    always c.invoked.result (sym (append-nil loops) ∙ ap (λ s. loops ++ loops_of (context_of c.args.self.now) s) (ap (λ k. trees.Statement.Invoke c.in-Invoke.how (trees.call k)) c.deref-in-Invoke.ensures ∙ sym (ap trees.statement c.in-Invoke.is)))
+
+pub statement-returns-in-Invoke-clause-value : goal.statement-returns-in-Invoke-clause-value
+statement-returns-in-Invoke-clause-value t c =
+    subst (λ (s : trees.Statement). IfOk c.invoked.result (λ r. statement r ≡ statement_of (context_of c.args.self.now) s))
+    (ap (λ k. trees.Statement.Invoke c.in-Invoke.how (trees.call k)) c.deref-in-Invoke.ensures ∙ sym (ap trees.statement c.in-Invoke.is)) c.invoked.ensures.value
+
+pub statement-returns-in-AssignCall-clause-context : goal.statement-returns-in-AssignCall-clause-context
+statement-returns-in-AssignCall-clause-context t c =
+    always c.assigned.result (ap (behind (context_of c.args.self.now)) (ap (λ k. trees.AssignCall c.in-AssignCall.name c.in-AssignCall.how (trees.call k)) c.deref-in-AssignCall.ensures ∙ sym (ap trees.statement c.in-AssignCall.is)))
+
+pub statement-returns-in-AssignCall-clause-faults : goal.statement-returns-in-AssignCall-clause-faults
+statement-returns-in-AssignCall-clause-faults t c =
+    subst (λ (s : trees.Statement). OnOk c.assigned.result (c.assigned.new.first ≡ earliest c.args.self.now.first (statement_faults (context_of c.args.self.now) s)))
+    (ap (λ k. trees.AssignCall c.in-AssignCall.name c.in-AssignCall.how (trees.call k)) c.deref-in-AssignCall.ensures ∙ sym (ap trees.statement c.in-AssignCall.is)) c.assigned.ensures.faults
+
+pub statement-returns-in-AssignCall-clause-loops : goal.statement-returns-in-AssignCall-clause-loops
+statement-returns-in-AssignCall-clause-loops t c =
+    let loops = map loop c.args.self.now.loops.items in
+    always c.assigned.result (sym (append-nil loops) ∙ ap (λ s. loops ++ loops_of (context_of c.args.self.now) s) (ap (λ k. trees.AssignCall c.in-AssignCall.name c.in-AssignCall.how (trees.call k)) c.deref-in-AssignCall.ensures ∙ sym (ap trees.statement c.in-AssignCall.is)))
+
+pub statement-returns-in-AssignCall-clause-value : goal.statement-returns-in-AssignCall-clause-value
+statement-returns-in-AssignCall-clause-value t c =
+    subst (λ (s : trees.Statement). IfOk c.assigned.result (λ r. statement r ≡ statement_of (context_of c.args.self.now) s))
+    (ap (λ k. trees.AssignCall c.in-AssignCall.name c.in-AssignCall.how (trees.call k)) c.deref-in-AssignCall.ensures ∙ sym (ap trees.statement c.in-AssignCall.is)) c.assigned.ensures.value
+
+pub statement-returns-in-For-clause-context : goal.statement-returns-in-For-clause-context
+statement-returns-in-For-clause-context t c =
+    subst (λ (s : trees.Statement). OnOk c.repeated.result (context_of c.repeated.new.self ≡ behind (context_of c.args.self.now) s))
+    (ap (λ h. trees.repetition h (trees.statement c.deref-in-For-2.result.now)) c.deref-in-For.ensures ∙ ap (λ b. trees.repetition c.in-For.head.value (trees.statement b)) c.deref-in-For-2.ensures ∙ sym (ap trees.statement c.in-For.is)) c.repeated.ensures.context
+
+pub statement-returns-in-For-clause-faults : goal.statement-returns-in-For-clause-faults
+statement-returns-in-For-clause-faults t c =
+    subst (λ (s : trees.Statement). OnOk c.repeated.result (c.repeated.new.self.first ≡ earliest c.args.self.now.first (statement_faults (context_of c.args.self.now) s)))
+    (ap (λ h. trees.repetition h (trees.statement c.deref-in-For-2.result.now)) c.deref-in-For.ensures ∙ ap (λ b. trees.repetition c.in-For.head.value (trees.statement b)) c.deref-in-For-2.ensures ∙ sym (ap trees.statement c.in-For.is)) c.repeated.ensures.faults
+
+pub statement-returns-in-For-clause-loops : goal.statement-returns-in-For-clause-loops
+statement-returns-in-For-clause-loops t c =
+    subst (λ (s : trees.Statement). OnOk c.repeated.result (map loop c.repeated.new.self.loops.items ≡ map loop c.args.self.now.loops.items ++ loops_of (context_of c.args.self.now) s))
+    (ap (λ h. trees.repetition h (trees.statement c.deref-in-For-2.result.now)) c.deref-in-For.ensures ∙ ap (λ b. trees.repetition c.in-For.head.value (trees.statement b)) c.deref-in-For-2.ensures ∙ sym (ap trees.statement c.in-For.is)) c.repeated.ensures.loops
+
+pub statement-returns-in-For-clause-value : goal.statement-returns-in-For-clause-value
+statement-returns-in-For-clause-value t c =
+    subst (λ (s : trees.Statement). IfOk c.repeated.result (λ r. statement r ≡ statement_of (context_of c.args.self.now) s))
+    (ap (λ h. trees.repetition h (trees.statement c.deref-in-For-2.result.now)) c.deref-in-For.ensures ∙ ap (λ b. trees.repetition c.in-For.head.value (trees.statement b)) c.deref-in-For-2.ensures ∙ sym (ap trees.statement c.in-For.is)) c.repeated.ensures.value
+
+pub statement-returns-in-ParallelFor-clause-context : goal.statement-returns-in-ParallelFor-clause-context
+statement-returns-in-ParallelFor-clause-context t c =
+    subst (λ (s : trees.Statement). OnOk c.parallel.result (context_of c.parallel.new.self ≡ behind (context_of c.args.self.now) s))
+    (ap (λ h. trees.ParallelFor (trees.bounds h) (trees.statement c.deref-in-ParallelFor-2.result.now)) c.deref-in-ParallelFor.ensures ∙ ap (λ b. trees.ParallelFor (trees.bounds c.in-ParallelFor.head.value) (trees.statement b)) c.deref-in-ParallelFor-2.ensures ∙ sym (ap trees.statement c.in-ParallelFor.is)) c.parallel.ensures.context
+
+pub statement-returns-in-ParallelFor-clause-faults : goal.statement-returns-in-ParallelFor-clause-faults
+statement-returns-in-ParallelFor-clause-faults t c =
+    subst (λ (s : trees.Statement). OnOk c.parallel.result (c.parallel.new.self.first ≡ earliest c.args.self.now.first (statement_faults (context_of c.args.self.now) s)))
+    (ap (λ h. trees.ParallelFor (trees.bounds h) (trees.statement c.deref-in-ParallelFor-2.result.now)) c.deref-in-ParallelFor.ensures ∙ ap (λ b. trees.ParallelFor (trees.bounds c.in-ParallelFor.head.value) (trees.statement b)) c.deref-in-ParallelFor-2.ensures ∙ sym (ap trees.statement c.in-ParallelFor.is)) c.parallel.ensures.faults
+
+pub statement-returns-in-ParallelFor-clause-loops : goal.statement-returns-in-ParallelFor-clause-loops
+statement-returns-in-ParallelFor-clause-loops t c =
+    subst (λ (s : trees.Statement). OnOk c.parallel.result (map loop c.parallel.new.self.loops.items ≡ map loop c.args.self.now.loops.items ++ loops_of (context_of c.args.self.now) s))
+    (ap (λ h. trees.ParallelFor (trees.bounds h) (trees.statement c.deref-in-ParallelFor-2.result.now)) c.deref-in-ParallelFor.ensures ∙ ap (λ b. trees.ParallelFor (trees.bounds c.in-ParallelFor.head.value) (trees.statement b)) c.deref-in-ParallelFor-2.ensures ∙ sym (ap trees.statement c.in-ParallelFor.is)) c.parallel.ensures.loops
+
+pub statement-returns-in-ParallelFor-clause-value : goal.statement-returns-in-ParallelFor-clause-value
+statement-returns-in-ParallelFor-clause-value t c =
+    subst (λ (s : trees.Statement). IfOk c.parallel.result (λ r. statement r ≡ statement_of (context_of c.args.self.now) s))
+    (ap (λ h. trees.ParallelFor (trees.bounds h) (trees.statement c.deref-in-ParallelFor-2.result.now)) c.deref-in-ParallelFor.ensures ∙ ap (λ b. trees.ParallelFor (trees.bounds c.in-ParallelFor.head.value) (trees.statement b)) c.deref-in-ParallelFor-2.ensures ∙ sym (ap trees.statement c.in-ParallelFor.is)) c.parallel.ensures.value
+
+pub statement-returns-in-Return-clause-context : goal.statement-returns-in-Return-clause-context
+statement-returns-in-Return-clause-context t c =
+    always c.returned.result (ap (behind (context_of c.args.self.now)) (sym (ap trees.statement c.in-Return.is)))
+
+pub statement-returns-in-Return-clause-faults : goal.statement-returns-in-Return-clause-faults
+statement-returns-in-Return-clause-faults t c =
+    subst (λ (s : trees.Statement). OnOk c.returned.result (c.returned.new.first ≡ earliest c.args.self.now.first (statement_faults (context_of c.args.self.now) s)))
+    (sym (ap trees.statement c.in-Return.is)) c.returned.ensures.faults
+
+pub statement-returns-in-Return-clause-loops : goal.statement-returns-in-Return-clause-loops
+statement-returns-in-Return-clause-loops t c =
+    let loops = map loop c.args.self.now.loops.items in
+    always c.returned.result (sym (append-nil loops) ∙ ap (λ s. loops ++ loops_of (context_of c.args.self.now) s) (sym (ap trees.statement c.in-Return.is)))
+
+pub statement-returns-in-Return-clause-value : goal.statement-returns-in-Return-clause-value
+statement-returns-in-Return-clause-value t c =
+    subst (λ (s : trees.Statement). IfOk c.returned.result (λ r. statement r ≡ statement_of (context_of c.args.self.now) s))
+    (sym (ap trees.statement c.in-Return.is)) c.returned.ensures.value
+
+pub statement-returns-in-Update-clause-context : goal.statement-returns-in-Update-clause-context
+statement-returns-in-Update-clause-context t c =
+    always c.update.result (ap (behind (context_of c.args.self.now)) (ap (λ e. trees.Update c.in-Update.name (trees.expression e)) c.deref-in-Update.ensures ∙ sym (ap trees.statement c.in-Update.is)))
+
+pub statement-returns-in-Update-clause-faults : goal.statement-returns-in-Update-clause-faults
+statement-returns-in-Update-clause-faults t c =
+    subst (λ (s : trees.Statement). OnOk c.update.result (c.update.new.first ≡ earliest c.args.self.now.first (statement_faults (context_of c.args.self.now) s)))
+    (ap (λ e. trees.Update c.in-Update.name (trees.expression e)) c.deref-in-Update.ensures ∙ sym (ap trees.statement c.in-Update.is)) c.update.ensures.faults
+
+pub statement-returns-in-Update-clause-loops : goal.statement-returns-in-Update-clause-loops
+statement-returns-in-Update-clause-loops t c =
+    let loops = map loop c.args.self.now.loops.items in
+    always c.update.result (sym (append-nil loops) ∙ ap (λ s. loops ++ loops_of (context_of c.args.self.now) s) (ap (λ e. trees.Update c.in-Update.name (trees.expression e)) c.deref-in-Update.ensures ∙ sym (ap trees.statement c.in-Update.is)))
+
+pub statement-returns-in-Update-clause-value : goal.statement-returns-in-Update-clause-value
+statement-returns-in-Update-clause-value t c =
+    subst (λ (s : trees.Statement). IfOk c.update.result (λ r. statement r ≡ statement_of (context_of c.args.self.now) s))
+    (ap (λ e. trees.Update c.in-Update.name (trees.expression e)) c.deref-in-Update.ensures ∙ sym (ap trees.statement c.in-Update.is)) c.update.ensures.value
+
+pub statement-returns-in-Set-clause-context : goal.statement-returns-in-Set-clause-context
+statement-returns-in-Set-clause-context t c =
+    always c.set.result (ap (behind (context_of c.args.self.now)) (ap (λ e. trees.Statement.Set c.in-Set.name (trees.expression e)) c.deref-in-Set.ensures ∙ sym (ap trees.statement c.in-Set.is)))
+
+pub statement-returns-in-Set-clause-faults : goal.statement-returns-in-Set-clause-faults
+statement-returns-in-Set-clause-faults t c =
+    subst (λ (s : trees.Statement). OnOk c.set.result (c.set.new.first ≡ earliest c.args.self.now.first (statement_faults (context_of c.args.self.now) s)))
+    (ap (λ e. trees.Statement.Set c.in-Set.name (trees.expression e)) c.deref-in-Set.ensures ∙ sym (ap trees.statement c.in-Set.is)) c.set.ensures.faults
+
+pub statement-returns-in-Set-clause-loops : goal.statement-returns-in-Set-clause-loops
+statement-returns-in-Set-clause-loops t c =
+    let loops = map loop c.args.self.now.loops.items in
+    always c.set.result (sym (append-nil loops) ∙ ap (λ s. loops ++ loops_of (context_of c.args.self.now) s) (ap (λ e. trees.Statement.Set c.in-Set.name (trees.expression e)) c.deref-in-Set.ensures ∙ sym (ap trees.statement c.in-Set.is)))
+
+pub statement-returns-in-Set-clause-value : goal.statement-returns-in-Set-clause-value
+statement-returns-in-Set-clause-value t c =
+    subst (λ (s : trees.Statement). IfOk c.set.result (λ r. statement r ≡ statement_of (context_of c.args.self.now) s))
+    (ap (λ e. trees.Statement.Set c.in-Set.name (trees.expression e)) c.deref-in-Set.ensures ∙ sym (ap trees.statement c.in-Set.is)) c.set.ensures.value
 
 pub scoped-returns-clause-context : goal.scoped-returns-clause-context
 scoped-returns-clause-context t c =
