@@ -1,14 +1,18 @@
 -- Closed scopes, loops in their reserved places, and one more statement of a row.
-use Rattle.std.proofs.Common.{◌≡◌, Result, Ok, Err, OnOk, IfOk, map, sym, ap, ◌∙◌, ◌++◌, subst}
+use Rattle.std.proofs.Common.{◌≡◌, List, Option, Some, Result, Ok, Err, OnOk, IfOk, map, refl, sym, ap, ◌∙◌, ◌++◌, append_assoc, subst}
 use Rattle.std.proofs.lemmas.List.{append-nil}
 use Rattle.cilk_syntax.specs.Trees as trees
-use Rattle.cilk_program.specs.Programs.{loop, statement}
+use Rattle.cilk_program.specs.Programs.{expression, loop, optional, statement, statements}
+use Rattle.cilk_program.specs.Syntax as syntax
 use Rattle.cilk_names.specs.declared.scene.Frame.{Frame}
-use Rattle.cilk_names.specs.Contexts.{behind, inside}
+use Rattle.cilk_names.specs.declared.kind.Misnaming.{Misnaming}
+use Rattle.cilk_names.specs.Contexts.{behind, behind_beginning, behind_scope, in_body, inside}
 use Rattle.cilk_names.specs.Faults.{earliest}
-use Rattle.cilk_names.specs.Misnamings.{statement_faults}
-use Rattle.cilk_names.specs.Pass.{loops_of, statement_of}
+use Rattle.cilk_names.specs.Misnamings.{beginning_faults, expression_faults, head_faults, optional_assignment_faults, optional_faults, row_faults, statement_faults}
+use Rattle.cilk_names.specs.Pass.{beginning_of, expression_of, loops_of, optional_of, optional_row, row_loops, statement_of}
+use Rattle.cilk_names.specs.Tables.{names_of}
 use Rattle.cilk_names.specs.States.{context_of}
+use Rattle.cilk_names.proofs.Earliest.{earliest_append}
 use Rattle.cilk_names.proofs.Blocks.{tree_block}
 use Rattle.cilk_names.proofs.Behinds.{scope_closed, row_closed, head_closed, loop_closed}
 use Rattle.cilk_names.proofs.Loops.{place_taken, loop_taken}
@@ -19,6 +23,10 @@ use Rattle.cilk_names.proofs.scene.Resolver.+statements.Goals as goal
 always : {T E P : Type 0} (r : Result T E) → P → OnOk r P
 always (Ok x) p = p
 always (Err e) p = tt
+
+-- the faults of two parts, one after the other
+both_faults : (f g h : Option Misnaming) (fs gs : List Misnaming) → g ≡ earliest f fs → h ≡ earliest g gs → h ≡ earliest f (fs ++ gs)
+both_faults f g h fs gs p q = q ∙ ap (λ x. earliest x gs) p ∙ sym (earliest_append f fs gs)
 
 pub block-returns-clause-context : goal.block-returns-clause-context
 block-returns-clause-context t c =
@@ -258,3 +266,229 @@ repeated-returns-clause-context t c =
     head_closed (context_of c.args.self.now) (context_of c.open.new.self) (context_of c.beginning.new.self) (context_of c.scoped.new.self) (context_of c.close.new.self)
     (trees.optional_beginning c.args.head.now.beginning) (trees.statement c.args.body.now)
     c.in_ok-open.ensures.context c.in_ok-row.ensures.context c.in_ok-body.ensures.context c.close.ensures.context
+
+pub statement-returns-in-Empty-clause-context : goal.statement-returns-in-Empty-clause-context
+statement-returns-in-Empty-clause-context t c =
+    ap (behind (context_of c.args.self.now)) (sym (ap trees.statement c.in-Empty.is))
+
+pub statement-returns-in-Empty-clause-faults : goal.statement-returns-in-Empty-clause-faults
+statement-returns-in-Empty-clause-faults t c =
+    ap (λ s. earliest c.args.self.now.first (statement_faults (context_of c.args.self.now) s)) (sym (ap trees.statement c.in-Empty.is))
+
+pub statement-returns-in-Empty-clause-value : goal.statement-returns-in-Empty-clause-value
+statement-returns-in-Empty-clause-value t c =
+    ap (statement_of (context_of c.args.self.now)) (sym (ap trees.statement c.in-Empty.is))
+
+pub statement-returns-in-Empty-clause-loops : goal.statement-returns-in-Empty-clause-loops
+statement-returns-in-Empty-clause-loops t c =
+    sym (append-nil (map loop c.args.self.now.loops.items)) ∙ ap (λ s. map loop c.args.self.now.loops.items ++ loops_of (context_of c.args.self.now) s) (sym (ap trees.statement c.in-Empty.is))
+
+pub statement-returns-in-Sync-clause-context : goal.statement-returns-in-Sync-clause-context
+statement-returns-in-Sync-clause-context t c =
+    ap (behind (context_of c.args.self.now)) (sym (ap trees.statement c.in-Sync.is))
+
+pub statement-returns-in-Sync-clause-faults : goal.statement-returns-in-Sync-clause-faults
+statement-returns-in-Sync-clause-faults t c =
+    ap (λ s. earliest c.args.self.now.first (statement_faults (context_of c.args.self.now) s)) (sym (ap trees.statement c.in-Sync.is))
+
+pub statement-returns-in-Sync-clause-value : goal.statement-returns-in-Sync-clause-value
+statement-returns-in-Sync-clause-value t c =
+    ap (statement_of (context_of c.args.self.now)) (sym (ap trees.statement c.in-Sync.is))
+
+pub statement-returns-in-Sync-clause-loops : goal.statement-returns-in-Sync-clause-loops
+statement-returns-in-Sync-clause-loops t c =
+    sym (append-nil (map loop c.args.self.now.loops.items)) ∙ ap (λ s. map loop c.args.self.now.loops.items ++ loops_of (context_of c.args.self.now) s) (sym (ap trees.statement c.in-Sync.is))
+
+pub statement-returns-in_ok-locals-in-Declare-clause-context : goal.statement-returns-in_ok-locals-in-Declare-clause-context
+statement-returns-in_ok-locals-in-Declare-clause-context t c =
+    c.in_ok-locals-in-Declare.ensures.context ∙ ap (behind (context_of c.args.self.now)) (ap (λ l. trees.Declare (trees.locals_of l)) c.deref-in-Declare.ensures.value ∙ sym (ap trees.statement c.in-Declare.is))
+
+pub statement-returns-in_ok-locals-in-Declare-clause-faults : goal.statement-returns-in_ok-locals-in-Declare-clause-faults
+statement-returns-in_ok-locals-in-Declare-clause-faults t c =
+    c.in_ok-locals-in-Declare.ensures.faults ∙ ap (λ s. earliest c.args.self.now.first (statement_faults (context_of c.args.self.now) s)) (ap (λ l. trees.Declare (trees.locals_of l)) c.deref-in-Declare.ensures.value ∙ sym (ap trees.statement c.in-Declare.is))
+
+pub statement-returns-in_ok-locals-in-Declare-clause-loops : goal.statement-returns-in_ok-locals-in-Declare-clause-loops
+statement-returns-in_ok-locals-in-Declare-clause-loops t c =
+    ap (λ v. map loop v.items) c.locals.ensures.loops ∙ sym (append-nil (map loop c.args.self.now.loops.items)) ∙ ap (λ s. map loop c.args.self.now.loops.items ++ loops_of (context_of c.args.self.now) s) (ap (λ l. trees.Declare (trees.locals_of l)) c.deref-in-Declare.ensures.value ∙ sym (ap trees.statement c.in-Declare.is))
+
+pub statement-returns-in_ok-locals-in-Declare-clause-value : goal.statement-returns-in_ok-locals-in-Declare-clause-value
+statement-returns-in_ok-locals-in-Declare-clause-value t c =
+    ap syntax.Declare c.in_ok-locals-in-Declare.ensures.value ∙ ap (statement_of (context_of c.args.self.now)) (ap (λ l. trees.Declare (trees.locals_of l)) c.deref-in-Declare.ensures.value ∙ sym (ap trees.statement c.in-Declare.is))
+
+pub statement-returns-in_ok-reducer-in-Reducer-clause-context : goal.statement-returns-in_ok-reducer-in-Reducer-clause-context
+statement-returns-in_ok-reducer-in-Reducer-clause-context t c =
+    c.in_ok-reducer-in-Reducer.ensures.context ∙ ap (behind (context_of c.args.self.now)) (sym (ap trees.statement c.in-Reducer.is))
+
+pub statement-returns-in_ok-reducer-in-Reducer-clause-faults : goal.statement-returns-in_ok-reducer-in-Reducer-clause-faults
+statement-returns-in_ok-reducer-in-Reducer-clause-faults t c =
+    c.in_ok-reducer-in-Reducer.ensures.faults ∙ ap (λ s. earliest c.args.self.now.first (statement_faults (context_of c.args.self.now) s)) (sym (ap trees.statement c.in-Reducer.is))
+
+pub statement-returns-in_ok-reducer-in-Reducer-clause-loops : goal.statement-returns-in_ok-reducer-in-Reducer-clause-loops
+statement-returns-in_ok-reducer-in-Reducer-clause-loops t c =
+    ap (λ v. map loop v.items) c.reducer.ensures.loops ∙ sym (append-nil (map loop c.args.self.now.loops.items)) ∙ ap (λ s. map loop c.args.self.now.loops.items ++ loops_of (context_of c.args.self.now) s) (sym (ap trees.statement c.in-Reducer.is))
+
+pub statement-returns-in_ok-reducer-in-Reducer-clause-value : goal.statement-returns-in_ok-reducer-in-Reducer-clause-value
+statement-returns-in_ok-reducer-in-Reducer-clause-value t c =
+    ap (statement_of (context_of c.args.self.now)) (sym (ap trees.statement c.in-Reducer.is))
+
+pub statement-returns-in_ok-expression-in-Print-clause-context : goal.statement-returns-in_ok-expression-in-Print-clause-context
+statement-returns-in_ok-expression-in-Print-clause-context t c =
+    ap (behind (context_of c.args.self.now)) (ap (λ e. trees.Print (trees.expression e)) c.deref-in-Print.ensures ∙ sym (ap trees.statement c.in-Print.is))
+
+pub statement-returns-in_ok-expression-in-Print-clause-faults : goal.statement-returns-in_ok-expression-in-Print-clause-faults
+statement-returns-in_ok-expression-in-Print-clause-faults t c =
+    c.in_ok-expression-in-Print.ensures.faults ∙ ap (λ s. earliest c.args.self.now.first (statement_faults (context_of c.args.self.now) s)) (ap (λ e. trees.Print (trees.expression e)) c.deref-in-Print.ensures ∙ sym (ap trees.statement c.in-Print.is))
+
+pub statement-returns-in_ok-expression-in-Print-clause-loops : goal.statement-returns-in_ok-expression-in-Print-clause-loops
+statement-returns-in_ok-expression-in-Print-clause-loops t c =
+    sym (append-nil (map loop c.args.self.now.loops.items)) ∙ ap (λ s. map loop c.args.self.now.loops.items ++ loops_of (context_of c.args.self.now) s) (ap (λ e. trees.Print (trees.expression e)) c.deref-in-Print.ensures ∙ sym (ap trees.statement c.in-Print.is))
+
+pub statement-returns-in_ok-expression-in-Print-clause-value : goal.statement-returns-in_ok-expression-in-Print-clause-value
+statement-returns-in_ok-expression-in-Print-clause-value t c =
+    ap syntax.Print c.in_ok-expression-in-Print.ensures.value ∙ ap (statement_of (context_of c.args.self.now)) (ap (λ e. trees.Print (trees.expression e)) c.deref-in-Print.ensures ∙ sym (ap trees.statement c.in-Print.is))
+
+pub statement-returns-in_ok-test-in-If-clause-context : goal.statement-returns-in_ok-test-in-If-clause-context
+statement-returns-in_ok-test-in-If-clause-context t c =
+    c.in_ok-test-in-If.ensures.context ∙ ap (behind (context_of c.args.self.now)) (ap (λ b. trees.If (trees.expression c.deref-in-If-2.result.now) (trees.statement b)) c.deref-in-If.ensures ∙ ap (λ e. trees.If (trees.expression e) (trees.statement c.in-If.body.value)) c.deref-in-If-2.ensures ∙ sym (ap trees.statement c.in-If.is))
+
+pub statement-returns-in_ok-test-in-If-clause-faults : goal.statement-returns-in_ok-test-in-If-clause-faults
+statement-returns-in_ok-test-in-If-clause-faults t c =
+    c.in_ok-test-in-If.ensures.faults ∙ ap (λ s. earliest c.args.self.now.first (statement_faults (context_of c.args.self.now) s)) (ap (λ b. trees.If (trees.expression c.deref-in-If-2.result.now) (trees.statement b)) c.deref-in-If.ensures ∙ ap (λ e. trees.If (trees.expression e) (trees.statement c.in-If.body.value)) c.deref-in-If-2.ensures ∙ sym (ap trees.statement c.in-If.is))
+
+pub statement-returns-in_ok-test-in-If-clause-loops : goal.statement-returns-in_ok-test-in-If-clause-loops
+statement-returns-in_ok-test-in-If-clause-loops t c =
+    c.in_ok-test-in-If.ensures.loops ∙ ap (λ s. map loop c.args.self.now.loops.items ++ loops_of (context_of c.args.self.now) s) (ap (λ b. trees.If (trees.expression c.deref-in-If-2.result.now) (trees.statement b)) c.deref-in-If.ensures ∙ ap (λ e. trees.If (trees.expression e) (trees.statement c.in-If.body.value)) c.deref-in-If-2.ensures ∙ sym (ap trees.statement c.in-If.is))
+
+pub statement-returns-in_ok-test-in-If-clause-value : goal.statement-returns-in_ok-test-in-If-clause-value
+statement-returns-in_ok-test-in-If-clause-value t c =
+    ap (λ e. syntax.If e (statement c.in_ok-test-in-If.body.value)) c.in_ok-test-in-If.ensures.test ∙ ap (syntax.If (expression_of (names_of c.args.self.now.table) (trees.expression c.deref-in-If-2.result.now))) c.in_ok-test-in-If.ensures.body ∙ ap (statement_of (context_of c.args.self.now)) (ap (λ b. trees.If (trees.expression c.deref-in-If-2.result.now) (trees.statement b)) c.deref-in-If.ensures ∙ ap (λ e. trees.If (trees.expression e) (trees.statement c.in-If.body.value)) c.deref-in-If-2.ensures ∙ sym (ap trees.statement c.in-If.is))
+
+pub statement-returns-in_ok-test-in-While-clause-context : goal.statement-returns-in_ok-test-in-While-clause-context
+statement-returns-in_ok-test-in-While-clause-context t c =
+    always c.while_of.result (c.in_ok-test-in-While.ensures.context ∙ ap (behind (context_of c.args.self.now)) (ap (λ b. trees.While (trees.expression c.deref-in-While-2.result.now) (trees.statement b)) c.deref-in-While.ensures ∙ ap (λ e. trees.While (trees.expression e) (trees.statement c.in-While.body.value)) c.deref-in-While-2.ensures ∙ sym (ap trees.statement c.in-While.is)))
+
+pub statement-returns-in_ok-test-in-While-clause-faults : goal.statement-returns-in_ok-test-in-While-clause-faults
+statement-returns-in_ok-test-in-While-clause-faults t c =
+    always c.while_of.result (c.in_ok-test-in-While.ensures.faults ∙ ap (λ s. earliest c.args.self.now.first (statement_faults (context_of c.args.self.now) s)) (ap (λ b. trees.While (trees.expression c.deref-in-While-2.result.now) (trees.statement b)) c.deref-in-While.ensures ∙ ap (λ e. trees.While (trees.expression e) (trees.statement c.in-While.body.value)) c.deref-in-While-2.ensures ∙ sym (ap trees.statement c.in-While.is)))
+
+pub statement-returns-in_ok-test-in-While-clause-loops : goal.statement-returns-in_ok-test-in-While-clause-loops
+statement-returns-in_ok-test-in-While-clause-loops t c =
+    always c.while_of.result (c.in_ok-test-in-While.ensures.loops ∙ ap (λ s. map loop c.args.self.now.loops.items ++ loops_of (context_of c.args.self.now) s) (ap (λ b. trees.While (trees.expression c.deref-in-While-2.result.now) (trees.statement b)) c.deref-in-While.ensures ∙ ap (λ e. trees.While (trees.expression e) (trees.statement c.in-While.body.value)) c.deref-in-While-2.ensures ∙ sym (ap trees.statement c.in-While.is)))
+
+pub statement-returns-in_ok-test-in-While-clause-value : goal.statement-returns-in_ok-test-in-While-clause-value
+statement-returns-in_ok-test-in-While-clause-value t c =
+    subst (λ (x : syntax.Statement). IfOk c.while_of.result (λ r. statement r ≡ x))
+    (ap (λ e. syntax.For syntax.Nothing (Some e) syntax.Nothing (statement c.in_ok-test-in-While.body.value)) c.in_ok-test-in-While.ensures.test ∙ ap (syntax.For syntax.Nothing (Some (expression_of (names_of c.args.self.now.table) (trees.expression c.deref-in-While-2.result.now))) syntax.Nothing) c.in_ok-test-in-While.ensures.body ∙ ap (statement_of (context_of c.args.self.now)) (ap (λ b. trees.While (trees.expression c.deref-in-While-2.result.now) (trees.statement b)) c.deref-in-While.ensures ∙ ap (λ e. trees.While (trees.expression e) (trees.statement c.in-While.body.value)) c.deref-in-While-2.ensures ∙ sym (ap trees.statement c.in-While.is)))
+    c.while_of.ensures
+
+pub statement-returns-in_ok-other-in-IfElse-clause-context : goal.statement-returns-in_ok-other-in-IfElse-clause-context
+statement-returns-in_ok-other-in-IfElse-clause-context t c =
+    let s = trees.statement c.deref-in-IfElse.result.now in
+    let other = trees.statement c.deref-in-IfElse-3.result.now in
+    let between = behind_scope (context_of c.args.self.now) (behind (inside (context_of c.args.self.now)) s) in
+    c.in_ok-other-in-IfElse.ensures.context ∙ ap (λ x. behind_scope x (behind (inside x) other)) c.in_ok-test-in-IfElse.ensures.context ∙ ap (behind (context_of c.args.self.now)) (ap (λ b. trees.IfElse (trees.expression c.deref-in-IfElse-2.result.now) (trees.statement b) (trees.statement c.deref-in-IfElse-3.result.now)) c.deref-in-IfElse.ensures ∙ ap (λ e. trees.IfElse (trees.expression e) (trees.statement c.in-IfElse.body.value) (trees.statement c.deref-in-IfElse-3.result.now)) c.deref-in-IfElse-2.ensures ∙ ap (λ b. trees.IfElse (trees.expression c.in-IfElse.test.value) (trees.statement c.in-IfElse.body.value) (trees.statement b)) c.deref-in-IfElse-3.ensures ∙ sym (ap trees.statement c.in-IfElse.is))
+
+pub statement-returns-in_ok-other-in-IfElse-clause-faults : goal.statement-returns-in_ok-other-in-IfElse-clause-faults
+statement-returns-in_ok-other-in-IfElse-clause-faults t c =
+    let s = trees.statement c.deref-in-IfElse.result.now in
+    let other = trees.statement c.deref-in-IfElse-3.result.now in
+    let between = behind_scope (context_of c.args.self.now) (behind (inside (context_of c.args.self.now)) s) in
+    let tests = expression_faults (names_of c.args.self.now.table) (trees.expression c.deref-in-IfElse-2.result.now) in
+    let firsts = statement_faults (inside (context_of c.args.self.now)) s in
+    let others = statement_faults (inside between) other in
+    let more = c.in_ok-other-in-IfElse.ensures.faults ∙ ap (λ x. earliest c.guarded-in-IfElse.new.self.first (statement_faults (inside x) other)) c.in_ok-test-in-IfElse.ensures.context in
+    both_faults c.args.self.now.first c.guarded-in-IfElse.new.self.first c.scoped.new.self.first (tests ++ firsts) others c.in_ok-test-in-IfElse.ensures.faults more
+    ∙ ap (λ s. earliest c.args.self.now.first (statement_faults (context_of c.args.self.now) s)) (ap (λ b. trees.IfElse (trees.expression c.deref-in-IfElse-2.result.now) (trees.statement b) (trees.statement c.deref-in-IfElse-3.result.now)) c.deref-in-IfElse.ensures ∙ ap (λ e. trees.IfElse (trees.expression e) (trees.statement c.in-IfElse.body.value) (trees.statement c.deref-in-IfElse-3.result.now)) c.deref-in-IfElse-2.ensures ∙ ap (λ b. trees.IfElse (trees.expression c.in-IfElse.test.value) (trees.statement c.in-IfElse.body.value) (trees.statement b)) c.deref-in-IfElse-3.ensures ∙ sym (ap trees.statement c.in-IfElse.is))
+
+pub statement-returns-in_ok-other-in-IfElse-clause-loops : goal.statement-returns-in_ok-other-in-IfElse-clause-loops
+statement-returns-in_ok-other-in-IfElse-clause-loops t c =
+    let s = trees.statement c.deref-in-IfElse.result.now in
+    let other = trees.statement c.deref-in-IfElse-3.result.now in
+    let between = behind_scope (context_of c.args.self.now) (behind (inside (context_of c.args.self.now)) s) in
+    let firsts = loops_of (inside (context_of c.args.self.now)) s in
+    let others = loops_of (inside between) other in
+    c.in_ok-other-in-IfElse.ensures.loops ∙ ap (λ x. map loop c.guarded-in-IfElse.new.self.loops.items ++ loops_of (inside x) other) c.in_ok-test-in-IfElse.ensures.context ∙ ap (λ l. l ++ others) c.in_ok-test-in-IfElse.ensures.loops ∙ append_assoc (map loop c.args.self.now.loops.items) firsts others ∙ ap (λ s. map loop c.args.self.now.loops.items ++ loops_of (context_of c.args.self.now) s) (ap (λ b. trees.IfElse (trees.expression c.deref-in-IfElse-2.result.now) (trees.statement b) (trees.statement c.deref-in-IfElse-3.result.now)) c.deref-in-IfElse.ensures ∙ ap (λ e. trees.IfElse (trees.expression e) (trees.statement c.in-IfElse.body.value) (trees.statement c.deref-in-IfElse-3.result.now)) c.deref-in-IfElse-2.ensures ∙ ap (λ b. trees.IfElse (trees.expression c.in-IfElse.test.value) (trees.statement c.in-IfElse.body.value) (trees.statement b)) c.deref-in-IfElse-3.ensures ∙ sym (ap trees.statement c.in-IfElse.is))
+
+pub statement-returns-in_ok-other-in-IfElse-clause-value : goal.statement-returns-in_ok-other-in-IfElse-clause-value
+statement-returns-in_ok-other-in-IfElse-clause-value t c =
+    let s = trees.statement c.deref-in-IfElse.result.now in
+    let other = trees.statement c.deref-in-IfElse-3.result.now in
+    let between = behind_scope (context_of c.args.self.now) (behind (inside (context_of c.args.self.now)) s) in
+    let test = expression_of (names_of c.args.self.now.table) (trees.expression c.deref-in-IfElse-2.result.now) in
+    ap (λ e. syntax.IfElse e (statement c.in_ok-test-in-IfElse.body.value) (statement c.in_ok-other-in-IfElse.other.value)) c.in_ok-test-in-IfElse.ensures.test
+    ∙ ap (λ b. syntax.IfElse test b (statement c.in_ok-other-in-IfElse.other.value)) c.in_ok-test-in-IfElse.ensures.body
+    ∙ ap (syntax.IfElse test (statement_of (inside (context_of c.args.self.now)) s)) (c.in_ok-other-in-IfElse.ensures.value ∙ ap (λ x. statement_of (inside x) other) c.in_ok-test-in-IfElse.ensures.context)
+    ∙ ap (statement_of (context_of c.args.self.now)) (ap (λ b. trees.IfElse (trees.expression c.deref-in-IfElse-2.result.now) (trees.statement b) (trees.statement c.deref-in-IfElse-3.result.now)) c.deref-in-IfElse.ensures ∙ ap (λ e. trees.IfElse (trees.expression e) (trees.statement c.in-IfElse.body.value) (trees.statement c.deref-in-IfElse-3.result.now)) c.deref-in-IfElse-2.ensures ∙ ap (λ b. trees.IfElse (trees.expression c.in-IfElse.test.value) (trees.statement c.in-IfElse.body.value) (trees.statement b)) c.deref-in-IfElse-3.ensures ∙ sym (ap trees.statement c.in-IfElse.is))
+
+pub guarded-returns-clause-faults : goal.guarded-returns-clause-faults
+guarded-returns-clause-faults t c =
+    both_faults c.args.self.now.first c.expression.new.first c.scoped.new.self.first (expression_faults (names_of c.args.self.now.table) (trees.expression c.args.test.now)) (statement_faults (inside (context_of c.args.self.now)) (trees.statement c.args.body.now)) c.in_ok-test.ensures.faults c.in_ok-body.ensures.faults
+
+pub block-returns-clause-faults : goal.block-returns-clause-faults
+block-returns-clause-faults t c =
+    c.close.ensures.same.1 ∙ c.in_ok-row.ensures.faults ∙ ap (λ x. earliest c.open.new.self.first (row_faults x (trees.statements c.args.list.now))) c.in_ok-open.ensures.context ∙ ap (λ f. earliest f (row_faults (inside (context_of c.args.self.now)) (trees.statements c.args.list.now))) c.open.ensures.same.1
+
+pub block-returns-clause-loops : goal.block-returns-clause-loops
+block-returns-clause-loops t c =
+    ap (λ v. map loop v.items) c.close.ensures.same.0 ∙ c.in_ok-row.ensures.loops ∙ ap (λ x. map loop c.open.new.self.loops.items ++ row_loops x (trees.statements c.args.list.now)) c.in_ok-open.ensures.context ∙ ap (λ v. map loop v.items ++ row_loops (inside (context_of c.args.self.now)) (trees.statements c.args.list.now)) c.open.ensures.same.0
+
+pub scoped-returns-clause-faults : goal.scoped-returns-clause-faults
+scoped-returns-clause-faults t c =
+    c.close.ensures.same.1 ∙ c.in_ok-statement.ensures.faults ∙ ap (λ x. earliest c.open.new.self.first (statement_faults x (trees.statement c.args.tree.now))) c.in_ok-open.ensures.context ∙ ap (λ f. earliest f (statement_faults (inside (context_of c.args.self.now)) (trees.statement c.args.tree.now))) c.open.ensures.same.1
+
+pub scoped-returns-clause-loops : goal.scoped-returns-clause-loops
+scoped-returns-clause-loops t c =
+    ap (λ v. map loop v.items) c.close.ensures.same.0 ∙ c.in_ok-statement.ensures.loops ∙ ap (λ x. map loop c.open.new.self.loops.items ++ loops_of x (trees.statement c.args.tree.now)) c.in_ok-open.ensures.context ∙ ap (λ v. map loop v.items ++ loops_of (inside (context_of c.args.self.now)) (trees.statement c.args.tree.now)) c.open.ensures.same.0
+
+pub parallel-returns-clause-faults : goal.parallel-returns-clause-faults
+parallel-returns-clause-faults t c =
+    let inner = in_body (context_of c.args.self.now) c.args.head.now.variable in
+    let body = c.in_ok-body.ensures.faults ∙ ap (λ x. earliest c.enter.new.self.first (statement_faults (inside x) (trees.statement c.args.body.now))) c.in_ok-outside.ensures.context ∙ ap (λ f. earliest f (statement_faults (inside inner) (trees.statement c.args.body.now))) c.in_ok-outside.ensures.first in
+    c.leave.ensures.first ∙ both_faults c.args.self.now.first c.bounds.new.first c.scoped.new.self.first (head_faults (names_of c.args.self.now.table) (trees.bounds c.args.head.now)) (statement_faults (inside inner) (trees.statement c.args.body.now)) c.in_ok-low.ensures.faults body
+
+pub parallel-returns-clause-value : goal.parallel-returns-clause-value
+parallel-returns-clause-value t c =
+    let low = expression_of (names_of c.args.self.now.table) (trees.expression c.args.head.now.low.value) in
+    let high = expression_of (names_of c.args.self.now.table) (trees.expression c.args.head.now.high.value) in
+    let n = c.in_ok-outside.outside.number in
+    ap (λ x. syntax.ParallelFor x (expression c.in_ok-low.high.value) n) c.in_ok-low.ensures.low ∙ ap (λ x. syntax.ParallelFor low x n) c.in_ok-low.ensures.high ∙ ap (syntax.ParallelFor low high) c.in_ok-outside.ensures.outside.2
+
+pub repeated-returns-clause-faults : goal.repeated-returns-clause-faults
+repeated-returns-clause-faults t c =
+    let headed = behind_beginning (inside (context_of c.args.self.now)) (trees.optional_beginning c.args.head.now.beginning) in
+    let same : context_of c.beginning.new.self ≡ headed = c.in_ok-row.ensures.context ∙ ap (λ x. behind_beginning x (trees.optional_beginning c.args.head.now.beginning)) c.in_ok-open.ensures.context in
+    let begins = beginning_faults (inside (context_of c.args.self.now)) (trees.optional_beginning c.args.head.now.beginning) in
+    let tests = optional_faults headed.names (trees.optional c.args.head.now.test) in
+    let steps = optional_assignment_faults headed.names (trees.optional_assignment c.args.head.now.step) in
+    let bodies = statement_faults (inside headed) (trees.statement c.args.body.now) in
+    let first = c.in_ok-row.ensures.faults ∙ ap (λ x. earliest c.open.new.self.first (beginning_faults x (trees.optional_beginning c.args.head.now.beginning))) c.in_ok-open.ensures.context ∙ ap (λ f. earliest f begins) c.open.ensures.same.1 in
+    let second = c.in_ok-test.ensures.faults ∙ ap (λ x. earliest c.beginning.new.self.first (optional_faults x.names (trees.optional c.args.head.now.test))) same in
+    let third = c.in_ok-step.ensures.faults ∙ ap (λ x. earliest c.optional.new.first (optional_assignment_faults x.names (trees.optional_assignment c.args.head.now.step))) same in
+    let fourth = c.in_ok-body.ensures.faults ∙ ap (λ x. earliest c.step.new.first (statement_faults (inside x) (trees.statement c.args.body.now))) same in
+    c.close.ensures.same.1
+    ∙ both_faults c.args.self.now.first c.step.new.first c.scoped.new.self.first (begins ++ tests ++ steps) bodies
+    (both_faults c.args.self.now.first c.optional.new.first c.step.new.first (begins ++ tests) steps
+    (both_faults c.args.self.now.first c.beginning.new.self.first c.optional.new.first begins tests first second) third) fourth
+
+pub repeated-returns-clause-loops : goal.repeated-returns-clause-loops
+repeated-returns-clause-loops t c =
+    let headed = behind_beginning (inside (context_of c.args.self.now)) (trees.optional_beginning c.args.head.now.beginning) in
+    let same : context_of c.beginning.new.self ≡ headed = c.in_ok-row.ensures.context ∙ ap (λ x. behind_beginning x (trees.optional_beginning c.args.head.now.beginning)) c.in_ok-open.ensures.context in
+    ap (λ v. map loop v.items) c.close.ensures.same.0
+    ∙ c.in_ok-body.ensures.loops
+    ∙ ap (λ x. map loop c.beginning.new.self.loops.items ++ loops_of (inside x) (trees.statement c.args.body.now)) same
+    ∙ ap (λ v. map loop v.items ++ loops_of (inside headed) (trees.statement c.args.body.now)) (c.beginning.ensures.loops ∙ c.open.ensures.same.0)
+
+pub repeated-returns-clause-value : goal.repeated-returns-clause-value
+repeated-returns-clause-value t c =
+    let headed = behind_beginning (inside (context_of c.args.self.now)) (trees.optional_beginning c.args.head.now.beginning) in
+    let same : context_of c.beginning.new.self ≡ headed = c.in_ok-row.ensures.context ∙ ap (λ x. behind_beginning x (trees.optional_beginning c.args.head.now.beginning)) c.in_ok-open.ensures.context in
+    let row = c.in_ok-row.ensures.value ∙ ap (λ x. beginning_of x (trees.optional_beginning c.args.head.now.beginning)) c.in_ok-open.ensures.context in
+    let test = c.in_ok-test.ensures.value ∙ ap (λ x. optional_of x.names (trees.optional c.args.head.now.test)) same in
+    let step = c.in_ok-step.ensures.value ∙ ap (λ x. optional_row x.names (trees.optional_assignment c.args.head.now.step)) same in
+    let body = c.in_ok-body.ensures.value ∙ ap (λ x. statement_of (inside x) (trees.statement c.args.body.now)) same in
+    c.for_of.ensures
+    ∙ ap (λ x. syntax.For x (optional c.in_ok-test.test) (statements c.in_ok-step.step.items) (statement c.in_ok-body.body.value)) row
+    ∙ ap (λ x. syntax.For (beginning_of (inside (context_of c.args.self.now)) (trees.optional_beginning c.args.head.now.beginning)) x (statements c.in_ok-step.step.items) (statement c.in_ok-body.body.value)) test
+    ∙ ap (λ x. syntax.For (beginning_of (inside (context_of c.args.self.now)) (trees.optional_beginning c.args.head.now.beginning)) (optional_of headed.names (trees.optional c.args.head.now.test)) x (statement c.in_ok-body.body.value)) step
+    ∙ ap (syntax.For (beginning_of (inside (context_of c.args.self.now)) (trees.optional_beginning c.args.head.now.beginning)) (optional_of headed.names (trees.optional c.args.head.now.test)) (optional_row headed.names (trees.optional_assignment c.args.head.now.step))) body
