@@ -143,7 +143,7 @@ function_closed n c after now ps row e is f =
     f n.outer n.inner k.outer ∙ closed_names n after.names k.text k.signatures k.level
 
 -- before a function's parameters
-function_begun : (k : Known) (returns : ReturnType) (x : Name) (number reducers loops : ℕ) (declared : Names) (begun : Context)
+pub function_begun : (k : Known) (returns : ReturnType) (x : Name) (number reducers loops : ℕ) (declared : Names) (begun : Context)
     → number ≡ k.functions → declared ≡ declare k.names x (meanings.Function number) → reducers ≡ k.reducers → loops ≡ k.loops
     → begun ≡ record { names = opened declared; frame = record { body = bodies.Function number; returns = returns; cells = 0; heading = true }; given = []; own = []; reducers = reducers; loops = loops }
     → begun ≡ in_function k returns x

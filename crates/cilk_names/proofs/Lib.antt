@@ -14,6 +14,7 @@ pub mod Loops
 pub mod Made
 pub mod OneFault
 pub mod Onlys
+pub mod Parts
 pub mod Rights
 pub mod Rows
 pub mod Tables

@@ -1,21 +1,16 @@
 -- Each kind of expression, resolved.
-use Rattle.std.proofs.Common.{◌≡◌, List, Option, OnOk, IfOk, sym, ap, ◌∙◌, ◌++◌, subst}
+use Rattle.std.proofs.Common.{◌≡◌, OnOk, IfOk, sym, ap, ◌∙◌, subst}
 use Rattle.cilk_syntax.specs.Trees as trees
 use Rattle.cilk_program.specs.Programs.{expression}
 use Rattle.cilk_program.specs.Syntax as syntax
-use Rattle.cilk_names.specs.declared.kind.Misnaming.{Misnaming}
 use Rattle.cilk_names.specs.Faults.{array_faults, earliest}
 use Rattle.cilk_names.specs.Misnamings.{expression_faults}
 use Rattle.cilk_names.specs.Operators.{joined, prefixed}
 use Rattle.cilk_names.specs.Pass.{element_of, expression_of, read_of, value_of}
 use Rattle.cilk_names.specs.Sights.{array}
 use Rattle.cilk_names.specs.Tables.{names_of}
-use Rattle.cilk_names.proofs.Earliest.{earliest_append}
+use Rattle.cilk_names.proofs.Parts.{both_faults}
 use Rattle.cilk_names.proofs.expressions.+expressions.Goals as goal
-
--- the faults of two parts, one after the other
-both_faults : (f g h : Option Misnaming) (fs gs : List Misnaming) → g ≡ earliest f fs → h ≡ earliest g gs → h ≡ earliest f (fs ++ gs)
-both_faults f g h fs gs p q = q ∙ ap (λ x. earliest x gs) p ∙ sym (earliest_append f fs gs)
 
 pub expression-returns-in-InputCount-clause-faults : goal.expression-returns-in-InputCount-clause-faults
 expression-returns-in-InputCount-clause-faults t c =

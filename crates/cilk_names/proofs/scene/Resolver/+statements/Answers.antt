@@ -1,18 +1,17 @@
 -- Closed scopes, loops in their reserved places, and one more statement of a row.
-use Rattle.std.proofs.Common.{◌≡◌, List, Option, Some, Result, Ok, Err, OnOk, IfOk, map, refl, sym, ap, ◌∙◌, ◌++◌, append_assoc, subst}
+use Rattle.std.proofs.Common.{◌≡◌, Some, Result, Ok, Err, OnOk, IfOk, map, sym, ap, ◌∙◌, ◌++◌, append_assoc, subst}
 use Rattle.std.proofs.lemmas.List.{append-nil}
 use Rattle.cilk_syntax.specs.Trees as trees
 use Rattle.cilk_program.specs.Programs.{expression, loop, optional, statement, statements}
 use Rattle.cilk_program.specs.Syntax as syntax
 use Rattle.cilk_names.specs.declared.scene.Frame.{Frame}
-use Rattle.cilk_names.specs.declared.kind.Misnaming.{Misnaming}
 use Rattle.cilk_names.specs.Contexts.{behind, behind_beginning, behind_scope, in_body, inside}
 use Rattle.cilk_names.specs.Faults.{earliest}
 use Rattle.cilk_names.specs.Misnamings.{beginning_faults, expression_faults, head_faults, optional_assignment_faults, optional_faults, row_faults, statement_faults}
 use Rattle.cilk_names.specs.Pass.{beginning_of, expression_of, loops_of, optional_of, optional_row, row_loops, statement_of}
 use Rattle.cilk_names.specs.Tables.{names_of}
 use Rattle.cilk_names.specs.States.{context_of}
-use Rattle.cilk_names.proofs.Earliest.{earliest_append}
+use Rattle.cilk_names.proofs.Parts.{both_faults}
 use Rattle.cilk_names.proofs.Blocks.{tree_block}
 use Rattle.cilk_names.proofs.Behinds.{scope_closed, row_closed, head_closed, loop_closed}
 use Rattle.cilk_names.proofs.Loops.{place_taken, loop_taken}
@@ -23,10 +22,6 @@ use Rattle.cilk_names.proofs.scene.Resolver.+statements.Goals as goal
 always : {T E P : Type 0} (r : Result T E) → P → OnOk r P
 always (Ok x) p = p
 always (Err e) p = tt
-
--- the faults of two parts, one after the other
-both_faults : (f g h : Option Misnaming) (fs gs : List Misnaming) → g ≡ earliest f fs → h ≡ earliest g gs → h ≡ earliest f (fs ++ gs)
-both_faults f g h fs gs p q = q ∙ ap (λ x. earliest x gs) p ∙ sym (earliest_append f fs gs)
 
 pub block-returns-clause-context : goal.block-returns-clause-context
 block-returns-clause-context t c =
