@@ -38,3 +38,20 @@ effort_after_event code n place left place' left' some less =
     let ticks_less : left' * x ≤ left * x = mul-le-mul_right x less in
     let few = few_left (ticks (slice_get code place')) (length code + 1 - place') (length code + 1) (omega arith) in
     omega (arith, more, ticks_less, few)
+
+-- an instruction that uses ticks leaves less to do, wherever the frame continues
+pub effort_ticked : (code : List Instr) (place left place' left' : ℕ) → left' < left → effort code place' left' < effort code place left
+effort_ticked code place left place' left' fewer =
+    let x = length code + 2 in
+    let more : suc left' * x ≡ left' * x + x = suc-mul left' x in
+    let ticks_less : suc left' * x ≤ left * x = mul-le-mul_right x fewer in
+    let few = few_left (ticks (slice_get code place')) (length code + 1 - place') (length code + 1) (omega arith) in
+    omega (arith, more, ticks_less, few)
+
+-- and so does one that leads onward
+pub effort_onward : (code : List Instr) (place to left : ℕ) (i : Instr) → slice_get code place ≡ Some i → ticks (Some i) ≡ false → place < to → effort code to left < effort code place left
+effort_onward code place to left i at none past =
+    let w = slice_get_within code place i at in
+    let few = few_left (ticks (slice_get code to)) (length code + 1 - to) (length code + 1 - to) (omega arith) in
+    let here : (if ticks (slice_get code place) then 0 else length code + 1 - place) ≡ length code + 1 - place = ap (λ b. if b then 0 else length code + 1 - place) (ap ticks at ∙ none) in
+    omega (arith, past, few, here)
