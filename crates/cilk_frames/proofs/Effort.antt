@@ -1,5 +1,5 @@
 -- A jump back leaves less to do before the next tick.
-use Rattle.std.proofs.Common.{◌≡◌, ℕ, suc, ◌+◌, ◌-◌, ◌*◌, ◌<◌, ◌≤◌, Bool, true, false, List, length, Some, refl, ap, ◌∙◌, arith, if◌then◌else◌, IsTrue}
+use Rattle.std.proofs.Common.{◌≡◌, ℕ, suc, ◌+◌, ◌-◌, ◌*◌, ◌<◌, ◌≤◌, Bool, true, false, List, length, Some, refl, sym, ap, ◌∙◌, arith, if◌then◌else◌, IsTrue}
 use Rattle.std.proofs.Math.Nat.{mul-le-mul_right, suc-mul}
 use Rattle.std.specs.Prelude.{slice_get}
 use Rattle.std.proofs.lemmas.Option.{slice_get_within}
@@ -55,3 +55,7 @@ effort_onward code place to left i at none past =
     let few = few_left (ticks (slice_get code to)) (length code + 1 - to) (length code + 1 - to) (omega arith) in
     let here : (if ticks (slice_get code place) then 0 else length code + 1 - place) ≡ length code + 1 - place = ap (λ b. if b then 0 else length code + 1 - place) (ap ticks at ∙ none) in
     omega (arith, past, few, here)
+
+-- the instruction at the cursor
+pub found : (code : List Instr) (at place : ℕ) (i j : Instr) → at ≡ place → slice_get code at ≡ Some i → i ≡ j → slice_get code place ≡ Some j
+found code at place i j here is same = ap (slice_get code) (sym here) ∙ is ∙ ap Some same

@@ -6,12 +6,8 @@ use Rattle.cilk_lower.specs.Machine.{move}
 use Rattle.cilk_frames.specs.Cursor.{CursorView}
 use Rattle.cilk_frames.specs.Following.{setting_at}
 use Rattle.cilk_frames.specs.Moving.{move_at}
-use Rattle.cilk_frames.proofs.Effort.{effort_ticked, effort_onward}
+use Rattle.cilk_frames.proofs.Effort.{found, effort_ticked, effort_onward}
 use Rattle.cilk_frames.proofs.stepping.exec_instr.Goals as goal
-
--- the instruction at the cursor
-found : (code : List Instr) (at place : ℕ) (i j : Instr) → at ≡ place → slice_get code at ≡ Some i → i ≡ j → slice_get code place ≡ Some j
-found code at place i j here is same = ap (slice_get code) (sym here) ∙ is ∙ ap Some same
 
 -- the machine's move at the cursor, by that instruction
 moves_by : (code : CodeView) (inputs : List ℤ) (v : CursorView) (left at : ℕ) (i j : Instr) → at ≡ v.place → slice_get code.instrs at ≡ Some i → i ≡ j → move_at code inputs v left ≡ move (setting_at inputs code v) (Some j) v.place v.stack v.held left

@@ -1,13 +1,7 @@
-use Rattle.std.proofs.Common.{◌≡◌, ℕ, List, Some, ap, sym, ◌∙◌, refl, arith}
-use Rattle.std.specs.Prelude.{slice_get}
-use Rattle.cilk_lower.specs.declared.code.Instr.{Instr}
+use Rattle.std.proofs.Common.{ap, refl, arith}
 use Rattle.cilk_frames.specs.Cursor.{CursorView}
-use Rattle.cilk_frames.proofs.Effort.{effort_ticked, effort_onward}
+use Rattle.cilk_frames.proofs.Effort.{found, effort_ticked, effort_onward}
 use Rattle.cilk_frames.proofs.stepping.exec_plain.Goals as goal
-
--- the instruction at the cursor
-found : (code : List Instr) (at place : ℕ) (i j : Instr) → at ≡ place → slice_get code at ≡ Some i → i ≡ j → slice_get code place ≡ Some j
-found code at place i j here is same = ap (slice_get code) (sym here) ∙ is ∙ ap Some same
 
 pub returns-in-Tick-clause-falls : goal.returns-in-Tick-clause-falls
 returns-in-Tick-clause-falls c = λ done. effort_ticked c.args.code.now.instrs c.args.cursor.now.place c.args.left.now _ _ (omega (arith, c.if-left-gt0.true))
