@@ -99,9 +99,15 @@ def longest_chain(found):
     with open(f"{TOP}/crates.txt", encoding="utf-8") as listed:
         named = build_plan.crates_of(listed.read())
     nothing, chains = dict.fromkeys(KINDS, 0.0), {}
+
+    def chain(name):
+        if name not in chains:
+            below = max(map(chain, named[name]), default=(0.0, []))
+            chains[name] = (below[0] + found.get(name, nothing)["proof"], [*below[1], name])
+        return chains[name]
+
     for name in named:
-        below = max((chains[it] for it in named[name]), default=(0.0, []))
-        chains[name] = (below[0] + found.get(name, nothing)["proof"], [*below[1], name])
+        chain(name)
     whole = [(chains[it][0] + found.get(it, nothing)["tests"] + found.get(it, nothing)["edits"], it) for it in named]
     minutes, last = max(whole)
     return minutes, chains[last][1]
