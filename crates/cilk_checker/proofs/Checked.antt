@@ -39,7 +39,9 @@ use Rattle.cilk_checker.specs.Refusals.{Ended, IsClean, IsFound, IsFoundBefore, 
 use Rattle.cilk_checker.specs.Stops.{GivesCertificate, IsStop}
 use Rattle.cilk_checker.specs.declared.ending.End.{End}
 use Rattle.cilk_checker.specs.declared.ending.End.TheVariants.{Left, Stopped}
-use Rattle.cilk_checker.specs.declared.frames.PlannedFrame.{PlannedFrame}
+use Rattle.cilk_lower.specs.Code.{CodeView}
+use Rattle.cilk_lower.specs.Lowered.{IsLowered}
+use Rattle.cilk_lower.specs.declared.layout.PlannedFrame.{PlannedFrame}
 use Rattle.cilk_checker.specs.Frames.{AreFramesIn}
 use Rattle.cilk_checker.specs.Runs.{EndsWith}
 
@@ -117,17 +119,23 @@ told_true p inputs known failed failed' stops.Unread h = h
 
 -- ---- how a run has ended
 
-pub ran_at : (p : Source) (inputs : List ℤ) (end : End) (o : Outcome) (frames : Vec PlannedFrame Global) (es es' : List Event) → end ≡ Left o frames → EndsWith p inputs end es → es' ≡ es
+pub ran_at : (p : Source) (inputs : List ℤ) (end : End) (o : Outcome) (frames : Vec PlannedFrame Global) (code : CodeView) (es es' : List Event) → end ≡ Left o frames code → EndsWith p inputs end es → es' ≡ es
     → Ran p inputs o es'
-ran_at p inputs end o frames es es' is ends same =
-    let left : EndsWith p inputs (Left o frames) es = subst (λ (e : End). EndsWith p inputs e es) is ends in
+ran_at p inputs end o frames code es es' is ends same =
+    let left : EndsWith p inputs (Left o frames code) es = subst (λ (e : End). EndsWith p inputs e es) is ends in
     subst (λ (l : List Event). Ran p inputs o l) (sym same) left.0
 
-pub frames_at : (p : Source) (inputs : List ℤ) (end : End) (o : Outcome) (frames : Vec PlannedFrame Global) (es es' : List Event) → end ≡ Left o frames → EndsWith p inputs end es → es' ≡ es
+pub frames_at : (p : Source) (inputs : List ℤ) (end : End) (o : Outcome) (frames : Vec PlannedFrame Global) (code : CodeView) (es es' : List Event) → end ≡ Left o frames code → EndsWith p inputs end es → es' ≡ es
     → AreFramesIn p inputs es' o frames.items
-frames_at p inputs end o frames es es' is ends same =
-    let left : EndsWith p inputs (Left o frames) es = subst (λ (e : End). EndsWith p inputs e es) is ends in
+frames_at p inputs end o frames code es es' is ends same =
+    let left : EndsWith p inputs (Left o frames code) es = subst (λ (e : End). EndsWith p inputs e es) is ends in
     subst (λ (l : List Event). AreFramesIn p inputs l o frames.items) (sym same) left.1
+
+pub code_at : (p : Source) (inputs : List ℤ) (end : End) (o : Outcome) (frames : Vec PlannedFrame Global) (code : CodeView) (es : List Event) → end ≡ Left o frames code → EndsWith p inputs end es
+    → IsLowered p code
+code_at p inputs end o frames code es is ends =
+    let left : EndsWith p inputs (Left o frames code) es = subst (λ (e : End). EndsWith p inputs e es) is ends in
+    left.2
 
 pub stops_at : (p : Source) (inputs : List ℤ) (end : End) (f : Fault) (es es' : List Event) → end ≡ Stopped f → EndsWith p inputs end es → es' ≡ es → StopsAfter p inputs es' f
 stops_at p inputs end f es es' is ends same = subst (λ (l : List Event). StopsAfter p inputs l f) (sym same) (subst (λ (e : End). EndsWith p inputs e es) is ends)

@@ -28,7 +28,7 @@ use Rattle.cilk_serial.specs.Ran.{Ran}
 use Rattle.cilk_serial.specs.SoFar.{RunView, RunsOn, Comes, IsIntact, IsSoFar, EndsNext, MakesNext, BeginsNext, BeginsNoFrame, begun_in, callees_of, callee_at}
 use Rattle.cilk_serial.proofs.SoFar.{is_short}
 use Rattle.cilk_checker.specs.declared.frames.Own.{Own}
-use Rattle.cilk_checker.specs.declared.frames.PlannedFrame.{PlannedFrame}
+use Rattle.cilk_lower.specs.declared.layout.PlannedFrame.{PlannedFrame}
 use Rattle.cilk_checker.specs.Frames.{AreFramesIn, frame_begun, frames_from}
 use Rattle.cilk_checker.proofs.Beginning.{begun_after, frames_after, IsNext, order_at, after_append, after_grows, none_after, cells_after, cells_append, fits_at, run_in_order, run_fits}
 

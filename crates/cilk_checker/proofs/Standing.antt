@@ -2,18 +2,15 @@
 use Rattle.std.proofs.Common.{◌≡◌, ℕ, zero, suc, ◌+◌, ◌-◌, List, [], ◌∷◌, ◌++◌, length, Some, None, slice_get, refl, ap, ◌∙◌, subst, arith}
 use Rattle.cilk_program.specs.declared.ask.Callee.{Callee}
 use Rattle.cilk_program.specs.declared.ask.Callee.TheVariants.{Root}
-use Rattle.cilk_program.specs.Inside.{body_of}
 use Rattle.cilk_program.specs.SerialRun.{Transcript, stop, act, child, cells_of}
 use Rattle.cilk_program.specs.Syntax.{Source}
 use Rattle.cilk_program.specs.Numbering.{Counts, unbegun, entered, counts_after, Block, block_of, child_at}
+use Rattle.cilk_lower.specs.Layout.{planned_frame}
 use Rattle.cilk_serial.specs.SoFar.{begun_in, callees_of}
 use Rattle.cilk_determinacy.specs.Numbers.{child_runs}
-use Rattle.cilk_checker.specs.declared.frames.PlannedFrame.{PlannedFrame}
+use Rattle.cilk_lower.specs.declared.layout.PlannedFrame.{PlannedFrame}
 use Rattle.cilk_checker.specs.Frames.{frame_begun, frames_from, frames_of, FramesStandAtTheirNumbers}
 use Rattle.cilk_checker.proofs.Beginning.{cells_after, counted_frames, counted_cells}
-
-abbrev planned_frame : Source → Callee → Block → PlannedFrame
-planned_frame p callee b = record { body = body_of p callee; first_cell = b.first; cells = b.cells }
 
 -- the frame is at some index k of the list, and its number is n + k + 1
 abbrev Stands : Source → ℕ → ℕ → List Callee → Block → Callee → Type 0

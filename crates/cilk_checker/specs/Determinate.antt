@@ -14,7 +14,7 @@ use Rattle.cilk_tree.specs.Tree.{tree}
 use Rattle.cilk_tree.specs.Races.{HasNoRace}
 use Rattle.cilk_peers.specs.ViewRaces.{HasNoViewRace}
 use Rattle.cilk_determinacy.specs.Settled.{AlwaysAsSerial}
-use Rattle.cilk_checker.specs.declared.frames.PlannedFrame.{PlannedFrame}
+use Rattle.cilk_lower.specs.declared.layout.PlannedFrame.{PlannedFrame}
 use Rattle.cilk_checker.specs.Frames.{AreFramesIn}
 use Rattle.cilk_checker.specs.Refusals.{Ended}
 

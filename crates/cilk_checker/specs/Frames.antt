@@ -10,15 +10,15 @@ use Rattle.cilk_program.specs.Outcomes.{Leaves}
 use Rattle.cilk_program.specs.SerialRun.{Transcript, IsSerialRun, cells_of}
 use Rattle.cilk_program.specs.Syntax.{Source}
 use Rattle.cilk_program.specs.Numbering.{Block, frame_at}
-use Rattle.cilk_lower.specs.Layout.{cells_in, function_frame}
+use Rattle.cilk_lower.specs.Layout.{cells_in, function_frame, planned_frame}
 use Rattle.cilk_lower.specs.declared.layout.Layout.{Layout}
+use Rattle.cilk_lower.specs.declared.layout.PlannedFrame.{PlannedFrame}
 use Rattle.cilk_program.specs.Sources.{source}
 use Rattle.cilk_serial.specs.SoFar.{RunView, IsIntact, BeginsNext, callees_of}
 use Rattle.cilk_serial.specs.declared.serial_run.Target.{Target}
 use Rattle.cilk_serial.specs.declared.serial_run.Target.TheVariants as targets
 use Rattle.cilk_determinacy.specs.Numbers.{frame_runs}
 use Rattle.cilk_checker.specs.declared.frames.Own.{Own}
-use Rattle.cilk_checker.specs.declared.frames.PlannedFrame.{PlannedFrame}
 
 -- a frame that begins when there are `cells` cells
 abbrev pub frame_begun : Source → ℕ → Callee → PlannedFrame
@@ -58,4 +58,4 @@ pub record BeginsOwn (p : Source) (l : Layout) (v : RunView) (own : Option Own) 
 abbrev pub FramesStandAtTheirNumbers : Type 0
 FramesStandAtTheirNumbers =
     (p : Source) (r : Transcript) (path : List ℕ) (b : Block) (callee : Callee) → frame_at p r path ≡ Some b → frame_runs r path ≡ Some callee
-    → slice_get (frames_of p r) (b.number - 1) ≡ Some (record { body = body_of p callee; first_cell = b.first; cells = b.cells })
+    → slice_get (frames_of p r) (b.number - 1) ≡ Some (planned_frame p callee b)

@@ -82,12 +82,12 @@ pub fn check_end<S: Source>(
             let refusal = stopped(alloc, &right, source)?;
             Err(Unaccepted::Refusal(refusal))
         }
-        End::Left(outcome, frames) => {
+        End::Left(outcome, frames, code) => {
             let right = right_of(alloc, trace)?;
             ended(alloc, &right, &outcome, source)?;
             serial_runs_settle(&program, &input);
             let trace = right.into_trace();
-            Ok(Accepted::new(program, input, trace, outcome, frames))
+            Ok(Accepted::new(program, code, input, trace, outcome, frames))
         }
     }
 }

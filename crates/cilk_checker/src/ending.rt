@@ -1,13 +1,13 @@
 //! The serial run up to its end or to the fault that stops it.
 
 ghost use Rattle.std.specs.Prelude.{IfOk};
-ghost use Rattle.cilk_lower.specs.Behaves.{Behaves};
-ghost use Rattle.cilk_lower.specs.Layout.{LaysOut};
+ghost use Rattle.cilk_lower.specs.Lowered.{IsLowered};
 ghost use Rattle.cilk_program.specs.Sources.{source};
 ghost use Rattle.cilk_checker.specs.Runs.{EndsWith};
 
-use crate::frames::{PlannedFrame, begin, of_callee, of_next};
+use crate::frames::{begin, of_callee, of_next};
 use cilk_lower::code::Code;
+use cilk_lower::layout::PlannedFrame;
 use cilk_lower::lower::lower;
 use cilk_program::ask::Callee;
 use cilk_program::program::Program;
@@ -21,8 +21,9 @@ use std::alloc::{AllocError, Global};
 /// How a serial run ends.
 #[derive(Drop)]
 pub enum End {
-    /// Without a fault: its outcome, and its frames in the order of their numbers.
-    Left(Outcome, Vec<PlannedFrame>),
+    /// Without a fault: its outcome, its frames in the order of their numbers, and the program's
+    /// code.
+    Left(Outcome, Vec<PlannedFrame>, Code),
     /// By this fault, in place of the next event.
     Stopped(Fault),
 }
@@ -38,21 +39,20 @@ pub fn run_to_end(
     ensures { IfOk result (λ r. EndsWith (source program.now) input.now r.0 r.1) }
 {
     let code = lower(alloc, program)?;
-    run_code(alloc, program, &code, input)
+    run_code(alloc, program, code, input)
 }
 
 // The same, for a program that is lowered already.
 fn run_code(
     alloc: Global,
     program: &Program,
-    code: &Code,
+    code: Code,
     input: &Input,
 ) -> Result<(End, Trace), AllocError>
-    requires asks { Behaves (source program.now) code.now }
-    requires layout { LaysOut (source program.now) code.now.layout }
+    requires { IsLowered (source program.now) code }
     ensures { IfOk result (λ r. EndsWith (source program.now) input.now r.0 r.1) }
 {
-    let mut serial = SerialRun::new(alloc, program, code, input)?;
+    let mut serial = SerialRun::new(alloc, program, &code, input)?;
     let mut frames = Vec::new(alloc);
     let globals = program.globals.len() as u64;
     let layout = code.layout();
@@ -72,7 +72,7 @@ fn run_code(
             }
             Next::Ended => {
                 let (outcome, trace) = serial.finish()?;
-                return Ok((End::Left(outcome, frames), trace));
+                return Ok((End::Left(outcome, frames, code), trace));
             }
             Next::Stops(fault) => return Ok((End::Stopped(fault), serial.into_trace())),
         }

@@ -6,21 +6,12 @@ ghost use Rattle.cilk_program.specs.Sources.{source};
 ghost use Rattle.cilk_program.specs.Syntax.{Source};
 ghost use Rattle.cilk_checker.specs.Frames.{BeginsOwn, FramesStandAtTheirNumbers, own_by, own_of};
 
-use cilk_lower::layout::Layout;
+use cilk_lower::layout::{Layout, PlannedFrame};
 use cilk_program::ask::Callee;
 use cilk_program::program::{Body, Program};
 use cilk_serial::serial_run::{SerialRun, Target};
 use cilk_types::event::Cell;
 use std::alloc::AllocError;
-
-/// The body of a frame, the number of its first cell, and how many cells it has. The cells have
-/// consecutive numbers.
-#[derive(Clone, Copy)]
-pub struct PlannedFrame {
-    pub body: Body,
-    pub first_cell: Cell,
-    pub cells: u32,
-}
 
 /// The body of a frame, and how many cells it has.
 #[derive(Clone, Copy)]

@@ -16,7 +16,7 @@ use Rattle.cilk_serial.specs.declared.state.State.{State}
 use Rattle.cilk_serial.specs.SoFar.{IsSoFar}
 use Rattle.cilk_serial.proofs.SoFar.{kept_so_far}
 use Rattle.cilk_checker.specs.declared.frames.Own.{Own}
-use Rattle.cilk_checker.specs.declared.frames.PlannedFrame.{PlannedFrame}
+use Rattle.cilk_lower.specs.declared.layout.PlannedFrame.{PlannedFrame}
 use Rattle.cilk_checker.specs.Frames.{AreFramesIn, own_of}
 use Rattle.cilk_checker.proofs.Noting.{NotedSoFar, noted_all, noted_none, noted_some, room}
 use Rattle.cilk_helpers.specs.declared.retelling.Retelling.{Retelling}

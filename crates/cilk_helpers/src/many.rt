@@ -50,7 +50,7 @@ pub fn run_many<H: Threads + Sync, W: Watch + Sync>(
     let team = Team { rt, helpers, watch };
     let replays = replays(team, alloc, program, &code, input, &hints)?;
     drop(hints);
-    if let Some(run) = retell(alloc, program, &code, input, replays)? {
+    if let Some(run) = retell(alloc, program, code, input, replays)? {
         return Ok(run);
     }
     run_to_end(alloc, program, input)

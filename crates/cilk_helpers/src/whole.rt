@@ -2,7 +2,7 @@
 
 ghost use Rattle.std.specs.Prelude.{◌≡◌, [], false, All, IfOk, IfSome};
 ghost use Rattle.cilk_lower.specs.Behaves.{Behaves};
-ghost use Rattle.cilk_lower.specs.Layout.{LaysOut};
+ghost use Rattle.cilk_lower.specs.Lowered.{IsLowered};
 ghost use Rattle.cilk_program.specs.Sources.{source};
 ghost use Rattle.cilk_program.specs.declared.ask.Ask.TheVariants as asks;
 ghost use Rattle.cilk_program.specs.declared.ask.Callee.TheVariants as callees;
@@ -240,29 +240,28 @@ fn begin(
 pub fn retell(
     alloc: Global,
     program: &Program,
-    code: &Code,
+    code: Code,
     input: &Input,
     replays: Vec<Replay>,
 ) -> Result<Option<(End, Trace)>, AllocError>
-    requires behaves { Behaves (source program.now) code.now }
-    requires layout { LaysOut (source program.now) code.now.layout }
-    requires kept { All (IsKept code.now (source program.now) input.now) replays.items }
+    requires lowered { IsLowered (source program.now) code }
+    requires kept { All (IsKept code (source program.now) input.now) replays.items }
     ensures { IfOk result (λ found. IfSome found (λ r. EndsWith (source program.now) input.now r.0 r.1)) }
 {
     let mut replays = replays;
     let mut frames = Vec::with_capacity(alloc, replays.len())?;
-    let Some(mut run) = begin(alloc, program, code, input, &mut replays)? else {
+    let Some(mut run) = begin(alloc, program, &code, input, &mut replays)? else {
         return Ok(None);
     };
     let root = of_callee(program, code.layout(), &Callee::Root);
     let mut cells = frames::begin(&mut frames, program.globals.len() as u64, root)?;
     'each: for _ in 0..MAX_EVENTS {
-        match make_event(alloc, program, code, input, &mut run, &mut replays)? {
+        match make_event(alloc, program, &code, input, &mut run, &mut replays)? {
             Step::GoesOn => {}
             Step::Begins(own) => cells = frames::begin(&mut frames, cells, own)?,
             Step::Ends(value) => {
                 let (outcome, trace) = outcome(alloc, program, run.into_state(), value)?;
-                return Ok(Some((End::Left(outcome, frames), trace)));
+                return Ok(Some((End::Left(outcome, frames, code), trace)));
             }
             Step::Departs => return Ok(None),
         }

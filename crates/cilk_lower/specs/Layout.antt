@@ -6,9 +6,12 @@ use Rattle.cilk_monoid.specs.declared.kind.MonoidKind.{MonoidKind}
 use Rattle.cilk_program.specs.declared.ask.Callee.{Callee}
 use Rattle.cilk_program.specs.declared.ask.Callee.TheVariants as callees
 use Rattle.cilk_program.specs.Syntax.{Source, Function}
+use Rattle.cilk_program.specs.Inside.{body_of}
+use Rattle.cilk_program.specs.Numbering.{Block}
 use Rattle.cilk_program.specs.SerialRun.{cells_of, own_reducers}
 use Rattle.cilk_lower.specs.declared.layout.FrameLayout.{FrameLayout}
 use Rattle.cilk_lower.specs.declared.layout.Layout.{Layout}
+use Rattle.cilk_lower.specs.declared.layout.PlannedFrame.{PlannedFrame}
 use Rattle.cilk_lower.specs.Plain.{is_plain}
 
 -- the frame of a function
@@ -33,6 +36,10 @@ abbrev pub reducers_in : Layout → Callee → List MonoidKind
 reducers_in l callees.Root = let f = function_frame l l.main in f.reducers
 reducers_in l (callees.Function c) = let f = function_frame l c.function in f.reducers
 reducers_in l (callees.Loop part) = []
+
+-- a frame of a run, by its callee and its block of cells
+abbrev pub planned_frame : Source → Callee → Block → PlannedFrame
+planned_frame p callee b = record { body = body_of p callee; first_cell = b.first; cells = b.cells }
 
 -- the layout agrees with the program
 pub record LaysOut (p : Source) (l : Layout) : Type 0 where

@@ -2,6 +2,7 @@ pub mod Behaves
 pub mod Bodies
 pub mod Code
 pub mod Layout
+pub mod Lowered
 pub mod Machine
 pub mod Plain
 pub mod Rooms

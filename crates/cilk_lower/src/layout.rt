@@ -11,7 +11,8 @@ ghost use Rattle.cilk_program.specs.declared.ask.Callee.TheVariants as callees;
 use crate::plain::is_plain;
 use cilk_monoid::kind::MonoidKind;
 use cilk_program::ask::{Callee, LoopPart};
-use cilk_program::program::{Function, GlobalReducer, Loop, Program};
+use cilk_program::program::{Body, Function, GlobalReducer, Loop, Program};
+use cilk_types::event::Cell;
 use cilk_types::sequence::Sequence;
 use std::alloc::{AllocError, Global};
 
@@ -21,6 +22,15 @@ use std::alloc::{AllocError, Global};
 pub struct FrameLayout {
     pub cells: u32,
     pub reducers: Sequence<MonoidKind>,
+}
+
+/// A frame of a known run: its body, the number of its first cell, and how many cells it has. The
+/// cells have consecutive numbers.
+#[derive(Clone, Copy)]
+pub struct PlannedFrame {
+    pub body: Body,
+    pub first_cell: Cell,
+    pub cells: u32,
 }
 
 /// The layout of a program. `openings` has the opening values of the global cells, and `loops` the

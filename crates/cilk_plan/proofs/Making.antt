@@ -1,9 +1,8 @@
 -- The replay of a plan on an input.
 --
--- - `is_replay`, `are_entries`: it is one, with the frames' entries;
+-- - `is_replay`, `are_frames`: it is one, with the run's frames;
 -- - `resumes_on`: a frame that requests a spawn requests the `resume` after it.
-use Rattle.std.proofs.Common.{◌≡◌, ◌-◌, ℤ, List, map, slice_get, option_map, sym, ap, ◌∙◌, subst}
-use Rattle.std.proofs.lemmas.Option.{slice_get-map}
+use Rattle.std.proofs.Common.{◌≡◌, ◌-◌, ℤ, List, slice_get, sym, ap, ◌∙◌, subst}
 use Rattle.cilk_types.specs.declared.limits.TheConstants.{MAX_EVENTS, MAX_TICKS}
 use Rattle.cilk_program.specs.Outcomes.{Leaves}
 use Rattle.cilk_program.specs.SerialRun.{Transcript}
@@ -19,14 +18,13 @@ use Rattle.cilk_tree.proofs.AlongPlans.{along_orderly}
 use Rattle.cilk_shared.specs.Values.{SpawnsResume, YardValue}
 use Rattle.cilk_determinacy.specs.Words.{InputsAreWords}
 use Rattle.cilk_replay.specs.EventOrders.{event_order_on, IsPlannedRun, EventOrdersAlongHaveValues}
-use Rattle.cilk_replay.specs.declared.replay.FrameEntry.{FrameEntry}
-use Rattle.cilk_replay.specs.Replays.{AreEntriesOf, IsOfProgram, IsReplay, Setting, replay_with}
+use Rattle.cilk_replay.specs.Replays.{AreFramesOf as AreFramesAlong, IsOfProgram, IsReplay, Setting, replay_with}
 use Rattle.cilk_replay.proofs.Resumes.{resumes_asked}
-use Rattle.cilk_checker.specs.Determinate.{AcceptedRun, HasDeterminateRun}
+use Rattle.cilk_lower.specs.declared.layout.PlannedFrame.{PlannedFrame}
+use Rattle.cilk_checker.specs.Determinate.{AcceptedRun, AreFramesOf, HasDeterminateRun}
 use Rattle.cilk_checker.specs.Frames.{FramesStandAtTheirNumbers, frames_of}
 use Rattle.cilk_plan.specs.Plans.{IsPlanOf, IsEventOrderOn}
 use Rattle.cilk_plan.proofs.Telling.{along_it}
-use Rattle.cilk_plan.specs.Replays.{AreEntriesIn, entry_in}
 
 abbrev setting : AcceptedRun → List ℤ → Transcript → EventOrder → CodeView → Setting
 setting a inputs run s code = record { program = source a.program; code = code; own = a.input; inputs = inputs; run = run; event_order = s }
@@ -56,11 +54,11 @@ pub is_replay : EventOrdersAlongHaveValues → (a : AcceptedRun) (plan : EventOr
 is_replay law a plan is inputs words y orderly told code behaves =
     (told.run, of_program law a plan is inputs words y.event_order orderly told code behaves)
 
-pub are_entries : FramesStandAtTheirNumbers → (a : AcceptedRun) → HasDeterminateRun a → (entries : List FrameEntry) → AreEntriesIn a entries → (y : YardValue) (code : CodeView) (inputs : List ℤ)
-    → AreEntriesOf (replay_with y a.program code a.input inputs) entries
-are_entries law a determinate entries list y code inputs run prog path b callee found runs =
+pub are_frames : FramesStandAtTheirNumbers → (a : AcceptedRun) → HasDeterminateRun a → (frames : List PlannedFrame) → AreFramesOf a frames → (y : YardValue) (code : CodeView) (inputs : List ℤ)
+    → AreFramesAlong (replay_with y a.program code a.input inputs) frames
+are_frames law a determinate frames are y code inputs run prog path b callee found runs =
     let p = source a.program in
     let ran = determinate.1.ended.ran in
     let one : run ≡ ran.run = (serial_run_is_one p a.input MAX_TICKS MAX_EVENTS run ran.run prog.events a.trace (Leaves prog.is.outcome) (Leaves a.outcome) prog.is.runs ran.serial).0 in
-    let all : entries ≡ map entry_in (frames_of p run) = list ran.run ran.serial ∙ ap (λ (r : Transcript). map entry_in (frames_of p r)) (sym one) in
-    ap (λ (l : List FrameEntry). slice_get l (b.number - 1)) all ∙ slice_get-map entry_in (frames_of p run) (b.number - 1) ∙ ap (option_map entry_in) (law p run path b callee found runs)
+    let all : frames ≡ frames_of p run = are ran.run ran.serial ∙ ap (frames_of p) (sym one) in
+    ap (λ (l : List PlannedFrame). slice_get l (b.number - 1)) all ∙ law p run path b callee found runs

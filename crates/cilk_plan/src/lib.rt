@@ -28,7 +28,6 @@
 //! ```
 #![tactic(auto)]
 
-pub mod entries;
 pub mod laws;
 pub mod planning;
 pub mod program_plan;

@@ -7,7 +7,7 @@ ghost use Rattle.cilk_plan.specs.Frames.{end_from};
 ghost use Rattle.cilk_plan.specs.Plans.{AllNamed, IsPlanOf};
 
 use cilk_checker::accepted::Accepted;
-use cilk_checker::frames::PlannedFrame;
+use cilk_lower::layout::PlannedFrame;
 use cilk_tree::plan::Plan;
 use std::alloc::{AllocError, Global};
 

@@ -13,17 +13,13 @@ ghost use Rattle.cilk_tree.specs.Columns.{AreBlockEnds, AreBlocks, AreFirstSpawn
 ghost use Rattle.cilk_plan.specs.Continuations.{SpawnsHaveContinuations};
 ghost use Rattle.cilk_plan.specs.Frames.{IsFrameOf};
 ghost use Rattle.cilk_plan.specs.Plans.{IsPlanOf};
-ghost use Rattle.cilk_plan.specs.Replays.{AreEntriesIn};
 
-use crate::entries::entries;
 use crate::laws::plans_have_continuations;
 use crate::planning::events;
 use cilk_checker::accepted::Accepted;
-use cilk_checker::frames::PlannedFrame;
 use cilk_lower::code::Code;
-use cilk_lower::lower::lower;
+use cilk_lower::layout::PlannedFrame;
 use cilk_program::program::Program;
-use cilk_replay::replay::FrameEntry;
 use cilk_tree::blocks::{PlanBlocks, blocks_of};
 use cilk_tree::kind::Asked;
 use cilk_tree::plan::Plan;
@@ -42,10 +38,9 @@ use std::snapshot::Snapshot;
 pub struct ProgramPlan<'a> {
     program: &'a Program,
     input: &'a Input,
-    code: Code,
+    code: &'a Code,
     events: Plan,
     frames: &'a [PlannedFrame],
-    entries: Vec<FrameEntry>,
     syncs: Vec<Pos>,
     firsts: Vec<Pos>,
     blocks: Vec<u32>,
@@ -63,7 +58,6 @@ impl Drop for ProgramPlan<'_> {
             code: _code,
             events: _events,
             frames: _frames,
-            entries: _entries,
             syncs: _syncs,
             firsts: _firsts,
             blocks: _blocks,
@@ -77,14 +71,11 @@ impl Drop for ProgramPlan<'_> {
 impl<'a> Model for ProgramPlan<'a> {
     ghost use Rattle.std.specs.Prelude.{◌≡◌};
     ghost use Rattle.cilk_checker.specs.Determinate.{AreFramesOf, HasDeterminateRun};
-    ghost use Rattle.cilk_lower.specs.Behaves.{Behaves};
-    ghost use Rattle.cilk_lower.specs.Layout.{LaysOut};
-    ghost use Rattle.cilk_lower.specs.Rooms.{RoomsFit};
+    ghost use Rattle.cilk_lower.specs.Lowered.{IsLowered};
     ghost use Rattle.cilk_tree.specs.Resumptions.{AreResumptions};
     ghost use Rattle.cilk_program.specs.Sources.{source};
     ghost use Rattle.cilk_tree.specs.Columns.{AreBlockEnds, AreBlocks, AreFirstSpawns, AreStrands};
     ghost use Rattle.cilk_plan.specs.Plans.{IsPlanOf, WholePlan, whole_code};
-    ghost use Rattle.cilk_plan.specs.Replays.{AreEntriesIn};
 
     ghost Value = { WholePlan };
 
@@ -92,16 +83,14 @@ impl<'a> Model for ProgramPlan<'a> {
 
     ghost view = { λ p. record { run = p.accepted.value; event_order = p.events } };
 
-    ghost invariant = { λ p. HasDeterminateRun p.accepted.value × (p.program.now ≡ p.accepted.value.program) × (p.input.now ≡ p.accepted.value.input) × Behaves (source p.accepted.value.program) p.code × RoomsFit (source p.accepted.value.program) p.code × LaysOut (source p.accepted.value.program) p.code.layout × IsPlanOf p.accepted.value p.events × AreFramesOf p.accepted.value p.frames.now × AreBlockEnds p.events p.syncs.items × AreStrands p.accepted.value.trace p.strands.items × AreResumptions p.events p.resumptions.items × AreBlocks p.events p.syncs.items p.blocks.items × AreFirstSpawns p.events p.syncs.items p.firsts.items × AreEntriesIn p.accepted.value p.entries.items };
+    ghost invariant = { λ p. HasDeterminateRun p.accepted.value × (p.program.now ≡ p.accepted.value.program) × (p.input.now ≡ p.accepted.value.input) × IsLowered (source p.accepted.value.program) p.code.now × IsPlanOf p.accepted.value p.events × AreFramesOf p.accepted.value p.frames.now × AreBlockEnds p.events p.syncs.items × AreStrands p.accepted.value.trace p.strands.items × AreResumptions p.events p.resumptions.items × AreBlocks p.events p.syncs.items p.blocks.items × AreFirstSpawns p.events p.syncs.items p.firsts.items };
 }
 
-/// Makes the plan of an accepted program's run. Cost and memory: linear in the run's events and the
-/// program.
+/// Makes the plan of an accepted program's run. Cost and memory: linear in the run's events.
 pub fn plan<'a>(alloc: Global, accepted: &'a Accepted) -> Result<ProgramPlan<'a>, AllocError>
     ensures { IfOk result (λ plan. plan.run ≡ accepted.now) }
 {
     let program = accepted.program();
-    let code = lower(alloc, program)?;
     let events = events(alloc, accepted)?;
     plans_have_continuations();
     events.laws();
@@ -112,14 +101,12 @@ pub fn plan<'a>(alloc: Global, accepted: &'a Accepted) -> Result<ProgramPlan<'a>
         resumptions,
     } = blocks_of(alloc, &events)?;
     let strands = strands(alloc, accepted.trace())?;
-    let entries = entries(alloc, accepted.frames())?;
     Ok(ProgramPlan {
         program,
         input: accepted.input(),
-        code,
+        code: accepted.code(),
         events,
         frames: accepted.frames(),
-        entries,
         syncs,
         firsts,
         blocks,
@@ -163,7 +150,7 @@ impl<'a> ProgramPlan<'a> {
         ensures rooms { RoomsFit (source self.now.run.program) result.now }
         ensures layout { LaysOut (source self.now.run.program) result.now.layout }
     {
-        &self.code
+        self.code
     }
 
     /// Returns the kind and frame of the event after the first `after` events, or `Nothing` past
@@ -193,7 +180,6 @@ impl<'a> ProgramPlan<'a> {
             code: _code,
             events,
             frames: _frames,
-            entries: _entries,
             syncs: _syncs,
             firsts: _firsts,
             blocks: _blocks,
@@ -216,13 +202,6 @@ impl<'a> ProgramPlan<'a> {
         ensures { AreFramesOf self.now.run result.now }
     {
         self.frames
-    }
-
-    /// Returns the body and cells of each frame of the run, as its replays read them.
-    pub fn entries(&self) -> &[FrameEntry]
-        ensures { AreEntriesIn self.now.run result.now }
-    {
-        self.entries.as_slice()
     }
 
     /// Returns the body and cells of the frame with this number, or `None` if the run has no such

@@ -28,6 +28,6 @@ pub fn replay<'p>(plan: &'p ProgramPlan, yard: &Yard, input: &'p Input) -> Repla
         plan.input(),
         plan.code(),
         input,
-        plan.entries(),
+        plan.frames(),
     )
 }

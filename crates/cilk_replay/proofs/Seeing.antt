@@ -34,8 +34,9 @@ use Rattle.cilk_determinacy.specs.Numbers.{up, down, instance_number, IsHere, Ha
 use Rattle.cilk_determinacy.proofs.Numbers.{cell_is, down_up, number_is}
 use Rattle.cilk_determinacy.proofs.Sights.{global_here, own_here, root_here}
 use Rattle.cilk_replay.specs.Frames.{same_body}
-use Rattle.cilk_replay.specs.Replays.{AreEntriesOf, ReplayValue, IsBlockOf, IsBodyOf, IsEntryOf, entry_of}
-use Rattle.cilk_replay.specs.declared.replay.FrameEntry.{FrameEntry}
+use Rattle.cilk_replay.specs.Replays.{AreFramesOf, ReplayValue, IsBlockOf, IsBodyOf, IsFrameOf}
+use Rattle.cilk_lower.specs.Layout.{planned_frame}
+use Rattle.cilk_lower.specs.declared.layout.PlannedFrame.{PlannedFrame}
 use Rattle.cilk_replay.specs.declared.frame_layout.CellBlock.{CellBlock}
 use Rattle.cilk_replay.specs.declared.frame_layout.FrameLayout.{FrameLayout}
 use Rattle.cilk_replay.specs.declared.frame_layout.ReducerNumber.{ReducerNumber}
@@ -339,23 +340,24 @@ module _ (p : Source) (r : Transcript) where
   reducer_found w s h (asks.Value x) u there = record { has = (h.reducers.own there.0).reducers x.place x.kind there.1; number = reducer_is p r w.sight (layouts_of s) s.given.items h.layouts h.given x.place x.kind }
   reducer_found w s h k u there = absurd u
 
-inner_entry : (o : Option FrameEntry) (a other : FrameEntry) → o ≡ Some a → unwrap_or o other ≡ a
-inner_entry None a other q = absurd (let z : None ≡ Some a = q in cc z)
-inner_entry (Some b) a other q = cc q
+inner_frame : (o : Option PlannedFrame) (a other : PlannedFrame) → o ≡ Some a → unwrap_or o other ≡ a
+inner_frame None a other q = absurd (let z : None ≡ Some a = q in cc z)
+inner_frame (Some b) a other q = cc q
 
 -- where a course's list has a frame
-pub lies_at : (u v : ReplayValue) (entries : List FrameEntry) (number place : ℕ) (other found : FrameEntry) → u ≡ v → AreEntriesOf u entries → place ≡ number - 1
-    → found ≡ unwrap_or (slice_get entries place) other → IsEntryOf v number found
-lies_at u v entries number place other found same are at is run path b callee prog frame runs q =
-    let here = subst (λ (z : ReplayValue). AreEntriesOf z entries) same are run prog path b callee frame runs in
+pub lies_at : (u v : ReplayValue) (frames : List PlannedFrame) (number place : ℕ) (other found : PlannedFrame) → u ≡ v → AreFramesOf u frames → place ≡ number - 1
+    → found ≡ unwrap_or (slice_get frames place) other → IsFrameOf v number found
+lies_at u v frames number place other found same are at is run path b callee prog frame runs q =
+    let here = subst (λ (z : ReplayValue). AreFramesOf z frames) same are run prog path b callee frame runs in
     let spot : place ≡ b.number - 1 = omega (arith, at, q) in
-    is ∙ inner_entry (slice_get entries place) (entry_of (source v.program) callee b) other (ap (slice_get entries) spot ∙ here)
+    is ∙ inner_frame (slice_get frames place) (planned_frame (source v.program) callee b) other (ap (slice_get frames) spot ∙ here)
 
 -- the frame there
-pub block_in : (u : ReplayValue) (number : ℕ) (entry : FrameEntry) → IsEntryOf u number entry → IsBlockOf u number entry.block
-block_in u number entry h run path b prog frame q =
+pub block_in : (u : ReplayValue) (number : ℕ) (f : PlannedFrame) → IsFrameOf u number f → IsBlockOf u number (record { first = f.first_cell; cells = f.cells })
+block_in u number f h run path b prog frame q =
     let runs = runs_there (source u.program) run path b frame in
-    ap (λ (z : FrameEntry). z.block) (h run path b runs.0 prog frame runs.1 q)
+    let Of : PlannedFrame → CellBlock = λ z. record { first = z.first_cell; cells = z.cells } in
+    ap Of (h run path b runs.0 prog frame runs.1 q)
 
-pub body_in : (u : ReplayValue) (number : ℕ) (entry : FrameEntry) → IsEntryOf u number entry → IsBodyOf u number entry.body
-body_in u number entry h run path b callee prog frame runs q = ap (λ (z : FrameEntry). z.body) (h run path b callee prog frame runs q)
+pub body_in : (u : ReplayValue) (number : ℕ) (f : PlannedFrame) → IsFrameOf u number f → IsBodyOf u number f.body
+body_in u number f h run path b callee prog frame runs q = ap (λ (z : PlannedFrame). z.body) (h run path b callee prog frame runs q)

@@ -9,6 +9,8 @@ use Rattle.cilk_program.specs.SerialRun.{Transcript}
 use Rattle.cilk_program.specs.Sources.{source}
 use Rattle.cilk_program.specs.Syntax.{Source}
 use Rattle.cilk_lower.specs.Behaves.{Behaves}
+use Rattle.cilk_lower.specs.Layout.{planned_frame}
+use Rattle.cilk_lower.specs.declared.layout.PlannedFrame.{PlannedFrame}
 use Rattle.cilk_lower.specs.Code.{CodeView}
 use Rattle.cilk_lower.specs.contracts.code.Code as code
 use Rattle.cilk_tree.specs.declared.event_order.EventOrder.{EventOrder}
@@ -24,7 +26,6 @@ use Rattle.cilk_program.specs.Numbering.{Block, frame_at}
 use Rattle.cilk_program.specs.declared.program.Body.{Body}
 use Rattle.cilk_program.specs.Inside.{body_of}
 use Rattle.cilk_determinacy.specs.Numbers.{frame_runs}
-use Rattle.cilk_replay.specs.declared.replay.FrameEntry.{FrameEntry}
 use Rattle.cilk_replay.specs.declared.frame_layout.CellBlock.{CellBlock}
 use Rattle.cilk_replay.specs.declared.frame_layout.FrameLayout.{FrameLayout}
 use Rattle.cilk_replay.specs.declared.sight.Sight.{Sight}
@@ -80,24 +81,20 @@ pub record IsOfProgram (s : Setting) : Type 0 where
 abbrev pub IsReplay : ReplayValue → Type 0
 IsReplay c = (run : Transcript) × IsOfProgram (setting_of c run)
 
--- the body of a frame of a run, and its block of cells
-abbrev pub entry_of : Source → Callee → Block → FrameEntry
-entry_of p callee b = record { body = body_of p callee; block = cells_of_block b }
-
--- the entries of a run's frames, in the order of the frames' numbers, from 1
-abbrev pub AreEntries : Source → Transcript → List FrameEntry → Type 0
-AreEntries p r entries =
-    (path : List ℕ) (b : Block) (callee : Callee) → frame_at p r path ≡ Some b → frame_runs r path ≡ Some callee → slice_get entries (b.number - 1) ≡ Some (entry_of p callee b)
+-- the frames of a run, in the order of their numbers, from 1
+abbrev pub AreFrames : Source → Transcript → List PlannedFrame → Type 0
+AreFrames p r frames =
+    (path : List ℕ) (b : Block) (callee : Callee) → frame_at p r path ≡ Some b → frame_runs r path ≡ Some callee → slice_get frames (b.number - 1) ≡ Some (planned_frame p callee b)
 
 -- the same for a replay
-abbrev pub AreEntriesOf : ReplayValue → List FrameEntry → Type 0
-AreEntriesOf c entries = (run : Transcript) → IsOfProgram (setting_of c run) → AreEntries (source c.program) run entries
+abbrev pub AreFramesOf : ReplayValue → List PlannedFrame → Type 0
+AreFramesOf c frames = (run : Transcript) → IsOfProgram (setting_of c run) → AreFrames (source c.program) run frames
 
--- the entry of the frame with this number, if the run has it
-abbrev pub IsEntryOf : ReplayValue → ℕ → FrameEntry → Type 0
-IsEntryOf c number entry =
+-- the frame with this number, if the run has it
+abbrev pub IsFrameOf : ReplayValue → ℕ → PlannedFrame → Type 0
+IsFrameOf c number planned =
     (run : Transcript) (path : List ℕ) (b : Block) (callee : Callee) → IsOfProgram (setting_of c run) → frame_at (source c.program) run path ≡ Some b
-    → frame_runs run path ≡ Some callee → b.number ≡ number → entry ≡ entry_of (source c.program) callee b
+    → frame_runs run path ≡ Some callee → b.number ≡ number → planned ≡ planned_frame (source c.program) callee b
 
 -- its block of cells
 abbrev pub IsBlockOf : ReplayValue → ℕ → CellBlock → Type 0

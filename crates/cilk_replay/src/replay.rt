@@ -2,26 +2,20 @@
 
 ghost use Rattle.std.specs.Prelude.{◌≡◌, length, slice_get, unwrap_or};
 ghost use Rattle.cilk_program.specs.Sources.{source};
-ghost use Rattle.cilk_replay.specs.Replays.{AreEntriesOf, IsBlockOf, IsBodyOf, IsReplay, IsEntryOf, replay_with};
+ghost use Rattle.cilk_replay.specs.Replays.{AreFramesOf, IsBlockOf, IsBodyOf, IsReplay, IsFrameOf, replay_with};
 ghost use Rattle.cilk_replay.specs.Awaited.{SyncsAwaitSpawns};
 ghost use Rattle.cilk_replay.specs.Resumes.{ResumesAreAsked};
 ghost use Rattle.cilk_replay.specs.Starts.{RangesBeginInBlocks, RangesHoldSpawns};
 
 use crate::frame_layout::{CellBlock, FrameLayout};
 use cilk_lower::code::Code;
+use cilk_lower::layout::PlannedFrame;
 use cilk_program::program::{Body, Program};
 use cilk_shared::yard::Yard;
 use cilk_types::event::FrameNo;
 use cilk_types::input::Input;
 use std::marker::Model;
 use std::snapshot::Snapshot;
-
-/// The function or loop that a frame of a plan's run runs, and its block of cells.
-#[derive(Clone, Copy)]
-pub struct FrameEntry {
-    pub body: Body,
-    pub block: CellBlock,
-}
 
 /// A replay as contracts see it: its event order, program, code and inputs. It has no bytes.
 #[derive(Drop)]
@@ -66,13 +60,13 @@ pub struct Replay<'p> {
     input: &'p Input,
     globals: usize,
     reducers: u32,
-    entries: &'p [FrameEntry],
+    frames: &'p [PlannedFrame],
 }
 
 impl<'p> Model for Replay<'p> {
     ghost use Rattle.std.specs.Prelude.{◌≡◌, length};
     ghost use Rattle.cilk_program.specs.Sources.{source};
-    ghost use Rattle.cilk_replay.specs.Replays.{AreEntriesOf, ReplayValue, IsReplay, replay_code};
+    ghost use Rattle.cilk_replay.specs.Replays.{AreFramesOf, ReplayValue, IsReplay, replay_code};
 
     ghost Value = { ReplayValue };
 
@@ -83,23 +77,23 @@ impl<'p> Model for Replay<'p> {
     ghost invariant = { λ c. IsReplay c.model × (c.code.now ≡ c.model.code) × (c.input.now ≡ c.model.inputs)
         × (c.globals ≡ (let p = source c.model.program in length p.openings))
         × (c.reducers ≡ (let p = source c.model.program in length p.reducers))
-        × AreEntriesOf c.model c.entries.now };
+        × AreFramesOf c.model c.frames.now };
 }
 
 impl<'p> Replay<'p> {
     /// Creates the replay of a program on `input`, along the plan of its serial run on `own`. The
-    /// event order of `yard` is that plan as the program makes it on `input`. `entries` has each
-    /// frame of that run, by number.
+    /// event order of `yard` is that plan as the program makes it on `input`. `frames` has each frame
+    /// of that run, by number.
     pub fn new(
         yard: &Yard,
         program: &Program,
         own: &Input,
         code: &'p Code,
         input: &'p Input,
-        entries: &'p [FrameEntry],
+        frames: &'p [PlannedFrame],
     ) -> Replay<'p>
         requires replay { IsReplay (replay_with yard.now program.now code.now own.now input.now) }
-        requires entries { AreEntriesOf (replay_with yard.now program.now code.now own.now input.now) entries.now }
+        requires frames { AreFramesOf (replay_with yard.now program.now code.now own.now input.now) frames.now }
         ensures { result ≡ replay_with yard.now program.now code.now own.now input.now }
     {
         Replay {
@@ -108,7 +102,7 @@ impl<'p> Replay<'p> {
             input,
             globals: program.globals.len(),
             reducers: program.reducers.len() as u32,
-            entries,
+            frames,
         }
     }
 
@@ -157,7 +151,11 @@ impl<'p> Replay<'p> {
     pub fn block(&self, frame: FrameNo) -> CellBlock
         ensures { IsBlockOf self.now frame result }
     {
-        self.entry(frame).block
+        let frame = self.planned(frame);
+        CellBlock {
+            first: frame.first_cell,
+            cells: frame.cells,
+        }
     }
 
     /// Returns the function or loop of the frame with this number, if the plan's run has that
@@ -165,19 +163,20 @@ impl<'p> Replay<'p> {
     pub fn body(&self, frame: FrameNo) -> Body
         ensures { IsBodyOf self.now frame result }
     {
-        self.entry(frame).body
+        self.planned(frame).body
     }
 
     /// Returns the body and the cells of the frame with this number. A number past the last frame's
     /// gives function 0 without cells.
-    pub fn entry(&self, frame: FrameNo) -> FrameEntry
-        ensures { IsEntryOf self.now frame result }
+    pub fn planned(&self, frame: FrameNo) -> PlannedFrame
+        ensures { IsFrameOf self.now frame result }
     {
-        let none = FrameEntry {
+        let none = PlannedFrame {
             body: Body::Function(0),
-            block: CellBlock { first: 0, cells: 0 },
+            first_cell: 0,
+            cells: 0,
         };
-        entry_at(self.entries, frame.saturating_sub(1), none)
+        frame_at(self.frames, frame.saturating_sub(1), none)
     }
 
     /// Returns the program's code.
@@ -233,11 +232,11 @@ impl<'p> Replay<'p> {
     }
 }
 
-fn entry_at(entries: &[FrameEntry], place: u32, other: FrameEntry) -> FrameEntry
-    ensures { result ≡ unwrap_or (slice_get entries.now place) other }
+fn frame_at(frames: &[PlannedFrame], place: u32, other: PlannedFrame) -> PlannedFrame
+    ensures { result ≡ unwrap_or (slice_get frames.now place) other }
 {
-    match entries.get(place as usize) {
-        Some(entry) => *entry,
+    match frames.get(place as usize) {
+        Some(frame) => *frame,
         None => other,
     }
 }

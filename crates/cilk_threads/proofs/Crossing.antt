@@ -6,8 +6,8 @@ use Rattle.cilk_hypermap.proofs.hypermap.Hypermap.TheSendSync as hypermap
 use Rattle.cilk_shared.proofs.yard.Segment.TheSendSync as segment
 use Rattle.cilk_frames.proofs.asked.AskSlot.TheSendSync as asked
 use Rattle.cilk_replay.proofs.replay_frame.ReplayFrame.TheSendSync as replay_frame
-use Rattle.cilk_replay.proofs.replay.FrameEntry.TheSendSync as entry
 use Rattle.cilk_lower.proofs.code.Code.TheSendSync as code
+use Rattle.cilk_lower.proofs.layout.PlannedFrame.TheSendSync as planned
 use Rattle.cilk_tree.proofs.kind.Kind.TheSendSync as kind
 use Rattle.cilk_types.proofs.input.Input.TheSendSync as input
 use Rattle.cilk_shared.specs.contracts.piece.Piece as Piece
@@ -49,4 +49,4 @@ model_sync : IsSync ReplayModel.the_row
 model_sync = search (sendable, crosses) depth 20
 
 pub replay_sync : (κ : NamedLft) → IsSync (Replay.the_row κ)
-replay_sync κ = search (model_sync, code.the_sync, input.the_sync, entry.the_sync, sendable, crosses) depth 20
+replay_sync κ = search (model_sync, code.the_sync, input.the_sync, planned.the_sync, sendable, crosses) depth 20

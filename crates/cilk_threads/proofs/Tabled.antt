@@ -51,7 +51,7 @@ use Rattle.cilk_determinacy.specs.Runs.{Output, Reducer}
 use Rattle.cilk_determinacy.specs.Numbers.{frame_number, all_reducers, child_runs}
 use Rattle.cilk_determinacy.proofs.Numbers.{frame_is}
 use Rattle.cilk_checker.specs.Determinate.{AcceptedRun, AreFramesOf, HasDeterminateRun}
-use Rattle.cilk_checker.specs.declared.frames.PlannedFrame.{PlannedFrame}
+use Rattle.cilk_lower.specs.declared.layout.PlannedFrame.{PlannedFrame}
 use Rattle.cilk_checker.specs.Frames.{frames_of}
 use Rattle.cilk_checker.proofs.Standing.{frames_stand}
 use Rattle.cilk_threads.specs.Accepted.{IsTableOf, reducers_in}

@@ -9,7 +9,7 @@ ghost use Rattle.cilk_threads.specs.Accepted.{IsTableOf, reducers_in};
 ghost use Rattle.cilk_threads.specs.Tables.{reducers_of};
 
 use cilk_checker::accepted::Accepted;
-use cilk_checker::frames::PlannedFrame;
+use cilk_lower::layout::PlannedFrame;
 use cilk_plan::program_plan::ProgramPlan;
 use cilk_program::program::{Body, Program};
 use cilk_shared::reducers::{FrameReducers, Reducers};

@@ -3,7 +3,7 @@ use Rattle.std.proofs.lemmas.Result.{err_from_is_err_and}
 use Rattle.cilk_types.specs.declared.event.Event.{Event}
 use Rattle.cilk_program.specs.Sources.{source}
 use Rattle.cilk_tree.specs.Shape.{Spells}
-use Rattle.cilk_checker.proofs.Checked.{certified, frames_at, ran_at, refused_before, run_creates, run_spelled, stops_at}
+use Rattle.cilk_checker.proofs.Checked.{certified, code_at, frames_at, ran_at, refused_before, run_creates, run_spelled, stops_at}
 use Rattle.cilk_checker.proofs.Taking.{until_before}
 use Rattle.cilk_checker.proofs.Uncounted.{by_refusal}
 use Rattle.cilk_checker.proofs.check.check_end.Goals as goal
@@ -23,7 +23,7 @@ returns-in_ok-refusal-in-Stopped-clause-unaccepted g c =
 pub right_of-requires : goal.right_of-requires
 right_of-requires g c =
     let p = source c.args.program in
-    let ran = ran_at p c.args.input c.args.end c.in-Left.outcome c.in-Left.frames c.args.trace c.args.trace c.in-Left.is c.requires.ends refl in
+    let ran = ran_at p c.args.input c.args.end c.in-Left.outcome c.in-Left.frames c.in-Left.code c.args.trace c.args.trace c.in-Left.is c.requires.ends refl in
     let e = run_spelled p c.args.input c.args.program.well_named c.in-Left.outcome c.args.trace ran in
     (e.0, e.1.spells)
 
@@ -32,7 +32,7 @@ returns-in_err-ended-in-Left-clause-unaccepted g c =
     let p = source c.args.program in
     let es = c.in_ok-right-in-Left.right.trace in
     let same = c.in_ok-right-in-Left.ensures.trace in
-    let ran = ran_at p c.args.input c.args.end c.in-Left.outcome c.in-Left.frames c.args.trace es c.in-Left.is c.requires.ends same in
+    let ran = ran_at p c.args.input c.args.end c.in-Left.outcome c.in-Left.frames c.in-Left.code c.args.trace es c.in-Left.is c.requires.ends same in
     let e = run_spelled p c.args.input c.args.program.well_named c.in-Left.outcome es ran in
     let columns = c.in_ok-right-in-Left.ensures.columns e.0 (subst (λ (l : List Event). Spells e.0 l) same e.1.spells) in
     let q = err_from_is_err_and c.from_residual-in_err-ended-in-Left.result c.from_residual-in_err-ended-in-Left.ensures.1 in
@@ -43,7 +43,7 @@ new-requires-clause-determinate g c =
     let p = source c.args.program in
     let es = c.in_ok-right-in-Left.right.trace in
     let same = c.in_ok-right-in-Left.ensures.trace in
-    let ran = ran_at p c.args.input c.args.end c.in-Left.outcome c.in-Left.frames c.args.trace es c.in-Left.is c.requires.ends same in
+    let ran = ran_at p c.args.input c.args.end c.in-Left.outcome c.in-Left.frames c.in-Left.code c.args.trace es c.in-Left.is c.requires.ends same in
     let x = certified p c.args.input (g.S.Source.remaining c.args.source.now) c.args.program.well_named c.serial_runs_settle.ensures c.in-Left.outcome es ran
     (λ s spells created. c.in_ok-ended-in-Left.ensures.clean s (c.in_ok-right-in-Left.ensures.columns s (subst (λ (l : List Event). Spells s l) same spells)) created) in
     rw c.into_trace-trace.ensures (x.0, x.1)
@@ -52,14 +52,17 @@ pub new-requires-clause-frames : goal.new-requires-clause-frames
 new-requires-clause-frames g c =
     let p = source c.args.program in
     rw c.into_trace-trace.ensures
-    (frames_at p c.args.input c.args.end c.in-Left.outcome c.in-Left.frames c.args.trace c.in_ok-right-in-Left.right.trace c.in-Left.is c.requires.ends c.in_ok-right-in-Left.ensures.trace)
+    (frames_at p c.args.input c.args.end c.in-Left.outcome c.in-Left.frames c.in-Left.code c.args.trace c.in_ok-right-in-Left.right.trace c.in-Left.is c.requires.ends c.in_ok-right-in-Left.ensures.trace)
+
+pub new-requires-clause-code : goal.new-requires-clause-code
+new-requires-clause-code g c = code_at (source c.args.program) c.args.input c.args.end c.in-Left.outcome c.in-Left.frames c.in-Left.code c.args.trace c.in-Left.is c.requires.ends
 
 pub returns-in_ok-ended-in-Left-clause-accepted : goal.returns-in_ok-ended-in-Left-clause-accepted
 returns-in_ok-ended-in-Left-clause-accepted g c =
     let p = source c.args.program in
     let es = c.in_ok-right-in-Left.right.trace in
     let same = c.in_ok-right-in-Left.ensures.trace in
-    let ran = ran_at p c.args.input c.args.end c.in-Left.outcome c.in-Left.frames c.args.trace es c.in-Left.is c.requires.ends same in
+    let ran = ran_at p c.args.input c.args.end c.in-Left.outcome c.in-Left.frames c.in-Left.code c.args.trace es c.in-Left.is c.requires.ends same in
     rw (c.new.ensures, c.into_trace-trace.ensures)
     (certified p c.args.input (g.S.Source.remaining c.args.source.now) c.args.program.well_named c.serial_runs_settle.ensures c.in-Left.outcome es ran
     (λ s spells created. c.in_ok-ended-in-Left.ensures.clean s (c.in_ok-right-in-Left.ensures.columns s (subst (λ (l : List Event). Spells s l) same spells)) created))
@@ -80,7 +83,7 @@ returns-in_err-ended-in-Left-clause-part g c =
     let p = source c.args.program in
     let es = c.in_ok-right-in-Left.right.trace in
     let same = c.in_ok-right-in-Left.ensures.trace in
-    let ran = ran_at p c.args.input c.args.end c.in-Left.outcome c.in-Left.frames c.args.trace es c.in-Left.is c.requires.ends same in
+    let ran = ran_at p c.args.input c.args.end c.in-Left.outcome c.in-Left.frames c.in-Left.code c.args.trace es c.in-Left.is c.requires.ends same in
     let e = run_spelled p c.args.input c.args.program.well_named c.in-Left.outcome es ran in
     let columns = c.in_ok-right-in-Left.ensures.columns e.0 (subst (λ (l : List Event). Spells e.0 l) same e.1.spells) in
     let q = err_from_is_err_and c.from_residual-in_err-ended-in-Left.result c.from_residual-in_err-ended-in-Left.ensures.1 in

@@ -3,7 +3,7 @@ use Rattle.cilk_lower.specs.Layout.{LaysOut}
 use Rattle.cilk_program.specs.Sources.{source}
 use Rattle.cilk_serial.specs.SoFar.{RunView}
 use Rattle.cilk_checker.specs.declared.frames.Own.{Own}
-use Rattle.cilk_checker.specs.declared.frames.PlannedFrame.{PlannedFrame}
+use Rattle.cilk_lower.specs.declared.layout.PlannedFrame.{PlannedFrame}
 use Rattle.cilk_checker.specs.Frames.{own_of}
 use Rattle.cilk_checker.proofs.Noting.{made_by, none_there, noted_more, noted_on, noted_same, noted_start, noted_whole, own_there, small_room, smaller}
 use Rattle.cilk_checker.proofs.ending.run_code.Goals as goal
@@ -14,7 +14,7 @@ each-init c =
     record {
       program = ap (λ (v : RunView). v.program) c.in_ok-serial.ensures;
       inputs = ap (λ (v : RunView). v.inputs) c.in_ok-serial.ensures;
-      noted = noted_start prog c.args.input.now c.layout-layout.result.now (subst (LaysOut (source prog)) (sym c.layout-layout.ensures) c.requires.layout)
+      noted = noted_start prog c.args.input.now c.layout-layout.result.now (subst (LaysOut (source prog)) (sym c.layout-layout.ensures) c.requires.2)
           c.in_ok-serial.serial.events (ap (λ (v : RunView). v.events) c.in_ok-serial.ensures) c.begin.new.frames.items c.len-globals.result c.in_ok-cells.cells c.len-globals.ensures
           (c.in_ok-cells.ensures.frame ∙ (ap (λ (l : List PlannedFrame). l ++ record { body = c.of_callee.result.body; first_cell = c.len-globals.result; cells = c.of_callee.result.cells } ∷ []) c.new-frames.ensures.items
           ∙ ap (λ (o : Own). record { body = o.body; first_cell = c.len-globals.result; cells = o.cells } ∷ []) c.of_callee.ensures))
@@ -48,7 +48,7 @@ each-preserved-in-Some c =
       inputs = made.inputs ∙ now.inputs;
       noted = noted_more prog c.args.input.now c.run_on.new.self c.next.new.self c.in-Made.field-0 made now.program now.inputs c.in_ok-next.ensures.intact.0
           begun.callee begun.begins c.each.frames.items c.each.cells now.noted
-          c.layout-layout.result.now (subst (LaysOut (source prog)) (sym c.layout-layout.ensures) c.requires.layout)
+          c.layout-layout.result.now (subst (LaysOut (source prog)) (sym c.layout-layout.ensures) c.requires.2)
           c.begin-in-Some.new.frames.items c.in_ok-cells-in-Made.cells found.0 found.1
           (c.in_ok-cells-in-Made.ensures.frame ∙ ap (λ (o : Own). c.each.frames.items ++ record { body = o.body; first_cell = c.each.cells; cells = o.cells } ∷ []) found.2)
           (c.in_ok-cells-in-Made.ensures.cells ∙ ap (λ (o : Own). c.each.cells + o.cells) found.2);
@@ -70,5 +70,6 @@ each-preserved c =
 pub returns-in-Ended : goal.returns-in-Ended
 returns-in-Ended c =
     let now = noted_on c.args.program.now c.args.input.now c.each.serial c.run_on.new.self c.each.frames.items c.each.cells c.in_ok-run_on.ensures.ok c.each.invariant in
-    noted_whole c.args.program.now c.args.input.now c.run_on.new.self c.next.new.self c.in_ok-next.field-0 c.in-Ended.is c.in_ok-next.ensures.ok now.program now.inputs
-    c.each.frames.items c.each.cells now.noted c.in_ok-outcome-in-Ended.outcome c.in_ok-outcome-in-Ended.trace c.in_ok-outcome-in-Ended.ensures.ran c.in_ok-outcome-in-Ended.ensures.events
+    let left = noted_whole c.args.program.now c.args.input.now c.run_on.new.self c.next.new.self c.in_ok-next.field-0 c.in-Ended.is c.in_ok-next.ensures.ok now.program now.inputs
+    c.each.frames.items c.each.cells now.noted c.in_ok-outcome-in-Ended.outcome c.in_ok-outcome-in-Ended.trace c.in_ok-outcome-in-Ended.ensures.ran c.in_ok-outcome-in-Ended.ensures.events in
+    (left.0, left.1, c.requires)

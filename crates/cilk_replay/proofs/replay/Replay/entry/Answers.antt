@@ -1,7 +1,0 @@
-use Rattle.cilk_replay.proofs.Seeing.{lies_at}
-use Rattle.cilk_replay.proofs.replay.Replay.entry.Goals as goal
-
-pub returns : goal.returns
-returns c =
-    let i = c.self.inside in
-    lies_at i.model c.args.self.now i.entries.now c.args.frame c.saturating_sub.result _ c.entry_at.result c.self.view_is c.self.invariant.5 c.saturating_sub.ensures c.entry_at.ensures
