@@ -42,8 +42,8 @@ pub fn run_to_end(
     run_code(alloc, program, code, input)
 }
 
-// The same, for a program that is lowered already.
-fn run_code(
+/// The same, for a program that is compiled already.
+pub fn run_code(
     alloc: Global,
     program: &Program,
     code: Code,

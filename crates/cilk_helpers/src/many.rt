@@ -15,7 +15,7 @@ use crate::watch::Watch;
 use crate::whole::retell;
 use cilk_checker::accepted::Accepted;
 use cilk_checker::check::check_end;
-use cilk_checker::ending::{End, run_to_end};
+use cilk_checker::ending::{End, run_code};
 use cilk_checker::refusal::{Refusal, Unaccepted};
 use cilk_checker::source::Whole;
 use cilk_checker::texts::{meaning, numbers};
@@ -50,10 +50,10 @@ pub fn run_many<H: Threads + Sync, W: Watch + Sync>(
     let team = Team { rt, helpers, watch };
     let replays = replays(team, alloc, program, &code, input, &hints)?;
     drop(hints);
-    if let Some(run) = retell(alloc, program, code, input, replays)? {
-        return Ok(run);
+    match retell(alloc, program, &code, input, replays)? {
+        Some(run) => Ok((End::Left(run.outcome, run.frames, code), run.trace)),
+        None => run_code(alloc, program, code, input),
     }
-    run_to_end(alloc, program, input)
 }
 
 /// The same, with the hints in a certificate's text. Its only fault is that memory runs out.

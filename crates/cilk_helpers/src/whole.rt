@@ -2,21 +2,20 @@
 
 ghost use Rattle.std.specs.Prelude.{◌≡◌, [], false, All, IfOk, IfSome};
 ghost use Rattle.cilk_lower.specs.Behaves.{Behaves};
-ghost use Rattle.cilk_lower.specs.Lowered.{IsLowered};
+ghost use Rattle.cilk_lower.specs.Layout.{LaysOut};
 ghost use Rattle.cilk_program.specs.Sources.{source};
 ghost use Rattle.cilk_program.specs.declared.ask.Ask.TheVariants as asks;
 ghost use Rattle.cilk_program.specs.declared.ask.Callee.TheVariants as callees;
-ghost use Rattle.cilk_checker.specs.Runs.{EndsWith};
 ghost use Rattle.cilk_helpers.specs.Asked.{ask_in};
-ghost use Rattle.cilk_helpers.specs.Whole.{IsKept, Retells};
+ghost use Rattle.cilk_helpers.specs.Whole.{IsKept, IsRetold, Retells};
 ghost use Rattle.cilk_helpers.specs.Telling.{HasRoom, Tells};
 
 use crate::called::SmallCallee;
 use crate::note::{Asked, Note};
 use crate::retelling::{Gone, Parting, Retelling};
-use cilk_checker::ending::End;
 use cilk_checker::frames::{self, Own, of_callee};
 use cilk_lower::code::Code;
+use cilk_lower::layout::PlannedFrame;
 use cilk_program::ask::{Callee, LoopPart};
 use cilk_program::program::Program;
 use cilk_serial::outcome::outcome;
@@ -24,6 +23,7 @@ use cilk_serial::state::State;
 use cilk_types::input::Input;
 use cilk_types::invocation::Invocation;
 use cilk_types::limits::MAX_EVENTS;
+use cilk_types::outcome::Outcome;
 use cilk_types::trace::Trace;
 use std::alloc::{AllocError, Global};
 
@@ -233,35 +233,48 @@ fn begin(
     Ok(Some(Retelling::new(alloc, program, notes, events)?))
 }
 
+/// A run that was retold: its outcome, its frames in the order of their numbers, and its events.
+#[derive(Drop)]
+pub struct Retold {
+    pub outcome: Outcome,
+    pub frames: Vec<PlannedFrame>,
+    pub trace: Trace,
+}
+
 /// Retells the serial run of a program from the replays of its frames, the last frame first.
 ///
-/// Returns the outcome, the frames and the events. `None` if a replay is missing or had another
-/// answer than the run, or if the run doesn't end without a fault.
+/// `None` if a replay is missing or had another answer than the run, or if the run doesn't end
+/// without a fault.
 pub fn retell(
     alloc: Global,
     program: &Program,
-    code: Code,
+    code: &Code,
     input: &Input,
     replays: Vec<Replay>,
-) -> Result<Option<(End, Trace)>, AllocError>
-    requires lowered { IsLowered (source program.now) code }
-    requires kept { All (IsKept code (source program.now) input.now) replays.items }
-    ensures { IfOk result (λ found. IfSome found (λ r. EndsWith (source program.now) input.now r.0 r.1)) }
+) -> Result<Option<Retold>, AllocError>
+    requires behaves { Behaves (source program.now) code.now }
+    requires layout { LaysOut (source program.now) code.now.layout }
+    requires kept { All (IsKept code.now (source program.now) input.now) replays.items }
+    ensures { IfOk result (λ found. IfSome found (IsRetold (source program.now) input.now)) }
 {
     let mut replays = replays;
     let mut frames = Vec::with_capacity(alloc, replays.len())?;
-    let Some(mut run) = begin(alloc, program, &code, input, &mut replays)? else {
+    let Some(mut run) = begin(alloc, program, code, input, &mut replays)? else {
         return Ok(None);
     };
     let root = of_callee(program, code.layout(), &Callee::Root);
     let mut cells = frames::begin(&mut frames, program.globals.len() as u64, root)?;
     'each: for _ in 0..MAX_EVENTS {
-        match make_event(alloc, program, &code, input, &mut run, &mut replays)? {
+        match make_event(alloc, program, code, input, &mut run, &mut replays)? {
             Step::GoesOn => {}
             Step::Begins(own) => cells = frames::begin(&mut frames, cells, own)?,
             Step::Ends(value) => {
                 let (outcome, trace) = outcome(alloc, program, run.into_state(), value)?;
-                return Ok(Some((End::Left(outcome, frames, code), trace)));
+                return Ok(Some(Retold {
+                    outcome,
+                    frames,
+                    trace,
+                }));
             }
             Step::Departs => return Ok(None),
         }

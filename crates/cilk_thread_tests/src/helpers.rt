@@ -165,7 +165,7 @@ fn retells<R: Abort + Threads + Sync>(
     };
     let replays = replays(team, alloc, program, &code, input, &hints)?;
     let is_once = counting.count(1) == hints.frames.len();
-    Ok(retell(alloc, program, code, input, replays)?.is_some() && is_once)
+    Ok(retell(alloc, program, &code, input, replays)?.is_some() && is_once)
 }
 
 #[test]

@@ -20,4 +20,5 @@ pub mod ShelfHistories
 pub mod Shelves
 pub mod Spawned
 pub mod Steps
+pub mod Stolen
 pub mod Waits

@@ -106,12 +106,12 @@ finds y taken v owner port views h at =
     )
 
 -- a task that others steal is taken; if the owner has no pickers, there is nobody else to steal
-pub takes : (y : ReplayValue → Type 0) (taken : Task → Type 0) → MayPick taken → (v : Offers) → v.owner ≡ false → (port : ℕ) → Takes (Racked y taken) port v 1 (λ xs w. (w ≡ v) × All (Of y) xs)
+pub takes : (y : ReplayValue → Type 0) (taken : Task → Type 0) → MayPick taken → (v : Offers) → v.owner ≡ false → (port : ℕ) → Takes (Racked y taken) port v 1 (λ xs w. (w ≡ offers v.owner v.alone (v.waiting ++ xs)) × All (Of y) xs)
 takes y taken may v guest port xs items views _ _ h at = (
-  v,
+  offers v.owner v.alone (v.waiting ++ xs),
   (
     all_back (Of y) xs items h.0,
-    fits_set taken items views (set views port v) port v
+    fits_set taken items views (set views port (offers v.owner v.alone (v.waiting ++ xs))) port (offers v.owner v.alone (v.waiting ++ xs))
         (λ j u other e o.
         let theirs = h.1 j u e o in
         let fits : Fits taken (xs ++ items) views u = theirs.1 in (

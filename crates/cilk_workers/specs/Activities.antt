@@ -1,7 +1,9 @@
 -- The state of a worker between two turns, and the reasons why it ends.
-use Rattle.std.specs.Prelude.{◌≡◌, ◌≤◌, ◌⊎◌, ℕ, false, true, List}
+use Rattle.std.specs.Prelude.{◌≡◌, ◌≤◌, ◌⊎◌, ℕ, false, true, List, Option, Some, None}
 use Rattle.crossbeam_queue.specs.Passes.{Pass}
+use Rattle.cilk_replay.specs.declared.chain.Task.{Task}
 use Rattle.cilk_workers.specs.Boxes.{HoldsBlock}
+use Rattle.cilk_workers.specs.Held.{TakesNone, TakesOne}
 use Rattle.cilk_workers.specs.Rows.{OfRun}
 use Rattle.cilk_tree.specs.Runs.{Departs}
 use Rattle.cilk_tree.specs.Word.{resume, word_step}
@@ -16,6 +18,7 @@ use Rattle.cilk_workers.specs.declared.shelf.Shelf.{Shelf}
 use Rattle.cilk_workers.specs.declared.activity.ExitReason.{ExitReason}
 use Rattle.cilk_workers.specs.declared.activity.ExitReason.TheVariants as finishes
 use Rattle.cilk_workers.specs.declared.activity.Activity.{Activity}
+use Rattle.cilk_workers.specs.declared.activity.Tools.{Tools}
 use Rattle.cilk_workers.specs.declared.activity.Activity.TheVariants as hands
 
 -- a true exit reason: the worker has the whole run's piece, or the run departs from its plan there,
@@ -37,6 +40,15 @@ abbrev pub HasTold : EventOrder → List (Pass Shelf KeyState) → Activity → 
 HasTold s keys (hands.Holds w) new = let p = w.piece in (k : ℕ) × (word_step s p.from ≡ resume k) × TellsSteal s k p.from keys true new
 HasTold s keys (hands.Idle p) new = new ≡ keys
 HasTold s keys (hands.Done f) new = (new ≡ keys) ⊎ ((k a : ℕ) × (word_step s a ≡ resume k) × TellsSteal s k a keys false new)
+
+-- A worker that looked for work took one task if it has work, or if the yard refused it that task's ticket; else it took
+-- none, or has ended.
+module _ {N : Type 0} where
+  abbrev pub HasSought : Tools N → Activity × Option ℕ → Tools N → Type 0
+  HasSought t (hands.Holds w, d) t' = (u : Task) × TakesOne t.rack t.pickers.items u t'.rack t'.pickers.items
+  HasSought t (hands.Idle p, None) t' = TakesNone t.rack t.pickers.items t'.rack t'.pickers.items
+  HasSought t (hands.Idle p, Some ticket) t' = (u : Task) × (ticket ≡ u.ticket) × TakesOne t.rack t.pickers.items u t'.rack t'.pickers.items
+  HasSought t (hands.Done f, d) t' = Unit {0}
 
 -- the outcome of an arrival: what passes is good work of the run
 abbrev pub IsMet : SharedValue → Met → Type 0

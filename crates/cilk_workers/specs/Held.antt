@@ -1,9 +1,13 @@
 -- The view of a rack in contracts.
-use Rattle.std.specs.Prelude.{◌≡◌, ℕ, ◌+◌, ◌≤◌, Bool, true, false, List, [], ◌∷◌, ◌++◌, All, Result, MatchResult}
-use Rattle.crossbeam_deque.specs.Handles.{worker_deque, worker_view, worker_capacity, worker_index, stealer_deque}
+use Rattle.std.specs.Prelude.{◌≡◌, ◌⊎◌, ℕ, ◌+◌, ◌≤◌, Bool, true, false, List, [], ◌∷◌, ◌++◌, map, slice_get, slice_set, Some, All, Result, MatchResult}
+use Rattle.crossbeam_deque.specs.Handles.{view, worker_deque, worker_view, worker_capacity, worker_index, stealer_deque}
 use Rattle.cilk_replay.specs.declared.chain.Task.{Task}
 use Rattle.cilk_workers.specs.declared.rack.Rack.{Rack}
 use Rattle.cilk_workers.specs.declared.rack.Picker.{Picker}
+
+-- one of several pickers has stolen this task besides what it stole before, and the others nothing
+abbrev pub Steals : List (List Task) → Task → List (List Task) → Type 0
+Steals before t after = (at : ℕ) × (its : List Task) × (slice_get before at ≡ Some its) × (after ≡ slice_set before at (its ++ t ∷ []))
 
 module _ {N : Type 0} where
   -- the tasks that were offered and not given back, the oldest first
@@ -48,3 +52,21 @@ module _ {N : Type 0} where
   IsOffered r t result r' = MatchResult result
       (λ _. (waiting r' ≡ waiting r ++ t ∷ []) × (offered r' ≡ offered r + 1))
       (λ u. (u ≡ t) × (waiting r' ≡ waiting r) × (room r ≤ offered r))
+
+  -- the tasks that a picker has stolen, the oldest first
+  abbrev pub stolen : Picker N → List Task
+  stolen p = let v = view p.pass in v.waiting
+
+  -- the same of several pickers
+  abbrev pub all_stolen : List (Picker N) → List (List Task)
+  all_stolen ps = map stolen ps
+
+  -- no task was taken
+  abbrev pub TakesNone : Rack N → List (Picker N) → Rack N → List (Picker N) → Type 0
+  TakesNone r ps r' ps' = (waiting r' ≡ waiting r) × (all_stolen ps' ≡ all_stolen ps)
+
+  -- this task was taken, and no other: it was the rack's newest, or a picker stole it
+  abbrev pub TakesOne : Rack N → List (Picker N) → Task → Rack N → List (Picker N) → Type 0
+  TakesOne r ps t r' ps' =
+      ((waiting r ≡ waiting r' ++ t ∷ []) × (all_stolen ps' ≡ all_stolen ps))
+      ⊎ ((waiting r' ≡ waiting r) × Steals (all_stolen ps) t (all_stolen ps'))

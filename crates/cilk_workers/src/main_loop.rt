@@ -31,7 +31,10 @@ impl<'a, 'b, N: Naming, R: Wait, G: Gate> WorkerContext<'a, 'b, N, R, G> {
                 }
                 Activity::Holds(_) | Activity::Idle(_) if stopped => return ExitReason::Stopped,
                 Activity::Holds(work) => self.run_burst(tools, work),
-                Activity::Idle(piece) => self.find_work(tools, &backoff, piece),
+                Activity::Idle(piece) => {
+                    let (next, _denied) = self.find_work(tools, &backoff, piece);
+                    next
+                }
             };
         }
         unreachable!()

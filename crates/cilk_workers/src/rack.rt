@@ -1,7 +1,7 @@
 //! A worker's deque of tasks (Chase and Lev 2005). Its owner pops the newest, and others steal the
 //! oldest.
 
-ghost use Rattle.std.specs.Prelude.{◌≡◌, ◌+◌, ◌≤◌, ◌<◌, true, false, [], ◌∷◌, ◌++◌, All, IfOk, IfErr, IfSome, MatchOption};
+ghost use Rattle.std.specs.Prelude.{◌≡◌, ◌+◌, ◌≤◌, ◌<◌, true, false, [], ◌∷◌, ◌++◌, All, IfOk, IfErr, MatchOption};
 ghost use Rattle.crossbeam_deque.specs.Handles.{view, IsPassOf, worker_flavor, worker_port, worker_view, stealer_deque};
 ghost use Rattle.cilk_workers.specs.Racks.{MayPick, Of, offers};
 
@@ -14,7 +14,8 @@ use std::collections::LinkedList;
 use std::marker::PhantomData;
 
 /// The state of a pass: whether it is the owner's, whether no picker has been made, and the tasks
-/// that were offered and not given back. It exists in contracts alone.
+/// that the owner has offered and not got back, or that the picker has stolen. It exists in
+/// contracts alone.
 pub struct Offers {
     pub owner: bool,
     pub alone: bool,
@@ -64,10 +65,10 @@ pub struct Taken<N: Naming> {
 }
 
 impl<N: Naming> Outcome<Task, Offers> for Taken<N> {
-    ghost use Rattle.std.specs.Prelude.{◌≡◌, All};
-    ghost use Rattle.cilk_workers.specs.Racks.{Of};
+    ghost use Rattle.std.specs.Prelude.{◌≡◌, ◌++◌, All};
+    ghost use Rattle.cilk_workers.specs.Racks.{Of, offers};
 
-    ghost then = { λ v xs w. (w ≡ v) × All (Of N.replay) xs };
+    ghost then = { λ v xs w. (w ≡ offers v.owner v.alone (v.waiting ++ xs)) × All (Of N.replay) xs };
 }
 
 /// The split of the owner's pass that makes one for a picker.
@@ -168,6 +169,8 @@ impl<N: Naming> Rack<N> {
 }
 
 impl<N: Naming> Picker<N> {
+    ghost use Rattle.cilk_workers.specs.Held.{stolen};
+
     /// Returns the stealer and its pass, to send them to a thread.
     pub fn parted(self) -> (Takes<N>, Pass<Task, Offers>)
         ensures parts { (result.0 ≡ self.stealer) × (result.1 ≡ self.pass) }
@@ -188,7 +191,7 @@ impl<N: Naming> Picker<N> {
     /// retried.
     pub fn oldest(&mut self) -> Option<Task>
         requires { MayPick N.taken }
-        ensures rule { IfSome result (λ t. Of N.replay t) }
+        ensures rule { MatchOption result (stolen self.new ≡ stolen self.old) (λ t. Of N.replay t × (stolen self.new ≡ stolen self.old ++ t ∷ [])) }
         ensures same { stealer_deque self.new.stealer ≡ stealer_deque self.old.stealer }
     {
         match self.stealer.steal_as::<Taken<N>>(&mut self.pass) {

@@ -28,14 +28,14 @@ each-init c =
     let p = source prog in
     let inputs = c.args.input.now in
     let run = c.in-Some.run' in
-    let tells = subst (λ (found : Option Retelling). IfSome found (Tells c.args.code p inputs)) c.in-Some.is c.in_ok-run.ensures.tells in
+    let tells = subst (λ (found : Option Retelling). IfSome found (Tells c.args.code.now p inputs)) c.in-Some.is c.in_ok-run.ensures.tells in
     let first = subst (λ (found : Option Retelling). IfSome found (λ t. t.state.events.items ≡ [])) c.in-Some.is c.in_ok-run.ensures.first in
     let own = c.of_callee-root in
     let begun = c.in_ok-cells.ensures in
     record {
       tells = tells;
       kept = c.in_ok-run.ensures.kept;
-      noted = noted_start prog inputs c.layout.result.now (subst (LaysOut p) (sym c.layout.ensures) c.requires.lowered.2)
+      noted = noted_start prog inputs c.layout.result.now (subst (LaysOut p) (sym c.layout.ensures) c.requires.layout)
           run.state.events.items first c.begin-2.new.frames.items c.len-2.result c.in_ok-cells.cells c.len-2.ensures
           (begun.frame ∙ (ap (λ (l : List PlannedFrame). l ++ record { body = own.result.body; first_cell = c.len-2.result; cells = own.result.cells } ∷ []) c.in_ok-frames.ensures.items
           ∙ ap (λ (o : Own). record { body = o.body; first_cell = c.len-2.result; cells = o.cells } ∷ []) own.ensures))
@@ -45,7 +45,7 @@ each-init c =
 pub begin-requires-in-Begins : goal.begin-requires-in-Begins
 begin-requires-in-Begins c =
     let p = source c.args.program.now in
-    let code = c.args.code in
+    let code = c.args.code.now in
     let inputs = c.args.input.now in
     let t = c.each.run in
     let t' = c.make_event.new.run in
@@ -55,7 +55,7 @@ begin-requires-in-Begins c =
 pub each-preserved : goal.each-preserved
 each-preserved c =
     let p = source c.args.program.now in
-    let code = c.args.code in
+    let code = c.args.code.now in
     let inputs = c.args.input.now in
     let t = c.each.run in
     let t' = c.make_event.new.run in
@@ -79,7 +79,7 @@ each-preserved c =
             let h = subst (λ (s : Step). Retells code p inputs t s t') w.in-Begins.is step in
             let begun = w.in_ok-cells-in-Begins in
             as_noted p inputs es after.frames w.begin-in-Begins.new.frames after.cells begun.cells w.frames-is w.cells-is
-            (noted_begun code p inputs t t' frames cells noted w.in-Begins.own h.0 h.1 h.2 c.requires.lowered.2 w.begin-in-Begins.new.frames.items begun.cells begun.ensures.frame begun.ensures.cells)
+            (noted_begun code p inputs t t' frames cells noted w.in-Begins.own h.0 h.1 h.2 c.requires.layout w.begin-in-Begins.new.frames.items begun.cells begun.ensures.frame begun.ensures.cells)
       ];
     }
 
@@ -88,13 +88,13 @@ outcome-requires c =
     let p = source c.args.program.now in
     let inputs = c.args.input.now in
     let run = c.make_event.new.run in
-    let h = subst (λ (s : Step). Retells c.args.code p inputs c.each.run s run) c.in-Ends.is c.in_ok-make_event.ensures.step in
+    let h = subst (λ (s : Step). Retells c.args.code.now p inputs c.each.run s run) c.in-Ends.is c.in_ok-make_event.ensures.step in
     let fits : SFits w64 c.in-Ends.value = search rules in
     (inputs, ended_as p inputs run.state c.into_state.result c.in-Ends.value _ c.into_state.ensures (to_z-of_z w64 c.in-Ends.value fits) h.ended)
 
 pub returns-in-Ends : goal.returns-in-Ends
 returns-in-Ends c =
-    let code = c.args.code in
+    let code = c.args.code.now in
     let p = source c.args.program.now in
     let inputs = c.args.input.now in
     let t = c.each.run in
@@ -105,5 +105,4 @@ returns-in-Ends c =
     let all = left.events ∙ ap (λ (s : State). s.events.items) c.into_state.ensures in (
       left.ran inputs (ended_as p inputs t'.state c.into_state.result c.in-Ends.value _ c.into_state.ensures (to_z-of_z w64 c.in-Ends.value fits) h.ended),
       noted_last code p inputs t t' c.each.frames.items c.each.cells c.each.invariant.noted c.in-Ends.value h c.in_ok-outcome-in-Ends.outcome c.in_ok-outcome-in-Ends.trace all,
-      c.requires.lowered,
     )
