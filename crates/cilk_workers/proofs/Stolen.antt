@@ -1,11 +1,12 @@
--- The tasks that pickers steal: `none_more`, `one_more`, by the picker at a place; `after_none`.
-use Rattle.std.proofs.Common.{◌≡◌, ◌<◌, ℕ, zero, suc, List, [], ◌∷◌, ◌++◌, length, map, slice_get, slice_index_or, slice_set, Some, refl, sym, ap, ◌∙◌, subst, arith}
+-- The tasks that pickers steal: `stolen_there`, by the picker at a place; `after_none`.
+use Rattle.std.proofs.Common.{◌≡◌, ◌<◌, ℕ, zero, suc, List, [], ◌∷◌, ◌++◌, length, map, slice_get, slice_index_or, slice_set, Option, Some, None, refl, sym, ap, ◌∙◌, subst, arith}
+use Rattle.std.specs.Prelude.{MatchOption}
 use Rattle.cilk_replay.specs.declared.chain.Task.{Task}
 use Rattle.cilk_workers.specs.Held.{Steals, all_stolen, stolen}
 use Rattle.cilk_workers.specs.declared.rack.Picker.{Picker}
 
 module _ {N : Type 0} where
-  pub none_more : (ps : List (Picker N)) (i : ℕ) (p q : Picker N) → i < length ps → p ≡ slice_index_or ps i p → stolen q ≡ stolen p → all_stolen (slice_set ps i q) ≡ all_stolen ps
+  none_more : (ps : List (Picker N)) (i : ℕ) (p q : Picker N) → i < length ps → p ≡ slice_index_or ps i p → stolen q ≡ stolen p → all_stolen (slice_set ps i q) ≡ all_stolen ps
   none_more [] i p q lt there same = absurd (omega (arith, lt))
   none_more (x ∷ ps) zero p q lt there same = ap (λ (xs : List Task). xs ∷ all_stolen ps) (same ∙ ap (λ (z : Picker N). stolen z) there)
   none_more (x ∷ ps) (suc i) p q lt there same = ap (λ (l : List (List Task)). stolen x ∷ l) (none_more ps i p q (omega (arith, lt)) there same)
@@ -20,8 +21,14 @@ module _ {N : Type 0} where
   put (x ∷ ps) zero q lt = refl
   put (x ∷ ps) (suc i) q lt = ap (λ (l : List (List Task)). stolen x ∷ l) (put ps i q (omega (arith, lt)))
 
-  pub one_more : (ps : List (Picker N)) (i : ℕ) (p q : Picker N) (t : Task) → i < length ps → p ≡ slice_index_or ps i p → stolen q ≡ stolen p ++ t ∷ [] → Steals (all_stolen ps) t (all_stolen (slice_set ps i q))
+  one_more : (ps : List (Picker N)) (i : ℕ) (p q : Picker N) (t : Task) → i < length ps → p ≡ slice_index_or ps i p → stolen q ≡ stolen p ++ t ∷ [] → Steals (all_stolen ps) t (all_stolen (slice_set ps i q))
   one_more ps i p q t lt there more = (i, stolen p, got ps i p lt there, put ps i q lt ∙ ap (λ (xs : List Task). slice_set (all_stolen ps) i xs) more)
+
+  pub stolen_there : (Q : Task → Type 0) (ps : List (Picker N)) (i : ℕ) (p q : Picker N) → i < length ps → p ≡ slice_index_or ps i p → (found : Option Task)
+      → MatchOption found (stolen q ≡ stolen p) (λ t. Q t × (stolen q ≡ stolen p ++ t ∷ []))
+      → MatchOption found (all_stolen (slice_set ps i q) ≡ all_stolen ps) (λ t. Q t × Steals (all_stolen ps) t (all_stolen (slice_set ps i q)))
+  stolen_there Q ps i p q lt there None h = none_more ps i p q lt there h
+  stolen_there Q ps i p q lt there (Some t) h = (h.0, one_more ps i p q t lt there h.1)
 
   pub after_none : (ps ps' : List (Picker N)) (t : Task) (new : List (List Task)) → all_stolen ps' ≡ all_stolen ps → Steals (all_stolen ps') t new → Steals (all_stolen ps) t new
   after_none ps ps' t new same h = subst (λ (l : List (List Task)). Steals l t new) same h
