@@ -6,7 +6,7 @@
 -- - `keys_cut`, `placed_cut`: a piece comes to its place in the row as it does among the pieces;
 -- - `parts_are_few`: the runs of any row.
 use Rattle.std.proofs.Common.{◌≡◌, ◌<◌, ◌≤◌, ◌+◌, ◌⊎◌, inl, inr, ⊎_elim, ℕ, suc, nat_eq, nat_lt, eq-eqb, eqb-true, Bool, true, false, List, [], ◌∷◌, ◌++◌, map, length, Option, Some, None, refl, sym, ap, ap₂, ◌∙◌, subst, arith, if◌then◌else◌}
-use Rattle.std.specs.List.{AllByRecursion, filter}
+use Rattle.std.specs.List.{AllByRecursion}
 use Rattle.std.proofs.lemmas.Bool.{lt-ltb, le-ltb, ltb-true, ltb-false}
 use Rattle.std.proofs.lemmas.List.{map-append}
 use Rattle.std.proofs.lemmas.List.Elements.{filter-append}
@@ -19,7 +19,7 @@ use Rattle.cilk_monoid.specs.Values.{ViewValue}
 use Rattle.cilk_monoid.proofs.ProductLaws.{product-append, product_member, members_of}
 use Rattle.cilk_hypermap.specs.Hypermap.{value_in}
 use Rattle.cilk_join.specs.Products.{Product, nothing, product, times, between}
-use Rattle.cilk_join.specs.Rows.{Wait, Row, row, wait, ahead, keys, count, runs_in, Stands, placed, or_unit}
+use Rattle.cilk_join.specs.Rows.{Wait, Row, row, wait, ahead, keys, count, runs_in, placed, or_unit}
 use Rattle.cilk_join.specs.Histories.{Piece, below, above, product_of, run_over, cut}
 use Rattle.cilk_join.proofs.Products.{same_product, member}
 

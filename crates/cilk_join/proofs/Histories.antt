@@ -5,15 +5,15 @@
 -- - `opens`, `steals`, `arrives`: of an opening join, and after a steal and an arrival; `holds`:
 --   after every history;
 -- - `all_arrived`, `answers`: where it passes, and with what.
-use Rattle.std.proofs.Common.{◌≡◌, ◌<◌, ◌≤◌, ◌⊎◌, inl, inr, ⊎_elim, ℕ, suc, nat_eq, nat_lt, eq-eqb, eqb-true, Bool, true, false, List, [], ◌∷◌, ◌++◌, Option, Some, None, refl, sym, ap, ap₂, ◌∙◌, subst, arith, append_assoc, if◌then◌else◌}
+use Rattle.std.proofs.Common.{◌≡◌, ◌<◌, ◌≤◌, ◌⊎◌, inl, inr, ⊎_elim, ℕ, nat_eq, nat_lt, eq-eqb, Bool, true, false, List, [], ◌∷◌, ◌++◌, Some, None, refl, sym, ap, ap₂, ◌∙◌, subst, arith, append_assoc, if◌then◌else◌}
 use Rattle.std.proofs.lemmas.Bool.{ltb-true, ltb-false}
 use Rattle.cilk_join.specs.declared.join.Arrival.{Arrival}
 use Rattle.cilk_join.specs.declared.join.Arrival.TheVariants.{Waits, Passes}
 use Rattle.cilk_join.specs.Products.{Product, nothing, product, times}
 use Rattle.cilk_join.specs.Rows.{Wait, Row, row, wait, ahead, keys, Stands, is_empty, or_unit}
-use Rattle.cilk_join.specs.Joins.{JoinView, Answers, opening, IsAwaited, IsFresh, IsOpen, MayArrive, arrived_at, passes, passed, stolen_at}
+use Rattle.cilk_join.specs.Joins.{JoinView, Answers, opening, IsFresh, IsOpen, MayArrive, arrived_at, passes, stolen_at}
 use Rattle.cilk_join.specs.Histories.{Piece, JoinStep, Steals, Arrives, joined, IsHistory, stolen_keys, pieces_in, keys_of, IsOwn, HaveAllArrived, below, above, by_key, product_of, run_over, cut, IsAnswer}
-use Rattle.cilk_join.proofs.Cuts.{AllBelow, Rises, dropped, Comes, among, placed_in, keys_cut, placed_cut, differs, or_not, over_unit, append_none, below_all, above_none, below_one, below_less_one, above_one, below_append, above_append}
+use Rattle.cilk_join.proofs.Cuts.{AllBelow, Rises, dropped, Comes, among, placed_in, keys_cut, placed_cut, or_not, over_unit, append_none, below_all, above_none, below_less_one, above_one, below_append, above_append}
 use Rattle.cilk_join.proofs.ByKey.{Once, all_stand, in_both, in_left, in_right, same_or_not, dropped_stands, dropped_other, dropped_gone, dropped_rises, rises_snoc, from_keys, all_filter, stands_sorted}
 
 abbrev pub waits_of : JoinView → List (Wait Product)

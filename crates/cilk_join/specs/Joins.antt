@@ -1,9 +1,9 @@
 -- The state of a join: the awaited keys, and the product of each run of arrived keys with no
 -- awaited key between.
-use Rattle.std.specs.Prelude.{◌≡◌, ◌<◌, ◌≤◌, ℕ, nat_eq, nat_lt, Bool, true, false, ◌⊎◌, if◌then◌else◌, [], ◌∷◌, ◌++◌, Option, Some, None}
+use Rattle.std.specs.Prelude.{◌≡◌, ◌<◌, ◌≤◌, ℕ, nat_eq, nat_lt, Bool, true, false, ◌⊎◌, if◌then◌else◌, [], ◌∷◌, ◌++◌, Some, None}
 use Rattle.cilk_join.specs.declared.join.Arrival.{Arrival}
 use Rattle.cilk_join.specs.declared.join.Arrival.TheVariants.{Waits, Passes}
-use Rattle.cilk_join.specs.Rows.{Row, row, wait, keys, Stands, placed, is_empty, parts_of, place_of, run_at, with_run, without}
+use Rattle.cilk_join.specs.Rows.{Row, row, wait, keys, Stands, placed, is_empty, parts_of}
 use Rattle.cilk_join.specs.Products.{Product, product, nothing, times}
 
 -- The row; the greatest stolen key and the greatest arrived key, 0 where there is none; and whether
@@ -67,20 +67,6 @@ abbrev pub Answers : JoinView → Arrival → JoinView → Type 0
 Answers j Waits j' = (passes j ≡ false) × (j' ≡ j)
 Answers j (Passes h) j' = (passes j ≡ true) × (let r = j.row in r.run ≡ Some (product h)) × (j' ≡ passed j)
 
--- ---- by places
-
 -- the number of runs of arrived keys
 abbrev pub parts_in : JoinView → ℕ
 parts_in j = parts_of j.row
-
-abbrev pub place_in : JoinView → ℕ → ℕ
-place_in j k = let r = j.row in place_of r.waits k
-
-abbrev pub run_in : JoinView → ℕ → Option Product
-run_in j n = let r = j.row in run_at r.run r.waits n
-
-abbrev pub replaced : JoinView → ℕ → Option Product → JoinView
-replaced j n x = let r = j.row in record j { row = with_run r.run r.waits n x }
-
-abbrev pub forgotten : JoinView → ℕ → JoinView
-forgotten j n = let r = j.row in record j { row = row r.run (without r.waits n) }

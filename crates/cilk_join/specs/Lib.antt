@@ -1,3 +1,4 @@
+pub mod AwaitedRows
 pub mod Rows
 pub mod Products
 pub mod Joins

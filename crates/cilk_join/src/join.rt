@@ -3,15 +3,15 @@
 //! A key is the ordinal of a spawned child. The frame's own piece has a greater key than all
 //! children, and arrives last.
 
-ghost use Rattle.std.specs.Prelude.{◌≡◌, ◌≤◌, length, IfOk, IfErr, OnOk, OnErr, Some, true};
-ghost use Rattle.cilk_join.specs.Products.{Product, product, run_of};
+ghost use Rattle.std.specs.Prelude.{◌≡◌, IfOk, IfErr, OnOk, OnErr, Some, true};
+ghost use Rattle.cilk_join.specs.Products.{Product, product};
 ghost use Rattle.cilk_join.specs.Waits.{shown};
-ghost use Rattle.cilk_join.specs.Joins.{Answers, opening, IsAwaited, IsFresh, IsOpen, MayArrive, arrived_at, forgotten, has_awaited, noted, parts_in, passes, place_in, replaced, run_in, stolen_at};
+ghost use Rattle.cilk_join.specs.Joins.{Answers, opening, IsAwaited, IsFresh, IsOpen, MayArrive, arrived_at, has_awaited, noted, parts_in, passes, stolen_at};
 
-use crate::merging::{Parts, merge};
+use crate::merging::merge;
+use crate::row::Row;
 use cilk_hypermap::hypermap::Hypermap;
 use std::alloc::{AllocError, Global};
-use std::mem;
 
 /// The outcome of an arrival.
 #[derive(Drop)]
@@ -22,21 +22,13 @@ pub enum Arrival {
     Passes(Hypermap),
 }
 
-// A stolen child whose piece hasn't arrived, and the run of arrived keys right after it.
-#[derive(Drop)]
-pub struct Awaited {
-    key: u32,
-    after: Option<Hypermap>,
-}
-
 /// The pieces that wait at a sync block, merged into runs.
 ///
 /// It has the run of arrived keys before the first awaited one, and the awaited keys in ascending
 /// order, each with the run after it.
 #[derive(Drop)]
 pub struct Join {
-    first: Option<Hypermap>,
-    awaited: Vec<Awaited>,
+    row: Row<(), Hypermap>,
     stolen: u32,
     arrived: u32,
     closed: bool,
@@ -48,8 +40,7 @@ impl Join {
         ensures { shown result ≡ opening }
     {
         Join {
-            first: None,
-            awaited: Vec::new(alloc),
+            row: Row::new(alloc),
             stolen: 0,
             arrived: 0,
             closed: false,
@@ -75,15 +66,14 @@ impl Join {
     pub fn awaits(&self, key: u32) -> bool
         ensures { (result ≡ true → IsAwaited (shown self.now) key) × (IsAwaited (shown self.now) key → result ≡ true) }
     {
-        let awaited = self.awaited.as_slice();
-        self.place(key) < awaited.len()
+        self.row.awaits(key)
     }
 
     /// Returns whether the piece of a stolen child is still to come.
     pub fn waits(&self) -> bool
         ensures { result ≡ has_awaited (shown self.now) }
     {
-        !self.awaited.is_empty()
+        !self.row.is_whole()
     }
 
     /// Returns the number of runs of arrived keys, which is the number of hypermaps kept: at most
@@ -91,13 +81,7 @@ impl Join {
     pub fn parts(&self) -> usize
         ensures { result ≡ parts_in (shown self.now) }
     {
-        let mut count = if self.first.is_some() { 1 } else { 0 };
-        'each: for place in 0..self.awaited.len() {
-            if self.awaited[place].after.is_some() {
-                count += 1;
-            }
-        }
-        count
+        self.row.parts()
     }
 
     /// Records that a thief took the continuation of child `key`: the child's piece is awaited,
@@ -108,47 +92,10 @@ impl Join {
         ensures err { OnErr result (shown self.new ≡ shown self.old) }
     {
         if self.arrived != key {
-            self.awaited.push(Awaited { key, after: None })?;
+            self.row.wait(key, ())?;
         }
         self.stolen = key;
         Ok(())
-    }
-
-    // The place of an awaited key; the number of awaited keys if it isn't awaited.
-    fn place(&self, key: u32) -> usize
-        ensures place { result ≡ place_in (shown self.now) key }
-        ensures low { result ≤ length self.now.awaited.items }
-    {
-        'each: for place in 0..self.awaited.len() {
-            if self.awaited[place].key == key {
-                return place;
-            }
-        }
-        self.awaited.len()
-    }
-
-    // Puts another run at a place, if there is such a place, and returns the run that was there.
-    fn replace(&mut self, place: usize, run: Option<Hypermap>) -> Option<Hypermap>
-        ensures out { run_of result ≡ run_in (shown self.old) place }
-        ensures len { length self.new.awaited.items ≡ length self.old.awaited.items }
-        ensures new { shown self.new ≡ replaced (shown self.old) place (run_of run) }
-    {
-        if place == 0 {
-            mem::replace(&mut self.first, run)
-        } else if place <= self.awaited.len() {
-            mem::replace(&mut self.awaited[place - 1].after, run)
-        } else {
-            None
-        }
-    }
-
-    // Forgets the awaited key at a place, with the run after it.
-    fn forget(&mut self, place: usize)
-        ensures { shown self.new ≡ forgotten (shown self.old) place }
-    {
-        if place < self.awaited.len() {
-            let _gone = self.awaited.remove(place);
-        }
     }
 
     // Notes that a piece with this key has arrived.
@@ -165,13 +112,13 @@ impl Join {
 
     // The block passes once its own piece is there and no key is awaited.
     fn answer(&mut self) -> Arrival
-        requires { passes (shown self.old) ≡ true → (p : Product) × (run_in (shown self.old) 0 ≡ Some p) }
+        requires { passes (shown self.old) ≡ true → (p : Product) × (let j = shown self.old in let r = j.row in r.run ≡ Some p) }
         ensures { Answers (shown self.old) result (shown self.new) }
     {
-        if !self.closed || !self.awaited.is_empty() {
+        if !self.closed || !self.row.is_whole() {
             return Arrival::Waits;
         }
-        match self.first.take() {
+        match self.row.take() {
             Some(views) => Arrival::Passes(views),
             None => unreachable!(),
         }
@@ -196,28 +143,14 @@ impl Join {
         ensures err { IfErr result (λ h. product h ≡ product views) }
         ensures unchanged { OnErr result (shown self.new ≡ shown self.old) }
     {
-        let place = self.place(key);
-        let left = self.replace(place, None);
-        let right = self.replace(place + 1, None);
-        match merge(
-            alloc,
-            Parts {
-                left,
-                piece: views,
-                right,
-            },
-        ) {
+        let (place, parts) = self.row.open(key, views);
+        match merge(alloc, parts) {
             Ok(run) => {
-                let _none = self.replace(place, Some(run));
-                self.forget(place);
+                self.row.close(place, run);
                 self.note(key, last);
                 Ok(self.answer())
             }
-            Err(Parts { left, piece, right }) => {
-                let _none = self.replace(place, left);
-                let _none = self.replace(place + 1, right);
-                Err(piece)
-            }
+            Err(parts) => Err(self.row.restore(place, parts)),
         }
     }
 }

@@ -15,6 +15,7 @@
 //! | [`join::Join::arrive`] | merges a piece; answers whether the block waits or passes |
 //! | [`join::Join::open`] | whether the continuation of child `key` may be stolen |
 //! | [`join::Join::fresh`], [`join::Join::awaits`] | whether a piece with this key may arrive |
+//! | [`row::Row`] | awaited keys, with the runs of arrived keys between them, for runs of any type |
 //! | [`laws`] | what holds after every sequence of steals and arrivals |
 //!
 //! ```text
@@ -33,3 +34,4 @@
 pub mod join;
 pub mod laws;
 mod merging;
+pub mod row;

@@ -3,30 +3,14 @@
 ghost use Rattle.std.specs.Prelude.{◌≡◌, IfOk, IfErr};
 ghost use Rattle.cilk_join.specs.Products.{between, product, run_of};
 
+use crate::row::Parts;
 use cilk_hypermap::hypermap::Hypermap;
 use std::alloc::Global;
-
-/// A piece, and the runs on its two sides, if there are any.
-#[derive(Drop)]
-pub struct Parts {
-    pub left: Option<Hypermap>,
-    pub piece: Hypermap,
-    pub right: Option<Hypermap>,
-}
-
-impl Parts {
-    #[inline(always)]
-    fn of(left: Option<Hypermap>, piece: Hypermap, right: Option<Hypermap>) -> Parts
-        ensures { result ≡ record { left = left; piece = piece; right = right } }
-    {
-        Parts { left, piece, right }
-    }
-}
 
 /// Returns the product of the three, from left to right. If memory runs out, they come back with
 /// the same values.
 #[tactic(auto, using(crate::proofs::Products::of_left, crate::proofs::Products::of_right, crate::proofs::Products::of_three, crate::proofs::Products::alone, crate::proofs::Products::kept, crate::proofs::Products::kept_run))]
-pub fn merge(alloc: Global, parts: Parts) -> Result<Hypermap, Parts>
+pub fn merge(alloc: Global, parts: Parts<Hypermap>) -> Result<Hypermap, Parts<Hypermap>>
     ensures ok { IfOk result (λ h. product h ≡ between (run_of parts.left) (product parts.piece) (run_of parts.right)) }
     ensures left { IfErr result (λ p. run_of p.left ≡ run_of parts.left) }
     ensures piece { IfErr result (λ p. product p.piece ≡ product parts.piece) }
