@@ -21,4 +21,3 @@ pub mod Shelves
 pub mod Spawned
 pub mod Steps
 pub mod Stolen
-pub mod Waits

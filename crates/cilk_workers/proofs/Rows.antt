@@ -1,101 +1,27 @@
--- An arrival, by the writes of the code.
+-- An arrival.
 --
--- - `settled`, `unsettled`: by the writes of an arrival, and of one that is refused;
 -- - `beside_it`: the runs beside its place are good, and meet it;
 -- - `met_on`, `met_push`, `met_lower`: the invariant of the row, after an arrival and with one more
 --   awaited key;
 -- - `apart`: its pieces don't overlap;
--- - `fits_top`, `stands`, `absent`, `awaited_if`: the answers of the tests.
-use Rattle.std.proofs.Common.{◌≡◌, ◌↔◌, ◌<◌, ◌≤◌, ℕ, suc, nat_eq, Bool, if◌then◌else◌, true, false, true≢false, List, [], ◌∷◌, ◌++◌, Some, None, refl, sym, ap, ap₂, ◌∙◌, subst, arith, length, inl, inr, nat_lt}
+-- - `fits_top`, `never_both`, `awaited_if`: the answers of the tests.
+use Rattle.std.proofs.Common.{◌≡◌, ◌↔◌, ◌≤◌, ℕ, suc, nat_eq, Bool, IsTrue, if◌then◌else◌, true, false, true≢false, List, [], ◌∷◌, ◌++◌, Some, None, refl, sym, ap, ◌∙◌, subst, arith, inl, inr, nat_lt}
 use Rattle.cilk_shared.specs.Pieces.{PieceValue}
-use Rattle.cilk_workers.specs.Rows.{Run, RunValue, Wait, Row, LieApart, pieces_of, row, rows, wait, between, IsGood, IsGoodRun, EndsAt, BeginsAt, Met, MetRows, last_end, FitsFrom, ahead, placed, behind, FitsRow, FitsIn, IsBeforeAll, IfHere, place_of, run_at, with_run, without}
+use Rattle.cilk_shared.specs.Values.{YardValue}
+use Rattle.cilk_join.specs.declared.row.Parts.{Parts}
+use Rattle.cilk_join.specs.AwaitedRows.{parts_at, place_of, run_at}
+use Rattle.cilk_workers.specs.Rows.{AreGood, run_of, yard_of, Run, RunValue, Wait, Row, LieApart, pieces_of, row, rows, wait, between, IsGood, IsGoodRun, EndsAt, BeginsAt, Met, MetRows, last_end, FitsFrom, placed, behind, FitsRow, FitsIn, IsBeforeAll, IfHere}
 use Rattle.cilk_workers.specs.Boxes.{Stands, IsAbsent, IsAwaitedIf}
-use Rattle.std.proofs.lemmas.Bool.{eq-eqb, eqb-true, lt-ltb, le-ltb, ltb-true, ltb-false}
-use mathlib.Core.Logic.{dite}
-use native.Mathlib.Decide.{dec_lt}
-
--- the runs beside a place are taken out
-abbrev pub cleared : Run → List Wait → ℕ → Row
-cleared run ws p = let r = with_run run ws p None in with_run r.run r.waits (suc p) None
-
-abbrev pub right_of : Run → List Wait → ℕ → Run
-right_of run ws p = let r = with_run run ws p None in run_at r.run r.waits (suc p)
-
-abbrev pub put : Row → ℕ → Run → Row
-put r p m = let s = with_run r.run r.waits p m in row s.run (without s.waits p)
-
-abbrev pub restored : Row → ℕ → Run → Run → Row
-restored r p left right = let s = with_run r.run r.waits p left in with_run s.run s.waits (suc p) right
-
-abbrev pub PutsAt : Run → List Wait → ℕ → PieceValue → Type 0
-PutsAt run ws k x = put (cleared run ws (place_of ws k)) (place_of ws k) (Some (between (run_at run ws (place_of ws k)) x (right_of run ws (place_of ws k)))) ≡ placed run ws k x
-
-abbrev pub PutsBack : Run → List Wait → ℕ → Type 0
-PutsBack run ws k = restored (cleared run ws (place_of ws k)) (place_of ws k) (run_at run ws (place_of ws k)) (right_of run ws (place_of ws k)) ≡ row run ws
-
--- after one more awaited key
-puts_step : (run : Run) (w : Wait) (ws : List Wait) (k : ℕ) (x : PieceValue) (b : Bool) → nat_eq w.key k ≡ b → PutsAt w.run ws k x → PutsAt run (w ∷ ws) k x
-puts_step run w ws k x true e h = rw e refl
-puts_step run w ws k x false e h = rw e (ap (ahead run w.key w.goes_on) h)
-
-back_step : (run : Run) (w : Wait) (ws : List Wait) (k : ℕ) (b : Bool) → nat_eq w.key k ≡ b → PutsBack w.run ws k → PutsBack run (w ∷ ws) k
-back_step run w ws k true e h = rw e refl
-back_step run w ws k false e h = rw e (ap (ahead run w.key w.goes_on) h)
-
-placed_put : (run : Run) (ws : List Wait) (k : ℕ) (x : PieceValue) → PutsAt run ws k x
-placed_put run [] k x = refl
-placed_put run (w ∷ ws) k x = puts_step run w ws k x (nat_eq w.key k) refl (placed_put w.run ws k x)
-
-put_back : (run : Run) (ws : List Wait) (k : ℕ) → PutsBack run ws k
-put_back run [] k = refl
-put_back run (w ∷ ws) k = back_step run w ws k (nat_eq w.key k) refl (put_back w.run ws k)
-
--- ---- by the writes
-
--- the two runs come out
-pub record Cleared (run : Run) (ws : List Wait) (k p q : ℕ) (left right : Run) (r1 r2 : Row) : Type 0 where
-  pub place : p ≡ place_of ws k
-  pub next : q ≡ suc p
-  pub left_is : left ≡ run_at run ws p
-  pub first : r1 ≡ with_run run ws p None
-  pub right_is : right ≡ run_at r1.run r1.waits q
-  pub second : r2 ≡ with_run r1.run r1.waits q None
-
-pub right_there : (run : Run) (ws : List Wait) (k p q : ℕ) (left right : Run) (r1 r2 : Row) → Cleared run ws k p q left right r1 r2 → right ≡ right_of run ws (place_of ws k)
-right_there run ws k p q left right r1 r2 h =
-    let r1_is : r1 ≡ with_run run ws (place_of ws k) None = h.first ∙ ap (λ n. with_run run ws n None) h.place in
-    h.right_is ∙ ap₂ (λ (r : Row) n. run_at r.run r.waits n) r1_is (h.next ∙ ap suc h.place)
-
-cleared_there : (run : Run) (ws : List Wait) (k p q : ℕ) (left right : Run) (r1 r2 : Row) → Cleared run ws k p q left right r1 r2 → r2 ≡ cleared run ws (place_of ws k)
-cleared_there run ws k p q left right r1 r2 h =
-    let r1_is : r1 ≡ with_run run ws (place_of ws k) None = h.first ∙ ap (λ n. with_run run ws n None) h.place in
-    h.second ∙ ap₂ (λ (r : Row) n. with_run r.run r.waits n None) r1_is (h.next ∙ ap suc h.place)
-
--- the whole goes in, and the key is forgotten
-pub settled : (run : Run) (ws : List Wait) (k p q : ℕ) (left right : Run) (r1 r2 : Row) → Cleared run ws k p q left right r1 r2 → (x m : PieceValue) → m ≡ between left x right → (r3 : Row) → r3 ≡ with_run r2.run r2.waits p (Some m) → (ws4 : List Wait) → ws4 ≡ without r3.waits p → row r3.run ws4 ≡ placed run ws k x
-settled run ws k p q left right r1 r2 h x m is r3 third ws4 fourth =
-    let m_is : m ≡ between (run_at run ws (place_of ws k)) x (right_of run ws (place_of ws k)) = is ∙ ap₂ (λ l r. between l x r) (h.left_is ∙ ap (λ n. run_at run ws n) h.place) (right_there run ws k p q left right r1 r2 h) in
-    let r3_is : r3 ≡ with_run (let r = cleared run ws (place_of ws k) in r.run) (let r = cleared run ws (place_of ws k) in r.waits) (place_of ws k) (Some (between (run_at run ws (place_of ws k)) x (right_of run ws (place_of ws k)))) =
-    third ∙ ap (λ n. with_run r2.run r2.waits n (Some m)) h.place ∙ ap₂ (λ (r : Row) (z : PieceValue). with_run r.run r.waits (place_of ws k) (Some z)) (cleared_there run ws k p q left right r1 r2 h) m_is in
-    ap (row r3.run) (fourth ∙ ap (λ n. without r3.waits n) h.place) ∙ ap (λ (r : Row). row r.run (without r.waits (place_of ws k))) r3_is ∙ placed_put run ws k x
-
--- the two runs go in again
-pub unsettled : (run : Run) (ws : List Wait) (k p q : ℕ) (left right : Run) (r1 r2 : Row) → Cleared run ws k p q left right r1 r2 → (left' right' : Run) → left' ≡ left → right' ≡ right → (r3 r4 : Row) → r3 ≡ with_run r2.run r2.waits p left' → r4 ≡ with_run r3.run r3.waits q right' → r4 ≡ row run ws
-unsettled run ws k p q left right r1 r2 h left' right' same same' r3 r4 third fourth =
-    let left_is : left' ≡ run_at run ws (place_of ws k) = same ∙ h.left_is ∙ ap (λ n. run_at run ws n) h.place in
-    let right_is : right' ≡ right_of run ws (place_of ws k) = same' ∙ right_there run ws k p q left right r1 r2 h in
-    let r3_is : r3 ≡ with_run (let r = cleared run ws (place_of ws k) in r.run) (let r = cleared run ws (place_of ws k) in r.waits) (place_of ws k) (run_at run ws (place_of ws k)) =
-    third ∙ ap (λ n. with_run r2.run r2.waits n left') h.place ∙ ap₂ (λ (r : Row) (z : Run). with_run r.run r.waits (place_of ws k) z) (cleared_there run ws k p q left right r1 r2 h) left_is in
-    fourth ∙ ap (λ n. with_run r3.run r3.waits n right') (h.next ∙ ap suc h.place) ∙ ap₂ (λ (r : Row) (z : Run). with_run r.run r.waits (suc (place_of ws k)) z) r3_is right_is ∙ put_back run ws k
+use Rattle.std.proofs.lemmas.Bool.{eq-eqb, eqb-true, ltb-true, ltb-false}
 
 -- ---- what is beside a piece
 
 -- the runs beside its place are good, and meet it
-pub record Beside (y : RunValue) (left : Run) (x : PieceValue) (right : Run) : Type 0 where
-  pub good_left : IsGoodRun y left
-  pub good_right : IsGoodRun y right
-  pub ends : EndsAt left x.from
-  pub begins : BeginsAt right x.upto
+record Beside (y : RunValue) (left : Run) (x : PieceValue) (right : Run) : Type 0 where
+  good_left : IsGoodRun y left
+  good_right : IsGoodRun y right
+  ends : EndsAt left x.from
+  begins : BeginsAt right x.upto
 
 ends_at : (run : Run) (a : ℕ) (x : PieceValue) → x.from ≡ behind run a → EndsAt run x.from
 ends_at None a x at = tt
@@ -106,7 +32,7 @@ begins_at None a b e h = tt
 begins_at (Some p) a b e h = h ∙ sym e
 
 abbrev BesideIt : RunValue → Run → List Wait → ℕ → PieceValue → Type 0
-BesideIt y run ws k x = Beside y (run_at run ws (place_of ws k)) x (right_of run ws (place_of ws k))
+BesideIt y run ws k x = Beside y (run_at run ws (place_of ws k)) x (run_at run ws (suc (place_of ws k)))
 
 beside_step : (y : RunValue) (a : ℕ) (run : Run) (w : Wait) (ws : List Wait) (k : ℕ) (x : PieceValue) (b : Bool) → nat_eq w.key k ≡ b → IsGoodRun y run → IsGoodRun y w.run → BeginsAt w.run w.goes_on
     → FitsRow a run (w ∷ ws) k x → (FitsRow w.goes_on w.run ws k x → BesideIt y w.run ws k x) → BesideIt y run (w ∷ ws) k x
@@ -121,11 +47,13 @@ beside : (y : RunValue) (a b : ℕ) (run : Run) (ws : List Wait) (k : ℕ) (x : 
 beside y a b run [] k x good met fits = record { good_left = good; good_right = tt; ends = ends_at run a x fits; begins = tt }
 beside y a b run (w ∷ ws) k x good met fits = beside_step y a run w ws k x (nat_eq w.key k) refl good met.1 met.2 fits (λ h. beside y w.goes_on (behind w.run w.goes_on) w.run ws k x met.1 met.3 h)
 
-pub beside_it : (y : RunValue) (run : Run) (ws : List Wait) (k p q : ℕ) (left right : Run) (r1 r2 : Row) → Cleared run ws k p q left right r1 r2 → MetRows (rows y (row run ws)) → (x : PieceValue) → FitsIn (rows y (row run ws)) k x → Beside y left x right
-beside_it y run ws k p q left right r1 r2 h met x fits =
-    subst (λ (z : Run × Run). Beside y z.0 x z.1)
-    (λ i. (sym (h.left_is ∙ ap (λ n. run_at run ws n) h.place) i, sym (right_there run ws k p q left right r1 r2 h) i))
-    (beside y x.from (behind run 0) run ws k x met.0 met.1 fits)
+-- so the three can be merged
+pub beside_it : (y : RunValue) (v : YardValue) (r : Row) (k n : ℕ) (x : PieceValue) (p : Parts PieceValue) → yard_of y ≡ v → n ≡ place_of r.waits k → p ≡ parts_at r n x → MetRows (rows y r) → IsGood y x → FitsIn (rows y r) k x
+    → AreGood (run_of v p.piece.reducers) p.left p.piece p.right × EndsAt p.left p.piece.from × BeginsAt p.right p.piece.upto
+beside_it y v r k n x p same a b met good fits =
+    let h = beside y x.from (behind r.run 0) r.run r.waits k x met.0 met.1 fits in
+    subst (λ (p : Parts PieceValue). AreGood (run_of v p.piece.reducers) p.left p.piece p.right × EndsAt p.left p.piece.from × BeginsAt p.right p.piece.upto) (sym (b ∙ ap (λ n. parts_at r n x) a))
+    (subst (λ z. AreGood z (run_at r.run r.waits (place_of r.waits k)) x (run_at r.run r.waits (suc (place_of r.waits k)))) (λ i. run_of (same i) (sym good.0.2 i)) (h.good_left, good, h.good_right), h.ends, h.begins)
 
 -- ---- the invariant of the row
 
@@ -224,21 +152,13 @@ row_from : (a : ℕ) (run : Run) (ws : List Wait) (k : ℕ) (x : PieceValue) →
 row_from a run [] k x h = h
 row_from a run (w ∷ ws) k x h = row_step a run w ws k x (nat_eq w.key k) refl (row_from w.goes_on w.run ws k x) h
 
-stands_step : (w : Wait) (ws : List Wait) (k : ℕ) (b : Bool) → nat_eq w.key k ≡ b → (b ≡ true → w.key ≡ k) → (place_of ws k < length ws → Stands ws k) → place_of (w ∷ ws) k < length (w ∷ ws) → Stands (w ∷ ws) k
-stands_step w ws k true e same rest lt = inl (same refl)
-stands_step w ws k false e same rest lt = let there : suc (place_of ws k) < length (w ∷ ws) = rw e at lt in inr (rest (omega (arith, there)))
-
-pub stands : (ws : List Wait) (k : ℕ) → place_of ws k < length ws → Stands ws k
-stands [] k lt = absurd (omega (arith, lt))
-stands (w ∷ ws) k lt = stands_step w ws k (nat_eq w.key k) refl (λ e. eqb-true w.key k e) (stands ws k) lt
-
-absent_step : (w : Wait) (ws : List Wait) (k : ℕ) (b : Bool) → nat_eq w.key k ≡ b → (length ws ≤ place_of ws k → IsAbsent ws k) → length (w ∷ ws) ≤ place_of (w ∷ ws) k → IsAbsent (w ∷ ws) k
-absent_step w ws k true e rest le = let here : length (w ∷ ws) ≤ 0 = rw e at le in absurd (omega (arith, here))
-absent_step w ws k false e rest le = let there : length (w ∷ ws) ≤ suc (place_of ws k) = rw e at le in (e, rest (omega (arith, there)))
-
-pub absent : (ws : List Wait) (k : ℕ) → length ws ≤ place_of ws k → IsAbsent ws k
-absent [] k le = tt
-absent (w ∷ ws) k le = absent_step w ws k (nat_eq w.key k) refl (absent ws k) le
+absent : (ws : List Wait) (k : ℕ) → (Stands ws k → ⊥) → IsAbsent ws k
+absent [] k out = tt
+absent (w ∷ ws) k out = by (nat_eq w.key k) refl (absent ws k (λ s. out (inr s)))
+  where
+    by : (b : Bool) → nat_eq w.key k ≡ b → IsAbsent ws k → IsAbsent (w ∷ ws) k
+    by true e rest = absurd (out (inl (eqb-true w.key k e)))
+    by false e rest = (e, rest)
 
 pub never_both : (ws : List Wait) (k : ℕ) → Stands ws k → IsAbsent ws k → ⊥
 never_both [] k stands absent = stands
@@ -269,7 +189,6 @@ fits_top None [] k b x = let t = lesser x.from b in (λ h. (refl, λ _. t.0 h), 
 fits_top None (w ∷ ws) k b x = top_step w ws k b x (nat_eq w.key k) refl
 fits_top (Some p) ws k b x = (λ h. (from_row x.from (Some p) ws k x h, λ none. absurd none), λ h. row_from x.from (Some p) ws k x h.0)
 
-pub awaited_if : (p l : ℕ) (ws : List Wait) (k : ℕ) → (p < l → Stands ws k) → (l ≤ p → IsAbsent ws k) → IsAwaitedIf (nat_lt p l) ws k
-awaited_if p l ws k there gone = dite (dec_lt p l)
-    (λ (lt : p < l). subst (λ b. IsAwaitedIf b ws k) (sym (lt-ltb p l lt)) (there lt, never_both ws k (there lt)))
-    (λ ge. let le : l ≤ p = omega (arith, ge) in subst (λ b. IsAwaitedIf b ws k) (sym (le-ltb p l le)) (gone le, λ s. never_both ws k s (gone le)))
+pub awaited_if : (b : Bool) (ws : List Wait) (k : ℕ) → IsTrue b ↔ Stands ws k → IsAwaitedIf b ws k
+awaited_if true ws k h = (h.0 refl, never_both ws k (h.0 refl))
+awaited_if false ws k h = let out : Stands ws k → ⊥ = (λ s. true≢false (sym (h.1 s))) in (absent ws k out, out)

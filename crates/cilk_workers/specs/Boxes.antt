@@ -6,6 +6,7 @@ use Rattle.cilk_tree.specs.Word.{resume, word_step}
 use Rattle.cilk_shared.specs.Pieces.{PieceValue}
 use Rattle.cilk_replay.specs.Chains.{ChainValue}
 use Rattle.cilk_replay.specs.Replays.{ReplayValue}
+use Rattle.cilk_join.specs.AwaitedRows as awaited
 use Rattle.cilk_workers.specs.Rows.{Run, RunValue, Wait, Rows, row, rows, placed_in, awaiting, end_in, is_empty, parts_in}
 
 -- the rows; the replay of the run; the block's sync; the greatest stolen key and the greatest
@@ -33,8 +34,7 @@ opening y c s = record { rows = rows y (row None []); replay = c; sync = s; stol
 
 -- the key is among the awaited ones
 abbrev pub Stands : List Wait → ℕ → Type 0
-Stands [] k = ⊥
-Stands (w ∷ ws) k = (w.key ≡ k) ⊎ Stands ws k
+Stands ws k = awaited.Stands (awaited.keys ws) k
 
 abbrev pub IsAbsent : List Wait → ℕ → Type 0
 IsAbsent [] k = Unit {0}

@@ -18,4 +18,3 @@ pub mod ShelfHistories
 pub mod Shelves
 pub mod WorkerContexts
 pub mod Turns
-pub mod Waits

@@ -1,10 +1,13 @@
 -- A row of awaited keys, with the runs of arrived keys between them.
-use Rattle.std.specs.Prelude.{◌≡◌, ◌+◌, ◌<◌, ◌≤◌, ℕ, zero, suc, nat_eq, Bool, true, false, if◌then◌else◌, List, [], ◌∷◌, ◌++◌, Option, Some, None}
+use Rattle.std.specs.Prelude.{◌≡◌, ◌<◌, ◌≤◌, ℕ, nat_eq, Bool, true, false, List, [], ◌∷◌, Option, Some, None}
 use Rattle.atomic_table.specs.Seated.{TableId}
 use Rattle.cilk_tree.specs.declared.event_order.EventOrder.{EventOrder}
 use Rattle.cilk_shared.specs.Values.{YardValue}
 use Rattle.cilk_shared.specs.declared.reducers.Reducers.{Reducers}
 use Rattle.cilk_shared.specs.Pieces.{PieceValue}
+use Rattle.cilk_join.specs.declared.row.Wait as declared
+use Rattle.cilk_join.specs.AwaitedRows as awaited
+pub use Rattle.cilk_join.specs.AwaitedRows.{ahead, is_empty, row, wait}
 
 -- a yard, and the reducers of its run
 pub record RunValue : Type 0 where
@@ -24,29 +27,20 @@ Run = Option PieceValue
 
 -- a stolen child that hasn't arrived, the position at which its parent continues, and the run from
 -- there on
-pub record Wait : Type 0 where
-  pub key : ℕ
-  pub goes_on : ℕ
-  pub run : Run
+abbrev pub Wait : Type 0
+Wait = declared.Wait ℕ PieceValue
 
 -- the run before the first awaited key, and the awaited keys in ascending order
-pub record Row : Type 0 where
-  pub run : Run
-  pub waits : List Wait
+abbrev pub Row : Type 0
+Row = awaited.RowValue ℕ PieceValue
 
 -- a row, and the run of the program to which it belongs
 pub record Rows : Type 0 where
   pub of : RunValue
   pub row : Row
 
-abbrev pub row : Run → List Wait → Row
-row run waits = record { run = run; waits = waits }
-
 abbrev pub rows : RunValue → Row → Rows
 rows y r = record { of = y; row = r }
-
-abbrev pub wait : ℕ → ℕ → Run → Wait
-wait key goes_on run = record { key = key; goes_on = goes_on; run = run }
 
 -- ---- pieces beside one another
 
@@ -128,15 +122,9 @@ PiecesLieApart j = let r = j.row in LieApart j.of 0 (pieces_of r.run r.waits)
 
 -- ---- a piece comes
 
--- a run before a row, with an awaited key between
-abbrev pub ahead : Run → ℕ → ℕ → Row → Row
-ahead run key goes_on r = row run (wait key goes_on r.run ∷ r.waits)
-
--- The row after a piece has come. It makes one run with its neighbours. Its place is that of its
--- key if the key is awaited, and else the end.
+-- the row after a piece has come: it makes one run with its neighbours
 abbrev pub placed : Run → List Wait → ℕ → PieceValue → Row
-placed run [] k x = row (Some (between run x None)) []
-placed run (w ∷ ws) k x = if nat_eq w.key k then row (Some (between run x w.run)) ws else ahead run w.key w.goes_on (placed w.run ws k x)
+placed run ws k x = awaited.placed between run ws k x
 
 abbrev pub IfHere : Bool → Type 0 → Type 0 → Type 0
 IfHere true A B = A
@@ -167,46 +155,11 @@ abbrev pub placed_in : Rows → ℕ → PieceValue → Rows
 placed_in j k x = let r = j.row in rows j.of (placed r.run r.waits k x)
 
 abbrev pub awaiting : Rows → ℕ → ℕ → Rows
-awaiting j k a = let r = j.row in rows j.of (row r.run (r.waits ++ wait k a None ∷ []))
+awaiting j k a = rows j.of (awaited.awaiting j.row k a)
 
--- ---- how many
-
-abbrev pub count : Run → ℕ
-count None = 0
-count (Some p) = 1
-
-abbrev pub runs_in : List Wait → ℕ
-runs_in [] = 0
-runs_in (w ∷ ws) = count w.run + runs_in ws
-
+-- how many runs
 abbrev pub parts_in : Rows → ℕ
-parts_in j = let r = j.row in count r.run + runs_in r.waits
-
--- ---- by places: run 0 is before the first awaited key, run n + 1 follows the one at place n
-
-abbrev pub place_of : List Wait → ℕ → ℕ
-place_of [] k = 0
-place_of (w ∷ ws) k = if nat_eq w.key k then 0 else suc (place_of ws k)
-
-abbrev pub run_at : Run → List Wait → ℕ → Run
-run_at run ws zero = run
-run_at run [] (suc n) = None
-run_at run (w ∷ ws) (suc n) = run_at w.run ws n
-
-abbrev pub with_run : Run → List Wait → ℕ → Run → Row
-with_run run ws zero x = row x ws
-with_run run [] (suc n) x = row run []
-with_run run (w ∷ ws) (suc n) x = ahead run w.key w.goes_on (with_run w.run ws n x)
-
--- the list without the awaited key at a place and the run after it
-abbrev pub without : List Wait → ℕ → List Wait
-without [] n = []
-without (w ∷ ws) zero = ws
-without (w ∷ ws) (suc n) = w ∷ without ws n
-
-abbrev pub is_empty : List Wait → Bool
-is_empty [] = true
-is_empty (w ∷ ws) = false
+parts_in j = awaited.parts_of j.row
 
 -- the same as `FitsRow`, given where the piece must begin
 abbrev pub FitsFrom : ℕ → List Wait → ℕ → PieceValue → Type 0

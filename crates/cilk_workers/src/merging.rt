@@ -3,29 +3,13 @@
 ghost use Rattle.std.specs.Prelude.{◌≡◌, ◌<◌, IfOk, IfErr};
 ghost use Rattle.cilk_workers.specs.Rows.{between, run_of, AreGood, EndsAt, BeginsAt};
 
+use cilk_join::row::Parts;
 use cilk_shared::piece::Piece;
 use cilk_shared::yard::Yard;
 use std::alloc::Global;
 
-/// A piece, and the runs on its two sides, if there are any.
-#[derive(Drop)]
-pub struct Parts {
-    pub left: Option<Piece>,
-    pub piece: Piece,
-    pub right: Option<Piece>,
-}
-
-impl Parts {
-    #[inline(always)]
-    fn of(left: Option<Piece>, piece: Piece, right: Option<Piece>) -> Parts
-        ensures { result ≡ record { left = left; piece = piece; right = right } }
-    {
-        Parts { left, piece, right }
-    }
-}
-
 /// Makes one piece of the three, from left to right. If memory runs out, they come back.
-pub fn merge(alloc: Global, yard: &Yard, parts: Parts) -> Result<Piece, Parts>
+pub fn merge(alloc: Global, yard: &Yard, parts: Parts<Piece>) -> Result<Piece, Parts<Piece>>
     requires good { AreGood (run_of yard.now parts.piece.reducers) parts.left parts.piece parts.right }
     requires near { EndsAt parts.left parts.piece.from × BeginsAt parts.right parts.piece.upto }
     ensures ok { IfOk result (λ p. p ≡ between parts.left parts.piece parts.right) }

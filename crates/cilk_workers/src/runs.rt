@@ -1,13 +1,13 @@
 //! The runs of arrived keys of a sync block, and the awaited keys between them.
 ghost use Rattle.std.specs.Prelude.{nat_lt, if◌then◌else◌, ◌≡◌, ◌↔◌, ◌<◌, ◌≤◌, ◌+◌, IfErr, OnOk, OnErr, IsTrue, Some, None, []};
-ghost use Rattle.cilk_workers.specs.Rows.{parts_in, awaiting, end_in, placed_in, FitsIn, IsGood, IsGoodRun, IsLowest, PiecesLieApart, is_empty, row, rows, yard_of};
+ghost use Rattle.cilk_workers.specs.Rows.{parts_in, awaiting, end_in, placed_in, FitsIn, IsGood, IsGoodRun, IsLowest, PiecesLieApart, rows, yard_of};
+ghost use Rattle.cilk_join.specs.AwaitedRows.{is_empty, row};
 ghost use Rattle.cilk_workers.specs.Boxes.{IsAwaitedIf};
 
-use crate::awaited::{
-    Awaited, end_of_all, end_of_run, fits_from, forget, place_in, replace, runs, set,
-};
-use crate::merging::{Parts, merge};
+use crate::awaited::{end_of_all, end_of_run, fits_from};
+use crate::merging::merge;
 use crate::shared::Shared;
+use cilk_join::row::Row;
 use cilk_shared::piece::Piece;
 use cilk_shared::reducers::Reducers;
 use cilk_shared::yard::Yard;
@@ -21,20 +21,17 @@ use std::snapshot::Snapshot;
 pub struct Runs {
     of: Snapshot<Yard>,
     reducers: Snapshot<Reducers>,
-    first: Option<Piece>,
-    awaited: Vec<Awaited>,
+    row: Row<Pos, Piece>,
 }
 
 impl Model for Runs {
-    ghost use Rattle.std.specs.Prelude.{map};
-    ghost use Rattle.cilk_workers.specs.Rows.{Rows, row, rows, run_of, MetRows};
-    ghost use Rattle.cilk_workers.specs.Waits.{wait_of};
+    ghost use Rattle.cilk_workers.specs.Rows.{Rows, rows, run_of, MetRows};
 
     ghost Value = { Rows };
 
-    ghost view = { λ r. rows (run_of r.of.value r.reducers.value) (row r.first (map wait_of r.awaited.items)) };
+    ghost view = { λ r. rows (run_of r.of.value r.reducers.value) r.row };
 
-    ghost invariant = { λ r. MetRows (rows (run_of r.of.value r.reducers.value) (row r.first (map wait_of r.awaited.items))) };
+    ghost invariant = { λ r. MetRows (rows (run_of r.of.value r.reducers.value) r.row) };
 }
 
 // The lesser of two positions.
@@ -52,8 +49,7 @@ impl Runs {
         Runs {
             of: Snapshot::of(shared.yard()),
             reducers: Snapshot::of(shared.reducers()),
-            first: None,
-            awaited: Vec::new(alloc),
+            row: Row::new(alloc),
         }
     }
 
@@ -61,26 +57,21 @@ impl Runs {
     pub fn parts(&self) -> usize
         ensures { result ≡ parts_in self.now }
     {
-        let behind = runs(&self.awaited);
-        if self.first.is_some() {
-            behind + 1
-        } else {
-            behind
-        }
+        self.row.parts()
     }
 
     /// A law: the pieces don't overlap, and are in the order of the run.
     pub fn laws(&self)
         ensures { PiecesLieApart self.now }
     {
-        let _first = self.first.is_some();
+        let _whole = self.row.is_whole();
     }
 
     /// Returns the position where the row ends.
     pub fn end(&self) -> Pos
         ensures { result ≡ end_in self.now }
     {
-        end_of_all(&self.awaited, end_of_run(&self.first, 0))
+        end_of_all(self.row.waits(), end_of_run(self.row.first(), 0))
     }
 
     /// Appends an awaited key, whose parent continues at `goes_on`. If memory runs out, nothing
@@ -90,11 +81,7 @@ impl Runs {
         ensures ok { OnOk result (self.new ≡ awaiting self.old key goes_on) }
         ensures err { OnErr result (self.new ≡ self.old) }
     {
-        self.awaited.push(Awaited {
-            key,
-            goes_on,
-            after: None,
-        })?;
+        self.row.wait(key, goes_on)?;
         Ok(())
     }
 
@@ -108,20 +95,13 @@ impl Runs {
         ensures err { IfErr result (λ p. p ≡ piece) }
         ensures unchanged { OnErr result (self.new ≡ self.old) }
     {
-        let place = place_in(&self.awaited, key);
-        let left = replace(&mut self.first, &mut self.awaited, place, None);
-        let right = replace(&mut self.first, &mut self.awaited, place + 1, None);
-        match merge(alloc, yard, Parts { left, piece, right }) {
+        let (place, parts) = self.row.open(key, piece);
+        match merge(alloc, yard, parts) {
             Ok(run) => {
-                set(&mut self.first, &mut self.awaited, place, Some(run));
-                forget(&mut self.awaited, place);
+                self.row.close(place, run);
                 Ok(())
             }
-            Err(Parts { left, piece, right }) => {
-                set(&mut self.first, &mut self.awaited, place, left);
-                set(&mut self.first, &mut self.awaited, place + 1, right);
-                Err(piece)
-            }
+            Err(parts) => Err(self.row.restore(place, parts)),
         }
     }
 
@@ -129,7 +109,7 @@ impl Runs {
     pub fn is_whole(&self) -> bool
         ensures { result ≡ is_empty self.now.row.waits }
     {
-        self.awaited.is_empty()
+        self.row.is_whole()
     }
 
     /// Moves the first run out.
@@ -138,14 +118,14 @@ impl Runs {
         ensures new { self.new ≡ rows self.old.of (row None self.old.row.waits) }
         ensures good { IsGoodRun self.old.of result }
     {
-        self.first.take()
+        self.row.take()
     }
 
     /// Returns whether the key is awaited.
     pub fn awaits(&self, key: Pos) -> bool
         ensures { IsAwaitedIf result self.now.row.waits key }
     {
-        place_in(&self.awaited, key) < self.awaited.len()
+        self.row.awaits(key)
     }
 
     /// Returns whether the piece adjoins the neighbours of its place and, if its key is the lowest,
@@ -154,6 +134,11 @@ impl Runs {
         ensures { IsTrue result ↔ (FitsIn self.now key piece.now × (IsLowest self.now key → piece.now.from ≤ first)) }
     {
         let begin = least(piece.from(), first);
-        fits_from(&self.awaited, end_of_run(&self.first, begin), key, piece)
+        fits_from(
+            self.row.waits(),
+            end_of_run(self.row.first(), begin),
+            key,
+            piece,
+        )
     }
 }
