@@ -33,8 +33,7 @@ module _ (p : Source) (inputs : List ℤ) where
   IsUnaccepted known failed failed' (unaccepted.Refusal r) = IsRefusedText known r
   IsUnaccepted known failed failed' unaccepted.Unread = failed < failed'
 
--- a check that ends with a refusal met no failing device, unless memory ran out: of that nothing is said
+-- a check that ends with a refusal met no failing device, also where it is out of memory
 abbrev pub IsUncounted : ℕ → ℕ → Unaccepted → Type 0
-IsUncounted failed failed' (unaccepted.Refusal refusals.Memory) = Unit {0}
 IsUncounted failed failed' (unaccepted.Refusal r) = failed' ≡ failed
 IsUncounted failed failed' unaccepted.Unread = Unit {0}

@@ -85,7 +85,7 @@ no_input_refusal text numbers r v h k = no_input_fault text numbers r k.0 v k.1 
 not_unread : (n m : Failures) (o : Origin) (r : Reply) → OriginFails n m o r → IsOfTexts r → ⊥
 not_unread n m Standard (Unreadable name) h v = v
 not_unread n m Standard NoMemory h v = v
-not_unread n m Standard _ h v = h
+not_unread n m Standard _ h v = h.1
 not_unread n m (File path) (Unreadable name) h v = v
 not_unread n m (File path) NoMemory h v = v
 not_unread n m (File path) _ h v = h
@@ -206,7 +206,7 @@ bad_words NoMemory h v = absurd v
 bad_words _ h v = absurd h
 
 one_answered : (w : Surroundings) (asked : Option Requested) → HasOneReply w asked
-one_answered w None x r q h k v u = bad_words r h v ∙ sym (bad_words q k u)
+one_answered w None x r q h k v u = bad_words r h.1 v ∙ sym (bad_words q k.1 u)
 one_answered w (Some (words.Run program input)) x r q h k v u = one_run w program input r q x.0 x.1 h k v u
 one_answered w (Some (words.Certify program input)) x r q h k v u = one_certify w program input r q x.0 x.1 h k v u
 one_answered w (Some (words.Check program certificate input)) x r q h k v u =

@@ -1,8 +1,8 @@
 -- The replies of commands.
 --
 -- `front_of`: the bytes sent are a text, or a part of it. `keeps`: nothing was written.
--- `no_memory`: out of memory may be the reply to anything. `fails`, `ends`: a failure, or an
--- answer, is served. `handed`: an error that was passed on. `program_refused`, `input_unread`,
+-- `no_memory`: if no read failed, out of memory may be the reply to anything. `fails`, `ends`: a
+-- failure, or an answer, is served. `none_failed`: the failed reads are the same. `handed`: an error that was passed on. `program_refused`, `input_unread`,
 -- `input_refused`: no program and input are given. `both_given`: both are. `judged_ok`,
 -- `judged_err`: the answer to a command on both, and its failure. `alone_ok`, `alone_err`: the same
 -- for a command that reads no other file. `given_later`: they are given whatever is read
@@ -52,20 +52,19 @@ pub keeps : (o : Option Text) → Appends o o []
 keeps None = tt
 keeps (Some bytes) = sym (append-nil bytes)
 
--- out of memory may be the reply to anything
-pub no_memory : (w : Surroundings) (asked : Option Requested) → Answers w asked NoMemory
-no_memory w None = tt
-no_memory w (Some (Run Standard input)) = Unjudged (ProgramUnread tt)
-no_memory w (Some (Run (File path) input)) = Unjudged (ProgramUnread tt)
-no_memory w (Some (Certify path input)) = Unjudged (ProgramUnread tt)
-no_memory w (Some (Check path certificate input)) = Unjudged (ProgramUnread tt)
-no_memory w (Some (Play path script workers input)) = Unjudged (ProgramUnread tt)
-no_memory w (Some (Settle path input)) = Unjudged (ProgramUnread tt)
-no_memory w (Some (Judge trace sites)) = tt
+pub none_failed : (failed failed' : Failures) (path : Text) → failed' ≡ failed → IsUnfailed failed failed' path
+none_failed failed failed' path e = record { count = ap (λ (f : Failures). f.count) e; elsewhere = ap (λ (f : Failures). f.elsewhere path) e }
 
-or_no_memory : (w : Surroundings) (asked : Option Requested) (wanted r : Reply) → Answers w asked wanted → IsOrNoMemory wanted r → Answers w asked r
-or_no_memory w asked wanted r h (inl e) = subst (λ (x : Reply). Answers w asked x) (sym e) h
-or_no_memory w asked wanted r h (inr e) = subst (λ (x : Reply). Answers w asked x) (sym e) (no_memory w asked)
+-- if no read failed, out of memory may be the reply to anything
+pub no_memory : (w : Surroundings) (asked : Option Requested) → w.failed' ≡ w.failed → Answers w asked NoMemory
+no_memory w None e = (e, tt)
+no_memory w (Some (Run Standard input)) e = Unjudged (ProgramUnread (e, tt))
+no_memory w (Some (Run (File path) input)) e = Unjudged (ProgramUnread e)
+no_memory w (Some (Certify path input)) e = Unjudged (ProgramUnread e)
+no_memory w (Some (Check path certificate input)) e = Unjudged (ProgramUnread e)
+no_memory w (Some (Play path script workers input)) e = Unjudged (ProgramUnread e)
+no_memory w (Some (Settle path input)) e = Unjudged (ProgramUnread e)
+no_memory w (Some (Judge trace sites)) e = none_failed w.failed w.failed' trace e
 
 -- a failure has nothing for standard output
 silent : (f : Failure) → out_text (failure_view f) ≡ []
@@ -90,12 +89,12 @@ pub fails : (words : List Text) (w : Surroundings) (f : Failure) (status : ℕ) 
 fails words w f status told o e e' h shown =
     let r = shown.0 in
     let out : Appends o o (out_text r) = subst (λ (t : Text). Appends o o t) (sym (still_silent f r shown.1)) (keeps o) in
-    (r, or_no_memory w (order_in words) (failure_view f) r h shown.1, inl (shown.2, out, shown.3))
+    (failure_view f, h, r, shown.1, inl (shown.2, out, shown.3))
 
 pub ends : (words : List Text) (w : Surroundings) (wanted : Reply) (status : ℕ) (told : Bool) (o o' e e' : Option Text)
     → Answers w (order_in words) wanted
     → (r : Reply) × IsOrNoMemory wanted r × Shows r status told o o' e e' → Serves words w status told o o' e e'
-ends words w wanted status told o o' e e' h shown = (shown.0, or_no_memory w (order_in words) wanted shown.0 h shown.1, shown.2)
+ends words w wanted status told o o' e e' h shown = (wanted, h, shown.0, shown.1, shown.2)
 
 -- an error that was passed on
 pub handed : {T : Type 0} (x : Result T Failure) (f : Failure) (P : Failure → Type 0) → IsErrAnd x (λ e. e ≡ f) → P f → IfErr x P
@@ -202,18 +201,18 @@ checked_err x path known known' n m failed q inputs e d h =
 pub refused_ok : {F T : Type 0} (x : Result Answer T) (path : Text) (known : Option Text) (failed : F → Failures) (old new : F)
     (q : Meant) (inputs : List ℤ) (f : Refusal)
     → IfOk x (λ a. (f ≢ refusals.Memory) × (answer_view a ≡ Refused (number_of f) (places_of (fields_of f))))
-    → (f ≢ refusals.Memory → IsUnfailed (failed old) (failed new) path) → IsRefusedText q.source inputs known f
+    → IsUnfailed (failed old) (failed new) path → IsRefusedText q.source inputs known f
     → IfOk x (λ a. CheckShows path known (failed old) (failed new) q inputs (answer_view a))
 refused_ok (Ok a) path known failed old new q inputs f h none k =
-    subst (λ (r : Reply). CheckShows path known (failed old) (failed new) q inputs r) (sym h.1) (f, h.0, refl, refl, none h.0, k)
+    subst (λ (r : Reply). CheckShows path known (failed old) (failed new) q inputs r) (sym h.1) (f, h.0, refl, refl, none, k)
 refused_ok (Err e) path known failed old new q inputs f h none k = tt
 
 pub refused_err : {F T : Type 0} (x : Result T Failure) (path : Text) (known : Option Text) (failed : F → Failures) (old new : F)
-    (q : Meant) (inputs : List ℤ) → IfErr x (λ e. failure_view e ≡ NoMemory)
+    (q : Meant) (inputs : List ℤ) → IfErr x (λ e. failure_view e ≡ NoMemory) → IsUnfailed (failed old) (failed new) path
     → IfErr x (λ e. CheckShows path known (failed old) (failed new) q inputs (failure_view e))
-refused_err (Ok a) path known failed old new q inputs h = tt
-refused_err (Err e) path known failed old new q inputs h =
-    subst (λ (r : Reply). CheckShows path known (failed old) (failed new) q inputs r) (sym h) tt
+refused_err (Ok a) path known failed old new q inputs h none = tt
+refused_err (Err e) path known failed old new q inputs h none =
+    subst (λ (r : Reply). CheckShows path known (failed old) (failed new) q inputs r) (sym h) none
 
 known_whole : (known : Option Text) → option_map (drop 0) known ≡ known
 known_whole None = refl
@@ -266,7 +265,7 @@ steps_fail (Err f) workers text steps slice q inputs is e h = inr (steps, is, su
 pub script_unread : (path : Text) (known : Option Text) (failed failed' : Failures) (workers : ℕ) (q : Meant) (inputs : List ℤ) (r : Reply)
     → FileFails failed failed' path r → PlayShows path known failed failed' workers q inputs r
 script_unread path known failed failed' workers q inputs (Unreadable name) h = h
-script_unread path known failed failed' workers q inputs NoMemory h = tt
+script_unread path known failed failed' workers q inputs NoMemory h = h
 script_unread path known failed failed' workers q inputs _ h = absurd h
 
 -- the reply to a script's text, of which no read failed
@@ -278,7 +277,7 @@ module _ (path : Text) (known : Option Text) (failed failed' : Failures) (none :
       by : (x : Reply) → (failed' ≡ failed) × ((t : Text) × IsHeld known t × TextShows workers t q inputs x)
           → PlayShows path known failed failed' workers q inputs x
       by (Unreadable name) k = let shown = k.1 in elim shown.2 [ inl l ↦ absurd l | inr l ↦ absurd l.2 ]
-      by NoMemory k = tt
+      by NoMemory k = k.0
       by replies.BadWords k = k
       by (replies.BadProgram n p) k = k
       by (replies.BadInput n p) k = k

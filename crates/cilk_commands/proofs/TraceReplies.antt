@@ -92,7 +92,7 @@ unsurveyed_view path known failed failed' a b (faults.Malformed line) stays fail
 unsurveyed_view path known failed failed' a b (faults.Truncated line) stays fails h = let t = h.1 in (stays h.0, (t.0, t.1, inr (refl, t.2)))
 unsurveyed_view path known failed failed' a b faults.Changed stays fails h = absurd h
 unsurveyed_view path known failed failed' a b faults.Unread stays fails h = (refl, fails h)
-unsurveyed_view path known failed failed' a b faults.Memory stays fails h = tt
+unsurveyed_view path known failed failed' a b faults.Memory stays fails h = stays h
 
 pub unsurveyed_shown : {F : Type 0} (path : Text) (known known' : Option Text) (at : ℕ) (failed : F → Failures) (old new : F) (a b : ℕ) (e : Unjudged)
     (r : Reply) → known' ≡ known → at ≡ 0 → r ≡ unjudged_view path e → (b ≡ a → IsUnfailed (failed old) (failed new) path)
@@ -108,21 +108,21 @@ unchanged None first held h = refl
 unchanged (Some all) first held h = absurd (h (ap Some (sym held)))
 
 unjudged_view_shown : (path : Text) (known : Option Text) (failed failed' : Failures) (a b : ℕ) (first : Text) (e : Unjudged)
-    → IfSome known (λ all. first ≡ all) → (a < b → HasFailed path failed failed') → IsUnjudgedAgain first known a b e
-    → JudgeShows path known failed failed' (unjudged_view path e)
-unjudged_view_shown path known failed failed' a b first (faults.Malformed line) held fails h = absurd h
-unjudged_view_shown path known failed failed' a b first (faults.Truncated line) held fails h = absurd h
-unjudged_view_shown path known failed failed' a b first faults.Changed held fails h = (refl, unchanged known first held h)
-unjudged_view_shown path known failed failed' a b first faults.Unread held fails h = (refl, fails h)
-unjudged_view_shown path known failed failed' a b first faults.Memory held fails h = tt
+    → IfSome known (λ all. first ≡ all) → (b ≡ a → IsUnfailed failed failed' path) → (a < b → HasFailed path failed failed')
+    → IsUnjudgedAgain first known a b e → JudgeShows path known failed failed' (unjudged_view path e)
+unjudged_view_shown path known failed failed' a b first (faults.Malformed line) held stays fails h = absurd h
+unjudged_view_shown path known failed failed' a b first (faults.Truncated line) held stays fails h = absurd h
+unjudged_view_shown path known failed failed' a b first faults.Changed held stays fails h = (refl, unchanged known first held h.1, stays h.0)
+unjudged_view_shown path known failed failed' a b first faults.Unread held stays fails h = (refl, fails h)
+unjudged_view_shown path known failed failed' a b first faults.Memory held stays fails h = stays h
 
 pub unjudged_shown : {F : Type 0} (path : Text) (known known' : Option Text) (at : ℕ) (failed : F → Failures) (old new : F) (a b : ℕ) (first : Text)
     (e : Unjudged) (r : Reply) → known' ≡ known → at ≡ 0 → r ≡ unjudged_view path e → IfSome known (λ all. first ≡ all)
-    → (a < b → HasFailed path (failed old) (failed new)) → IsUnjudgedAgain first (option_map (drop at) known') a b e
-    → JudgeShows path known (failed old) (failed new) r
-unjudged_shown path known known' at failed old new a b first e r same from is held fails h =
+    → (b ≡ a → IsUnfailed (failed old) (failed new) path) → (a < b → HasFailed path (failed old) (failed new))
+    → IsUnjudgedAgain first (option_map (drop at) known') a b e → JudgeShows path known (failed old) (failed new) r
+unjudged_shown path known known' at failed old new a b first e r same from is held stays fails h =
     subst (λ (x : Reply). JudgeShows path known (failed old) (failed new) x) (sym is)
-    (unjudged_view_shown path known (failed old) (failed new) a b first e held fails
+    (unjudged_view_shown path known (failed old) (failed new) a b first e held stays fails
     (from_first (λ k. IsUnjudgedAgain first k a b e) known known' at same from h))
 
 -- the reply of the second reading
@@ -134,10 +134,10 @@ module _ (path : Text) (known known' : Option Text) (before between after : Fail
   as_known replies.RaceFree shown = (still shown.0, shown.1)
   as_known (replies.Refused number places) shown = (still shown.0, shown.1, shown.2, shown.3, shown.4)
   as_known (replies.BadTrace number at) shown = (still shown.0, shown.1)
-  as_known (replies.Changed name) shown = shown
+  as_known (replies.Changed name) shown = (shown.0, shown.1, still shown.2)
   as_known (replies.Unreadable name) shown =
       (shown.0, (subst (λ (n : ℕ). n < after.count) none.count shown.1.0, shown.1.1 ∙ none.elsewhere))
-  as_known replies.NoMemory shown = tt
+  as_known replies.NoMemory shown = still shown
   as_known _ shown = absurd shown
 
   since : (r : Reply) → JudgeShows path known' between after r → JudgeShows path known before after r

@@ -36,7 +36,7 @@ unsurveyed known ls v a b (faults.Truncated line) s h =
     let t = h.1 in (h.0, (t.0, t.1, record { cut = ap (λ (r : Reading). r.fault) t.2; begins = begins_read t.0 ls _ t.2 (begins_trace ls v s) }))
 unsurveyed known ls v a b faults.Changed s h = h
 unsurveyed known ls v a b faults.Unread s h = h
-unsurveyed known ls v a b faults.Memory s h = tt
+unsurveyed known ls v a b faults.Memory s h = h
 
 -- the lines of each text that begins with the bytes that were taken
 lines_given : (left known : Option (List ℕ)) (ls : List Line) (p : Pieces) (r : IsReading known left ls p) (rest : List ℕ)
@@ -93,11 +93,11 @@ fault_changed known text all ls fault t h e =
 
 pub again_fault : (known : Option (List ℕ)) (text : List ℕ) (all ls : List Line) (a b : ℕ) (e : Unjudged) → IsTraceText text all
     → IsUnreadAfter known ls a b e → IsUnjudgedAgain text known a b (again e)
-again_fault known text all ls a b (faults.Malformed line) t h = fault_changed known text all ls _ t h.1
-again_fault known text all ls a b (faults.Truncated line) t h = fault_changed known text all ls _ t h.1
+again_fault known text all ls a b (faults.Malformed line) t h = (h.0, fault_changed known text all ls _ t h.1)
+again_fault known text all ls a b (faults.Truncated line) t h = (h.0, fault_changed known text all ls _ t h.1)
 again_fault known text all ls a b faults.Changed t h = absurd h
 again_fault known text all ls a b faults.Unread t h = h
-again_fault known text all ls a b faults.Memory t h = tt
+again_fault known text all ls a b faults.Memory t h = h
 
 -- a line that the first reading's text doesn't have
 pub again_line : (known left : Option (List ℕ)) (text : List ℕ) (all ls : List Line) (l : Line) (p : Pieces) → IsTraceText text all
@@ -118,16 +118,24 @@ again_whole known text all ls t g wrong e =
 given_again : (known : Option (List ℕ)) (text all : List ℕ) → IfSome known (λ x. text ≡ x) → known ≡ Some all → text ≡ all
 given_again known text all g e = given_is known text all e g
 
-unjudged_again : (q : Readings) (text : List ℕ) (e : Unjudged) → IfSome q.first (λ all. text ≡ all) → IsUnjudgedAgain text q.second q.again q.again' e
-    → IsUnjudged q e
-unjudged_again q text (faults.Malformed line) g h = absurd h
-unjudged_again q text (faults.Truncated line) g h = absurd h
-unjudged_again q text faults.Changed g h = λ all one two. h (two ∙ ap Some (sym (given_again q.first text all g one)))
-unjudged_again q text faults.Unread g h = inr h
-unjudged_again q text faults.Memory g h = tt
+-- the first reading's fault is that of both
+pub judged_first : (q : Readings) (e : Unjudged) → q.again' ≡ q.again → IsUnsurveyed q.first q.failed q.failed' e → IsUnjudged q e
+judged_first q (faults.Malformed line) same h = h.1
+judged_first q (faults.Truncated line) same h = h.1
+judged_first q faults.Changed same h = absurd h
+judged_first q faults.Unread same h = inl h
+judged_first q faults.Memory same h = (h, same)
+
+unjudged_again : (q : Readings) (text : List ℕ) (e : Unjudged) → q.failed' ≡ q.failed → IfSome q.first (λ all. text ≡ all)
+    → IsUnjudgedAgain text q.second q.again q.again' e → IsUnjudged q e
+unjudged_again q text (faults.Malformed line) same g h = absurd h
+unjudged_again q text (faults.Truncated line) same g h = absurd h
+unjudged_again q text faults.Changed same g h = (same, h.0, λ all one two. h.1 (two ∙ ap Some (sym (given_again q.first text all g one))))
+unjudged_again q text faults.Unread same g h = inr h
+unjudged_again q text faults.Memory same g h = (same, h)
 
 -- the second reading's fault is that of both
-pub judged_again : (q : Readings) (text : List ℕ) (r : Result Verdict Unjudged) → IfSome q.first (λ all. text ≡ all)
+pub judged_again : (q : Readings) (text : List ℕ) (r : Result Verdict Unjudged) → q.failed' ≡ q.failed → IfSome q.first (λ all. text ≡ all)
     → IfErr r (λ e. IsUnjudgedAgain text q.second q.again q.again' e) → IfErr r (λ e. IsUnjudged q e)
-judged_again q text (Ok v) g h = tt
-judged_again q text (Err e) g h = unjudged_again q text e g h
+judged_again q text (Ok v) same g h = tt
+judged_again q text (Err e) same g h = unjudged_again q text e same g h

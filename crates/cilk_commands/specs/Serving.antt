@@ -25,10 +25,11 @@ abbrev pub GivesInput : (Text → Option Text) → Option Text → Text → Type
 GivesInput files (Some path) text = IsHeld (files path) text
 GivesInput files None text = text ≡ []
 
--- the failure to read a file: its device failed, and that of no other file; or memory ran out
+-- the failure to read a file: its device failed, and that of no other file; or memory ran out, and no
+-- read failed
 abbrev pub FileFails : Failures → Failures → Text → Reply → Type 0
 FileFails failed failed' path (Unreadable name) = (name ≡ path) × HasFailed path failed failed'
-FileFails failed failed' path NoMemory = Unit {0}
+FileFails failed failed' path NoMemory = failed' ≡ failed
 FileFails failed failed' path _ = ⊥
 
 -- the failure to read standard input; no contract describes its device
@@ -37,8 +38,9 @@ StandardFails (Unreadable name) = name ≡ codes "-"
 StandardFails NoMemory = Unit {0}
 StandardFails _ = ⊥
 
+-- the failure to read a program text; for standard input no file is read
 abbrev pub OriginFails : Failures → Failures → Origin → Reply → Type 0
-OriginFails failed failed' Standard r = StandardFails r
+OriginFails failed failed' Standard r = (failed' ≡ failed) × StandardFails r
 OriginFails failed failed' (File path) r = FileFails failed failed' path r
 
 -- the empty input can't fail
@@ -135,9 +137,9 @@ WordsFail BadWords = Unit {0}
 WordsFail NoMemory = Unit {0}
 WordsFail _ = ⊥
 
--- the reply to an order
+-- the reply to an order; for words that are none no file is read
 abbrev pub Answers : Surroundings → Option Requested → Reply → Type 0
-Answers w None r = WordsFail r
+Answers w None r = (w.failed' ≡ w.failed) × WordsFail r
 Answers w (Some (Run program input)) r = RunReply w program input r
 Answers w (Some (Certify program input)) r = CertifyReply w program input r
 Answers w (Some (Check program certificate input)) r = CheckReply w program certificate input r
@@ -156,11 +158,11 @@ Shows r status is_whole out out' err err' =
     ((status ≡ status_of r) × Appends out out' (out_text r) × ShowsError r is_whole err err')
     ⊎ ((status ≡ 2) × AppendsPart out out' (out_text r) × AppendsFront is_whole err err' (line (codes "cannot write")))
 
--- the words have a reply, which is shown
-abbrev pub Serves : List Text → Surroundings → ℕ → (is_whole : Bool) → Option Text → Option Text → Option Text → Option Text → Type 0
-Serves words w status is_whole out out' err err' =
-    (r : Reply) × Answers w (order_in words) r × Shows r status is_whole out out' err err'
-
 -- the reply, or out of memory while its text was made
 abbrev pub IsOrNoMemory : Reply → Reply → Type 0
 IsOrNoMemory wanted r = (r ≡ wanted) ⊎ (r ≡ NoMemory)
+
+-- the words have a reply, which is shown, or it is out of memory
+abbrev pub Serves : List Text → Surroundings → ℕ → (is_whole : Bool) → Option Text → Option Text → Option Text → Option Text → Type 0
+Serves words w status is_whole out out' err err' =
+    (wanted : Reply) × Answers w (order_in words) wanted × (r : Reply) × IsOrNoMemory wanted r × Shows r status is_whole out out' err err'

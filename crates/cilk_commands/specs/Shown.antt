@@ -88,8 +88,8 @@ abbrev pub CertifyShows : Meant → List ℤ → Reply → Type 0
 CertifyShows m inputs (Certified c) = (c.version ≡ Two) × IsCertificate c × made.IsCertificateOf m.source inputs c
 CertifyShows m inputs r = RunFails m inputs r
 
--- The reply to the certificate in the file of this path: it is accepted or refused, and no read
--- failed; or the file can't be read. `known` are the contents of the file, if they are known;
+-- The reply to the certificate in the file of this path: it is accepted or refused, or there is no
+-- memory, and no read failed; or the file can't be read. `known` are the contents of the file, if they are known;
 -- `failed` and `failed'` are the failed reads before and after.
 abbrev pub CheckShows : Text → Option Text → Failures → Failures → Meant → List ℤ → Reply → Type 0
 CheckShows path known failed failed' m inputs Accepted =
@@ -98,7 +98,7 @@ CheckShows path known failed failed' m inputs (Refused number places) =
     (f : Refusal) × (f ≢ refusals.Memory) × (number ≡ number_of f) × (places ≡ places_of (fields_of f))
     × IsUnfailed failed failed' path × IsRefusedText m.source inputs known f
 CheckShows path known failed failed' m inputs (Unreadable name) = (name ≡ path) × HasFailed path failed failed'
-CheckShows path known failed failed' m inputs NoMemory = Unit {0}
+CheckShows path known failed failed' m inputs NoMemory = IsUnfailed failed failed' path
 CheckShows path known failed failed' m inputs _ = ⊥
 
 -- the reply to a text that is no script
@@ -125,10 +125,10 @@ StepsShow workers steps m inputs _ = ⊥
 abbrev pub TextShows : ℕ → Text → Meant → List ℤ → Reply → Type 0
 TextShows workers text m inputs r = ScriptFails text r ⊎ ((steps : List Step) × IsScript text steps × StepsShow workers steps m inputs r)
 
--- The reply to the script in the file of this path: the file can't be read, or the reply to its
--- text, and no read failed. `known`, `failed` and `failed'` are as above.
+-- The reply to the script in the file of this path: the file can't be read; or there is no memory, or
+-- the reply to its text, and no read failed. `known`, `failed` and `failed'` are as above.
 abbrev pub PlayShows : Text → Option Text → Failures → Failures → ℕ → Meant → List ℤ → Reply → Type 0
 PlayShows path known failed failed' workers m inputs (Unreadable name) = (name ≡ path) × HasFailed path failed failed'
-PlayShows path known failed failed' workers m inputs NoMemory = Unit {0}
+PlayShows path known failed failed' workers m inputs NoMemory = failed' ≡ failed
 PlayShows path known failed failed' workers m inputs r =
     (failed' ≡ failed) × ((text : Text) × IsHeld known text × TextShows workers text m inputs r)

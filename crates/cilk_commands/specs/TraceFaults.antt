@@ -16,27 +16,27 @@ told (text_faults.Truncated line) = faults.Truncated line
 abbrev pub IsTextFault : Option (List ℕ) → List Line → TraceFault → Type 0
 IsTextFault known ls fault = GivesText known (λ text. reading_of text ≡ record { lines = ls; fault = Some fault })
 
--- Why no next line was read after these; `failed` and `failed'` are the failed pulls before and after. At a fault of the text none failed.
+-- Why no next line was read after these; `failed` and `failed'` are the failed pulls before and after. At a fault of the text, and without memory, none failed.
 abbrev pub IsUnreadAfter : Option (List ℕ) → List Line → ℕ → ℕ → Unjudged → Type 0
 IsUnreadAfter known ls failed failed' (faults.Malformed line) = (failed' ≡ failed) × IsTextFault known ls (text_faults.Malformed line)
 IsUnreadAfter known ls failed failed' (faults.Truncated line) = (failed' ≡ failed) × IsTextFault known ls (text_faults.Truncated line)
 IsUnreadAfter known ls failed failed' faults.Changed = ⊥
 IsUnreadAfter known ls failed failed' faults.Unread = failed < failed'
-IsUnreadAfter known ls failed failed' faults.Memory = Unit {0}
+IsUnreadAfter known ls failed failed' faults.Memory = failed' ≡ failed
 
--- Why the first reading of a source fails: the text's first fault, where no pull failed, a pull that failed, or memory.
+-- Why the first reading of a source fails: the text's first fault, or memory, where no pull failed; or a pull that failed.
 abbrev pub IsUnsurveyed : Option (List ℕ) → ℕ → ℕ → Unjudged → Type 0
 IsUnsurveyed known failed failed' (faults.Malformed line) = (failed' ≡ failed) × GivesText known (λ text. IsMalformedAt text line)
 IsUnsurveyed known failed failed' (faults.Truncated line) = (failed' ≡ failed) × GivesText known (λ text. IsTruncatedAt text line)
 IsUnsurveyed known failed failed' faults.Changed = ⊥
 IsUnsurveyed known failed failed' faults.Unread = failed < failed'
-IsUnsurveyed known failed failed' faults.Memory = Unit {0}
+IsUnsurveyed known failed failed' faults.Memory = failed' ≡ failed
 
--- Why the second reading of a text fails: the source doesn't give that text again, or as before.
+-- Why the second reading of a text fails: the source doesn't give that text again, and no pull failed; or as before.
 abbrev pub IsUnjudgedAgain : List ℕ → Option (List ℕ) → ℕ → ℕ → Unjudged → Type 0
-IsUnjudgedAgain text known failed failed' faults.Changed = known ≡ Some text → ⊥
+IsUnjudgedAgain text known failed failed' faults.Changed = (failed' ≡ failed) × (known ≡ Some text → ⊥)
 IsUnjudgedAgain text known failed failed' faults.Unread = failed < failed'
-IsUnjudgedAgain text known failed failed' faults.Memory = Unit {0}
+IsUnjudgedAgain text known failed failed' faults.Memory = failed' ≡ failed
 IsUnjudgedAgain text known failed failed' _ = ⊥
 
 -- a fault of a text that was a trace's is a change
@@ -58,10 +58,11 @@ abbrev pub readings : Option (List ℕ) → Option (List ℕ) → ℕ → ℕ �
 readings first second failed failed' again again' =
     record { first = first; second = second; failed = failed; failed' = failed'; again = again; again' = again' }
 
--- Why a trace isn't judged: the first text's first fault, two texts that differ, a pull of either that failed, or memory.
+-- Why a trace isn't judged: the first text's first fault, a pull of either that failed; or two texts that differ, or memory, where none failed.
 abbrev pub IsUnjudged : Readings → Unjudged → Type 0
 IsUnjudged r (faults.Malformed line) = GivesText r.first (λ text. IsMalformedAt text line)
 IsUnjudged r (faults.Truncated line) = GivesText r.first (λ text. IsTruncatedAt text line)
-IsUnjudged r faults.Changed = (text : List ℕ) → r.first ≡ Some text → r.second ≡ Some text → ⊥
+IsUnjudged r faults.Changed =
+    (r.failed' ≡ r.failed) × (r.again' ≡ r.again) × ((text : List ℕ) → r.first ≡ Some text → r.second ≡ Some text → ⊥)
 IsUnjudged r faults.Unread = (r.failed < r.failed') ⊎ (r.again < r.again')
-IsUnjudged r faults.Memory = Unit {0}
+IsUnjudged r faults.Memory = (r.failed' ≡ r.failed) × (r.again' ≡ r.again)

@@ -39,15 +39,15 @@ RacesAs number p q text =
 abbrev pub IsBadAs : ℕ → ℕ → Text → Type 0
 IsBadAs number line text = ((number ≡ 301) × IsMalformedAt text line) ⊎ ((number ≡ 302) × IsTruncatedAt text line)
 
--- The reply to the trace in the file of this path: it has no race, or a first race, or its text isn't a trace's, and no read of it failed;
--- or it changed between two readings, or can't be read. `known` are the contents of the file, if they are known; `failed` and `failed'` are
--- the failed reads before and after.
+-- The reply to the trace in the file of this path: it has no race, or a first race, or its text isn't a trace's, or it changed between two
+-- readings, or there is no memory, and no read failed; or it can't be read. `known` are the contents of the file, if they are known; `failed`
+-- and `failed'` are the failed reads before and after.
 abbrev pub JudgeShows : Text → Option Text → Failures → Failures → Reply → Type 0
 JudgeShows path known failed failed' RaceFree = IsUnfailed failed failed' path × GivesText known (λ text. HasVerdict text verdicts.RaceFree)
 JudgeShows path known failed failed' (Refused number places) =
     IsUnfailed failed failed' path × (p : ℕ) × (q : ℕ) × (places ≡ lines_at p q) × GivesText known (λ text. RacesAs number p q text)
 JudgeShows path known failed failed' (BadTrace number at) = IsUnfailed failed failed' path × GivesText known (λ text. IsBadAs number at text)
-JudgeShows path known failed failed' (Changed name) = (name ≡ path) × (known ≡ None)
+JudgeShows path known failed failed' (Changed name) = (name ≡ path) × (known ≡ None) × IsUnfailed failed failed' path
 JudgeShows path known failed failed' (Unreadable name) = (name ≡ path) × HasFailed path failed failed'
-JudgeShows path known failed failed' NoMemory = Unit {0}
+JudgeShows path known failed failed' NoMemory = IsUnfailed failed failed' path
 JudgeShows path known failed failed' _ = ⊥

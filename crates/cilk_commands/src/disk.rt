@@ -98,6 +98,7 @@ impl<R: System> Disk<'_, R> {
     fn fault(&mut self, error: &io::Error) -> FileFault
         requires { self.old.failures < 18446744073709551615 }
         ensures device { result ≡ FileFault.Device → self.old.failures < self.new.failures }
+        ensures memory { result ≡ FileFault.Memory → self.new.failures ≡ self.old.failures }
         ensures risen { (self.new.failures ≡ self.old.failures) ⊎ (self.old.failures < self.new.failures) }
     {
         if error.kind() == ErrorKind::OutOfMemory {

@@ -47,12 +47,13 @@ pub trait Files {
     /// The contents of the file of a path, if they are known. No read changes them.
     ghost holds: { Self → List ℕ → Option (List ℕ) };
 
-    /// Reads the whole file of a path. A failure of the device is counted.
+    /// Reads the whole file of a path. A failure of the device is counted, and nothing else is.
     fn read(&mut self, alloc: Global, path: &str) -> Result<Vec<u8>, FileFault>
         requires { (failed self.old).count < 18446744073709551615 }
         ensures held { IfOk result (λ bytes. IsHeld (holds self.old path.now) bytes.items) }
         ensures counted { result ≡ Err FileFault.Device → (failed self.old).count < (failed self.new).count }
         ensures uncounted { OnOk result (failed self.new ≡ failed self.old) }
+        ensures unblamed { result ≡ Err FileFault.Memory → failed self.new ≡ failed self.old }
         ensures risen { StayOrRise (failed self.old) (failed self.new) }
         ensures elsewhere { (failed self.new).elsewhere path.now ≡ (failed self.old).elsewhere path.now }
         ensures same { (p : List ℕ) → holds self.new p ≡ holds self.old p };
@@ -61,7 +62,7 @@ pub trait Files {
     ///
     /// Returns how many bytes are now at the front of `into`. If `into` isn't empty, 0 means the
     /// end of the file. No byte past [`MAX_FILE`](crate::disk::MAX_FILE) is read. A failure of the
-    /// device is counted.
+    /// device is counted, and nothing else is.
     fn part(&mut self, path: &str, at: u64, into: &mut [u8]) -> Result<usize, FileFault>
         requires { (failed self.old).count < 18446744073709551615 }
         ensures within { IfOk result (λ n. n ≤ length into.old) }
@@ -70,6 +71,7 @@ pub trait Files {
         ensures last { IfOk result (λ n. n ≡ 0 → 0 < length into.old → EndsAt (holds self.old path.now) at) }
         ensures counted { result ≡ Err FileFault.Device → (failed self.old).count < (failed self.new).count }
         ensures uncounted { OnOk result (failed self.new ≡ failed self.old) }
+        ensures unblamed { result ≡ Err FileFault.Memory → failed self.new ≡ failed self.old }
         ensures risen { StayOrRise (failed self.old) (failed self.new) }
         ensures elsewhere { (failed self.new).elsewhere path.now ≡ (failed self.old).elsewhere path.now }
         ensures same { (p : List ℕ) → holds self.new p ≡ holds self.old p };

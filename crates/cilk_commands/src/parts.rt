@@ -60,6 +60,7 @@ impl<F: Files> Source for PartSource<'_, '_, F> {
             → IsAtEnd (option_map (drop self.new.at) (F.holds self.new.files.now self.new.path.now))) }
         ensures counted { result ≡ Err PullFault.Device → (F.failed self.old.files.now).count < (F.failed self.new.files.now).count }
         ensures uncounted { OnOk result ((F.failed self.new.files.now).count ≡ (F.failed self.old.files.now).count) }
+        ensures unblamed { result ≡ Err PullFault.Memory → (F.failed self.new.files.now).count ≡ (F.failed self.old.files.now).count }
         ensures risen { StayOrRise (F.failed self.old.files.now) (F.failed self.new.files.now) }
         ensures lender { self.new.files.ghost_name ≡ self.old.files.ghost_name }
         ensures kept { kept_of (F.failed self.new.files.now) self.new.path.now self.new.other.now (F.holds self.new.files.now self.new.other.now)

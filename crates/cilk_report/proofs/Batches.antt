@@ -68,17 +68,17 @@ module _ (form : Form) (files files' : Text → Option Text) (standard standard'
       Last w.now (texts ws) status s t (here (λ fs i. Fails form (world fs i s.failed t.failed) w.now input status s.out t.out s.err t.err) fails) top
 
 module _ (words : List Text) (files : Text → Option Text) (input : Option Text) (failed failed' : Failures) (status : ℕ) (told : Bool) (o e m : Option Text) where
-  pub unnamed : (f : Failure) → batch_in words ≡ None → WordsFail (failure_view f) → Told f status told e m
+  pub unnamed : (f : Failure) → batch_in words ≡ None → failed' ≡ failed → WordsFail (failure_view f) → Told f status told e m
       → Settles words files input failed failed' status o o e m
-  unnamed f none h shown =
+  unnamed f none same h shown =
       elim shown.1 [
-        | inl is ↦ NoPrograms (failure_view f) none h (complains shown.0 (failure_view f) status status told o e m m is shown.2 shown.3 (silence status m) refl)
-        | inr is ↦ NoRoom (complains shown.0 NoMemory status status told o e m m is shown.2 shown.3 (silence status m) refl)
+        | inl is ↦ NoPrograms (failure_view f) none same h (complains shown.0 (failure_view f) status status told o e m m is shown.2 shown.3 (silence status m) refl)
+        | inr is ↦ NoRoom same (complains shown.0 NoMemory status status told o e m m is shown.2 shown.3 (silence status m) refl)
       ]
 
-  pub starved : Told failures.Memory status told e m → Settles words files input failed failed' status o o e m
-  starved shown =
+  pub starved : failed' ≡ failed → Told failures.Memory status told e m → Settles words files input failed failed' status o o e m
+  starved same shown =
       elim shown.1 [
-        | inl is ↦ NoRoom (complains shown.0 NoMemory status status told o e m m is shown.2 shown.3 (silence status m) refl)
-        | inr is ↦ NoRoom (complains shown.0 NoMemory status status told o e m m is shown.2 shown.3 (silence status m) refl)
+        | inl is ↦ NoRoom same (complains shown.0 NoMemory status status told o e m m is shown.2 shown.3 (silence status m) refl)
+        | inr is ↦ NoRoom same (complains shown.0 NoMemory status status told o e m m is shown.2 shown.3 (silence status m) refl)
       ]

@@ -50,26 +50,23 @@ module _ (words : List Text) (files : Text → Option Text) (input : Option Text
       → measured_run words ≡ Some (p, i) → RunReply (world files input failed failed') p i (failure_view f) → Told f status told e m
       → Follows status' m e' → status' ≡ status → Measures words files input failed failed' status' o o e e'
   fails p i f status status' told o e m e' named h shown behind same =
+      Unmeasured p i (failure_view f) shown.0 named h (no_outcome f) shown.1
+      (complains shown.0 shown.0 status status' told o e m e' refl shown.2 shown.3 behind same)
+
+  pub starved : (status status' : ℕ) (told : Bool) (o e m e' : Option Text) → failed' ≡ failed → Told failures.Memory status told e m → Follows status' m e'
+      → status' ≡ status → Measures words files input failed failed' status' o o e e'
+  starved status status' told o e m e' none shown behind same =
       elim shown.1 [
-        | inl is ↦ Unmeasured p i (failure_view f) named h (no_outcome f)
-            (complains shown.0 (failure_view f) status status' told o e m e' is shown.2 shown.3 behind same)
-        | inr is ↦ OutOfMemory (complains shown.0 NoMemory status status' told o e m e' is shown.2 shown.3 behind same)
+        | inl is ↦ OutOfMemory none (complains shown.0 NoMemory status status' told o e m e' is shown.2 shown.3 behind same)
+        | inr is ↦ OutOfMemory none (complains shown.0 NoMemory status status' told o e m e' is shown.2 shown.3 behind same)
       ]
 
-  pub starved : (status status' : ℕ) (told : Bool) (o e m e' : Option Text) → Told failures.Memory status told e m → Follows status' m e' → status' ≡ status
-      → Measures words files input failed failed' status' o o e e'
-  starved status status' told o e m e' shown behind same =
+  pub unnamed : (f : Failure) (status status' : ℕ) (told : Bool) (o e m e' : Option Text) → measured_run words ≡ None → failed' ≡ failed
+      → WordsFail (failure_view f) → Told f status told e m → Follows status' m e' → status' ≡ status → Measures words files input failed failed' status' o o e e'
+  unnamed f status status' told o e m e' named none h shown behind same =
       elim shown.1 [
-        | inl is ↦ OutOfMemory (complains shown.0 NoMemory status status' told o e m e' is shown.2 shown.3 behind same)
-        | inr is ↦ OutOfMemory (complains shown.0 NoMemory status status' told o e m e' is shown.2 shown.3 behind same)
-      ]
-
-  pub unnamed : (f : Failure) (status status' : ℕ) (told : Bool) (o e m e' : Option Text) → measured_run words ≡ None → WordsFail (failure_view f)
-      → Told f status told e m → Follows status' m e' → status' ≡ status → Measures words files input failed failed' status' o o e e'
-  unnamed f status status' told o e m e' named h shown behind same =
-      elim shown.1 [
-        | inl is ↦ Unnamed (failure_view f) named h (complains shown.0 (failure_view f) status status' told o e m e' is shown.2 shown.3 behind same)
-        | inr is ↦ OutOfMemory (complains shown.0 NoMemory status status' told o e m e' is shown.2 shown.3 behind same)
+        | inl is ↦ Unnamed (failure_view f) named none h (complains shown.0 (failure_view f) status status' told o e m e' is shown.2 shown.3 behind same)
+        | inr is ↦ OutOfMemory none (complains shown.0 NoMemory status status' told o e m e' is shown.2 shown.3 behind same)
       ]
 
   pub undrawn : (p : Origin) (i : Option Text) (t : Totals) (f : Failure) (status status' : ℕ) (told : Bool) (o e m e' : Option Text)
@@ -78,7 +75,7 @@ module _ (words : List Text) (files : Text → Option Text) (input : Option Text
   undrawn p i t f status status' told o e m e' named totals drawn h shown behind same =
       elim shown.1 [
         | inl is ↦ Undrawn p i t (failure_view f) named totals drawn h (complains shown.0 (failure_view f) status status' told o e m e' is shown.2 shown.3 behind same)
-        | inr is ↦ OutOfMemory (complains shown.0 NoMemory status status' told o e m e' is shown.2 shown.3 behind same)
+        | inr is ↦ OutOfMemory totals.unfailed (complains shown.0 NoMemory status status' told o e m e' is shown.2 shown.3 behind same)
       ]
 
   -- nothing is shown of a run that ended
@@ -89,8 +86,8 @@ module _ (words : List Text) (files : Text → Option Text) (input : Option Text
       undrawn p i t f status status' told o e m e' named totals drawn h shown behind same
   unshown p i t (reasons.Fault fault) f status status' told o e m e' named totals drawn h shown behind same =
       elim shown.1 [
-        | inl is ↦ OutOfMemory (complains shown.0 NoMemory status status' told o e m e' (is ∙ h) shown.2 shown.3 behind same)
-        | inr is ↦ OutOfMemory (complains shown.0 NoMemory status status' told o e m e' is shown.2 shown.3 behind same)
+        | inl is ↦ OutOfMemory totals.unfailed (complains shown.0 NoMemory status status' told o e m e' (is ∙ h) shown.2 shown.3 behind same)
+        | inr is ↦ OutOfMemory totals.unfailed (complains shown.0 NoMemory status status' told o e m e' is shown.2 shown.3 behind same)
       ]
 
 -- a command line of `serve` isn't one that `serve` refuses

@@ -2,38 +2,50 @@
 --
 -- - `refused`: the command line isn't valid;
 -- - `asked_for`: the answer to an order is the answer to its words;
--- - `starved`, `starved_or_settled`: out of memory;
+-- - `starved`, `starved_or_settled`: out of memory, and no read failed; `unshown`: there is no memory to show a reply;
 -- - `other`, `yes`: whether an order is explained without `--explain`;
 -- - `silence`: nothing follows;
 -- - `unasked`: words with a usage error have no order;
 -- - `of_kept`: a call of `keep` changes nothing that is stated of the files;
 -- - `answered`, `complained`: an answer to an order, or a failure, is shown as `serve` shows it, and a text follows;
 -- - `silent`: a reply that no text follows.
-use Rattle.std.proofs.Common.{◌≡◌, ℕ, Bool, true, false, Option, Some, None, [], List, refl, sym, ap, subst, ◌∙◌, inl, inr}
+use Rattle.std.proofs.Common.{◌≡◌, ℕ, Bool, true, false, Option, None, [], List, refl, sym, ap, subst, ◌∙◌, inl, inr}
 use Rattle.cilk_report.specs.Explained.{Follows, IsReadAgain, Served, ServesExplained, ServesThenExplains, Settling}
 use Rattle.cilk_messages.specs.Asked.{explains_itself}
 use Rattle.std.specs.Io.KnownBytes.{Appends}
 use Rattle.cilk_commands.proofs.Replying.{fails, keeps, no_memory, still_silent}
 use Rattle.cilk_commands.specs.Files.{Failures}
-use Rattle.cilk_commands.specs.Replies.{NoMemory, Reply, Text, failure_view, status_of}
+use Rattle.cilk_commands.specs.Replies.{NoMemory, Reply, Text, failure_view, out_text, status_of}
 use Rattle.cilk_commands.specs.Serving.{Answers, IsOrNoMemory, Serves, Shows, ShowsError, Surroundings, WordsFail, world}
-use Rattle.cilk_messages.specs.Words.{Certify, Check, IsWordsFault, Judge, Play, Requested, Run, Settle, order_in}
+use Rattle.cilk_messages.specs.Words.{IsWordsFault, Requested, order_in}
 use Rattle.cilk_messages.specs.declared.words.WordsFault.{WordsFault}
 use Rattle.cilk_messages.specs.declared.words.WordsFault.TheVariants as faults
 use Rattle.cilk_commands.specs.declared.reply.Failure.{Failure}
 use Rattle.cilk_commands.specs.declared.reply.Failure.TheVariants as failures
 
 pub refused : (words : List Text) (w : Surroundings) (f : Failure) (status : ℕ) (told : Bool) (o e e' : Option Text)
-    → order_in words ≡ None → WordsFail (failure_view f)
+    → order_in words ≡ None → w.failed' ≡ w.failed → WordsFail (failure_view f)
     → (r : Reply) × IsOrNoMemory (failure_view f) r × (status ≡ status_of r) × ShowsError r told e e'
     → Serves words w status told o o e e'
-refused words w f status told o e e' order h shown =
-    fails words w f status told o e e' (subst (λ (a : Option Requested). Answers w a (failure_view f)) (sym order) h) shown
+refused words w f status told o e e' order none h shown =
+    fails words w f status told o e e' (subst (λ (a : Option Requested). Answers w a (failure_view f)) (sym order) (none, h)) shown
 
-pub starved : (words : List Text) (w : Surroundings) (status : ℕ) (told : Bool) (o e e' : Option Text)
+pub starved : (words : List Text) (w : Surroundings) (status : ℕ) (told : Bool) (o e e' : Option Text) → w.failed' ≡ w.failed
     → (r : Reply) × IsOrNoMemory (failure_view failures.Memory) r × (status ≡ status_of r) × ShowsError r told e e'
     → Serves words w status told o o e e'
-starved words w status told o e e' shown = fails words w failures.Memory status told o e e' (no_memory w (order_in words)) shown
+starved words w status told o e e' none shown = fails words w failures.Memory status told o e e' (no_memory w (order_in words) none) shown
+
+either_way : (wanted r : Reply) → IsOrNoMemory NoMemory r → IsOrNoMemory wanted r
+either_way wanted r (inl e) = inr e
+either_way wanted r (inr e) = inr e
+
+pub unshown : (words : List Text) (w : Surroundings) (wanted : Reply) (status : ℕ) (told : Bool) (o e e' : Option Text)
+    → Answers w (order_in words) wanted
+    → (r : Reply) × IsOrNoMemory (failure_view failures.Memory) r × (status ≡ status_of r) × ShowsError r told e e'
+    → Serves words w status told o o e e'
+unshown words w wanted status told o e e' h shown =
+    let out : Appends o o (out_text shown.0) = subst (λ (t : Text). Appends o o t) (sym (still_silent failures.Memory shown.0 shown.1)) (keeps o) in
+    (wanted, h, shown.0, either_way wanted shown.0 shown.1, inl (shown.2, out, shown.3))
 
 pub silence : (status : ℕ) (e : Option Text) → Follows status e e
 silence status e = (([], true, keeps e), λ _. refl)
@@ -44,10 +56,10 @@ pub silent : (words : List Text) (files : Text → Option Text) (input : Option 
 silent words files input failed failed' status told o o' e e' served = (e', told, failed', served, λ _. refl, silence status e')
 
 module _ (words : List Text) (files : Text → Option Text) (input : Option Text) (failed failed' : Failures) (status : ℕ) (told : Bool)
-    (o e e' : Option Text) (shown : (r : Reply) × IsOrNoMemory (failure_view failures.Memory) r × (status ≡ status_of r) × ShowsError r told e e') where
+    (o e e' : Option Text) (none : failed' ≡ failed) (shown : (r : Reply) × IsOrNoMemory (failure_view failures.Memory) r × (status ≡ status_of r) × ShowsError r told e e') where
   either : (b : Bool) → explains_itself (order_in words) ≡ b → ServesExplained words files input failed failed' status o o e e'
-  either true is = Settling is (silent words files input failed failed' status told o o e e' (starved words (world files input failed failed') status told o e e' shown))
-  either false is = Served told is (starved words (world files input failed failed') status told o e e' shown)
+  either true is = Settling is (silent words files input failed failed' status told o o e e' (starved words (world files input failed failed') status told o e e' none shown))
+  either false is = Served told is (starved words (world files input failed failed') status told o e e' none shown)
 
   pub starved_or_settled : ServesExplained words files input failed failed' status o o e e'
   starved_or_settled = either (explains_itself (order_in words)) refl
@@ -80,31 +92,10 @@ of_kept P files files' failed failed' unfailed same h =
 pub asked_for : (words : List Text) (w : Surroundings) (asked : Option Requested) (r : Reply) → order_in words ≡ asked → Answers w asked r → Answers w (order_in words) r
 asked_for words w asked r order h = subst (λ (a : Option Requested). Answers w a r) (sym order) h
 
-answers : (w : Surroundings) (asked : Option Requested) (wanted r : Reply) → IsOrNoMemory wanted r → Answers w asked wanted → Answers w asked r
-answers w asked wanted r (inl e) h = subst (λ (x : Reply). Answers w asked x) (sym e) h
-answers w asked wanted r (inr e) h = subst (λ (x : Reply). Answers w asked x) (sym e) (no_memory w asked)
-
--- A trace may be read again after a reply that is out of memory.
-again : (asked : Option Requested) (wanted r : Reply) (P : Type 0) → IsOrNoMemory wanted r → ((IsReadAgain asked wanted → ⊥) → P)
-    → (IsReadAgain asked r → ⊥) → P
-again asked wanted r P (inl e) h not = h (λ yes. not (subst (λ (x : Reply). IsReadAgain asked x) (sym e) yes))
-again asked wanted r P (inr e) h not = starving asked h (λ yes. not (subst (λ (x : Reply). IsReadAgain asked x) (sym e) yes))
-  where
-    starving : (asked : Option Requested) → ((IsReadAgain asked wanted → ⊥) → P) → (IsReadAgain asked NoMemory → ⊥) → P
-    starving None h not = h (λ x. x)
-    starving (Some (Run program numbers)) h not = h (λ x. x)
-    starving (Some (Certify program numbers)) h not = h (λ x. x)
-    starving (Some (Check program certificate numbers)) h not = h (λ x. x)
-    starving (Some (Play program script workers numbers)) h not = h (λ x. x)
-    starving (Some (Settle program numbers)) h not = h (λ x. x)
-    starving (Some (Judge trace sites)) h not = absurd (not tt)
-
 module _ (words : List Text) (files : Text → Option Text) (input : Option Text) (failed reached failed' : Failures) (asked : Option Requested)
     (order : order_in words ≡ asked) where
-  since : (wanted r : Reply) → IsOrNoMemory wanted r → ((IsReadAgain asked wanted → ⊥) → failed' ≡ reached)
-      → (IsReadAgain (order_in words) r → ⊥) → failed' ≡ reached
-  since wanted r either rest not =
-      again asked wanted r (failed' ≡ reached) either rest (λ yes. not (subst (λ (a : Option Requested). IsReadAgain a r) (sym order) yes))
+  since : (wanted : Reply) → ((IsReadAgain asked wanted → ⊥) → failed' ≡ reached) → (IsReadAgain (order_in words) wanted → ⊥) → failed' ≡ reached
+  since wanted rest not = rest (λ yes. not (subst (λ (a : Option Requested). IsReadAgain a wanted) (sym order) yes))
 
   pub answered : (wanted : Reply) (status status' : ℕ) (told : Bool) (o o' e e' e'' : Option Text)
       → Answers (world files input failed reached) asked wanted → (r : Reply) × IsOrNoMemory wanted r × Shows r status told o o' e e'
@@ -116,8 +107,8 @@ module _ (words : List Text) (files : Text → Option Text) (input : Option Text
         e',
         told,
         reached,
-        (shown.0, answers w (order_in words) wanted shown.0 shown.1 (asked_for words w asked wanted order h), shown.2),
-        since wanted shown.0 shown.1 rest,
+        (wanted, asked_for words w asked wanted order h, shown.0, shown.1, shown.2),
+        since wanted rest,
         subst (λ (s : ℕ). Follows s e' e'') same follows,
       )
 
@@ -133,10 +124,12 @@ module _ (words : List Text) (files : Text → Option Text) (input : Option Text
         told,
         reached,
         (
+          failure_view f,
+          asked_for words w asked (failure_view f) order h,
           shown.0,
-          answers w (order_in words) (failure_view f) shown.0 shown.1 (asked_for words w asked (failure_view f) order h),
+          shown.1,
           inl (shown.2, subst (λ (t : Text). Appends o o t) (sym (still_silent f shown.0 shown.1)) (keeps o), shown.3),
         ),
-        since (failure_view f) shown.0 shown.1 rest,
+        since (failure_view f) rest,
         subst (λ (s : ℕ). Follows s e' e'') same follows,
       )

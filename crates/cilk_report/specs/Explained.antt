@@ -7,7 +7,7 @@ use Rattle.cilk_findings.specs.declared.fault.CaseFault.TheVariants as faults
 use Rattle.cilk_profile.specs.declared.totals.Totals.{Totals}
 use Rattle.cilk_commands.specs.Files.{Failures}
 use Rattle.cilk_commands.specs.Replies.{BadTrace, Ended, NoMemory, Refused, Reply, Text, line, status_of}
-use Rattle.cilk_commands.specs.Serving.{Answers, RunReply, Serves, ShowsError, WordsFail, world}
+use Rattle.cilk_commands.specs.Serving.{Answers, IsOrNoMemory, RunReply, Serves, ShowsError, WordsFail, world}
 use Rattle.cilk_commands.specs.Streams.{AppendsFront, AppendsPart}
 use Rattle.cilk_commands.specs.declared.reply.TheConstants.{NO_MEMORY}
 use Rattle.cilk_parser.specs.Scripts.{IsScript}
@@ -29,11 +29,10 @@ abbrev pub IsTraceFault : Reply → Type 0
 IsTraceFault (BadTrace number at) = Unit {0}
 IsTraceFault _ = ⊥
 
--- a trace has a race or a fault, or memory ran out: its file may be read again for an explanation
+-- a trace has a race or a fault: its file may be read again for an explanation
 abbrev pub IsReadAgain : Option Requested → Reply → Type 0
 IsReadAgain (Some (Judge trace sites)) (Refused number places) = Unit {0}
 IsReadAgain (Some (Judge trace sites)) (BadTrace number at) = Unit {0}
-IsReadAgain (Some (Judge trace sites)) NoMemory = Unit {0}
 IsReadAgain _ _ = ⊥
 
 -- some text follows the old one, all of it or a beginning
@@ -62,7 +61,8 @@ WritesText text status out out' err err' =
     ⊎ ((status ≡ 2) × AppendsPart out out' text × ((told : Bool) × AppendsFront told err err' (line (codes "cannot write"))))
 
 -- The reply of `serve` to these words, then a text on standard error. `reached` are the failed reads of files up to the reply: no later
--- read fails, but for the text that follows `judge`, whose trace is read again.
+-- read fails, but for the text that follows `judge`, whose trace is read again. `served.0` is the reply, also where it isn't shown for
+-- want of memory.
 abbrev pub ServesThenExplains : List Text → (Text → Option Text) → Option Text → Failures → Failures → ℕ
     → Option Text → Option Text → Option Text → Option Text → Type 0
 ServesThenExplains words files input failed failed' status out out' err err' =
@@ -118,14 +118,14 @@ pub data Measures (words : List Text) (files : Text → Option Text) (input : Op
       → AreTotalsOf (world files input failed failed') program numbers t → is_drawn words ≡ true → WordsFail r → Complains r status out out' err err'
       → Measures words files input failed failed' status out out' err err'
   -- the texts aren't a program and its input, or the run stops: the reply is that of `run`
-  Unmeasured : (program : Origin) (numbers : Option Text) (r : Reply) → measured_run words ≡ Some (program, numbers)
-      → RunReply (world files input failed failed') program numbers r → IsNoOutcome r → Complains r status out out' err err'
+  Unmeasured : (program : Origin) (numbers : Option Text) (wanted r : Reply) → measured_run words ≡ Some (program, numbers)
+      → RunReply (world files input failed failed') program numbers wanted → IsNoOutcome wanted → IsOrNoMemory wanted r
+      → Complains r status out out' err err' → Measures words files input failed failed' status out out' err err'
+  -- the words don't name a run, and no read of a file failed
+  Unnamed : (r : Reply) → measured_run words ≡ None → failed' ≡ failed → WordsFail r → Complains r status out out' err err'
       → Measures words files input failed failed' status out out' err err'
-  -- the words don't name a run
-  Unnamed : (r : Reply) → measured_run words ≡ None → WordsFail r → Complains r status out out' err err'
-      → Measures words files input failed failed' status out out' err err'
-  -- out of memory
-  OutOfMemory : Complains NoMemory status out out' err err' → Measures words files input failed failed' status out out' err err'
+  -- out of memory, and no read of a file failed
+  OutOfMemory : failed' ≡ failed → Complains NoMemory status out out' err err' → Measures words files input failed failed' status out out' err err'
 
 -- The replies of `settle` for several programs, or in a short form.
 pub data Settles (words : List Text) (files : Text → Option Text) (input : Option Text) (failed failed' : Failures)
@@ -134,11 +134,11 @@ pub data Settles (words : List Text) (files : Text → Option Text) (input : Opt
   SettledEach : (b : Batch) → batch_in words ≡ Some b
       → SettlesEach b.form files input b.input b.programs (state 0 failed out err) (state status failed' out' err')
       → Settles words files input failed failed' status out out' err err'
-  -- the words don't name programs
-  NoPrograms : (r : Reply) → batch_in words ≡ None → WordsFail r → Complains r status out out' err err'
+  -- the words don't name programs, and no read of a file failed
+  NoPrograms : (r : Reply) → batch_in words ≡ None → failed' ≡ failed → WordsFail r → Complains r status out out' err err'
       → Settles words files input failed failed' status out out' err err'
-  -- out of memory
-  NoRoom : Complains NoMemory status out out' err err' → Settles words files input failed failed' status out out' err err'
+  -- out of memory, and no read of a file failed
+  NoRoom : failed' ≡ failed → Complains NoMemory status out out' err err' → Settles words files input failed failed' status out out' err err'
 
 -- the number of a determinacy race, or of a view-read race
 abbrev pub IsRaceNumber : ℕ → Type 0
@@ -198,6 +198,6 @@ pub data ServesExplained (words : List Text) (files : Text → Option Text) (inp
   -- the words aren't a command line of `serve` and settle several programs, or use a short form
   SettlingEach : order_in words ≡ None → is_settling words ≡ true → Settles words files input failed failed' status out out' err err'
       → ServesExplained words files input failed failed' status out out' err err'
-  -- the words are about the tool itself, and are answered
-  About : order_in words ≡ None → is_about words ≡ true → AnswersAbout words status out out' err err'
+  -- the words are about the tool itself, and are answered; no read of a file failed
+  About : order_in words ≡ None → is_about words ≡ true → failed' ≡ failed → AnswersAbout words status out out' err err'
       → ServesExplained words files input failed failed' status out out' err err'

@@ -50,10 +50,10 @@ pub record Shows (form : Form) (w : Surroundings) (program : Text) (input : Opti
   pub on_out : Appends out out' texts.0
   pub on_err : Appends err err' texts.1
 
--- the call ends at a program: there is no memory, or a write of its reply fails
+-- the call ends at a program: there is no memory for its reply, or a write of it fails
 pub data Fails (form : Form) (w : Surroundings) (program : Text) (input : Option Text) (status : ℕ) (out out' err err' : Option Text) : Type 0 where
-  OutOfMemory : (told : Bool) → status ≡ NO_MEMORY → out' ≡ out → ShowsError NoMemory told err err'
-      → Fails form w program input status out out' err err'
+  OutOfMemory : (wanted : Reply) (told : Bool) → SettleReply w program input wanted → status ≡ NO_MEMORY → out' ≡ out
+      → ShowsError NoMemory told err err' → Fails form w program input status out out' err err'
   Unwritten : (r : Reply) (text error : Text) (told : Bool) → SettleReply w program input r → IsShown form program r text error → status ≡ WRONG
       → AppendsPart out out' text → AppendsFront told err err' (line (codes "cannot write")) → Fails form w program input status out out' err err'
   Untold : (r : Reply) (text error : Text) → SettleReply w program input r → IsShown form program r text error → status ≡ status_of r

@@ -52,6 +52,7 @@ impl<F: Files> Files for KeptFiles<F> {
         ensures held { IfOk result (λ bytes. IsHeld (F.holds self.old.files path.now) bytes.items) }
         ensures counted { result ≡ Err FileFault.Device → (F.failed self.old.files).count < (F.failed self.new.files).count }
         ensures uncounted { OnOk result (F.failed self.new.files ≡ F.failed self.old.files) }
+        ensures unblamed { result ≡ Err FileFault.Memory → F.failed self.new.files ≡ F.failed self.old.files }
         ensures risen { StayOrRise (F.failed self.old.files) (F.failed self.new.files) }
         ensures elsewhere { (F.failed self.new.files).elsewhere path.now ≡ (F.failed self.old.files).elsewhere path.now }
         ensures same { (p : List ℕ) → F.holds self.new.files p ≡ F.holds self.old.files p }
@@ -78,6 +79,7 @@ impl<F: Files> Files for KeptFiles<F> {
         ensures last { IfOk result (λ n. n ≡ 0 → 0 < length into.old → EndsAt (F.holds self.old.files path.now) at) }
         ensures counted { result ≡ Err FileFault.Device → (F.failed self.old.files).count < (F.failed self.new.files).count }
         ensures uncounted { OnOk result (F.failed self.new.files ≡ F.failed self.old.files) }
+        ensures unblamed { result ≡ Err FileFault.Memory → F.failed self.new.files ≡ F.failed self.old.files }
         ensures risen { StayOrRise (F.failed self.old.files) (F.failed self.new.files) }
         ensures elsewhere { (F.failed self.new.files).elsewhere path.now ≡ (F.failed self.old.files).elsewhere path.now }
         ensures same { (p : List ℕ) → F.holds self.new.files p ≡ F.holds self.old.files p }

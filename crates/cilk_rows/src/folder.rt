@@ -57,6 +57,7 @@ impl<'a> Folder<'a> {
     /// Returns the text of a path.
     fn text(&mut self, path: &str) -> Result<&'a [u8], FileFault>
         requires { self.old.failures < 18446744073709551615 }
+        ensures device { IfErr result (λ fault. fault ≡ FileFault.Device) }
         ensures counted { IfErr result (λ _. self.old.failures < self.new.failures) }
         ensures uncounted { OnOk result (self.new.failures ≡ self.old.failures) }
     {

@@ -51,6 +51,7 @@ impl<'a> Folder<'a> {
         requires { self.old.failures < 18446744073709551615 }
         ensures held { IfOk result (λ t. held_in self.old path.now ≡ Some t.now) }
         ensures small { IfOk result (λ t. length t.now ≤ MAX_FILE) }
+        ensures device { IfErr result (λ fault. fault ≡ FileFault.Device) }
         ensures counted { IfErr result (λ _. self.old.failures < self.new.failures) }
         ensures uncounted { OnOk result (self.new.failures ≡ self.old.failures) }
         ensures same { (p : List ℕ) → held_in self.new p ≡ held_in self.old p }

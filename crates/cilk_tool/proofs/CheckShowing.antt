@@ -1,7 +1,7 @@
 -- The reply to a command line of `check` with helpers.
 --
 -- - `answered`: the answer to an order; `no_words`: words without an order;
--- - `fails`, `ends`: a failure, or an answer, is served; `starved`: out of memory;
+-- - `fails`, `ends`: a failure, or an answer, is served; `starved`: out of memory, and no read failed;
 -- - `told_status`: the status is that of what was shown;
 -- - `asked`: words with an order aren't words without one;
 -- - `unasked`: words with a usage error have no order.
@@ -20,20 +20,16 @@ use Rattle.cilk_commands.proofs.Replying.{keeps, no_memory, still_silent}
 use Rattle.cilk_messages.specs.CheckWords.{Helped, IsWordsFault, check_in}
 use Rattle.cilk_tool.specs.Helped.{Answers, ServesHelped}
 
-starving : (w : Surroundings) (asked : Option Helped) → Answers w asked NoMemory
-starving w None = tt
-starving w (Some asked) = no_memory w (Some asked.check)
-
-or_starving : (w : Surroundings) (asked : Option Helped) (wanted r : Reply) → Answers w asked wanted → IsOrNoMemory wanted r → Answers w asked r
-or_starving w asked wanted r h (inl e) = subst (λ (x : Reply). Answers w asked x) (sym e) h
-or_starving w asked wanted r h (inr e) = subst (λ (x : Reply). Answers w asked x) (sym e) (starving w asked)
+starving : (w : Surroundings) (asked : Option Helped) → w.failed' ≡ w.failed → Answers w asked NoMemory
+starving w None none = (none, tt)
+starving w (Some asked) none = no_memory w (Some asked.check) none
 
 pub answered : (words : List Text) (w : Surroundings) (asked : Option Helped) (r : Reply) → check_in words ≡ asked → Answers w asked r
     → Answers w (check_in words) r
 answered words w asked r e h = subst (λ (x : Option Helped). Answers w x r) (sym e) h
 
-pub no_words : (words : List Text) (w : Surroundings) (r : Reply) → check_in words ≡ None → WordsFail r → Answers w (check_in words) r
-no_words words w r e h = answered words w None r e h
+pub no_words : (words : List Text) (w : Surroundings) (r : Reply) → check_in words ≡ None → w.failed' ≡ w.failed → WordsFail r → Answers w (check_in words) r
+no_words words w r e none h = answered words w None r e (none, h)
 
 module _ (words : List Text) (w : Surroundings) (status : ℕ) (told : Bool) where
   pub fails : (f : Failure) (o e e' : Option Text) → Answers w (check_in words) (failure_view f)
@@ -41,15 +37,15 @@ module _ (words : List Text) (w : Surroundings) (status : ℕ) (told : Bool) whe
   fails f o e e' h shown =
       let r = shown.0 in
       let out : Appends o o (out_text r) = subst (λ (t : Text). Appends o o t) (sym (still_silent f r shown.1)) (keeps o) in
-      (r, or_starving w (check_in words) (failure_view f) r h shown.1, inl (shown.2, out, shown.3))
+      (failure_view f, h, r, shown.1, inl (shown.2, out, shown.3))
 
-  pub starved : (o e e' : Option Text)
+  pub starved : (o e e' : Option Text) → w.failed' ≡ w.failed
       → (r : Reply) × IsOrNoMemory (failure_view failures.Memory) r × (status ≡ status_of r) × ShowsError r told e e' → ServesHelped words w status told o o e e'
-  starved o e e' shown = fails failures.Memory o e e' (starving w (check_in words)) shown
+  starved o e e' none shown = fails failures.Memory o e e' (starving w (check_in words) none) shown
 
   pub ends : (wanted : Reply) (o o' e e' : Option Text) → Answers w (check_in words) wanted
       → (r : Reply) × IsOrNoMemory wanted r × Shows r status told o o' e e' → ServesHelped words w status told o o' e e'
-  ends wanted o o' e e' h shown = (shown.0, or_starving w (check_in words) wanted shown.0 h shown.1, shown.2)
+  ends wanted o o' e e' h shown = (wanted, h, shown.0, shown.1, shown.2)
 
 -- the status is that of what was shown
 pub told_status : (words : List Text) (w : Surroundings) (status status' : ℕ) (told : Bool) (o o' e e' : Option Text)

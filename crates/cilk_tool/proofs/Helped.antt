@@ -3,8 +3,8 @@
 -- - `certified_held`, `refused_held`: the text that was read is certified, or refused: so are the
 --   contents of its file, as far as they are known;
 -- - `refused_text`: the same, by the answer of a check;
--- - `none_failed`: the failed reads are the same.
-use Rattle.std.proofs.Common.{◌≡◌, ℕ, List, Option, Some, None, ap, subst, ◌∙◌}
+-- - `unread_file`: the file isn't read.
+use Rattle.std.proofs.Common.{◌≡◌, ℕ, List, Option, Some, None, subst, ◌∙◌}
 use Rattle.std.specs.Prelude.{ℤ}
 use Rattle.cilk_cert_text.specs.Certificates.{Contents}
 use Rattle.cilk_cert_text.specs.declared.fault.CertFault.{CertFault}
@@ -17,8 +17,12 @@ use Rattle.cilk_checker.specs.declared.refusal.Unaccepted.{Unaccepted}
 use Rattle.cilk_checker.specs.declared.refusal.Unaccepted.TheVariants as unaccepted
 use Rattle.cilk_types.specs.declared.event.Event.{Event}
 use Rattle.cilk_types.specs.declared.outcome.Outcome.{Outcome}
-use Rattle.cilk_commands.specs.Files.{Failures, IsHeld, IsUnfailed}
-use Rattle.cilk_commands.specs.Replies.{Text}
+use Rattle.cilk_checker.specs.Judging.{Meant}
+use Rattle.cilk_commands.specs.Files.{Failures, IsHeld}
+use Rattle.cilk_commands.specs.Replies.{NoMemory, Reply, Text, Unreadable}
+use Rattle.cilk_commands.specs.Serving.{FileFails}
+use Rattle.cilk_commands.specs.Shown.{CheckShows}
+use Rattle.cilk_commands.proofs.Replying.{none_failed}
 
 -- what the text gives, the known contents give
 gives_held : (known : Option Text) (text given : Text) → IsHeld known text → Gives (Some text) given → Gives known given
@@ -56,5 +60,8 @@ refused_text p inputs known text rest n m u r held same is h =
     refused_held p inputs known text r held
     (subst (λ (x : Unaccepted). IsUnaccepted p inputs (Some text) n m x) is (subst (λ (t : Text). IsUnaccepted p inputs (Some t) n m u) same h))
 
-pub none_failed : (failed failed' : Failures) (path : Text) → failed' ≡ failed → IsUnfailed failed failed' path
-none_failed failed failed' path e = record { count = ap (λ (f : Failures). f.count) e; elsewhere = ap (λ (f : Failures). f.elsewhere path) e }
+pub unread_file : (path : Text) (known : Option Text) (failed failed' : Failures) (m : Meant) (inputs : List ℤ) (r : Reply) → FileFails failed failed' path r
+    → CheckShows path known failed failed' m inputs r
+unread_file path known failed failed' m inputs (Unreadable name) h = h
+unread_file path known failed failed' m inputs NoMemory h = none_failed failed failed' path h
+unread_file path known failed failed' m inputs _ h = absurd h

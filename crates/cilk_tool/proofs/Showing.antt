@@ -1,7 +1,7 @@
 -- The reply to `threads`.
 --
 -- - `answered`: the answer to an order; `no_words`: words without an order;
--- - `fails`, `ends`: a failure, or an ending, is served; `starved`: out of memory;
+-- - `fails`, `ends`: a failure, or an ending, is served; `starved`: out of memory, and no read failed;
 -- - `told_status`: the status is that of what was shown;
 -- - `asked`: words with an order aren't words without one;
 -- - `unasked`: words with a usage error have no order;
@@ -22,20 +22,16 @@ use Rattle.cilk_commands.proofs.Replying.{keeps, still_silent}
 use Rattle.cilk_tool.specs.Serving.{Answers, ServesThreads}
 use Rattle.cilk_messages.specs.ThreadsWords.{IsWordsFault, Requested, order_in}
 
-no_memory : (w : Surroundings) (asked : Option Requested) → Answers w asked NoMemory
-no_memory w None = tt
-no_memory w (Some asked) = Unjudged (ProgramUnread tt)
-
-or_no_memory : (w : Surroundings) (asked : Option Requested) (wanted r : Reply) → Answers w asked wanted → IsOrNoMemory wanted r → Answers w asked r
-or_no_memory w asked wanted r h (inl e) = subst (λ (x : Reply). Answers w asked x) (sym e) h
-or_no_memory w asked wanted r h (inr e) = subst (λ (x : Reply). Answers w asked x) (sym e) (no_memory w asked)
+no_memory : (w : Surroundings) (asked : Option Requested) → w.failed' ≡ w.failed → Answers w asked NoMemory
+no_memory w None none = (none, tt)
+no_memory w (Some asked) none = Unjudged (ProgramUnread none)
 
 pub answered : (words : List Text) (w : Surroundings) (asked : Option Requested) (r : Reply) → order_in words ≡ asked → Answers w asked r
     → Answers w (order_in words) r
 answered words w asked r e h = subst (λ (x : Option Requested). Answers w x r) (sym e) h
 
-pub no_words : (words : List Text) (w : Surroundings) (r : Reply) → order_in words ≡ None → WordsFail r → Answers w (order_in words) r
-no_words words w r e h = answered words w None r e h
+pub no_words : (words : List Text) (w : Surroundings) (r : Reply) → order_in words ≡ None → w.failed' ≡ w.failed → WordsFail r → Answers w (order_in words) r
+no_words words w r e none h = answered words w None r e (none, h)
 
 module _ (words : List Text) (w : Surroundings) (status : ℕ) (told : Bool) where
   pub fails : (f : Failure) (o e e' : Option Text) → Answers w (order_in words) (failure_view f)
@@ -43,15 +39,15 @@ module _ (words : List Text) (w : Surroundings) (status : ℕ) (told : Bool) whe
   fails f o e e' h shown =
       let r = shown.0 in
       let out : Appends o o (out_text r) = subst (λ (t : Text). Appends o o t) (sym (still_silent f r shown.1)) (keeps o) in
-      (r, or_no_memory w (order_in words) (failure_view f) r h shown.1, inl (shown.2, out, shown.3))
+      (failure_view f, h, r, shown.1, inl (shown.2, out, shown.3))
 
-  pub starved : (o e e' : Option Text)
+  pub starved : (o e e' : Option Text) → w.failed' ≡ w.failed
       → (r : Reply) × IsOrNoMemory (failure_view failures.Memory) r × (status ≡ status_of r) × ShowsError r told e e' → ServesThreads words w status told o o e e'
-  starved o e e' shown = fails failures.Memory o e e' (no_memory w (order_in words)) shown
+  starved o e e' none shown = fails failures.Memory o e e' (no_memory w (order_in words) none) shown
 
   pub ends : (wanted : Reply) (o o' e e' : Option Text) → Answers w (order_in words) wanted
       → (r : Reply) × IsOrNoMemory wanted r × Shows r status told o o' e e' → ServesThreads words w status told o o' e e'
-  ends wanted o o' e e' h shown = (shown.0, or_no_memory w (order_in words) wanted shown.0 h shown.1, shown.2)
+  ends wanted o o' e e' h shown = (wanted, h, shown.0, shown.1, shown.2)
 
 -- the status is that of what was shown
 pub told_status : (words : List Text) (w : Surroundings) (status status' : ℕ) (told : Bool) (o o' e e' : Option Text)

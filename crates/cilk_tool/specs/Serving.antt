@@ -7,7 +7,7 @@ use Rattle.cilk_messages.specs.About.{is_about}
 use Rattle.cilk_messages.specs.Batches.{is_settling}
 use Rattle.cilk_commands.specs.Files.{Failures}
 use Rattle.cilk_commands.specs.Replies.{Reply, Text}
-use Rattle.cilk_commands.specs.Serving.{JudgedReply, Shows, Surroundings, WordsFail, world}
+use Rattle.cilk_commands.specs.Serving.{IsOrNoMemory, JudgedReply, Shows, Surroundings, WordsFail, world}
 use Rattle.cilk_messages.specs.Words as tool
 use Rattle.cilk_messages.specs.Words.{File}
 use Rattle.cilk_messages.specs.CheckWords.{check_in, is_helped}
@@ -20,14 +20,15 @@ abbrev pub is_threads : List Text → Bool
 is_threads [] = false
 is_threads (w ∷ words) = bytes_eq w (codes "threads") && not (is_help words)
 
--- the answer to an order of `threads`
+-- the answer to an order of `threads`; for words that are none no file is read
 abbrev pub Answers : Surroundings → Option Requested → Reply → Type 0
-Answers w None r = WordsFail r
+Answers w None r = (w.failed' ≡ w.failed) × WordsFail r
 Answers w (Some asked) r = JudgedReply (ThreadsShow w.files w.failed w.failed' asked) w (File asked.program) asked.input r
 
--- the words of `threads` are answered, and the answer is shown
+-- the words of `threads` are answered, and the answer is shown, or it is out of memory
 abbrev pub ServesThreads : List Text → Surroundings → ℕ → (is_whole : Bool) → Option Text → Option Text → Option Text → Option Text → Type 0
-ServesThreads words w status is_whole out out' err err' = (r : Reply) × Answers w (order_in words) r × Shows r status is_whole out out' err err'
+ServesThreads words w status is_whole out out' err err' =
+    (wanted : Reply) × Answers w (order_in words) wanted × (r : Reply) × IsOrNoMemory wanted r × Shows r status is_whole out out' err err'
 
 -- the same, and a text on standard error after it
 abbrev pub ThreadsThenExplains : List Text → (Text → Option Text) → Option Text → Failures → Failures → ℕ

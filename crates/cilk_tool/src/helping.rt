@@ -25,6 +25,7 @@ use std::alloc::Global;
 use std::thread::Threads;
 
 /// Checks a certificate's file by `helpers` helpers, or by the most that are allowed.
+#[tactic(auto, using(cilk_commands::proofs::Replying::none_failed))]
 fn checked<'a, H: Threads + Sync, F: Files>(
     rt: &H,
     alloc: Global,

@@ -5,7 +5,6 @@ use Rattle.cilk_program.specs.Sources.{source}
 use Rattle.cilk_tree.specs.Shape.{Spells}
 use Rattle.cilk_checker.proofs.Checked.{certified, code_at, frames_at, ran_at, refused_before, run_creates, run_spelled, stops_at}
 use Rattle.cilk_checker.proofs.Taking.{until_before}
-use Rattle.cilk_checker.proofs.Uncounted.{by_refusal}
 use Rattle.cilk_checker.proofs.check.check_end.Goals as goal
 
 pub returns-in_err-refusal-in-Stopped-clause-unaccepted : goal.returns-in_err-refusal-in-Stopped-clause-unaccepted
@@ -95,8 +94,7 @@ returns-in_err-refusal-in-Stopped-clause-unfailed g c =
     rw (q.1, q.2) c.in_err-refusal-in-Stopped.ensures.unfailed
 
 pub returns-in_ok-refusal-in-Stopped-clause-unfailed : goal.returns-in_ok-refusal-in-Stopped-clause-unfailed
-returns-in_ok-refusal-in-Stopped-clause-unfailed g c =
-    by_refusal (g.S.Source.failed c.args.source.now) (g.S.Source.failed c.stopped.new.source) c.in_ok-refusal-in-Stopped.refusal c.in_ok-refusal-in-Stopped.ensures.uncounted
+returns-in_ok-refusal-in-Stopped-clause-unfailed g c = c.in_ok-refusal-in-Stopped.ensures.uncounted
 
 pub returns-in_err-ended-in-Left-clause-unfailed : goal.returns-in_err-ended-in-Left-clause-unfailed
 returns-in_err-ended-in-Left-clause-unfailed g c =

@@ -1,7 +1,6 @@
 use Rattle.std.proofs.lemmas.Result.{err_from_is_err_and}
 use Rattle.cilk_checker.proofs.Checked.{refused_at_end, told_true, with_holds}
 use Rattle.cilk_checker.proofs.Taking.{until_found}
-use Rattle.cilk_checker.proofs.Uncounted.{by_refusal}
 use Rattle.cilk_checker.proofs.compare.ended.Goals as goal
 
 pub returns-clause-clean : goal.returns-clause-clean
@@ -31,8 +30,12 @@ returns-in_err-tally-clause-part g c =
     rw (q.1, q.2) (λ s columns created. c.in_err-tally.ensures.part)
 
 pub returns-in-Some-clause-unfailed : goal.returns-in-Some-clause-unfailed
-returns-in-Some-clause-unfailed g c =
-    by_refusal (g.S.Source.failed c.args.source.now) (g.S.Source.failed c.heard.new.source) c.in-Some.refusal c.in_ok-tally.ensures.uncounted
+returns-in-Some-clause-unfailed g c = c.in_ok-tally.ensures.uncounted
+
+pub returns-in_err-refusal-clause-unfailed : goal.returns-in_err-refusal-clause-unfailed
+returns-in_err-refusal-clause-unfailed g c =
+    let q = err_from_is_err_and c.from_residual-in_err-refusal.result c.from_residual-in_err-refusal.ensures.1 in
+    rw (q.1, q.2) c.in_ok-tally.ensures.uncounted
 
 pub returns-in_err-tally-clause-unfailed : goal.returns-in_err-tally-clause-unfailed
 returns-in_err-tally-clause-unfailed g c =

@@ -5,7 +5,6 @@ use Rattle.cilk_checker.specs.Judging.{meant}
 use Rattle.cilk_checker.proofs.Judged.{certified_kept, not_of_texts, texts_kept, true_answer}
 use Rattle.cilk_checker.proofs.OneVerdict.{one_by, only_by}
 use Rattle.cilk_checker.proofs.Taking.{until_judged}
-use Rattle.cilk_checker.proofs.Uncounted.{by_refusal}
 use Rattle.cilk_checker.proofs.texts.check_from.Goals as goal
 
 pub returns-in_err-meant-clause-unaccepted : goal.returns-in_err-meant-clause-unaccepted
@@ -106,9 +105,9 @@ returns-clause-part g c = IfErr-weaker c.check_run.result _ _ (λ e h other. h) 
 pub returns-in_err-meant-clause-unfailed : goal.returns-in_err-meant-clause-unfailed
 returns-in_err-meant-clause-unfailed g c =
     let q = err_from_is_err_and c.from_residual.result c.from_residual.ensures.1 in
-    rw (q.1, q.2) (by_refusal _ _ c.in_err-meant.field-0.0 refl)
+    rw (q.1, q.2) refl
 
 pub returns-in_err-numbers-clause-unfailed : goal.returns-in_err-numbers-clause-unfailed
 returns-in_err-numbers-clause-unfailed g c =
     let q = err_from_is_err_and c.from_residual-in_err-numbers.result c.from_residual-in_err-numbers.ensures.1 in
-    rw (q.1, q.2) (by_refusal _ _ c.in_err-numbers.field-0.0 refl)
+    rw (q.1, q.2) refl

@@ -26,6 +26,8 @@ returns-in-Err-clause-failure g c =
     unjudged_shown c.args.path.now (g.F.Files.holds c.args.files.now c.args.path.now) _ _ (λ files. g.F.Files.failed files) c.args.files.now _ _ _ first.0
     c.in-Err.fault _
     (ap₂ (λ files path. g.F.Files.holds files path) made.files made.path) made.at c.unjudged.ensures first.1
+    (λ same. let kept = stays (λ files. g.F.Files.failed files) (λ files. g.F.Files.holds files) c.args.files.now c.new-source.result.files.now c.judge_text.new.source.files.now _
+    _ _ _ _ c.args.path.now c.args.path.now made.files made.path made.other c.judge_text.ensures.kept (search rules) same in kept.0)
     (fails (λ files. g.F.Files.failed files) (λ files. g.F.Files.holds files) c.args.files.now c.new-source.result.files.now c.judge_text.new.source.files.now _
     _ _ _ _ c.args.path.now c.args.path.now made.files made.path made.other c.judge_text.ensures.kept (search rules))
     (c.in-Err.ensures.fault first.0 first.2)

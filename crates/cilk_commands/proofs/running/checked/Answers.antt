@@ -11,16 +11,20 @@ returns-in-Err-Refusal-clause-answer g c =
     let made = c.new-source.ensures in
     refused_ok c.refused.result c.args.path.now (g.F.Files.holds c.args.files.now c.args.path.now) (λ files. g.F.Files.failed files) c.args.files.now _
     (meant c.args.program) c.args.input c.in-Err-Refusal.refusal c.refused.ensures.answer
-    (λ other. (stays (λ files. g.F.Files.failed files) (λ files. g.F.Files.holds files) c.args.files.now c.new-source.result.files.now c.check_run.new.source.files.now _
+    (stays (λ files. g.F.Files.failed files) (λ files. g.F.Files.holds files) c.args.files.now c.new-source.result.files.now c.check_run.new.source.files.now _
     _ _ _ _ c.args.path.now c.args.path.now made.files made.path made.other c.check_run.ensures.kept (search rules)
-    (refused_by _ _ c.in-Err-Refusal.field-0 c.in-Err-Refusal.refusal (search rules) c.in-Err-Refusal.ensures.unfailed other)).0)
+    (refused_by _ _ c.in-Err-Refusal.field-0 c.in-Err-Refusal.refusal (search rules) c.in-Err-Refusal.ensures.unfailed)).0
     (refused_whole _ _ _ _ _ _ _ c.in-Err-Refusal.field-0 _ (ap₂ (λ files path. g.F.Files.holds files path) made.files made.path)
     made.at (search rules) c.in-Err-Refusal.ensures.unaccepted)
 
 pub returns-in-Err-Refusal-clause-failure : goal.returns-in-Err-Refusal-clause-failure
 returns-in-Err-Refusal-clause-failure g c =
+    let made = c.new-source.ensures in
     refused_err c.refused.result c.args.path.now (g.F.Files.holds c.args.files.now c.args.path.now) (λ files. g.F.Files.failed files) c.args.files.now _
     (meant c.args.program) c.args.input c.refused.ensures.failure
+    (stays (λ files. g.F.Files.failed files) (λ files. g.F.Files.holds files) c.args.files.now c.new-source.result.files.now c.check_run.new.source.files.now _
+    _ _ _ _ c.args.path.now c.args.path.now made.files made.path made.other c.check_run.ensures.kept (search rules)
+    (refused_by _ _ c.in-Err-Refusal.field-0 c.in-Err-Refusal.refusal (search rules) c.in-Err-Refusal.ensures.unfailed)).0
 
 pub returns-in-Ok-clause-answer : goal.returns-in-Ok-clause-answer
 returns-in-Ok-clause-answer g c =

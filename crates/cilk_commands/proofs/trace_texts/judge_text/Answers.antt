@@ -1,4 +1,4 @@
-use Rattle.std.proofs.Common.{ℕ, [], ◌∷◌, ◌++◌, List, Option, subst, refl, sym}
+use Rattle.std.proofs.Common.{ℕ, [], ◌∷◌, ◌++◌, ◌∙◌, List, Option, subst, refl, sym}
 use Rattle.std.specs.Prelude.{IfNone, IfSome}
 use Rattle.std.proofs.lemmas.Result.{err_from_is_err_and}
 use Rattle.cilk_trace.specs.declared.line.Line.{Line}
@@ -31,10 +31,12 @@ returns-in-Changed-clause-fault g c = λ first s.
     let left = g.S.Source.remaining c.next_again.new.source in
     let line = c.in-Some.found.line in
     let n = subst (λ (o : Option Found). IfSome o (λ f. IsReading known left (i.0 ++ f.line ∷ []) c.next_again.new.pieces)) c.in-Some.is
-    (c.in_ok-found.ensures.line known i.0 i.1) in
-    again_line known left first s.lines i.0 line c.next_again.new.pieces s.spells n
-    (λ more e. c.in_ok-meet.ensures.changed c.in-Changed.is i.0 more i.2
-    (subst (λ (l : List Line). IsKnownOf l c.lines.judge.known.now) e (subst (λ (k : Known). IsKnownOf s.lines k) (sym i.3) s.known)))
+    (c.in_ok-found.ensures.line known i.0 i.1) in (
+      c.in_ok-found.ensures.uncounted ∙ i.4,
+      again_line known left first s.lines i.0 line c.next_again.new.pieces s.spells n
+          (λ more e. c.in_ok-meet.ensures.changed c.in-Changed.is i.0 more i.2
+          (subst (λ (l : List Line). IsKnownOf l c.lines.judge.known.now) e (subst (λ (k : Known). IsKnownOf s.lines k) (sym i.3) s.known))),
+    )
 
 pub returns-in-Ok-clause-verdict : goal.returns-in-Ok-clause-verdict
 returns-in-Ok-clause-verdict g c = λ first s.
@@ -54,6 +56,13 @@ pub returns-clause-fault : goal.returns-clause-fault
 returns-clause-fault g c = λ first s.
     let i = c.lines.invariant in
     let known = g.S.Source.remaining c.args.source.now in
-    let w = subst (λ (o : Option Found). IfNone o (GivesText known (λ text. IsTraceText text i.0))) c.in_default.is (c.in_ok-found.ensures.whole known i.0 i.1) in
-    again_whole known first s.lines i.0 s.spells w
-    (λ e. c.in-Err.ensures.changed i.0 i.2 (subst (λ (l : List Line). IsKnownOf l c.lines.judge.known.now) e (subst (λ (k : Known). IsKnownOf s.lines k) (sym i.3) s.known)))
+    let w = subst (λ (o : Option Found). IfNone o (GivesText known (λ text. IsTraceText text i.0))) c.in_default.is (c.in_ok-found.ensures.whole known i.0 i.1) in (
+      c.in_ok-found.ensures.uncounted ∙ i.4,
+      again_whole known first s.lines i.0 s.spells w
+          (λ e. c.in-Err.ensures.changed i.0 i.2 (subst (λ (l : List Line). IsKnownOf l c.lines.judge.known.now) e (subst (λ (k : Known). IsKnownOf s.lines k) (sym i.3) s.known))),
+    )
+
+pub returns-in_err-meet-clause-fault : goal.returns-in_err-meet-clause-fault
+returns-in_err-meet-clause-fault g c = λ first s.
+    let p = err_from_is_err_and c.from_residual-in_err-meet.result c.from_residual-in_err-meet.ensures.1 in
+    rw (p.1, p.2) (c.in_ok-found.ensures.uncounted ∙ c.lines.invariant.4)

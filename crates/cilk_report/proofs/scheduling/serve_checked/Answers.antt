@@ -1,5 +1,5 @@
 use Rattle.std.proofs.Common.{Some, refl, subst, sym}
-use Rattle.cilk_report.proofs.Replies.{IsUsage, answered, asked_for, complained, refused, silent, starved, unasked}
+use Rattle.cilk_report.proofs.Replies.{IsUsage, answered, asked_for, complained, refused, silent, starved, unasked, unshown}
 use Rattle.std.specs.String.{string_bytes}
 use Rattle.cilk_report.specs.Explained.{Checked, IsRace, IsStealingScript, Told}
 use Rattle.cilk_commands.specs.Replies.{answer_view}
@@ -27,7 +27,8 @@ returns-in-Ok-None-clause-shown g c =
 
 pub returns-in-Ok-carry_out-clause-shown : goal.returns-in-Ok-carry_out-clause-shown
 returns-in-Ok-carry_out-clause-shown g c =
-    Checked (silent _ _ _ _ _ _ c.complain.result.told _ _ _ _ (starved _ _ _ _ _ _ _ c.complain.ensures))
+    Checked (silent _ _ _ _ _ _ c.complain.result.told _ _ _ _ (unshown _ _ (answer_view c.in-Ok-carry_out.answer) _ _ _ _ _
+    (asked_for _ _ _ _ c.in-Ok.ensures.order c.in-Ok-carry_out.ensures.answer) c.complain.ensures))
 
 pub returns-in-Ok-clause-shown : goal.returns-in-Ok-clause-shown
 returns-in-Ok-clause-shown g c =
@@ -39,8 +40,8 @@ pub returns-in-Err-Usage-clause-shown : goal.returns-in-Err-Usage-clause-shown
 returns-in-Err-Usage-clause-shown g c =
     Checked (silent _ _ _ _ _ _ c.complain-in-Err-Usage.result.told _ _ _ _ (refused _ _ c.wrong_words.result _ _ _ _ _
     (unasked _ _ (subst (λ (e : WordsFault). IsUsage e) (sym c.in-Err-Usage.field-0-is) tt) c.in-Err-Usage.ensures.fault)
-    c.wrong_words.ensures c.complain-in-Err-Usage.ensures))
+    refl c.wrong_words.ensures c.complain-in-Err-Usage.ensures))
 
 pub returns-clause-shown : goal.returns-clause-shown
 returns-clause-shown g c =
-    Checked (silent _ _ _ _ _ _ c.complain-in-Err-Memory.result.told _ _ _ _ (starved _ _ _ _ _ _ _ c.complain-in-Err-Memory.ensures))
+    Checked (silent _ _ _ _ _ _ c.complain-in-Err-Memory.result.told _ _ _ _ (starved _ _ _ _ _ _ _ refl c.complain-in-Err-Memory.ensures))

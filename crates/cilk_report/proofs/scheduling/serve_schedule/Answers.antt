@@ -1,4 +1,4 @@
-use Rattle.std.proofs.Common.{List, ap, subst, sym, ◌∙◌}
+use Rattle.std.proofs.Common.{List, ap, refl, subst, sym, ◌∙◌}
 use Rattle.cilk_report.proofs.Replies.{silent, starved}
 use Rattle.cilk_report.proofs.Standard.{some_check, some_words}
 use Rattle.cilk_report.specs.Explained.{Checked, Schedules}
@@ -14,7 +14,7 @@ returns-in-Ok-clause-shown g c =
 
 pub returns-in-Err-clause-shown : goal.returns-in-Err-clause-shown
 returns-in-Err-clause-shown g c =
-    Checked (silent _ _ _ _ _ _ c.complain.result.told _ _ _ _ (starved _ _ _ _ _ _ _ c.complain.ensures))
+    Checked (silent _ _ _ _ _ _ c.complain.result.told _ _ _ _ (starved _ _ _ _ _ _ _ refl c.complain.ensures))
 
 pub returns-in-Ok-clause-untouched : goal.returns-in-Ok-clause-untouched
 returns-in-Ok-clause-untouched g c =

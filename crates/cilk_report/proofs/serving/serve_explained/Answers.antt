@@ -35,10 +35,10 @@ returns-in-Err-Usage-clause-served g c =
     (g.E.Write.contents c.serve_other.new.err)) _ _ _ _ c.keep-in-Err-Usage.ensures.failures c.keep-in-Err-Usage.ensures.same c.serve_other.ensures.served
 
 pub returns-in-Err-Memory-clause-served : goal.returns-in-Err-Memory-clause-served
-returns-in-Err-Memory-clause-served g c = starved_or_settled _ _ _ _ _ _ _ _ _ _ c.complain.ensures
+returns-in-Err-Memory-clause-served g c = starved_or_settled _ _ _ _ _ _ _ _ _ _ refl c.complain.ensures
 
 pub returns-in-Err-Memory-clause-measured : goal.returns-in-Err-Memory-clause-measured
-returns-in-Err-Memory-clause-measured g c = λ _ _. measuring.starved _ _ _ _ _ _ _ _ _ _ _ _ c.complain.ensures (silence _ _) refl
+returns-in-Err-Memory-clause-measured g c = λ _ _. measuring.starved _ _ _ _ _ _ _ _ _ _ _ _ refl c.complain.ensures (silence _ _) refl
 
 pub returns-in-Ok-2-clause-explained : goal.returns-in-Ok-2-clause-explained
 returns-in-Ok-2-clause-explained g c = λ empty _ _ _ _ _. absurd (measuring.asked _ _ c.in-Ok.ensures.order empty)
@@ -51,7 +51,7 @@ returns-in-Err-Usage-clause-explained g c = λ _ isnt other settles about less.
 
 pub returns-in-Err-Memory-clause-explained : goal.returns-in-Err-Memory-clause-explained
 returns-in-Err-Memory-clause-explained g c =
-    λ _ _ _ _ _ _. silent _ _ _ _ _ _ c.complain.result.told _ _ _ _ (starved _ _ _ _ _ _ _ c.complain.ensures)
+    λ _ _ _ _ _ _. silent _ _ _ _ _ _ c.complain.result.told _ _ _ _ (starved _ _ _ _ _ _ _ refl c.complain.ensures)
 
 pub returns-in-Ok-2-clause-scheduled : goal.returns-in-Ok-2-clause-scheduled
 returns-in-Ok-2-clause-scheduled g c = λ empty _ _. absurd (measuring.asked _ _ c.in-Ok.ensures.order empty)
@@ -64,7 +64,7 @@ returns-in-Err-Usage-clause-scheduled g c = λ _ isnt schedules.
 
 pub returns-in-Err-Memory-clause-scheduled : goal.returns-in-Err-Memory-clause-scheduled
 returns-in-Err-Memory-clause-scheduled g c =
-    λ _ _ _. Checked (silent _ _ _ _ _ _ c.complain.result.told _ _ _ _ (starved _ _ _ _ _ _ _ c.complain.ensures))
+    λ _ _ _. Checked (silent _ _ _ _ _ _ c.complain.result.told _ _ _ _ (starved _ _ _ _ _ _ _ refl c.complain.ensures))
 
 pub returns-in-Ok-2-clause-settled : goal.returns-in-Ok-2-clause-settled
 returns-in-Ok-2-clause-settled g c = λ yes.
@@ -76,7 +76,7 @@ returns-in-Err-Usage-clause-settled g c = λ yes.
 
 pub returns-in-Err-Memory-clause-settled : goal.returns-in-Err-Memory-clause-settled
 returns-in-Err-Memory-clause-settled g c =
-    λ _. silent _ _ _ _ _ _ c.complain.result.told _ _ _ _ (starved _ _ _ _ _ _ _ c.complain.ensures)
+    λ _. silent _ _ _ _ _ _ c.complain.result.told _ _ _ _ (starved _ _ _ _ _ _ _ refl c.complain.ensures)
 
 pub returns-in-Ok-clause-served : goal.returns-in-Ok-clause-served
 returns-in-Ok-clause-served g c =
@@ -113,7 +113,7 @@ returns-in-Err-Usage-clause-settles g c = λ _ isnt other held.
     (g.E.Write.contents c.serve_other.new.err)) _ _ _ _ c.keep-in-Err-Usage.ensures.failures c.keep-in-Err-Usage.ensures.same (c.serve_other.ensures.settles isnt other held)
 
 pub returns-in-Err-Memory-clause-settles : goal.returns-in-Err-Memory-clause-settles
-returns-in-Err-Memory-clause-settles g c = λ _ _ _ _. batches.starved _ _ _ _ _ _ _ _ _ _ c.complain.ensures
+returns-in-Err-Memory-clause-settles g c = λ _ _ _ _. batches.starved _ _ _ _ _ _ _ _ _ _ refl c.complain.ensures
 
 pub returns-in-Ok-clause-untouched : goal.returns-in-Ok-clause-untouched
 returns-in-Ok-clause-untouched g c = λ some. c.serve_flagged.ensures.untouched (some_words _ (some_left _ some))

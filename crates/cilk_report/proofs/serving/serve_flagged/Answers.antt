@@ -1,4 +1,4 @@
-use Rattle.std.proofs.Common.{Some, subst, sym}
+use Rattle.std.proofs.Common.{Some, refl, subst, sym}
 use Rattle.cilk_commands.specs.Replies.{answer_view}
 use Rattle.cilk_commands.proofs.Workers.{read_workers}
 use Rattle.cilk_messages.specs.Words.{order_view, texts}
@@ -31,8 +31,8 @@ pub returns-in-Err-Usage-clause-shown : goal.returns-in-Err-Usage-clause-shown
 returns-in-Err-Usage-clause-shown g c =
     silent _ _ _ _ _ _ c.complain.result.told _ _ _ _ (refused _ _ c.refusal.result _ _ _ _ _
     (unasked _ _ (subst (λ (e : WordsFault). IsUsage e) (sym c.in-Err-Usage.field-0-is) tt) c.in-Err-Usage.ensures.fault)
-    c.refusal.ensures c.complain.ensures)
+    refl c.refusal.ensures c.complain.ensures)
 
 pub returns-in-Err-Memory-clause-shown : goal.returns-in-Err-Memory-clause-shown
 returns-in-Err-Memory-clause-shown g c =
-    silent _ _ _ _ _ _ c.complain-in-Err-Memory.result.told _ _ _ _ (starved _ _ _ _ _ _ _ c.complain-in-Err-Memory.ensures)
+    silent _ _ _ _ _ _ c.complain-in-Err-Memory.result.told _ _ _ _ (starved _ _ _ _ _ _ _ refl c.complain-in-Err-Memory.ensures)

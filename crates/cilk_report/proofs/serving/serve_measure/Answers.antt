@@ -8,4 +8,4 @@ pub serve_run-requires-clause-plain : goal.serve_run-requires-clause-plain
 serve_run-requires-clause-plain g c = ap texts c.as_slice.ensures.value ∙ c.in-Ok.ensures
 
 pub returns-in-Err-clause-shown : goal.returns-in-Err-clause-shown
-returns-in-Err-clause-shown g c = starved _ _ _ _ _ _ _ _ _ _ _ _ c.complain.ensures (silence _ _) refl
+returns-in-Err-clause-shown g c = starved _ _ _ _ _ _ _ _ _ _ _ _ refl c.complain.ensures (silence _ _) refl

@@ -1,4 +1,4 @@
-use Rattle.std.proofs.Common.{◌≡◌, ◌<◌, ◌≤◌, List, ap, length, rules, string_bytes, subst, sym, ◌∙◌}
+use Rattle.std.proofs.Common.{◌≡◌, ◌<◌, ◌≤◌, List, ap, length, refl, rules, string_bytes, subst, sym, ◌∙◌}
 use Rattle.std.proofs.lemmas.Bool.{true≢false}
 use Rattle.cilk_messages.proofs.Plain.{as_many, fewer}
 use Rattle.cilk_report.proofs.About.{error_about, text_about, unanswered}
@@ -23,7 +23,7 @@ returns-in-Ok-Text-clause-about g c = λ _.
 pub returns-in-Ok-Text-clause-served : goal.returns-in-Ok-Text-clause-served
 returns-in-Ok-Text-clause-served g c =
     let is = rw c.in-Ok-Text.field-0-is at c.in-Ok-Text.ensures.asked in
-    About c.requires.other is (returns-in-Ok-Text-clause-about g c is)
+    About c.requires.other is refl (returns-in-Ok-Text-clause-about g c is)
 
 pub returns-in-Ok-Text-clause-explained : goal.returns-in-Ok-Text-clause-explained
 returns-in-Ok-Text-clause-explained g c =
@@ -42,7 +42,7 @@ returns-in-Ok-Wrong-clause-about g c = λ _.
 pub returns-in-Ok-Wrong-clause-served : goal.returns-in-Ok-Wrong-clause-served
 returns-in-Ok-Wrong-clause-served g c =
     let is = rw c.in-Ok-Wrong.field-0-is at c.in-Ok-Wrong.ensures.asked in
-    About c.requires.other is (returns-in-Ok-Wrong-clause-about g c is)
+    About c.requires.other is refl (returns-in-Ok-Wrong-clause-about g c is)
 
 pub returns-in-Ok-Wrong-clause-explained : goal.returns-in-Ok-Wrong-clause-explained
 returns-in-Ok-Wrong-clause-explained g c =
@@ -68,7 +68,7 @@ returns-in-Ok-clause-explained g c = λ _ _.
 
 pub returns-in-Ok-2-clause-served : goal.returns-in-Ok-2-clause-served
 returns-in-Ok-2-clause-served g c =
-    Served c.complain.result.told (ap explains_itself c.requires.other) (refused _ _ c.refusal.result _ _ _ _ _ c.requires.other c.refusal.ensures c.complain.ensures)
+    Served c.complain.result.told (ap explains_itself c.requires.other) (refused _ _ c.refusal.result _ _ _ _ _ c.requires.other refl c.refusal.ensures c.complain.ensures)
 
 pub returns-in-Ok-2-clause-explained : goal.returns-in-Ok-2-clause-explained
 returns-in-Ok-2-clause-explained g c = λ _ less.
@@ -78,18 +78,18 @@ returns-in-Ok-2-clause-explained g c = λ _ less.
     absurd (as_many _ _ same many less)
 
 pub returns-in-Err-unflagged-clause-served : goal.returns-in-Err-unflagged-clause-served
-returns-in-Err-unflagged-clause-served g c = Served c.complain-in-Err-unflagged.result.told (ap explains_itself c.requires.other) (starved _ _ _ _ _ _ _ c.complain-in-Err-unflagged.ensures)
+returns-in-Err-unflagged-clause-served g c = Served c.complain-in-Err-unflagged.result.told (ap explains_itself c.requires.other) (starved _ _ _ _ _ _ _ refl c.complain-in-Err-unflagged.ensures)
 
 pub returns-in-Err-unflagged-clause-explained : goal.returns-in-Err-unflagged-clause-explained
 returns-in-Err-unflagged-clause-explained g c =
-    λ _ _. silent _ _ _ _ _ _ c.complain-in-Err-unflagged.result.told _ _ _ _ (starved _ _ _ _ _ _ _ c.complain-in-Err-unflagged.ensures)
+    λ _ _. silent _ _ _ _ _ _ c.complain-in-Err-unflagged.result.told _ _ _ _ (starved _ _ _ _ _ _ _ refl c.complain-in-Err-unflagged.ensures)
 
 pub returns-in-Err-clause-served : goal.returns-in-Err-clause-served
-returns-in-Err-clause-served g c = Served c.complain-in-Err.result.told (ap explains_itself c.requires.other) (starved _ _ _ _ _ _ _ c.complain-in-Err.ensures)
+returns-in-Err-clause-served g c = Served c.complain-in-Err.result.told (ap explains_itself c.requires.other) (starved _ _ _ _ _ _ _ refl c.complain-in-Err.ensures)
 
 pub returns-in-Err-clause-explained : goal.returns-in-Err-clause-explained
 returns-in-Err-clause-explained g c =
-    λ _ _. silent _ _ _ _ _ _ c.complain-in-Err.result.told _ _ _ _ (starved _ _ _ _ _ _ _ c.complain-in-Err.ensures)
+    λ _ _. silent _ _ _ _ _ _ c.complain-in-Err.result.told _ _ _ _ (starved _ _ _ _ _ _ _ refl c.complain-in-Err.ensures)
 
 pub returns-in-Ok-clause-untouched : goal.returns-in-Ok-clause-untouched
 returns-in-Ok-clause-untouched g c = λ some.

@@ -1,10 +1,13 @@
 use Rattle.std.proofs.Common.{refl}
+use Rattle.cilk_commands.specs.Replies.{NoMemory}
+use Rattle.cilk_commands.specs.Serving.{ProgramUnread, Unjudged}
 use Rattle.cilk_report.proofs.Batches.{settled}
 use Rattle.cilk_report.specs.Settling.{OutOfMemory}
 use Rattle.cilk_report.proofs.settling.settle_one.Goals as goal
 
 pub returns-then-failures-eq18446744073709551615-clause-ends : goal.returns-then-failures-eq18446744073709551615-clause-ends
-returns-then-failures-eq18446744073709551615-clause-ends g c = λ _. OutOfMemory c.starved.ensures.told.0 c.starved.ensures.status refl c.starved.ensures.told.1
+returns-then-failures-eq18446744073709551615-clause-ends g c = λ _.
+    OutOfMemory NoMemory c.starved.ensures.told.0 (Unjudged (ProgramUnread refl)) c.starved.ensures.status refl c.starved.ensures.told.1
 
 pub returns-clause-goes_on : goal.returns-clause-goes_on
 returns-clause-goes_on g c = λ on.

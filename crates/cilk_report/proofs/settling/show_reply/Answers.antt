@@ -4,7 +4,7 @@ use Rattle.cilk_report.proofs.settling.show_reply.Goals as goal
 
 pub returns-then-status-eq-NO_MEMORY-clause-ends : goal.returns-then-status-eq-NO_MEMORY-clause-ends
 returns-then-status-eq-NO_MEMORY-clause-ends g c =
-    λ _ w i settles. OutOfMemory c.starved.ensures.told.0 c.starved.ensures.status refl c.starved.ensures.told.1
+    λ _ w i settles. OutOfMemory (reply_view c.args.reply.now) c.starved.ensures.told.0 settles c.starved.ensures.status refl c.starved.ensures.told.1
 
 pub returns-in-Ok-clause-goes_on : goal.returns-in-Ok-clause-goes_on
 returns-in-Ok-clause-goes_on g c = λ on w i settles.
@@ -30,4 +30,4 @@ returns-in-Ok-clause-ends g c = λ off w i settles.
 
 pub returns-in-Err-clause-ends : goal.returns-in-Err-clause-ends
 returns-in-Err-clause-ends g c =
-    λ _ w i settles. OutOfMemory c.starved-in-Err.ensures.told.0 c.starved-in-Err.ensures.status refl c.starved-in-Err.ensures.told.1
+    λ _ w i settles. OutOfMemory (reply_view c.args.reply.now) c.starved-in-Err.ensures.told.0 settles c.starved-in-Err.ensures.status refl c.starved-in-Err.ensures.told.1

@@ -1,4 +1,4 @@
-use Rattle.std.proofs.Common.{◌≡◌, ◌<◌, ◌≤◌, List, ap, length, rules, subst, ◌∙◌}
+use Rattle.std.proofs.Common.{◌≡◌, ◌<◌, ◌≤◌, List, ap, length, refl, rules, subst, ◌∙◌}
 use Rattle.cilk_messages.proofs.Plain.{as_many, fewer}
 use Rattle.cilk_report.proofs.Replies.{silence}
 use Rattle.cilk_messages.specs.Asked.{unflagged}
@@ -29,7 +29,7 @@ returns-in-Ok-clause-explained g c = λ _.
 
 pub returns-in-Ok-2-clause-served : goal.returns-in-Ok-2-clause-served
 returns-in-Ok-2-clause-served g c =
-    Plain c.complain.result.told (fails _ _ _ _ c.advised.result _ _ _ (no_words _ _ _ c.requires.unread c.advised.ensures) c.complain.ensures)
+    Plain c.complain.result.told (fails _ _ _ _ c.advised.result _ _ _ (no_words _ _ _ c.requires.unread refl c.advised.ensures) c.complain.ensures)
 
 pub returns-in-Ok-2-clause-explained : goal.returns-in-Ok-2-clause-explained
 returns-in-Ok-2-clause-explained g c = λ less.
@@ -39,12 +39,12 @@ returns-in-Ok-2-clause-explained g c = λ less.
     absurd (as_many _ _ same many less)
 
 pub returns-in-Err-clause-served : goal.returns-in-Err-clause-served
-returns-in-Err-clause-served g c = Plain c.complain-in-Err.result.told (starved _ _ _ _ _ _ _ c.complain-in-Err.ensures)
+returns-in-Err-clause-served g c = Plain c.complain-in-Err.result.told (starved _ _ _ _ _ _ _ refl c.complain-in-Err.ensures)
 
 pub returns-in-Err-clause-explained : goal.returns-in-Err-clause-explained
 returns-in-Err-clause-explained g c = λ _. (
   g.E.Write.contents c.complain-in-Err.new.err,
   c.complain-in-Err.result.told,
-  starved _ _ _ _ _ _ _ c.complain-in-Err.ensures,
+  starved _ _ _ _ _ _ _ refl c.complain-in-Err.ensures,
   silence _ _,
 )

@@ -2,8 +2,9 @@ use Rattle.std.proofs.Common.{ap₂, rules}
 use Rattle.cilk_checker.proofs.Uncounted.{refused_by}
 use Rattle.cilk_checker.specs.Judging.{meant}
 use Rattle.cilk_commands.proofs.Kept.{stays}
-use Rattle.cilk_commands.proofs.Replying.{refused_whole}
-use Rattle.cilk_tool.proofs.Checked.{refuses, unread}
+use Rattle.cilk_commands.specs.Replies.{failure_view}
+use Rattle.cilk_commands.proofs.Replying.{handed, refused_whole}
+use Rattle.cilk_tool.proofs.Checked.{refuses, starves, unread}
 use Rattle.cilk_tool.proofs.Moments.{still}
 use Rattle.cilk_tool.proofs.running.checked.Goals as goal
 
@@ -28,8 +29,18 @@ returns-in_ok-refused-in-Err-Refusal-clause-verdict g c =
     refuses (λ files. g.F.Files.failed files) c.args.files.now _ c.in_ok-refused-in-Err-Refusal.field-0 c.args.paths.path.now
     (g.F.Files.holds c.args.files.now c.args.paths.path.now) (meant c.args.program) c.args.input c.in-Err-Refusal.refusal
     c.in_ok-refused-in-Err-Refusal.ensures.answer
-    (λ other. (stays (λ files. g.F.Files.failed files) (λ files. g.F.Files.holds files) c.args.files.now c.new.result.files.now c.check_run.new.source.parts.files.now _
+    (stays (λ files. g.F.Files.failed files) (λ files. g.F.Files.holds files) c.args.files.now c.new.result.files.now c.check_run.new.source.parts.files.now _
     _ _ _ _ c.args.paths.path.now c.args.paths.other.now made.files made.path made.other c.check_run.ensures.kept (search rules)
-    (refused_by _ _ c.in-Err-Refusal.field-0 c.in-Err-Refusal.refusal (search rules) c.in-Err-Refusal.ensures.unfailed other)).0)
+    (refused_by _ _ c.in-Err-Refusal.field-0 c.in-Err-Refusal.refusal (search rules) c.in-Err-Refusal.ensures.unfailed)).0
     (refused_whole _ _ _ _ _ _ _ c.in-Err-Refusal.field-0 _ (ap₂ (λ files path. g.F.Files.holds files path) made.files made.path)
     made.at (search rules) c.in-Err-Refusal.ensures.unaccepted)
+
+pub returns-in_err-refused-in-Err-Refusal-clause-failure : goal.returns-in_err-refused-in-Err-Refusal-clause-failure
+returns-in_err-refused-in-Err-Refusal-clause-failure g c =
+    let made = c.new.ensures in
+    handed c.from_residual.result c.in_err-refused-in-Err-Refusal.field-0.0 _ c.from_residual.ensures.1
+    (starves (λ files. g.F.Files.failed files) c.args.files.now _ (failure_view c.in_err-refused-in-Err-Refusal.field-0.0) c.args.paths.path.now
+    (g.F.Files.holds c.args.files.now c.args.paths.path.now) (meant c.args.program) c.args.input c.in_err-refused-in-Err-Refusal.ensures.failure
+    (stays (λ files. g.F.Files.failed files) (λ files. g.F.Files.holds files) c.args.files.now c.new.result.files.now c.check_run.new.source.parts.files.now _
+    _ _ _ _ c.args.paths.path.now c.args.paths.other.now made.files made.path made.other c.check_run.ensures.kept (search rules)
+    (refused_by _ _ c.in-Err-Refusal.field-0 c.in-Err-Refusal.refusal (search rules) c.in-Err-Refusal.ensures.unfailed)).0)

@@ -1,3 +1,4 @@
+use Rattle.std.proofs.Common.{refl}
 use Rattle.cilk_report.proofs.Replies.{silence}
 use Rattle.cilk_tool.proofs.Showing.{starved}
 use Rattle.cilk_tool.proofs.serving.serve_flagged.Goals as goal
@@ -6,6 +7,6 @@ pub returns-in-Err-clause-shown : goal.returns-in-Err-clause-shown
 returns-in-Err-clause-shown g c = (
   g.E.Write.contents c.complain.new.err,
   c.complain.result.told,
-  starved _ _ _ _ _ _ _ c.complain.ensures,
+  starved _ _ _ _ _ _ _ refl c.complain.ensures,
   silence _ _,
 )

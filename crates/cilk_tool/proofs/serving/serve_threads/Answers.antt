@@ -1,4 +1,4 @@
-use Rattle.std.proofs.Common.{subst, sym}
+use Rattle.std.proofs.Common.{refl, subst, sym}
 use Rattle.cilk_messages.specs.declared.words.WordsFault.{WordsFault}
 use Rattle.cilk_report.proofs.Replies.{IsUsage, of_kept, silence}
 use Rattle.cilk_messages.specs.Asked.{unflagged}
@@ -41,12 +41,12 @@ returns-in-Err-Usage-clause-served g c =
 
 pub returns-in-Err-Memory-clause-served : goal.returns-in-Err-Memory-clause-served
 returns-in-Err-Memory-clause-served g c =
-    Plain c.complain-in-Err-Memory.result.told (starved _ _ _ _ _ _ _ c.complain-in-Err-Memory.ensures)
+    Plain c.complain-in-Err-Memory.result.told (starved _ _ _ _ _ _ _ refl c.complain-in-Err-Memory.ensures)
 
 pub returns-in-Err-Memory-clause-explained : goal.returns-in-Err-Memory-clause-explained
 returns-in-Err-Memory-clause-explained g c = λ _ _. (
   g.E.Write.contents c.complain-in-Err-Memory.new.err,
   c.complain-in-Err-Memory.result.told,
-  starved _ _ _ _ _ _ _ c.complain-in-Err-Memory.ensures,
+  starved _ _ _ _ _ _ _ refl c.complain-in-Err-Memory.ensures,
   silence _ _,
 )

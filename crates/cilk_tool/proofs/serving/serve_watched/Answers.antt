@@ -1,4 +1,4 @@
-use Rattle.std.proofs.Common.{subst, sym}
+use Rattle.std.proofs.Common.{refl, subst, sym}
 use Rattle.cilk_messages.specs.declared.words.WordsFault.{WordsFault}
 use Rattle.cilk_report.proofs.Replies.{IsUsage, silence}
 use Rattle.cilk_tool.proofs.Showing.{answered, ends, fails, no_words, starved, told_status, unasked}
@@ -29,7 +29,7 @@ returns-in-Err-Usage-clause-shown g c = (
   g.E.Write.contents c.complain.new.err,
   c.complain.result.told,
   fails _ _ _ _ c.advised.result _ _ _
-      (no_words _ _ _ (unasked _ _ (subst (λ (e : WordsFault). IsUsage e) (sym c.in-Err-Usage.field-0-is) tt) c.in-Err-Usage.ensures.fault) c.advised.ensures)
+      (no_words _ _ _ (unasked _ _ (subst (λ (e : WordsFault). IsUsage e) (sym c.in-Err-Usage.field-0-is) tt) c.in-Err-Usage.ensures.fault) refl c.advised.ensures)
       c.complain.ensures,
   silence _ _,
 )
@@ -38,6 +38,6 @@ pub returns-in-Err-Memory-clause-shown : goal.returns-in-Err-Memory-clause-shown
 returns-in-Err-Memory-clause-shown g c = (
   g.E.Write.contents c.complain-in-Err-Memory.new.err,
   c.complain-in-Err-Memory.result.told,
-  starved _ _ _ _ _ _ _ c.complain-in-Err-Memory.ensures,
+  starved _ _ _ _ _ _ _ refl c.complain-in-Err-Memory.ensures,
   silence _ _,
 )
