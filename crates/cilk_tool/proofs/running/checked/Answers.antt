@@ -1,9 +1,10 @@
-use Rattle.std.proofs.Common.{ap₂, rules}
+use Rattle.std.proofs.Common.{ap, ap₂, rules}
 use Rattle.cilk_checker.proofs.Uncounted.{refused_by}
 use Rattle.cilk_checker.specs.Judging.{meant}
+use Rattle.cilk_program.specs.Sources.{source}
 use Rattle.cilk_commands.proofs.Kept.{stays}
 use Rattle.cilk_commands.specs.Replies.{failure_view}
-use Rattle.cilk_commands.proofs.Replying.{handed, refused_whole}
+use Rattle.cilk_commands.proofs.Replying.{accepted_whole, handed, refused_whole}
 use Rattle.cilk_tool.proofs.Checked.{refuses, starves, unread}
 use Rattle.cilk_tool.proofs.Moments.{still}
 use Rattle.cilk_tool.proofs.running.checked.Goals as goal
@@ -44,3 +45,13 @@ returns-in_err-refused-in-Err-Refusal-clause-failure g c =
     (stays (λ files. g.F.Files.failed files) (λ files. g.F.Files.holds files) c.args.files.now c.new.result.files.now c.check_run.new.source.parts.files.now _
     _ _ _ _ c.args.paths.path.now c.args.paths.other.now made.files made.path made.other c.check_run.ensures.kept (search rules)
     (refused_by _ _ c.in-Err-Refusal.field-0 c.in-Err-Refusal.refusal (search rules) c.in-Err-Refusal.ensures.unfailed)).0)
+
+pub returns-in-Ok-clause-verdict : goal.returns-in-Ok-clause-verdict
+returns-in-Ok-clause-verdict g c =
+    let made = c.new.ensures in
+    let a = c.in-Ok.accepted in record {
+      program = ap meant c.in-Ok.ensures.program;
+      input = c.in-Ok.ensures.input;
+      certified = accepted_whole (source c.args.program) c.args.input _ _ _ a.trace a.outcome
+          (ap₂ (λ files path. g.F.Files.holds files path) made.files made.path) made.at c.in-Ok.ensures.accepted;
+    }
