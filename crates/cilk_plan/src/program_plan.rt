@@ -86,7 +86,8 @@ impl<'a> Model for ProgramPlan<'a> {
     ghost invariant = { λ p. HasDeterminateRun p.accepted.value × (p.program.now ≡ p.accepted.value.program) × (p.input.now ≡ p.accepted.value.input) × IsLowered (source p.accepted.value.program) p.code.now × IsPlanOf p.accepted.value p.events × AreFramesOf p.accepted.value p.frames.now × AreBlockEnds p.events p.syncs.items × AreStrands p.accepted.value.trace p.strands.items × AreResumptions p.events p.resumptions.items × AreBlocks p.events p.syncs.items p.blocks.items × AreFirstSpawns p.events p.syncs.items p.firsts.items };
 }
 
-/// Makes the plan of an accepted program's run. Cost and memory: linear in the run's events.
+/// Makes the plan of an accepted program's run. Cost and memory: linear in the run's events and
+/// cells.
 pub fn plan<'a>(alloc: Global, accepted: &'a Accepted) -> Result<ProgramPlan<'a>, AllocError>
     ensures { IfOk result (λ plan. plan.run ≡ accepted.now) }
 {

@@ -82,8 +82,8 @@ impl<'a, 'b, N: Naming, R: Wait, G: Gate> WorkerContext<'a, 'b, N, R, G> {
 
     /// Makes one turn of a worker without work: it takes its own newest task, or steals the oldest
     /// of another, and tells its block. If it finds none, it ends once it sees that the run has ended.
-    /// No task is lost: if a worker that took one has no work, then by the yard's refusal, which it
-    /// returns too, another worker has the continuation.
+    /// A worker that took a task has work, or the yard's refusal of that task's ticket, which is
+    /// returned too, or has ended: there was no memory to tell its block of the steal.
     pub fn find_work(
         &self,
         tools: &mut Tools<N>,
