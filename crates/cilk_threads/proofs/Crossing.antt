@@ -1,17 +1,16 @@
 -- The values that may be sent to another thread.
 use denote.Param.Send.{IsSend, IsSync, sendable}
-use denote.RattleType.{RattleType}
 use denote.Ref.{NamedLft}
 use Rattle.std.proofs.Crossing.{crosses}
 use Rattle.cilk_hypermap.proofs.hypermap.Hypermap.TheSendSync as hypermap
 use Rattle.cilk_shared.proofs.yard.Segment.TheSendSync as segment
 use Rattle.cilk_frames.proofs.asked.AskSlot.TheSendSync as asked
+use Rattle.cilk_join.proofs.row.Row.TheSendSync as row
 use Rattle.cilk_replay.proofs.replay_frame.ReplayFrame.TheSendSync as replay_frame
 use Rattle.cilk_lower.proofs.code.Code.TheSendSync as code
 use Rattle.cilk_lower.proofs.layout.PlannedFrame.TheSendSync as planned
 use Rattle.cilk_tree.proofs.kind.Kind.TheSendSync as kind
 use Rattle.cilk_types.proofs.input.Input.TheSendSync as input
-use Rattle.cilk_join.specs.contracts.row.Row as Row
 use Rattle.cilk_shared.specs.contracts.piece.Piece as Piece
 use Rattle.cilk_tree.specs.contracts.plan.Plan as Plan
 use Rattle.cilk_replay.specs.contracts.replay.Replay as Replay
@@ -35,11 +34,8 @@ rest_send = search (replay_frame.the_send, replay_frame.the_field_send, sendable
 pub task_send : IsSend Task.the_row
 task_send = search (rest_send, sendable, crosses) depth 20
 
-row_send : (P T : RattleType) → IsSend P → IsSend T → IsSend (Row.the_row P T)
-row_send P T kept run = search (kept, run, sendable, crosses) depth 20
-
 runs_send : IsSend Runs.the_row
-runs_send = search (row_send, piece_send, sendable, crosses) depth 20
+runs_send = search (row.the_send, piece_send, sendable, crosses) depth 20
 
 box_send : IsSend JoinBox.the_row
 box_send = search (runs_send, chain_send, sendable, crosses) depth 20
