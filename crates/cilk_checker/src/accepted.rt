@@ -19,8 +19,8 @@ use std::marker::Model;
 /// A program that is determinate on its input, with its serial run.
 ///
 /// It holds the program and its code, the input, and the events, outcome and frames of the serial
-/// run. In every
-/// schedule, each state is a part of that serial run, and each run that ends has its outcome.
+/// run. In every schedule, each state is a part of that serial run, and each run that ends has its
+/// outcome.
 pub struct Accepted {
     program: Program,
     code: Code,

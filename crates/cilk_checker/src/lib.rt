@@ -21,6 +21,7 @@
 //! | [`check::check_end`] | the same for a serial run that is already made |
 //! | [`judge::program`] | the program that a text means, or its first fault |
 //! | [`ending::run_to_end`] | how a serial run ends, its events, and its frames with their cells |
+//! | [`ending::run_code`] | the same, with the code that the program was compiled to |
 //! | [`settle::settle`] | without a certificate: the outcome of every parallel run, or the first race |
 //! | [`laws::texts_have_one_verdict`] | three texts have at most one verdict |
 //! | [`laws::accepted_runs_have_consistent_cuts`] | each state of an accepted run is such a cut |

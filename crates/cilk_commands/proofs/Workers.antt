@@ -10,7 +10,7 @@ use Rattle.std.proofs.lemmas.Bool.{and_parts}
 use Rattle.clap.specs.Words.{Row, Text, fault_of, first_of, subcommand_of}
 use Rattle.clap.specs.Walk.{is_empty}
 use Rattle.cilk_syntax.specs.Lexing.{all_digits, value_of}
-use Rattle.cilk_messages.specs.declared.words.TheConstants.{MAX_WORKERS}
+use Rattle.cilk_types.specs.declared.limits.TheConstants.{MAX_WORKERS}
 use Rattle.cilk_commands.specs.Serving.{HasWorkers}
 use Rattle.cilk_messages.specs.Words as words
 use Rattle.cilk_messages.specs.Words.{Certify, Check, Judge, Play, Requested, Run, Settle, certify_with, check_with, cilk_app, judge_with, named, order_by, order_in, paths_in, play_with, run_with, script_with, settle_with, worker_count, workers_in}

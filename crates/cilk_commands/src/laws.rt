@@ -8,7 +8,7 @@ ghost use Rattle.cilk_commands.specs.Serving.{Surroundings};
 ghost use Rattle.cilk_messages.specs.Words.{order_in};
 ghost use Rattle.cilk_commands.specs.declared.disk.TheConstants.{MAX_FILE};
 ghost use Rattle.cilk_commands.specs.declared.streams.TheConstants.{MAX_READ};
-ghost use Rattle.cilk_messages.specs.declared.words.TheConstants.{MAX_WORKERS};
+ghost use Rattle.cilk_types.specs.declared.limits.TheConstants.{MAX_WORKERS};
 
 /// Two replies to the same words, files and input are equal, unless one is out of memory or blames
 /// a device.

@@ -26,9 +26,6 @@ use cilk_types::trace::Trace;
 use std::alloc::{AllocError, Global};
 use std::thread::Threads;
 
-/// The greatest number of helpers.
-pub const MAX_HELPERS: u32 = 16;
-
 /// Makes the serial run of a program with helpers, and returns how the run ends, with its events.
 ///
 /// Each helper replays some of the listed frames, in a thread of its own. The result is the serial

@@ -7,7 +7,7 @@
 use Rattle.std.proofs.Common.{◌≡◌, ◌<◌, ◌≤◌, inl, inr, ⊎_elim, ℕ, zero, suc, nat_eq, eq-eqb, eqb-true, Bool, true, false, List, [], ◌∷◌, length, slice_index_or, slice_set, Option, Some, None, option_map, map, refl, sym, ap, ap₂, ◌∙◌, ◌+◌, subst, arith}
 use Rattle.cilk_join.specs.declared.row.Parts.{Parts}
 use Rattle.cilk_join.specs.declared.row.Wait.{Wait}
-use Rattle.cilk_join.specs.AwaitedRows.{RowValue, Stands, ahead, closed, count, is_empty, keys, opened, parts_at, parts_of, place_of, placed, replaced, row, row_shown, run_at, runs_in, wait, wait_shown, with_beside, with_run}
+use Rattle.cilk_join.specs.AwaitedRows.{RowValue, Stands, ahead, closed, count, keys, opened, parts_at, parts_of, place_of, placed, replaced, row, row_shown, run_at, runs_in, wait, wait_shown, with_beside, with_run}
 
 module _ {P V : Type 0} where
   pub run_there : (r : Option V) (ws : List (Wait P V)) (i : ℕ) (w : Wait P V) → w ≡ slice_index_or ws i w → i < length ws → w.run ≡ run_at r ws (suc i)
@@ -126,10 +126,6 @@ module _ {P V W : Type 0} (f : V → W) where
   pub keys_shown : (ws : List (Wait P V)) → keys (map (wait_shown f) ws) ≡ keys ws
   keys_shown [] = refl
   keys_shown (w ∷ ws) = ap (λ ks. w.key ∷ ks) (keys_shown ws)
-
-  pub empty_shown : (ws : List (Wait P V)) → is_empty (map (wait_shown f) ws) ≡ is_empty ws
-  empty_shown [] = refl
-  empty_shown (w ∷ ws) = refl
 
 -- ---- where each run shows itself
 

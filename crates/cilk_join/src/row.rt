@@ -191,7 +191,8 @@ impl<P, T> Row<P, T> {
         }
     }
 
-    /// Takes the runs beside a key's place out. They come with the piece, behind the place.
+    /// Takes the runs on both sides of a key's place out. Returns the place, and the runs with the
+    /// piece.
     pub fn open(&mut self, key: u32, piece: T) -> (usize, Parts<T>)
     where
         T: Drop,

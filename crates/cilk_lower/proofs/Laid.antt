@@ -11,7 +11,7 @@ use Rattle.cilk_program.specs.declared.program.GlobalReducer.{GlobalReducer}
 use Rattle.cilk_program.specs.Programs.{function, loop, source_of}
 use Rattle.cilk_program.specs.Syntax.{Loop, Source, function_at, loop_at, idle, idle_loop}
 use Rattle.cilk_program.specs.SerialRun.{cells_of, own_reducers}
-use Rattle.cilk_lower.specs.declared.layout.FrameLayout.{FrameLayout}
+use Rattle.cilk_lower.specs.declared.layout.FunctionLayout.{FunctionLayout}
 use Rattle.cilk_lower.specs.declared.layout.Layout.{Layout}
 use Rattle.cilk_lower.specs.Layout.{LaysOut, bare, cells_in, frame_of, function_frame, reducers_in}
 use Rattle.cilk_lower.specs.Plain.{is_plain}
@@ -34,13 +34,13 @@ module _ (globals : List ℤ) (rs : List GlobalReducer) (fs : List declared_func
   loop_cells_are k = ap (λ list. unwrap_or (slice_get list k) 0) loops ∙ found (λ (x : Loop). x.cells) loop ls k idle_loop
 
   cells_are : l.main ≡ main → (callee : Callee) → cells_in l callee ≡ cells_of p callee
-  cells_are same callees.Root = ap (λ k. (function_frame l k).cells) same ∙ ap (λ (f : FrameLayout). f.cells) (function_frame_is main)
-  cells_are same (callees.Function c) = ap (λ (f : FrameLayout). f.cells) (function_frame_is c.function)
+  cells_are same callees.Root = ap (λ k. (function_frame l k).cells) same ∙ ap (λ (f : FunctionLayout). f.cells) (function_frame_is main)
+  cells_are same (callees.Function c) = ap (λ (f : FunctionLayout). f.cells) (function_frame_is c.function)
   cells_are same (callees.Loop part) = ap (λ n. if int_eq (part.high -ℤ part.low) (pos 1) then n else 0) (loop_cells_are part.number)
 
   own_are : l.main ≡ main → (callee : Callee) → reducers_in l callee ≡ own_reducers p callee
-  own_are same callees.Root = ap (λ k. (function_frame l k).reducers) same ∙ ap (λ (f : FrameLayout). f.reducers) (function_frame_is main)
-  own_are same (callees.Function c) = ap (λ (f : FrameLayout). f.reducers) (function_frame_is c.function)
+  own_are same callees.Root = ap (λ k. (function_frame l k).reducers) same ∙ ap (λ (f : FunctionLayout). f.reducers) (function_frame_is main)
+  own_are same (callees.Function c) = ap (λ (f : FunctionLayout). f.reducers) (function_frame_is c.function)
   own_are same (callees.Loop part) = refl
 
   pub lays_out : l.openings ≡ globals → l.reducers ≡ map (λ (r : GlobalReducer). r.kind) rs → l.main ≡ main → l.plain ≡ is_plain p → LaysOut p l

@@ -9,20 +9,20 @@ use Rattle.cilk_program.specs.Syntax.{Source, Function}
 use Rattle.cilk_program.specs.Inside.{body_of}
 use Rattle.cilk_program.specs.Numbering.{Block}
 use Rattle.cilk_program.specs.SerialRun.{cells_of, own_reducers}
-use Rattle.cilk_lower.specs.declared.layout.FrameLayout.{FrameLayout}
+use Rattle.cilk_lower.specs.declared.layout.FunctionLayout.{FunctionLayout}
 use Rattle.cilk_lower.specs.declared.layout.Layout.{Layout}
 use Rattle.cilk_lower.specs.declared.layout.PlannedFrame.{PlannedFrame}
 use Rattle.cilk_lower.specs.Plain.{is_plain}
 
 -- the frame of a function
-abbrev pub frame_of : Function → FrameLayout
+abbrev pub frame_of : Function → FunctionLayout
 frame_of f = record { cells = f.cells; reducers = f.reducers }
 
 -- a frame without cells and reducers
-abbrev pub bare : FrameLayout
+abbrev pub bare : FunctionLayout
 bare = record { cells = 0; reducers = [] }
 
-abbrev pub function_frame : Layout → ℕ → FrameLayout
+abbrev pub function_frame : Layout → ℕ → FunctionLayout
 function_frame l k = unwrap_or (slice_get l.functions k) bare
 
 -- the number of cells of a callee's frame; a frame that halves the turns of a loop has none

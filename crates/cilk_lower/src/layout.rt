@@ -19,7 +19,7 @@ use std::alloc::{AllocError, Global};
 /// The frame of a function: the number of its cells, and the monoids of the reducers that it
 /// declares, in order.
 #[derive(Drop)]
-pub struct FrameLayout {
+pub struct FunctionLayout {
     pub cells: u32,
     pub reducers: Sequence<MonoidKind>,
 }
@@ -40,7 +40,7 @@ pub struct Layout {
     pub openings: Sequence<i64>,
     pub reducers: Sequence<MonoidKind>,
     pub main: u32,
-    pub functions: Sequence<FrameLayout>,
+    pub functions: Sequence<FunctionLayout>,
     pub loops: Sequence<u32>,
     pub plain: bool,
 }
@@ -162,7 +162,7 @@ pub fn global_kinds(
 fn function_frames(
     alloc: Global,
     functions: &[Function],
-) -> Result<Sequence<FrameLayout>, AllocError>
+) -> Result<Sequence<FunctionLayout>, AllocError>
     ensures { IfOk result (λ list. list ≡ map (λ f. frame_of (function f)) functions.now) }
 {
     let mut frames = Vec::new(alloc);
@@ -172,10 +172,10 @@ fn function_frames(
     Ok(Sequence::new(frames))
 }
 
-fn frame_of(alloc: Global, f: &Function) -> Result<FrameLayout, AllocError>
+fn frame_of(alloc: Global, f: &Function) -> Result<FunctionLayout, AllocError>
     ensures { IfOk result (λ frame. frame ≡ frame_of (function f.now)) }
 {
-    Ok(FrameLayout {
+    Ok(FunctionLayout {
         cells: f.cells,
         reducers: Sequence::new(Vec::from_slice(alloc, f.reducers.as_slice())?),
     })

@@ -6,7 +6,7 @@ use Rattle.std.specs.Str.{bytes_eq}
 use Rattle.clap.specs.Words.{App, Row, Rule, Text, fault_of, first_of, new_rule, subcommand_of, with_rule, with_subcommand}
 use Rattle.clap.specs.Walk.{is_empty}
 use Rattle.clap.specs.declared.builder.action.ArgAction.TheVariants.{Set}
-use Rattle.cilk_messages.specs.declared.check_words.TheConstants.{MAX_HELPERS}
+use Rattle.cilk_types.specs.declared.limits.TheConstants.{MAX_HELPERS}
 use Rattle.cilk_syntax.specs.Lexing.{all_digits, value_of}
 use Rattle.cilk_messages.specs.Words.{Check, Requested, check_app, empty_app}
 use Rattle.cilk_messages.specs.declared.words.WordsFault.{WordsFault}

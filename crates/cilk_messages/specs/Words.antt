@@ -11,7 +11,8 @@ use Rattle.clap.specs.declared.builder.command.Command.TheViews.{out-Command}
 use Rattle.clap.specs.declared.error.kind.ErrorKind.{ErrorKind}
 use Rattle.clap.specs.declared.error.kind.ErrorKind.TheVariants.{OutOfMemory}
 use Rattle.cilk_syntax.specs.Lexing.{all_digits, value_of}
-use Rattle.cilk_messages.specs.declared.words.TheConstants.{MAX_WORKERS, WORKERS}
+use Rattle.cilk_messages.specs.declared.words.TheConstants.{WORKERS}
+use Rattle.cilk_types.specs.declared.limits.TheConstants.{MAX_WORKERS}
 use Rattle.cilk_messages.specs.declared.words.Order.{Order}
 use Rattle.cilk_messages.specs.declared.words.Order.TheVariants as orders
 use Rattle.cilk_messages.specs.declared.words.Origin.TheVariants as origins

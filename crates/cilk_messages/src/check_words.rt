@@ -8,11 +8,9 @@ ghost use Rattle.cilk_messages.specs.CheckWords.{IsWordsFault, check_by, check_i
 use crate::threads_words::two_paths;
 use crate::words::{Order, WordsFault, check_command, empty, no_order, refusal, taking, with};
 use cilk_syntax::lexer::{all_digits, value_of};
+use cilk_types::limits::MAX_HELPERS;
 use clap::{ArgMatches, Command};
 use std::alloc::{AllocError, Global};
-
-/// The greatest number of helpers.
-pub const MAX_HELPERS: u32 = 16;
 
 // The error of a command line that clap accepts but whose number of helpers isn't valid.
 const NO_ORDER: &str = "error: the number of helpers is 1 to 16\n";

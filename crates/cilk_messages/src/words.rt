@@ -8,15 +8,13 @@ ghost use Rattle.clap.specs.Words.{App, found_of, kind_of, new_app, rows_of, sub
 ghost use Rattle.cilk_messages.specs.Words.{HasShape, program_app, check_app, cilk_app, empty_app, judge_app, judge_with, order_in, order_by, paths_in, paths_view, play_app, play_with, needed, run_with, certify_with, check_with, settle_with, IsWordsFault, order_view, IsRefusal, taken, texts, worker_count, workers_in};
 
 use cilk_syntax::lexer::{all_digits, value_of};
+use cilk_types::limits::MAX_WORKERS;
 use clap::error::ErrorKind;
 use clap::{Arg, ArgAction, ArgMatches, Command, Error};
 use std::alloc::{AllocError, Global};
 
 /// The number of workers of a script, unless the words name another.
 pub const WORKERS: u32 = 2;
-
-/// The greatest number of workers of a script.
-pub const MAX_WORKERS: u64 = 64;
 
 // The message for words that clap matches though they are no order.
 pub(crate) const NO_ORDER: &str = "error: the number of workers is 1 to 64\n";
@@ -262,7 +260,7 @@ fn worker_count(digits: &[u8]) -> Option<u32>
         return None;
     }
     match value_of(digits) {
-        Some(count) if count >= 1 && count <= MAX_WORKERS => Some(count as u32),
+        Some(count) if count >= 1 && count <= MAX_WORKERS as u64 => Some(count as u32),
         _ => None,
     }
 }

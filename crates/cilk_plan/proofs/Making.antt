@@ -18,7 +18,7 @@ use Rattle.cilk_tree.proofs.AlongPlans.{along_orderly}
 use Rattle.cilk_shared.specs.Values.{SpawnsResume, YardValue}
 use Rattle.cilk_determinacy.specs.Words.{InputsAreWords}
 use Rattle.cilk_replay.specs.EventOrders.{event_order_on, IsPlannedRun, EventOrdersAlongHaveValues}
-use Rattle.cilk_replay.specs.Replays.{AreFramesOf as AreFramesAlong, IsOfProgram, IsReplay, Setting, replay_with}
+use Rattle.cilk_replay.specs.Replays.{AreFramesAlong, IsOfProgram, IsReplay, Setting, replay_with}
 use Rattle.cilk_replay.proofs.Resumes.{resumes_asked}
 use Rattle.cilk_lower.specs.declared.layout.PlannedFrame.{PlannedFrame}
 use Rattle.cilk_checker.specs.Determinate.{AcceptedRun, AreFramesOf, HasDeterminateRun}

@@ -34,7 +34,7 @@ use Rattle.cilk_determinacy.specs.Numbers.{up, down, instance_number, IsHere, Ha
 use Rattle.cilk_determinacy.proofs.Numbers.{cell_is, down_up, number_is}
 use Rattle.cilk_determinacy.proofs.Sights.{global_here, own_here, root_here}
 use Rattle.cilk_replay.specs.Frames.{same_body}
-use Rattle.cilk_replay.specs.Replays.{AreFramesOf, ReplayValue, IsBlockOf, IsBodyOf, IsFrameOf}
+use Rattle.cilk_replay.specs.Replays.{AreFramesAlong, ReplayValue, IsBlockOf, IsBodyOf, IsFrameOf}
 use Rattle.cilk_lower.specs.Layout.{planned_frame}
 use Rattle.cilk_lower.specs.declared.layout.PlannedFrame.{PlannedFrame}
 use Rattle.cilk_replay.specs.declared.frame_layout.CellBlock.{CellBlock}
@@ -345,10 +345,10 @@ inner_frame None a other q = absurd (let z : None ≡ Some a = q in cc z)
 inner_frame (Some b) a other q = cc q
 
 -- where a course's list has a frame
-pub lies_at : (u v : ReplayValue) (frames : List PlannedFrame) (number place : ℕ) (other found : PlannedFrame) → u ≡ v → AreFramesOf u frames → place ≡ number - 1
+pub lies_at : (u v : ReplayValue) (frames : List PlannedFrame) (number place : ℕ) (other found : PlannedFrame) → u ≡ v → AreFramesAlong u frames → place ≡ number - 1
     → found ≡ unwrap_or (slice_get frames place) other → IsFrameOf v number found
 lies_at u v frames number place other found same are at is run path b callee prog frame runs q =
-    let here = subst (λ (z : ReplayValue). AreFramesOf z frames) same are run prog path b callee frame runs in
+    let here = subst (λ (z : ReplayValue). AreFramesAlong z frames) same are run prog path b callee frame runs in
     let spot : place ≡ b.number - 1 = omega (arith, at, q) in
     is ∙ inner_frame (slice_get frames place) (planned_frame (source v.program) callee b) other (ap (slice_get frames) spot ∙ here)
 

@@ -87,8 +87,8 @@ AreFrames p r frames =
     (path : List ℕ) (b : Block) (callee : Callee) → frame_at p r path ≡ Some b → frame_runs r path ≡ Some callee → slice_get frames (b.number - 1) ≡ Some (planned_frame p callee b)
 
 -- the same for a replay
-abbrev pub AreFramesOf : ReplayValue → List PlannedFrame → Type 0
-AreFramesOf c frames = (run : Transcript) → IsOfProgram (setting_of c run) → AreFrames (source c.program) run frames
+abbrev pub AreFramesAlong : ReplayValue → List PlannedFrame → Type 0
+AreFramesAlong c frames = (run : Transcript) → IsOfProgram (setting_of c run) → AreFrames (source c.program) run frames
 
 -- the frame with this number, if the run has it
 abbrev pub IsFrameOf : ReplayValue → ℕ → PlannedFrame → Type 0

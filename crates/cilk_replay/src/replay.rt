@@ -2,7 +2,7 @@
 
 ghost use Rattle.std.specs.Prelude.{◌≡◌, length, slice_get, unwrap_or};
 ghost use Rattle.cilk_program.specs.Sources.{source};
-ghost use Rattle.cilk_replay.specs.Replays.{AreFramesOf, IsBlockOf, IsBodyOf, IsReplay, IsFrameOf, replay_with};
+ghost use Rattle.cilk_replay.specs.Replays.{AreFramesAlong, IsBlockOf, IsBodyOf, IsReplay, IsFrameOf, replay_with};
 ghost use Rattle.cilk_replay.specs.Awaited.{SyncsAwaitSpawns};
 ghost use Rattle.cilk_replay.specs.Resumes.{ResumesAreAsked};
 ghost use Rattle.cilk_replay.specs.Starts.{RangesBeginInBlocks, RangesHoldSpawns};
@@ -66,7 +66,7 @@ pub struct Replay<'p> {
 impl<'p> Model for Replay<'p> {
     ghost use Rattle.std.specs.Prelude.{◌≡◌, length};
     ghost use Rattle.cilk_program.specs.Sources.{source};
-    ghost use Rattle.cilk_replay.specs.Replays.{AreFramesOf, ReplayValue, IsReplay, replay_code};
+    ghost use Rattle.cilk_replay.specs.Replays.{AreFramesAlong, ReplayValue, IsReplay, replay_code};
 
     ghost Value = { ReplayValue };
 
@@ -77,7 +77,7 @@ impl<'p> Model for Replay<'p> {
     ghost invariant = { λ c. IsReplay c.model × (c.code.now ≡ c.model.code) × (c.input.now ≡ c.model.inputs)
         × (c.globals ≡ (let p = source c.model.program in length p.openings))
         × (c.reducers ≡ (let p = source c.model.program in length p.reducers))
-        × AreFramesOf c.model c.frames.now };
+        × AreFramesAlong c.model c.frames.now };
 }
 
 impl<'p> Replay<'p> {
@@ -93,7 +93,7 @@ impl<'p> Replay<'p> {
         frames: &'p [PlannedFrame],
     ) -> Replay<'p>
         requires replay { IsReplay (replay_with yard.now program.now code.now own.now input.now) }
-        requires frames { AreFramesOf (replay_with yard.now program.now code.now own.now input.now) frames.now }
+        requires frames { AreFramesAlong (replay_with yard.now program.now code.now own.now input.now) frames.now }
         ensures { result ≡ replay_with yard.now program.now code.now own.now input.now }
     {
         Replay {

@@ -8,6 +8,7 @@ ghost use Rattle.cilk_threads.specs.Faults.{IsPool, IsTrueFault, number_of};
 use crate::pool::run_workers;
 use cilk_shared::piece::Piece;
 use cilk_types::event::Pos;
+use cilk_types::limits::MAX_WORKERS;
 use cilk_workers::activity::ExitReason;
 use cilk_workers::gate::Gate;
 use cilk_workers::naming::Naming;
@@ -18,9 +19,6 @@ use std::marker::Brand;
 use std::sync::Wait;
 use std::thread::Threads;
 use thiserror::Error;
-
-/// The greatest number of workers in a run.
-pub const MAX_WORKERS: u32 = 64;
 
 /// Why a run has no outcome.
 #[derive(Drop, Debug, Error)]

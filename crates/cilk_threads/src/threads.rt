@@ -12,7 +12,7 @@ ghost use Rattle.cilk_threads.specs.Outcomes.{DepartsNowhereOn, IsFaultOn, IsOut
 
 use crate::laws::accepted_event_orders_have_numbers;
 use crate::outcome::outcome;
-use crate::run::{MAX_WORKERS, ThreadFault, run};
+use crate::run::{ThreadFault, run};
 use crate::table::plan_reducers;
 use cilk_determinacy::words::inputs_are_words;
 use cilk_plan::program_plan::ProgramPlan;
@@ -25,6 +25,7 @@ use cilk_shared::piece::Piece;
 use cilk_shared::reducers::Reducers;
 use cilk_shared::yard::{Segment, Yard};
 use cilk_types::input::Input;
+use cilk_types::limits::MAX_WORKERS;
 use cilk_types::outcome::Outcome;
 use cilk_workers::columns::Columns;
 use cilk_workers::gate::Gate;

@@ -15,12 +15,13 @@ use cilk_checker::source::Whole;
 use cilk_commands::files::Files;
 use cilk_commands::reply::{Answer, Failure};
 use cilk_commands::{CountedRead, carry_out, given, read_file, refused};
-use cilk_helpers::many::{MAX_HELPERS, listed_run};
+use cilk_helpers::many::listed_run;
 use cilk_helpers::watch::Unwatched;
 use cilk_messages::check_words::CheckOrder;
 use cilk_messages::words::Origin;
 use cilk_program::program::Program;
 use cilk_types::input::Input;
+use cilk_types::limits::MAX_HELPERS;
 use std::alloc::Global;
 use std::thread::Threads;
 

@@ -20,3 +20,9 @@ pub const MAX_FRAMES: u32 = 65_536;
 
 /// Most cells of a run: the globals and the blocks of all frames.
 pub const MAX_CELLS: Cell = 1_048_576;
+
+/// The greatest number of workers of a parallel run.
+pub const MAX_WORKERS: u32 = 64;
+
+/// The greatest number of helpers of a check.
+pub const MAX_HELPERS: u32 = 16;

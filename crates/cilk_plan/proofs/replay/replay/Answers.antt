@@ -1,6 +1,6 @@
 use Rattle.std.proofs.Common.{ℤ, List, sym, subst}
 use Rattle.cilk_program.specs.declared.program.Program.{Program}
-use Rattle.cilk_replay.specs.Replays.{AreFramesOf, IsReplay, replay_with}
+use Rattle.cilk_replay.specs.Replays.{AreFramesAlong, IsReplay, replay_with}
 use Rattle.cilk_plan.proofs.Making.{are_frames, is_replay}
 use Rattle.cilk_plan.proofs.replay.replay.Goals as goal
 
@@ -13,5 +13,5 @@ new-requires-clause-replay c =
 pub new-requires-clause-frames : goal.new-requires-clause-frames
 new-requires-clause-frames c =
     let a = c.args.plan.now.run in
-    subst (λ (z : Program × List ℤ). AreFramesOf (replay_with c.args.yard.now z.0 c.code.result.now z.1 c.args.input.now) c.frames.result.now) (λ i. (sym c.program.ensures i, sym c.input.ensures i))
+    subst (λ (z : Program × List ℤ). AreFramesAlong (replay_with c.args.yard.now z.0 c.code.result.now z.1 c.args.input.now) c.frames.result.now) (λ i. (sym c.program.ensures i, sym c.input.ensures i))
     (are_frames c.frames_stand_at_their_numbers.ensures a c.laws.ensures.determinate c.frames.result.now c.frames.ensures c.args.yard.now c.code.result.now c.args.input.now)

@@ -2,7 +2,7 @@ use Rattle.std.proofs.Common.{◌∙◌, length, sym, ap, subst, arith}
 use Rattle.std.proofs.lemmas.List.{length-map}
 use Rattle.cilk_program.specs.declared.program.GlobalReducer.{GlobalReducer}
 use Rattle.cilk_program.specs.Sources.{source}
-use Rattle.cilk_replay.specs.Replays.{AreFramesOf, ReplayValue, IsReplay}
+use Rattle.cilk_replay.specs.Replays.{AreFramesAlong, ReplayValue, IsReplay}
 use Rattle.cilk_replay.proofs.replay.Replay.new.Goals as goal
 
 pub invariant_of-result : goal.invariant_of-result
@@ -16,5 +16,5 @@ invariant_of-result c =
           let same = ap (λ (z : ReplayValue). let p = source z.program in length p.reducers) q in
           let len = c.len-2.ensures in
           omega (arith, many, same, len)),
-      subst (λ (z : ReplayValue). AreFramesOf z c.args.frames.now) q c.requires.frames,
+      subst (λ (z : ReplayValue). AreFramesAlong z c.args.frames.now) q c.requires.frames,
     )
