@@ -23,12 +23,12 @@ use std::alloc::Global;
 
 /// Checks a certificate from a source against a program text and an input text.
 ///
-/// The two texts are judged before a byte is pulled. Pulling stops once a line is malformed; before
-/// that, at most 134,217,728 bytes are taken. The certificate is accepted exactly if the texts have
-/// no fault, the run ends without a fault, the certificate is right, and no two positions of it
-/// race. Otherwise the error is the first failing check. Out of memory and a failing device are the
-/// only errors that say nothing about the certificate; a failing device is the error only if the
-/// texts have no fault.
+/// The two texts are judged before a byte is pulled. Pulling stops once a line is malformed,
+/// whatever the error is; before that, at most 134,217,728 bytes are taken. The certificate is
+/// accepted exactly if the texts have no fault, the run ends without a fault, the certificate is
+/// right, and no two positions of it race. Otherwise the error is the first failing check. Out of
+/// memory and a failing device are the only errors that say nothing about the certificate; a
+/// failing device is the error only if the texts have no fault.
 pub fn check_from<S: Source>(
     alloc: Global,
     program: &[u8],

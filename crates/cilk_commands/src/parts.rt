@@ -1,6 +1,6 @@
 //! A file as the source of a certificate's or a trace's text, read in parts.
 
-ghost use Rattle.std.specs.Prelude.{◌≡◌, ◌<◌, ◌≤◌, Err, IfOk, OnOk, drop, length, option_map, take};
+ghost use Rattle.std.specs.Prelude.{◌≡◌, ◌<◌, ◌≤◌, Err, IfErr, IfOk, OnOk, drop, length, option_map, take};
 ghost use Rattle.std.specs.Io.KnownBytes.{Consumes, IsAtEnd};
 ghost use Rattle.cilk_commands.specs.Files.{StayOrRise};
 ghost use Rattle.cilk_commands.specs.Sources.{kept_of};
@@ -55,6 +55,8 @@ impl<F: Files> Source for PartSource<'_, '_, F> {
         ensures within { IfOk result (λ n. n ≤ length into.old) }
         ensures taken { IfOk result (λ n. Consumes (option_map (drop self.old.at) (F.holds self.old.files.now self.old.path.now))
             (option_map (drop self.new.at) (F.holds self.new.files.now self.new.path.now)) (take n into.new)) }
+        ensures untaken { IfErr result (λ _. option_map (drop self.new.at) (F.holds self.new.files.now self.new.path.now)
+            ≡ option_map (drop self.old.at) (F.holds self.old.files.now self.old.path.now)) }
         ensures given { IfOk result (λ n. self.new.last ≡ n) }
         ensures ended { IfOk result (λ n. n ≡ 0 → 0 < length into.old
             → IsAtEnd (option_map (drop self.new.at) (F.holds self.new.files.now self.new.path.now))) }

@@ -4,7 +4,7 @@ use Rattle.cilk_types.specs.declared.event.Event.{Event}
 use Rattle.cilk_program.specs.Sources.{source}
 use Rattle.cilk_tree.specs.Shape.{Spells}
 use Rattle.cilk_checker.proofs.Checked.{certified, code_at, frames_at, ran_at, refused_before, run_creates, run_spelled, stops_at}
-use Rattle.cilk_checker.proofs.Taking.{until_before}
+use Rattle.cilk_checker.proofs.Taking.{untaken, until_before}
 use Rattle.cilk_checker.proofs.check.check_end.Goals as goal
 
 pub returns-in_err-refusal-in-Stopped-clause-unaccepted : goal.returns-in_err-refusal-in-Stopped-clause-unaccepted
@@ -65,6 +65,16 @@ returns-in_ok-ended-in-Left-clause-accepted g c =
     rw (c.new.ensures, c.into_trace-trace.ensures)
     (certified p c.args.input (g.S.Source.remaining c.args.source.now) c.args.program.well_named c.serial_runs_settle.ensures c.in-Left.outcome es ran
     (λ s spells created. c.in_ok-ended-in-Left.ensures.clean s (c.in_ok-right-in-Left.ensures.columns s (subst (λ (l : List Event). Spells s l) same spells)) created))
+
+pub returns-in_err-right-in-Stopped-clause-part : goal.returns-in_err-right-in-Stopped-clause-part
+returns-in_err-right-in-Stopped-clause-part g c =
+    let q = err_from_is_err_and c.from_residual.result c.from_residual.ensures.1 in
+    rw (q.1, q.2) (untaken (g.S.Source.remaining c.args.source.now) (g.S.Source.last c.args.source.now))
+
+pub returns-in_err-right-in-Left-clause-part : goal.returns-in_err-right-in-Left-clause-part
+returns-in_err-right-in-Left-clause-part g c =
+    let q = err_from_is_err_and c.from_residual-in_err-right-in-Left.result c.from_residual-in_err-right-in-Left.ensures.1 in
+    rw (q.1, q.2) (untaken (g.S.Source.remaining c.args.source.now) (g.S.Source.last c.args.source.now))
 
 pub returns-in_err-refusal-in-Stopped-clause-part : goal.returns-in_err-refusal-in-Stopped-clause-part
 returns-in_err-refusal-in-Stopped-clause-part g c =

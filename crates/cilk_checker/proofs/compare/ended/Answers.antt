@@ -1,6 +1,6 @@
 use Rattle.std.proofs.lemmas.Result.{err_from_is_err_and}
 use Rattle.cilk_checker.proofs.Checked.{refused_at_end, told_true, with_holds}
-use Rattle.cilk_checker.proofs.Taking.{until_found}
+use Rattle.cilk_checker.proofs.Taking.{until_found, without_memory}
 use Rattle.cilk_checker.proofs.compare.ended.Goals as goal
 
 pub returns-clause-clean : goal.returns-clause-clean
@@ -23,6 +23,12 @@ returns-in-Some-clause-part g c = λ s columns created.
     until_found (g.S.Source.remaining c.args.source.now) (g.S.Source.remaining c.heard.new.source) (g.S.Source.last c.heard.new.source) s c.args.right.now.trace
     c.args.outcome.now.result h.certificate c.in-Some.refusal
     (rw c.in-Some.is at (c.in_ok-refusal.ensures s h.certificate columns created h.holds)) c.in_ok-tally.ensures.whole
+
+pub returns-in_err-refusal-clause-part : goal.returns-in_err-refusal-clause-part
+returns-in_err-refusal-clause-part g c =
+    let q = err_from_is_err_and c.from_residual-in_err-refusal.result c.from_residual-in_err-refusal.ensures.1 in
+    rw (q.1, q.2) (λ s columns created. without_memory (g.S.Source.remaining c.args.source.now) (g.S.Source.remaining c.heard.new.source) (g.S.Source.last c.heard.new.source)
+    c.in_ok-tally.ensures.whole.1)
 
 pub returns-in_err-tally-clause-part : goal.returns-in_err-tally-clause-part
 returns-in_err-tally-clause-part g c =

@@ -91,13 +91,13 @@ pub returns-in_err-meant-clause-part : goal.returns-in_err-meant-clause-part
 returns-in_err-meant-clause-part g c =
     let q = err_from_is_err_and c.from_residual.result c.from_residual.ensures.1 in
     let known = g.S.Source.remaining c.args.source.now in
-    rw (q.1, q.2) (until_judged known known (g.S.Source.last c.args.source.now) c.in_err-meant.field-0.0 c.in_err-meant.ensures.judgement)
+    rw (q.1, q.2) (until_judged known (g.S.Source.last c.args.source.now) c.in_err-meant.field-0.0 c.in_err-meant.ensures.judgement)
 
 pub returns-in_err-numbers-clause-part : goal.returns-in_err-numbers-clause-part
 returns-in_err-numbers-clause-part g c =
     let q = err_from_is_err_and c.from_residual-in_err-numbers.result c.from_residual-in_err-numbers.ensures.1 in
     let known = g.S.Source.remaining c.args.source.now in
-    rw (q.1, q.2) (until_judged known known (g.S.Source.last c.args.source.now) c.in_err-numbers.field-0.0 c.in_err-numbers.ensures.judgement)
+    rw (q.1, q.2) (until_judged known (g.S.Source.last c.args.source.now) c.in_err-numbers.field-0.0 c.in_err-numbers.ensures.judgement)
 
 pub returns-clause-part : goal.returns-clause-part
 returns-clause-part g c = IfErr-weaker c.check_run.result _ _ (λ e h other. h) c.check_run.ensures.part
