@@ -4,6 +4,7 @@ pub mod BegunTurn
 pub mod BlocksAt
 pub mod BoxHistories
 pub mod Boxes
+pub mod Bursts
 pub mod Due
 pub mod Ending
 pub mod Held

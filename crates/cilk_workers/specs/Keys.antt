@@ -1,5 +1,5 @@
 -- A worker's keys, one for each shelf.
-use Rattle.std.specs.Prelude.{◌≡◌, ◌⊎◌, ◌+◌, ◌%◌, ℕ, suc, Bool, List, [], ◌∷◌, Option, Some, length, slice_get, slice_index_or, slice_set}
+use Rattle.std.specs.Prelude.{◌≡◌, ◌+◌, ◌%◌, ℕ, suc, Bool, List, [], ◌∷◌, Option, Some, length, slice_get, slice_index_or, slice_set}
 use Rattle.crossbeam_queue.specs.declared.array_queue.Doing.{Doing}
 use Rattle.crossbeam_queue.specs.declared.array_queue.Slotted.{Slotted}
 use Rattle.crossbeam_queue.specs.Passes.{Pass, IsPassOf, view}
@@ -53,16 +53,6 @@ abbrev pub Arrived : EventOrder → PieceValue → Option ChainValue → List (P
 Arrived s p c ps next new =
     (b q : ℕ) × (a : Arrival) × (met : Met) × IsNumberOf s b q × IsOfBlock s q p.upto × (a.piece ≡ p) × (a.chain ≡ c) × GoesOnBy met next
     × MakesFor b ps (ArrivesAt q a met) new
-
--- a worker without work
-abbrev pub IsIdle : Activity → Type 0
-IsIdle (hands.Idle p) = Unit {0}
-IsIdle _ = ⊥
-
--- So did one piece; or nothing was done with these keys, and the worker isn't without work.
-abbrev pub ArrivedOnce : EventOrder → List (Pass Shelf KeyState) → Activity → List (Pass Shelf KeyState) → Type 0
-ArrivedOnce s ps next new =
-    ((new ≡ ps) × (IsIdle next → ⊥)) ⊎ ((p : PieceValue) × (c : Option ChainValue) × Arrived s p c ps next new)
 
 module _ {Q A : Type 0} where
   -- the key is of the lock of the shelf at this place, and doesn't hold that

@@ -3,6 +3,7 @@ pub mod Arrivals
 pub mod Asks
 pub mod BegunTurn
 pub mod Boxes
+pub mod Bursts
 pub mod Gates
 pub mod Activities
 pub mod Held

@@ -74,17 +74,27 @@ GoesNoFurther y before p =
     ((k : ℕ) × (word_step (event_order_in y) p.upto ≡ resume k) × (p.from ≤ k))
     × (((p ≡ grown before) × (event (event_order_in y) before.upto ≡ Some events.End)) ⊎ (p ≡ before))
 
+-- the event there is a spawn
+abbrev pub IsSpawnAt : EventOrder → ℕ → Type 0
+IsSpawnAt s at = (f : ℕ) × (event s at ≡ Some (events.Spawn f))
+
+-- the event that a turn made there, unless the turn offers a task, is no spawn
+abbrev pub OffersSpawn : EventOrder → ℕ → Turn → Type 0
+OffersSpawn s at Goes = IsSpawnAt s at → ⊥
+OffersSpawn s at (Finished value) = IsSpawnAt s at → ⊥
+OffersSpawn s at turn = Unit {0}
+
 -- The outcomes of a turn. Either the work is good and has one event more, or the worker has an end.
 -- An offered task is the continuation of the spawn that was made. The piece is unchanged where it
 -- arrives, which is at a `sync`, and where another worker took the continuation. A departure is a
--- true one. Nothing is said if memory runs out.
+-- true one, at the next event. Nothing is said if memory runs out.
 abbrev pub Turned : SharedValue → PieceValue → Work → Turn → Type 0
 Turned y before w Goes = Works y w × (let p = w.piece in p ≡ grown before)
-Turned y before w (Offers t) = Works y w × (let p = w.piece in p ≡ grown before) × (t.of ≡ y.replay) × (t.ticket ≡ before.upto)
+Turned y before w (Offers t) = Works y w × (let p = w.piece in p ≡ grown before) × (t.of ≡ y.replay) × (t.ticket ≡ before.upto) × IsSpawnAt (event_order_in y) before.upto
 Turned y before w Arrives = Works y w × (let p = w.piece in p ≡ before) × IsHeldUp y before
 Turned y before w Ended = (let p = w.piece in IsGood y.run p × GoesNoFurther y before p)
 Turned y before w (Finished value) = (let p = w.piece in HasEnded y p value × (p ≡ grown before))
-Turned y before w (Departed at) = Departs (event_order_in y) at
+Turned y before w (Departed at) = Departs (event_order_in y) at × (at ≡ before.upto)
 Turned y before w Stopped = Unit {0}
 
 -- The piece's next event is of this kind, and its frame requests it.

@@ -1,6 +1,6 @@
 //! The turns of a worker that holds a piece.
 
-ghost use Rattle.std.specs.Prelude.{◌≡◌, ◌⊎◌, ℕ, IfNone, IfSome, IsTrue};
+ghost use Rattle.std.specs.Prelude.{◌≡◌, ◌⊎◌, ℕ, [], ◌∷◌, ◌++◌, IfNone, IfSome, IsTrue, MatchOption};
 ghost use Rattle.cilk_tree.specs.Word.{resume, word_step};
 ghost use Rattle.cilk_workers.specs.Arrivals.{EndsWhereItWaits};
 ghost use Rattle.cilk_workers.specs.Shared.{event_order_in};
@@ -9,8 +9,9 @@ ghost use Rattle.cilk_replay.specs.Chains.{standing};
 ghost use Rattle.cilk_workers.specs.Racks.{Of};
 ghost use Rattle.cilk_workers.specs.Turns.{Works};
 ghost use Rattle.cilk_workers.specs.Activities.{IsActivity};
-ghost use Rattle.cilk_workers.specs.Held.{AreTaken, IsOfferedIf, IsSameRack};
-ghost use Rattle.cilk_workers.specs.Keys.{AreKeys, Arrived, ArrivedOnce};
+ghost use Rattle.cilk_workers.specs.Bursts.{ArrivedOnce};
+ghost use Rattle.cilk_workers.specs.Held.{AreTaken, IsOfferedIf, IsSameRack, waiting};
+ghost use Rattle.cilk_workers.specs.Keys.{AreKeys, Arrived};
 ghost use Rattle.cilk_workers.specs.WorkerContexts.{IsWorkerContext};
 
 use crate::activity::{Activity, ExitReason, Tools};
@@ -36,6 +37,8 @@ const TURNS: u32 = 256;
 fn behind<N: Naming>(rack: &mut Rack<N>, taken: bool) -> Option<Task>
     ensures task { IfSome result (λ t. Of N.replay t) }
     ensures none { IfNone result (IsTrue taken ⊎ AreTaken N.taken rack.old) }
+    ensures rule { MatchOption result (waiting rack.new ≡ waiting rack.old) (λ t. waiting rack.old ≡ waiting rack.new ++ t ∷ []) }
+    ensures same { IsSameRack rack.old rack.new }
 {
     if taken { None } else { rack.newest() }
 }
@@ -52,12 +55,15 @@ fn key_at(shared: &Shared<'_>, at: Pos) -> Pos
 }
 
 impl<'a, 'b, N: Naming, R: Wait, G: Gate> WorkerContext<'a, 'b, N, R, G> {
-    // The worker continues with its own newest task, the continuation of its child.
+    // The worker continues with its own newest task, the continuation of its child, at the task's position.
     fn own(&self, work: &mut Work, task: Task)
         requires piece { IsGood self.now.shared.now.run work.old.piece }
         requires task { task.of ≡ self.now.shared.now.replay }
-        ensures { Works self.now.shared.now work.new }
+        ensures works { Works self.now.shared.now work.new }
+        ensures same { work.new.piece ≡ work.old.piece }
+        ensures resumes { word_step (event_order_in self.now.shared.now) work.old.piece.upto ≡ resume task.ticket }
     {
+        self.shared.laws();
         if task.at() != work.piece.upto() {
             never(self.rt);
         }
@@ -105,13 +111,14 @@ impl<'a, 'b, N: Naming, R: Wait, G: Gate> WorkerContext<'a, 'b, N, R, G> {
     ///
     /// When a child has ended, the worker continues with its own newest task, the child's
     /// continuation. If it has none, or a thief took the continuation that it was to resume, its
-    /// piece arrives at the block. It arrives once at most, and tells no block anything else.
+    /// piece arrives at the block. It arrives once at most, and tells no block anything else. It pushes
+    /// the continuation of each spawn, and pops a task only where that continues.
     pub fn run_burst(&self, tools: &mut Tools<N>, mut work: Work) -> Activity
         requires context { IsWorkerContext N.run N.replay N.taken self.now }
         requires keys { AreKeys self.now.locks.now.items tools.old.keys.items }
         requires works { Works self.now.shared.now work }
         ensures keys { AreKeys self.now.locks.now.items tools.new.keys.items }
-        ensures told { ArrivedOnce (event_order_in self.now.shared.now) tools.old.keys.items result tools.new.keys.items }
+        ensures told { ArrivedOnce (event_order_in self.now.shared.now) work.piece.upto tools.old result tools.new }
         ensures hand { IsActivity self.now.shared.now result }
     {
         'each: for _ in 0..TURNS {

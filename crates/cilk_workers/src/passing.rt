@@ -9,7 +9,7 @@ ghost use Rattle.cilk_tree.specs.Runs.{IsAsked};
 ghost use Rattle.cilk_tree.specs.Word.{event, plain, resume, word_step};
 ghost use Rattle.cilk_types.specs.declared.event.Event.TheVariants.{Sync};
 ghost use Rattle.cilk_workers.specs.Shared.{event_order_in};
-ghost use Rattle.cilk_workers.specs.Turns.{HasMore, IsDue, IsSilent, Turned, Works};
+ghost use Rattle.cilk_workers.specs.Turns.{HasMore, IsDue, IsSilent, OffersSpawn, Turned, Works};
 
 use crate::asking::result_asked;
 use crate::shared::Shared;
@@ -95,7 +95,8 @@ pub(crate) fn finished(shared: &Shared<'_>, work: &mut Work, root: FrameNo) -> T
     requires asked { IsAsked (event_order_in shared.now) work.old.piece.upto }
     requires last { work.old.piece.upto ≡ length (event_order_in shared.now).events }
     requires root { IsInFrame (event_order_in shared.now).events work.old.piece.upto root }
-    ensures { Turned shared.now work.old.piece work.new result }
+    ensures turned { Turned shared.now work.old.piece work.new result }
+    ensures spawn { OffersSpawn (event_order_in shared.now) work.old.piece.upto result }
 {
     shared.laws();
     work.piece.segment().follows(shared.yard());

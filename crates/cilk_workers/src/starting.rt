@@ -5,7 +5,7 @@ ghost use Rattle.cilk_tree.specs.declared.kind.Kind.TheVariants as kinds;
 ghost use Rattle.cilk_tree.specs.Word.{event};
 ghost use Rattle.cilk_workers.specs.BegunTurn.{IsStart};
 ghost use Rattle.cilk_workers.specs.Shared.{event_order_in};
-ghost use Rattle.cilk_workers.specs.Turns.{HasMore, IsDue, Turned};
+ghost use Rattle.cilk_workers.specs.Turns.{HasMore, IsDue, OffersSpawn, Turned};
 ghost use Rattle.cilk_types.specs.declared.event.Event.TheVariants.{Begin};
 
 use crate::shared::Shared;
@@ -36,7 +36,8 @@ fn frame_begun(shared: &Shared<'_>, at: Pos) -> FrameNo
 pub(crate) fn spawned(alloc: Global, shared: &Shared<'_>, work: &mut Work) -> Turn
     requires due { (child : ℕ) × IsDue shared.now work.old (kinds.Spawn child) }
     requires more { HasMore shared.now work.old }
-    ensures { Turned shared.now work.old.piece work.new result }
+    ensures turned { Turned shared.now work.old.piece work.new result }
+    ensures spawn { OffersSpawn (event_order_in shared.now) work.old.piece.upto result }
 {
     let at = work.piece.upto();
     shared.laws();

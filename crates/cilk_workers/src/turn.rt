@@ -6,7 +6,7 @@ ghost use Rattle.cilk_tree.specs.Frames.{IsInFrame};
 ghost use Rattle.cilk_tree.specs.declared.kind.Kind.TheVariants as kinds;
 ghost use Rattle.cilk_tree.specs.Runs.{IsAsked};
 ghost use Rattle.cilk_workers.specs.Shared.{event_order_in};
-ghost use Rattle.cilk_workers.specs.Turns.{HasMore, IsDue, IsThief, Turned, Works};
+ghost use Rattle.cilk_workers.specs.Turns.{HasMore, IsDue, IsThief, OffersSpawn, Turned, Works};
 
 use crate::asking::stands_within;
 use crate::cells::{loaded, stored};
@@ -41,7 +41,8 @@ fn departed(shared: &Shared<'_>, work: &Work) -> Turn
     requires works { Works shared.now work.now }
     requires within { work.now.piece.upto ≤ length (event_order_in shared.now).events }
     requires differs { IsAsked (event_order_in shared.now) work.now.piece.upto → ⊥ }
-    ensures { Turned shared.now work.now.piece work.now result }
+    ensures turned { Turned shared.now work.now.piece work.now result }
+    ensures spawn { OffersSpawn (event_order_in shared.now) work.now.piece.upto result }
 {
     shared.replay().resumes();
     let segment = work.piece.segment();
@@ -67,7 +68,8 @@ fn made(alloc: Global, shared: &Shared<'_>, work: &mut Work, frame: FrameNo, kin
     requires due { IsDue shared.now work.old kind }
     requires more { HasMore shared.now work.old }
     requires frame { IsInFrame (event_order_in shared.now).events work.old.piece.upto frame }
-    ensures { Turned shared.now work.old.piece work.new result }
+    ensures turned { Turned shared.now work.old.piece work.new result }
+    ensures spawn { OffersSpawn (event_order_in shared.now) work.old.piece.upto result }
 {
     match kind {
         Kind::Begin { .. } => passed(shared, work),
@@ -91,7 +93,8 @@ fn made(alloc: Global, shared: &Shared<'_>, work: &mut Work, frame: FrameNo, kin
 #[inline(always)]
 pub fn act(alloc: Global, shared: &Shared<'_>, work: &mut Work) -> Turn
     requires { Works shared.now work.old }
-    ensures { Turned shared.now work.old.piece work.new result }
+    ensures turned { Turned shared.now work.old.piece work.new result }
+    ensures spawn { OffersSpawn (event_order_in shared.now) work.old.piece.upto result }
 {
     let at = work.piece.upto();
     shared.laws();

@@ -8,6 +8,7 @@ use Rattle.cilk_tree.specs.Runs.{IsAsked, IsFollowed}
 use Rattle.cilk_tree.specs.Word.{predecessors_of, event, finish, resume, word_step}
 use Rattle.cilk_tree.specs.Orders.{IsOrderly}
 use Rattle.cilk_workers.specs.Shared.{event_order_in}
+use Rattle.cilk_workers.proofs.Bursts.{no_end}
 use Rattle.cilk_workers.proofs.Due.{ahead, grown_good, in_segment, in_yard, off_segment, on_chain}
 use Rattle.cilk_workers.proofs.Ending.{ended_with}
 use Rattle.cilk_workers.proofs.OfKind.{finish_event}
@@ -60,8 +61,8 @@ finish-requires-clause-next c =
     let works = c.requires.works in
     in_yard (λ s. (p.from < p.upto × IsAsked s p.upto) × (word_step s p.upto ≡ finish)) y _ c.yard-2.ensures ((works.good.1, c.requires.asked), finishes (event_order_in y) p.upto c.laws.ensures.order c.requires.last)
 
-pub returns : goal.returns
-returns c =
+pub returns-clause-turned : goal.returns-clause-turned
+returns-clause-turned c =
     let y = c.args.shared.now in
     let p = c.args.work.now.piece in
     let works = c.requires.works in
@@ -78,3 +79,9 @@ returns c =
       },
       c.finish.ensures.piece,
     )
+
+pub returns-clause-spawn : goal.returns-clause-spawn
+returns-clause-spawn c =
+    let y = c.args.shared.now in
+    let p = c.args.work.now.piece in
+    no_end (event_order_in y) p.upto (ends (event_order_in y) p.upto c.laws.ensures.order c.requires.last)

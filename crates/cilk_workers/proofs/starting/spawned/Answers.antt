@@ -1,4 +1,4 @@
-use Rattle.std.proofs.Common.{◌≡◌, ◌<◌, ◌∙◌, ℕ, sym, ap, subst}
+use Rattle.std.proofs.Common.{rules, ◌≡◌, ◌<◌, ◌∙◌, ℕ, sym, ap, subst}
 use Rattle.cilk_types.specs.declared.event.Event.TheVariants as events
 use Rattle.cilk_replay.specs.Chains.{ChainValue, standing}
 use Rattle.cilk_tree.specs.declared.kind.Kind.TheVariants as kinds
@@ -8,6 +8,7 @@ use Rattle.cilk_tree.specs.Word.{event, resume, spawn, word_step}
 use Rattle.cilk_workers.specs.BegunTurn.{IsStart}
 use Rattle.cilk_workers.specs.Shared.{event_order_in}
 use Rattle.cilk_workers.proofs.BegunTurn.{starts}
+use Rattle.cilk_workers.proofs.Bursts.{spawn_at}
 use Rattle.cilk_workers.proofs.Due.{chain_follows, here, in_yard, on_chain, on_standing}
 use Rattle.cilk_workers.proofs.OfKind.{what_spawn}
 use Rattle.cilk_workers.proofs.starting.spawned.Goals as goal
@@ -57,3 +58,10 @@ new-requires c =
     let there = subst (λ (z : YardValue). word_step z.event_order c.in-Some.next ≡ resume c.upto-at.result) c.yard.ensures ((c.resumption.ensures c.in-Some.next).0 c.in-Some.is) in
     on_standing (λ s at. word_step s at ≡ resume c.offer-ticket.result) y c.in-Ok.rest c.in-Some.next (c.in-Ok.ensures.parent ∙ ap (λ (k : ChainValue). standing k.of c.in-Some.next) works.stands) c.laws.ensures.same
     (subst (λ (n : ℕ). word_step (event_order_in y) c.in-Some.next ≡ resume n) (c.upto-at.ensures ∙ sym c.offer-ticket.ensures.ticket) there)
+
+pub returns-clause-turned : goal.returns-clause-turned
+returns-clause-turned c =
+    let y = c.args.shared.now in
+    let p = c.args.work.now.piece in
+    let due = c.requires.due.1 in
+    (search rules, search rules, search rules, search rules, spawn_at (event_order_in y) p.upto c.requires.due.0 due.kind_is)

@@ -1,4 +1,4 @@
-use Rattle.std.proofs.Common.{◌≡◌, ◌-◌, ◌<◌, ℕ, sym, subst}
+use Rattle.std.proofs.Common.{◌≡◌, ◌∙◌, ◌-◌, ◌<◌, ℕ, ap, rules, sym, subst}
 use Rattle.cilk_replay.specs.Replays.{ReplayValue}
 use Rattle.cilk_replay.specs.Resumes.{ResumesAreAsked}
 use Rattle.cilk_shared.specs.Values.{SegmentValue, YardValue}
@@ -26,3 +26,6 @@ departs-requires-clause-next c =
       λ k is. c.requires.differs
           (law.ended k p.upto (off_segment (λ (s : EventOrder) (n : ℕ). word_step s n ≡ resume k) y p _ c.segment-segment.ensures works.good.0 is) followed),
     )
+
+pub returns-clause-turned : goal.returns-clause-turned
+returns-clause-turned c = (search rules, c.departs.ensures.place ∙ ap (λ (g : SegmentValue). g.upto) c.segment-segment.ensures)

@@ -1,11 +1,13 @@
-use Rattle.std.proofs.Common.{◌≡◌, List, None, Some, inr, sym, rules, subst}
+use Rattle.std.proofs.Common.{◌≡◌, arith, List, None, Some, inl, inr, refl, sym, ap, rules, subst}
 use Rattle.cilk_replay.specs.Starts.{BeginsInBlock}
 use Rattle.cilk_shared.specs.Pieces.{PieceValue}
 use Rattle.cilk_tree.specs.Word.{event}
 use Rattle.cilk_types.specs.declared.event.Event.TheVariants.{Sync}
+use Rattle.cilk_workers.specs.Bursts.{KeepsTasks, stays}
 use Rattle.cilk_workers.specs.Keys.{Arrived}
 use Rattle.cilk_workers.specs.Shared.{SharedValue, event_order_in}
 use Rattle.cilk_workers.specs.Turns.{IsHeldUp}
+use Rattle.cilk_workers.proofs.Bursts.{as_before, goes, joined, offers, resumes, stops, was_pushed, was_refused}
 use Rattle.cilk_workers.proofs.Keys.{Key}
 use Rattle.cilk_workers.proofs.context.WorkerContext.run_burst.Goals as goal
 use Rattle.cilk_workers.proofs.context.WorkerContext.run_burst.Goals.{in-Goes, in-Offers+else-not-offered, in-Ended+in-Some}
@@ -16,18 +18,116 @@ held_up y before p same held =
     let owed = held.2 in subst (λ (q : PieceValue). (event (event_order_in y) q.upto ≡ Some Sync) × BeginsInBlock (event_order_in y) q.from q.upto) (sym same) (held.0, owed.begins)
 
 pub arrived-requires-in-Arrives-clause-ends : goal.arrived-requires-in-Arrives-clause-ends
-arrived-requires-in-Arrives-clause-ends g c = let turned = c.in-Arrives.ensures in held_up c.args.self.now.shared.now c.each.work.piece c.act.new.work.piece turned.1 turned.2
+arrived-requires-in-Arrives-clause-ends g c = let turned = c.in-Arrives.ensures.turned in held_up c.args.self.now.shared.now c.each.work.piece c.act.new.work.piece turned.1 turned.2
+
+pub each-init : goal.each-init
+each-init g c = record { works = c.requires.works; keys = c.requires.keys; untold = refl; idle = refl; kept = ((refl, omega arith), stays); }
 
 pub each-preserved : goal.each-preserved
-each-preserved g c = elim c.match-act.branch [ in-Goes w ↦ search rules | in-Offers+else-not-offered w ↦ search rules | in-Ended+in-Some w ↦ search rules ]
+each-preserved g c =
+    let start = c.args.work.piece in
+    let i = c.each.invariant in
+    let y = c.args.self.now.shared.now in
+    let s = event_order_in y in
+    let before = c.each.work.piece in
+    let after = c.act.new.work.piece in
+    let rack = c.each.tools.rack in
+    elim c.match-act.branch [
+      | in-Goes w ↦ record {
+          works = search rules;
+          keys = search rules;
+          untold = search rules;
+          idle = search rules;
+          kept = joined y _ _ _ _ _ _ w.work-is w.tools-is (goes y _ _ before after rack i.kept w.in-Goes.ensures.turned.1 w.in-Goes.ensures.spawn);
+        }
+      | in-Offers+else-not-offered w ↦ record {
+          works = search rules;
+          keys = search rules;
+          untold = search rules;
+          idle = search rules;
+          kept =
+              let turned = w.in-Offers.ensures.turned in
+              let more = was_pushed rack w.in-Offers.task w.offered.result w.offered.new.rack w.offered.ensures.rule w.if-not-offered.false in
+              joined y _ _ _ _ _ _ w.work-is w.tools-is
+              (offers y _ _ before after rack w.offered.new.rack w.in-Offers.task i.kept turned.1 turned.4 turned.3 more w.offered.ensures.same);
+        }
+      | in-Ended+in-Some w ↦ record {
+          works = search rules;
+          keys = search rules;
+          untold = search rules;
+          idle = search rules;
+          kept =
+              let there = stops y _ _ before after rack i.kept w.in-Ended.ensures.turned.1 in
+              let popped = resumes y _ _ after.upto rack w.behind.new.rack w.in-Some.task there w.in-Some.ensures.rule w.behind.ensures.same w.own.ensures.resumes in
+              joined y _ _ _ _ _ _ w.work-is w.tools-is (subst (λ (p : PieceValue). KeepsTasks s start.upto c.args.tools.now.rack p.upto w.behind.new.rack) (sym w.own.ensures.same) popped);
+        }
+    ]
+
+pub returns-then-not-offered-clause-told : goal.returns-then-not-offered-clause-told
+returns-then-not-offered-clause-told g c =
+    let i = c.each.invariant in
+    let rack = c.each.tools.rack in
+    let same = was_refused rack c.in-Offers.task c.offered.result c.offered.new.rack c.offered.ensures.rule c.if-not-offered.true in
+    let before = c.each.work.piece in
+    (i.idle, inl (i.untold, (before.upto, tt, as_before c.args.self.now.shared.now _ _ before.upto rack c.offered.new.rack i.kept same c.offered.ensures.same)))
 
 pub returns-in_default-clause-told : goal.returns-in_default-clause-told
 returns-in_default-clause-told g c =
-    let its = λ (ks : List Key). Arrived (event_order_in c.args.self.now.shared.now) c.into_piece.result None ks c.arrived.result c.arrived.new.keys.items in
-    inr (c.into_piece.result, None, subst its c.each.invariant.2 c.arrived.ensures.told)
+    let start = c.args.work.piece in
+    let i = c.each.invariant in
+    let y = c.args.self.now.shared.now in
+    let s = event_order_in y in
+    let before = c.each.work.piece in
+    let after = c.act.new.work.piece in
+    let rack = c.each.tools.rack in
+    let its = λ (ks : List Key). Arrived s c.into_piece.result None ks c.arrived.result c.arrived.new.keys.items in
+    let there = stops y _ _ before after rack i.kept c.in-Ended.ensures.turned.1 in
+    let kept = as_before y _ _ after.upto rack c.behind.new.rack there c.in_default.ensures.rule c.behind.ensures.same in
+    (i.idle, inr (
+      c.into_piece.result,
+      None,
+      subst its i.untold c.arrived.ensures.told,
+      subst (λ (p : PieceValue). KeepsTasks s start.upto c.args.tools.now.rack p.upto c.behind.new.rack) (sym c.into_piece.ensures) kept,
+    ))
 
 pub returns-in-Arrives-clause-told : goal.returns-in-Arrives-clause-told
 returns-in-Arrives-clause-told g c =
+    let start = c.args.work.piece in
+    let i = c.each.invariant in
+    let s = event_order_in c.args.self.now.shared.now in
+    let after = c.act.new.work.piece in
     let chain = Some c.act.new.work.chain in
-    let its = λ (ks : List Key). Arrived (event_order_in c.args.self.now.shared.now) c.act.new.work.piece chain ks c.arrived-in-Arrives.result c.arrived-in-Arrives.new.keys.items in
-    inr (c.act.new.work.piece, chain, subst its c.each.invariant.2 c.arrived-in-Arrives.ensures.told)
+    let its = λ (ks : List Key). Arrived s after chain ks c.arrived-in-Arrives.result c.arrived-in-Arrives.new.keys.items in
+    let turned = c.in-Arrives.ensures.turned in
+    (i.idle, inr (
+      after,
+      chain,
+      subst its i.untold c.arrived-in-Arrives.ensures.told,
+      subst (λ (p : PieceValue). KeepsTasks s start.upto c.args.tools.now.rack p.upto c.each.tools.rack) (sym turned.1) i.kept,
+    ))
+
+pub returns-in-Finished-clause-told : goal.returns-in-Finished-clause-told
+returns-in-Finished-clause-told g c =
+    let i = c.each.invariant in
+    let before = c.each.work.piece in
+    let after = c.act.new.work.piece in
+    let kept = goes c.args.self.now.shared.now _ _ before after c.each.tools.rack i.kept c.in-Finished.ensures.turned.1 c.in-Finished.ensures.spawn in
+    (i.idle, inl (i.untold, (after.upto, ap (λ (p : PieceValue). p.upto) c.into_piece-in-Finished.ensures, kept)))
+
+pub returns-in-Departed-clause-told : goal.returns-in-Departed-clause-told
+returns-in-Departed-clause-told g c =
+    let i = c.each.invariant in
+    let before = c.each.work.piece in
+    (i.idle, inl (i.untold, (before.upto, c.in-Departed.ensures.turned.1, i.kept)))
+
+pub returns-in-Stopped-clause-told : goal.returns-in-Stopped-clause-told
+returns-in-Stopped-clause-told g c =
+    let i = c.each.invariant in
+    let before = c.each.work.piece in
+    (i.idle, inl (i.untold, (before.upto, tt, i.kept)))
+
+pub returns-clause-told : goal.returns-clause-told
+returns-clause-told g c =
+    let i = c.each.invariant in
+    let before = c.each.work.piece in
+    (i.idle, inl (i.untold, (before.upto, refl, i.kept)))
