@@ -71,10 +71,11 @@ module _ {N : Type 0} (y : SharedValue) (a : ℕ) (r : Rack N) where
   -- a spawn, and its continuation is pushed
   pub offers : (before p : PieceValue) (q q' : Rack N) (t : Task) → KeepsTasks (event_order_in y) a r before.upto q → p ≡ grown before → IsSpawnAt (event_order_in y) before.upto → t.ticket ≡ before.upto
       → waiting q' ≡ waiting q ++ t ∷ [] → IsSameRack q q' → KeepsTasks (event_order_in y) a r p.upto q'
-  offers before p q q' t kept is spawn ticket more same =
-      (same_rack r q q' kept.0 same,
-      subst (λ (z : PieceValue). Leads (event_order_in y) a (waiting r) z.upto (waiting q')) (sym is)
-      (subst (λ (us : List Task). Leads (event_order_in y) a (waiting r) (before.upto + 1) us) (sym more) (pushes before.upto (waiting q) t kept.1 spawn ticket)))
+  offers before p q q' t kept is spawn ticket more same = (
+    same_rack r q q' kept.0 same,
+    subst (λ (z : PieceValue). Leads (event_order_in y) a (waiting r) z.upto (waiting q')) (sym is)
+        (subst (λ (us : List Task). Leads (event_order_in y) a (waiting r) (before.upto + 1) us) (sym more) (pushes before.upto (waiting q) t kept.1 spawn ticket)),
+  )
 
   -- a child's `end`, or none where its continuation was taken
   pub stops : (before p : PieceValue) (q : Rack N) → KeepsTasks (event_order_in y) a r before.upto q → GoesNoFurther y before p → KeepsTasks (event_order_in y) a r p.upto q

@@ -41,4 +41,4 @@ module _ {N : Type 0} where
   ArrivedOnce s a t next t' =
       (t'.pickers.items ≡ t.pickers.items)
       × (((t'.keys.items ≡ t.keys.items) × ((b : ℕ) × ComesTo next b × KeepsTasks s a t.rack b t'.rack))
-          ⊎ ((p : PieceValue) × (c : Option ChainValue) × Arrived s p c t.keys.items next t'.keys.items × KeepsTasks s a t.rack p.upto t'.rack))
+      ⊎ ((p : PieceValue) × (c : Option ChainValue) × Arrived s p c t.keys.items next t'.keys.items × KeepsTasks s a t.rack p.upto t'.rack))

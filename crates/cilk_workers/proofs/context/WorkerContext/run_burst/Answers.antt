@@ -21,7 +21,7 @@ pub arrived-requires-in-Arrives-clause-ends : goal.arrived-requires-in-Arrives-c
 arrived-requires-in-Arrives-clause-ends g c = let turned = c.in-Arrives.ensures.turned in held_up c.args.self.now.shared.now c.each.work.piece c.act.new.work.piece turned.1 turned.2
 
 pub each-init : goal.each-init
-each-init g c = record { works = c.requires.works; keys = c.requires.keys; untold = refl; idle = refl; kept = ((refl, omega arith), stays); }
+each-init g c = record { works = c.requires.works; keys = c.requires.keys; untold = refl; idle = refl; kept = ((refl, omega arith), stays) }
 
 pub each-preserved : goal.each-preserved
 each-preserved g c =
@@ -34,33 +34,33 @@ each-preserved g c =
     let rack = c.each.tools.rack in
     elim c.match-act.branch [
       | in-Goes w ↦ record {
-          works = search rules;
-          keys = search rules;
-          untold = search rules;
-          idle = search rules;
-          kept = joined y _ _ _ _ _ _ w.work-is w.tools-is (goes y _ _ before after rack i.kept w.in-Goes.ensures.turned.1 w.in-Goes.ensures.spawn);
-        }
+        works = search rules;
+        keys = search rules;
+        untold = search rules;
+        idle = search rules;
+        kept = joined y _ _ _ _ _ _ w.work-is w.tools-is (goes y _ _ before after rack i.kept w.in-Goes.ensures.turned.1 w.in-Goes.ensures.spawn);
+      }
       | in-Offers+else-not-offered w ↦ record {
-          works = search rules;
-          keys = search rules;
-          untold = search rules;
-          idle = search rules;
-          kept =
-              let turned = w.in-Offers.ensures.turned in
-              let more = was_pushed rack w.in-Offers.task w.offered.result w.offered.new.rack w.offered.ensures.rule w.if-not-offered.false in
-              joined y _ _ _ _ _ _ w.work-is w.tools-is
-              (offers y _ _ before after rack w.offered.new.rack w.in-Offers.task i.kept turned.1 turned.4 turned.3 more w.offered.ensures.same);
-        }
+        works = search rules;
+        keys = search rules;
+        untold = search rules;
+        idle = search rules;
+        kept =
+            let turned = w.in-Offers.ensures.turned in
+            let more = was_pushed rack w.in-Offers.task w.offered.result w.offered.new.rack w.offered.ensures.rule w.if-not-offered.false in
+            joined y _ _ _ _ _ _ w.work-is w.tools-is
+            (offers y _ _ before after rack w.offered.new.rack w.in-Offers.task i.kept turned.1 turned.4 turned.3 more w.offered.ensures.same);
+      }
       | in-Ended+in-Some w ↦ record {
-          works = search rules;
-          keys = search rules;
-          untold = search rules;
-          idle = search rules;
-          kept =
-              let there = stops y _ _ before after rack i.kept w.in-Ended.ensures.turned.1 in
-              let popped = resumes y _ _ after.upto rack w.behind.new.rack w.in-Some.task there w.in-Some.ensures.rule w.behind.ensures.same w.own.ensures.resumes in
-              joined y _ _ _ _ _ _ w.work-is w.tools-is (subst (λ (p : PieceValue). KeepsTasks s start.upto c.args.tools.now.rack p.upto w.behind.new.rack) (sym w.own.ensures.same) popped);
-        }
+        works = search rules;
+        keys = search rules;
+        untold = search rules;
+        idle = search rules;
+        kept =
+            let there = stops y _ _ before after rack i.kept w.in-Ended.ensures.turned.1 in
+            let popped = resumes y _ _ after.upto rack w.behind.new.rack w.in-Some.task there w.in-Some.ensures.rule w.behind.ensures.same w.own.ensures.resumes in
+            joined y _ _ _ _ _ _ w.work-is w.tools-is (subst (λ (p : PieceValue). KeepsTasks s start.upto c.args.tools.now.rack p.upto w.behind.new.rack) (sym w.own.ensures.same) popped);
+      }
     ]
 
 pub returns-then-not-offered-clause-told : goal.returns-then-not-offered-clause-told
@@ -82,13 +82,15 @@ returns-in_default-clause-told g c =
     let rack = c.each.tools.rack in
     let its = λ (ks : List Key). Arrived s c.into_piece.result None ks c.arrived.result c.arrived.new.keys.items in
     let there = stops y _ _ before after rack i.kept c.in-Ended.ensures.turned.1 in
-    let kept = as_before y _ _ after.upto rack c.behind.new.rack there c.in_default.ensures.rule c.behind.ensures.same in
-    (i.idle, inr (
-      c.into_piece.result,
-      None,
-      subst its i.untold c.arrived.ensures.told,
-      subst (λ (p : PieceValue). KeepsTasks s start.upto c.args.tools.now.rack p.upto c.behind.new.rack) (sym c.into_piece.ensures) kept,
-    ))
+    let kept = as_before y _ _ after.upto rack c.behind.new.rack there c.in_default.ensures.rule c.behind.ensures.same in (
+      i.idle,
+      inr (
+        c.into_piece.result,
+        None,
+        subst its i.untold c.arrived.ensures.told,
+        subst (λ (p : PieceValue). KeepsTasks s start.upto c.args.tools.now.rack p.upto c.behind.new.rack) (sym c.into_piece.ensures) kept,
+      ),
+    )
 
 pub returns-in-Arrives-clause-told : goal.returns-in-Arrives-clause-told
 returns-in-Arrives-clause-told g c =
@@ -98,13 +100,15 @@ returns-in-Arrives-clause-told g c =
     let after = c.act.new.work.piece in
     let chain = Some c.act.new.work.chain in
     let its = λ (ks : List Key). Arrived s after chain ks c.arrived-in-Arrives.result c.arrived-in-Arrives.new.keys.items in
-    let turned = c.in-Arrives.ensures.turned in
-    (i.idle, inr (
-      after,
-      chain,
-      subst its i.untold c.arrived-in-Arrives.ensures.told,
-      subst (λ (p : PieceValue). KeepsTasks s start.upto c.args.tools.now.rack p.upto c.each.tools.rack) (sym turned.1) i.kept,
-    ))
+    let turned = c.in-Arrives.ensures.turned in (
+      i.idle,
+      inr (
+        after,
+        chain,
+        subst its i.untold c.arrived-in-Arrives.ensures.told,
+        subst (λ (p : PieceValue). KeepsTasks s start.upto c.args.tools.now.rack p.upto c.each.tools.rack) (sym turned.1) i.kept,
+      ),
+    )
 
 pub returns-in-Finished-clause-told : goal.returns-in-Finished-clause-told
 returns-in-Finished-clause-told g c =
