@@ -13,7 +13,7 @@ use Rattle.cilk_syntax.specs.Lexing.{all_digits, value_of}
 use Rattle.cilk_types.specs.declared.limits.TheConstants.{MAX_WORKERS}
 use Rattle.cilk_commands.specs.Serving.{HasWorkers}
 use Rattle.cilk_messages.specs.Words as words
-use Rattle.cilk_messages.specs.Words.{Certify, Check, Judge, Play, Requested, Run, Settle, certify_with, check_with, cilk_app, judge_with, named, order_by, order_in, paths_in, play_with, run_with, script_with, settle_with, worker_count, workers_in}
+use Rattle.cilk_messages.specs.Words.{Certify, Check, Judge, Play, Requested, Run, Settle, certify_with, check_with, cilk_app, judge_with, order_by, order_in, paths_in, play_with, run_with, script_with, settle_with, workers_in}
 
 counted : (n : ℕ) (b : Bool) → (b ≡ true → 1 ≤ n) → (workers : ℕ) → (if b then Some n else None) ≡ Some workers → 0 < workers
 counted n true some workers e = let z : Some n ≡ Some workers = e in let q : n ≡ workers = cc in let l = some refl in omega (arith, q, l)

@@ -11,7 +11,7 @@ use Rattle.cilk_tree.specs.declared.kind.Kind.TheVariants as kinds
 use Rattle.cilk_tree.specs.declared.event_order.EventOrder.{EventOrder}
 use Rattle.cilk_tree.specs.Word.{event, resume, word_step}
 use Rattle.cilk_types.specs.declared.event.Event.TheVariants.{End}
-use Rattle.cilk_workers.specs.Bursts.{KeepsTasks, Leads, stays, passes, pushes, pops}
+use Rattle.cilk_workers.specs.Bursts.{KeepsTasks, Leads, passes, pushes, pops}
 use Rattle.cilk_workers.specs.Held.{IsOfferedIf, IsSameRack, waiting}
 use Rattle.cilk_workers.specs.Shared.{SharedValue, event_order_in}
 use Rattle.cilk_workers.specs.Turns.{GoesNoFurther, IsSpawnAt, OffersSpawn}

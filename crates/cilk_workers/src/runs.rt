@@ -1,5 +1,5 @@
 //! The runs of arrived keys of a sync block, and the awaited keys between them.
-ghost use Rattle.std.specs.Prelude.{nat_lt, if◌then◌else◌, ◌≡◌, ◌↔◌, ◌<◌, ◌≤◌, ◌+◌, IfErr, OnOk, OnErr, IsTrue, Some, None, []};
+ghost use Rattle.std.specs.Prelude.{nat_lt, if◌then◌else◌, ◌≡◌, ◌↔◌, ◌<◌, ◌≤◌, IfErr, OnOk, OnErr, IsTrue, None, []};
 ghost use Rattle.cilk_workers.specs.Rows.{parts_in, awaiting, end_in, placed_in, FitsIn, IsGood, IsGoodRun, IsLowest, PiecesLieApart, rows, yard_of};
 ghost use Rattle.cilk_join.specs.AwaitedRows.{is_empty, row};
 ghost use Rattle.cilk_workers.specs.Boxes.{IsAwaitedIf};

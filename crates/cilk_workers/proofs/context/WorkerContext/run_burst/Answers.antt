@@ -38,7 +38,7 @@ each-preserved g c =
         keys = search rules;
         untold = search rules;
         idle = search rules;
-        kept = joined y _ _ _ _ _ _ w.work-is w.tools-is (goes y _ _ before after rack i.kept w.in-Goes.ensures.turned.1 w.in-Goes.ensures.spawn);
+        kept = joined y start.upto c.args.tools.now.rack _ _ _ _ w.work-is w.tools-is (goes y start.upto c.args.tools.now.rack before after rack i.kept w.in-Goes.ensures.turned.1 w.in-Goes.ensures.spawn);
       }
       | in-Offers+else-not-offered w ↦ record {
         works = search rules;
@@ -48,8 +48,8 @@ each-preserved g c =
         kept =
             let turned = w.in-Offers.ensures.turned in
             let more = was_pushed rack w.in-Offers.task w.offered.result w.offered.new.rack w.offered.ensures.rule w.if-not-offered.false in
-            joined y _ _ _ _ _ _ w.work-is w.tools-is
-            (offers y _ _ before after rack w.offered.new.rack w.in-Offers.task i.kept turned.1 turned.4 turned.3 more w.offered.ensures.same);
+            joined y start.upto c.args.tools.now.rack _ _ _ _ w.work-is w.tools-is
+            (offers y start.upto c.args.tools.now.rack before after rack w.offered.new.rack w.in-Offers.task i.kept turned.1 turned.4 turned.3 more w.offered.ensures.same);
       }
       | in-Ended+in-Some w ↦ record {
         works = search rules;
@@ -57,19 +57,20 @@ each-preserved g c =
         untold = search rules;
         idle = search rules;
         kept =
-            let there = stops y _ _ before after rack i.kept w.in-Ended.ensures.turned.1 in
-            let popped = resumes y _ _ after.upto rack w.behind.new.rack w.in-Some.task there w.in-Some.ensures.rule w.behind.ensures.same w.own.ensures.resumes in
-            joined y _ _ _ _ _ _ w.work-is w.tools-is (subst (λ (p : PieceValue). KeepsTasks s start.upto c.args.tools.now.rack p.upto w.behind.new.rack) (sym w.own.ensures.same) popped);
+            let there = stops y start.upto c.args.tools.now.rack before after rack i.kept w.in-Ended.ensures.turned.1 in
+            let popped = resumes y start.upto c.args.tools.now.rack after.upto rack w.behind.new.rack w.in-Some.task there w.in-Some.ensures.rule w.behind.ensures.same w.own.ensures.resumes in
+            joined y start.upto c.args.tools.now.rack _ _ _ _ w.work-is w.tools-is (subst (λ (p : PieceValue). KeepsTasks s start.upto c.args.tools.now.rack p.upto w.behind.new.rack) (sym w.own.ensures.same) popped);
       }
     ]
 
 pub returns-then-not-offered-clause-told : goal.returns-then-not-offered-clause-told
 returns-then-not-offered-clause-told g c =
+    let start = c.args.work.piece in
     let i = c.each.invariant in
     let rack = c.each.tools.rack in
     let same = was_refused rack c.in-Offers.task c.offered.result c.offered.new.rack c.offered.ensures.rule c.if-not-offered.true in
     let before = c.each.work.piece in
-    (i.idle, inl (i.untold, (before.upto, tt, as_before c.args.self.now.shared.now _ _ before.upto rack c.offered.new.rack i.kept same c.offered.ensures.same)))
+    (i.idle, inl (i.untold, (before.upto, tt, as_before c.args.self.now.shared.now start.upto c.args.tools.now.rack before.upto rack c.offered.new.rack i.kept same c.offered.ensures.same)))
 
 pub returns-in_default-clause-told : goal.returns-in_default-clause-told
 returns-in_default-clause-told g c =
@@ -81,8 +82,8 @@ returns-in_default-clause-told g c =
     let after = c.act.new.work.piece in
     let rack = c.each.tools.rack in
     let its = λ (ks : List Key). Arrived s c.into_piece.result None ks c.arrived.result c.arrived.new.keys.items in
-    let there = stops y _ _ before after rack i.kept c.in-Ended.ensures.turned.1 in
-    let kept = as_before y _ _ after.upto rack c.behind.new.rack there c.in_default.ensures.rule c.behind.ensures.same in (
+    let there = stops y start.upto c.args.tools.now.rack before after rack i.kept c.in-Ended.ensures.turned.1 in
+    let kept = as_before y start.upto c.args.tools.now.rack after.upto rack c.behind.new.rack there c.in_default.ensures.rule c.behind.ensures.same in (
       i.idle,
       inr (
         c.into_piece.result,
@@ -112,10 +113,11 @@ returns-in-Arrives-clause-told g c =
 
 pub returns-in-Finished-clause-told : goal.returns-in-Finished-clause-told
 returns-in-Finished-clause-told g c =
+    let start = c.args.work.piece in
     let i = c.each.invariant in
     let before = c.each.work.piece in
     let after = c.act.new.work.piece in
-    let kept = goes c.args.self.now.shared.now _ _ before after c.each.tools.rack i.kept c.in-Finished.ensures.turned.1 c.in-Finished.ensures.spawn in
+    let kept = goes c.args.self.now.shared.now start.upto c.args.tools.now.rack before after c.each.tools.rack i.kept c.in-Finished.ensures.turned.1 c.in-Finished.ensures.spawn in
     (i.idle, inl (i.untold, (after.upto, ap (λ (p : PieceValue). p.upto) c.into_piece-in-Finished.ensures, kept)))
 
 pub returns-in-Departed-clause-told : goal.returns-in-Departed-clause-told
