@@ -7,7 +7,6 @@ pub mod OneScript
 pub mod Parts
 pub mod Prefixes
 pub mod Reading
-mod Results
 pub mod ScriptGrammar
 pub mod ScriptSpellings
 pub mod Scripts

@@ -1,4 +1,4 @@
-use Rattle.std.proofs.Common.{◌≡◌, ℕ, pos, List, ◌∷◌, refl, sym, subst, ◌∙◌, rules, arith, slice_index_or}
+use Rattle.std.proofs.Common.{◌≡◌, ℕ, pos, List, ◌∷◌, refl, sym, subst, ◌∙◌, rules, slice_index_or}
 use Rattle.cilk_syntax.specs.declared.token.Kind.TheVariants as kinds
 use Rattle.cilk_syntax.specs.declared.token.Token.{Token}
 use Rattle.cilk_syntax.specs.Expected as expected
@@ -7,7 +7,6 @@ use Rattle.cilk_syntax.specs.Grammar.{Is}
 use Rattle.cilk_syntax.specs.Stops.{IsStop}
 use Rattle.cilk_syntax.proofs.Runs.{takes}
 use Rattle.cilk_syntax.proofs.Stopping.{first_is, if_ok, if_err}
-use Rattle.cilk_parser.proofs.Results.{not_ok, rest_shorter}
 use Rattle.cilk_parser.proofs.assignments.assignment.Goals as goal
 
 begins : (ts ts1 : List Token) (d : ℕ) (stack : List Symbol) → Is kinds.Name ts ts1 → run ts (expected.Assignment d ∷ stack) 0 ≡ run ts1 (Subscript d ∷ Operation d ∷ stack) 0
@@ -26,24 +25,3 @@ returns-in-Name-clause-stops c =
     let kind : (slice_index_or c.args.tokens.now 0 t0).kind ≡ kinds.Name = search rules in
     let is = first_is _ t0 kinds.Name c.in-len1-up.len_at_least kind in
     if_err c.assigned.result _ _ (λ e h stack. subst (IsStop e) (sym (begins _ _ c.args.depth stack is)) (h stack)) c.assigned.ensures.stops
-
-pub returns-in_err-target-in-Increment-clause-tree : goal.returns-in_err-target-in-Increment-clause-tree
-returns-in_err-target-in-Increment-clause-tree c = not_ok c.from_residual.result _ _ c.from_residual.ensures.1
-
-pub returns-in_err-target-in-Increment-clause-shorter : goal.returns-in_err-target-in-Increment-clause-shorter
-returns-in_err-target-in-Increment-clause-shorter c = not_ok c.from_residual.result _ _ c.from_residual.ensures.1
-
-pub returns-in_err-target-in-Increment-clause-reads : goal.returns-in_err-target-in-Increment-clause-reads
-returns-in_err-target-in-Increment-clause-reads c = not_ok c.from_residual.result _ _ c.from_residual.ensures.1
-
-pub returns-in_err-target-in-Decrement-clause-tree : goal.returns-in_err-target-in-Decrement-clause-tree
-returns-in_err-target-in-Decrement-clause-tree c = not_ok c.from_residual-in_err-target-in-Decrement.result _ _ c.from_residual-in_err-target-in-Decrement.ensures.1
-
-pub returns-in_err-target-in-Decrement-clause-shorter : goal.returns-in_err-target-in-Decrement-clause-shorter
-returns-in_err-target-in-Decrement-clause-shorter c = not_ok c.from_residual-in_err-target-in-Decrement.result _ _ c.from_residual-in_err-target-in-Decrement.ensures.1
-
-pub returns-in_err-target-in-Decrement-clause-reads : goal.returns-in_err-target-in-Decrement-clause-reads
-returns-in_err-target-in-Decrement-clause-reads c = not_ok c.from_residual-in_err-target-in-Decrement.result _ _ c.from_residual-in_err-target-in-Decrement.ensures.1
-
-pub returns-in-Name-clause-shorter : goal.returns-in-Name-clause-shorter
-returns-in-Name-clause-shorter c = if_ok c.assigned.result _ _ (λ v h. omega (arith, h, rest_shorter c.args.tokens.now)) c.assigned.ensures.shorter

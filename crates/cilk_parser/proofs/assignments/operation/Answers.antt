@@ -7,7 +7,6 @@ use Rattle.cilk_syntax.specs.Grammar.{Is}
 use Rattle.cilk_syntax.specs.Stops.{IsStop}
 use Rattle.cilk_syntax.proofs.Runs.{takes}
 use Rattle.cilk_syntax.proofs.Stopping.{first_is, handed}
-use Rattle.cilk_parser.proofs.Results.{not_ok}
 use Rattle.cilk_parser.proofs.assignments.operation.Goals as goal
 
 -- an operator that a value follows is read
@@ -73,39 +72,3 @@ returns-in_err-value-in-StarAssign-clause-stops c =
     let is = first_is _ t0 kinds.StarAssign c.in-len1-up.len_at_least kind in
     handed c.from_residual-in_err-value-in-StarAssign.result c.in_err-value-in-StarAssign.field-0.0 _ c.from_residual-in_err-value-in-StarAssign.ensures.1
     (λ stack. subst (IsStop c.in_err-value-in-StarAssign.field-0.0) (sym (begins kinds.StarAssign _ _ c.args.depth stack is refl)) (c.in_err-value-in-StarAssign.ensures.stops stack))
-
-pub returns-in_err-value-in-Assign-clause-tree : goal.returns-in_err-value-in-Assign-clause-tree
-returns-in_err-value-in-Assign-clause-tree c = not_ok c.from_residual.result _ _ c.from_residual.ensures.1
-
-pub returns-in_err-value-in-Assign-clause-shorter : goal.returns-in_err-value-in-Assign-clause-shorter
-returns-in_err-value-in-Assign-clause-shorter c = not_ok c.from_residual.result _ _ c.from_residual.ensures.1
-
-pub returns-in_err-value-in-Assign-clause-reads : goal.returns-in_err-value-in-Assign-clause-reads
-returns-in_err-value-in-Assign-clause-reads c = not_ok c.from_residual.result _ _ c.from_residual.ensures.1
-
-pub returns-in_err-value-in-PlusAssign-clause-tree : goal.returns-in_err-value-in-PlusAssign-clause-tree
-returns-in_err-value-in-PlusAssign-clause-tree c = not_ok c.from_residual-in_err-value-in-PlusAssign.result _ _ c.from_residual-in_err-value-in-PlusAssign.ensures.1
-
-pub returns-in_err-value-in-PlusAssign-clause-shorter : goal.returns-in_err-value-in-PlusAssign-clause-shorter
-returns-in_err-value-in-PlusAssign-clause-shorter c = not_ok c.from_residual-in_err-value-in-PlusAssign.result _ _ c.from_residual-in_err-value-in-PlusAssign.ensures.1
-
-pub returns-in_err-value-in-PlusAssign-clause-reads : goal.returns-in_err-value-in-PlusAssign-clause-reads
-returns-in_err-value-in-PlusAssign-clause-reads c = not_ok c.from_residual-in_err-value-in-PlusAssign.result _ _ c.from_residual-in_err-value-in-PlusAssign.ensures.1
-
-pub returns-in_err-value-in-MinusAssign-clause-tree : goal.returns-in_err-value-in-MinusAssign-clause-tree
-returns-in_err-value-in-MinusAssign-clause-tree c = not_ok c.from_residual-in_err-value-in-MinusAssign.result _ _ c.from_residual-in_err-value-in-MinusAssign.ensures.1
-
-pub returns-in_err-value-in-MinusAssign-clause-shorter : goal.returns-in_err-value-in-MinusAssign-clause-shorter
-returns-in_err-value-in-MinusAssign-clause-shorter c = not_ok c.from_residual-in_err-value-in-MinusAssign.result _ _ c.from_residual-in_err-value-in-MinusAssign.ensures.1
-
-pub returns-in_err-value-in-MinusAssign-clause-reads : goal.returns-in_err-value-in-MinusAssign-clause-reads
-returns-in_err-value-in-MinusAssign-clause-reads c = not_ok c.from_residual-in_err-value-in-MinusAssign.result _ _ c.from_residual-in_err-value-in-MinusAssign.ensures.1
-
-pub returns-in_err-value-in-StarAssign-clause-tree : goal.returns-in_err-value-in-StarAssign-clause-tree
-returns-in_err-value-in-StarAssign-clause-tree c = not_ok c.from_residual-in_err-value-in-StarAssign.result _ _ c.from_residual-in_err-value-in-StarAssign.ensures.1
-
-pub returns-in_err-value-in-StarAssign-clause-shorter : goal.returns-in_err-value-in-StarAssign-clause-shorter
-returns-in_err-value-in-StarAssign-clause-shorter c = not_ok c.from_residual-in_err-value-in-StarAssign.result _ _ c.from_residual-in_err-value-in-StarAssign.ensures.1
-
-pub returns-in_err-value-in-StarAssign-clause-reads : goal.returns-in_err-value-in-StarAssign-clause-reads
-returns-in_err-value-in-StarAssign-clause-reads c = not_ok c.from_residual-in_err-value-in-StarAssign.result _ _ c.from_residual-in_err-value-in-StarAssign.ensures.1

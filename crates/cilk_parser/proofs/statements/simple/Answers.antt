@@ -9,7 +9,6 @@ use Rattle.cilk_syntax.specs.Limits.{is_deep}
 use Rattle.cilk_syntax.specs.Stops.{IsStop}
 use Rattle.cilk_syntax.proofs.Runs.{takes, shallow}
 use Rattle.cilk_syntax.proofs.Stopping.{along, first_is, if_ok, if_err}
-use Rattle.cilk_parser.proofs.Results.{not_ok, rest_shorter}
 use Rattle.cilk_parser.proofs.statements.simple.Goals as goal
 
 -- the symbols expected after `++` or `--`
@@ -169,63 +168,3 @@ returns-in-Print-clause-stops c =
     let is = first_is _ t0 kinds.Print c.in-len1-up.len_at_least kind in
     let low : c.args.depth ≤ 64 = omega arith in
     if_err c.printed.result _ _ (λ e h stack. subst (IsStop e) (sym (opens kinds.Print _ _ c.args.depth stack _ low is refl)) (h stack)) c.printed.ensures.stops
-
-pub returns-in-Int-clause-shorter : goal.returns-in-Int-clause-shorter
-returns-in-Int-clause-shorter c = if_ok c.declaration.result _ _ (λ v h. omega (arith, h, rest_shorter c.args.tokens.now)) c.declaration.ensures.shorter
-
-pub returns-in-Name-clause-shorter : goal.returns-in-Name-clause-shorter
-returns-in-Name-clause-shorter c = if_ok c.named.result _ _ (λ v h. omega (arith, h, rest_shorter c.args.tokens.now)) c.named.ensures.shorter
-
-pub returns-in-CilkSpawn-clause-shorter : goal.returns-in-CilkSpawn-clause-shorter
-returns-in-CilkSpawn-clause-shorter c = if_ok c.spawned.result _ _ (λ v h. omega (arith, h, rest_shorter c.args.tokens.now)) c.spawned.ensures.shorter
-
-pub returns-in-Print-clause-shorter : goal.returns-in-Print-clause-shorter
-returns-in-Print-clause-shorter c = if_ok c.printed.result _ _ (λ v h. omega (arith, h, rest_shorter c.args.tokens.now)) c.printed.ensures.shorter
-
-pub returns-in-Increment-clause-tree : goal.returns-in-Increment-clause-tree
-returns-in-Increment-clause-tree c = c.ended_assignment.ensures.tree
-
-pub returns-in-Increment-clause-shorter : goal.returns-in-Increment-clause-shorter
-returns-in-Increment-clause-shorter c = c.ended_assignment.ensures.shorter
-
-pub returns-in-Decrement-clause-tree : goal.returns-in-Decrement-clause-tree
-returns-in-Decrement-clause-tree c = c.ended_assignment-in-Decrement.ensures.tree
-
-pub returns-in-Decrement-clause-shorter : goal.returns-in-Decrement-clause-shorter
-returns-in-Decrement-clause-shorter c = c.ended_assignment-in-Decrement.ensures.shorter
-
-pub returns-in_err-rest-in-CilkSync-clause-tree : goal.returns-in_err-rest-in-CilkSync-clause-tree
-returns-in_err-rest-in-CilkSync-clause-tree c = not_ok c.from_residual.result _ _ c.from_residual.ensures.1
-
-pub returns-in_err-rest-in-CilkSync-clause-shorter : goal.returns-in_err-rest-in-CilkSync-clause-shorter
-returns-in_err-rest-in-CilkSync-clause-shorter c = not_ok c.from_residual.result _ _ c.from_residual.ensures.1
-
-pub returns-in_err-rest-in-CilkSync-clause-reads : goal.returns-in_err-rest-in-CilkSync-clause-reads
-returns-in_err-rest-in-CilkSync-clause-reads c = not_ok c.from_residual.result _ _ c.from_residual.ensures.1
-
-pub returns-in_err-value-in-Return-clause-tree : goal.returns-in_err-value-in-Return-clause-tree
-returns-in_err-value-in-Return-clause-tree c = not_ok c.from_residual-in_err-value-in-Return.result _ _ c.from_residual-in_err-value-in-Return.ensures.1
-
-pub returns-in_err-value-in-Return-clause-shorter : goal.returns-in_err-value-in-Return-clause-shorter
-returns-in_err-value-in-Return-clause-shorter c = not_ok c.from_residual-in_err-value-in-Return.result _ _ c.from_residual-in_err-value-in-Return.ensures.1
-
-pub returns-in_err-value-in-Return-clause-reads : goal.returns-in_err-value-in-Return-clause-reads
-returns-in_err-value-in-Return-clause-reads c = not_ok c.from_residual-in_err-value-in-Return.result _ _ c.from_residual-in_err-value-in-Return.ensures.1
-
-pub returns-in_err-reducer-in-Update-clause-tree : goal.returns-in_err-reducer-in-Update-clause-tree
-returns-in_err-reducer-in-Update-clause-tree c = not_ok c.from_residual-in_err-reducer-in-Update.result _ _ c.from_residual-in_err-reducer-in-Update.ensures.1
-
-pub returns-in_err-reducer-in-Update-clause-shorter : goal.returns-in_err-reducer-in-Update-clause-shorter
-returns-in_err-reducer-in-Update-clause-shorter c = not_ok c.from_residual-in_err-reducer-in-Update.result _ _ c.from_residual-in_err-reducer-in-Update.ensures.1
-
-pub returns-in_err-reducer-in-Update-clause-reads : goal.returns-in_err-reducer-in-Update-clause-reads
-returns-in_err-reducer-in-Update-clause-reads c = not_ok c.from_residual-in_err-reducer-in-Update.result _ _ c.from_residual-in_err-reducer-in-Update.ensures.1
-
-pub returns-in_err-reducer-in-Set-clause-tree : goal.returns-in_err-reducer-in-Set-clause-tree
-returns-in_err-reducer-in-Set-clause-tree c = not_ok c.from_residual-in_err-reducer-in-Set.result _ _ c.from_residual-in_err-reducer-in-Set.ensures.1
-
-pub returns-in_err-reducer-in-Set-clause-shorter : goal.returns-in_err-reducer-in-Set-clause-shorter
-returns-in_err-reducer-in-Set-clause-shorter c = not_ok c.from_residual-in_err-reducer-in-Set.result _ _ c.from_residual-in_err-reducer-in-Set.ensures.1
-
-pub returns-in_err-reducer-in-Set-clause-reads : goal.returns-in_err-reducer-in-Set-clause-reads
-returns-in_err-reducer-in-Set-clause-reads c = not_ok c.from_residual-in_err-reducer-in-Set.result _ _ c.from_residual-in_err-reducer-in-Set.ensures.1
