@@ -19,6 +19,9 @@ const POOLS: [u32; 4] = [1, 2, 4, 8];
 // Larger numbers of workers, for few cases and few runs.
 const LARGE_POOLS: [u32; 2] = [9, 64];
 
+// Numbers of workers that no run has.
+const NO_POOLS: [u32; 2] = [0, 65];
+
 // The runs of a case by each large number of workers.
 const FEW_TIMES: u32 = 3;
 
@@ -72,6 +75,16 @@ fn departing(case: &Case) -> Series {
         case: *case,
         pools: &POOLS,
         times: TIMES,
+        is_whole: false,
+    }
+}
+
+// A case that is refused for its numbers of workers.
+fn refused(case: &Alone) -> Series {
+    Series {
+        case: on_nothing(&(case.0, "501\n")),
+        pools: &NO_POOLS,
+        times: 1,
         is_whole: false,
     }
 }
@@ -171,6 +184,11 @@ fn runs_by_many_workers(rt: HostRuntime) {
     for case in [&CALLS[1], &LOOPS[2]] {
         in_time(&rt, rt.alloc(), &Job::Series(by_many(&on_nothing(case))));
     }
+}
+
+#[test]
+fn numbers_of_workers(rt: HostRuntime) {
+    in_time(&rt, rt.alloc(), &Job::Series(refused(&CALLS[0])));
 }
 
 #[test]
