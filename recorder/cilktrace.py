@@ -9,7 +9,7 @@ import re
 TEXT_HEADER, BINARY_HEADER = b"cilktrace 1\n", b"cilktrace-bin 1\n"
 NUMBERS = {
     "enter": 1, "spawned": 0, "called": 0, "sync": 0, "end": 0, "read": 3, "write": 3, "clear": 2,
-    "create": 2, "update": 2, "value": 2, "retire": 2,
+    "create": 2, "update": 2, "value": 2, "retire": 2, "unseen": 1,
 }  # fmt: skip
 LINE = re.compile(rb"([a-z]+)(?: (0|[1-9]\d*))?(?: (0|[1-9]\d*))?(?: (0|[1-9]\d*))?\n")
 MARKS, KINDS, REDUCERS = ("spawned", "called", "sync", "end"), ("read", "write", "clear"), (
@@ -140,7 +140,9 @@ def binary_events(stream):
         elif tag == 6:
             kind = below(len(REDUCERS), "an unknown event of a reducer")
             yield (REDUCERS[kind], *(below(MOST, OVER) for _ in range(2)))
-        elif tag == 7 or tag - 8 >= len(kinds):
+        elif tag == 7:
+            yield ("unseen", below(MOST, OVER))
+        elif tag - 8 >= len(kinds):
             raise Malformed(position, "an undeclared line")
         else:
             kind = kinds[tag - 8]
@@ -204,6 +206,8 @@ def write_binary(trace, out):
             kinds[key][1], last_cell = cell + count, cell
         elif word == "enter":
             out.write(b"\1" + leb128(event[1]))
+        elif word == "unseen":
+            out.write(b"\7" + leb128(event[1]))
         elif word in MARKS:
             out.write(bytes([2 + MARKS.index(word)]))
         else:

@@ -35,7 +35,13 @@ LINE_MARKER = re.compile(r'^# (\d+) "([^"\n]*)"', re.M)
 OPENING = {")": "(", "]": "[", "}": "{"}
 HEADS = ("if", "for", "while", "switch", "constexpr")
 WORDS = re.compile(r"\bcilk_(spawn|scope|reducer)\b")
-LAMBDA = "[&]() __attribute__((no_instrument_function)) "
+# Attributes of functions whose accesses, or calls, the compiler then doesn't tell.
+UNTOLD = re.compile(
+    r"\b_*(no_sanitize(?:_thread|_address)?|no_address_safety_analysis|no_instrument_function"
+    r"|disable_sanitizer_instrumentation|naked)_*\b(\s*\([^()]*\))?"
+)
+ATTRIBUTE = re.compile(r"(__attribute(__)?\s*\(\(|\[\[)[^;{}]*$")
+LAMBDA = "[&]() __attribute__((no_instrument_function, noinline)) "
 # libstdc++ has the members of std::string compiled: without this line they are compiled, and recorded, here.
 COMPILED_STRING = "extern template class basic_string<char>;"
 
@@ -50,7 +56,7 @@ class Marker:
     """One text: its tokens, the partner of each bracket, and the edits that were found."""
 
     def __init__(self, text, clang, cxx):
-        self.text, self.clang, self.cxx, self.edits = text, clang, cxx, []
+        self.text, self.clang, self.cxx, self.edits, self.returns = text, clang, cxx, [], {}
         self.tokens = [
             Token(m.lastgroup if m.lastgroup != "fence" else "text", m.group(), m.start(), m.end())
             for m in TOKEN.finditer(text)
@@ -72,6 +78,8 @@ class Marker:
                 partner[partner[i]] = i
             elif token.kind == "word" and WORDS.fullmatch(token.text):
                 outer[i] = list(stack)
+            elif token.kind == "word" and token.text == "return":
+                self.returns[i] = list(stack)
         return partner, outer
 
     def fault(self, i, what):
@@ -183,6 +191,17 @@ class Marker:
         self.insert(self.tokens[first].start, opening + begin)
         self.insert(self.tokens[last].end, f"{into} cilkrec_spawn_end();{closing}")
 
+    def type_of(self, first, i):
+        """The type of a declared variable: what the lambda gives, so that a value is made before its arguments end."""
+        words = [t.text for t in self.tokens[first : i - 2]]  # without the name and `=`
+        if {"&", "&&", "decltype", "["} & set(words):
+            return "decltype(auto)"
+        kept = [w for w in words if w not in ("static", "const", "constexpr", "volatile", "register", "thread_local",
+                                              "extern", "inline", "mutable")]
+        if "*" in words:  # a pointer's `const` is part of what it points to
+            kept = [w for w in words if w not in ("static", "constexpr", "register", "thread_local", "extern", "inline")]
+        return " ".join(kept)
+
     def mark_declaration(self, i, first, last, begin, into):
         """The marks of a spawn whose result is a variable's first value."""
         k, angles = i + 1, 0
@@ -193,7 +212,7 @@ class Marker:
                 raise self.fault(i, "a declaration goes on after cilk_spawn; declare one variable")
             k = self.partner[k] + 1 if text in ("(", "[", "{") else k + 1
         if self.cxx:
-            self.insert(self.tokens[i].start, f"{LAMBDA}-> decltype(auto) {{ {begin}return ")
+            self.insert(self.tokens[i].start, f"{LAMBDA}-> {self.type_of(first, i)} {{ {begin}return ")
             self.insert(self.tokens[last].start, "; }()")
         else:
             self.insert(self.tokens[first].start, begin)
@@ -224,6 +243,44 @@ class Marker:
         if {"struct", "class", "union", "enum"} & set(head) and head[-1:] != [")"] and "=" not in head:
             return "record"
         return "code"
+
+    def is_body(self, brace):
+        """Whether a brace begins the body of a function or lambda, not a block in one, a class or a list."""
+        k, last = brace - 1, self.tokens[brace - 1]
+        if last.text in (";", ":", "{", "}", "else", "do", "try", "=", ",", "(", "return") or brace == 0:
+            return False
+        while k > 0 and self.tokens[k].text not in (";", "{", "}", "(", ","):
+            if self.tokens[k].text == ")":
+                before = self.tokens[self.partner[k] - 1].text
+                if before not in ("noexcept", "decltype", "__attribute__", "throw", "requires"):
+                    return before not in HEADS + ("catch",)
+                k = self.partner[k]
+            elif self.tokens[k].text == "]":  # of a lambda without parameters, not of a list's length
+                before = self.tokens[self.partner[k] - 1]
+                return before.kind == "mark" and before.text not in (")", "]", ">") or before.text == "return"
+            k -= 1
+        return False
+
+    def body_of(self, outer):
+        """The brace of the innermost function's body among open brackets, or None."""
+        for brace in reversed(outer):
+            if self.tokens[brace].text == "{" and self.tokens[brace].kind == "mark" and self.is_body(brace):
+                return brace
+        return None
+
+    def mark_ends(self):
+        """The implicit sync at the end of each function that spawns comes before its variables' destructors."""
+        bodies = {self.body_of(self.outer[i]) for i in self.outer if self.tokens[i].text == "cilk_spawn"} - {None}
+        for brace in bodies:
+            self.insert(self.tokens[self.partner[brace]].start, " cilkrec_sync(); ")
+        for i, outer in self.returns.items():
+            if self.body_of(outer) in bodies:
+                end = self.statement_end(i)
+                self.insert(self.tokens[i].start, "{ int cilkrec_end __attribute__((cleanup(cilkrec_leave), unused)) = 0; ")
+                self.insert(self.tokens[end].end, " }")
+        for i in self.outer:
+            if self.tokens[i].text == "cilk_scope":
+                self.insert(self.tokens[self.partner[i + 1]].start, " cilkrec_sync(); ")
 
     def declared_names(self, i, end):
         """The variables that a declaration's list from token `i` on declares: not its pointers and references."""
@@ -264,7 +321,7 @@ class Marker:
                 call = f" cilkrec_reducer_local((void *)&{name}, sizeof({name}));"
             else:
                 call = (
-                    " __attribute__((constructor, no_instrument_function)) static void"
+                    " __attribute__((constructor, no_instrument_function, noinline)) static void"
                     f" cilkrec_reducer_{name}_{i}(void) {{ cilkrec_reducer_global((void *)&{name}, sizeof({name})); }}"
                 )
             self.insert(self.tokens[end].end, call)
@@ -274,6 +331,8 @@ class Marker:
         marks = {"cilk_spawn": self.mark_spawn, "cilk_scope": self.mark_scope, "cilk_reducer": self.mark_reducer}
         for i in self.outer:
             marks[self.tokens[i].text](i)
+        if self.cxx or re.search(r"\bcleanup\b", self.text):
+            self.mark_ends()
         out, done = [], 0
         for start, end, text in sorted(self.edits, key=lambda e: e[0]):
             out += [self.text[done : max(start, done)], text]
@@ -281,8 +340,35 @@ class Marker:
         return "".join(out + [self.text[done:]])
 
 
-def marked(text, clang, cxx):
+def hides(word, arguments, clang):
+    """Whether an attribute takes away what cilkrec needs of a compiler: gcc's thread sanitizer, or clang's address one."""
+    wanted = "address" if clang else "thread"
+    if word == "no_sanitize":
+        return bool(re.search(rf'"(all|{wanted})"|\b{wanted}\b', arguments or ""))
+    if word.startswith("no_sanitize_"):
+        return word == "no_sanitize_" + wanted
+    return clang or word not in ("no_address_safety_analysis", "disable_sanitizer_instrumentation")
+
+
+def refuse_untold(text, clang, own):
+    """Raises Fault at an attribute that hides a function, but for those in the recorder's own folder of headers."""
+    markers = None
+    for found in UNTOLD.finditer(text):
+        if not hides(found[1], found[2], clang) or not ATTRIBUTE.search(text, max(0, found.start() - 400), found.start()):
+            continue
+        if markers is None:
+            markers = [(m.start(), int(m[1]), m[2]) for m in LINE_MARKER.finditer(text)]
+        k = bisect.bisect_right(markers, (found.start(),)) - 1
+        start, line, name = markers[k] if k >= 0 else (0, 1, "?")
+        if own and name.startswith(own) or name.startswith("<"):
+            continue
+        line += text.count("\n", start, found.start()) - (k >= 0)
+        raise Fault(f"{name}:{line}: attribute {found[1]}: what its function does isn't recorded")
+
+
+def marked(text, clang, cxx, own=""):
     """The text with its marks; a text without OpenCilk's words as it is."""
+    refuse_untold(text, clang, own)
     if cxx:
         text = text.replace(COMPILED_STRING, " " * len(COMPILED_STRING))
     return Marker(text, clang, cxx).marked() if WORDS.search(text) else text

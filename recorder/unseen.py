@@ -12,6 +12,22 @@ import sys
 ENTER = "__cyg_profile_func_enter"
 GUARD = "_ZGV"  # of a function's static variable: the compiler's own atomic read
 IR_ATOMIC = re.compile(r"\b(load atomic|store atomic|cmpxchg|atomicrmw|fence) ")
+IR_VECTOR = re.compile(
+    r"\bcall .*@llvm\.(masked\.(gather|scatter|expandload|compressstore)"
+    r"|x86\.(avx512[\w.]*(gather|scatter|mask\.(expand|compress))|[\w.]*(scatter|maskmovq|rdrand|rdseed)))"
+)
+IR_MASKED = re.compile(
+    r"\bcall .*@llvm\.x86\.(?:(sse2)\.maskmov\.dqu|avx2?\.mask(load|store)\.\w+(?:\.256)?)\((.*?)\)(?: #\d+)?(, !dbg !\d+)?$"
+)
+IR_GATHER = re.compile(r"\bcall <(\d+) x \w+> @llvm\.x86\.avx2\.gather\.[\w.]+\((.*?)\)(?: #\d+)?(, !dbg !\d+)?$")
+IR_VECTOR_TYPE = re.compile(r"<(\d+) x (i|float|double)(\d*)>")
+IR_FUNCTIONS = {
+    "cilkrec_load_here": "i8*, i64", "cilkrec_masked_128": "i8*, <2 x i64>, i64", "cilkrec_masked_256": "i8*, <4 x i64>, i64",
+    **{f"cilkrec_gather_{i}_{m}": f"i8*, <{i // 64} x i64>, <{m // 64} x i64>, i64" for i in (128, 256) for m in (128, 256)},
+}
+IR_LOAD = re.compile(r"\bcall <(\d+) x i8> @llvm\.x86\.(sse3|avx)\.ldu\.dq[.\d]*\(i8\* (%[\w.]+)\)")
+IR_ACCESS = re.compile(r"  call void @__asan_(load|store)(N|\d+)\(")
+IR_PLACE = re.compile(r", !dbg !\d+")
 IR_ASM = re.compile(r'\basm (?:(?:sideeffect|alignstack|inteldialect|unwind) )*"((?:[^"\\]|\\.)*)"')
 
 THREADS = re.compile(
@@ -23,19 +39,27 @@ OWN_OPENMP = set(
     "__kmpc_omp_task_alloc __kmpc_taskloop".split()
 )
 LOCKS = re.compile(r"(pthread_(mutex|rwlock|spin|cond|barrier)_|mtx_|sem_)")
-# Functions of libc that touch no memory of the program's but what the recorder wraps, or that only write output.
+# Functions of libc that touch no memory of the program's, beside those that the runtime models.
 HARMLESS = re.compile(
-    r"((v|f|d|vf)?printf|puts|putchar|fputs|fputc|putc|_IO_putc|fflush|fwrite|perror|_?exit|abort|atexit|__assert_fail"
-    r"|malloc|calloc|realloc|free|memalign|aligned_alloc|posix_memalign|mem(cpy|move|set|cmp)|str(len|cmp|cpy)|qsort"
-    r"|clock|time|gettimeofday|clock_gettime|ato[ifl]l?|getenv|sysconf|getpid|std(in|out|err)|environ|alloca"
+    r"(putchar|getchar|_?exit|abort|atexit|__assert_fail|malloc|calloc|realloc|free|memalign|aligned_alloc"
+    r"|posix_memalign|clock|sysconf|getpid|getppid|std(in|out|err)|environ|alloca|sleep|usleep|sched_yield|isatty"
+    r"|close|dup2?|lseek(64)?|fileno|is(alnum|alpha|digit|space|upper|lower|print|punct|xdigit)|to(upper|lower)"
+    r"|__ctype_\w+_loc|difftime|l?l?div|getpagesize|__getauxval|fegetround|strerror|strsignal"
     r"|abs|labs|(f?abs|sqrt|cbrt|exp2?|expm1|log(2|10|1p)?|pow|sin|cos|tan|a(sin|cos|tan2?)|sinh|cosh|tanh|floor|ceil"
     r"|round|trunc|fmod|hypot|f(min|max|dim|ma)|[il]+round|l+rint|rint|erfc?|nearbyint)[fl]?|isnan|isinf|fesetround"
-    r"|longjmp|_?longjmp|siglongjmp|_?_?(sig)?setjmp|__main|main|__isoc(99|23)_\w+|__errno_location"
+    r"|raise|kill|alarm|__libc_single_threaded|longjmp|_?longjmp|siglongjmp|_?_?(sig)?setjmp|__main|main|__errno_location"
     r"|__(tsan|asan)_\w+|__cyg_profile_func_\w+|cilkrec_\w+|__stack_chk_fail|_GLOBAL_OFFSET_TABLE_|__dso_handle"
     r"|__cxa_\w+|_Unwind_\w+|__gxx_personality_v0|_Z(dl|da|nw|na)Pv\w*|_Z(nw|na)m\w*|_ZSt9terminatev|_ZTV\w+|_ZTI\w+"
+    r"|_ZNK?Sa\w+|_ZNSt15__new_allocator\w+|_ZNSt9exceptionD\dEv|_ZNSt\d+(\w+_error|bad_\w+)[CD]\dE\w*|_ZNSt8ios_base4Init\w+"
+    r"|_ZNKSt9basic_iosI\w+|_ZSt(4(cout|cerr|clog)|3cin)|_ZSt17__throw_\w+|_ZNSt6locale\w+|_ZTTN?St\w+|_ZTHN?\w+"
     r"|__start_\w+|__stop_\w+|_ZNSt8ios_base4InitC1Ev|_ZNSt8ios_base4InitD1Ev|_ZSt\d+__throw_\w+|__tls_get_addr)$"
 )
+# Parts of libstdc++ in runtime/containers.cc, and streams, which runtime/others.c follows.
+CONTAINERS = re.compile(r"_ZSt\d+_Rb_tree_(in|de)crement|_ZSt\d+_Rb_tree_(insert_and_rebalance|rebalance_for_erase)"
+                        r"|_ZNSt8__detail15_List_node_base(4swap|7_M_hook|9_M_unhook|10_M_reverse|11_M_transfer)E")
+STREAMS = re.compile(r"_ZN?K?S[iod]|basic_[io]?(string|f)?stream|basic_ios|ios_base|_ZSt4(cout|cerr|clog)$|_ZSt3cin$")
 SHOWN = 8
+ATOMIC = "an atomic operation"  # as runtime/late.c names it
 
 
 def readable(names):
@@ -50,37 +74,187 @@ def readable(names):
     return found if len(found) == len(names) else names
 
 
-def in_ir(lines):
-    """(function, what) for each atomic operation and each inline assembly of clang's text."""
-    function = "?"
+HERE = {"atomic": "cilkrec_atomic_here", "assembly": "cilkrec_assembly_here", "vector": "cilkrec_vector_here"}
+
+
+def of_ir(line):
+    """What a line of clang's text does that a recording can't hold, or None."""
+    if IR_ATOMIC.search(line) and not (GUARD in line and "load atomic" in line):
+        return None if 'syncscope("singlethread")' in line else "atomic"
+    if " asm " in line:
+        found = IR_ASM.search(line)
+        if found and found[1].strip():
+            return "assembly"
+    return "vector" if IR_VECTOR.search(line) else None
+
+
+def parts_of(arguments):
+    """A call's arguments in clang's text: those at the outermost commas."""
+    found, depth = [""], 0
+    for sign in arguments:
+        depth += (sign in "<([{") - (sign in ">)]}")
+        if sign == "," and depth == 0:
+            found.append("")
+        else:
+            found[-1] += sign
+    return [part.strip() for part in found]
+
+
+def vector(argument):
+    """(type, elements, bytes of one) of a vector among a call's arguments."""
+    found = IR_VECTOR_TYPE.match(argument)
+    size = int(found[3]) // 8 if found[2] == "i" else {"float": 4, "double": 8}[found[2]]
+    return found[0], int(found[1]), size
+
+
+def of_elements(line):
+    """For a line of clang's text that loads or stores by a mask, or gathers: the runtime's function and the call, or None."""
+    load = IR_LOAD.search(line)
+    if load:
+        return "cilkrec_load_here", f"  call void @cilkrec_load_here(i8* {load[3]}, i64 {load[1]})\n"
+    found = IR_MASKED.search(line.rstrip("\n")) or IR_GATHER.search(line.rstrip("\n"))
+    if not found:
+        return None
+    is_gather = found.re is IR_GATHER
+    words, place = parts_of(found[2] if is_gather else found[3]), found[3] if is_gather else found[4]
+    if is_gather:
+        pointer, index, mask, scale = words[1:5]
+        (itype, icount, isize), (mtype, count, size) = vector(index), vector(mask)
+        how = size | isize << 8 | int(scale.split()[1]) << 16 | min(icount, count) << 24
+        name, given = f"cilkrec_gather_{icount * isize * 8}_{count * size * 8}", f"{index}, {mask}"
+        types = f"i8*, {itype}, {mtype}, i64"
+    else:
+        pointer, mask = (words[2], words[1]) if found[1] else words[:2]
+        mtype, count, size = vector(mask)
+        how = size | (0 if found[2] == "load" else 256)
+        name, given, types = f"cilkrec_masked_{count * size * 8}", mask, f"i8*, {mtype}, i64"
+    called = f"bitcast (void ({IR_FUNCTIONS[name]})* @{name} to void ({types})*)"
+    return name, f"  call void {called}({pointer}, {given}, i64 {how}){place or ''}\n"
+
+
+def told_ir(lines):
+    """clang's text with a call of the runtime before each such line; an atomic operation isn't an access, too."""
+    used, called, held = set(), set(), ""
     for line in lines:
-        if line.startswith("define "):
-            found = re.search(r'@"?([^"(]+)"?\(', line)
-            function = found[1] if found else "?"
-        elif line.startswith("module asm"):
+        is_code = line.startswith("  ")
+        what = of_ir(line) if is_code else None
+        elements = of_elements(line) if "@llvm.x86." in line and is_code else None
+        yield "" if what == "atomic" and IR_ACCESS.match(held) else held
+        if what:
+            used.add(HERE[what])
+            place = IR_PLACE.search(line)
+            yield f"  call void @{HERE[what]}(){place[0] if place else ''}\n"
+        if elements:
+            called.add(elements[0])
+            yield elements[1]
+        held = line
+    yield held
+    for name in sorted(called):
+        yield f"\ndeclare void @{name}({IR_FUNCTIONS[name]})\n"
+    for name in sorted(used):
+        yield f"\ndeclare void @{name}()\n"
+
+
+def told_assembly(lines, has_plugin):
+    """gcc's text, where the load of a guard has a name of its own. Without the plugin a call of the runtime comes before inline
+    assembly: each function calls the hooks, so it keeps nothing below its stack."""
+    recent, held, is_code = [], [], False
+    for line in lines:
+        if ".cfi_startproc" in line or ".cfi_endproc" in line:
+            is_code = "start" in line
+        if line.startswith("#APP") and is_code and not has_plugin:
+            held = [line]
+            continue
+        if held:
+            held.append(line)
+            if line.startswith("#NO_APP"):
+                is_empty = all(not h.strip() or h.lstrip().startswith("#") for h in held)
+                yield from held if is_empty else ["\tcall\tcilkrec_assembly_here\n", *held]
+                held = []
+            continue
+        if "__tsan_atomic8_load" in line and any(GUARD in r for r in recent):
+            line = line.replace("__tsan_atomic8_load", "cilkrec_guard_load")
+        recent = recent[-4:] + [line]
+        yield line
+    yield from held
+
+
+def told(lines, clang, has_plugin=False):
+    """A compiled text with calls of the runtime before what a recording can't hold."""
+    return told_ir(lines) if clang else told_assembly(lines, has_plugin)
+
+
+def in_ir(lines):
+    """(function, what) for each assembly outside of functions in clang's text."""
+    for line in lines:
+        if line.startswith("module asm"):
             yield "?", "assembly"
-        elif IR_ATOMIC.search(line) and not (GUARD in line and "load atomic" in line):
-            yield function, "an atomic operation"
-        elif " asm " in line:
-            found = IR_ASM.search(line)
-            if found and found[1].strip():
-                yield function, "inline assembly"
 
 
 def in_assembly(lines):
-    """The same of gcc's text."""
-    function, recent, inline = "?", [], False
+    """What gcc's text has that can't be recorded: (function, what)."""
+    function, inline, is_code, nested, begun = "?", False, False, {}, None
     for line in lines:
-        if re.match(r"[A-Za-z_][\w.]*:", line):
-            function = line.split(":")[0]
+        found = re.match(r"([A-Za-z_][\w.]*):", line)
+        if found:
+            function = found[1]
+            if re.fullmatch(r"(?!.*(_omp_fn|_omp_cpyfn|\.cold))\w+\.\d+", function):
+                nested[function] = None
+        elif ".cfi_startproc" in line or ".cfi_endproc" in line:
+            is_code = "start" in line
+            begun = function if is_code and function in nested else None
+        elif begun and re.match(r"\s*\.loc \d+ [1-9]", line):
+            yield begun.split(".")[0], f"a nested function {line.split()[2]}"
+            begun = None
         elif line.startswith("#APP") or line.startswith("#NO_APP"):
             inline = line.startswith("#APP")
-        elif inline and line.strip() and not line.lstrip().startswith("#"):
-            yield function, "inline assembly"
-        elif re.search(r"\b(call|jmp)\s+__tsan_atomic", line):
-            if not ("__tsan_atomic8_load" in line and any(GUARD in r for r in recent)):
-                yield function, "an atomic operation"
-        recent = recent[-4:] + [line]
+        elif inline and line.strip() and not line.lstrip().startswith("#") and not is_code:
+            yield function, "assembly"
+        elif re.search(r"\b(call|jmp)\s+__tsan_atomic128", line):
+            yield function, ATOMIC
+
+
+CALL = re.compile(
+    r"^\s*(?:(?P<left>[^=]*?) = )?(?P<function>[^\"(]*[^\"( =](?:\(\))?) \((?P<words>.*)\);(?P<more>.*)$"
+)
+# gcc's own names of operations of the processor that read or write memory.
+VECTORS = re.compile(r"__builtin_ia32_(mask(load|store|mov)|gather|scatter|movnt|lddqu|addcarry|sbb|rdrand|rdseed|rdtscp"
+                     r"|(load|store|expand|compress)\w*_mask)")
+PASSED = ("__builtin___tsan_", "__tsan_", "cilkrec_", "__cyg_profile", "__complex__", "if", "switch", "register ")
+FUNCTION = re.compile(r";; Function .*\((\w+), funcdef_no=")
+DECLARED = re.compile(r"[\w*] \**(\w+)(?=[;,)])")
+PLACES = re.compile(r"\[[^\[\]]*?:\d+(:\d+)?( discrim \d+)?\] ?")
+
+
+def in_calls(lines, models):
+    """Without the plugin: the calls of gcc's dump that take or give a whole structure, or have a name that is put in place."""
+    lines = list(lines)
+    functions = {found[1] for found in map(FUNCTION.match, lines) if found}
+    functions -= {name for line in lines for name in DECLARED.findall(line)}
+    found = []
+    for line in lines:
+        place = PLACES.match(line.lstrip())
+        call = CALL.match(PLACES.sub("", line))
+        if not call or call["function"].startswith(PASSED):
+            continue
+        at = place[0].strip("[] ").rsplit(":", 1)[0] + ": " if place else ""  # file and line
+        words = [w for w in call["words"].split(", ") if w not in functions] if call["words"] else []
+        # Not values in registers, nor places of the compiler's own on the stack.
+        whole = re.compile(r"(MEM|TARGET_MEM_REF|\*)|(?!.*_\d+(\(D\))?$|D\.\d+$)[A-Za-z_][\w.>\[\]-]*$")
+        if VECTORS.match(call["function"]):
+            found.append(f"{at}`{call['function']}` isn't recorded without gcc's plugin (package gcc-N-plugin-dev); take clang")
+        elif call["function"].startswith("__builtin_"):  # those of a fixed size are put in place; others are called
+            is_fixed = any(w.isdigit() or '"' in w for w in words)
+            if call["function"][10:] in models and is_fixed:
+                found.append(f"{at}`{call['function']}` isn't recorded without gcc's plugin (package gcc-N-plugin-dev); "
+                             f"call `{call['function'][10:]}`, or take clang")
+            continue
+        if "[return slot optimization]" in call["more"]:
+            continue
+        if any(whole.match(w) for w in words) or (call["left"] and whole.match(call["left"].strip())):
+            found.append(f"{at}`{call['function']}` takes or gives a structure, which isn't recorded without gcc's plugin "
+                         "(package gcc-N-plugin-dev); take clang")
+    return list(dict.fromkeys(found))[:SHOWN]
 
 
 def in_code(lines, clang):
@@ -89,13 +263,15 @@ def in_code(lines, clang):
     for function, what in in_ir(lines) if clang else in_assembly(lines):
         found.setdefault((function, what), None)
     whys = {
-        "an atomic operation": "what it orders isn't in a trace",
-        "inline assembly": "its reads and writes aren't recorded",
-        "assembly": "its reads and writes aren't recorded",
+        ATOMIC: "uses an atomic operation: what it orders isn't in a trace",
+        "assembly": "uses assembly: its reads and writes aren't recorded",
+        "a nested function": "is a function in a function: its reads and writes aren't recorded",
     }
     shown = list(found)[:SHOWN]
     names = readable([f for f, _ in shown])
-    return [f"`{name}` uses {what}: {whys[what]}" for name, (_, what) in zip(names, shown)]
+    nested = "a nested function "
+    return [f"{what[len(nested):]}: `{name}` {whys[nested[:-1]]}" if what.startswith(nested) else f"`{name}` {whys[what]}"
+            for name, (_, what) in zip(names, shown)]
 
 
 def symbols(path):
@@ -109,7 +285,8 @@ def symbols(path):
             if found[3] in "Uw":
                 needed.add(found[2])
             else:
-                defined.add(found[2])
+                if found[3].isupper() or found[3] in "uv":  # not names of one file alone
+                    defined.add(found[2])
                 if found[3] in "TtW":
                     code.add(found[2])
     return members
@@ -142,8 +319,9 @@ def libraries(options):
     return [path for path in found.values() if path], others
 
 
-def in_program(objects, made, files, options):
-    """([(what is refused, whether by a foreign object)], [what is only named])."""
+def in_program(objects, made, files, options, models=frozenset()):
+    """([(what is refused, whether by a foreign object)], [what is only named], the models' names that it defines, those
+    that it needs, the functions of libraries that no model records, whether it needs the recorder's own containers)."""
     archives, shared = libraries(options)
     shared += [f for f in files if f.endswith(".so") or ".so." in f]
     complaints, needed, defined = [], {}, set()
@@ -160,7 +338,15 @@ def in_program(objects, made, files, options):
             complaints.append((f"`{readable([name])[0]}` is called: threads and processes aren't recorded", False))
         elif OPENMP.match(name) and name not in OWN_OPENMP:
             complaints.append((f"`{name}` is called: of OpenMP only cilk_for's loops are recorded", False))
-    return complaints, notes(outside, shared)
+    modelled = sorted(models & set(outside))
+    outside = {n: m for n, m in outside.items() if n not in models and not CONTAINERS.match(n)}
+    return (complaints, notes(outside, shared), models & defined, modelled, unmodelled(outside),
+            any(map(CONTAINERS.match, needed)))
+
+
+def unmodelled(outside):
+    """Names of libraries that may touch the program's memory unseen."""
+    return sorted(n for n in outside if not any(p.match(n) for p in (HARMLESS, LOCKS, THREADS, OPENMP)))
 
 
 def notes(outside, shared):
@@ -168,8 +354,7 @@ def notes(outside, shared):
     found = [f"lib{name} isn't recorded" if ".so" not in name else f"{name} isn't recorded" for name in shared]
     if any(LOCKS.match(n) for n in outside):
         found.append("locks order nothing in a trace: accesses under one lock still race")
-    quiet = (HARMLESS, LOCKS, THREADS, OPENMP)
-    names = sorted(readable([n for n in outside if not any(pattern.match(n) for pattern in quiet)]))
+    names = sorted(set(readable([n for n in unmodelled(outside) if not STREAMS.search(n)])))
     if names:
         more = f" and {len(names) - SHOWN} more" if len(names) > SHOWN else ""
         found.append("not recorded is what these functions of libraries read and write: "
@@ -181,7 +366,7 @@ def main(paths):
     """The command."""
     if not paths:
         sys.exit(__doc__)
-    complaints, named = in_program(paths, set(), [], [])
+    complaints, named = in_program(paths, set(), [], [])[:2]
     for line in [what for what, _ in complaints] + named:
         print(line)
 

@@ -6,26 +6,31 @@ tools/cases.py run PROGRAM [REGEX] [--jobs N] [--limit SECONDS] [--light]
     With --light those in the file `slow` are left out, which go to a limit of a run: an unproved program takes minutes for one
 tools/cases.py new [--program PROGRAM] [--folder FOLDER] [--stdin FILE] [--makes "FILE WORDS.."] NAME [WORDS..]
     makes or changes a case: its words, and the files of FOLDER (by default the current one) that they name; the
-    program's answer is put beside what the case wants, as out.new, err.new and status.new, and the difference is shown
+    program's answer is put into NAME.new beside it, and its difference from what the case wants is shown
 tools/cases.py accept NAME
     the answer of `new` becomes what the case wants, and the case is listed: call it only once you have found by other
     means that the answer is right
 tools/cases.py list
-    lists the folders that are there anew, as after one was removed manually
+    lists the cases that are there anew, as after one was written or removed manually
+tools/cases.py unpack NAME
+    makes a folder NAME of the case's file, where each text is a file: edit these, and call `pack`
+tools/cases.py pack
+    takes each folder NAME into NAME.case, each file in place of the text of its name there, and lists the cases; while there
+    is a folder, the calls above but `unpack` stop and say so
 
-A case is a folder, listed in the file `cases`, with
-  words     one word a line; none where the file isn't there. A word that names a file of the folder means that file
+A case is a file NAME.case, listed in the file `cases`. It has texts by name, each below a line `-- NAME --`; the form is in
+tools/case_files.py. Lines before the first such line tell its reader what the case is for. The texts are
+  words     one word a line; none where the text isn't there. A word that names a text of the case means that file
   stdin     standard input
   out err   what goes to the two streams. `<..>` stands for any bytes
   status    the exit status, where it isn't 0
   makes     a line with the name of a file that is made first, and a line for each word of the call that shows it
   reads     how many times files are read; only crates/cilk_rows counts that
   unread    after how many reads of files each further one fails; only crates/cilk_rows serves such a case
-  fills     lines `FILE COUNT TEXT`: TEXT is put COUNT times at the end of FILE, `\\n` in it for a line's end; after `makes`
-  about     what the case tells, for its reader
-and the files that its words name. A text whose file isn't there is empty. The program sees a copy of the folder without
-what is wanted. Of `new`, PROGRAM is by default the built one, or what CILK names. crates/cilk_rows serves the same cases
-in the gate.
+  fills     lines `FILE COUNT TEXT`: TEXT is put COUNT times at the end of FILE, `\\n` in it for a line's end; after
+            `makes`
+and the files that its words name, which lie where the program runs. A text that isn't there is empty. Of `new`, PROGRAM is
+by default the built one, or what CILK names. crates/cilk_rows serves the same cases in the gate.
 """
 
 import argparse
@@ -39,43 +44,59 @@ import subprocess
 import sys
 import tempfile
 
+sys.dont_write_bytecode = True
+import case_files
+
 TOP = os.path.dirname(os.path.dirname(os.path.realpath(__file__)))
 DATA = f"{TOP}/crates/cilk_rows/data"
 PROGRAM = os.environ.get("CILK", f"{TOP}/crates/cilk/out/cilk")
 GAP = b"<..>"
 WANTED = ("out", "err", "status")
 OWN = WANTED + ("words", "stdin", "makes", "reads", "unread", "fills", "about")
+NEW = ".new"
 LIMIT = 60
 MOST = 40  # lines of a difference
 
 
-def read(path):
-    """The bytes of a file; none where it isn't there."""
+def path_of(name, ending=case_files.ENDING):
+    """The file of a case."""
+    return f"{DATA}/{name}{ending}"
+
+
+def read(name):
+    """The texts of a case by name; none where it isn't there."""
     try:
-        with open(path, "rb") as file:
-            return file.read()
+        return case_files.read(path_of(name))
     except FileNotFoundError:
-        return b""
+        return {}
 
 
-def write(path, text):
-    """Puts these bytes into a file; an empty text has no file."""
+def put(texts, name, text):
+    """Gives a case this text; an empty one isn't written."""
+    texts.pop(name, None)
     if text:
-        with open(path, "wb") as file:
-            file.write(text)
-    elif os.path.exists(path):
-        os.remove(path)
+        texts[name] = text
 
 
-def lines(path):
-    """The lines of a file, without their ends."""
-    text = read(path)
+def lines(text):
+    """The lines of a text, without their ends."""
     return text[: -1 if text.endswith(b"\n") else None].split(b"\n") if text else []
 
 
-def names():
-    """All cases, in the order of the file that lists them."""
-    return [name.decode() for name in lines(f"{DATA}/cases")]
+def names(listed="cases"):
+    """All cases, in the order of the file that lists them; or those of another such file."""
+    with open(f"{DATA}/{listed}", encoding="utf-8") as file:
+        return file.read().splitlines()
+
+
+def files_with(ending):
+    """The names of the files with this ending in the folder of the cases."""
+    return sorted(each[: -len(ending)] for each in os.listdir(DATA) if each.endswith(ending))
+
+
+def folders():
+    """The folders beside the cases' files."""
+    return sorted(each for each in os.listdir(DATA) if os.path.isdir(f"{DATA}/{each}"))
 
 
 def agrees(wanted, shown):
@@ -96,22 +117,21 @@ def call(program, words, folder, standard, limit):
     return ended.returncode, ended.stdout, ended.stderr
 
 
-def answer(program, name, limit=LIMIT):
-    """What the program shows of a case."""
-    case = f"{DATA}/{name}"
+def answer(program, texts, limit=LIMIT):
+    """What the program shows of a case with these texts."""
     with tempfile.TemporaryDirectory(prefix="cases-") as room:
-        for each in os.listdir(case):
-            if each not in OWN and not each.endswith(".new"):
-                shutil.copyfile(f"{case}/{each}", f"{room}/{each}")
-        standard = read(f"{case}/stdin")
-        makes = lines(f"{case}/makes")
+        for each in set(texts).difference(OWN):
+            with open(f"{room}/{each}", "wb") as file:
+                file.write(texts[each])
+        standard = texts.get("stdin", b"")
+        makes = lines(texts.get("makes", b""))
         if makes:
             status, made, told = call(program, makes[1:], room, b"", limit)
             if status is None:
                 return status, b"", told
             with open(f"{room}/{makes[0].decode()}", "wb") as file:
                 file.write(made)
-        for each in lines(f"{case}/fills"):
+        for each in lines(texts.get("fills", b"")):
             file_name, count, text = each.split(b" ", 2)
             text = text.replace(b"\\n", b"\n") * int(count)
             if file_name == b"stdin":
@@ -119,7 +139,7 @@ def answer(program, name, limit=LIMIT):
             else:
                 with open(f"{room}/{file_name.decode()}", "ab") as file:
                     file.write(text)
-        return call(program, lines(f"{case}/words"), room, standard, limit)
+        return call(program, lines(texts.get("words", b"")), room, standard, limit)
 
 
 def difference(name, stream, wanted, shown):
@@ -133,26 +153,35 @@ def difference(name, stream, wanted, shown):
     return [f"{name}: {stream} isn't as wanted, from line {same + 1} on", *told[:MOST]]
 
 
-def differences(name, status, out, err):
-    """How a status and two streams differ from what a case wants, as lines; none where they don't."""
-    case = f"{DATA}/{name}"
-    wanted = int(read(f"{case}/status") or b"0")
+def differences(name, texts, status, out, err):
+    """How a status and two streams differ from what a case with these texts wants, as lines; none where they don't."""
+    wanted = int(texts.get("status", b"0"))
     told = [] if status == wanted else [f"{name}: status {wanted} is wanted, and it is {status}"]
     for stream, shown in (("out", out), ("err", err)):
-        told += difference(name, stream, read(f"{case}/{stream}"), shown)
+        told += difference(name, stream, texts.get(stream, b""), shown)
     return told
+
+
+def tried(program, name, limit):
+    """How what the program shows of a case differs from what it wants."""
+    texts = read(name)
+    return differences(name, texts, *answer(program, texts, limit))
 
 
 def run(program, form, jobs, limit, is_light):
     """Runs the cases whose names a form finds; the answer is the status."""
-    chosen = [name for name in names() if re.search(form, name) and not os.path.exists(f"{DATA}/{name}/unread")]
+    chosen = [name for name in names() if re.search(form, name)]
+    lacking = set(chosen).difference(files_with(case_files.ENDING))
+    if lacking:
+        sys.exit(f"{min(lacking)} is listed in {DATA}/cases and has no file: tools/cases.py list")
+    chosen = [name for name in chosen if "unread" not in read(name)]
     if is_light:
-        slow = {name.decode() for name in lines(f"{DATA}/slow")}
+        slow = set(names("slow"))
         print(f"left out: {len(slow.intersection(chosen))} cases that go to a limit of a run")
         chosen = [name for name in chosen if name not in slow]
     failed = 0
     with concurrent.futures.ThreadPoolExecutor(jobs) as pool:
-        for told in pool.map(lambda name: differences(name, *answer(program, name, limit)), chosen):
+        for told in pool.map(lambda name: tried(program, name, limit), chosen):
             failed += bool(told)
             if told:
                 print("\n".join(told))
@@ -164,46 +193,74 @@ def new(program, name, words, folder, standard, makes):
     """Makes a case, and shows how the program's answer differs from what the case wants so far."""
     if not re.fullmatch(r"[a-z0-9]+(-[a-z0-9]+)*", name):
         sys.exit("a case's name is small letters and digits, with `-` between its words")
-    case = f"{DATA}/{name}"
-    os.makedirs(case, exist_ok=True)
-    made = shlex.split(makes) if makes else []
-    write(f"{case}/words", "".join(f"{word}\n" for word in words).encode())
-    write(f"{case}/makes", "".join(f"{word}\n" for word in made).encode())
-    if standard:
-        shutil.copyfile(standard, f"{case}/stdin")
+    texts, made = read(name), shlex.split(makes) if makes else []
+    put(texts, "words", "".join(f"{word}\n" for word in words).encode())
+    put(texts, "makes", "".join(f"{word}\n" for word in made).encode())
+    sources = {"stdin": standard} if standard else {}
     for word in set(words + made[1:]):
         if os.path.isfile(f"{folder}/{word}") and os.path.basename(word) == word and word not in OWN:
-            if os.path.realpath(folder) != os.path.realpath(case):
-                shutil.copyfile(f"{folder}/{word}", f"{case}/{word}")
-    status, out, err = answer(program, name)
-    for stream, shown in (("out", out), ("err", err), ("status", b"%d\n" % (status or 0))):
-        with open(f"{case}/{stream}.new", "wb") as file:
-            file.write(shown)
-        wanted = read(f"{case}/{stream}") or (b"0\n" if stream == "status" else b"")
-        print("\n".join(difference(name, stream, wanted, shown)) or f"{name}: {stream} as wanted")
+            sources[word] = f"{folder}/{word}"
+    for each, source in sources.items():
+        with open(source, "rb") as file:
+            texts[each] = file.read()
+    case_files.write(path_of(name), texts)
+    status, out, err = answer(program, texts)
+    shown = {"out": out, "err": err, "status": b"%d\n" % (status or 0)}
+    case_files.write(path_of(name, NEW), shown)
+    for stream in WANTED:
+        wanted = texts.get(stream, b"0\n" if stream == "status" else b"")
+        print("\n".join(difference(name, stream, wanted, shown[stream])) or f"{name}: {stream} as wanted")
     print(f"if this is right by other means than this program: tools/cases.py accept {name}")
     return 0
 
 
 def accept(name):
     """Makes the answer of `new` what the case wants, and lists the case."""
-    case = f"{DATA}/{name}"
+    if not os.path.exists(path_of(name, NEW)):
+        sys.exit(f"{name} has no answer: call `new` first")
+    texts, shown = read(name), case_files.read(path_of(name, NEW))
     for stream in WANTED:
-        if not os.path.exists(f"{case}/{stream}.new"):
-            sys.exit(f"{name} has no answer: call `new` first")
-    for stream in WANTED:
-        shown = read(f"{case}/{stream}.new")
-        write(f"{case}/{stream}", b"" if stream == "status" and shown == b"0\n" else shown)
-        os.remove(f"{case}/{stream}.new")
+        put(texts, stream, b"" if stream == "status" and shown[stream] == b"0\n" else shown[stream])
+    case_files.write(path_of(name), texts)
+    os.remove(path_of(name, NEW))
     return list_cases()
 
 
 def list_cases():
-    """Lists the folders of the cases, and how many are to pass in the gate."""
-    there = sorted(each for each in os.listdir(DATA) if os.path.isdir(f"{DATA}/{each}"))
-    write(f"{DATA}/cases", "".join(f"{each}\n" for each in there).encode())
-    write(f"{os.path.dirname(DATA)}/stdout", f"{len(there)} passed, 0 failed\n".encode())
+    """Lists the cases that are there, and how many are to pass in the gate."""
+    there = files_with(case_files.ENDING)
+    for name in there:
+        read(name)
+    with open(f"{DATA}/cases", "w", encoding="utf-8") as file:
+        file.writelines(f"{name}\n" for name in there)
+    with open(f"{os.path.dirname(DATA)}/stdout", "w", encoding="utf-8") as file:
+        file.write(f"{len(there)} passed, 0 failed\n")
     return 0
+
+
+def unpack(name):
+    """Makes a folder of a case's file."""
+    texts = read(name)
+    os.mkdir(f"{DATA}/{name}")
+    for each, text in texts.items():
+        with open(f"{DATA}/{name}/{each}", "wb") as file:
+            file.write(text)
+    os.remove(path_of(name))
+    return 0
+
+
+def pack():
+    """Takes the folders into the cases' files, and lists the cases."""
+    for name in folders():
+        texts = read(name)
+        for each in os.listdir(f"{DATA}/{name}"):
+            if not each.endswith(NEW):
+                with open(f"{DATA}/{name}/{each}", "rb") as file:
+                    texts[each] = file.read()
+        case_files.write(path_of(name), texts)
+        shutil.rmtree(f"{DATA}/{name}")
+        print(f"{name}: a file")
+    return list_cases()
 
 
 def words_of(given):
@@ -224,17 +281,30 @@ def words_of(given):
     makes.add_argument("--makes")
     makes.add_argument("words", nargs=argparse.REMAINDER)
     commands.add_parser("accept").add_argument("name")
+    commands.add_parser("unpack").add_argument("name")
     commands.add_parser("list")
+    commands.add_parser("pack")
     return parser.parse_args(given)
 
 
-def main():
-    given = words_of(sys.argv[1:])
+def done(given):
+    """Does what the command line says; the answer is the status."""
+    if given.command in ("pack", "unpack"):
+        return pack() if given.command == "pack" else unpack(given.name)
+    if folders():
+        sys.exit(f"{DATA}/{folders()[0]} is a folder, and a case is a file: tools/cases.py pack takes it in")
     if given.command == "run":
         return run(given.program, given.form, given.jobs, given.limit, given.light)
     if given.command == "new":
         return new(given.program, given.name, given.words, given.folder, given.stdin, given.makes)
     return accept(given.name) if given.command == "accept" else list_cases()
+
+
+def main():
+    try:
+        return done(words_of(sys.argv[1:]))
+    except case_files.Malformed as fault:
+        return str(fault)
 
 
 if __name__ == "__main__":

@@ -3,7 +3,8 @@
 
 first_run.py build [--plan]   proves and builds crates/cilk and all that it stands on; the log is crates/cilk/out/build.log
 first_run.py test             runs the golden cases over the program
-first_run.py unproved         shows the path of the unproved program, built first if need be (tools/unproved.py)
+first_run.py answers SEEN     shows which program answers, a line each: proved or unproved, the sum of the sources, the path (tools/answers.py);
+                              after `proved` an unproved one doesn't, else it is built first if need be (tools/unproved.py)
 first_run.py once WORD ..     runs the unproved program on these words by `rt try`, where it can't be kept
 """
 
@@ -25,11 +26,12 @@ import time
 
 sys.dont_write_bytecode = True
 
+import answers
 import build_plan
 import unproved
+from answers import PROGRAM
 from unproved import OUT, TOP, tell
 
-PROGRAM = f"{OUT}/cilk"
 LOG = f"{OUT}/build.log"
 RECORD = f"{OUT}/build.json"  # what builds here proved, of which sources, and how slow the machine was
 EVERY = 60  # seconds between two lines where the terminal can't be written over
@@ -39,7 +41,8 @@ BUILD_HELP = """./cilk build [--plan]
 
 Proves the program and all that it stands on, and builds it. It shows how many crates are proved, the minutes since it
 began, and about how many are left. Where the kit keeps proofs (13f does, 13b doesn't), the next call after a stop, by
-Ctrl-C or otherwise, continues from there. Then ./cilk runs the proved program. The log is crates/cilk/out/build.log.
+Ctrl-C or otherwise, continues from there. Then ./cilk runs the proved program, until the sources change. The log is
+crates/cilk/out/build.log.
 
 --plan    shows how long that takes, and does nothing
 
@@ -53,20 +56,11 @@ Status: 0 built, also before    1 a proof failed, or another build is at work   
 TEST_HELP = """./cilk test
 
 Runs the program on each case of crates/cilk_rows/data, and compares its output, its errors and its status with what is
-wanted: the proved program where it is built, else the unproved one, which is built first (about two minutes) and runs
-all but the cases that go to a limit of a run.
+wanted: the proved program where it is of these sources, else the unproved one, which is built first (about two minutes)
+and runs all but the cases that go to a limit of a run.
 The last line is `N passed, M failed`.
 
 Status: 0 all passed    1 some failed    2 something that it needs isn't here"""
-
-
-def has_rt():
-    """Whether Rattle's toolchain is on the path; if not, says what that is."""
-    if shutil.which("rt"):
-        return True
-    tell("the command `rt` isn't on the path. It is Rattle's compiler and prover, which builds this program")
-    tell(f"read 'To try it' in {TOP}/README.md")
-    return False
 
 
 def named():
@@ -110,9 +104,10 @@ def record():
     try:
         with open(RECORD, encoding="utf-8") as it:
             found = json.load(it)
-        return {"proved": dict(found["proved"]), "slower": float(found["slower"]), "built": str(found["built"])}
-    except (OSError, ValueError, KeyError, TypeError):
-        return {"proved": {}, "slower": build_plan.USUAL, "built": ""}
+        words = {it: str(found.get(it, "")) for it in ("built", "sources", "file")}
+        return {"proved": dict(found["proved"]), "slower": float(found["slower"]), **words}
+    except (OSError, ValueError, KeyError, TypeError, AttributeError):
+        return {"proved": {}, "slower": build_plan.USUAL, "built": "", "sources": "", "file": ""}
 
 
 def write_record(found):
@@ -120,6 +115,13 @@ def write_record(found):
     with open(f"{RECORD}.new", "w", encoding="utf-8") as it:
         json.dump(found, it)
     os.replace(f"{RECORD}.new", RECORD)
+
+
+def note_proved(found, crates, sources):
+    """Records that the program that is here is proved, of sources with this sum; not where they have changed since."""
+    if os.access(PROGRAM, os.X_OK) and answers.sum_of_sources(crates) == sources:
+        found.update(built=sums(crates)["cilk"], sources=sources, file=answers.sum_of_file(PROGRAM))
+        write_record(found)
 
 
 def estimate_of(crates, slower, kept):
@@ -242,6 +244,7 @@ def remove_rooms():
 def prove_and_build(crates, progress):
     """Has `rt ci` prove these crates and build the program, and takes that: whether it is there."""
     remove_rooms()
+    sources = answers.sum_of_sources(crates)
     with tempfile.TemporaryDirectory(prefix=f"cilk-build-{os.getpid()}-") as room:
         copy_of(list(crates), room)
         with open(LOG, "w", encoding="utf-8") as log:
@@ -251,14 +254,13 @@ def prove_and_build(crates, progress):
             return False
         shutil.copy(made, f"{PROGRAM}.new")
         os.replace(f"{PROGRAM}.new", PROGRAM)
-    progress.record["built"] = progress.sums["cilk"]
-    write_record(progress.record)
+    note_proved(progress.record, crates, sources)
     return True
 
 
 def build():
     """Proves and builds the program: the status of ./cilk build."""
-    if not has_rt() or not unproved.can_keep():
+    if not unproved.has_rt() or not unproved.can_keep():
         return 2
     with open(f"{OUT}/build.lock", "w", encoding="ascii") as lock:
         try:
@@ -268,7 +270,7 @@ def build():
             return 1
         crates, known = named(), record()
         progress = Progress(crates, known)
-        if os.access(PROGRAM, os.X_OK) and known["built"] == progress.sums["cilk"]:
+        if known["built"] == progress.sums["cilk"] and answers.is_proved(known, answers.sum_of_sources(crates)):
             tell("the program is proved and built from these sources already")
             return 0
         tell(f"proving and building the program; the log is {LOG}")
@@ -284,6 +286,8 @@ def build():
         print(file=sys.stderr)
     if is_built:
         tell(f"the program is proved and built, in {progress.now():.0f} min")
+        if not answers.is_proved(progress.record, answers.sum_of_sources(crates)):
+            tell("the sources have changed since it began, so it isn't of these")
         return 0
     tell("the program isn't built; the log ends so:")
     with open(LOG, encoding="utf-8", errors="replace") as log:
@@ -305,29 +309,17 @@ def plan():
     return 0
 
 
-def is_of_others():
-    """Whether the program that the last ./cilk build left, if that made it, is of other sources than these."""
-    built = record()["built"]
-    return built and os.path.getmtime(RECORD) >= os.path.getmtime(PROGRAM) and built != sums(named())["cilk"]
-
-
 def test():
     """Runs the golden cases over the program: the status of ./cilk test."""
     if not os.path.isfile(CASES):
         tell(f"{CASES} isn't here, which runs the cases")
         return 2
-    program, flags = PROGRAM, []
-    if not os.access(PROGRAM, os.X_OK):
-        if not has_rt():
-            return 2
-        program, status = unproved.ready(named())
-        if program is None:
-            if status == 1:
-                tell("no program can be kept here that isn't proved: ./cilk build comes first")
-            return 2
-        flags = ["--light"]
-    elif is_of_others():
-        tell("the built program is of other sources than these: ./cilk build makes it anew")
+    kind, sources, program = answers.answering(named(), record())
+    if sources is None:
+        if program == 1:
+            tell("no program can be kept here that isn't proved: ./cilk build comes first")
+        return 2
+    flags = [] if kind == "proved" else ["--light"]
     work = subprocess.run([sys.executable, CASES, "run", program, *flags], stdin=subprocess.DEVNULL, stdout=subprocess.PIPE, check=False)
     said = work.stdout.decode(errors="replace")
     sys.stdout.write(said)
@@ -360,16 +352,15 @@ def main(words):
     if name in ("build", "test"):
         tell(f"./cilk {name} takes no such words; ./cilk {name} --help says what it does")
         return 2
-    if name not in ("unproved", "once"):
-        sys.exit(__doc__)
-    if not has_rt():
-        return 2
     if name == "once":
-        return unproved.once(rest)
-    path, status = unproved.ready(named())
-    if path is not None:
-        print(path)
-    return status
+        return unproved.once(rest) if unproved.has_rt() else 2
+    if name != "answers":
+        sys.exit(__doc__)
+    kind, sources, found = answers.answering(named(), record(), (rest or [""])[0], "proved" in rest[1:])
+    if sources is None:
+        return found
+    print(f"{kind}\n{sources}\n{found}")
+    return 0
 
 
 if __name__ == "__main__":

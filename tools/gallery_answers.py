@@ -1,5 +1,6 @@
 #!/usr/bin/env python3
-"""Works out by Python's own means what each program of examples/gallery shows, and compares it with its `.out` file.
+"""Works out by Python's own means what each program of examples/gallery shows, and of its folder `oblivious`, and
+compares it with its `.out` file.
 
 Each answer is found by another method than the program's where there is one: permutations instead of a search,
 `sorted` instead of a sort of our own, fractions instead of numbers modulo a prime, a queue instead of levels.
@@ -7,6 +8,7 @@ Each answer is found by another method than the program's where there is one: pe
 
 import collections
 import fractions
+import glob
 import itertools
 import os
 import sys
@@ -157,6 +159,73 @@ def mandelbrot():
     return rows + [("result", "".join(rows).count("8"))]
 
 
+def given(name):
+    """The numbers of a program's input."""
+    with open(f"{GALLERY}/oblivious/{name}.in", encoding="ascii") as kept:
+        return list(map(int, kept.read().split()))
+
+
+def given_product():
+    n, *numbers = given("matrix_product")
+    a, b = [[numbers[k + n * i : k + n * i + n] for i in range(n)] for k in (0, n * n)]
+    c = [[sum(x * y for x, y in zip(row, column)) for column in zip(*b)] for row in a]
+    return [c[-1][-1], ("result", sum(map(sum, c)))]
+
+
+def given_heat():
+    width, steps, *numbers = given("heat")
+    now = [numbers[width * i : width * i + width] for i in range(width)]
+    for _ in range(steps):
+        after = [row[:] for row in now]
+        for i, j in itertools.product(range(1, width - 1), repeat=2):
+            around = now[i - 1][j] + now[i + 1][j] + now[i][j - 1] + now[i][j + 1]
+            after[i][j] = toward_zero(4 * now[i][j] + around, 8)
+        now = after
+    return now[width // 2] + [("result", sum(map(sum, now)))]
+
+
+def transform():
+    a = given("ntt")
+    of = [sum(x * pow(81, i * k, 257) for i, x in enumerate(a)) % 257 for k in range(64)]
+    return [of[0], of[1], of[63], ("result", sum(i * x for i, x in enumerate(of, 1)))]
+
+
+def given_sorting():
+    a = sorted(given("bitonic_sort"))
+    return [a[0], a[len(a) // 2], a[-1], ("result", sum(i * x for i, x in enumerate(a, 1)))]
+
+
+def given_sums():
+    sums = list(itertools.accumulate(given("prefix_sum")))
+    return [sums[0], sums[len(sums) // 2], sums[-1], ("result", sum(sums))]
+
+
+def sparse_product():
+    n, count, *numbers = given("sparse_product")
+    begins, columns = numbers[: n + 1], numbers[n + 1 : n + 1 + count]
+    values, vector = numbers[n + 1 + count : n + 1 + 2 * count], numbers[n + 1 + 2 * count :]
+    matrix = [[0] * len(vector) for _ in range(n)]
+    for row in range(n):
+        for k in range(begins[row], begins[row + 1]):
+            matrix[row][columns[k]] += values[k]
+    product = [sum(x * y for x, y in zip(row, vector)) for row in matrix]
+    return product + [("result", sum(product))]
+
+
+def knapsack_table():
+    _, room, *rest = given("knapsack_table")
+    things = list(zip(rest[::2], rest[1::2]))
+    choices = itertools.chain.from_iterable(itertools.combinations(things, k) for k in range(len(things) + 1))
+    return [("result", max(sum(w for w, _ in it) for it in choices if sum(w for _, w in it) <= room))]
+
+
+def convolution():
+    length, width, *numbers = given("convolution")
+    signal, kernel = numbers[:length], numbers[length:]
+    sums = [sum(x * y for x, y in zip(signal[i:], kernel)) for i in range(length - width + 1)]
+    return [sums[0], sums[-1], ("result", sum(sums))]
+
+
 ANSWERS = {
     "queens": queens,
     "matrix_product": matrix_product,
@@ -173,11 +242,20 @@ ANSWERS = {
     "bfs": bfs,
     "bfs_racy": bfs,
     "mandelbrot": mandelbrot,
+    "oblivious/matrix_product": given_product,
+    "oblivious/heat": given_heat,
+    "oblivious/ntt": transform,
+    "oblivious/bitonic_sort": given_sorting,
+    "oblivious/prefix_sum": given_sums,
+    "oblivious/sparse_product": sparse_product,
+    "oblivious/knapsack_table": knapsack_table,
+    "oblivious/convolution": convolution,
 }
 
 
 def main():
-    programs = sorted(it[:-2] for it in os.listdir(GALLERY) if it.endswith(".c"))
+    paths = glob.glob(f"{GALLERY}/*.c") + glob.glob(f"{GALLERY}/oblivious/*.c")
+    programs = sorted(os.path.relpath(it, GALLERY)[:-2] for it in paths)
     failed = [name for name in programs if name not in ANSWERS]
     for name in programs:
         if name in ANSWERS:

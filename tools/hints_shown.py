@@ -15,6 +15,9 @@ import os
 import re
 import sys
 
+sys.dont_write_bytecode = True
+import case_files
+
 TOP = os.path.dirname(os.path.dirname(os.path.realpath(__file__)))
 MESSAGES = f"{TOP}/crates/cilk_messages/src"
 CURES = f"{TOP}/crates/cilk_races/src/texts.rt"
@@ -78,9 +81,9 @@ def rows():
 def shown():
     """The lines that cases want on standard error, each with the first case that has it."""
     lines = {}
-    for path in sorted(glob.glob(f"{CASES}/*/err")):
-        for line in read(path).split("\n"):
-            lines.setdefault(line, path.split("/")[-2])
+    for path in sorted(glob.glob(f"{CASES}/*{case_files.ENDING}")):
+        for line in case_files.read(path).get("err", b"").decode(errors="replace").split("\n"):
+            lines.setdefault(line, os.path.basename(path)[: -len(case_files.ENDING)])
     return lines
 
 

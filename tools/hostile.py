@@ -27,10 +27,11 @@ import traceback
 
 sys.dont_write_bytecode = True
 sys.path.insert(0, os.path.dirname(os.path.realpath(__file__)))
-from hostile import chance, edges, failing, files, lines, wrong
+from hostile import chance, edges, failing, files, lines, narrow, wrong
 from hostile.room import SLOWER, Found, OutOfTime, Room, prepare
 
-CASES = {**failing.CASES, **edges.CASES, **files.CASES, **lines.CASES}
+CASES = {**failing.CASES, **edges.CASES, **files.CASES, **lines.CASES, **narrow.CASES}
+BY_CHANCE = {**chance.CASES, **narrow.BY_CHANCE}
 WORKERS = 2
 MARGIN = 4.0  # seconds that are kept for what is under way at the end
 STACK = 2**29  # of a thread that runs a second reading
@@ -74,7 +75,7 @@ def known(name):
 
 def by_chance(name, seed, first, end):
     """Tries a part of a case by chance: these numbers."""
-    return on_large_stack(lambda: tried(chance.CASES[name], seed, range(first, end)))
+    return on_large_stack(lambda: tried(BY_CHANCE[name], seed, range(first, end)))
 
 
 def tell(name, found, over, took):
@@ -143,7 +144,7 @@ def caught(number, program, folder, seed):
             if name in CASES:
                 CASES[name](ROOM[0], found)
             else:
-                chance.CASES[name](ROOM[0], found, seed, range(600))
+                BY_CHANCE[name](ROOM[0], found, seed, range(600))
         except wrong.Caught:
             return wrong.was_wrong(ROOM[0].program)
         return False
@@ -153,7 +154,7 @@ def caught(number, program, folder, seed):
 
 def self_test(words, folder, names):
     """Tries the cases on wrong programs; how many cases caught all of theirs, and how many didn't or have none."""
-    program, answers = os.path.realpath(words.program), {name: [] for name in (*CASES, *chance.CASES) if name in names}
+    program, answers = os.path.realpath(words.program), {name: [] for name in (*CASES, *BY_CHANCE) if name in names}
     with concurrent.futures.ProcessPoolExecutor(
         WORKERS, initializer=begin, initargs=(program, folder, None, True)
     ) as pool:
@@ -181,8 +182,8 @@ def sweep(words, folder, names):
     with concurrent.futures.ProcessPoolExecutor(WORKERS, initializer=begin, initargs=given) as pool:
         try:
             all_known(pool, [it for it in CASES if it in names], told)
-            counts = {it: words.programs if it in chance.OF_PROGRAMS else words.texts for it in chance.CASES}
-            all_by_chance(pool, [it for it in chance.CASES if it in names], counts, words.seed, end, told)
+            counts = {it: words.programs if it in chance.OF_PROGRAMS else words.texts for it in BY_CHANCE}
+            all_by_chance(pool, [it for it in BY_CHANCE if it in names], counts, words.seed, end, told)
         except concurrent.futures.process.BrokenProcessPool:
             print("a process that tries cases died", flush=True)
             told.append(0)
@@ -202,7 +203,7 @@ def main():
     known_words.add_argument("--slower", type=float, default=1.0)
     words = known_words.parse_args()
     SLOWER[0] = words.slower
-    names = [it for it in (*CASES, *chance.CASES) if not words.only or it.startswith(tuple(words.only))]
+    names = [it for it in (*CASES, *BY_CHANCE) if not words.only or it.startswith(tuple(words.only))]
     if words.list:
         print("\n".join(names))
         return 0

@@ -4,7 +4,7 @@
 random_certificates.py FIRST END [--cilk COMMAND] [--keep FOLDER] [--damages N] [--every] [PROGRAM ..]
 
 Seeds go from FIRST up to END. What `certify` writes has to be the second reading's certificate, byte for byte; what
-`check` answers of it has to be the second reading's verdict, in both versions of the format, and the same of N damaged
+`check` answers of it, also by two helpers, has to be the second reading's verdict, in both versions of the format, and the same of N damaged
 certificates of each program. Programs that are named are compared in place of the ones made by chance, with as many
 damages as there are seeds; their input is NAME.in where there is one. With `--every` each damage of one byte or one
 line is made in place of those by chance: for certificates of some hundred bytes. What differs is kept in the folder.
@@ -264,6 +264,9 @@ class Comparison:
         self.show("certificate", certificate)
         ran = self.call("check", f"{self.room}/certificate")
         answer = ran.stdout.decode()
+        helped = self.call("check", f"{self.room}/certificate", "--helpers", "2")
+        if (helped.stdout, helped.stderr, helped.returncode) != (ran.stdout, ran.stderr, ran.returncode):
+            return f"{answer!r}, and by two helpers {helped.stdout!r} and {helped.stderr!r} with status {helped.returncode}"
         if ran.stderr or not answer.endswith("\n") or ran.returncode != (0 if answer == "accepted\n" else 4):
             return f"{answer!r} and {ran.stderr!r} with status {ran.returncode}"
         return answer[:-1]

@@ -4,10 +4,10 @@
 tools/seen_to_fail.py PROGRAM [REGEX] [--jobs N] [--light] [--rows ROWS]
 
 Each case whose name REGEX finds is run once by PROGRAM, as it stands: it has to pass. Then its status, and the wanted text
-of each stream, are changed in a copy of the case, one at a time: of each piece between gaps `<..>` the first byte, the
+of each stream, are changed in a copy of its texts, one at a time: of each piece between gaps `<..>` the first byte, the
 middle one and the last; where there is no gap also a byte more at each end, the last one cut off, and a line's end of two
 bytes. The runner of tools/cases.py has to find each of them. A text of gaps alone wants nothing, so it counts as one that
-wasn't found; so does a file that a case has and nothing reads, and a folder that isn't listed.
+wasn't found; so does a file that a case has and nothing reads, and a case that isn't listed.
 With --rows, ROWS (the built program of crates/cilk_rows, which the gate runs) serves these cases three times, with all
 statuses changed, then all outputs, then all errors, and no case may pass.
 What wasn't found is printed. The last line is `N seen to fail, M not`, of cases; status 1 where any wasn't. Run manually.
@@ -43,56 +43,51 @@ def changes(text):
             yield cases.GAP.join(pieces[:k] + [with_byte(piece, at)] + pieces[k + 1 :])
 
 
-def changed(case, stream):
-    """What a case may want of a stream, or as its status, that is wrong."""
-    wanted = cases.read(f"{case}/{stream}")
+def changed(texts, stream):
+    """What a case with these texts may want of a stream, or as its status, that is wrong."""
+    wanted = texts.get(stream, b"")
     if stream == "status":
         return [b"%d\n" % ((int(wanted or b"0") + 1) % 256)]
     return list(changes(wanted))
 
 
-def unread(name):
-    """Files of a case that neither its words nor the runner read."""
-    case = f"{cases.DATA}/{name}"
-    named = cases.lines(f"{case}/words") + cases.lines(f"{case}/makes")
-    named += [line.split(b" ")[0] for line in cases.lines(f"{case}/fills")]
-    return sorted(each for each in os.listdir(case) if each not in cases.OWN and each.encode() not in named)
+def unread(texts):
+    """Files of a case with these texts that neither its words nor the runner read."""
+    words, makes, fills = (cases.lines(texts.get(each, b"")) for each in ("words", "makes", "fills"))
+    named = words + makes + [line.split(b" ")[0] for line in fills]
+    return sorted(each for each in texts if each not in cases.OWN and each.encode() not in named)
 
 
 def found(program, name, limit):
     """How many changes of a case were tried, and a line for each that the runner didn't find."""
-    case = f"{cases.DATA}/{name}"
-    shown = cases.answer(program, name, limit)
-    told = [f"{name}: nothing reads its file `{each}`" for each in unread(name)]
-    told += cases.differences(name, *shown)
+    texts = cases.read(name)
+    shown = cases.answer(program, texts, limit)
+    told = [f"{name}: nothing reads its file `{each}`" for each in unread(texts)]
+    told += cases.differences(name, texts, *shown)
     tried = 0
     for stream in cases.WANTED:
-        wanted, others = cases.read(f"{case}/{stream}"), changed(case, stream)
+        others = changed(texts, stream)
         told += [] if others else [f"{name}: {stream} wants nothing"]
         for other in others:
             tried += 1
-            cases.write(f"{case}/{stream}", other)
-            if not cases.differences(name, *shown):
+            if not cases.differences(name, {**texts, stream: other}, *shown):
                 told.append(f"{name}: {stream} may be {other[:60]!r} too")
-        cases.write(f"{case}/{stream}", wanted)
     return tried, told
 
 
 def passed_by_rows(rows, names):
     """Lines that tell of cases that pass by the gate's program though a wanted text is changed."""
-    told = []
-    cases.write(f"{cases.DATA}/cases", "".join(f"{name}\n" for name in names).encode())
+    told, kept = [], {name: cases.read(name) for name in names}
+    with open(f"{cases.DATA}/cases", "w", encoding="utf-8") as file:
+        file.writelines(f"{name}\n" for name in names)
     for stream in cases.WANTED:
-        kept = {name: cases.read(f"{cases.DATA}/{name}/{stream}") for name in names}
-        for name in names:
-            cases.write(f"{cases.DATA}/{name}/{stream}", changed(f"{cases.DATA}/{name}", stream)[0])
+        for name, texts in kept.items():
+            cases.case_files.write(cases.path_of(name), {**texts, stream: changed(texts, stream)[0]})
         ended = subprocess.run([rows], cwd=cases.DATA, stdout=subprocess.PIPE, check=False)
         lines = ended.stdout.decode(errors="replace").splitlines()
         failed = {line.split(":")[0] for line in lines if ": " in line}
         told += [f"{name}: passes by {rows} with another {stream}" for name in names if name not in failed]
         print(f"with another {stream} each, by {os.path.basename(rows)}: {lines[-1] if lines else ended}", flush=True)
-        for name, text in kept.items():
-            cases.write(f"{cases.DATA}/{name}/{stream}", text)
     return told
 
 
@@ -121,13 +116,13 @@ def main():
     parser.add_argument("--rows")
     parser.add_argument("--light", action="store_true", help="leaves out what tools/cases.py does with this word")
     given = parser.parse_args()
-    folders = {each for each in os.listdir(cases.DATA) if os.path.isdir(f"{cases.DATA}/{each}")}
+    there = {*cases.files_with(cases.case_files.ENDING), *cases.folders()}
     with tempfile.TemporaryDirectory(prefix="seen-to-fail-") as room:
         cases.DATA = shutil.copytree(cases.DATA, f"{room}/data")
-        slow = {name.decode() for name in cases.lines(f"{cases.DATA}/slow")} if given.light else ()
+        slow = cases.names("slow") if given.light else ()
         names = [name for name in cases.names() if re.search(given.form, name) and name not in slow]
-        names = [name for name in names if not os.path.exists(f"{cases.DATA}/{name}/unread")]
-        told = [f"{name}: isn't listed, so it isn't run" for name in sorted(folders.difference(cases.names()))]
+        names = [name for name in names if "unread" not in cases.read(name)]
+        told = [f"{name}: isn't listed, so it isn't run" for name in sorted(there.difference(cases.names()))]
         print("".join(f"{line}\n" for line in told), end="")
         told += all_found(given, names)
     missed = len({line.split(":")[0] for line in told})

@@ -2,14 +2,18 @@
 """Tests of what ./cilk does beside running the program; without `rt`. Run manually: python3 tools/test_first_run.py"""
 
 import heapq
+import json
 import os
 import random
+import shutil
+import subprocess
 import sys
 import tempfile
 import unittest
 
 sys.dont_write_bytecode = True
 
+import answers
 import build_plan
 import first_run
 import unproved
@@ -159,6 +163,109 @@ class Sums(unittest.TestCase):
                 self.assertEqual(len(sums), 2)
             finally:
                 unproved.TOP = top
+
+
+class Launcher(unittest.TestCase):
+    """./cilk in a repository of one crate, whose program is a script, on a machine without `rt`."""
+
+    def setUp(self):
+        room = tempfile.TemporaryDirectory()
+        self.addCleanup(room.cleanup)
+        self.top, self.source = room.name, f"{room.name}/crates/cilk/src/main.rt"
+        for folder in ("bin", "crates/cilk/src", "crates/cilk/out", "tools"):
+            os.makedirs(f"{self.top}/{folder}")
+        for tool in ("sh", "find", "cksum", "dirname", "readlink", "python3", "cat", "wc", "head", "tr"):
+            os.symlink(shutil.which(tool), f"{self.top}/bin/{tool}")
+        for path in ("cilk", "tools/first_run.py", "tools/answers.py", "tools/build_plan.py", "tools/unproved.py"):
+            shutil.copy(f"{unproved.TOP}/{path}", f"{self.top}/{path}")
+        self.write(f"{self.top}/crates.txt", "cilk:\n")
+        self.write(self.source, "fn main() {}\n")
+        self.program("cilk", "proved")
+        self.prove()
+
+    def write(self, path, text):
+        with open(path, "w", encoding="utf-8") as it:
+            it.write(text)
+
+    def program(self, name, says):
+        """A program that says this and its words."""
+        path = f"{self.top}/crates/cilk/out/{name}"
+        self.write(path, f'#!/bin/sh\necho {says} "$@"\n')
+        os.chmod(path, 0o755)
+        return path
+
+    def sum(self):
+        """The sum of the sources, by a process of its own, since the repository's place is known when modules are read."""
+        reads = "import answers, first_run; print(answers.sum_of_sources(first_run.named()))"
+        return subprocess.check_output([sys.executable, "-c", reads], cwd=f"{self.top}/tools", text=True).strip()
+
+    def prove(self):
+        """Records that the program is proved of these sources, as a build does."""
+        file = answers.sum_of_file(f"{self.top}/crates/cilk/out/cilk")
+        self.write(f"{self.top}/crates/cilk/out/build.json", json.dumps(
+            {"proved": {}, "slower": 1.0, "built": "", "sources": self.sum(), "file": file}
+        ))  # fmt: skip
+
+    def call(self, *words):
+        """The status of a call, its output, and its lines of standard error."""
+        ran = subprocess.run([f"{self.top}/cilk", *words], env={"PATH": f"{self.top}/bin"}, capture_output=True, text=True, check=False)
+        return ran.returncode, ran.stdout, ran.stderr.splitlines()
+
+    def test_the_proved_program_answers(self):
+        for _ in range(2):
+            self.assertEqual(self.call("run", "a b"), (0, "proved run a b\n", []))
+            self.assertEqual(self.call("--proved", "run"), (0, "proved run\n", []))
+        self.assertEqual(self.call("--version"), (0, f"proved --version\nsources {self.sum()}, proved\n", []))
+
+    def test_a_time_alone_changes_nothing(self):
+        self.call("run")
+        os.utime(self.source, (1, 1))
+        self.assertEqual(self.call("run"), (0, "proved run\n", []))
+
+    def test_changed_sources(self):
+        self.call("run")
+        self.write(self.source, "fn main() { }\n")
+        status, out, err = self.call("--proved", "run")
+        self.assertEqual((status, out, len(err)), (2, "", 1))
+        status, out, err = self.call("run")
+        self.assertEqual((status, out), (2, ""))
+        self.assertIn("isn't run", err[0])
+        self.assertIn("`rt` isn't on the path", err[1])
+        self.write(self.source, "fn main() {}\n")
+        self.assertEqual(self.call("run"), (0, "proved run\n", []))
+
+    def test_as_long_and_as_old(self):
+        self.call("run")
+        found = os.stat(self.source)
+        self.write(self.source, "fn maim() {}\n")
+        os.utime(self.source, ns=(found.st_atime_ns, found.st_mtime_ns + 1000))
+        self.assertEqual(self.call("--proved", "run")[0], 2)
+
+    def test_another_program_in_its_place(self):
+        self.call("run")
+        self.program("cilk", "other")
+        self.assertEqual(self.call("run")[:2], (2, ""))
+
+    def test_an_unproved_program_is_told_once(self):
+        os.remove(f"{self.top}/crates/cilk/out/cilk")
+        self.program("unproved-1", "unproved")
+        self.write(f"{self.top}/crates/cilk/out/answers", f"0\nunproved\n{self.sum()}\nunproved-1\n")
+        for _ in range(2):
+            self.assertEqual(self.call("run"), (0, "unproved run\n", []))
+        self.assertEqual(self.call("--version")[1], f"unproved --version\nsources {self.sum()}, unproved\n")
+        self.assertEqual(self.call("--proved", "run")[0], 2)
+        for text, size, told in ((b"cilktrace 1", 154_000_000, "9 min"), (b"cilktrace-bin 1", 15_400_000, "8 min"), (b"", 300, "")):
+            with open(f"{self.top}/trace", "wb") as trace:
+                trace.write(text)
+                trace.truncate(size)
+            status, out, err = self.call("judge", f"{self.top}/trace")
+            self.assertEqual((status, out, len(err)), (0, f"unproved judge {self.top}/trace\n", len(told[:1])))
+            self.assertIn(told, "".join(err))
+        self.program("unproved-1", "unproved; exit 134; echo")
+        limited = ["/bin/sh", "-c", f"ulimit -v 4000000; {self.top}/cilk run"]
+        ran = subprocess.run(limited, env={"PATH": f"{self.top}/bin"}, capture_output=True, text=True, check=False)
+        self.assertEqual((ran.returncode, ran.stdout, ran.stderr.count("\n")), (2, "", 1))
+        self.assertIn("ulimit -v", ran.stderr)
 
 
 if __name__ == "__main__":

@@ -12,38 +12,50 @@ import sys
 
 TOP = os.path.dirname(os.path.dirname(os.path.realpath(__file__)))
 
-CASES = "crates/cilk_rows/data/*/"
-BY_PROGRAM = f"{CASES} -crates/cilk_rows/data/*/unread"  # the program itself has no file that fails at will
-IN_GATE = "crates/*/must-fail/*.edit"
-BESIDE_GATE = "crates/*/edits/*.edit"
-PROGRAMS = "examples/*.c examples/gallery/*.c"
+CASES = "crates/cilk_rows/data/*.case"
 
-# a document, the words round a count there (`N`), and the files that are counted; those of a pattern after `-` are left out
+
+def files(*patterns):
+    """How many files these patterns have."""
+    return sum(len(glob.glob(f"{TOP}/{it}")) for it in patterns)
+
+
+def heads(pattern, name=r"[\w\-]+"):
+    """How many texts with such a name the files of a pattern have, each below a line `-- NAME --`."""
+    count = 0
+    for path in glob.glob(f"{TOP}/{pattern}"):
+        with open(path, encoding="utf-8") as file:
+            count += len(re.findall(rf"(?m)^-- {name}(?:, .*)? --$", file.read()))
+    return count
+
+
+ALL_CASES = files(CASES)
+BY_PROGRAM = ALL_CASES - heads(CASES, "unread")  # the program itself has no file that fails at will
+IN_GATE = files("crates/*/must-fail/*.edit")
+BESIDE_GATE = heads("crates/*/edits.txt")
+PROGRAMS = files("examples/*.c", "examples/gallery/*.c")
+
+# a document, the words round a count there (`N`), and that count
 COUNTS = [
     ("README.md", "# N stored calls", BY_PROGRAM),
-    ("CHANGELOG.md", "are cases (N)", CASES),
+    ("CHANGELOG.md", "are cases (N)", ALL_CASES),
     ("CHANGELOG.md", "that are promised (N)", IN_GATE),
     ("CHANGELOG.md", "`tools/edits` the N others", BESIDE_GATE),
-    ("docs/GATE.md", "serves the N cases", CASES),
+    ("docs/GATE.md", "serves the N cases", ALL_CASES),
     ("docs/GATE.md", "tries the N that aren't in `must-fail/`", BESIDE_GATE),
-    ("docs/TESTED.md", "`tools/cases.py` | N cases |", CASES),
+    ("docs/TESTED.md", "`tools/cases.py` | N cases |", ALL_CASES),
     ("docs/TESTED.md", "`crates/*/must-fail` | N edits |", IN_GATE),
     ("docs/TESTED.md", "`tools/edits`: N wrong bodies", BESIDE_GATE),
     ("docs/TESTED.md", "`cilk_base_tests` | N programs |", PROGRAMS),
 ]
 
 
-def number_of(pattern):
-    """How many files a pattern has, as a negative number after `-`."""
-    return -number_of(pattern[1:]) if pattern.startswith("-") else len(glob.glob(f"{TOP}/{pattern}"))
-
-
 def corrected(text, document, says):
     """The document's text with the counts as they are; `says` is called where one differs."""
-    for name, words, patterns in COUNTS:
+    for name, words, number in COUNTS:
         if name != document:
             continue
-        count = f"{sum(number_of(it) for it in patterns.split()):,}"
+        count = f"{number:,}"
         before, after = [re.escape(it).replace(r"\ ", r"\s+") for it in words.split("N")]
         found = re.findall(rf"{before}([\d,]+){after}", text)
         if len(found) != 1:

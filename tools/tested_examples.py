@@ -15,6 +15,9 @@ import os
 import re
 import sys
 
+sys.dont_write_bytecode = True
+import case_files
+
 TOP = os.path.dirname(os.path.dirname(os.path.realpath(__file__)))
 CRATES = f"{TOP}/crates"
 GALLERY = f"{TOP}/examples/gallery"
@@ -46,11 +49,11 @@ def texts_of_tests():
 
 def wanted_of_gallery(name, text, numbers):
     """What the cases want of a program: what is shown, the verdict, work, span and parallelism; none where a case has another text."""
-    cases = [f"{CRATES}/cilk_rows/data/gallery-{name.replace('_', '-')}-{command}" for command in ("run", "check", "measure")]
-    for case in cases:
-        if words(read(f"{case}/program.c")) != text or (read(f"{case}/input") if numbers else "") != numbers:
-            return None
-    shown, verdict, totals = [read(f"{case}/out") for case in cases]
+    paths = [f"{CRATES}/cilk_rows/data/gallery-{name.replace('_', '-')}-{command}" for command in ("run", "check", "measure")]
+    cases = [{each: it.decode() for each, it in case_files.read(f"{path}{case_files.ENDING}").items()} for path in paths]
+    if any(words(case["program.c"]) != text or numbers and case["input"] != numbers for case in cases):
+        return None
+    shown, verdict, totals = [case["out"] for case in cases]
     total = dict(line.split() for line in totals.split("<..>")[0].split("\n") if line)
     return (shown, verdict.strip(), total["work"], total["span"], total["parallelism"])
 

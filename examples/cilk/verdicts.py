@@ -7,9 +7,10 @@ by the machine, and are left out.
 verdicts.py [PROGRAM] [--show] [--threads RUNS]
 
 PROGRAM judge TRACE judges, with the answers of `cilk judge`; where no program is given, recorder/tests/oracle.py does.
-Programs in C are compiled by gcc and clang, those in C++ by g++ and clang++. --show prints each verdict with its
-places. --threads runs the programs of threads/ so often under ThreadSanitizer of g++ instead, and compares whether
-races are reported. The last line is `N passed, M failed`.
+Programs in C are compiled by gcc and clang, those in C++ by g++ and clang++; one that gcc can't record without its
+headers for plugins isn't tried there. --show prints each verdict with its places. --threads runs the programs of
+threads/ so often under ThreadSanitizer of g++ instead, and compares whether races are reported. The last line is
+`N passed, M failed`.
 """
 
 import argparse
@@ -27,6 +28,8 @@ CILKREC = os.path.join(TOP, "recorder", "cilkrec")
 ORACLE = os.path.join(TOP, "recorder", "tests", "oracle.py")
 EXPLAINED = os.path.join(HERE, "explanations.txt")
 ROW = re.compile(r"\| `(\w+\.\w+)` \| `refused (\d+)` \| (\w+) at (\S+) \| (\w+) at (\S+) \|")
+
+UNTRIED = "isn't recorded without gcc's plugin"
 
 
 def wanted():
@@ -82,7 +85,7 @@ def verdict(compiler, path, options, program):
         done = run([CILKREC, compiler, *options, path, "-o", "prog", "-lm"], folder)
         if done.returncode:
             return (done.stderr,)
-        run(["./prog"], folder, CILK_TRACE="trace", CILK_SITES="sites")
+        run(["./prog"], folder, CILK_TRACE="trace", CILK_TRACE_FORM="text", CILK_SITES="sites", CILKREC_ALL="1")
         words, text = answer(program, "trace", folder)
         if len(words) != 4:
             return (" ".join(words),)
@@ -99,7 +102,11 @@ def recorded(words):
             if not shutil.which(compiler):
                 print(f"{name}: {compiler} isn't here", flush=True)
                 continue
-            yield f"{name} {compiler}", ("race-free",), verdict(compiler, path, [], words.program)
+            said = verdict(compiler, path, [], words.program)
+            if UNTRIED in said[0]:
+                print(f"{name}: not tried by {compiler}, whose headers for plugins aren't here", flush=True)
+                continue
+            yield f"{name} {compiler}", ("race-free",), said
             want = table.get(name, ()) + ((texts.get(name),) if words.program and compiler[0] == "g" else ())
             yield f"{name} -DRACY {compiler}", want, verdict(compiler, path, ["-DRACY"], words.program)
 

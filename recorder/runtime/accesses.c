@@ -9,11 +9,14 @@
 /* ---- Reducers. Those of classes hold their number; those by keyword are variables, known by their addresses. */
 
 enum { MOST_REDUCERS = 4096 };
-struct reducer { uintptr_t from, to; uint32_t number; int depth; };
+struct reducer { uintptr_t from, to; uint32_t number; int depth; uint64_t read_at, read_in; };
 struct reducers { struct reducer at[MOST_REDUCERS]; int n; uintptr_t from, to; };
 static struct reducers global_reducers, local_reducers;
 static uint32_t reducer_count;
 static int operations; /* on views of classes, that are being done */
+
+static int guards; /* initialisers of functions' static variables that run */
+unsigned reducers_at_hand(void) { return global_reducers.n + local_reducers.n + operations + guards; }
 
 /* The program's own call, by its return address, of a function of `cilk/reducer.h`. Those aren't instrumented, so the
    frame below which they lie is the current one. */
@@ -29,6 +32,23 @@ static const void *call_of_reducer(const void *innermost)
             break;
     }
     return innermost;
+}
+
+/* A read of a keyword reducer may be the first half of an update: it is if a write comes in the same strand. Else it takes
+ * the view's value; which one that is depends on the schedule, and is told as unseen. */
+static void end_read(struct reducer *r, bool is_update)
+{
+    if (r->read_at && !(is_update && r->read_in == strand))
+        keep_unseen("the value of a reducer", r->read_at);
+    r->read_at = 0;
+}
+
+void tell_reads_of_reducers(void)
+{
+    for (int i = 0; i < global_reducers.n; i++)
+        end_read(&global_reducers.at[i], false);
+    for (int i = 0; i < local_reducers.n; i++)
+        end_read(&local_reducers.at[i], false);
 }
 
 static void reducer_event(enum reducer_event event, uint32_t number, const void *return_address)
@@ -49,10 +69,11 @@ uint32_t cilkrec_reducer_create(void)
 void cilkrec_operation_begin(uint32_t number)
 {
     operations++;
+    set_mirrors();
     if (span != UINTPTR_MAX)
         reducer_event(UPDATE, number, RETURN_ADDRESS);
 }
-void cilkrec_operation_end(void) { operations--; }
+void cilkrec_operation_end(void) { operations--; set_mirrors(); }
 void cilkrec_reducer_value(uint32_t number) { reducer_event(VALUE, number, RETURN_ADDRESS); }
 void cilkrec_reducer_retire(uint32_t number) { reducer_event(RETIRE, number, RETURN_ADDRESS); }
 
@@ -68,10 +89,11 @@ static void add_reducer(struct reducers *list, uintptr_t address, size_t size, u
         return;
     }
     if (i < list->n)
-        put_reducer(RETIRE, list->at[i].number, site);
+        end_read(&list->at[i], false), put_reducer(RETIRE, list->at[i].number, site);
     else
         list->n++;
-    list->at[i] = (struct reducer){address, address + size, ++reducer_count, depth};
+    set_mirrors();
+    list->at[i] = (struct reducer){.from = address, .to = address + size, .number = ++reducer_count, .depth = depth};
     if (list->n == 1 || address < list->from)
         list->from = address;
     if (list->n == 1 || address + size > list->to)
@@ -81,6 +103,8 @@ static void add_reducer(struct reducers *list, uintptr_t address, size_t size, u
 
 void cilkrec_reducer_local(void *address, size_t size)
 {
+    if (recording)
+        ensure_frame((uintptr_t)__builtin_frame_address(1), (uintptr_t)RETURN_ADDRESS - 1);
     if (recording)
         add_reducer(&local_reducers, (uintptr_t)address, size, site_before(RETURN_ADDRESS));
 }
@@ -94,11 +118,14 @@ void cilkrec_reducer_global(void *address, size_t size)
 /* Those of the current frame end with it. */
 void retire_locals(void)
 {
-    while (local_reducers.n && local_reducers.at[local_reducers.n - 1].depth >= depth)
-        put_reducer(RETIRE, local_reducers.at[--local_reducers.n].number, 0);
+    while (local_reducers.n && local_reducers.at[local_reducers.n - 1].depth >= depth) {
+        struct reducer *r = &local_reducers.at[--local_reducers.n];
+        end_read(r, false);
+        put_reducer(RETIRE, r->number, 0);
+    }
 }
 
-static const struct reducer *find_reducer(const struct reducers *list, uintptr_t address)
+static struct reducer *find_reducer(struct reducers *list, uintptr_t address)
 {
     if (address - list->from < list->to - list->from)
         for (int i = 0; i < list->n; i++)
@@ -107,28 +134,138 @@ static const struct reducer *find_reducer(const struct reducers *list, uintptr_t
     return NULL;
 }
 
+/* ---- A function's static variable is made by the first strand that comes, and others wait for it: what its initialiser
+ * does to it, and to memory that it allocates, comes before all that they do. */
+
+struct guarded { uintptr_t from, to; };
+enum { MOST_GUARDED = 256 };
+static struct guarded guarded[MOST_GUARDED];
+static int guarded_count;
+
+static bool is_guarded(uintptr_t address)
+{
+    for (int i = 0; i < guarded_count; i++)
+        if (address - guarded[i].from < guarded[i].to - guarded[i].from)
+            return true;
+    return false;
+}
+
+static void add_guarded(uintptr_t address, size_t size)
+{
+    if (guarded_count < MOST_GUARDED)
+        guarded[guarded_count++] = (struct guarded){address, address + size};
+}
+
+extern int __real___cxa_guard_acquire(uint64_t *guard) __attribute__((weak));
+extern void __real___cxa_guard_release(uint64_t *guard) __attribute__((weak));
+extern void __real___cxa_guard_abort(uint64_t *guard) __attribute__((weak));
+int __wrap___cxa_guard_acquire(uint64_t *guard)
+{
+    int result = __real___cxa_guard_acquire(guard);
+    uintptr_t address;
+    size_t size;
+
+    if (result && recording && span != UINTPTR_MAX) {
+        guards++;
+        set_mirrors();
+        if (guarded_variable((uintptr_t)guard, &address, &size))
+            add_guarded(address, size);
+    }
+    return result;
+}
+
+static void leave_guard(void)
+{
+    if (!guards)
+        return;
+    if (--guards == 0)
+        guarded_count = 0;
+    set_mirrors();
+}
+void __wrap___cxa_guard_release(uint64_t *guard) { leave_guard(); __real___cxa_guard_release(guard); }
+void __wrap___cxa_guard_abort(uint64_t *guard) { leave_guard(); __real___cxa_guard_abort(guard); }
+
 /* ---- Accesses. */
 
-static inline void access_cells(enum kind kind, uintptr_t address, uint64_t size, const void *return_address)
+/* Marks an access in the filter; whether the current strand made one before, to all these bytes, that was as strong. */
+static inline bool repeats(enum kind kind, uintptr_t address, uint64_t size)
 {
-    if (address - stack_low < span)
-        return;
+    bool all = true;
+
+    if (unlikely(is_all_written))
+        return false;
+    while (size) {
+        unsigned offset = address & 7, n = size < 8 - offset ? (unsigned)size : 8 - offset, m = ((1u << n) - 1) << offset;
+        uint64_t *word = shadow(address), w = *word, need = kind == WRITE ? m << 8 : m;
+        if ((w ^ cilkrec_now) >> 16)
+            w = cilkrec_now & ~0xFFFFull;
+        all &= (w & need) == need;
+        *word = w | need | m;
+        address += n;
+        size -= n;
+    }
+    return all;
+}
+
+/* Whether an access isn't written, whatever the filter says. */
+static bool is_other(enum kind kind, uintptr_t address, const void *return_address)
+{
+    if (address - own_low < own_size || unlikely(guards && is_guarded(address)))
+        return true;
     if (unlikely(global_reducers.n + local_reducers.n + operations)) {
         if (operations)
-            return;
-        const struct reducer *r = find_reducer(&local_reducers, address);
+            return true;
+        struct reducer *r = find_reducer(&local_reducers, address);
         if (!r)
             r = find_reducer(&global_reducers, address);
-        if (r) { /* a read can't be told from the first half of an update */
+        if (r) {
+            if (kind == WRITE || r->read_in != strand)
+                end_read(r, kind == WRITE);
             if (kind == WRITE)
                 put_reducer(UPDATE, r->number, site_before(return_address));
-            return;
+            else
+                r->read_at = site_before(return_address), r->read_in = strand;
+            return true;
         }
     }
     /* After the spawned call its parent reads where the result goes; it has found that before the spawn. */
-    if (unlikely(frames[depth].tail) && kind == READ)
+    return unlikely(frames[depth].tail) && kind == READ;
+}
+
+static inline void access_cells(enum kind kind, uintptr_t address, uint64_t size, const void *return_address)
+{
+    if (address - stack_low < span || is_other(kind, address, return_address) || repeats(kind, address, size))
         return;
+    if (unlikely(is_looking))
+        look_at_access(address, size, return_address);
     put_cells(kind, address, size, site_before(return_address));
+}
+
+/* What the fast path (inline.py) doesn't leave out. */
+void cilkrec_slow(uintptr_t address, struct site *s)
+{
+    unsigned size = (unsigned)s->what >> 8, offset = address & 7;
+    enum kind kind = (enum kind)(s->what & 1);
+
+    if ((unlikely(cilkrec_special) || address - own_low < own_size) && is_other(kind, address, RETURN_ADDRESS))
+        return;
+    if (unlikely(is_looking))
+        look_at_access(address, size, RETURN_ADDRESS);
+    if (unlikely(offset + size > 8 || is_all_written)) {
+        if (!repeats(kind, address, size))
+            put_cells(kind, address, size, site_before(RETURN_ADDRESS));
+        return;
+    }
+    uint64_t *word = shadow(address), w = *word, m = (uint64_t)((1u << size) - 1) << offset, now = cilkrec_now;
+    if ((w ^ now) >> 16)
+        w = now & ~0xFFFFull;
+    *word = w | m | (kind == WRITE ? m << 8 : 0);
+    if (address == s->to && address % 4096)
+        s->to += size;
+    else if (address + size == s->from && s->from % 4096)
+        s->from = address;
+    else
+        begin_run(s, address, RETURN_ADDRESS);
 }
 
 #define READ_HOOK(NAME, N) void NAME(void *p) { access_cells(READ, (uintptr_t)p, N, RETURN_ADDRESS); }
@@ -152,18 +289,13 @@ HOOKS(1) HOOKS(2) HOOKS(4) HOOKS(8) HOOKS(16)
 RANGE_HOOK(__tsan_read_range, READ) RANGE_HOOK(__tsan_write_range, WRITE)
 RANGE_HOOK(__asan_loadN, READ) RANGE_HOOK(__asan_storeN, WRITE)
 
+RANGE_HOOK(cilkrec_load_here, READ) /* of clang's text, where its sanitizer doesn't tell */
+
 READ_HOOK(__tsan_vptr_read, 8)
 void __tsan_vptr_update(void *p, void *value)
 {
     (void)value;
     access_cells(WRITE, (uintptr_t)p, 8, RETURN_ADDRESS);
-}
-
-/* The one atomic access that is let through, by `cilkrec`'s check: of the guard of a function's static variable. */
-unsigned char __tsan_atomic8_load(const volatile unsigned char *p, int order)
-{
-    (void)order;
-    return *p;
 }
 
 /* What the two sanitizers call besides. */
@@ -184,6 +316,7 @@ void cilkrec_spawn_into(void *place, size_t size)
     if (!frames[depth].tail) {
         begin_candidate(site_before(RETURN_ADDRESS));
         frames[depth].tail = true;
+        set_mirrors();
     }
     access_cells(WRITE, (uintptr_t)place, size, RETURN_ADDRESS);
 }
@@ -200,8 +333,24 @@ static bool begin_library_call(const void *return_address)
 
 static void end_library_call(bool is_frame)
 {
-    if (is_frame)
+    if (is_frame) {
         frames[depth].tail = true;
+        set_mirrors();
+    }
+}
+
+/* The same for the models of libc.c. */
+bool library_begin(const void *at) { return begin_library_call(at); }
+void library_end(bool is_frame) { end_library_call(is_frame); }
+void library_calls(bool spawning)
+{
+    frames[depth].spawning = spawning;
+    set_mirrors();
+}
+void library_access(enum kind kind, const void *p, uint64_t size, const void *at)
+{
+    if (size)
+        access_cells(kind, (uintptr_t)p, size, at);
 }
 
 #define LIBRARY(TYPE, NAME, PARAMETERS, ARGUMENTS, ACCESSES) \
@@ -223,8 +372,16 @@ LIBRARY(void *, memmove, (void *to, const void *from, size_t n), (to, from, n), 
 LIBRARY(void *, memset, (void *to, int value, size_t n), (to, value, n), WRITES(to, n))
 LIBRARY(int, memcmp, (const void *a, const void *b, size_t n), (a, b, n), READS(a, n) READS(b, n))
 LIBRARY(size_t, strlen, (const char *s), (s), READS(s, __real_strlen(s) + 1))
+static size_t equal_part(const char *a, const char *b)
+{
+    size_t n = 0;
+
+    while (a[n] && a[n] == b[n])
+        n++;
+    return n;
+}
 LIBRARY(int, strcmp, (const char *a, const char *b), (a, b),
-        READS(a, __real_strlen(a) + 1) READS(b, __real_strlen(b) + 1))
+        READS(a, equal_part(a, b) + 1) READS(b, equal_part(a, b) + 1))
 LIBRARY(char *, strcpy, (char *to, const char *from), (to, from),
         READS(from, __real_strlen(from) + 1) WRITES(to, __real_strlen(from) + 1))
 void *__asan_memcpy(void *to, const void *from, size_t n) __attribute__((alias("__wrap_memcpy")));
@@ -255,10 +412,15 @@ extern void *__libc_realloc(void *, size_t);
 extern void *__libc_memalign(size_t, size_t);
 extern void __libc_free(void *);
 
-void *new_block(void *p)
+void *new_block(void *p, const void *return_address)
 {
-    if (p && recording && span != UINTPTR_MAX)
+    if (unlikely(is_looking) && p)
+        look_at_block((uintptr_t)p, malloc_usable_size(p), return_address);
+    if (p && recording && span != UINTPTR_MAX) {
         put_cells(CLEAR, (uintptr_t)p, malloc_usable_size(p), 0);
+        if (unlikely(guards))
+            add_guarded((uintptr_t)p, malloc_usable_size(p));
+    }
     return p;
 }
 
@@ -268,14 +430,14 @@ static void old_block(void *p, const void *return_address)
         access_cells(WRITE, (uintptr_t)p, malloc_usable_size(p), return_address);
 }
 
-void *malloc(size_t n) { return new_block(__libc_malloc(n)); }
-void *calloc(size_t n, size_t size) { return new_block(__libc_calloc(n, size)); }
-void *memalign(size_t alignment, size_t n) { return new_block(__libc_memalign(alignment, n)); }
-void *aligned_alloc(size_t alignment, size_t n) { return new_block(__libc_memalign(alignment, n)); }
+void *malloc(size_t n) { return new_block(__libc_malloc(n), RETURN_ADDRESS); }
+void *calloc(size_t n, size_t size) { return new_block(__libc_calloc(n, size), RETURN_ADDRESS); }
+void *memalign(size_t alignment, size_t n) { return new_block(__libc_memalign(alignment, n), RETURN_ADDRESS); }
+void *aligned_alloc(size_t alignment, size_t n) { return new_block(__libc_memalign(alignment, n), RETURN_ADDRESS); }
 
 int posix_memalign(void **place, size_t alignment, size_t n)
 {
-    void *p = new_block(__libc_memalign(alignment, n));
+    void *p = new_block(__libc_memalign(alignment, n), RETURN_ADDRESS);
 
     if (!p)
         return ENOMEM;
@@ -283,17 +445,49 @@ int posix_memalign(void **place, size_t alignment, size_t n)
     return 0;
 }
 
+/* Spawned directly they are frames; not where a library calls them. */
+static bool begin_heap_call(const void *return_address)
+{
+    uintptr_t offset = (uintptr_t)return_address - (uintptr_t)__executable_start;
+
+    return offset < (uintptr_t)(etext - __executable_start) && begin_library_call(return_address);
+}
+
+/* A block that stays where it is stays the same cells: a read by the old pointer races with this. */
 void *realloc(void *p, size_t n)
 {
+    bool is_frame = begin_heap_call(RETURN_ADDRESS);
+    size_t before = p ? malloc_usable_size(p) : 0;
+
     old_block(p, RETURN_ADDRESS);
-    return new_block(__libc_realloc(p, n));
+    char *q = __libc_realloc(p, n);
+    if (q != p)
+        new_block(q, RETURN_ADDRESS);
+    else if (q && recording && span != UINTPTR_MAX && malloc_usable_size(q) > before)
+        put_cells(CLEAR, (uintptr_t)q + before, malloc_usable_size(q) - before, 0);
+    end_library_call(is_frame);
+    return q;
 }
 
 void free(void *p)
 {
+    bool is_frame = begin_heap_call(RETURN_ADDRESS);
+
     old_block(p, RETURN_ADDRESS);
     __libc_free(p);
+    end_library_call(is_frame);
 }
+
+/* Of C++ the operators that allocate, for the place of a block's allocation. */
+extern void *__real__Znwm(size_t) __attribute__((weak)), *__real__Znam(size_t) __attribute__((weak));
+static void *told_block(void *p, const void *return_address)
+{
+    if (unlikely(is_looking) && p)
+        look_at_block((uintptr_t)p, malloc_usable_size(p), return_address);
+    return p;
+}
+void *__wrap__Znwm(size_t n) { return told_block(__real__Znwm(n), RETURN_ADDRESS); }
+void *__wrap__Znam(size_t n) { return told_block(__real__Znam(n), RETURN_ADDRESS); }
 
 /* Of C++ the operators that free, so that their writes have the program's own places. */
 void __wrap__ZdlPv(void *p) { old_block(p, RETURN_ADDRESS); __libc_free(p); }

@@ -5,13 +5,20 @@ struct frame *frames;
 int depth;
 uint64_t passed_by_exceptions;
 
-static uintptr_t span_of(int i)
+int cilkrec_spawning;
+struct frame *top;
+unsigned cilkrec_special;
+uintptr_t cilkrec_base = UINTPTR_MAX;
+
+void set_mirrors(void)
 {
-    if (i == 0)
-        return UINTPTR_MAX;
-    const struct frame *f = &frames[i], *parent = f - 1;
-    return parent->span == 0 && f->own_stack ? f->top - stack_low : parent->span;
+    top = &frames[depth];
+    cilkrec_spawning = frames[depth].spawning;
+    cilkrec_base = frames[depth].base;
+    cilkrec_special = top->tail + reducers_at_hand();
 }
+
+static uintptr_t span_of(int i) { return i == 0 ? UINTPTR_MAX : frames[i - 1].span; }
 
 /* The stack of the current function reaches down to `address` at least. */
 static void note_low(uintptr_t address)
@@ -40,14 +47,16 @@ struct frame *push(uintptr_t base, uintptr_t top, uintptr_t function)
         depth++;
     }
     f->span = span = span_of(depth);
+    set_mirrors();
     return f;
 }
 
-/* The current frame gets a child that may run beside what follows. */
-void set_parallel(void)
+/* The current frame gets a child that may run beside what follows. Its part of the stack ends at `lowest`: what is below
+   belongs to one strand alone. */
+void set_parallel_from(uintptr_t lowest)
 {
     frames[depth].parallel = true;
-    frames[depth].span = span = 0;
+    frames[depth].span = span = lowest - stack_low;
     for (int i = depth; i >= 0 && !frames[i].kept; i--)
         frames[i].kept = true;
 }
@@ -72,6 +81,7 @@ static struct frame pop(void)
         put_sync();
     depth--;
     span = frames[depth].span;
+    set_mirrors();
     if (f.kept && f.own_stack && span != UINTPTR_MAX)
         put_cells(CLEAR, f.low - RED_ZONE, f.top - f.low + RED_ZONE, 0);
     return f;
@@ -82,8 +92,10 @@ void end_frame(void)
 {
     struct frame f = pop();
 
-    if (f.candidate)
+    if (f.candidate) {
         frames[depth].tail = true;
+        set_mirrors();
+    }
     else if (f.spawned)
         put_spawned();
     else if (f.written)
@@ -104,6 +116,7 @@ void begin_candidate(uint64_t site)
     if (frames[depth].tail) {
         put_called();
         frames[depth].tail = false;
+        set_mirrors();
     }
     put_enter(site);
 }
@@ -117,8 +130,11 @@ static void end_spawn(void)
         put_spawned();
     if (f->shared_low)
         put_cells(CLEAR, f->shared_low, f->mark - f->shared_low, 0);
+    if (f->shared_low)
+        set_parallel_from(f->mark);
     f->shared_low = 0;
     f->tail = f->spawning = false;
+    set_mirrors();
 }
 
 static void end_passed_spawn(void)
@@ -129,43 +145,61 @@ static void end_passed_spawn(void)
     }
 }
 
-static struct frame *begin_spawn(uintptr_t base)
+/* Whether the current frame is that of the function with this frame pointer. A loop's body, which has no hooks, is called
+   by the function that makes its turns: its frame is the turn's. */
+static bool has_frame(uintptr_t base)
+{
+    struct frame *f = &frames[depth];
+
+    if (f->spawned && !f->has_body && *(uintptr_t *)base == f->base) {
+        f->base = base;
+        f->has_body = true;
+        set_mirrors();
+    }
+    return f->base == base;
+}
+
+/* The frame of the function with this frame pointer, made if it has none yet. */
+struct frame *ensure_frame(uintptr_t base, uintptr_t place)
 {
     unwind_below(base);
+    if (!has_frame(base))
+        push(base, base + 16, place);
+    return &frames[depth];
+}
+
+static struct frame *begin_spawn(uintptr_t base, uintptr_t place, uintptr_t mark, uintptr_t lowest)
+{
+    struct frame *f = ensure_frame(base, place);
     end_passed_spawn();
-    struct frame *f = &frames[depth];
     if (!f->written) {
         put_enter(site_at(f->function));
         f->written = true;
     }
-    set_parallel();
+    f->mark = mark;
     f->spawning = true;
+    note_low(lowest);
+    set_parallel_from(lowest);
+    set_mirrors();
     return f;
 }
 
 size_t cilkrec_spawn_begin(void)
 {
-    if (recording) {
-        begin_spawn((uintptr_t)__builtin_frame_address(1))->mark = END_OF_FRAME(0);
-        note_low(END_OF_FRAME(0));
-    }
+    if (recording)
+        begin_spawn((uintptr_t)__builtin_frame_address(1), (uintptr_t)RETURN_ADDRESS - 1, END_OF_FRAME(0), END_OF_FRAME(0));
     return 0;
 }
 
-/* The same in C++, called in the lambda that the spawned call and its arguments are in. That has no frame here: clang
- * tells of it nevertheless, so what it told is taken back. Its end finds no frame then. */
+/* The same in C++, called in the lambda that the spawned call and its arguments are in. That has no frame here; the function
+ * that it lies in is its caller. */
 void cilkrec_spawn_inside(void)
 {
     if (!recording)
         return;
-    uintptr_t base = (uintptr_t)__builtin_frame_address(1);
-    unwind_below(base);
-    if (frames[depth].base == base)
-        span = frames[--depth].span;
-    struct frame *f = begin_spawn(base);
-    f->shared_low = END_OF_FRAME(0);
-    f->mark = END_OF_FRAME(1);
-    note_low(f->shared_low);
+    uintptr_t *lambda = __builtin_frame_address(1);
+    unwind_below((uintptr_t)lambda);
+    begin_spawn(lambda[0], lambda[1] - 1, END_OF_FRAME(1), END_OF_FRAME(0))->shared_low = END_OF_FRAME(0);
 }
 
 void cilkrec_spawn_end(void)
@@ -187,21 +221,23 @@ void cilkrec_sync(void)
     if (!recording)
         return;
     unwind_below((uintptr_t)__builtin_frame_address(1));
-    note_low((uintptr_t)__builtin_frame_address(0));
-    sync_current();
+    if (has_frame((uintptr_t)__builtin_frame_address(1)))
+        sync_current();
 }
 
 /* ---- Functions. */
 
 void __cyg_profile_func_enter(void *function, void *call_site)
 {
-    if (!recording)
-        return;
     uintptr_t base = (uintptr_t)__builtin_frame_address(1), top = base + 16;
+    if (likely(!cilkrec_spawning && base < cilkrec_base) || !recording)
+        return;
     unwind_below(base + 1);
     struct frame *parent = &frames[depth];
-    if (likely(!parent->spawning) || (parent->tail && follows_spawned_call((uintptr_t)function))) {
-        push(base, top, (uintptr_t)function);
+    if (!parent->spawning)
+        return;
+    if (parent->tail && follows_spawned_call((uintptr_t)function)) {
+        push(base, top, (uintptr_t)function); /* so that what it calls is no candidate */
         return;
     }
     begin_candidate(site_before(call_site));
@@ -213,15 +249,14 @@ void __cyg_profile_func_exit(void *function, void *call_site)
 {
     (void)function;
     (void)call_site;
-    if (!recording)
-        return;
     uintptr_t base = (uintptr_t)__builtin_frame_address(1);
+    if (likely(base < cilkrec_base) || !recording)
+        return;
     unwind_below(base);
     if (depth == 0 || frames[depth].base != base)
         return;
     while (frames[depth].scope)
         end_frame();
-    note_low(END_OF_FRAME(0));
     end_frame();
 }
 
@@ -243,8 +278,24 @@ void cilkrec_scope_end(int *variable)
         return;
     unwind_below((uintptr_t)__builtin_frame_address(1));
     note_low((uintptr_t)__builtin_frame_address(0));
-    if (frames[depth].scope)
+    if (frames[depth].scope && frames[depth].base == (uintptr_t)__builtin_frame_address(1))
         end_frame();
+}
+
+/* The cleanup of a variable beside a `return`: its value is made, and the function's variables aren't destroyed yet. What was
+ * spawned may use them, so the sync at the function's end, and at that of its scopes, comes now. */
+void cilkrec_leave(int *variable)
+{
+    uintptr_t base = (uintptr_t)__builtin_frame_address(1);
+
+    (void)variable;
+    if (!recording)
+        return;
+    unwind_below(base);
+    while (frames[depth].scope && frames[depth].base == base)
+        end_frame();
+    if (has_frame(base))
+        sync_current();
 }
 
 /* The handler of an exception runs in the function that called this, after a sync of it. clang's functions don't tell
@@ -256,7 +307,7 @@ void *__wrap___cxa_begin_catch(void *exception)
 
     if (recording) {
         unwind_below(base);
-        if (frames[depth].base == base)
+        if (has_frame(base))
             sync_current();
     }
     return __real___cxa_begin_catch(exception);

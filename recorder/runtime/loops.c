@@ -12,7 +12,7 @@ static void begin_loop(uintptr_t base, const void *return_address)
 {
     put_enter(site_before(return_address));
     push(base, UINTPTR_MAX, frames[depth].function)->written = true;
-    set_parallel();
+    set_parallel_from(base);
 }
 
 static void begin_turn(uintptr_t base, const void *return_address)
@@ -94,7 +94,7 @@ struct kmp_task *__kmpc_omp_task_alloc(void *place, int thread, int flags, size_
 {
     (void)place, (void)thread, (void)flags;
     size = (size + 63) & ~(size_t)63;
-    struct kmp_task *task = new_block(__libc_calloc(1, size + shared + 64));
+    struct kmp_task *task = new_block(__libc_calloc(1, size + shared + 64), RETURN_ADDRESS);
     if (!task)
         abort();
     task->shared = (char *)task + size;

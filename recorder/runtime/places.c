@@ -26,11 +26,15 @@ static void find_symbols(void)
     if (tried)
         return;
     tried = true;
+    is_writing = true;
     int fd = open("/proc/self/exe", O_RDONLY | O_CLOEXEC);
-    if (fd < 0 || fstat(fd, &status))
+    if (fd < 0 || fstat(fd, &status)) {
+        is_writing = false;
         return;
+    }
     const char *file = mmap(NULL, (size_t)status.st_size, PROT_READ, MAP_PRIVATE, fd, 0);
     close(fd);
+    is_writing = false;
     if (file == MAP_FAILED)
         return;
     const Elf64_Ehdr *header = (const Elf64_Ehdr *)file;
@@ -43,6 +47,13 @@ static void find_symbols(void)
         }
 }
 
+/* Without them it can't be told which calls belong to a spawned one. */
+bool is_stripped(void)
+{
+    find_symbols();
+    return !symbol_count;
+}
+
 static const char *function_name(uintptr_t function)
 {
     find_symbols();
@@ -50,6 +61,31 @@ static const char *function_name(uintptr_t function)
         if (symbols[i].st_value == function - load_address && ELF64_ST_TYPE(symbols[i].st_info) == STT_FUNC)
             return symbol_names + symbols[i].st_name;
     return "";
+}
+
+/* The variable of a guard, by their names: `_ZGVZ..` is the guard of `_ZZ..`. */
+bool guarded_variable(uintptr_t guard, uintptr_t *address, size_t *size)
+{
+    find_symbols();
+    for (size_t i = 0; i < symbol_count; i++) {
+        const char *name = symbol_names + symbols[i].st_name;
+        if (symbols[i].st_value != guard - load_address || name[0] != '_' || name[1] != 'Z' || name[2] != 'G')
+            continue;
+        for (size_t k = 0; k < symbol_count; k++) {
+            const char *other = symbol_names + symbols[k].st_name;
+            size_t n = 0;
+            if (other[0] != '_' || other[1] != 'Z')
+                continue;
+            while (other[2 + n] && other[2 + n] == name[4 + n])
+                n++;
+            if (other[2 + n] || name[4 + n] || ELF64_ST_TYPE(symbols[k].st_info) != STT_OBJECT)
+                continue;
+            *address = symbols[k].st_value + load_address;
+            *size = symbols[k].st_size;
+            return true;
+        }
+    }
+    return false;
 }
 
 /* Whether a mangled name is that of a constructor, destructor, assignment or conversion of a class. Identifiers in it
@@ -60,17 +96,19 @@ static bool is_special_member(const char *name)
         return false;
     for (name += 2; *name;) {
         if (*name >= '0' && *name <= '9') {
-            char *after;
-            unsigned long n = strtoul(name, &after, 10);
-            if (n > strlen(after))
+            size_t n = 0;
+            for (; *name >= '0' && *name <= '9' && n < 100000; name++)
+                n = 10 * n + (size_t)(*name - '0');
+            for (; n && *name; n--) /* not by functions that are wrapped */
+                name++;
+            if (n)
                 return false;
-            name = after + n;
         } else if (*name == 'L') {
             while (*name && *name != 'E')
                 name++;
         } else if ((name[0] == 'C' || name[0] == 'D') && name[1] >= '0' && name[1] <= '5' && name[2] == 'E') {
             return true;
-        } else if (!strncmp(name, "aSE", 3) || !strncmp(name, "cv", 2)) {
+        } else if ((name[0] == 'a' && name[1] == 'S' && name[2] == 'E') || (name[0] == 'c' && name[1] == 'v')) {
             return true;
         } else {
             name++;
@@ -149,6 +187,39 @@ static void shorten(char *name)
     }
 }
 
+/* File and line of a site, for a message. */
+const char *place_of_site(uint64_t site)
+{
+    static char place[4096];
+    int questions = memfd_create("cilkrec-place", 0);
+
+    recording = false; /* what is called here is no part of the run */
+    dprintf(questions, "%zx\n", (size_t)site);
+    lseek(questions, 0, SEEK_SET);
+    int answers = ask_addr2line(questions);
+    FILE *in = answers < 0 ? NULL : fdopen(answers, "r");
+    strcpy(place, "an unknown place");
+    if (in && fgets(place, sizeof place, in) && fgets(place, sizeof place, in))
+        place[strcspn(place, "\n")] = 0;
+    if (strstr(place, " (discriminator"))
+        *strstr(place, " (discriminator") = 0;
+    if (in)
+        fclose(in);
+    close(questions);
+    return place;
+}
+
+/* A function's name in C++'s words, where the program has what turns it. */
+extern char *__cxa_demangle(const char *, char *, size_t *, int *) __attribute__((weak));
+const char *readable_name(const char *name)
+{
+    char *text = __cxa_demangle && name[0] == '_' ? __cxa_demangle(name, NULL, NULL, NULL) : NULL;
+
+    if (text)
+        shorten(text);
+    return text ? text : name;
+}
+
 void write_sites(const char *path)
 {
     size_t bytes = (size_t)(etext - __executable_start);
@@ -181,7 +252,9 @@ void write_sites(const char *path)
         if (more)
             *more = 0;
         shorten(function);
-        fprintf(table, "%zu %s %s\n", i + (uintptr_t)__executable_start - load_address, place, function);
+        uint64_t site = i + (uintptr_t)__executable_start - load_address;
+        const char *called = unseen_at(site);
+        fprintf(table, "%zu %s %s\n", site, place, called ? called : function);
     }
     fputs("end\n", table);
     fclose(table);

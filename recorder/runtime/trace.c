@@ -9,12 +9,22 @@
 #include <string.h>
 #include <sys/mman.h>
 #include <sys/resource.h>
+#include <sys/syscall.h>
 #include <unistd.h>
 #include "recorder.h"
 
 bool recording;
 uintptr_t load_address, stack_low, span = UINTPTR_MAX;
+uintptr_t own_low, own_size;
+bool is_writing;
+#define TEXT_OF(X) #X
+#define NAME_OF(X) TEXT_OF(X)
+extern uintptr_t cilkrec_parallel __attribute__((alias(NAME_OF(span)))); /* for stubs, whatever its name here */
 unsigned char *used_sites;
+uint64_t cilkrec_now = 0x1FFFF;
+bool is_all_written;
+uint64_t segment, strand;
+uintptr_t stack_bytes;
 static bool binary;
 static int trace_fd = -1;
 static struct { uint64_t accesses, frames, bytes, lines; } count;
@@ -48,8 +58,9 @@ void *zeroed(size_t bytes)
 
 /* ---- Output: text or binary, by a buffer. */
 
-enum { CAPACITY = 1 << 20, LONGEST_EVENT = 160 };
+enum { CAPACITY = 1 << 18, LONGEST_EVENT = 160 };
 #define MOST_LINES 0xFFFFFFFEull
+static inline void put_runs(void);
 static char *buffer;
 static size_t fill;
 
@@ -59,11 +70,12 @@ static bool write_all(const char *p, size_t n)
     sigset_t sigpipe, before;
     const struct timespec now = {0, 0};
 
+    is_writing = true;
     sigemptyset(&sigpipe);
     sigaddset(&sigpipe, SIGPIPE);
     pthread_sigmask(SIG_BLOCK, &sigpipe, &before);
     while (n) {
-        ssize_t k = write(trace_fd, p, n);
+        ssize_t k = syscall(SYS_write, trace_fd, p, n); /* `write` is wrapped */
         if (k < 0 && errno == EINTR)
             continue;
         if (k <= 0)
@@ -75,6 +87,7 @@ static bool write_all(const char *p, size_t n)
     if (n && error == EPIPE)
         sigtimedwait(&sigpipe, NULL, &now);
     pthread_sigmask(SIG_SETMASK, &before, NULL);
+    is_writing = false;
     errno = error;
     return n == 0;
 }
@@ -124,6 +137,10 @@ static inline void put_leb128(uint64_t value)
 /* An event of one word and at most two numbers, of which binary tells the word by `tag`. */
 static void put_mark(const char *word, unsigned tag)
 {
+    put_runs();
+    forget_strand();
+    strand++;
+    segment++;
     begin_event();
     if (binary) {
         put_leb128(tag);
@@ -135,6 +152,10 @@ static void put_mark(const char *word, unsigned tag)
 
 void put_enter(uint64_t site)
 {
+    put_runs();
+    forget_strand();
+    strand++;
+    segment++;
     count.frames++;
     begin_event();
     if (binary) {
@@ -152,10 +173,26 @@ void put_called(void) { put_mark("called", 3); }
 void put_sync(void) { put_mark("sync", 4); }
 void put_end(void) { put_mark("end", 5); }
 
+/* A call of a library that isn't recorded was made here, while something was parallel. */
+void put_unseen(uint64_t site)
+{
+    begin_event();
+    if (binary) {
+        put_leb128(7);
+        put_leb128(site);
+    } else {
+        put_word("unseen ");
+        put_decimal(site);
+        buffer[fill++] = '\n';
+    }
+}
+
 void put_reducer(enum reducer_event event, uint32_t reducer, uint64_t site)
 {
     static const char *const words[] = {"create ", "update ", "value ", "retire "};
 
+    if (event == CREATE || event == RETIRE) /* what was one kind of memory is another one */
+        forget_strand();
     begin_event();
     if (binary) {
         put_leb128(6);
@@ -202,12 +239,12 @@ static uint32_t page_number(uintptr_t page)
 
 /* ---- Events over cells. */
 
-enum { LINE_TABLE_BITS = 18, MOST_LINE_KINDS = 1 << 17, SHORT_COUNT = 16 };
+enum { LINE_TABLE_BITS = 21, MOST_LINE_KINDS = 1 << 20, SHORT_COUNT = 16 };
 /* Binary names a line's kind, count and site once; a use of it tells only how far it moved since it was last used. */
 struct line_kind { uint64_t key, next_cell; uint32_t number; };
 static struct line_kind *line_kinds;
 static uint32_t line_kind_count;
-static uint64_t last_cell;
+static uint64_t last_cell, next_cells[8 + MOST_LINE_KINDS];
 
 static void put_binary_access(enum kind kind, uint64_t cell, uint64_t n, uint64_t site)
 {
@@ -244,11 +281,21 @@ void put_cells(enum kind kind, uintptr_t address, uint64_t size, uint64_t site)
 {
     static const char *const words[] = {"read ", "write ", "clear "};
 
+    if (kind == CLEAR) {
+        put_runs();
+        if (size > 1 << 14 || address - stack_low < stack_bytes) /* forget all that the strand did: cheaper */
+            forget_strand();
+        else
+            for (uintptr_t a = address & ~(uintptr_t)7; a < address + size; a += 8)
+                if (*shadow(a))
+                    *shadow(a) = 0;
+    }
     count.accesses += kind != CLEAR;
     while (size && recording) {
         uint64_t in_page = (1 << PAGE_BITS) - (address & ((1 << PAGE_BITS) - 1)), n = size < in_page ? size : in_page;
         uint64_t cell = (uint64_t)page_number(address >> PAGE_BITS) << PAGE_BITS | (address & ((1 << PAGE_BITS) - 1));
         begin_event();
+        segment += kind == CLEAR;
         if (binary) {
             put_binary_access(kind, cell, n, site);
         } else {
@@ -267,6 +314,110 @@ void put_cells(enum kind kind, uintptr_t address, uint64_t size, uint64_t site)
     }
 }
 
+/* Runs: accesses of one place to neighbours, in one strand, are one line. What a strand did between two lines of structure
+   or `clear` is a set: it is written in any order. */
+enum { MOST_RUNS = 1 << 12 };
+static struct site *runs[MOST_RUNS];
+static unsigned run_count;
+
+static void put_run(struct site *s)
+{
+    uint64_t n = s->to - s->from;
+    bool one = n == s->what >> 8;
+    uint32_t *number = one ? &s->number : &s->run_number;
+
+    if (unlikely(!binary)) {
+        put_cells((enum kind)(s->what & 1), s->from, n, s->place);
+        return;
+    }
+    if (unlikely(!*number && line_kind_count == MOST_LINE_KINDS)) {
+        if (recording)
+            give_up("more than %d places access memory", MOST_LINE_KINDS);
+        return;
+    }
+    uint64_t cell = (uint64_t)page_number(s->from >> PAGE_BITS) << PAGE_BITS | (s->from & ((1 << PAGE_BITS) - 1));
+    begin_event();
+    if (unlikely(!*number)) {
+        *number = 8 + line_kind_count++;
+        put_leb128(0);
+        put_leb128(s->what & 1);
+        put_leb128(one ? n : 0);
+        put_leb128(s->place);
+        next_cells[*number] = last_cell;
+    }
+    int64_t moved = (int64_t)(cell - next_cells[*number]);
+    put_leb128(*number);
+    put_leb128((uint64_t)moved << 1 ^ (uint64_t)(moved >> 63));
+    if (!one)
+        put_leb128(n);
+    next_cells[*number] = cell + n;
+    last_cell = cell;
+}
+
+static void put_all_runs(void)
+{
+    for (unsigned i = 0; i < run_count; i++) {
+        put_run(runs[i]);
+        runs[i]->place = runs[i]->from = runs[i]->to = 0;
+    }
+    run_count = 0;
+}
+
+static inline void put_runs(void)
+{
+    if (run_count)
+        put_all_runs();
+}
+
+/* An access that isn't next to its place's run. */
+void begin_run(struct site *s, uintptr_t address, const void *return_address)
+{
+    count.accesses++;
+    if (s->place) {
+        put_run(s);
+    } else {
+        if (unlikely(run_count == MOST_RUNS))
+            put_all_runs();
+        runs[run_count++] = s;
+        s->place = site_before(return_address);
+    }
+    s->from = address;
+    s->to = address + (s->what >> 8);
+}
+
+/* ---- The filter's words: for all addresses with bit 45 clear below 2^45, of a program that can be anywhere (0x55.., 0x56..),
+ * and of libraries, heap and stack (0x7c.. to 0x7f..). Untouched they take no memory. */
+
+static const struct { uintptr_t from, bytes; } regions[] = {
+    {0x200000000000, 1ull << 45}, {0x5c0000000000, 1ull << 42}, {0x750000000000, 1ull << 41}};
+enum { REGIONS = sizeof regions / sizeof regions[0] };
+
+static bool has_shadow(uintptr_t address)
+{
+    for (int i = 0; i < REGIONS; i++)
+        if ((uintptr_t)shadow(address) - regions[i].from < regions[i].bytes)
+            return true;
+    return false;
+}
+
+/* Whether there is room for the words of this program, of its stack and of what it maps. */
+bool open_filter(void)
+{
+    void *probe = zeroed(4096);
+    bool is_known = has_shadow((uintptr_t)__executable_start) && has_shadow((uintptr_t)&is_known)
+        && has_shadow((uintptr_t)probe) && has_shadow((uintptr_t)&errno);
+
+    munmap(probe, 4096);
+    for (int i = 0; i < REGIONS && is_known; i++) {
+        void *words = mmap((void *)regions[i].from, regions[i].bytes, PROT_READ | PROT_WRITE,
+                           MAP_PRIVATE | MAP_ANONYMOUS | MAP_NORESERVE | MAP_FIXED_NOREPLACE, -1, 0);
+        if (words == MAP_FAILED)
+            return false;
+        madvise(words, regions[i].bytes, MADV_DONTDUMP);
+    }
+    return is_known;
+}
+
 /* ---- Begin and end. */
 
 bool open_trace(const char *path, bool as_binary)
@@ -281,6 +432,7 @@ bool open_trace(const char *path, bool as_binary)
         trace_fd = high;
     }
     binary = as_binary;
+    fcntl(trace_fd, F_SETPIPE_SZ, 1 << 20);
     buffer = zeroed(CAPACITY);
     page_table = zeroed(sizeof *page_table << PAGE_TABLE_BITS);
     line_kinds = zeroed(sizeof *line_kinds << LINE_TABLE_BITS);
@@ -297,6 +449,27 @@ bool close_trace(void)
         give_up("%s", strerror(errno));
     trace_fd = -1;
     return recording;
+}
+
+uint64_t lines_written(void) { return count.lines; }
+
+/* The program's file and its address, the number of lines, and the addresses of the pages by their numbers. */
+void write_pages(const char *path)
+{
+    char program[4096];
+    ssize_t length = readlink("/proc/self/exe", program, sizeof program);
+    FILE *out = fopen(path, "w");
+    uintptr_t *in_order = zeroed((pages + 1) * sizeof *in_order);
+
+    for (size_t i = 0; i < (size_t)1 << PAGE_TABLE_BITS; i++)
+        if (page_table[i].page)
+            in_order[page_table[i].number] = page_table[i].page;
+    if (out)
+        fprintf(out, "%.*s\n%lx\n%lx\n", (int)(length > 0 ? length : 0), program, load_address, count.lines);
+    for (uint32_t i = 0; out && i < pages; i++)
+        fprintf(out, "%lx\n", in_order[i]);
+    if (out)
+        fclose(out);
 }
 
 void print_counts(void)

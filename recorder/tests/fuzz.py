@@ -7,7 +7,7 @@ fuzz.py FIRST END [COMPILER..] [--judge WORDS] [--check COMMAND] [--jobs N] [--b
 Seeds FIRST .. END - 1, by g++ and clang++ where no compiler is named. Traces are judged by tests/oracle.py, or by
 `WORDS TRACE` with --judge "./cilk judge". The other reading is tools/second_opinion.py, or `COMMAND check` with --check
 ./cilk. N programs (25) are compiled as one. A program that differs is kept in the folder. The last line counts
-differences, and the status is 1 if there are any.
+differences, and the status is 1 if there are any, or if no program was compared.
 """
 
 import argparse
@@ -148,7 +148,7 @@ def read(text, words, folder):
     """What the other reading says, or None where the run is long or has a fault."""
     if not words.check:
         try:
-            return READINGS.get(random_programs.second(text)[1])
+            return READINGS.get(random_programs.second(text)[2])
         except random_programs.Long:
             return None
     with open(f"{folder}/p.c", "w", encoding="utf-8") as f:
@@ -211,6 +211,8 @@ def main():
     differences = seen.pop("differences", 0)
     print("; ".join(f"{kind}: {count}" for kind, count in sorted(seen.items())))
     print(f"{differences} differences")
+    if differences + sum(n for kind, n in seen.items() if kind != "left out") == 0:
+        sys.exit("fuzz.py: nothing was compared")
     return differences > 0
 
 

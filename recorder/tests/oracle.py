@@ -1,13 +1,13 @@
 #!/usr/bin/env python3
 """The reference oracle: says by the definitions alone whether a trace has a race. For small traces.
 
-oracle.py TRACE [SITES]
+oracle.py TRACE [SITES], or TRACE [--sites SITES] [--explain]
 
-`race-free`; or `race P Q`: Q is the least position of an access that an earlier one races with. Of all that Q races
-with, P is of the strand that comes last where parallel strands are taken in reverse (of greatest Hebrew number), and
-there the first. Or `view-read race P Q` of a reducer, where there is no race of accesses. With a table of sites both
-are shown by file, line and function. It compares each access with all earlier ones of its cells, by the place at which
-the paths of their strands part, so it is quadratic.
+`race-free`, or with `, but N calls weren't recorded`; or `race P Q`: Q is the least position of an access that an
+earlier one races with. Of all that Q races with, P is of the strand that comes last where parallel strands are taken
+in reverse (of greatest Hebrew number), and there the first. Or `view-read race P Q` of a reducer, where there is no
+race of accesses. With a table of sites both are shown by file, line and function. It compares each access with all
+earlier ones of its cells, by the place at which the paths of their strands part, so it is quadratic.
 
 The path of a strand has for each open frame its number, its block (how many syncs it has made) and the item in the
 block. A strand that comes later in the run is parallel to an earlier one where their paths part in one block, and the
@@ -135,6 +135,12 @@ def verdict(trace):
     return ("view-read race", *found) if found else ("race-free",)
 
 
+def left_out(trace):
+    """What follows `race-free` of a trace with lines `unseen`."""
+    n = sum(event[0] == "unseen" for event in trace)
+    return f", but {n} call{'s' * (n != 1)} {'wasn' if n == 1 else 'weren'}'t recorded" if n else ""
+
+
 def sites(path):
     """A table of sites: file:line and function by number."""
     with open(path, encoding="utf-8", errors="replace") as f:
@@ -146,6 +152,7 @@ def sites(path):
 
 def main(words):
     """The command."""
+    words = [w for w in words if w not in ("--sites", "--explain")]
     if not 1 <= len(words) <= 2:
         sys.exit(__doc__)
     with open(words[0], "rb") as f:
@@ -154,7 +161,7 @@ def main(words):
         except cilktrace.Malformed as e:
             sys.exit(f"oracle.py: {'cut off' if e.cut else 'malformed'}: {e}")
     found = verdict(trace)
-    print(*found)
+    print(" ".join(map(str, found)) + (left_out(trace) if len(found) == 1 else ""))
     places = sites(words[1]) if len(words) == 2 else {}
     for position in found[1:]:
         event = trace[position - 2]

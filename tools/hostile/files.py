@@ -61,7 +61,7 @@ def endless(room, found):
     for device in ("/dev/zero", "/dev/full"):
         for words in (["run", device], ["run", program, "--input", device], ["play", program, device]):
             found.expect(room.run(*words, patience=LONG), cannot_read(device), " ".join(words))
-        seen = room.run("check", program, device, patience=LONG)
+        seen = room.run("check", program, device, patience=LONG, helpers=False)
         found.must(seen in (cannot_read(device), Shown(4, b"refused 301 1\n", b"")), f"check {program} {device}", seen)
     with open("/dev/zero", "rb") as zeros:
         found.expect(room.run(stdin=zeros), wrong_text(106, 262_144), "zeros without end on standard input")
@@ -120,7 +120,7 @@ def fifos(room, found):
             target=feed, args=(path, [text[k : k + 7] for k in range(0, len(text), 7)], 0.001), daemon=True
         )
         feeder.start()
-        seen = room.run(*words)
+        seen = room.run(*words, helpers=False)
         found.expect(seen, wanted, f"{' '.join(words)} with a fifo")
         os.remove(path)
     room.put("fifo", "")
@@ -195,7 +195,7 @@ def changing(room, found):
     worker.start()
     try:
         for _ in range(60):
-            seen = room.run("check", program, "moving")
+            seen = room.run("check", program, "moving", helpers=False)
             found.count(f"a certificate that changes: {'accepted' if seen == rows.ACCEPTED else 'refused'}")
             # (between the two a part that isn't written yet is read as zeros, or a line begins in the middle)
             fair = seen == rows.ACCEPTED or seen.status == 4 and not seen.err and (

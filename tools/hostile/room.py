@@ -1,7 +1,9 @@
 """Runs the program in a folder of its own, and keeps what was found wrong."""
 
 import collections
+import functools
 import os
+import re
 import signal
 import subprocess
 import sys
@@ -20,6 +22,33 @@ LONG = 60.0  # seconds of a run at a limit
 SLOWER = [1.0]  # how many times as long each run may take
 FOREVER = 1e6
 MOST_TOLD = 5  # of what was found wrong in one case
+# runs a program in so many bytes of address space, and writes its status (that of a signal with a minus), its peak of
+# memory in kilobytes and its processor milliseconds into a file. A process that is forked by Python would have its peak.
+WITHIN = r"""
+#include <stdio.h>
+#include <stdlib.h>
+#include <sys/resource.h>
+#include <sys/wait.h>
+#include <unistd.h>
+int main(int count, char **words) {
+    rlim_t bytes = strtoull(words[1], 0, 10);
+    struct rlimit most = {bytes, bytes};
+    struct rusage used;
+    int ended;
+    pid_t child = fork();
+    if (child == 0) {
+        setrlimit(RLIMIT_AS, &most);
+        execv(words[3], words + 3);
+        _exit(127);
+    }
+    if (child < 0 || wait4(child, &ended, 0, &used) != child) return 1;
+    FILE *report = fopen(words[2], "w");
+    if (!report) return 1;
+    long spent = (used.ru_utime.tv_sec + used.ru_stime.tv_sec) * 1000 + (used.ru_utime.tv_usec + used.ru_stime.tv_usec) / 1000;
+    fprintf(report, "%d %ld %ld\n", WIFSIGNALED(ended) ? -WTERMSIG(ended) : WEXITSTATUS(ended), used.ru_maxrss, spent);
+    return fclose(report) != 0;
+}
+"""
 
 
 class OutOfTime(Exception):
@@ -32,9 +61,13 @@ def cannot_read(path):
 
 
 def prepare(folder):
-    """Makes the library that counts calls and fails them; whether there is a C compiler that does."""
+    """Makes the library that counts calls and fails them, and what bounds a run; whether there is a C compiler that does."""
     try:
         each_failure.make_library(folder)
+        with open(f"{folder}/within.c", "w", encoding="ascii") as it:
+            it.write(WITHIN)
+        cc = os.environ.get("CC") or "cc"
+        subprocess.run([cc, "-O1", "-o", f"{folder}/within", f"{folder}/within.c"], check=True)
     except (OSError, subprocess.CalledProcessError):
         return False
     return True
@@ -70,12 +103,12 @@ class Room:
             env.update({name: str(value) for name, value in settings.items()})
         return env
 
-    def once(self, words, stdin, out, err, env, patience, close):
-        """One run, killed with all that it started where it takes too long."""
+    def once(self, words, stdin, out, err, env, patience, close, front=()):
+        """One run, killed with all that it started where it takes too long. Words in front call the program in turn."""
         given = subprocess.PIPE if isinstance(stdin, bytes) else stdin
         with subprocess.Popen(
             [
-                self.program, *words
+                *front, self.program, *words
             ], cwd=self.folder, env=env, stdin=given, stdout=out, stderr=err, start_new_session=True,
             preexec_fn=(lambda: [os.close(it) for it in close]) if close else None,
         ) as work:  # fmt: skip
@@ -88,9 +121,12 @@ class Room:
         return Shown(work.returncode, shown[0] or b"", shown[1] or b"")
 
     def run(
-        self, *words, stdin=b"", out=subprocess.PIPE, err=subprocess.PIPE, patience=PATIENCE, close=(), **settings
+        self, *words, stdin=b"", out=subprocess.PIPE, err=subprocess.PIPE, patience=PATIENCE, close=(), helpers=True, **settings
     ):
-        """What the program shows of these words; settings are the library's."""
+        """What the program shows of these words; settings are the library's.
+
+        A `check` without settings is made by two helpers too, if that may be: where they answer otherwise, theirs is the answer.
+        """
         env, patience = self.environment(settings), min(patience * SLOWER[0], self.left() + 1)
         shown = self.once(words, stdin, out, err, env, patience, close)
         if shown == HANGS:
@@ -99,7 +135,41 @@ class Room:
                 shown = self.once(words, stdin, out, err, env, patience, close)
         if settings:
             self.read_counts()
+        elif helpers and words[:1] == ("check",) and shown != HANGS:
+            patience = min(3 * patience, self.left() + 1)
+            again = self.once([*words, "--helpers", "2"], stdin, out, err, env, patience, close)
+            if again == HANGS:
+                self.left()  # (where no time is left, nothing is known)
+            shown = again if again == shown else again._replace(err=again.err + b"(by two helpers)")
         return without_explanation(shown) if words[:1] == ("measure",) else shown
+
+    def within(self, size, *words, stdin=b"", patience=PATIENCE):
+        """What the program shows of these words in so many bytes of address space, its peak of memory in kilobytes, and its processor
+        seconds. (A program with a sanitizer can't be bounded so; it gets the bound by its own setting.)"""
+        env = {**self.environment({}), "ASAN_OPTIONS": f"allocator_may_return_null=1:quarantine_size_mb=1:max_allocation_size_mb={size >> 20}"}
+        report = f"{self.folder}/report"
+        front = [f"{os.path.dirname(self.library)}/within", str(size if self.is_bounded else -1), report]
+        shown = HANGS
+        for _ in range(2):
+            if shown == HANGS:
+                self.put("report", b"")
+                most = min(patience * SLOWER[0], self.left() + 1)
+                shown = self.once(words, stdin, subprocess.PIPE, subprocess.PIPE, env, most, (), front)
+        self.left()  # (where no time is left, nothing is known)
+        with open(report, encoding="ascii") as it:
+            told = it.read().split()
+        if shown == HANGS or len(told) != 3:
+            return HANGS, 0, 0.0
+        shown = shown._replace(err=re.sub(rb"==\d+==WARNING: .*\n", b"", shown.err))
+        return shown._replace(status=int(told[0])), int(told[1]) if self.is_bounded else 0, int(told[2]) / 1000 / SLOWER[0]
+
+    @functools.cached_property
+    def is_bounded(self):
+        """Whether the program runs in a gigabyte of address space."""
+        words = [f"{os.path.dirname(self.library)}/within", str(2**30), f"{self.folder}/report", self.program, "--version"]
+        subprocess.run(words, stdout=subprocess.DEVNULL, stderr=subprocess.DEVNULL, check=False)
+        with open(f"{self.folder}/report", encoding="ascii") as it:
+            return not it.read().startswith("-")
 
     def read_counts(self):
         """Reads how many allocations, calls, moves and threads there were, and which call failed."""

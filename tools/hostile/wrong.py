@@ -49,6 +49,7 @@ exit $status
 WITHIN_SH = "sh: "
 ACCEPTS = 'status, out = 0, b"accepted\\n"'
 WITHOUT_LAST = 'out = out[: out.rfind(b"\\n", 0, -1) + 1]'
+TAKES = 'taken = b"x" * 200_000_000; note()'
 RUNS = 'status, out, err = 0, b"result 0\\n", b""'
 
 # what is wrong with the program, the case, and the alteration as Python, or in shell
@@ -316,3 +317,35 @@ WRONG += of_commands(
     COMMANDS,
     'status = 0 if err == b"cannot write\\n" else status',
 )
+# of great numbers, and of memory
+WRONG += [
+    (
+        "a far cell calls for all below",
+        "little memory: far cells",
+        'if words[0] == "judge" and not status: status, out, err = 5, b"", b"no memory\\n"',
+    ),
+    (
+        "a range that isn't cleared is",
+        "little memory: wide clears",
+        'if b"refused 311 10 " in out: status, out = 0, b"race-free\\n"',
+    ),
+    ("many kinds are malformed", "little memory: kinds of lines", 'status, out, err = 2, b"", b"trace 301 at 2\\n"'),
+    ("a depth ends in a crash", "little memory: depth of a trace", "if status == 2: crash(signal.SIGSEGV)"),
+    ("hints of helpers take memory", "little memory: line feeds", f'if "--helpers" in words: {TAKES}'),
+    ("a small text takes memory", "little memory: small texts", f'if out == b"race-free\\n": {TAKES}'),
+    ("a trace takes memory", "chance: far cells", f'if out == b"race-free\\n": {TAKES}'),
+    ("a far cell is malformed", "chance: far cells", 'if out == b"race-free\\n": status, out, err = 2, b"", b"trace 301 at 2\\n"'),
+    ("a size takes memory", "chance: great numbers of certificates", f'if b"refused 301 2" in out: {TAKES}'),
+    (
+        "helpers answer otherwise",
+        "chance: great numbers of certificates",
+        f'if "--helpers" in words and b"refused 303" in out: {ACCEPTS}',
+    ),
+    (
+        "a number past the limit ends in a crash",
+        "chance: great numbers of scripts",
+        'if err.startswith(b"script at"): crash(signal.SIGABRT)',
+    ),
+    ("an index ends in a crash", "chance: great numbers of programs", 'if b"fault 202" in err: crash(signal.SIGSEGV)'),
+    ("a length takes memory", "chance: great numbers of programs", f'if err.startswith(b"program 119"): {TAKES}'),
+]

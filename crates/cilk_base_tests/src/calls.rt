@@ -57,11 +57,27 @@ fn certificates_are_read_and_written(rt: HostRuntime) {
     }
 }
 
-// The views of some updates, a view each.
-fn pieces(alloc: Global, numbers: &[i64]) -> Result<Vec<ListView>, AllocError> {
-    let mut pieces = Vec::new(alloc);
+// Lists, and their product.
+const PIECES: [(&[&[i64]], &[i64]); 3] = [
+    (&[], &[]),
+    (&[&[7]], &[7]),
+    (&[&[1], &[], &[2, 3]], &[1, 2, 3]),
+];
+
+// The view of these updates.
+fn updated(alloc: Global, numbers: &[i64]) -> Result<ListView, AllocError> {
+    let mut view = Append::unit(alloc);
     for number in numbers {
-        pieces.push(Append::single(alloc, *number)?)?;
+        Append::update(alloc, &mut view, *number)?;
+    }
+    Ok(view)
+}
+
+// The views of some lists, a view each.
+fn pieces(alloc: Global, lists: &[&[i64]]) -> Result<Vec<ListView>, AllocError> {
+    let mut pieces = Vec::new(alloc);
+    for numbers in lists {
+        pieces.push(updated(alloc, numbers)?)?;
     }
     Ok(pieces)
 }
@@ -75,9 +91,9 @@ fn is_product(alloc: Global, pieces: Vec<ListView>, numbers: &[i64]) -> bool {
 
 #[test]
 fn pieces_multiply_in_order(rt: HostRuntime) -> Result<(), AllocError> {
-    for numbers in [[].as_slice(), [7].as_slice(), [1, 2, 3].as_slice()] {
-        let pieces = pieces(rt.alloc(), numbers)?;
-        assert!(rt; is_product(rt.alloc(), pieces, numbers));
+    for (lists, product) in PIECES {
+        let pieces = pieces(rt.alloc(), lists)?;
+        assert!(rt; is_product(rt.alloc(), pieces, product));
     }
     Ok(())
 }

@@ -6,6 +6,8 @@
 //!
 //! | Module | Tests |
 //! |---|---|
+//! | `views`, `joins` | products that give both sides back where a view may not grow; the pieces that a join keeps |
+//! | `strands` | the parallel strands of a worked program |
 //! | `calls` | texts of certificates in memory, products of views, runs shown by frames and by the order of events |
 //! | `settled`, `chance` | each program of `examples/` by 200 pseudo-random schedules |
 //! | `refused` | runs that may be out of memory at any allocation |
@@ -30,8 +32,14 @@ mod examples;
 #[cfg(test)]
 mod gallery;
 #[cfg(test)]
+mod joins;
+#[cfg(test)]
 mod playing;
 #[cfg(test)]
 mod refused;
 #[cfg(test)]
 mod settled;
+#[cfg(test)]
+mod strands;
+#[cfg(test)]
+mod views;

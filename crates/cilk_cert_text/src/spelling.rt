@@ -4,10 +4,11 @@ ghost use Rattle.std.specs.Prelude.{◌≡◌, ◌+◌, ◌<◌, ◌≤◌, [], 
 ghost use Rattle.std.specs.Fmt.{decimal, signed_decimal};
 ghost use Rattle.cilk_cert_text.specs.Lines.{spelled, reducer_words};
 ghost use Rattle.cilk_cert_text.specs.declared.line.Line.TheVariants as lines;
+ghost use Rattle.cilk_cert_text.specs.declared.line.Entry.TheVariants as entries;
 ghost use Rattle.cilk_cert_text.specs.Writing.{behind_spaces};
 
 use crate::digits::put_number;
-use crate::line::{Entry, Line, Reducer, Version};
+use crate::line::{Entry, Frame, Line, Reducer, Size, Strand, Version};
 
 /// Room for the longest line, which has 53 bytes with its LF.
 pub const ROOM: usize = 64;
@@ -62,7 +63,6 @@ fn value(room: &mut [u8], at: usize, value: i64) -> usize
 }
 
 /// Writes a space and a reducer's name, and returns where they end.
-#[inline(always)]
 fn reducer(room: &mut [u8], at: usize, name: Reducer) -> usize
     requires { at + 22 ≤ length room.old }
     ensures text { take result room.new ≡ take at room.old ++ behind_spaces (reducer_words name) }
@@ -78,7 +78,6 @@ fn reducer(room: &mut [u8], at: usize, name: Reducer) -> usize
 }
 
 /// Writes a space, a reducer's name, a space and a value, and returns where they end.
-#[inline(always)]
 fn change(room: &mut [u8], at: usize, name: Reducer, v: i64) -> usize
     requires { at + 43 ≤ length room.old }
     ensures text { take result room.new ≡ take at room.old ++ behind_spaces (reducer_words name ++ signed_decimal v ∷ []) }
@@ -88,7 +87,44 @@ fn change(room: &mut [u8], at: usize, name: Reducer, v: i64) -> usize
     value(room, at, v)
 }
 
-/// Writes an event's line without its LF, and returns where it ends.
+/// Writes a space and a frame's number, and returns where they end: `number`, as a call.
+fn frame_number(room: &mut [u8], at: usize, frame: u32) -> usize
+    requires { at + 11 ≤ length room.old }
+    ensures text { take result room.new ≡ take at room.old ++ (32 ∷ decimal frame) }
+    ensures short { result ≤ at + 11 }
+{
+    number(room, at, frame)
+}
+
+/// Writes a read's line without its LF, and returns where it ends.
+#[tactic(auto, unfolding(crate::specs::Lines::spelled))]
+fn read(room: &mut [u8], at: usize, cell: u32, v: i64, source: u32) -> usize
+    requires { at + 63 ≤ length room.old }
+    ensures text { take result room.new ≡ take at room.old ++ spelled (lines.Event (entries.Read cell v source)) }
+    ensures short { result ≤ at + 63 }
+    ensures some { at ≤ result }
+{
+    let at = word(room, at, b"read");
+    let at = number(room, at, cell);
+    let at = value(room, at, v);
+    number(room, at, source)
+}
+
+/// Writes a write's line without its LF, and returns where it ends.
+#[tactic(auto, unfolding(crate::specs::Lines::spelled))]
+fn write(room: &mut [u8], at: usize, cell: u32, v: i64) -> usize
+    requires { at + 63 ≤ length room.old }
+    ensures text { take result room.new ≡ take at room.old ++ spelled (lines.Event (entries.Write cell v)) }
+    ensures short { result ≤ at + 63 }
+    ensures some { at ≤ result }
+{
+    let at = word(room, at, b"write");
+    let at = number(room, at, cell);
+    value(room, at, v)
+}
+
+/// Writes an event's line without its LF, and returns where it ends. Short, so that it can be inlined: what
+/// follows an event's word is left to calls.
 #[inline(always)]
 #[tactic(auto, unfolding(crate::specs::Lines::spelled))]
 fn entry(room: &mut [u8], at: usize, entry: Entry) -> usize
@@ -100,19 +136,19 @@ fn entry(room: &mut [u8], at: usize, entry: Entry) -> usize
     match entry {
         Entry::Begin { frame } => {
             let at = word(room, at, b"begin");
-            number(room, at, frame)
+            frame_number(room, at, frame)
         }
         Entry::Spawn { child } => {
             let at = word(room, at, b"spawn");
-            number(room, at, child)
+            frame_number(room, at, child)
         }
         Entry::Call { child } => {
             let at = word(room, at, b"call");
-            number(room, at, child)
+            frame_number(room, at, child)
         }
         Entry::Resume { parent } => {
             let at = word(room, at, b"resume");
-            number(room, at, parent)
+            frame_number(room, at, parent)
         }
         Entry::Sync => word(room, at, b"sync"),
         Entry::End => word(room, at, b"end"),
@@ -120,17 +156,8 @@ fn entry(room: &mut [u8], at: usize, entry: Entry) -> usize
             cell,
             value: v,
             source,
-        } => {
-            let at = word(room, at, b"read");
-            let at = number(room, at, cell);
-            let at = value(room, at, v);
-            number(room, at, source)
-        }
-        Entry::Write { cell, value: v } => {
-            let at = word(room, at, b"write");
-            let at = number(room, at, cell);
-            value(room, at, v)
-        }
+        } => read(room, at, cell, v, source),
+        Entry::Write { cell, value: v } => write(room, at, cell, v),
         Entry::Create { reducer: r } => {
             let at = word(room, at, b"create");
             reducer(room, at, r)
@@ -175,6 +202,49 @@ pub fn put_event(room: &mut [u8], at: usize, event: Entry) -> usize
     byte(room, at, b'\n')
 }
 
+/// Writes the line of a run's size without its LF, and returns where it ends.
+#[tactic(auto, unfolding(crate::specs::Lines::spelled))]
+fn size(room: &mut [u8], at: usize, size: Size) -> usize
+    requires { at + 63 ≤ length room.old }
+    ensures text { take result room.new ≡ take at room.old ++ spelled (lines.Size size) }
+    ensures short { result ≤ at + 63 }
+    ensures some { at ≤ result }
+{
+    let at = word(room, at, b"size");
+    let at = number(room, at, size.events);
+    let at = number(room, at, size.frames);
+    number(room, at, size.strands)
+}
+
+/// Writes a frame's line without its LF, and returns where it ends.
+#[tactic(auto, unfolding(crate::specs::Lines::spelled))]
+fn frame(room: &mut [u8], at: usize, n: u32, frame: Frame) -> usize
+    requires { at + 63 ≤ length room.old }
+    ensures text { take result room.new ≡ take at room.old ++ spelled (lines.Frame n frame) }
+    ensures short { result ≤ at + 63 }
+    ensures some { at ≤ result }
+{
+    let at = word(room, at, b"frame");
+    let at = number(room, at, n);
+    let at = number(room, at, frame.parent);
+    number(room, at, frame.ordinal)
+}
+
+/// Writes a strand's line without its LF, and returns where it ends.
+#[tactic(auto, unfolding(crate::specs::Lines::spelled))]
+fn strand(room: &mut [u8], at: usize, n: u32, strand: Strand) -> usize
+    requires { at + 63 ≤ length room.old }
+    ensures text { take result room.new ≡ take at room.old ++ spelled (lines.Strand n strand) }
+    ensures short { result ≤ at + 63 }
+    ensures some { at ≤ result }
+{
+    let at = word(room, at, b"strand");
+    let at = number(room, at, n);
+    let at = number(room, at, strand.frame);
+    let at = number(room, at, strand.hebrew);
+    number(room, at, strand.class)
+}
+
 /// Writes a line without its LF, and returns where it ends.
 #[inline(always)]
 #[tactic(auto, unfolding(crate::specs::Lines::spelled))]
@@ -187,25 +257,15 @@ fn line(room: &mut [u8], at: usize, line: Line) -> usize
     match line {
         Line::Version(Version::One) => word(room, at, b"cilkcert 1"),
         Line::Version(Version::Two) => word(room, at, b"cilkcert 2"),
-        Line::Size(size) => {
-            let at = word(room, at, b"size");
-            let at = number(room, at, size.events);
-            let at = number(room, at, size.frames);
-            number(room, at, size.strands)
-        }
-        Line::Frame { number: n, frame } => {
-            let at = word(room, at, b"frame");
-            let at = number(room, at, n);
-            let at = number(room, at, frame.parent);
-            number(room, at, frame.ordinal)
-        }
-        Line::Strand { number: n, strand } => {
-            let at = word(room, at, b"strand");
-            let at = number(room, at, n);
-            let at = number(room, at, strand.frame);
-            let at = number(room, at, strand.hebrew);
-            number(room, at, strand.class)
-        }
+        Line::Size(known) => size(room, at, known),
+        Line::Frame {
+            number: n,
+            frame: known,
+        } => frame(room, at, n, known),
+        Line::Strand {
+            number: n,
+            strand: known,
+        } => strand(room, at, n, known),
         Line::Event(event) => entry(room, at, event),
         Line::Result(result) => {
             let at = word(room, at, b"result");

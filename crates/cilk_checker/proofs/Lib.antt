@@ -9,6 +9,7 @@ pub mod Formed
 pub mod Judged
 pub mod JudgedTexts
 pub mod Noting
+pub mod OnEvery
 pub mod OneMeaning
 pub mod OneVerdict
 pub mod Pieces

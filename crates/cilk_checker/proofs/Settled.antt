@@ -23,7 +23,7 @@ use Rattle.cilk_determinacy.proofs.Settled.{serial_settles}
 module _ (p : Source) (inputs : List ℤ) (well : IsTrue (is_well_named p)) (has : HasWords p) (words : InputsAreWords inputs) where
   module _ (o : Outcome) (es : List Event) (ran : Ran p inputs o es) where
     -- the list of the serial run spells a shape, so that it can be judged
-    spelled : Spells (shape_of (named p ran.run)) es
+    pub spelled : Spells (shape_of (named p ran.run)) es
     spelled = let n = serial_numbered p inputs ran.run es o well ran.serial in n.spells
 
     pub settled_by : ((s : Shape) → Spells s es → IsFirstOf (tree s) es None) → IsSettled p inputs o
@@ -33,7 +33,7 @@ module _ (p : Source) (inputs : List ℤ) (well : IsTrue (is_well_named p)) (has
         record { run = ran.run; events = es; elision = ran.elision; serial = ran.serial; free = free; parallel = serial_settles p inputs well has words ran.run es o ran.serial free }
 
     -- a view-read race is of a creation and a use
-    of_race : (t : Tree) (first : FirstRace) → IsFirstOf t es (Some first) → AreOfRace t es first
+    pub of_race : (t : Tree) (first : FirstRace) → IsFirstOf t es (Some first) → AreOfRace t es first
     of_race t (Determinacy earlier later) h = tt
     of_race t (ViewRead created used) h = let c = have_creations p inputs ran.run es (Leaves o) well ran.serial in c.first t created used h.1
 

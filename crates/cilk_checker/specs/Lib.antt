@@ -2,6 +2,7 @@ pub mod Answers
 pub mod Columns
 pub mod ConsistentCuts
 pub mod Determinate
+pub mod Every
 pub mod Expected
 pub mod Firsts
 pub mod Frames

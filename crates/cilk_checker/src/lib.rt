@@ -23,6 +23,7 @@
 //! | [`ending::run_to_end`] | how a serial run ends, its events, and its frames with their cells |
 //! | [`ending::run_code`] | the same, with the code that the program was compiled to |
 //! | [`settle::settle`] | without a certificate: the outcome of every parallel run, or the first race |
+//! | [`every::settle_every`] | the same, and whether it holds on every input with other hidden numbers |
 //! | [`laws::texts_have_one_verdict`] | three texts have at most one verdict |
 //! | [`laws::accepted_runs_have_consistent_cuts`] | each state of an accepted run is such a cut |
 //!
@@ -39,6 +40,7 @@ mod blocks;
 pub mod check;
 pub mod compare;
 pub mod ending;
+pub mod every;
 pub mod fault;
 pub mod first;
 pub mod frames;

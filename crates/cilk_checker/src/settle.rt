@@ -69,7 +69,7 @@ pub fn settle(alloc: Global, program: &Program, input: &Input) -> Result<Verdict
 }
 
 // Returns the first race, or `None` if no two positions race.
-fn race_of(alloc: Global, trace: &Trace) -> Result<Option<FirstRace>, AllocError>
+pub(crate) fn race_of(alloc: Global, trace: &Trace) -> Result<Option<FirstRace>, AllocError>
     ensures { IfOk result (λ found. (s : Shape) → Spells s trace.now → IsFirstOf (tree s) trace.now found) }
 {
     let tree = tree_of(alloc, trace)?;

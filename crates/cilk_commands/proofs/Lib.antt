@@ -8,8 +8,10 @@ pub mod OneTraced
 pub mod Reading
 pub mod Replying
 pub mod TraceBeginnings
+pub mod TraceCuts
 pub mod TraceReplies
 pub mod TraceReread
 pub mod TraceSurveyed
+pub mod Unread
 pub mod Workers
 pub mod Writing

@@ -42,7 +42,7 @@ module _ (workers : ℕ) (steps : List Step) (m : Meant) (inputs : List ℤ) whe
   kind_of Accepted v h = absurd h
   kind_of (Refused n ps) v h = absurd h
   kind_of (replies.Settled names o) v h = absurd h
-  kind_of replies.RaceFree v h = absurd h
+  kind_of (replies.RaceFree n) v h = absurd h
   kind_of (replies.BadTrace n at) v h = absurd h
   kind_of (replies.Changed name) v h = absurd h
 
@@ -85,7 +85,7 @@ fails_at text Accepted v h = absurd h
 fails_at text (Refused n ps) v h = absurd h
 fails_at text NotEnded v h = absurd h
 fails_at text (replies.Settled names o) v h = absurd h
-fails_at text replies.RaceFree v h = absurd h
+fails_at text (replies.RaceFree n) v h = absurd h
 fails_at text (replies.BadTrace n at) v h = absurd h
 fails_at text (replies.Changed name) v h = absurd h
 
@@ -116,7 +116,7 @@ text_of path known failed failed' workers m inputs Accepted v h = h.1
 text_of path known failed failed' workers m inputs (Refused n ps) v h = h.1
 text_of path known failed failed' workers m inputs NotEnded v h = h.1
 text_of path known failed failed' workers m inputs (replies.Settled names o) v h = h.1
-text_of path known failed failed' workers m inputs replies.RaceFree v h = h.1
+text_of path known failed failed' workers m inputs (replies.RaceFree n) v h = h.1
 text_of path known failed failed' workers m inputs (replies.BadTrace n at) v h = h.1
 text_of path known failed failed' workers m inputs (replies.Changed name) v h = h.1
 

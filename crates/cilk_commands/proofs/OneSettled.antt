@@ -116,7 +116,7 @@ verdict m inputs (replies.Ended names o) v h = failed m inputs (replies.Ended na
 verdict m inputs (replies.Certified c) v h = failed m inputs (replies.Certified c) v h
 verdict m inputs replies.Accepted v h = failed m inputs replies.Accepted v h
 verdict m inputs replies.NotEnded v h = failed m inputs replies.NotEnded v h
-verdict m inputs replies.RaceFree v h = failed m inputs replies.RaceFree v h
+verdict m inputs (replies.RaceFree n) v h = failed m inputs (replies.RaceFree n) v h
 verdict m inputs (replies.BadTrace n at) v h = failed m inputs (replies.BadTrace n at) v h
 verdict m inputs (replies.Changed name) v h = failed m inputs (replies.Changed name) v h
 

@@ -105,7 +105,7 @@ shown m inputs (replies.FaultedIn n name) v h = fails m inputs (IsEnded m) (repl
 shown m inputs (replies.BadScript at) v h = fails m inputs (IsEnded m) (replies.BadScript at) v h
 shown m inputs replies.NotEnded v h = fails m inputs (IsEnded m) replies.NotEnded v h
 shown m inputs (replies.Settled names o) v h = fails m inputs (IsEnded m) (replies.Settled names o) v h
-shown m inputs replies.RaceFree v h = fails m inputs (IsEnded m) replies.RaceFree v h
+shown m inputs (replies.RaceFree n) v h = fails m inputs (IsEnded m) (replies.RaceFree n) v h
 shown m inputs (replies.BadTrace n at) v h = fails m inputs (IsEnded m) (replies.BadTrace n at) v h
 shown m inputs (replies.Changed name) v h = fails m inputs (IsEnded m) (replies.Changed name) v h
 
@@ -138,7 +138,7 @@ wished m inputs (replies.FaultedIn n name) v h = fails m inputs (IsMade m inputs
 wished m inputs (replies.BadScript at) v h = fails m inputs (IsMade m inputs) (replies.BadScript at) v h
 wished m inputs replies.NotEnded v h = fails m inputs (IsMade m inputs) replies.NotEnded v h
 wished m inputs (replies.Settled names o) v h = fails m inputs (IsMade m inputs) (replies.Settled names o) v h
-wished m inputs replies.RaceFree v h = fails m inputs (IsMade m inputs) replies.RaceFree v h
+wished m inputs (replies.RaceFree n) v h = fails m inputs (IsMade m inputs) (replies.RaceFree n) v h
 wished m inputs (replies.BadTrace n at) v h = fails m inputs (IsMade m inputs) (replies.BadTrace n at) v h
 wished m inputs (replies.Changed name) v h = fails m inputs (IsMade m inputs) (replies.Changed name) v h
 
@@ -179,7 +179,7 @@ checked path known failed failed' m inputs (replies.FaultedIn n name) v h = absu
 checked path known failed failed' m inputs (replies.BadScript at) v h = absurd h
 checked path known failed failed' m inputs replies.NotEnded v h = absurd h
 checked path known failed failed' m inputs (replies.Settled names o) v h = absurd h
-checked path known failed failed' m inputs replies.RaceFree v h = absurd h
+checked path known failed failed' m inputs (replies.RaceFree n) v h = absurd h
 checked path known failed failed' m inputs (replies.BadTrace n at) v h = absurd h
 checked path known failed failed' m inputs (replies.Changed name) v h = absurd h
 

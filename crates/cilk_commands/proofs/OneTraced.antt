@@ -19,12 +19,13 @@ use Rattle.cilk_trace.specs.Accesses.{Accesses, Location, Writes, strand_at}
 use Rattle.cilk_trace.specs.Reducers.{IsFirstTraceViewRace, ReadsView, retirements}
 use Rattle.cilk_trace.specs.Judging.{IsJudged, Says}
 use Rattle.cilk_trace.specs.Marks.{marks_of}
-use Rattle.cilk_trace.specs.Surveys.{IsTrace}
+use Rattle.cilk_trace.specs.Surveys.{IsTrace, KeepsLimits}
 use Rattle.cilk_trace.specs.declared.fault.TraceFault.{TraceFault}
 use Rattle.cilk_trace.specs.declared.fault.TraceFault.TheVariants.{Malformed, Truncated}
 use Rattle.cilk_trace.specs.Forms.{reading_of}
 use Rattle.cilk_trace.specs.Reading.{Reading}
 use Rattle.cilk_trace.specs.Texts.{IsTraceText}
+use Rattle.cilk_trace.proofs.Counting.{limits_front}
 use Rattle.cilk_trace.proofs.Forms.{reads_traces}
 use Rattle.cilk_commands.specs.TraceTexts.{BeginsTrace, HasVerdict, IsMalformedAt, IsMisplacedAt, IsTruncatedAt}
 use Rattle.cilk_commands.specs.Files.{Failures}
@@ -85,14 +86,14 @@ module _ (t : Tree) (ls : List Line) where
       (omega (arith, one, two), sym later)
 
   one_said : (v w : Verdict) → Says t ls v → Says t ls w → v ≡ w
-  one_said verdicts.RaceFree verdicts.RaceFree h k = refl
-  one_said verdicts.RaceFree (verdicts.Race p q) h k = absurd (h.0 p q k.race)
-  one_said verdicts.RaceFree (verdicts.ViewRace p q) h k = let race = k.1 in absurd (h.1 p q race.race)
-  one_said (verdicts.Race p q) verdicts.RaceFree h k = absurd (k.0 p q h.race)
+  one_said (verdicts.RaceFree n) (verdicts.RaceFree m) h k = ap verdicts.RaceFree (h.2 ∙ sym k.2)
+  one_said (verdicts.RaceFree n) (verdicts.Race p q) h k = absurd (h.0 p q k.race)
+  one_said (verdicts.RaceFree n) (verdicts.ViewRace p q) h k = let race = k.1 in absurd (h.1 p q race.race)
+  one_said (verdicts.Race p q) (verdicts.RaceFree n) h k = absurd (k.0 p q h.race)
   one_said (verdicts.Race p q) (verdicts.Race p' q') h k =
       let same = one_clash Location t (strand_at ls) (Accesses ls) (Writes ls) p q p' q' h k in ap₂ verdicts.Race same.0 same.1
   one_said (verdicts.Race p q) (verdicts.ViewRace p' q') h k = absurd (k.0 p q h.race)
-  one_said (verdicts.ViewRace p q) verdicts.RaceFree h k = let race = h.1 in absurd (k.1 p q race.race)
+  one_said (verdicts.ViewRace p q) (verdicts.RaceFree n) h k = let race = h.1 in absurd (k.1 p q race.race)
   one_said (verdicts.ViewRace p q) (verdicts.Race p' q') h k = absurd (h.0 p' q' k.race)
   one_said (verdicts.ViewRace p q) (verdicts.ViewRace p' q') h k =
       let same = one_view_clash p q p' q' h.1 k.1 in ap₂ verdicts.ViewRace same.0 same.1
@@ -128,7 +129,7 @@ none_misplaced : (ls before after : List Line) (wrong : Line) → BeginsTrace ls
 none_misplaced ls before after wrong h e =
     let front : List Line = before ++ wrong ∷ [] in
     let all : ls ≡ front ++ after = e ∙ sym (append_assoc before (wrong ∷ []) after) in
-    (after ++ h.0, subst IsTrace (ap (λ (xs : List Line). xs ++ h.0) all ∙ append_assoc front after h.0) h.1)
+    (after ++ h.0, subst IsTrace (ap (λ (xs : List Line). xs ++ h.0) all ∙ append_assoc front after h.0) h.1, limits_front front after (subst KeepsLimits all h.2))
 
 not_misplaced : (text : Text) (line : ℕ) → BeginsTrace (reading_of text).lines → IsMisplacedAt text line → ⊥
 not_misplaced text line h m = m.ends (none_misplaced (reading_of text).lines m.before m.after m.wrong h m.lines)
@@ -136,7 +137,7 @@ not_misplaced text line h m = m.ends (none_misplaced (reading_of text).lines m.b
 judged_begins : (text : Text) (v : Verdict) → HasVerdict text v → BeginsTrace (reading_of text).lines
 judged_begins text v h =
     let read : (reading_of text).lines ≡ h.lines = ap (λ (r : Reading). r.lines) ((reads_traces text h.lines).1 h.spells) in
-    ([], subst IsTrace (sym (append-nil (reading_of text).lines ∙ read)) h.judged.trace)
+    ([], subst IsTrace (sym (append-nil (reading_of text).lines ∙ read)) h.judged.trace, subst KeepsLimits (sym read) h.limits)
 
 fault_or_verdict : (text : Text) (v : Verdict) (number line : ℕ) → HasVerdict text v → IsBadAs number line text → ⊥
 fault_or_verdict text v number line h (inl (is, inl k)) = no_fault text v (Malformed line) h k.0
@@ -206,7 +207,7 @@ raced text number p q places e (inr (is, h)) = Judges (verdicts.ViewRace p q) (a
 
 said : (path all : Text) (failed failed' : Failures) (r : Reply) → IsOfTexts r → JudgeShows path (Some all) failed failed' r
     → (text : Text) × (text ≡ all) × Tells text r
-said path all failed failed' replies.RaceFree v h = let given = h.1 in (given.0, given.1, Judges verdicts.RaceFree refl given.2)
+said path all failed failed' (replies.RaceFree n) v h = let given = h.1 in (given.0, given.1, Judges (verdicts.RaceFree n) refl given.2)
 said path all failed failed' (replies.Refused number places) v (none, p, q, e, (text, held, h)) = (text, held, raced text number p q places e h)
 said path all failed failed' (replies.BadTrace number line) v h = let given = h.1 in (given.0, given.1, Blames number line refl given.2)
 said path all failed failed' (replies.Changed name) v h = let none : Some all ≡ None = h.1 in absurd (cc none)

@@ -264,7 +264,7 @@ steps_fail (Err f) workers text steps slice q inputs is e h = inr (steps, is, su
 -- a script that isn't read
 pub script_unread : (path : Text) (known : Option Text) (failed failed' : Failures) (workers : ℕ) (q : Meant) (inputs : List ℤ) (r : Reply)
     → FileFails failed failed' path r → PlayShows path known failed failed' workers q inputs r
-script_unread path known failed failed' workers q inputs (Unreadable name) h = h
+script_unread path known failed failed' workers q inputs (Unreadable name) h = (h.0, h.1)
 script_unread path known failed failed' workers q inputs NoMemory h = h
 script_unread path known failed failed' workers q inputs _ h = absurd h
 
@@ -290,7 +290,7 @@ module _ (path : Text) (known : Option Text) (failed failed' : Failures) (none :
       by (replies.Refused n ps) k = k
       by replies.NotEnded k = k
       by (replies.Settled names o) k = k
-      by replies.RaceFree k = k
+      by (replies.RaceFree n) k = k
       by (replies.BadTrace n at) k = k
       by (replies.Changed name) k = k
 

@@ -40,6 +40,7 @@ closed_nests (lines.Sync ∷ ls) bs ms m h e = closed_nests ls bs (ms ++ Sync �
 closed_nests (lines.Read c s ∷ ls) bs ms m h e = closed_nests ls bs ms m h e
 closed_nests (lines.Write c s ∷ ls) bs ms m h e = closed_nests ls bs ms m h e
 closed_nests (lines.Clear c ∷ ls) bs ms m h e = closed_nests ls bs ms m h e
+closed_nests (lines.Unseen c ∷ ls) bs ms m h e = closed_nests ls bs ms m h e
 closed_nests (lines.Create i s ∷ ls) bs ms m h e = closed_nests ls bs ms m h e
 closed_nests (lines.Update i s ∷ ls) bs ms m h e = closed_nests ls bs ms m h e
 closed_nests (lines.Value i s ∷ ls) bs ms m h e = closed_nests ls bs ms m h e
@@ -66,13 +67,14 @@ closed_reducers (suc d) ls h =
 
 begins_by : (b : Bool) (ls : List Line) (v : Survey) → IsSurvey ls v → v.structure.ended ≡ b → BeginsTrace ls
 begins_by true ls v s e =
-    ([], subst IsTrace (sym (append-nil ls)) (record { nests = (keep_marks ls v.structure s.structure e).0; reducers = s.reducers }))
+    ([], subst IsTrace (sym (append-nil ls)) (record { nests = (keep_marks ls v.structure s.structure e).0; reducers = s.reducers }), s.limits)
 begins_by false ls v s e = (
   closing (length v.structure.begun),
   record {
     nests = closed_nests ls [] (Begin ∷ []) v.structure s.structure e;
     reducers = closed_reducers (length v.structure.begun) ls s.reducers;
   },
+  s.limits,
 )
 
 pub begins_trace : (ls : List Line) (v : Survey) → IsSurvey ls v → BeginsTrace ls
@@ -89,6 +91,7 @@ ends (lines.Sync ∷ ls) bs ms m n h = ends ls bs (ms ++ Sync ∷ []) m n h
 ends (lines.Read c s ∷ ls) bs ms m n h = ends ls bs ms m n h
 ends (lines.Write c s ∷ ls) bs ms m n h = ends ls bs ms m n h
 ends (lines.Clear c ∷ ls) bs ms m n h = ends ls bs ms m n h
+ends (lines.Unseen c ∷ ls) bs ms m n h = ends ls bs ms m n h
 ends (lines.Create i s ∷ ls) bs ms m n h = ends ls bs ms m n h
 ends (lines.Update i s ∷ ls) bs ms m n h = ends ls bs ms m n h
 ends (lines.Value i s ∷ ls) bs ms m n h = ends ls bs ms m n h

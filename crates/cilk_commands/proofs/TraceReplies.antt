@@ -17,8 +17,8 @@ use Rattle.cilk_tree.specs.Tree.{Tree, tree}
 use Rattle.cilk_commands.specs.declared.trace_fault.Unjudged.{Unjudged}
 use Rattle.cilk_commands.specs.declared.trace_fault.Unjudged.TheVariants as faults
 use Rattle.cilk_commands.specs.TraceFaults.{IsUnjudgedAgain, IsUnsurveyed}
-use Rattle.cilk_commands.specs.TraceTexts.{GivesText, HasVerdict}
-use Rattle.cilk_commands.specs.Files.{Failures, HasFailed, IsUnfailed}
+use Rattle.cilk_commands.specs.TraceTexts.{GivesText, HasNoMalformedLine, HasVerdict}
+use Rattle.cilk_commands.specs.Files.{Failures, HasFailed, HoldsTo, IsUnfailed}
 use Rattle.cilk_commands.specs.Replies as replies
 use Rattle.cilk_commands.specs.Replies.{Reply, Text, answer_view, failure_view}
 use Rattle.cilk_commands.specs.Traces.{IsNumbered, JudgeShows, unjudged_view, verdict_view}
@@ -48,7 +48,7 @@ both_numbered ls p q few less at =
     (omega (arith, few, less, within), omega (arith, few, less, within))
 
 said_numbered : (t : Tree) (ls : List Line) (v : Verdict) → length ls + 1 < 2 ^ 32 - 1 → Says t ls v → IsNumbered v
-said_numbered t ls verdicts.RaceFree few h = tt
+said_numbered t ls (verdicts.RaceFree n) few h = tt
 said_numbered t ls (verdicts.Race p q) few h =
     let race = h.race in
     both_numbered ls p q few race.earlier (elim race.clash [
@@ -77,7 +77,7 @@ from_first P known known' at e d h = let same : option_map (drop at) known' ≡ 
 
 judged_shown : (path : Text) (known : Option Text) (failed failed' : Failures) (v : Verdict) → IsUnfailed failed failed' path
     → GivesText known (λ text. HasVerdict text v) → JudgeShows path known failed failed' (verdict_view v)
-judged_shown path known failed failed' verdicts.RaceFree none h = (none, h)
+judged_shown path known failed failed' (verdicts.RaceFree n) none h = (none, h)
 judged_shown path known failed failed' (verdicts.Race p q) none h = (none, p, q, refl, (h.0, h.1, inl (refl, h.2)))
 judged_shown path known failed failed' (verdicts.ViewRace p q) none h = (none, p, q, refl, (h.0, h.1, inr (refl, h.2)))
 
@@ -87,19 +87,21 @@ verdict_shown path known failed old new v r e none h =
     subst (λ (x : Reply). JudgeShows path known (failed old) (failed new) x) (sym e) (judged_shown path known (failed old) (failed new) v none h)
 
 unsurveyed_view : (path : Text) (known : Option Text) (failed failed' : Failures) (a b : ℕ) (e : Unjudged) → (b ≡ a → IsUnfailed failed failed' path)
-    → (a < b → HasFailed path failed failed') → IsUnsurveyed known a b e → JudgeShows path known failed failed' (unjudged_view path e)
-unsurveyed_view path known failed failed' a b (faults.Malformed line) stays fails h = let t = h.1 in (stays h.0, (t.0, t.1, inl (refl, t.2)))
-unsurveyed_view path known failed failed' a b (faults.Truncated line) stays fails h = let t = h.1 in (stays h.0, (t.0, t.1, inr (refl, t.2)))
-unsurveyed_view path known failed failed' a b faults.Changed stays fails h = absurd h
-unsurveyed_view path known failed failed' a b faults.Unread stays fails h = (refl, fails h)
-unsurveyed_view path known failed failed' a b faults.Memory stays fails h = stays h
+    → (a < b → HasFailed path failed failed') → (e ≡ faults.Unread → a < b → HoldsTo known failed'.at HasNoMalformedLine) → IsUnsurveyed known a b e
+    → JudgeShows path known failed failed' (unjudged_view path e)
+unsurveyed_view path known failed failed' a b (faults.Malformed line) stays fails up h = let t = h.1 in (stays h.0, (t.0, t.1, inl (refl, t.2)))
+unsurveyed_view path known failed failed' a b (faults.Truncated line) stays fails up h = let t = h.1 in (stays h.0, (t.0, t.1, inr (refl, t.2)))
+unsurveyed_view path known failed failed' a b faults.Changed stays fails up h = absurd h
+unsurveyed_view path known failed failed' a b faults.Unread stays fails up h = (refl, fails h, up refl h)
+unsurveyed_view path known failed failed' a b faults.Memory stays fails up h = stays h
 
 pub unsurveyed_shown : {F : Type 0} (path : Text) (known known' : Option Text) (at : ℕ) (failed : F → Failures) (old new : F) (a b : ℕ) (e : Unjudged)
     (r : Reply) → known' ≡ known → at ≡ 0 → r ≡ unjudged_view path e → (b ≡ a → IsUnfailed (failed old) (failed new) path)
-    → (a < b → HasFailed path (failed old) (failed new)) → IsUnsurveyed (option_map (drop at) known') a b e → JudgeShows path known (failed old) (failed new) r
-unsurveyed_shown path known known' at failed old new a b e r same first is stays fails h =
+    → (a < b → HasFailed path (failed old) (failed new)) → (e ≡ faults.Unread → a < b → HoldsTo known (let f = failed new in f.at) HasNoMalformedLine)
+    → IsUnsurveyed (option_map (drop at) known') a b e → JudgeShows path known (failed old) (failed new) r
+unsurveyed_shown path known known' at failed old new a b e r same first is stays fails up h =
     subst (λ (x : Reply). JudgeShows path known (failed old) (failed new) x) (sym is)
-    (unsurveyed_view path known (failed old) (failed new) a b e stays fails
+    (unsurveyed_view path known (failed old) (failed new) a b e stays fails up
     (from_first (λ k. IsUnsurveyed k a b e) known known' at same first h))
 
 -- a text that is known doesn't change
@@ -109,20 +111,21 @@ unchanged (Some all) first held h = absurd (h (ap Some (sym held)))
 
 unjudged_view_shown : (path : Text) (known : Option Text) (failed failed' : Failures) (a b : ℕ) (first : Text) (e : Unjudged)
     → IfSome known (λ all. first ≡ all) → (b ≡ a → IsUnfailed failed failed' path) → (a < b → HasFailed path failed failed')
-    → IsUnjudgedAgain first known a b e → JudgeShows path known failed failed' (unjudged_view path e)
-unjudged_view_shown path known failed failed' a b first (faults.Malformed line) held stays fails h = absurd h
-unjudged_view_shown path known failed failed' a b first (faults.Truncated line) held stays fails h = absurd h
-unjudged_view_shown path known failed failed' a b first faults.Changed held stays fails h = (refl, unchanged known first held h.1, stays h.0)
-unjudged_view_shown path known failed failed' a b first faults.Unread held stays fails h = (refl, fails h)
-unjudged_view_shown path known failed failed' a b first faults.Memory held stays fails h = stays h
+    → HoldsTo known failed'.at HasNoMalformedLine → IsUnjudgedAgain first known a b e → JudgeShows path known failed failed' (unjudged_view path e)
+unjudged_view_shown path known failed failed' a b first (faults.Malformed line) held stays fails up h = absurd h
+unjudged_view_shown path known failed failed' a b first (faults.Truncated line) held stays fails up h = absurd h
+unjudged_view_shown path known failed failed' a b first faults.Changed held stays fails up h = (refl, unchanged known first held h.1, stays h.0)
+unjudged_view_shown path known failed failed' a b first faults.Unread held stays fails up h = (refl, fails h, up)
+unjudged_view_shown path known failed failed' a b first faults.Memory held stays fails up h = stays h
 
 pub unjudged_shown : {F : Type 0} (path : Text) (known known' : Option Text) (at : ℕ) (failed : F → Failures) (old new : F) (a b : ℕ) (first : Text)
     (e : Unjudged) (r : Reply) → known' ≡ known → at ≡ 0 → r ≡ unjudged_view path e → IfSome known (λ all. first ≡ all)
     → (b ≡ a → IsUnfailed (failed old) (failed new) path) → (a < b → HasFailed path (failed old) (failed new))
-    → IsUnjudgedAgain first (option_map (drop at) known') a b e → JudgeShows path known (failed old) (failed new) r
-unjudged_shown path known known' at failed old new a b first e r same from is held stays fails h =
+    → HoldsTo known (let f = failed new in f.at) HasNoMalformedLine → IsUnjudgedAgain first (option_map (drop at) known') a b e
+    → JudgeShows path known (failed old) (failed new) r
+unjudged_shown path known known' at failed old new a b first e r same from is held stays fails up h =
     subst (λ (x : Reply). JudgeShows path known (failed old) (failed new) x) (sym is)
-    (unjudged_view_shown path known (failed old) (failed new) a b first e held stays fails
+    (unjudged_view_shown path known (failed old) (failed new) a b first e held stays fails up
     (from_first (λ k. IsUnjudgedAgain first k a b e) known known' at same from h))
 
 -- the reply of the second reading
@@ -131,12 +134,12 @@ module _ (path : Text) (known known' : Option Text) (before between after : Fail
   still later = record { count = later.count ∙ none.count; elsewhere = later.elsewhere ∙ none.elsewhere }
 
   as_known : (r : Reply) → JudgeShows path known between after r → JudgeShows path known before after r
-  as_known replies.RaceFree shown = (still shown.0, shown.1)
+  as_known (replies.RaceFree n) shown = (still shown.0, shown.1)
   as_known (replies.Refused number places) shown = (still shown.0, shown.1, shown.2, shown.3, shown.4)
   as_known (replies.BadTrace number at) shown = (still shown.0, shown.1)
   as_known (replies.Changed name) shown = (shown.0, shown.1, still shown.2)
   as_known (replies.Unreadable name) shown =
-      (shown.0, (subst (λ (n : ℕ). n < after.count) none.count shown.1.0, shown.1.1 ∙ none.elsewhere))
+      (shown.0, (subst (λ (n : ℕ). n < after.count) none.count shown.1.0, shown.1.1 ∙ none.elsewhere), shown.2)
   as_known replies.NoMemory shown = still shown
   as_known _ shown = absurd shown
 

@@ -1,6 +1,6 @@
 -- Lines of a text that comes in pieces: `begun` at its beginning, `refilled` by a pull, `kept_read` and `reserved` where room is made;
 -- `gives_more` says what text a source gives,
--- `whole_given`, `fault_given` and `end_given` what is said of it.
+-- `whole_given`, `fault_given` and `end_given` what is said of it; `read_to_end`: the reading of what was pulled.
 use Rattle.std.proofs.Common.{◌≡◌, ℕ, ◌≤◌, List, [], ◌++◌, take, Option, Some, None, refl, sym, ◌∙◌, ap, arith, append-nil, append_assoc, length-take, length-drop}
 use Rattle.std.specs.Prelude.{IfSome}
 use Rattle.std.specs.Io.KnownBytes.{Consumes, IsAtEnd}
@@ -84,7 +84,7 @@ gives_more None left pulled c = ([], tt)
 gives_more (Some all) None pulled c = absurd c
 gives_more (Some all) (Some rest) pulled c = (rest, sym c)
 
-read_to_end : (ls : List Line) (p : Pieces) (pulled : List ℕ) (r : Reading) → p.end ≤ p.at → ahead p.reader [] ≡ r → HasRead pulled ls p
+pub read_to_end : (ls : List Line) (p : Pieces) (pulled : List ℕ) (r : Reading) → p.end ≤ p.at → ahead p.reader [] ≡ r → HasRead pulled ls p
     → reading_of pulled ≡ after_lines ls r
 read_to_end ls p pulled r le e h =
     ap reading_of (sym (append-nil pulled))

@@ -7,7 +7,7 @@ use Rattle.cilk_trace.specs.declared.line.Line.{Line}
 use Rattle.cilk_trace.specs.declared.judge.Verdict.{Verdict}
 use Rattle.cilk_trace.specs.declared.survey.Survey.{Survey}
 use Rattle.cilk_trace.specs.declared.survey.Known.{Known}
-use Rattle.cilk_trace.specs.Surveys.{IsKnownOf, IsSurvey, IsTrace}
+use Rattle.cilk_trace.specs.Surveys.{IsKnownOf, IsSurvey, IsTrace, KeepsLimits}
 use Rattle.cilk_trace.specs.declared.fault.TraceFault.{TraceFault}
 use Rattle.cilk_trace.specs.Forms.{reading_of}
 use Rattle.cilk_trace.specs.Reading.{Reading}
@@ -45,7 +45,7 @@ lines_given left known ls p r rest =
     ((ahead p.reader (unread p ++ rest)).lines, ap (λ (x : Reading). x.lines) (r.read.ahead_is rest))
 
 pub misplaced_given : (known left : Option (List ℕ)) (ls : List Line) (l : Line) (p : Pieces) (v : Survey) (n : ℕ) → IsReading known left (ls ++ l ∷ []) p
-    → n ≡ length ls + 2 → IsSurvey ls v → ((more : List Line) → IsTrace (ls ++ l ∷ more) → ⊥) → GivesText known (λ text. IsMalformedAt text n)
+    → n ≡ length ls + 2 → IsSurvey ls v → ((more : List Line) → KeepsLimits (ls ++ l ∷ []) → IsTrace (ls ++ l ∷ more) → ⊥) → GivesText known (λ text. IsMalformedAt text n)
 misplaced_given known left ls l p v n r number s wrong =
     let g = gives_more known left r.pulled r.taken in
     let m = lines_given left known (ls ++ l ∷ []) p r g.0 in (
@@ -57,7 +57,7 @@ misplaced_given known left ls l p v n r number s wrong =
         after = m.0;
         lines = m.1 ∙ append_assoc ls (l ∷ []) m.0;
         begins = begins_trace ls v s;
-        ends = λ b. wrong b.0 (subst IsTrace (append_assoc ls (l ∷ []) b.0) b.1);
+        ends = λ b. wrong b.0 b.2 (subst IsTrace (append_assoc ls (l ∷ []) b.0) b.1);
         number = number;
       }),
     )

@@ -13,13 +13,19 @@ IsPart known at n bytes = IfSome known (λ all. take n bytes ≡ take n (drop at
 abbrev pub EndsAt : Option (List ℕ) → ℕ → Type 0
 EndsAt known at = IfSome known (λ all. length all ≤ at)
 
--- the number of reads that met a failing device, and how many of these were of other paths
+-- this holds of the known contents up to some place, which is `at` or behind it, if these are known
+abbrev pub HoldsTo : Option (List ℕ) → ℕ → (List ℕ → Type 0) → Type 0
+HoldsTo known at P = IfSome known (λ all. (n : ℕ) × (at ≤ n) × P (take n all))
+
+-- the number of reads that met a failing device, the byte from which the last one of these was to read, and how many of them were of
+-- other paths
 pub record Failures : Type 0 where
   pub count : ℕ
+  pub at : ℕ
   pub elsewhere : List ℕ → ℕ
 
-abbrev pub failures : ℕ → (List ℕ → ℕ) → Failures
-failures count elsewhere = record { count = count; elsewhere = elsewhere }
+abbrev pub failures : ℕ → ℕ → (List ℕ → ℕ) → Failures
+failures count at elsewhere = record { count = count; at = at; elsewhere = elsewhere }
 
 -- a read of this path met a failing device, and none of another path did
 abbrev pub HasFailed : List ℕ → Failures → Failures → Type 0

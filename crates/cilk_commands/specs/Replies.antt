@@ -1,5 +1,5 @@
 -- The replies of the tool: a text on standard output or on standard error, and a status.
-use Rattle.std.specs.Prelude.{◌≡◌, ℕ, ℤ, List, [], ◌∷◌, ◌++◌, codes, decimal, flat_map, zip}
+use Rattle.std.specs.Prelude.{◌≡◌, ℕ, ℤ, List, [], ◌∷◌, ◌++◌, ◌==◌, codes, decimal, flat_map, if◌then◌else◌, zip}
 use Rattle.std.specs.Fmt.{signed_decimal}
 use Rattle.cilk_types.specs.declared.outcome.Outcome.{Outcome}
 use Rattle.cilk_types.specs.declared.outcome.Final.{Final}
@@ -43,8 +43,8 @@ pub data Reply : Type 0 where
   NotEnded : Reply
   -- the outcome of every parallel run that ends, with the names of the global reducers
   Settled : (names : List Text) (outcome : Outcome) → Reply
-  -- no two positions of a trace race
-  RaceFree : Reply
+  -- no two positions of a trace race, and this many of its lines are `unseen`
+  RaceFree : (unseen : ℕ) → Reply
   -- a fault of a trace at a line, counted from 1
   BadTrace : (number at : ℕ) → Reply
   -- a file changed between two readings
@@ -58,7 +58,7 @@ status_of (Certified certificate) = 0
 status_of Accepted = 0
 status_of NotEnded = 0
 status_of (Settled names o) = 0
-status_of RaceFree = 0
+status_of (RaceFree unseen) = 0
 status_of (Faulted number at) = 3
 status_of (FaultedIn number name) = 3
 status_of (Refused number places) = 4
@@ -124,6 +124,13 @@ place_text place = 32 ∷ decimal place
 abbrev pub refused_line : ℕ → List ℕ → Text
 refused_line number places = line (codes "refused " ++ decimal number ++ flat_map place_text places)
 
+-- `race-free`, and how many calls weren't recorded
+abbrev pub race_free_line : ℕ → Text
+race_free_line unseen =
+    if unseen == 0 then line (codes "race-free")
+    else if unseen == 1 then line (codes "race-free, but 1 call wasn't recorded")
+    else line (codes "race-free, but " ++ decimal unseen ++ codes " calls weren't recorded")
+
 -- the text for standard output
 abbrev pub out_text : Reply → Text
 out_text (Ended names o) = outcome_text names o
@@ -132,7 +139,7 @@ out_text Accepted = line (codes "accepted")
 out_text (Refused number places) = refused_line number places
 out_text NotEnded = line (codes "not ended")
 out_text (Settled names o) = line (codes "settled") ++ outcome_text names o
-out_text RaceFree = line (codes "race-free")
+out_text (RaceFree unseen) = race_free_line unseen
 out_text _ = []
 
 -- the text for standard error; clap's text for bad words isn't specified
@@ -150,7 +157,7 @@ IsErrorText Accepted text = text ≡ []
 IsErrorText (Refused number places) text = text ≡ []
 IsErrorText NotEnded text = text ≡ []
 IsErrorText (Settled names o) text = text ≡ []
-IsErrorText RaceFree text = text ≡ []
+IsErrorText (RaceFree unseen) text = text ≡ []
 IsErrorText (BadTrace number at) text = text ≡ place_line (codes "trace") number at
 IsErrorText (Changed name) text = text ≡ line (codes "changed " ++ name)
 IsErrorText NoMemory text = text ≡ line (codes "no memory")
@@ -168,7 +175,7 @@ answer_view answers.Accepted = Accepted
 answer_view (answers.Refused refusal) = Refused (number_of refusal) (places_of (fields_of refusal))
 answer_view answers.NotEnded = NotEnded
 answer_view (answers.Settled names outcome) = Settled names outcome
-answer_view answers.RaceFree = RaceFree
+answer_view (answers.RaceFree unseen) = RaceFree unseen
 
 abbrev pub failure_view : Failure → Reply
 failure_view (failures.Words text) = BadWords

@@ -25,10 +25,10 @@ abbrev pub GivesInput : (Text → Option Text) → Option Text → Text → Type
 GivesInput files (Some path) text = IsHeld (files path) text
 GivesInput files None text = text ≡ []
 
--- the failure to read a file: its device failed, and that of no other file; or memory ran out, and no
+-- the failure to read a whole file: its device failed, and that of no other file; or memory ran out, and no
 -- read failed
 abbrev pub FileFails : Failures → Failures → Text → Reply → Type 0
-FileFails failed failed' path (Unreadable name) = (name ≡ path) × HasFailed path failed failed'
+FileFails failed failed' path (Unreadable name) = (name ≡ path) × HasFailed path failed failed' × (failed'.at ≡ 0)
 FileFails failed failed' path NoMemory = failed' ≡ failed
 FileFails failed failed' path _ = ⊥
 

@@ -20,6 +20,7 @@ use Rattle.cilk_cert_text.specs.declared.line.Version.TheVariants.{Two}
 use Rattle.cilk_cert_maker.specs.Certified as made
 use Rattle.cilk_checker.specs.Answers.{IsCertified, IsRefusedText}
 use Rattle.cilk_checker.specs.Numbers.{fields_of, number_of}
+use Rattle.cilk_checker.specs.Pulls.{IsFaultlessSoFar}
 use Rattle.cilk_checker.specs.declared.refusal.Refusal.{Refusal}
 use Rattle.cilk_checker.specs.declared.refusal.Refusal.TheVariants as refusals
 use Rattle.cilk_parser.specs.Scripts.{IsNoScript, IsScript}
@@ -31,7 +32,7 @@ use Rattle.cilk_checker.specs.declared.settle.FirstRace.TheVariants.{Determinacy
 use Rattle.cilk_schedule.specs.declared.fault.PlayFault.{PlayFault}
 use Rattle.cilk_schedule.specs.declared.fault.PlayFault.TheVariants as play_faults
 use Rattle.cilk_schedule.specs.Playing.{Ends, IsLeft, LeavesAsSettled, Passed, StopsBy}
-use Rattle.cilk_commands.specs.Files.{Failures, HasFailed, IsHeld, IsUnfailed}
+use Rattle.cilk_commands.specs.Files.{Failures, HasFailed, HoldsTo, IsHeld, IsUnfailed}
 use Rattle.cilk_commands.specs.Replies.{Accepted, BadInput, BadProgram, BadScript, Certified, Ended, Faulted, FaultedIn, NoMemory, NotEnded, Refused, Reply, Settled, Text, Unreadable, places_of}
 
 abbrev pub program_fault_view : ProgramFault → Reply
@@ -89,15 +90,16 @@ CertifyShows m inputs (Certified c) = (c.version ≡ Two) × IsCertificate c × 
 CertifyShows m inputs r = RunFails m inputs r
 
 -- The reply to the certificate in the file of this path: it is accepted or refused, or there is no
--- memory, and no read failed; or the file can't be read. `known` are the contents of the file, if they are known;
--- `failed` and `failed'` are the failed reads before and after.
+-- memory, and no read failed; or the file can't be read from a byte on, and up to there no line of it is malformed. `known` are the
+-- contents of the file, if they are known; `failed` and `failed'` are the failed reads before and after.
 abbrev pub CheckShows : Text → Option Text → Failures → Failures → Meant → List ℤ → Reply → Type 0
 CheckShows path known failed failed' m inputs Accepted =
     IsUnfailed failed failed' path × ((events : List Event) × (o : Outcome) × IsCertified m.source inputs known events o)
 CheckShows path known failed failed' m inputs (Refused number places) =
     (f : Refusal) × (f ≢ refusals.Memory) × (number ≡ number_of f) × (places ≡ places_of (fields_of f))
     × IsUnfailed failed failed' path × IsRefusedText m.source inputs known f
-CheckShows path known failed failed' m inputs (Unreadable name) = (name ≡ path) × HasFailed path failed failed'
+CheckShows path known failed failed' m inputs (Unreadable name) =
+    (name ≡ path) × HasFailed path failed failed' × HoldsTo known failed'.at IsFaultlessSoFar
 CheckShows path known failed failed' m inputs NoMemory = IsUnfailed failed failed' path
 CheckShows path known failed failed' m inputs _ = ⊥
 

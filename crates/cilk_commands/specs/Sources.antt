@@ -12,6 +12,7 @@ abbrev pub numbers_of : Option Text → List ℕ
 numbers_of None = []
 numbers_of (Some text) = 0 ∷ text
 
--- failed reads of files other than `path`, both paths, and the contents of `other`
-abbrev pub kept_of : Failures → Text → Text → Option Text → List ℕ
-kept_of failed path other known = failed.elsewhere path ∷ text_ahead path (text_ahead other (numbers_of known))
+-- the failed reads before the source was made, those of files other than `path`, both paths, and the contents of both
+abbrev pub kept_of : ℕ → Failures → (Text → Option Text) → Text → Text → List ℕ
+kept_of before failed files path other =
+    before ∷ failed.elsewhere path ∷ text_ahead path (text_ahead other (text_ahead (numbers_of (files path)) (numbers_of (files other))))

@@ -8,6 +8,7 @@ use Rattle.cilk_trace.specs.Reading.{Reading}
 use Rattle.cilk_trace.specs.Readers.{ahead, fault_of, returned, room_of}
 use Rattle.cilk_commands.specs.declared.trace_pieces.Found.{Found}
 use Rattle.cilk_commands.specs.declared.trace_pieces.Pieces.{Pieces}
+use Rattle.cilk_commands.specs.TraceTexts.{HasFormedLines}
 
 -- the bytes of the piece that the reader hasn't been given
 abbrev pub unread : Pieces → List ℕ
@@ -41,3 +42,8 @@ room_in p = room_of p.reader
 -- every text that begins with these bytes has these lines and this fault
 abbrev pub StopsAt : List ℕ → List Line → TraceFault → Type 0
 StopsAt text ls fault = (more : List ℕ) → reading_of (text ++ more) ≡ record { lines = ls; fault = Some fault }
+
+-- the text has these lines, and none that is malformed by itself
+pub record HasLines (text : List ℕ) (ls : List Line) : Type 0 where
+  pub lines : (reading_of text).lines ≡ ls
+  pub formed : HasFormedLines text

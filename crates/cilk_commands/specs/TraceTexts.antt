@@ -3,17 +3,17 @@ use Rattle.std.specs.Prelude.{◌≡◌, ◌⊎◌, ℕ, ◌+◌, List, [], ◌�
 use Rattle.cilk_trace.specs.declared.line.Line.{Line}
 use Rattle.cilk_trace.specs.declared.judge.Verdict.{Verdict}
 use Rattle.cilk_trace.specs.declared.survey.Known.{Known}
-use Rattle.cilk_trace.specs.Surveys.{IsTrace, IsKnownOf}
+use Rattle.cilk_trace.specs.Surveys.{IsTrace, IsKnownOf, KeepsLimits}
 use Rattle.cilk_trace.specs.Judging.{IsJudged}
 use Rattle.cilk_trace.specs.declared.fault.TraceFault.TheVariants.{Malformed, Truncated}
 use Rattle.cilk_trace.specs.Forms.{reading_of}
 use Rattle.cilk_trace.specs.Texts.{IsTraceText}
 
--- some trace begins with these lines
+-- some trace begins with these lines, and they keep the limits
 abbrev pub BeginsTrace : List Line → Type 0
-BeginsTrace ls = (more : List Line) × IsTrace (ls ++ more)
+BeginsTrace ls = (more : List Line) × IsTrace (ls ++ more) × KeepsLimits ls
 
--- Some trace begins with the lines before this one, and none continues with it. The header is line 1.
+-- Some trace begins with the lines before this one, and none within the limits continues with it. The header is line 1.
 pub record IsMisplacedAt (text : List ℕ) (line : ℕ) : Type 0 where
   pub before : List Line
   pub wrong : Line
@@ -23,10 +23,18 @@ pub record IsMisplacedAt (text : List ℕ) (line : ℕ) : Type 0 where
   pub ends : BeginsTrace (before ++ wrong ∷ []) → ⊥
   pub number : line ≡ length before + 2
 
--- the first malformed line: it has none of the forms, or may not come where it is
+-- the first malformed line: it has none of the forms, may not come where it is, or breaks a limit
 abbrev pub IsMalformedAt : List ℕ → ℕ → Type 0
 IsMalformedAt text line =
     (((reading_of text).fault ≡ Some (Malformed line)) × BeginsTrace (reading_of text).lines) ⊎ IsMisplacedAt text line
+
+-- no line of the text is malformed
+abbrev pub HasNoMalformedLine : List ℕ → Type 0
+HasNoMalformedLine text = (line : ℕ) → IsMalformedAt text line → ⊥
+
+-- no line of the text is malformed by itself: whether it may come where it is isn't asked
+abbrev pub HasFormedLines : List ℕ → Type 0
+HasFormedLines text = (line : ℕ) → (reading_of text).fault ≡ Some (Malformed line) → ⊥
 
 -- the text ends in this line, or before it, and some trace begins with its lines
 pub record IsTruncatedAt (text : List ℕ) (line : ℕ) : Type 0 where
@@ -37,6 +45,7 @@ pub record IsTruncatedAt (text : List ℕ) (line : ℕ) : Type 0 where
 pub record HasVerdict (text : List ℕ) (v : Verdict) : Type 0 where
   pub lines : List Line
   pub spells : IsTraceText text lines
+  pub limits : KeepsLimits lines
   pub judged : IsJudged lines v
 
 -- the text is that of a trace with these facts

@@ -1,6 +1,6 @@
-//! Readers that count their reads.
+//! Readers that count their reads, and tell whether one failed.
 
-ghost use Rattle.std.specs.Prelude.{◌≡◌, ℕ, ◌+◌, ◌-◌, ◌^◌, List, Option, min};
+ghost use Rattle.std.specs.Prelude.{◌≡◌, ℕ, ◌+◌, ◌-◌, ◌^◌, Bool, true, List, Option, IfErr, OnOk, min};
 ghost use Rattle.std.specs.Io.{ReadsAtMost};
 ghost use Rattle.std.specs.Io.KnownBytes.{ReadConsumes};
 
@@ -15,18 +15,24 @@ pub trait CountedRead {
     /// The number of reads so far, as far as 64 bits hold it.
     ghost reads: { Self → ℕ };
 
+    /// Whether a read has failed so far.
+    ghost failed: { Self → Bool };
+
     /// Reads once, and counts it.
     fn read(&mut self, piece: &mut [u8]) -> io::Result<usize>
         ensures counted { reads self.new ≡ min (reads self.old + 1) (2 ^ 64 - 1) }
+        ensures failed { IfErr result (λ _. failed self.new ≡ true) }
+        ensures unfailed { OnOk result (failed self.new ≡ failed self.old) }
         ensures bound { ReadsAtMost result piece.new }
         ensures bytes { ReadConsumes (remaining self.old) (remaining self.new) result piece.new };
 }
 
-/// A reader, and the number of its reads so far.
+/// A reader, the number of its reads so far, and whether one failed.
 #[derive(Drop)]
 pub struct CountedReader<R> {
     reader: R,
     reads: u64,
+    failed: bool,
 }
 
 impl<R: Read> CountedReader<R> {
@@ -35,7 +41,11 @@ impl<R: Read> CountedReader<R> {
         ensures reader { result.reader ≡ reader }
         ensures reads { result.reads ≡ 0 }
     {
-        CountedReader { reader, reads: 0 }
+        CountedReader {
+            reader,
+            reads: 0,
+            failed: false,
+        }
     }
 }
 
@@ -44,8 +54,16 @@ impl<R: Read> CountedRead for CountedReader<R> {
 
     ghost reads = { λ s. s.reads };
 
+    ghost failed = { λ s. s.failed };
+
     fn read(&mut self, piece: &mut [u8]) -> io::Result<usize> {
         self.reads = self.reads.saturating_add(1);
-        self.reader.read(piece)
+        match self.reader.read(piece) {
+            Ok(count) => Ok(count),
+            Err(error) => {
+                self.failed = true;
+                Err(error)
+            }
+        }
     }
 }

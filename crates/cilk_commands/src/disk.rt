@@ -1,6 +1,7 @@
 //! The files of the operating system.
 
-ghost use Rattle.std.specs.Prelude.{◌≡◌, ◌⊎◌, ◌+◌, ◌<◌, ◌≤◌, None, IfOk, length};
+ghost use Rattle.std.specs.Prelude.{◌≡◌, ◌⊎◌, ◌↔◌, ◌+◌, ◌<◌, ◌≤◌, None, IfOk, IsTrue, length, string_bytes};
+ghost use Rattle.std.specs.IoError.{error_kind};
 
 use crate::files::{FileFault, Files};
 use std::alloc::Global;
@@ -20,14 +21,15 @@ struct Open<F> {
     at: u64,
 }
 
-/// The files of the operating system, and the number of failed reads so far. The file that was read
-/// last in parts stays open: its further parts come from the same file, though another one may have
-/// its path by then.
+/// The files of the operating system, the number of failed reads so far, and the byte from which the
+/// last of these was to read. The file that was read last in parts stays open: its further parts come
+/// from the same file, though another one may have its path by then.
 #[derive(Drop)]
 pub struct Disk<'a, R: System> {
     alloc: Global,
     system: &'a R,
     failures: u64,
+    failed_at: u64,
     open: Option<Open<R::File>>,
 }
 
@@ -40,34 +42,49 @@ impl<'a, R: System> Disk<'a, R> {
             alloc,
             system,
             failures: 0,
+            failed_at: 0,
             open: None,
         }
     }
 }
 
+// Whether a file of this size isn't read.
+fn is_too_large(size: u64) -> bool
+    ensures { IsTrue result ↔ (268435456 < size) }
+{
+    size > MAX_FILE
+}
+
 // Opens a file within the limit, and returns its size too.
-fn opened<R: System>(system: &R, path: &str) -> io::Result<(R::File, u64)> {
+fn opened<R: System>(system: &R, path: &str) -> io::Result<(R::File, u64)>
+    ensures { IfOk result (λ o. o.1 ≤ MAX_FILE) }
+{
     let file = fs::open(system, path)?;
     let size = file.metadata()?.len();
-    if size > MAX_FILE {
+    if is_too_large(size) {
         return Err(io::Error::from(ErrorKind::FileTooLarge));
     }
     Ok((file, size))
 }
 
 // The bytes of a file. At most one byte past the limit is read.
-fn contents<R: System>(system: &R, alloc: Global, path: &str) -> io::Result<Vec<u8>> {
+fn contents<R: System>(system: &R, alloc: Global, path: &str) -> io::Result<Vec<u8>>
+    ensures { IfOk result (λ bytes. length bytes.items ≤ MAX_FILE) }
+{
     let (file, size) = opened(system, path)?;
     let mut bytes = Vec::with_capacity(alloc, size as usize)?;
     file.take(MAX_FILE + 1).read_to_end(&mut bytes)?;
-    if bytes.len() as u64 > MAX_FILE {
+    if is_too_large(bytes.len() as u64) {
         return Err(io::Error::from(ErrorKind::FileTooLarge));
     }
     Ok(bytes)
 }
 
 // Opens a file to read it in parts.
-fn opened_at<R: System>(system: &R, alloc: Global, path: &str) -> io::Result<Open<R::File>> {
+fn opened_at<R: System>(system: &R, alloc: Global, path: &str) -> io::Result<Open<R::File>>
+    ensures path { IfOk result (λ o. string_bytes o.path ≡ path.now) }
+    ensures first { IfOk result (λ o. o.at ≡ 0) }
+{
     let (file, _size) = opened(system, path)?;
     let path = String::from_str(alloc, path)?;
     Ok(Open { path, file, at: 0 })
@@ -80,6 +97,8 @@ impl<F: Read + Seek> Open<F> {
         requires { at ≤ MAX_FILE }
         ensures within { IfOk result (λ n. n ≤ length into.old) }
         ensures small { IfOk result (λ n. at + n ≤ MAX_FILE) }
+        ensures moved { IfOk result (λ n. self.new.at ≡ at + n) }
+        ensures path { self.new.path ≡ self.old.path }
     {
         if self.at != at {
             self.file.seek(SeekFrom::Start(at))?;
@@ -94,24 +113,29 @@ impl<F: Read + Seek> Open<F> {
 }
 
 impl<R: System> Disk<'_, R> {
-    // The fault of an error. A failure of the device is counted.
-    fn fault(&mut self, error: &io::Error) -> FileFault
+    // The fault of an error of a read from a byte on. A failure of the device is counted; each error
+    // is one but a want of memory.
+    fn fault(&mut self, error: &io::Error, at: u64) -> FileFault
         requires { self.old.failures < 18446744073709551615 }
         ensures device { result ≡ FileFault.Device → self.old.failures < self.new.failures }
-        ensures memory { result ≡ FileFault.Memory → self.new.failures ≡ self.old.failures }
-        ensures risen { (self.new.failures ≡ self.old.failures) ⊎ (self.old.failures < self.new.failures) }
+        ensures place { result ≡ FileFault.Device → self.new.failed_at ≡ at }
+        ensures memory { result ≡ FileFault.Memory → (self.new.failures ≡ self.old.failures) × (self.new.failed_at ≡ self.old.failed_at) }
+        ensures risen { ((self.new.failures ≡ self.old.failures) × (self.new.failed_at ≡ self.old.failed_at)) ⊎ (self.old.failures < self.new.failures) }
+        ensures kind { (result ≡ FileFault.Memory) ↔ (error_kind error.now ≡ ErrorKind.OutOfMemory) }
     {
         if error.kind() == ErrorKind::OutOfMemory {
             return FileFault::Memory;
         }
         self.failures += 1;
+        self.failed_at = at;
         FileFault::Device
     }
 
     // The file of a path, to be read from a byte on. It is opened, but where parts of it were read
     // just before.
     fn file_at(&mut self, path: &str, at: u64) -> io::Result<Open<R::File>>
-        ensures { self.new.failures ≡ self.old.failures }
+        ensures path { IfOk result (λ o. string_bytes o.path ≡ path.now) }
+        ensures failures { (self.new.failures ≡ self.old.failures) × (self.new.failed_at ≡ self.old.failed_at) }
     {
         match self.open.take() {
             Some(open) if at > 0 && open.path.as_str() == path => Ok(open),
@@ -123,9 +147,9 @@ impl<R: System> Disk<'_, R> {
     fn part_of(&mut self, path: &str, at: u64, into: &mut [u8]) -> io::Result<usize>
         ensures within { IfOk result (λ n. n ≤ length into.old) }
         ensures small { IfOk result (λ n. at + n ≤ MAX_FILE) }
-        ensures failures { self.new.failures ≡ self.old.failures }
+        ensures failures { (self.new.failures ≡ self.old.failures) × (self.new.failed_at ≡ self.old.failed_at) }
     {
-        if at > MAX_FILE {
+        if is_too_large(at) {
             return Err(io::Error::from(ErrorKind::FileTooLarge));
         }
         let mut file = self.file_at(path, at)?;
@@ -140,21 +164,21 @@ impl<R: System> Disk<'_, R> {
 impl<R: System> Files for Disk<'_, R> {
     ghost use Rattle.cilk_commands.specs.Files.{failures};
 
-    ghost failed = { λ d. failures d.failures (λ _. 0) };
+    ghost failed = { λ d. failures d.failures d.failed_at (λ _. 0) };
 
     ghost holds = { λ _ _. None };
 
     fn read(&mut self, alloc: Global, path: &str) -> Result<Vec<u8>, FileFault> {
         match contents(self.system, alloc, path) {
             Ok(bytes) => Ok(bytes),
-            Err(error) => Err(self.fault(&error)),
+            Err(error) => Err(self.fault(&error, 0)),
         }
     }
 
     fn part(&mut self, path: &str, at: u64, into: &mut [u8]) -> Result<usize, FileFault> {
         match self.part_of(path, at, into) {
             Ok(count) => Ok(count),
-            Err(error) => Err(self.fault(&error)),
+            Err(error) => Err(self.fault(&error, at)),
         }
     }
 

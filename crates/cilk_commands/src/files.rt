@@ -39,9 +39,9 @@ impl<T: Drop> From<AllocFailed<T>> for FileFault {
 
 /// Files as the tool reads them: those of the system, or those of a test.
 pub trait Files {
-    /// The number of reads so far that met a failing device, and how many of these were of other
-    /// files than that of a path (0 if these files don't distinguish paths). It shows which file
-    /// failed.
+    /// The number of reads so far that met a failing device, the byte from which the last of them
+    /// was to read, and how many of them were of other files than that of a path (0 if these files
+    /// don't distinguish paths). It shows which file failed, and where.
     ghost failed: { Self → Failures };
 
     /// The contents of the file of a path, if they are known. No read changes them.
@@ -52,6 +52,7 @@ pub trait Files {
         requires { (failed self.old).count < 18446744073709551615 }
         ensures held { IfOk result (λ bytes. IsHeld (holds self.old path.now) bytes.items) }
         ensures counted { result ≡ Err FileFault.Device → (failed self.old).count < (failed self.new).count }
+        ensures begun { result ≡ Err FileFault.Device → (failed self.new).at ≡ 0 }
         ensures uncounted { OnOk result (failed self.new ≡ failed self.old) }
         ensures unblamed { result ≡ Err FileFault.Memory → failed self.new ≡ failed self.old }
         ensures risen { StayOrRise (failed self.old) (failed self.new) }
@@ -70,6 +71,7 @@ pub trait Files {
         ensures held { IfOk result (λ n. IsPart (holds self.old path.now) at n into.new) }
         ensures last { IfOk result (λ n. n ≡ 0 → 0 < length into.old → EndsAt (holds self.old path.now) at) }
         ensures counted { result ≡ Err FileFault.Device → (failed self.old).count < (failed self.new).count }
+        ensures begun { result ≡ Err FileFault.Device → (failed self.new).at ≡ at }
         ensures uncounted { OnOk result (failed self.new ≡ failed self.old) }
         ensures unblamed { result ≡ Err FileFault.Memory → failed self.new ≡ failed self.old }
         ensures risen { StayOrRise (failed self.old) (failed self.new) }

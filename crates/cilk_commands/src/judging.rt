@@ -47,7 +47,7 @@ fn shown(verdict: Verdict) -> Answer
     ensures { answer_view result ≡ verdict_view verdict }
 {
     match verdict {
-        Verdict::RaceFree => Answer::RaceFree,
+        Verdict::RaceFree(unseen) => Answer::RaceFree(unseen),
         Verdict::Race(earlier, later) => Answer::Refused(Refusal::Race {
             earlier: earlier + 1,
             later: later + 1,
@@ -93,8 +93,8 @@ fn judged<'a, F: Files>(
     }
 }
 
-/// Judges the trace in a file. Memory: 12 bytes a strand of the trace, and 16 for each number up to
-/// the greatest cell that it names.
+/// Judges the trace in a file. Memory: 12 bytes a strand of the trace, and 16 for each cell of the
+/// pages of 4,096 that it accesses.
 pub fn judge<'a, F: Files>(
     alloc: Global,
     trace: &'a str,

@@ -8,15 +8,19 @@ ghost use Rattle.cilk_commands.specs.Sources.{kept_of};
 use crate::files::{FileFault, Files};
 use cilk_checker::source::{PullFault, Source};
 
-/// The file `path`, from a byte on. The contents of the file `other` stay known.
+/// The file `path`, from a byte on. The contents of the file `other` stay known. A read that fails is
+/// from that byte on, or from an earlier one.
 #[derive(Drop)]
-pub struct PartSource<'f, 'p, F> {
+pub struct PartSource<'f, 'p, F: Files> {
     files: &'f mut F,
     path: &'p str,
     other: &'p str,
     at: u64,
     // The number of bytes that the last pull gave.
     last: usize,
+    // The number of reads that had failed before.
+    before: u64,
+    ghost stopped: { before < (F.failed files.now).count → (F.failed files.now).at ≤ at },
 }
 
 impl<'f, 'p, F: Files> PartSource<'f, 'p, F> {
@@ -27,13 +31,16 @@ impl<'f, 'p, F: Files> PartSource<'f, 'p, F> {
         ensures path { result.path.now ≡ path.entry.now }
         ensures other { result.other.now ≡ other.entry.now }
         ensures at { result.at ≡ 0 }
+        ensures before { result.before ≡ (F.failed files.old).count }
     {
+        let before = files.failures();
         PartSource {
             files,
             path,
             other,
             at: 0,
             last: 0,
+            before,
         }
     }
 }
@@ -47,8 +54,8 @@ impl<F: Files> Source for PartSource<'_, '_, F> {
 
     ghost lender = { λ s. s.files.ghost_name };
 
-    // Failed reads of other files than `path`, both paths, and the contents of `other`.
-    ghost kept = { λ s. kept_of (F.failed s.files.now) s.path.now s.other.now (F.holds s.files.now s.other.now) };
+    // Failed reads before, those of other files than `path`, both paths, and the contents of both.
+    ghost kept = { λ s. kept_of s.before (F.failed s.files.now) (F.holds s.files.now) s.path.now s.other.now };
 
     fn pull(&mut self, into: &mut [u8]) -> Result<usize, PullFault>
         requires { (F.failed self.old.files.now).count < 18446744073709551615 }
@@ -65,8 +72,8 @@ impl<F: Files> Source for PartSource<'_, '_, F> {
         ensures unblamed { result ≡ Err PullFault.Memory → (F.failed self.new.files.now).count ≡ (F.failed self.old.files.now).count }
         ensures risen { StayOrRise (F.failed self.old.files.now) (F.failed self.new.files.now) }
         ensures lender { self.new.files.ghost_name ≡ self.old.files.ghost_name }
-        ensures kept { kept_of (F.failed self.new.files.now) self.new.path.now self.new.other.now (F.holds self.new.files.now self.new.other.now)
-            ≡ kept_of (F.failed self.old.files.now) self.old.path.now self.old.other.now (F.holds self.old.files.now self.old.other.now) }
+        ensures kept { kept_of self.new.before (F.failed self.new.files.now) (F.holds self.new.files.now) self.new.path.now self.new.other.now
+            ≡ kept_of self.old.before (F.failed self.old.files.now) (F.holds self.old.files.now) self.old.path.now self.old.other.now }
     {
         match self.files.part(self.path, self.at, into) {
             Ok(count) => {

@@ -3,7 +3,7 @@
 ghost use Rattle.std.specs.Prelude.{◌≡◌, ◌++◌, [], ◌∷◌, codes, decimal, flat_map, OnOk, IfOk};
 ghost use Rattle.std.specs.Fmt.{signed_decimal};
 ghost use Rattle.cilk_checker.specs.Numbers.{fields_of, number_of};
-ghost use Rattle.cilk_commands.specs.Replies.{number_line, element, elements, reducer_line, reducer_lines, outcome_text, place_line, place_text, places_of, refused_line, line, script_line, strand_line, strand_text};
+ghost use Rattle.cilk_commands.specs.Replies.{number_line, element, elements, reducer_line, reducer_lines, outcome_text, place_line, place_text, places_of, race_free_line, refused_line, line, script_line, strand_line, strand_text};
 
 use cilk_checker::refusal::{Fields, Refusal};
 use cilk_types::outcome::{Final, Outcome};
@@ -186,6 +186,24 @@ pub fn refused(alloc: Global, refusal: Refusal) -> Result<Vec<u8>, AllocError>
     let mut text = Vec::from_slice(alloc, b"refused ")?;
     text.extend_from_slice(buffer.format(refusal.number()).as_bytes())?;
     push_places(&mut text, refusal.fields())?;
+    text.push(b'\n')?;
+    Ok(text)
+}
+
+/// Returns the line `race-free`, and how many calls weren't recorded.
+pub fn race_free(alloc: Global, unseen: u32) -> Result<Vec<u8>, AllocError>
+    ensures { IfOk result (λ text. text.items ≡ race_free_line unseen) }
+{
+    if unseen == 0 {
+        return b"race-free\n".to_vec(alloc);
+    }
+    if unseen == 1 {
+        return b"race-free, but 1 call wasn't recorded\n".to_vec(alloc);
+    }
+    let mut buffer = Buffer::new();
+    let mut text = Vec::from_slice(alloc, b"race-free, but ")?;
+    text.extend_from_slice(buffer.format(unseen).as_bytes())?;
+    text.extend_from_slice(b" calls weren't recorded")?;
     text.push(b'\n')?;
     Ok(text)
 }

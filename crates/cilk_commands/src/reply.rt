@@ -50,8 +50,8 @@ pub enum Answer {
         names: Sequence<Sequence<u8>>,
         outcome: Outcome,
     },
-    /// No two positions of a trace race.
-    RaceFree,
+    /// No two positions of a trace race, and this many calls weren't recorded.
+    RaceFree(u32),
 }
 
 // Written out, so that a proof follows one call where an answer is dropped.
@@ -70,7 +70,7 @@ impl Drop for Answer {
                 names: _names,
                 outcome: _outcome,
             } => {}
-            Answer::RaceFree => {}
+            Answer::RaceFree(_) => {}
         }
     }
 }
@@ -139,7 +139,7 @@ impl Answer {
             | Answer::Accepted
             | Answer::NotEnded
             | Answer::Settled { .. }
-            | Answer::RaceFree => 0,
+            | Answer::RaceFree(_) => 0,
             Answer::Refused(_) => REFUSED,
         }
     }
@@ -164,7 +164,7 @@ impl Answer {
             Answer::Settled { names, outcome } => {
                 render::settled(alloc, names.as_slice(), outcome)?
             }
-            Answer::RaceFree => b"race-free\n".to_vec(alloc)?,
+            Answer::RaceFree(unseen) => render::race_free(alloc, *unseen)?,
         };
         Ok(send(out, text.as_slice()))
     }

@@ -1,6 +1,6 @@
 //! The commands. Texts are read and judged in order, and the error is the first one that fails.
 
-ghost use Rattle.std.specs.Prelude.{◌≡◌, ◌≢◌, ◌+◌, ◌<◌, ◌≤◌, ℕ, List, IfOk, IfErr, OnOk, option_map, codes};
+ghost use Rattle.std.specs.Prelude.{◌≡◌, ◌≢◌, ◌+◌, ◌<◌, ◌≤◌, ℕ, List, IfOk, IfErr, OnOk, option_map, codes, true};
 ghost use Rattle.cilk_checker.specs.Judging.{meant};
 ghost use Rattle.cilk_commands.specs.Files.{IsHeld};
 ghost use Rattle.cilk_checker.specs.Numbers.{fields_of, number_of};
@@ -48,6 +48,8 @@ pub fn read_file<'a, F: Files>(
 fn read_standard<'a, R: CountedRead>(alloc: Global, reader: &mut R) -> Result<Vec<u8>, Failure<'a>>
     ensures given { IfOk result (λ text. IsReceived (R.remaining reader.old) text.items) }
     ensures fault { IfErr result (λ e. StandardFails (failure_view e)) }
+    ensures memory { IfErr result (λ e. failure_view e ≡ NoMemory → R.failed reader.new ≡ R.failed reader.old) }
+    ensures device { IfErr result (λ e. failure_view e ≢ NoMemory → R.failed reader.new ≡ true) }
     ensures most { TakesAtMost MAX_READ (R.remaining reader.old) (R.remaining reader.new) }
     ensures few { R.reads reader.new ≤ R.reads reader.old + MAX_READ }
 {

@@ -1,6 +1,6 @@
 //! Reads and writes of whole texts.
 
-ghost use Rattle.std.specs.Prelude.{◌≡◌, ◌+◌, ◌≤◌, ◌<◌, length, take, IsTrue, IsFalse, IfOk, IfSome};
+ghost use Rattle.std.specs.Prelude.{◌≡◌, ◌+◌, ◌≤◌, ◌<◌, length, take, true, IsTrue, IsFalse, IfOk, IfSome, OnOk, Err};
 ghost use Rattle.std.specs.Io.KnownBytes.{Appends, Consumes};
 ghost use Rattle.cilk_cert_text.specs.Certificates.{text_of};
 ghost use Rattle.cilk_commands.specs.Streams.{AppendsPart, ReadsOn, TakesAtMost};
@@ -31,6 +31,9 @@ fn receive_some<R: CountedRead>(
     requires room { 0 < length piece.old }
     ensures grows { IfOk result (λ n. ReadsOn (R.remaining input.old) (R.remaining input.new) text.old.items text.new.items n) }
     ensures within { IfOk result (λ n. n ≤ length piece.old) }
+    ensures device { result ≡ Err FileFault.Device → R.failed input.new ≡ true }
+    ensures memory { result ≡ Err FileFault.Memory → R.failed input.new ≡ R.failed input.old }
+    ensures unfailed { OnOk result (R.failed input.new ≡ R.failed input.old) }
     ensures one { R.reads input.new ≤ R.reads input.old + 1 }
     ensures some { TakesAtMost (length piece.old) (R.remaining input.old) (R.remaining input.new) }
 {
@@ -43,10 +46,13 @@ fn receive_some<R: CountedRead>(
 
 /// Reads a text of at most [`MAX_READ`] bytes; later bytes remain unread.
 ///
-/// It makes at most as many reads. A failed read ends the reading.
+/// It makes at most as many reads. A failed read ends the reading, and is its only failure of a device.
 pub fn receive<R: CountedRead>(alloc: Global, input: &mut R) -> Result<Vec<u8>, FileFault>
     ensures whole { IfOk result (λ text. IfSome (R.remaining input.old) (λ all. text.items ≡ take MAX_READ all)) }
     ensures taken { IfOk result (λ text. Consumes (R.remaining input.old) (R.remaining input.new) text.items) }
+    ensures device { result ≡ Err FileFault.Device → R.failed input.new ≡ true }
+    ensures memory { result ≡ Err FileFault.Memory → R.failed input.new ≡ R.failed input.old }
+    ensures unfailed { OnOk result (R.failed input.new ≡ R.failed input.old) }
     ensures most { TakesAtMost MAX_READ (R.remaining input.old) (R.remaining input.new) }
     ensures few { R.reads input.new ≤ R.reads input.old + MAX_READ }
 {

@@ -32,14 +32,15 @@ pub struct Pieces {
 }
 
 impl Pieces {
-    ghost use Rattle.std.specs.Prelude.{◌+◌, ◌++◌, ◌∷◌, [], ℕ, List, Option, IfErr, IfOk, IfNone, IfSome, IsTrue, OnOk, false};
+    ghost use Rattle.std.specs.Prelude.{◌+◌, ◌++◌, ◌∷◌, [], ℕ, List, Option, Err, IfErr, IfOk, IfNone, IfSome, IsTrue, OnOk, false};
     ghost use Rattle.std.specs.Io.KnownBytes.{IsAtEnd};
+    ghost use Rattle.cilk_checker.specs.Pulls.{Takes};
     ghost use Rattle.cilk_trace.specs.declared.line.Line.{Line};
     ghost use Rattle.cilk_trace.specs.declared.fault.TraceFault.{TraceFault};
     ghost use Rattle.cilk_trace.specs.Readers.{HasSlot};
     ghost use Rattle.cilk_trace.specs.Texts.{IsTraceText};
     ghost use Rattle.cilk_commands.specs.TraceFaults.{IsUnreadAfter};
-    ghost use Rattle.cilk_commands.specs.TracePieces.{HasRead, IsReading, StopsAt, line_in, room_in, unread};
+    ghost use Rattle.cilk_commands.specs.TracePieces.{HasLines, HasRead, IsReading, StopsAt, line_in, room_in, unread};
     ghost use Rattle.cilk_commands.specs.TraceTexts.{GivesText};
 
     /// Makes the beginning of a text.
@@ -63,6 +64,8 @@ impl Pieces {
         ensures end { IfOk result (λ b. b ≡ false → IsAtEnd (S.remaining source.new) × (self.new.at ≡ self.new.end)) }
         ensures failed { (known : Option (List ℕ)) (ls : List Line)
             → IfErr result (λ e. IsUnreadAfter known ls (S.failed source.old) (S.failed source.new) e) }
+        ensures part { (known : Option (List ℕ)) (ls : List Line) → IsReading known (S.remaining source.old) ls self.old
+            → result ≡ Err Unjudged.Unread → Takes known (S.remaining source.new) (λ text. HasLines text ls) }
         ensures reader { self.new.reader ≡ self.old.reader }
         ensures uncounted { OnOk result (S.failed source.new ≡ S.failed source.old) }
         ensures lender { S.lender source.new ≡ S.lender source.old }
@@ -122,6 +125,8 @@ impl Pieces {
             → IfOk result (λ o. IfNone o (GivesText known (λ text. IsTraceText text ls))) }
         ensures fault { (known : Option (List ℕ)) (ls : List Line) → IsReading known (S.remaining source.old) ls self.old
             → IfErr result (λ e. IsUnreadAfter known ls (S.failed source.old) (S.failed source.new) e) }
+        ensures part { (known : Option (List ℕ)) (ls : List Line) → IsReading known (S.remaining source.old) ls self.old
+            → result ≡ Err Unjudged.Unread → Takes known (S.remaining source.new) (λ text. HasLines text ls) }
         ensures room { IfOk result (λ o. IfSome o (λ _. room_in self.new < room_in self.old)) }
         ensures uncounted { OnOk result (S.failed source.new ≡ S.failed source.old) }
         ensures lender { S.lender source.new ≡ S.lender source.old }

@@ -6,7 +6,7 @@ ghost use Rattle.cilk_program.specs.Inside.{CalleeIsFit};
 ghost use Rattle.cilk_program.specs.declared.ask.Ask.TheVariants.{Begin};
 ghost use Rattle.cilk_lower.specs.Behaves.{Behaves};
 ghost use Rattle.cilk_lower.specs.Machine.{Goes, Move, Stuck, on_two, on_words};
-ghost use Rattle.cilk_frames.specs.Cursor.{begins_at};
+ghost use Rattle.cilk_frames.specs.Cursor.{begins_at, first_of};
 ghost use Rattle.cilk_frames.specs.Following.{Fits, Stands, child_of, owed_for};
 ghost use Rattle.cilk_frames.specs.Moving.{HasRoom, told};
 
@@ -58,6 +58,7 @@ impl Cursor {
     #[tactic(auto, using(crate::proofs::Following::root_stands))]
     pub fn root(alloc: Global, code: &Code) -> Result<Cursor, AllocError>
         ensures stands { IfOk result (λ c. (p : Source) (inputs : List ℤ) → Behaves p code.now → Stands code.now inputs p Callee.Root c [] 0) }
+        ensures first { IfOk result (λ c. c ≡ first_of code.now Callee.Root) }
         ensures owes { IfOk result (λ c. c.owed ≡ owed_for Begin) }
     {
         let none = Operands::empty(alloc);
@@ -87,6 +88,7 @@ impl Cursor {
     pub fn new(alloc: Global, code: &Code, ask: &Ask) -> Result<Cursor, AllocError>
         requires { IsSome (child_of ask.now) }
         ensures stands { IfOk result (λ c. IfSome (child_of ask.now) (λ callee. (p : Source) (inputs : List ℤ) → Behaves p code.now → CalleeIsFit p callee → Stands code.now inputs p callee c [] 0)) }
+        ensures first { IfOk result (λ c. IfSome (child_of ask.now) (λ callee. c ≡ first_of code.now callee)) }
         ensures owes { IfOk result (λ c. c.owed ≡ owed_for Begin) }
     {
         match invoked(ask).unwrap() {
@@ -100,6 +102,7 @@ impl Cursor {
     /// operands.
     pub fn function(alloc: Global, code: &Code, call: &FunctionCall) -> Result<Cursor, AllocError>
         ensures stands { IfOk result (λ c. (p : Source) (inputs : List ℤ) → Behaves p code.now → CalleeIsFit p (Callee.Function call.now) → Stands code.now inputs p (Callee.Function call.now) c [] 0) }
+        ensures first { IfOk result (λ c. c ≡ first_of code.now (Callee.Function call.now)) }
         ensures owes { IfOk result (λ c. c.owed ≡ owed_for Begin) }
     {
         Cursor::function_in::<false>(alloc, Operands::empty(alloc), code, call)
@@ -115,6 +118,7 @@ impl Cursor {
         call: &FunctionCall,
     ) -> Result<Cursor, AllocError>
         ensures stands { IfOk result (λ c. (p : Source) (inputs : List ℤ) → Behaves p code.now → CalleeIsFit p (Callee.Function call.now) → Stands code.now inputs p (Callee.Function call.now) c [] 0) }
+        ensures first { IfOk result (λ c. c ≡ first_of code.now (Callee.Function call.now)) }
         ensures owes { IfOk result (λ c. c.owed ≡ owed_for Begin) }
     {
         let entry = code.function_entry(call.function);
@@ -130,6 +134,7 @@ impl Cursor {
     /// Returns the frame of some turns of a loop before it begins. Allocates room for its operands.
     pub fn turns(alloc: Global, code: &Code, part: &LoopPart) -> Result<Cursor, AllocError>
         ensures stands { IfOk result (λ c. (p : Source) (inputs : List ℤ) → Behaves p code.now → CalleeIsFit p (Callee.Loop part.now) → Stands code.now inputs p (Callee.Loop part.now) c [] 0) }
+        ensures first { IfOk result (λ c. c ≡ first_of code.now (Callee.Loop part.now)) }
         ensures owes { IfOk result (λ c. c.owed ≡ owed_for Begin) }
     {
         Cursor::turns_in::<false>(alloc, Operands::empty(alloc), code, part)
@@ -145,6 +150,7 @@ impl Cursor {
         part: &LoopPart,
     ) -> Result<Cursor, AllocError>
         ensures stands { IfOk result (λ c. (p : Source) (inputs : List ℤ) → Behaves p code.now → CalleeIsFit p (Callee.Loop part.now) → Stands code.now inputs p (Callee.Loop part.now) c [] 0) }
+        ensures first { IfOk result (λ c. c ≡ first_of code.now (Callee.Loop part.now)) }
         ensures owes { IfOk result (λ c. c.owed ≡ owed_for Begin) }
     {
         let entry = code.loop_entry(part.number);
@@ -203,6 +209,13 @@ impl Cursor {
         ensures { result ≡ self.now.place }
     {
         self.place
+    }
+
+    /// Returns the operand on top; 0 if there is none.
+    pub fn top(&self) -> i64
+        ensures { (x : ℤ) (rest : List ℤ) → self.now.stack ≡ x ∷ rest → result ≡ x }
+    {
+        self.operands.top()
     }
 
     /// Returns the operand on top and the two that were popped last. For messages: nothing is proved

@@ -122,6 +122,16 @@ impl Operands {
         word
     }
 
+    /// Returns the word on top; 0 if there is none.
+    pub fn top(&self) -> i64
+        ensures { (x : ℤ) (rest : List ℤ) → self.now.stack ≡ x ∷ rest → result ≡ x }
+    {
+        match self.items.get(self.start) {
+            Some(word) => *word,
+            None => 0,
+        }
+    }
+
     /// Returns the operand on top and the two that were popped last. For messages: nothing is proved
     /// of them, and one that isn't there is 0.
     pub fn last(&self) -> LastOperands {

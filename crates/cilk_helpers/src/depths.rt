@@ -6,7 +6,7 @@ ghost use Rattle.cilk_program.specs.Syntax.{Source};
 ghost use Rattle.cilk_lower.specs.Behaves.{Behaves};
 ghost use Rattle.cilk_lower.specs.Code.{CodeView};
 ghost use Rattle.cilk_helpers.specs.Whole.{IsKept};
-ghost use Rattle.cilk_helpers.specs.Replayed.{AreFitting, AreReplayed, IsFitting, IsReplayed};
+ghost use Rattle.cilk_helpers.specs.Replayed.{AreFitting, AreReplayed, AreNumbered, IsFitting, IsOwn, IsReplayed};
 
 use crate::called::SmallCallee;
 use crate::listing::{FrameHint, Hints, place_of};
@@ -129,6 +129,8 @@ fn numbers(alloc: Global, dues: &[Due]) -> Result<Vec<FrameNo>, AllocError> {
 fn empty(alloc: Global, helpers: u32, spent: u32) -> Result<Vec<Share>, AllocError>
     requires { helpers ≤ 16 }
     ensures count { IfOk result (λ shares. vec_len shares ≡ helpers) }
+    ensures numbers { IfOk result (λ shares. AreNumbered shares.items) }
+    ensures none { IfOk result (λ shares. All (IsOwn helpers) shares.items) }
     ensures fits { (p : Source) → IfOk result (λ shares. All (AreFitting p) shares.items) }
 {
     let mut shares = Vec::with_capacity(alloc, helpers as usize)?;
@@ -142,12 +144,13 @@ fn empty(alloc: Global, helpers: u32, spent: u32) -> Result<Vec<Share>, AllocErr
     Ok(shares)
 }
 
-// Deals the frames of a round, the least first, to the helpers. A helper without frames has no
-// share.
+// Deals the frames of a round, the least first, to the helpers, which take turns by the frames'
+// numbers. A helper without frames has no share.
 fn dealt(alloc: Global, dues: Vec<Due>, helpers: u32, spent: u32) -> Result<Vec<Share>, AllocError>
     requires some { 0 < helpers }
     requires most { helpers ≤ 16 }
-    ensures { (p : Source) → All (IsFitting p) dues.items → IfOk result (λ shares. All (AreFitting p) shares.items) }
+    ensures fits { (p : Source) → All (IsFitting p) dues.items → IfOk result (λ shares. All (AreFitting p) shares.items) }
+    ensures own { IfOk result (λ shares. All (IsOwn helpers) shares.items) }
 {
     let mut shares = empty(alloc, helpers, spent)?;
     let mut dues = dues;

@@ -1,7 +1,8 @@
 //! Hints about the frames of a run, read from a certificate's text. They may be wrong: a replay by
 //! them shows only what a frame does if it reads these values.
 
-ghost use Rattle.std.specs.Prelude.{◌≡◌, ◌<◌, OnOk, Err};
+ghost use Rattle.std.specs.Prelude.{◌≡◌, ◌<◌, IfOk, OnOk, Err};
+ghost use Rattle.cilk_helpers.specs.Listed.{AreFew};
 
 use crate::listing::{Hints, Listing};
 use crate::scan::hint_of;
@@ -83,10 +84,11 @@ fn read_all<S: Source>(reading: &mut Reading, source: &mut S) -> Result<(), Pull
 /// Reads the hints about frames from a source.
 ///
 /// Of each line only so much is read as the hints need. Reading stops at the first line that doesn't
-/// fit those before it. Cost: linear in the text; memory: linear in the frames and in the values
-/// that are read.
+/// fit those before it, as one more event than a run may have. Cost: linear in the text; memory:
+/// linear in the frames and in the values that are read.
 pub fn hints<S: Source>(alloc: Global, source: &mut S) -> Result<Hints, PullFault>
     requires { S.failed source.old < 18446744073709551615 }
+    ensures few { IfOk result (λ h. AreFew h.words.items h.frames.items) }
     ensures counted { result ≡ Err PullFault.Device → S.failed source.old < S.failed source.new }
     ensures uncounted { OnOk result (S.failed source.new ≡ S.failed source.old) }
     ensures lender { S.lender source.new ≡ S.lender source.old }

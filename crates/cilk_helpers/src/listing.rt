@@ -1,10 +1,12 @@
 //! Collects the hints about frames from what a certificate's lines say.
 
-ghost use Rattle.std.specs.Prelude.{◌≡◌, ◌<◌, ◌+◌};
+ghost use Rattle.std.specs.Prelude.{◌≡◌, ◌<◌, ◌≤◌, ◌+◌, IfOk, IsTrue, vec_len};
+ghost use Rattle.cilk_types.specs.declared.limits.TheConstants.{MAX_EVENTS};
+ghost use Rattle.cilk_helpers.specs.Listed.{AreFew, events_in};
 
 use crate::scan::LineHint;
 use cilk_types::event::FrameNo;
-use cilk_types::limits::MAX_FRAMES;
+use cilk_types::limits::{MAX_EVENTS, MAX_FRAMES};
 use std::alloc::{AllocError, Global};
 
 /// The hint about a frame.
@@ -63,12 +65,17 @@ struct Open {
     last: Option<FrameNo>,
 }
 
-/// The hints so far. The innermost open frame is the last one of `open`.
+/// The hints so far, of at most as many events as a run may have. The innermost open frame is the
+/// last one of `open`.
 #[derive(Drop)]
 pub struct Listing {
     told: Vec<Told>,
     frames: Vec<FrameHint>,
     open: Vec<Open>,
+    events: u32,
+    ghost few: { events ≤ MAX_EVENTS },
+    ghost listed: { events_in frames.items ≤ events },
+    ghost read: { vec_len told ≤ events },
 }
 
 impl Listing {
@@ -78,6 +85,7 @@ impl Listing {
             told: Vec::new(alloc),
             frames: Vec::new(alloc),
             open: Vec::new(alloc),
+            events: 0,
         }
     }
 
@@ -134,21 +142,29 @@ impl Listing {
 
     // Notes a word that the innermost open frame reads.
     fn tell(&mut self, word: i64) -> Result<bool, AllocError> {
-        if let Some(open) = self.open.last() {
-            self.told.push(Told {
-                frame: open.frame,
-                word,
-            })?;
+        let Some(open) = self.open.last() else {
+            return Ok(false);
+        };
+        let frame = open.frame;
+        if !self.count(1) {
+            return Ok(false);
         }
-        Ok(self.count(1))
+        self.told.push(Told { frame, word })?;
+        Ok(true)
     }
 
     // Counts one more event and `words` more words of the innermost open frame. False if none is
-    // open.
-    fn count(&mut self, words: u32) -> bool {
+    // open, or if a run can't have one more.
+    fn count(&mut self, words: u32) -> bool
+        ensures { IsTrue result → vec_len self.new.told < self.new.events }
+    {
         let Some(open) = self.open.last() else {
             return false;
         };
+        if self.events >= MAX_EVENTS {
+            return false;
+        }
+        self.events += 1;
         if let Some(hint) = self.frames.get_mut(place_of(open.frame)) {
             hint.events = hint.events.saturating_add(1);
             hint.words = hint.words.saturating_add(words);
@@ -157,20 +173,23 @@ impl Listing {
     }
 
     /// Returns the hints, with the words of each frame together.
-    pub fn parted(self, alloc: Global) -> Result<Hints, AllocError> {
+    #[tactic(auto, using(crate::proofs::Events::unchanged))]
+    pub fn parted(self, alloc: Global) -> Result<Hints, AllocError>
+        ensures { IfOk result (λ h. AreFew h.words.items h.frames.items) }
+    {
         let Listing {
             told,
             mut frames,
             ..
         } = self;
         let mut first: u32 = 0;
-        for hint in frames.iter_mut() {
+        'frames: for hint in frames.iter_mut() {
             hint.first = first;
             first = first.saturating_add(hint.words);
             hint.words = 0;
         }
         let mut words = vec![in alloc; 0i64; told.len()]?;
-        for one in &told {
+        'words: for one in &told {
             if let Some(hint) = frames.get_mut(place_of(one.frame)) {
                 let place = hint.first.saturating_add(hint.words);
                 if let Some(word) = words.get_mut(place as usize) {

@@ -1,13 +1,13 @@
 //! A frame that is to be replayed, and its replay.
 
-ghost use Rattle.std.specs.Prelude.{◌≡◌, [], ℤ, List, IfOk};
+ghost use Rattle.std.specs.Prelude.{◌≡◌, ◌≤◌, [], ℤ, List, IfOk, length};
 ghost use Rattle.cilk_program.specs.Inside.{CalleeIsFit};
 ghost use Rattle.cilk_program.specs.Syntax.{Source};
 ghost use Rattle.cilk_program.specs.declared.ask.Ask.TheVariants.{Begin};
 ghost use Rattle.cilk_lower.specs.Behaves.{Behaves};
 ghost use Rattle.cilk_lower.specs.Code.{CodeView};
 ghost use Rattle.cilk_frames.specs.Following.{Stands, owed_for};
-ghost use Rattle.cilk_helpers.specs.Replayed.{IsReplayed};
+ghost use Rattle.cilk_helpers.specs.Replayed.{IsReplayed, ticks_of};
 
 use crate::called::SmallCallee;
 use crate::listing::FrameHint;
@@ -59,9 +59,11 @@ fn words_of<'a>(words: &'a [i64], hint: &FrameHint) -> &'a [i64] {
     }
 }
 
-// The ticks that a frame cost up to its last note.
-fn taken(notes: &[Note]) -> u32 {
-    match notes.last() {
+// The ticks that a frame cost up to its last note, which stands first.
+fn taken(notes: &[Note]) -> u32
+    ensures { result ≡ ticks_of notes.now }
+{
+    match notes.first() {
         Some(note) => MAX_TICKS.saturating_sub(note.left()),
         None => 0,
     }
@@ -69,7 +71,9 @@ fn taken(notes: &[Note]) -> u32 {
 
 // The replay of a frame that isn't replayed.
 fn missing(alloc: Global, frame: FrameNo) -> Replayed
-    ensures { (code : CodeView) (p : Source) (inputs : List ℤ) → IsReplayed code p inputs result }
+    ensures replayed { (code : CodeView) (p : Source) (inputs : List ℤ) → IsReplayed code p inputs result }
+    ensures none { result.replay.notes.items ≡ [] }
+    ensures ticks { result.ticks ≡ 0 }
 {
     Replayed {
         frame,
@@ -90,7 +94,9 @@ pub fn replay_due(
     due: Due,
 ) -> Result<Replayed, AllocError>
     requires { (p : Source) × Behaves p code.now × CalleeIsFit p due.callee }
-    ensures { (p : Source) → Behaves p code.now → IfOk result (IsReplayed code.now p input.now) }
+    ensures replayed { (p : Source) → Behaves p code.now → IfOk result (IsReplayed code.now p input.now) }
+    ensures few { IfOk result (λ r. length r.replay.notes.items ≤ due.hint.events) }
+    ensures ticks { IfOk result (λ r. r.ticks ≡ ticks_of r.replay.notes.items) }
 {
     let Due {
         frame,
@@ -103,8 +109,8 @@ pub fn replay_due(
     let cursor = begun(alloc, code, &begins)?;
     let own = words_of(words, &hint);
     let mut notes = replay(alloc, code, input, cursor, own, hint.events)?;
-    let ticks = taken(notes.as_slice());
     notes.reverse();
+    let ticks = taken(notes.as_slice());
     Ok(Replayed {
         frame,
         replay: Replay { callee, notes },

@@ -1,5 +1,6 @@
 pub mod Blocked
 pub mod Columns
+pub mod Departures
 pub mod Having
 pub mod Making
 pub mod Naming

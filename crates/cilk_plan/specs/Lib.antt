@@ -1,4 +1,5 @@
 pub mod Continuations
+pub mod Departures
 pub mod Replays
 pub mod Frames
 pub mod Plans

@@ -17,6 +17,7 @@ pub mod Going
 pub mod LastEnds
 pub mod LastWrites
 pub mod Leaving
+pub mod LikeRuns
 pub mod Matching
 pub mod Named
 pub mod NoFault
@@ -34,3 +35,4 @@ pub mod Starts
 pub mod EventOrderValues
 pub mod Unended
 pub mod Worked
+pub mod WorkedLikeRuns

@@ -8,6 +8,7 @@ pub mod Frames
 pub mod InputCourses
 pub mod InputResumes
 pub mod Left
+pub mod LikeRuns
 pub mod Lists
 pub mod Owned
 pub mod Points
@@ -19,3 +20,4 @@ pub mod Standing
 pub mod Starts
 pub mod EventOrders
 pub mod Worked
+pub mod WorkedLikeRuns

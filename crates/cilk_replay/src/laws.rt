@@ -10,12 +10,14 @@ ghost use Rattle.cilk_replay.specs.InputCourses.{AskedCourseIsSerial, CoursesAre
 ghost use Rattle.cilk_replay.specs.Ends.{InputsRunAlong, NamedRunsAreSerial, RunsWithinLimitsAreWhole};
 ghost use Rattle.cilk_replay.specs.Frames.{AskedCoursesAreSerialRuns, ProgramsHaveOneCourse, SerialRunsAreTheirCourses};
 ghost use Rattle.cilk_replay.specs.Left.{RunsAreElided};
+ghost use Rattle.cilk_replay.specs.LikeRuns.{LikeRunsDepartNowhere, RunsAlongAreLike};
 ghost use Rattle.cilk_replay.specs.Lists.{AskedEventOrdersAreOfAskedCourses, CoursesAreAlongPlans, InputsThatDepartNowhere};
 ghost use Rattle.cilk_replay.specs.Owned.{EventsAreInTheirFrames};
 ghost use Rattle.cilk_replay.specs.Points.{EventOrdersAreAskedByPositions};
 ghost use Rattle.cilk_replay.specs.InputResumes.{FramesResume};
 ghost use Rattle.cilk_replay.specs.EventOrders.{OwnEventOrder, EventOrdersAlongHaveValues};
 ghost use Rattle.cilk_replay.specs.Worked.{WorkedEventOrders};
+ghost use Rattle.cilk_replay.specs.WorkedLikeRuns.{WorkedLikeRuns};
 ghost use Rattle.cilk_monoid.specs.Laws.{MonoidStructure};
 ghost use Rattle.cilk_determinacy.specs.Runs.{Ask, Deed, Instance};
 
@@ -114,6 +116,18 @@ pub fn inputs_run_along()
     ensures { InputsRunAlong }
 {}
 
+/// For the language: an input departs nowhere from a plan if it has a serial run, without a fault,
+/// that is like the plan's: it does the same deeds but for their values.
+pub fn like_runs_depart_nowhere()
+    ensures { LikeRunsDepartNowhere }
+{}
+
+/// For the language, along an orderly plan: where an input departs nowhere, each serial run on it
+/// without a fault is like the plan's.
+pub fn runs_along_are_like()
+    ensures { RunsAlongAreLike }
+{}
+
 /// For the language: in the list of a serial run's events, each event is in the frame that makes
 /// it, by the frame's number.
 pub fn events_are_in_their_frames()
@@ -143,4 +157,10 @@ pub fn frames_resume()
 /// input, and on two others, which depart.
 pub fn worked_event_orders()
     ensures { WorkedEventOrders }
+{}
+
+/// A worked example: the runs of a program on two inputs make events of the same kinds. One departs
+/// from the plan of the other, since it calls another function.
+pub fn worked_like_runs()
+    ensures { WorkedLikeRuns }
 {}

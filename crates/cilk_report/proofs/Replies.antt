@@ -4,13 +4,15 @@
 -- - `asked_for`: the answer to an order is the answer to its words;
 -- - `starved`, `starved_or_settled`: out of memory, and no read failed; `unshown`: there is no memory to show a reply;
 -- - `other`, `yes`: whether an order is explained without `--explain`;
--- - `silence`: nothing follows;
+-- - `silence`: nothing follows; `unfailed`: a failure doesn't tell all; `any_more`: whatever the words asked for;
 -- - `unasked`: words with a usage error have no order;
 -- - `of_kept`: a call of `keep` changes nothing that is stated of the files;
 -- - `answered`, `complained`: an answer to an order, or a failure, is shown as `serve` shows it, and a text follows;
 -- - `silent`: a reply that no text follows.
 use Rattle.std.proofs.Common.{◌≡◌, ℕ, Bool, true, false, Option, None, [], List, refl, sym, ap, subst, ◌∙◌, inl, inr}
 use Rattle.cilk_report.specs.Explained.{Follows, IsReadAgain, Served, ServesExplained, ServesThenExplains, Settling}
+use Rattle.cilk_report.specs.Silence.{TellsAll}
+use Rattle.std.proofs.lemmas.Bool.{true≢false}
 use Rattle.cilk_messages.specs.Asked.{explains_itself}
 use Rattle.std.specs.Io.KnownBytes.{Appends}
 use Rattle.cilk_commands.proofs.Replying.{fails, keeps, no_memory, still_silent}
@@ -50,15 +52,35 @@ unshown words w wanted status told o e e' h shown =
 pub silence : (status : ℕ) (e : Option Text) → Follows status e e
 silence status e = (([], true, keeps e), λ _. refl)
 
-pub silent : (words : List Text) (files : Text → Option Text) (input : Option Text) (failed failed' : Failures) (status : ℕ) (told : Bool)
+pub silent : (words : List Text) (more : Bool) (files : Text → Option Text) (input : Option Text) (failed failed' : Failures) (status : ℕ) (told : Bool)
     (o o' e e' : Option Text) → Serves words (world files input failed failed') status told o o' e e'
-    → ServesThenExplains words files input failed failed' status o o' e e'
-silent words files input failed failed' status told o o' e e' served = (e', told, failed', served, λ _. refl, silence status e')
+    → ServesThenExplains words more files input failed failed' status o o' e e'
+silent words more files input failed failed' status told o o' e e' served =
+    (e', told, failed', served, λ _. refl, silence status e', λ _ _. refl)
+
+-- a failure doesn't tell all
+pub unfailed : (f : Failure) → TellsAll (failure_view f) → ⊥
+unfailed (failures.Words text) t = t
+unfailed (failures.Unreadable name) t = t
+unfailed (failures.Program number place) t = t
+unfailed (failures.Input number place) t = t
+unfailed (failures.Run number at) t = t
+unfailed (failures.Strand number name) t = t
+unfailed (failures.Script at) t = t
+unfailed (failures.Trace number at) t = t
+unfailed (failures.Changed name) t = t
+unfailed failures.Memory t = t
+
+-- whatever the words asked for
+pub any_more : (words : List Text) (more : Bool) (files : Text → Option Text) (input : Option Text) (failed failed' : Failures) (status : ℕ)
+    (o o' e e' : Option Text) → ServesThenExplains words more files input failed failed' status o o' e e'
+    → ServesThenExplains words true files input failed failed' status o o' e e'
+any_more words more files input failed failed' status o o' e e' h = (h.0, h.1, h.2, h.3, h.4, h.5, λ _ none. absurd (true≢false none))
 
 module _ (words : List Text) (files : Text → Option Text) (input : Option Text) (failed failed' : Failures) (status : ℕ) (told : Bool)
     (o e e' : Option Text) (none : failed' ≡ failed) (shown : (r : Reply) × IsOrNoMemory (failure_view failures.Memory) r × (status ≡ status_of r) × ShowsError r told e e') where
   either : (b : Bool) → explains_itself (order_in words) ≡ b → ServesExplained words files input failed failed' status o o e e'
-  either true is = Settling is (silent words files input failed failed' status told o o e e' (starved words (world files input failed failed') status told o e e' none shown))
+  either true is = Settling is (silent words false files input failed failed' status told o o e e' (starved words (world files input failed failed') status told o e e' none shown))
   either false is = Served told is (starved words (world files input failed failed') status told o e e' none shown)
 
   pub starved_or_settled : ServesExplained words files input failed failed' status o o e e'
@@ -97,29 +119,30 @@ module _ (words : List Text) (files : Text → Option Text) (input : Option Text
   since : (wanted : Reply) → ((IsReadAgain asked wanted → ⊥) → failed' ≡ reached) → (IsReadAgain (order_in words) wanted → ⊥) → failed' ≡ reached
   since wanted rest not = rest (λ yes. not (subst (λ (a : Option Requested). IsReadAgain a wanted) (sym order) yes))
 
-  pub answered : (wanted : Reply) (status status' : ℕ) (told : Bool) (o o' e e' e'' : Option Text)
+  pub answered : (more : Bool) (wanted : Reply) (status status' : ℕ) (told : Bool) (o o' e e' e'' : Option Text)
       → Answers (world files input failed reached) asked wanted → (r : Reply) × IsOrNoMemory wanted r × Shows r status told o o' e e'
       → status' ≡ status → ((IsReadAgain asked wanted → ⊥) → failed' ≡ reached) → Follows status' e' e''
-      → ServesThenExplains words files input failed failed' status' o o' e e''
-  answered wanted status status' told o o' e e' e'' h shown same rest follows =
+      → (TellsAll wanted → more ≡ false → e'' ≡ e') → ServesThenExplains words more files input failed failed' status' o o' e e''
+  answered more wanted status status' told o o' e e' e'' h shown same rest follows quiet =
       let w = world files input failed reached in
-      subst (λ (s : ℕ). ServesThenExplains words files input failed failed' s o o' e e'') (sym same) (
+      subst (λ (s : ℕ). ServesThenExplains words more files input failed failed' s o o' e e'') (sym same) (
         e',
         told,
         reached,
         (wanted, asked_for words w asked wanted order h, shown.0, shown.1, shown.2),
         since wanted rest,
         subst (λ (s : ℕ). Follows s e' e'') same follows,
+        quiet,
       )
 
-  pub complained : (f : Failure) (status status' : ℕ) (told : Bool) (o e e' e'' : Option Text)
+  pub complained : (more : Bool) (f : Failure) (status status' : ℕ) (told : Bool) (o e e' e'' : Option Text)
       → Answers (world files input failed reached) asked (failure_view f)
       → (r : Reply) × IsOrNoMemory (failure_view f) r × (status ≡ status_of r) × ShowsError r told e e'
       → status' ≡ status → ((IsReadAgain asked (failure_view f) → ⊥) → failed' ≡ reached) → Follows status' e' e''
-      → ServesThenExplains words files input failed failed' status' o o e e''
-  complained f status status' told o e e' e'' h shown same rest follows =
+      → ServesThenExplains words more files input failed failed' status' o o e e''
+  complained more f status status' told o e e' e'' h shown same rest follows =
       let w = world files input failed reached in
-      subst (λ (s : ℕ). ServesThenExplains words files input failed failed' s o o e e'') (sym same) (
+      subst (λ (s : ℕ). ServesThenExplains words more files input failed failed' s o o e e'') (sym same) (
         e',
         told,
         reached,
@@ -132,4 +155,5 @@ module _ (words : List Text) (files : Text → Option Text) (input : Option Text
         ),
         since (failure_view f) rest,
         subst (λ (s : ℕ). Follows s e' e'') same follows,
+        λ tells _. absurd (unfailed f tells),
       )

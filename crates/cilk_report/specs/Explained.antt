@@ -23,6 +23,7 @@ use Rattle.cilk_messages.specs.declared.numbers.TheConstants.{TITLES}
 use Rattle.cilk_profile.specs.Measured.{IsMeasureText, is_drawn}
 use Rattle.cilk_report.specs.Measured.{AreTotalsOf}
 use Rattle.cilk_report.specs.Settling.{SettlesEach, state}
+use Rattle.cilk_report.specs.Silence.{TellsAll}
 
 -- a trace has a fault
 abbrev pub IsTraceFault : Reply → Type 0
@@ -60,15 +61,16 @@ WritesText text status out out' err err' =
     ((status ≡ 0) × Appends out out' text × (err' ≡ err))
     ⊎ ((status ≡ 2) × AppendsPart out out' text × ((told : Bool) × AppendsFront told err err' (line (codes "cannot write"))))
 
--- The reply of `serve` to these words, then a text on standard error. `reached` are the failed reads of files up to the reply: no later
--- read fails, but for the text that follows `judge`, whose trace is read again. `served.0` is the reply, also where it isn't shown for
--- want of memory.
-abbrev pub ServesThenExplains : List Text → (Text → Option Text) → Option Text → Failures → Failures → ℕ
+-- The reply of `serve` to these words, then a text on standard error, but none after a reply that tells all, unless the words asked for
+-- `more`. `reached` are the failed reads of files up to the reply: no later read fails, but for the text that follows `judge`, whose trace
+-- is read again. `served.0` is the reply, also where it isn't shown for want of memory.
+abbrev pub ServesThenExplains : List Text → (more : Bool) → (Text → Option Text) → Option Text → Failures → Failures → ℕ
     → Option Text → Option Text → Option Text → Option Text → Type 0
-ServesThenExplains words files input failed failed' status out out' err err' =
+ServesThenExplains words more files input failed failed' status out out' err err' =
     (middle : Option Text) × (told : Bool) × (reached : Failures)
     × (served : Serves words (world files input failed reached) status told out out' err middle)
     × ((IsReadAgain (order_in words) served.0 → ⊥) → failed' ≡ reached) × Follows status middle err'
+    × (TellsAll served.0 → more ≡ false → err' ≡ middle)
 
 -- a reply other than the outcome of a run
 abbrev pub IsNoOutcome : Reply → Type 0
@@ -171,7 +173,7 @@ pub data Schedules (words : List Text) (files : Text → Option Text) (input : O
   Told : (r : Reply) (script : Text) → Answers (world files input failed failed') (order_in words) r → IsRace r → IsStealingScript script
       → WritesText script status out out' err err' → Schedules words files input failed failed' status out out' err err'
   -- the reply of `check`, then a text
-  Checked : ServesThenExplains words files input failed failed' status out out' err err'
+  Checked : ServesThenExplains words true files input failed failed' status out out' err err'
       → Schedules words files input failed failed' status out out' err err'
 
 -- The replies of a call, given the contents of files and standard input, and the failed reads
@@ -181,13 +183,13 @@ pub data ServesExplained (words : List Text) (files : Text → Option Text) (inp
   -- the reply of `serve`
   Served : (told : Bool) → explains_itself (order_in words) ≡ false → Serves words (world files input failed failed') status told out out' err err'
       → ServesExplained words files input failed failed' status out out' err err'
-  -- the reply of `serve`, then a text
-  Settling : explains_itself (order_in words) ≡ true → ServesThenExplains words files input failed failed' status out out' err err'
+  -- the reply of `serve`, then a text, but none after a reply that tells all
+  Settling : explains_itself (order_in words) ≡ true → ServesThenExplains words false files input failed failed' status out out' err err'
       → ServesExplained words files input failed failed' status out out' err err'
   -- the words aren't a command line of `serve` and have some among them that add a text: the reply
   -- to the others, then a text
   Explained : order_in words ≡ None → length (unflagged words) < length words
-      → ServesThenExplains (unflagged words) files input failed failed' status out out' err err'
+      → ServesThenExplains (unflagged words) true files input failed failed' status out out' err err'
       → ServesExplained words files input failed failed' status out out' err err'
   -- the words aren't a command line of `serve` and measure a run
   Measuring : order_in words ≡ None → is_measure words ≡ true → Measures words files input failed failed' status out out' err err'

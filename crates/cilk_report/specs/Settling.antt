@@ -12,19 +12,21 @@ use Rattle.cilk_messages.specs.Batches.{heading, object_line, short_line}
 use Rattle.cilk_messages.specs.declared.batch.Form.{Form}
 use Rattle.cilk_messages.specs.declared.batch.Form.TheVariants.{Explained, Full, Json, Short}
 use Rattle.cilk_messages.specs.declared.place.Location.{Location}
+use Rattle.cilk_report.specs.Silence.{Explains}
 
 -- ---- a reply
 
 -- The texts for standard output and standard error that show a program's reply: the reply under a
 -- heading, with some explanation after its text for standard error; or one line, alone, with some
--- explanation, or with it inside, beside some place.
+-- explanation, or with it inside, beside some place. A reply that tells all has none.
 abbrev pub IsShown : Form → Text → Reply → Text → Text → Type 0
 IsShown Full program r out err =
-    (error explanation : Text) × IsErrorText r error × (out ≡ heading program ++ out_text r) × (err ≡ error ++ explanation)
+    (error explanation : Text) × IsErrorText r error × Explains r explanation × (out ≡ heading program ++ out_text r) × (err ≡ error ++ explanation)
 IsShown Short program r out err = (error : Text) × IsErrorText r error × (out ≡ short_line program (out_text r ++ error)) × (err ≡ [])
-IsShown Explained program r out err = (error : Text) × IsErrorText r error × (out ≡ short_line program (out_text r ++ error))
+IsShown Explained program r out err =
+    (error : Text) × IsErrorText r error × Explains r err × (out ≡ short_line program (out_text r ++ error))
 IsShown Json program r out err =
-    (error explanation : Text) × (place : Option Location) × IsErrorText r error
+    (error explanation : Text) × (place : Option Location) × IsErrorText r error × Explains r explanation
     × (out ≡ object_line program (status_of r) (out_text r ++ error) explanation place) × (err ≡ [])
 
 -- ---- one program after the other

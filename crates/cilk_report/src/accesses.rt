@@ -186,9 +186,10 @@ fn deed_of(line: Line) -> (&'static str, u32, u32, u32) {
         Line::Value { reducer, site } => {
             ("the view of reducer {} is read or set", reducer, 0, site)
         }
-        Line::Enter { site } | Line::Update { site, .. } | Line::Retire { site, .. } => {
-            ("something is done", 0, 0, site)
-        }
+        Line::Enter { site }
+        | Line::Update { site, .. }
+        | Line::Retire { site, .. }
+        | Line::Unseen { site } => ("something is done", 0, 0, site),
         Line::Spawned | Line::Called | Line::Sync | Line::Clear { .. } | Line::End => {
             ("something is done", 0, 0, 0)
         }

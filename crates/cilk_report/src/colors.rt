@@ -1,6 +1,6 @@
 //! Colours in explanations, by the escape codes that terminals share (ECMA-48).
 
-ghost use Rattle.std.specs.Prelude.{◌≡◌, IfOk, filter, not};
+ghost use Rattle.std.specs.Prelude.{◌≡◌, [], IfOk, Ok, filter, not, string_bytes};
 ghost use Rattle.cilk_report.specs.Colors.{is_color};
 
 use cilk_profile::Kept;
@@ -35,8 +35,10 @@ pub fn without_color<'a>(alloc: Global, words: &[&'a str]) -> Result<Vec<&'a str
 }
 
 /// Returns an explanation as it is shown: with colours, if explanations have some.
-pub(crate) fn colored(alloc: Global, text: String, kept: &Kept) -> Result<String, AllocError> {
-    if !kept.has_colors {
+pub(crate) fn colored(alloc: Global, text: String, kept: &Kept) -> Result<String, AllocError>
+    ensures { string_bytes text ≡ [] → result ≡ Ok text }
+{
+    if !kept.has_colors || text.is_empty() {
         return Ok(text);
     }
     let mut shown = String::new(alloc);

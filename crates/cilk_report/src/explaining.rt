@@ -2,7 +2,9 @@
 
 ghost use Rattle.std.specs.Prelude.{IfSome};
 ghost use Rattle.cilk_checker.specs.Numbers.{number_of};
-ghost use Rattle.cilk_report.specs.Explained.{IsRaceNumber};
+ghost use Rattle.cilk_commands.specs.Replies.{answer_view};
+ghost use Rattle.cilk_report.specs.Explained.{IsRaceNumber, explanation_text};
+ghost use Rattle.cilk_report.specs.Silence.{Explains};
 
 use crate::certificate::line_of;
 use crate::colors::colored;
@@ -30,7 +32,9 @@ pub fn of_answer(
     order: &Order<'_>,
     answer: &Answer,
     kept: &Kept,
-) -> Result<String, CaseFault> {
+) -> Result<String, CaseFault>
+    ensures { Explains (answer_view answer.now) (explanation_text result) }
+{
     let text = answer_text(alloc, order, answer, kept)?;
     Ok(colored(alloc, text, kept)?)
 }
@@ -40,18 +44,30 @@ pub(crate) fn answer_text(
     order: &Order<'_>,
     answer: &Answer,
     kept: &Kept,
+) -> Result<String, CaseFault>
+    ensures { Explains (answer_view answer.now) (explanation_text result) }
+{
+    match answer {
+        Answer::Refused(refusal) => refusal_text(alloc, order, *refusal, kept),
+        _ => Ok(String::new(alloc)),
+    }
+}
+
+// Explains a refusal.
+fn refusal_text(
+    alloc: Global,
+    order: &Order<'_>,
+    refusal: Refusal,
+    kept: &Kept,
 ) -> Result<String, CaseFault> {
-    let Answer::Refused(refusal) = answer else {
-        return Ok(String::new(alloc));
-    };
     let number = refusal.number();
-    let found = race_of(*refusal);
+    let found = race_of(refusal);
     if found.is_some() || number == 310 {
         if let Some(texts) = texts_of(order, kept)? {
             return in_text(alloc, &texts, number, found);
         }
     }
-    let line = line_of(kept.front()?, *refusal);
+    let line = line_of(kept.front()?, refusal);
     Ok(of_line(alloc, Named::of(order).other, line, number)?)
 }
 

@@ -1,8 +1,11 @@
 //! The texts that follow a reply: its explanation, and what `--trace` and `--why` add.
 
-ghost use Rattle.std.specs.Prelude.{Some};
+ghost use Rattle.std.specs.Prelude.{◌≡◌, IsOk, Some, false};
+ghost use Rattle.cilk_commands.specs.Replies.{answer_view};
 ghost use Rattle.cilk_commands.specs.Serving.{HasWorkers};
 ghost use Rattle.cilk_messages.specs.Words.{order_view};
+ghost use Rattle.cilk_report.specs.Explained.{explanation_text};
+ghost use Rattle.cilk_report.specs.Silence.{Explains, asks_more};
 
 use crate::explaining::{of_answer, of_failure};
 use cilk_commands::reply::{Answer, Failure};
@@ -13,7 +16,7 @@ use cilk_profile::{Kept, push_trace};
 use cilk_races::push_why;
 use std::alloc::Global;
 
-/// Returns the text that follows an answer.
+/// Returns the text that follows an answer: none after one that tells all, unless more is requested.
 pub fn behind_answer(
     alloc: Global,
     order: &Order<'_>,
@@ -22,12 +25,9 @@ pub fn behind_answer(
     kept: &Kept,
 ) -> Result<String, CaseFault>
     requires { HasWorkers (Some (order_view order.now)) }
+    ensures { asks_more extras ≡ false → Explains (answer_view answer.now) (explanation_text result) }
 {
-    let mut text = if extras.explains || explains_itself(order) {
-        of_answer(alloc, order, answer, kept)?
-    } else {
-        String::new(alloc)
-    };
+    let mut text = explanation(alloc, order, answer, extras, kept)?;
     push_extras(
         alloc,
         &mut text,
@@ -37,6 +37,22 @@ pub fn behind_answer(
         matches!(answer, Answer::Settled { .. }),
     )?;
     Ok(text)
+}
+
+// The explanation of an answer, if it is requested.
+fn explanation(
+    alloc: Global,
+    order: &Order<'_>,
+    answer: &Answer,
+    extras: Extras,
+    kept: &Kept,
+) -> Result<String, CaseFault>
+    ensures { Explains (answer_view answer.now) (explanation_text result) }
+{
+    if extras.explains || explains_itself(order) {
+        return of_answer(alloc, order, answer, kept);
+    }
+    Ok(String::new(alloc))
 }
 
 /// Returns the text that follows a failure.
@@ -71,6 +87,8 @@ fn push_extras(
     is_settled: bool,
 ) -> Result<(), CaseFault>
     requires { HasWorkers (Some (order_view order.now)) }
+    ensures none { asks_more extras ≡ false → IsOk result }
+    ensures same { asks_more extras ≡ false → text.new ≡ text.old }
 {
     match (order, extras.why) {
         (

@@ -206,6 +206,7 @@ fn misplaced(line: Line) -> &'static str {
         | Line::Sync
         | Line::Read { .. }
         | Line::Write { .. }
-        | Line::Clear { .. } => BEHIND,
+        | Line::Clear { .. }
+        | Line::Unseen { .. } => BEHIND,
     }
 }

@@ -51,6 +51,7 @@ impl<F: Files> Files for KeptFiles<F> {
         requires { (F.failed self.old.files).count < 18446744073709551615 }
         ensures held { IfOk result (λ bytes. IsHeld (F.holds self.old.files path.now) bytes.items) }
         ensures counted { result ≡ Err FileFault.Device → (F.failed self.old.files).count < (F.failed self.new.files).count }
+        ensures begun { result ≡ Err FileFault.Device → (F.failed self.new.files).at ≡ 0 }
         ensures uncounted { OnOk result (F.failed self.new.files ≡ F.failed self.old.files) }
         ensures unblamed { result ≡ Err FileFault.Memory → F.failed self.new.files ≡ F.failed self.old.files }
         ensures risen { StayOrRise (F.failed self.old.files) (F.failed self.new.files) }
@@ -78,6 +79,7 @@ impl<F: Files> Files for KeptFiles<F> {
         ensures held { IfOk result (λ n. IsPart (F.holds self.old.files path.now) at n into.new) }
         ensures last { IfOk result (λ n. n ≡ 0 → 0 < length into.old → EndsAt (F.holds self.old.files path.now) at) }
         ensures counted { result ≡ Err FileFault.Device → (F.failed self.old.files).count < (F.failed self.new.files).count }
+        ensures begun { result ≡ Err FileFault.Device → (F.failed self.new.files).at ≡ at }
         ensures uncounted { OnOk result (F.failed self.new.files ≡ F.failed self.old.files) }
         ensures unblamed { result ≡ Err FileFault.Memory → F.failed self.new.files ≡ F.failed self.old.files }
         ensures risen { StayOrRise (F.failed self.old.files) (F.failed self.new.files) }

@@ -2,6 +2,7 @@
 
 ghost use Rattle.std.specs.Prelude.{◌≡◌, ◌≢◌, ◌+◌, ◌<◌, ◌≤◌, [], Bool, IsTrue, None, Some, false, length, option_map, true};
 ghost use Rattle.cilk_report.specs.Explained.{AnswersAbout, Follows, IsReadAgain, Measures, Schedules, ServesExplained, ServesThenExplains, Settles, WritesText, explanation_text, missing_line};
+ghost use Rattle.cilk_report.specs.Silence.{Explains, asks_more};
 ghost use Rattle.cilk_messages.specs.Asked.{explains_itself, is_measure, is_schedule, measured_run, unflagged, words_of_check, words_of_run};
 ghost use Rattle.cilk_messages.specs.About.{is_about};
 ghost use Rattle.cilk_messages.specs.Batches.{is_settling};
@@ -63,13 +64,13 @@ pub fn serve_explained<F: Keeps, R: CountedRead, O: Write, E: Write>(
     ensures explained { order_in (texts words.now) ≡ None → is_measure (texts words.now) ≡ false → is_schedule (texts words.now) ≡ false
         → is_settling (texts words.now) ≡ false → is_about (texts words.now) ≡ false
         → length (unflagged (texts words.now)) < length (texts words.now)
-        → ServesThenExplains (unflagged (texts words.now)) (F.holds files.old) (R.remaining input.old) (F.failed files.old) (F.failed files.new)
+        → ServesThenExplains (unflagged (texts words.now)) true (F.holds files.old) (R.remaining input.old) (F.failed files.old) (F.failed files.new)
         result (O.contents out.old) (O.contents out.new) (E.contents err.old) (E.contents err.new) }
     ensures about { order_in (texts words.now) ≡ None → is_measure (texts words.now) ≡ false → is_schedule (texts words.now) ≡ false
         → is_settling (texts words.now) ≡ false → is_about (texts words.now) ≡ true
         → AnswersAbout (texts words.now) result (O.contents out.old) (O.contents out.new) (E.contents err.old) (E.contents err.new) }
     ensures settled { explains_itself (order_in (texts words.now)) ≡ true
-        → ServesThenExplains (texts words.now) (F.holds files.old) (R.remaining input.old) (F.failed files.old) (F.failed files.new)
+        → ServesThenExplains (texts words.now) false (F.holds files.old) (R.remaining input.old) (F.failed files.old) (F.failed files.new)
         result (O.contents out.old) (O.contents out.new) (E.contents err.old) (E.contents err.new) }
     ensures untouched { unflagged (texts words.now) ≢ [] → input.new ≡ input.old }
     ensures most { TakesAtMost MAX_READ (R.remaining input.old) (R.remaining input.new) }
@@ -78,7 +79,13 @@ pub fn serve_explained<F: Keeps, R: CountedRead, O: Write, E: Write>(
     match read(alloc, words) {
         Ok(order) if explains_itself(&order) => {
             files.keep();
-            serve_flagged(alloc, words, extras_of(words), files, input, out, err)
+            // Words that are an order request no other text.
+            let extras = Extras {
+                explains: false,
+                traces: false,
+                why: None,
+            };
+            serve_flagged(alloc, words, extras, files, input, out, err)
         }
         Ok(_) => serve(alloc, words, files, input, out, err),
         Err(WordsFault::Usage(usage)) => {
@@ -116,7 +123,7 @@ fn serve_other<F: Keeps, R: CountedRead, O: Write, E: Write>(
     ensures explained { is_measure (texts words.now) ≡ false → is_schedule (texts words.now) ≡ false → is_settling (texts words.now) ≡ false
         → is_about (texts words.now) ≡ false
         → length (unflagged (texts words.now)) < length (texts words.now)
-        → ServesThenExplains (unflagged (texts words.now)) (F.holds files.old) (R.remaining input.old) (F.failed files.old) (F.failed files.new)
+        → ServesThenExplains (unflagged (texts words.now)) true (F.holds files.old) (R.remaining input.old) (F.failed files.old) (F.failed files.new)
         result (O.contents out.old) (O.contents out.new) (E.contents err.old) (E.contents err.new) }
     ensures about { is_measure (texts words.now) ≡ false → is_schedule (texts words.now) ≡ false → is_settling (texts words.now) ≡ false
         → is_about (texts words.now) ≡ true
@@ -155,7 +162,7 @@ fn serve_unmeasured<F: Keeps, R: CountedRead, O: Write, E: Write>(
         result (O.contents out.old) (O.contents out.new) (E.contents err.old) (E.contents err.new) }
     ensures explained { is_schedule (texts words.now) ≡ false → is_settling (texts words.now) ≡ false → is_about (texts words.now) ≡ false
         → length (unflagged (texts words.now)) < length (texts words.now)
-        → ServesThenExplains (unflagged (texts words.now)) (F.holds files.old) (R.remaining input.old) (F.failed files.old) (F.failed files.new)
+        → ServesThenExplains (unflagged (texts words.now)) true (F.holds files.old) (R.remaining input.old) (F.failed files.old) (F.failed files.new)
         result (O.contents out.old) (O.contents out.new) (E.contents err.old) (E.contents err.new) }
     ensures about { is_schedule (texts words.now) ≡ false → is_settling (texts words.now) ≡ false → is_about (texts words.now) ≡ true
         → AnswersAbout (texts words.now) result (O.contents out.old) (O.contents out.new) (E.contents err.old) (E.contents err.new) }
@@ -189,7 +196,7 @@ fn serve_unscheduled<F: Keeps, R: CountedRead, O: Write, E: Write>(
     ensures served { ServesExplained (texts words.now) (F.holds files.old) (R.remaining input.old) (F.failed files.old) (F.failed files.new)
         result (O.contents out.old) (O.contents out.new) (E.contents err.old) (E.contents err.new) }
     ensures explained { is_about (texts words.now) ≡ false → length (unflagged (texts words.now)) < length (texts words.now)
-        → ServesThenExplains (unflagged (texts words.now)) (F.holds files.old) (R.remaining input.old) (F.failed files.old) (F.failed files.new)
+        → ServesThenExplains (unflagged (texts words.now)) true (F.holds files.old) (R.remaining input.old) (F.failed files.old) (F.failed files.new)
         result (O.contents out.old) (O.contents out.new) (E.contents err.old) (E.contents err.new) }
     ensures about { is_about (texts words.now) ≡ true
         → AnswersAbout (texts words.now) result (O.contents out.old) (O.contents out.new) (E.contents err.old) (E.contents err.new) }
@@ -249,7 +256,7 @@ fn serve_flagged<F: Keeps, R: CountedRead, O: Write, E: Write>(
     err: &mut E,
 ) -> u8
     requires { (F.failed files.old).count < 18446744073709551615 }
-    ensures shown { ServesThenExplains (texts words.now) (F.holds files.old) (R.remaining input.old) (F.failed files.old) (F.failed files.new)
+    ensures shown { ServesThenExplains (texts words.now) (asks_more extras) (F.holds files.old) (R.remaining input.old) (F.failed files.old) (F.failed files.new)
         result (O.contents out.old) (O.contents out.new) (E.contents err.old) (E.contents err.new) }
     ensures untouched { (ReadsStandard (order_in (texts words.now)) → ⊥) → input.new ≡ input.old }
     ensures most { TakesAtMost MAX_READ (R.remaining input.old) (R.remaining input.new) }
@@ -274,7 +281,8 @@ fn serve_flagged<F: Keeps, R: CountedRead, O: Write, E: Write>(
     }
 }
 
-/// Returns the text that follows an answer. A trace with a race is read again for it.
+/// Returns the text that follows an answer: none after one that tells all, unless more is requested.
+/// A trace with a race is read again for it.
 fn answered<F: Keeps>(
     alloc: Global,
     order: &Order<'_>,
@@ -283,7 +291,8 @@ fn answered<F: Keeps>(
     files: &mut F,
 ) -> Result<String, CaseFault>
     requires { HasWorkers (Some (order_view order.now)) }
-    ensures { (IsReadAgain (Some (order_view order.now)) (answer_view answer.now) → ⊥) → F.failed files.new ≡ F.failed files.old }
+    ensures unread { (IsReadAgain (Some (order_view order.now)) (answer_view answer.now) → ⊥) → F.failed files.new ≡ F.failed files.old }
+    ensures silent { asks_more extras ≡ false → Explains (answer_view answer.now) (explanation_text result) }
 {
     match order {
         Order::Judge { trace, sites } => match answer {
@@ -299,7 +308,7 @@ fn answered<F: Keeps>(
             | Answer::Accepted
             | Answer::NotEnded
             | Answer::Settled { .. }
-            | Answer::RaceFree => Ok(String::new(alloc)),
+            | Answer::RaceFree(_) => Ok(String::new(alloc)),
         },
         Order::Run { .. }
         | Order::Certify { .. }
@@ -420,12 +429,14 @@ fn show_measured<F: Keeps, R: CountedRead, O: Write, E: Write>(
 }
 
 /// Writes an explanation, or a line why there is none. It does nothing if a write of the reply
-/// failed or if the reply was out of memory. Returns the reply's status.
+/// failed or if the reply was out of memory, or if the explanation is empty. Returns the reply's
+/// status.
 pub fn follow<E: Write>(served: Served, text: Result<String, CaseFault>, err: &mut E) -> u8
     ensures status { result ≡ served.status }
     ensures explains { IsTrue served.told → served.status ≢ NO_MEMORY
         → (is_whole : Bool) × AppendsFront is_whole (E.contents err.old) (E.contents err.new) (explanation_text text) }
     ensures follows { Follows result (E.contents err.old) (E.contents err.new) }
+    ensures silent { explanation_text text ≡ [] → E.contents err.new ≡ E.contents err.old }
 {
     if served.told {
         if served.status != NO_MEMORY {
@@ -435,14 +446,21 @@ pub fn follow<E: Write>(served: Served, text: Result<String, CaseFault>, err: &m
     served.status
 }
 
-/// Writes an explanation, or a line why there is none.
+/// Writes an explanation, or a line why there is none. Nothing is written for an empty one.
 fn explain<E: Write>(text: Result<String, CaseFault>, err: &mut E)
-    ensures { (is_whole : Bool) × AppendsFront is_whole (E.contents err.old) (E.contents err.new) (explanation_text text) }
+    ensures text { (is_whole : Bool) × AppendsFront is_whole (E.contents err.old) (E.contents err.new) (explanation_text text) }
+    ensures silent { explanation_text text ≡ [] → E.contents err.new ≡ E.contents err.old }
 {
-    let _ = match text {
-        Ok(text) => tell(err, text.as_bytes()),
-        Err(fault) => tell(err, missing(fault).as_bytes()),
-    };
+    match text {
+        Ok(text) => {
+            if !text.is_empty() {
+                let _ = tell(err, text.as_bytes());
+            }
+        }
+        Err(fault) => {
+            let _ = tell(err, missing(fault).as_bytes());
+        }
+    }
 }
 
 // The line in place of an explanation.

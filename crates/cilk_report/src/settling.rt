@@ -1,14 +1,15 @@
 //! The command `settle` for several programs, or in a short form.
 
-ghost use Rattle.std.specs.Prelude.{◌≡◌, ◌++◌, ◌⊎◌, Bool, IfOk, IsFalse, IsTrue, Option, codes};
+ghost use Rattle.std.specs.Prelude.{◌≡◌, ◌++◌, ◌⊎◌, Bool, IfOk, IsFalse, IsTrue, Option, codes, string_bytes};
 ghost use Rattle.std.specs.Io.KnownBytes.{Appends};
 ghost use Rattle.cilk_commands.specs.Replies.{IsErrorText, NoMemory, Text, line, out_text, status_of};
 ghost use Rattle.cilk_commands.specs.Serving.{SettleReply, ShowsError, Surroundings, world};
 ghost use Rattle.cilk_commands.specs.Streams.{AppendsFront, AppendsPart};
 ghost use Rattle.cilk_commands.specs.declared.reply.TheConstants.{NO_MEMORY};
 ghost use Rattle.cilk_messages.specs.Words.{texts};
-ghost use Rattle.cilk_report.specs.Explained.{Settles};
+ghost use Rattle.cilk_report.specs.Explained.{Settles, explanation_text};
 ghost use Rattle.cilk_report.specs.Settling.{Fails, IsShown, SettlesEach, Shows, reply_view, state};
+ghost use Rattle.cilk_report.specs.Silence.{Explains};
 ghost use Rattle.cilk_messages.specs.Batches.{batch_view, heading};
 
 use crate::Keeps;
@@ -19,6 +20,7 @@ use crate::totals::wrong_words;
 use cilk_commands::reply::{Answer, Failure, NO_MEMORY, WRONG};
 use cilk_commands::streams::send;
 use cilk_commands::{CountedRead, complain, settle, tell};
+use cilk_findings::fault::CaseFault;
 use cilk_messages::batch::{Batch, Form, batch_of, object, place_in, short};
 use cilk_messages::words::Order;
 use cilk_profile::Kept;
@@ -306,18 +308,31 @@ fn explanation(
     batch: &Batch<'_>,
     reply: &Result<Answer, Failure<'_>>,
     kept: &Kept,
-) -> Result<String, AllocError> {
+) -> Result<String, AllocError>
+    ensures { IfOk result (λ text. Explains (reply_view reply.now) (string_bytes text)) }
+{
     let order = Order::Settle {
         program,
         input: batch.input,
     };
-    let found = match reply {
-        Ok(answer) => answer_text(alloc, &order, answer, kept),
-        Err(failure) => failure_text(alloc, &order, failure, kept),
-    };
-    match found {
+    match found(alloc, &order, reply, kept) {
         Ok(text) if batch.form == Form::Json => Ok(text),
         Ok(text) => colored(alloc, text, kept),
         Err(fault) => String::from_str(alloc, missing(fault)),
+    }
+}
+
+// The explanation of a reply, without colours.
+fn found(
+    alloc: Global,
+    order: &Order<'_>,
+    reply: &Result<Answer, Failure<'_>>,
+    kept: &Kept,
+) -> Result<String, CaseFault>
+    ensures { Explains (reply_view reply.now) (explanation_text result) }
+{
+    match reply {
+        Ok(answer) => answer_text(alloc, order, answer, kept),
+        Err(failure) => failure_text(alloc, order, failure, kept),
     }
 }

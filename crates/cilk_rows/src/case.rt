@@ -1,11 +1,12 @@
-//! A case: the texts in its folder.
+//! A case: a call of the tool, and its expected reply.
 
-use crate::folder::File;
+use crate::folder::{File, bytes_of};
+use crate::texts::texts;
 use cilk_commands::disk::Disk;
 use cilk_commands::files::{FileFault, Files};
 use std::alloc::{AllocError, Global};
 
-/// A call and its expected reply. A text without a file is empty.
+/// A call and its expected reply. A text that isn't in the case's file is empty.
 #[derive(Drop)]
 pub struct Case {
     /// The command line, one word to a line.
@@ -24,91 +25,71 @@ pub struct Case {
     pub err: Vec<u8>,
 }
 
-/// Returns the bytes of a file, if it can be read.
-fn read(rt: &HostRuntime, path: &str) -> Result<Option<Vec<u8>>, AllocError> {
-    match Disk::new(rt.alloc(), rt).read(rt.alloc(), path) {
-        Ok(bytes) => Ok(Some(bytes)),
-        Err(FileFault::Device) => Ok(None),
-        Err(FileFault::Memory) => Err(AllocError),
-    }
-}
-
-/// Returns the bytes of a file; none where it can't be read.
-fn bytes(rt: &HostRuntime, path: &str) -> Result<Vec<u8>, AllocError> {
-    match read(rt, path)? {
-        Some(bytes) => Ok(bytes),
-        None => Ok(Vec::new(rt.alloc())),
-    }
-}
-
 /// Returns the text of a file. It is empty where the file can't be read or isn't text.
 pub fn text_of(rt: &HostRuntime, path: &str) -> Result<String, AllocError> {
-    let bytes = bytes(rt, path)?;
+    let bytes = match Disk::new(rt.alloc(), rt).read(rt.alloc(), path) {
+        Ok(bytes) => bytes,
+        Err(FileFault::Device) => Vec::new(rt.alloc()),
+        Err(FileFault::Memory) => return Err(AllocError),
+    };
     match std::str::from_utf8(bytes.as_slice()) {
         Ok(text) => String::from_str(rt.alloc(), text),
         Err(_) => Ok(String::new(rt.alloc())),
     }
 }
 
-/// Returns the path of a file of a case.
-fn path(alloc: Global, case: &str, name: &str) -> Result<String, AllocError> {
-    format!(in alloc; "{case}/{name}")
+/// Returns the text of a case with this name. It is empty where there is none, or its bytes are no text.
+fn text<'a>(texts: &'a [File], name: &str) -> &'a str {
+    std::str::from_utf8(bytes_of(texts, name)).unwrap_or("")
 }
 
-/// Adds the file of a case with this name, if there is one.
-fn put_file(
-    rt: &HostRuntime,
-    case: &str,
-    name: &str,
-    files: &mut Vec<File>,
-) -> Result<(), AllocError> {
-    let path = path(rt.alloc(), case, name)?;
-    if let Some(bytes) = read(rt, path.as_str())? {
-        let name = String::from_str(rt.alloc(), name)?;
-        files.push(File { name, bytes })?;
-    }
-    Ok(())
+/// Returns whether a text of this name is no file of the call.
+fn is_own(name: &str) -> bool {
+    matches!(
+        name,
+        "about" | "words" | "makes" | "fills" | "unread" | "reads" | "status" | "out" | "err"
+    )
 }
 
-/// Adds each file of a case that one of these words names.
-fn put_files(
-    rt: &HostRuntime,
-    case: &str,
-    words: &str,
-    files: &mut Vec<File>,
-) -> Result<(), AllocError> {
-    for word in words.lines() {
-        put_file(rt, case, word, files)?;
-    }
-    Ok(())
-}
-
-/// Loads the case of a folder.
-pub fn loaded(rt: &HostRuntime, name: &str) -> Result<Case, AllocError> {
-    let alloc = rt.alloc();
-    let words = text_of(rt, path(alloc, name, "words")?.as_str())?;
-    let makes = text_of(rt, path(alloc, name, "makes")?.as_str())?;
-    let fills = text_of(rt, path(alloc, name, "fills")?.as_str())?;
-    let status = text_of(rt, path(alloc, name, "status")?.as_str())?;
-    let reads = text_of(rt, path(alloc, name, "reads")?.as_str())?;
-    let unread = text_of(rt, path(alloc, name, "unread")?.as_str())?;
-    let out = bytes(rt, path(alloc, name, "out")?.as_str())?;
-    let err = bytes(rt, path(alloc, name, "err")?.as_str())?;
+/// Returns the case with these texts.
+fn case_of(alloc: Global, texts: Vec<File>) -> Result<Case, AllocError> {
+    let all = texts.as_slice();
+    let words = String::from_str(alloc, text(all, "words"))?;
+    let makes = String::from_str(alloc, text(all, "makes"))?;
+    let fills = String::from_str(alloc, text(all, "fills"))?;
+    let reads = text(all, "reads").trim().parse::<u64>().ok();
+    let left = text(all, "unread")
+        .trim()
+        .parse::<u64>()
+        .unwrap_or(u64::MAX);
+    let status = text(all, "status").trim().parse::<u8>().unwrap_or(0);
+    let out = bytes_of(all, "out").to_vec(alloc)?;
+    let err = bytes_of(all, "err").to_vec(alloc)?;
     let mut files = Vec::new(alloc);
-    put_file(rt, name, "stdin", &mut files)?;
-    put_files(rt, name, words.as_str(), &mut files)?;
-    put_files(rt, name, makes.as_str(), &mut files)?;
+    for file in texts {
+        if !is_own(file.name.as_str()) {
+            files.push(file)?;
+        }
+    }
     Ok(Case {
         words,
         makes,
         fills,
         files,
-        reads: reads.as_str().trim().parse::<u64>().ok(),
-        left: unread.as_str().trim().parse::<u64>().unwrap_or(u64::MAX),
-        status: status.as_str().trim().parse::<u8>().unwrap_or(0),
+        reads,
+        left,
+        status,
         out,
         err,
     })
+}
+
+/// Loads the case of a name.
+pub fn loaded(rt: &HostRuntime, name: &str) -> Result<Case, AllocError> {
+    let alloc = rt.alloc();
+    let path = format!(in alloc; "{name}.case")?;
+    let whole = text_of(rt, path.as_str())?;
+    case_of(alloc, texts(alloc, whole.as_str())?)
 }
 
 impl Case {

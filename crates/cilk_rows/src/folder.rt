@@ -32,13 +32,14 @@ fn found<'a>(files: &'a [File], name: &str) -> Option<&'a [u8]> {
 }
 
 /// The files of a case, as the tool reads them. An unknown path counts as a failure, and so does each
-/// read once none is left.
+/// read once none is left. The byte from which the last of these was to read is noted.
 #[derive(Drop)]
 pub struct Folder<'a> {
     files: &'a [File],
     left: u64,
     pub reads: u64,
     failures: u64,
+    failed_at: u64,
 }
 
 impl<'a> Folder<'a> {
@@ -51,15 +52,17 @@ impl<'a> Folder<'a> {
             left,
             reads: 0,
             failures: 0,
+            failed_at: 0,
         }
     }
 
-    /// Returns the text of a path.
-    fn text(&mut self, path: &str) -> Result<&'a [u8], FileFault>
+    /// Returns the text of a path, to be read from a byte on.
+    fn text(&mut self, path: &str, at: u64) -> Result<&'a [u8], FileFault>
         requires { self.old.failures < 18446744073709551615 }
         ensures device { IfErr result (λ fault. fault ≡ FileFault.Device) }
         ensures counted { IfErr result (λ _. self.old.failures < self.new.failures) }
-        ensures uncounted { OnOk result (self.new.failures ≡ self.old.failures) }
+        ensures begun { IfErr result (λ _. self.new.failed_at ≡ at) }
+        ensures uncounted { OnOk result ((self.new.failures ≡ self.old.failures) × (self.new.failed_at ≡ self.old.failed_at)) }
     {
         self.reads = self.reads.saturating_add(1);
         match found(self.files, path) {
@@ -69,6 +72,7 @@ impl<'a> Folder<'a> {
             }
             _ => {
                 self.failures += 1;
+                self.failed_at = at;
                 Err(FileFault::Device)
             }
         }
@@ -79,18 +83,19 @@ impl Files for Folder<'_> {
     ghost use Rattle.std.specs.Prelude.{None};
     ghost use Rattle.cilk_commands.specs.Files.{failures};
 
-    ghost failed = { λ f. failures f.failures (λ _. 0) };
+    ghost failed = { λ f. failures f.failures f.failed_at (λ _. 0) };
 
     ghost holds = { λ _ _. None };
 
     fn read(&mut self, alloc: Global, path: &str) -> Result<Vec<u8>, FileFault> {
-        Ok(self.text(path)?.to_vec(alloc)?)
+        Ok(self.text(path, 0)?.to_vec(alloc)?)
     }
 
     fn part(&mut self, path: &str, at: u64, into: &mut [u8]) -> Result<usize, FileFault> {
-        let whole = self.text(path)?;
+        let whole = self.text(path, at)?;
         if at > MAX_FILE {
             self.failures += 1;
+            self.failed_at = at;
             return Err(FileFault::Device);
         }
         let rest = &whole[whole.len().min(at as usize)..];

@@ -1,4 +1,4 @@
-//! Tests of whole calls of the tool, one folder of texts for each case.
+//! Tests of whole calls of the tool, one file of texts for each case.
 //!
 //! A case has a command line, its files and its standard input, and the expected bytes on both
 //! output streams with the exit status. This program serves each case with
@@ -6,7 +6,7 @@
 //! its last line. The exit status is 0 if all cases pass, 1 if one fails, and 2 if memory runs out
 //! or a line can't be printed.
 //!
-//! | File of a case | Content |
+//! | Text of a case | Content |
 //! |---|---|
 //! | `words` | the command line, one word to a line |
 //! | `stdin`, and files that `words` names | what the call reads |
@@ -16,19 +16,25 @@
 //! | `out`, `err`, `status` | the expected reply; `<..>` matches any bytes |
 //! | `reads` | the expected number of reads of files |
 //!
-//! A missing file is empty text, so a case holds only what matters for it. `tools/cases.py`
-//! describes the folders and runs the built program with the same cases.
+//! A missing text is empty, so a case holds only what matters for it. `tools/cases.py` writes the
+//! files, and runs the built program with the same cases. `data/words-explain-103-111.case`:
 //!
 //! ```text
-//! data/words-explain-103-111/words     explain, 103, 111
-//! data/words-explain-103-111/err       the expected standard error
-//! data/words-explain-103-111/status    2
+//! -- words --
+//! explain
+//! 103
+//! 111
+//! -- status --
+//! 2
+//! -- err --
+//! the expected standard error
 //! ```
 #![tactic(auto)]
 
 mod case;
 mod compare;
 mod folder;
+mod texts;
 
 use crate::case::{Case, loaded, text_of};
 use crate::compare::{agrees, start_of};

@@ -9,7 +9,7 @@
 -- - `round_begins`, `rounds_ended`, `rounds_enough`: rounds;
 -- - `led`, `led_to_fault`: all of a script.
 use Rattle.std.proofs.Common.{◌≡◌, ℕ, zero, suc, ◌+◌, arith, ℤ, List, [], ◌∷◌, ◌++◌, Some, sym, ap, subst, ◌∙◌, append_assoc}
-use Rattle.std.specs.Prelude.{IfErr, IfOk, IsErrAnd, OnOk, Result, Ok, Err}
+use Rattle.std.specs.Prelude.{IfErr, IsErrAnd, OnOk, Result, Ok, Err}
 use Rattle.std.proofs.lemmas.List.{append-nil}
 use Rattle.cilk_program.specs.Syntax.{Source}
 use Rattle.cilk_determinacy.specs.Machine.{State, Stop}
@@ -17,7 +17,7 @@ use Rattle.cilk_determinacy.specs.Reducers.{View}
 use Rattle.cilk_determinacy.specs.FrameEnvs.{FrameEnv}
 use Rattle.cilk_scheduler.specs.WorkerTables.{Chooses, Comes, WorkerTable, IsOver, StopsAt}
 use Rattle.cilk_scheduler.specs.declared.choice.Choice.{Choice}
-use Rattle.cilk_schedule.specs.Playing.{Chosen, Choose, Done, End, Ended, Ends, Enough, Finished, Follows, IsFault, Passed, Plays, Round, Rounds, Stopped, Stops, Task, Turn, Turns, turn_of, turns}
+use Rattle.cilk_schedule.specs.Playing.{Chosen, Choose, Done, End, Ended, Enough, Finished, Follows, IsFault, Passed, Plays, Round, Rounds, Stopped, Stops, Task, Turn, Turns, turn_of, turns}
 use Rattle.cilk_schedule.specs.declared.fault.PlayFault.{PlayFault}
 use Rattle.cilk_schedule.specs.declared.fault.PlayFault.TheVariants as faults
 

@@ -5,19 +5,19 @@
 -- - `leads_turned`, `comes_turned`, `leads_turn`, `comes_turn`: turns; `over_rounds`,
 --   `begun_rounds`, `done_rounds`: rounds;
 -- - `passes`: a line's choices would exceed the limit.
-use Rattle.std.proofs.Common.{◌≡◌, ◌+◌, ◌-◌, ◌≤◌, ◌<◌, ℕ, zero, suc, Bool, true, false, true≢false, ℤ, List, [], ◌∷◌, ◌++◌, length, map, slice_get, Option, Some, None, refl, sym, ap, ◌∙◌, subst, arith, Bor}
+use Rattle.std.proofs.Common.{◌≡◌, ◌+◌, ℕ, zero, suc, true, false, true≢false, ℤ, List, [], ◌∷◌, ◌++◌, slice_get, Option, Some, None, refl, sym, ap, ◌∙◌, subst, Bor}
 use Rattle.std.specs.Prelude.{if◌then◌else◌}
 use Rattle.std.specs.Option.{is_some, option_map}
 use Rattle.std.proofs.lemmas.Option.{slice_get-map}
 use Rattle.cilk_types.specs.declared.outcome.Outcome.{Outcome}
 use Rattle.cilk_program.specs.Syntax.{Source}
 use Rattle.cilk_lower.specs.Code.{CodeView}
-use Rattle.cilk_determinacy.specs.Machine.{State, Stop}
+use Rattle.cilk_determinacy.specs.Machine.{State}
 use Rattle.cilk_determinacy.specs.Runs.{Name}
 use Rattle.cilk_determinacy.specs.Reducers.{View}
 use Rattle.cilk_determinacy.specs.FrameEnvs.{FrameEnv}
 use Rattle.cilk_scheduler.specs.Schedulers.{hand_of}
-use Rattle.cilk_scheduler.specs.WorkerTables.{Chooses, WorkerTable, IsOver, StopsAt}
+use Rattle.cilk_scheduler.specs.WorkerTables.{IsOver}
 use Rattle.cilk_scheduler.specs.Workers.{frame_in, held_by}
 use Rattle.cilk_scheduler.specs.declared.scheduler.Scheduler.{Scheduler}
 use Rattle.cilk_scheduler.specs.declared.choice.Choice.{Choice}
@@ -28,7 +28,6 @@ use Rattle.cilk_scheduler.specs.declared.choice.Strand.{Strand}
 use Rattle.cilk_scheduler.specs.declared.choice.Told.{Told}
 use Rattle.cilk_scheduler.specs.declared.frame_state.Worker.{Worker}
 use Rattle.cilk_schedule.specs.Faults.{FaultsAreStops, IsStoppedBy}
-use Rattle.cilk_schedule.specs.Played.{IsAt}
 use Rattle.cilk_schedule.specs.Reached.{HasReached, LeadsOn, comes_of}
 use Rattle.cilk_lower.specs.Behaves.{IsCodeOf}
 use Rattle.cilk_schedule.specs.declared.machine.Machine.{Machine}
@@ -130,7 +129,7 @@ module _ (workers : ℕ) (m m' : Machine) (choice : Choice) (stop : stopping.Sto
 -- ---- turns
 
 -- a worker that holds a frame in the worker table holds one in the scheduler
-busy_is : (code : CodeView) (p : Source) (inputs : List ℤ) (b : Scheduler) (h : HasReached code p inputs b) (worker : ℕ) → is_busy h.worker_table worker ≡ is_some (held_by (let ws = b.workers in ws.items) worker)
+pub busy_is : (code : CodeView) (p : Source) (inputs : List ℤ) (b : Scheduler) (h : HasReached code p inputs b) (worker : ℕ) → is_busy h.worker_table worker ≡ is_some (held_by (let ws = b.workers in ws.items) worker)
 busy_is code p inputs b h zero = refl
 busy_is code p inputs b h (suc v) =
     let ws = b.workers in
@@ -198,7 +197,7 @@ is_over code p inputs b h e = by b.outcome refl e
     by None at z = let f : ⊥ = true≢false (sym z) in absurd f
     by (Some o) at z = let x = h.shows in let t = x.tells in let r = t.over o at in r.0
 
-is_not_over : (code : CodeView) (p : Source) (inputs : List ℤ) (b : Scheduler) (h : HasReached code p inputs b) → is_some b.outcome ≡ false → ¬ (IsOver h.state)
+pub is_not_over : (code : CodeView) (p : Source) (inputs : List ℤ) (b : Scheduler) (h : HasReached code p inputs b) → is_some b.outcome ≡ false → ¬ (IsOver h.state)
 is_not_over code p inputs b h e = by b.outcome refl e
   where
     by : (o : Option Outcome) → b.outcome ≡ o → is_some o ≡ false → ¬ (IsOver h.state)

@@ -24,6 +24,8 @@ pub mod Paths
 pub mod Played
 pub mod Quieting
 pub mod Reaching
+pub mod Repeated
+pub mod Rounds
 pub mod Shown
 pub mod Shows
 pub mod Skipping

@@ -7,7 +7,6 @@
 --   report is one;
 -- - `settled_end`, `settled_fault`: if one serial run settles every parallel one, it is that run's.
 use Rattle.std.proofs.Common.{◌≡◌, ◌-◌, ℕ, ℤ, List, [], ◌∷◌, ◌++◌, Option, Some, None, refl, sym, ap, ◌∙◌, subst}
-use Rattle.std.specs.Prelude.{IfSome}
 use Rattle.cilk_types.specs.declared.fault.Fault.{Fault}
 use Rattle.cilk_types.specs.declared.outcome.Outcome.{Outcome}
 use Rattle.cilk_program.specs.Syntax.{Source}
@@ -18,7 +17,6 @@ use Rattle.cilk_determinacy.specs.Steps.{Reaches}
 use Rattle.cilk_determinacy.specs.FrameEnvs.{FrameEnv}
 use Rattle.cilk_scheduler.specs.WorkerTables.{WorkerTable, IsOver}
 use Rattle.cilk_scheduler.specs.Openings.{first_worker_table}
-use Rattle.cilk_determinacy.specs.Settled.{IsSettled}
 use Rattle.cilk_schedule.specs.Deciding.{Agree}
 use Rattle.cilk_schedule.specs.Deciding as deciding
 use Rattle.cilk_schedule.specs.Played.{Leaves}

@@ -1,14 +1,11 @@
 -- A whole script, from a new machine on.
 --
 -- - `left_by`, `failed_by`: the outcome of a script, and its error.
-use Rattle.std.proofs.Common.{◌≡◌, ◌-◌, ℕ, ℤ, List, [], ◌∷◌, Option, Some, None, refl, sym, ◌∙◌, subst}
+use Rattle.std.proofs.Common.{◌≡◌, ◌-◌, ℕ, ℤ, List, [], Option, sym, subst}
 use Rattle.cilk_types.specs.declared.outcome.Outcome.{Outcome}
 use Rattle.cilk_program.specs.Syntax.{Source}
 use Rattle.cilk_lower.specs.Code.{CodeView}
-use Rattle.cilk_determinacy.specs.Steps.{IsFirst}
-use Rattle.cilk_scheduler.specs.Openings.{first_worker_table}
-use Rattle.cilk_scheduler.specs.declared.scheduler.Scheduler.{Scheduler}
-use Rattle.cilk_schedule.specs.Reached.{HasOpened, HasReached}
+use Rattle.cilk_schedule.specs.Reached.{HasOpened}
 use Rattle.cilk_lower.specs.Behaves.{IsCodeOf}
 use Rattle.cilk_schedule.specs.declared.machine.Machine.{Machine}
 use Rattle.cilk_schedule.proofs.Played.{leaves_by, opened_at}

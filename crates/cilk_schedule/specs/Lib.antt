@@ -9,7 +9,9 @@ pub mod Passing
 pub mod Played
 pub mod Playing
 pub mod Reached
+pub mod Repeating
 pub mod Showing
 pub mod Shown
 pub mod Sound
 pub mod Starting
+pub mod Stretches

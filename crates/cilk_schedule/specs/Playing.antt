@@ -1,5 +1,5 @@
 -- Playing a script: its tasks, its end, and the result that is reported.
-use Rattle.std.specs.Prelude.{◌≡◌, ◌-◌, ◌<◌, ℕ, zero, suc, ℤ, Bool, true, false, if◌then◌else◌, List, [], ◌∷◌, ◌++◌, length, map, slice_get, None, Some, Option, IfSome}
+use Rattle.std.specs.Prelude.{◌≡◌, ◌-◌, ◌<◌, ℕ, zero, suc, ℤ, Bool, false, if◌then◌else◌, List, [], ◌∷◌, ◌++◌, length, map, slice_get, None, Some, Option, IfSome}
 use Rattle.std.specs.Option.{is_some}
 use Rattle.cilk_types.specs.declared.fault.Fault.{Fault}
 use Rattle.cilk_types.specs.declared.outcome.Outcome.{Outcome}
@@ -9,7 +9,7 @@ use Rattle.cilk_lower.specs.Code.{CodeView}
 use Rattle.cilk_determinacy.specs.Machine.{State, Stop}
 use Rattle.cilk_determinacy.specs.Runs.{Name}
 use Rattle.cilk_determinacy.specs.Reducers.{View}
-use Rattle.cilk_determinacy.specs.Steps.{IsFirst, outcome_in}
+use Rattle.cilk_determinacy.specs.Steps.{IsFirst}
 use Rattle.cilk_determinacy.specs.FrameEnvs.{FrameEnv}
 use Rattle.cilk_scheduler.specs.WorkerTables.{Chooses, Comes, WorkerTable, IsOver, StopsAt}
 use Rattle.cilk_scheduler.specs.Openings.{first_worker_table}

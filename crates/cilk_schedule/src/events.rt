@@ -17,6 +17,7 @@ use cilk_types::event::Event;
 use std::alloc::{AllocError, Global};
 
 /// Makes the frame's read of the cell at `place`.
+#[inline(always)]
 pub fn read(
     frames: &mut Vec<Activation<FrameState>>,
     cells: &[i64],
@@ -34,6 +35,7 @@ pub fn read(
 }
 
 /// Makes the frame's write of `word` to the cell at `place`.
+#[inline(always)]
 pub fn write(
     frames: &mut Vec<Activation<FrameState>>,
     cells: &mut Vec<i64>,
@@ -52,6 +54,7 @@ pub fn write(
 }
 
 /// Makes the frame's write of its result, to the cell that receives it.
+#[inline(always)]
 pub fn write_result(
     frames: &mut Vec<Activation<FrameState>>,
     cells: &mut Vec<i64>,

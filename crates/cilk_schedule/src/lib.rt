@@ -20,6 +20,7 @@
 //! | [`play_steps`] | Makes the choices of a script (`cilk_parser`) and returns the outcome. |
 //! | [`play_steps_on`] | The same on code that is there already. |
 //! | [`machine::Machine::choose`] | Makes one choice. |
+//! | [`machine::Machine::choose_many`] | Makes choices of one worker, one after another. |
 //! | [`showing::Shown`] | The events of each frame, joined children and the outcome, by paths. |
 //! | [`laws`], [`play_laws`] | A list of choices, and a script, has at most one end. |
 //!
@@ -43,9 +44,11 @@ pub mod naming;
 mod opening;
 pub mod play_laws;
 mod player;
+mod repeating;
 mod running;
 pub mod showing;
 mod starting;
+mod stretch;
 mod thieves;
 
 pub use cilk_scheduler::choice::{Act, Choice, Stop, Strand, Told};

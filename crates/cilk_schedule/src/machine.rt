@@ -1,7 +1,7 @@
 //! The stepwise machine: a program's code, its input, and workers that make one choice after
 //! another.
 
-ghost use Rattle.std.specs.Prelude.{◌≡◌, ◌≢◌, ◌⊎◌, ◌-◌, ◌<◌, ◌++◌, ◌∷◌, [], ℕ, suc, length, Err, None, Ok, Some, IfOk, IfErr, OnOk};
+ghost use Rattle.std.specs.Prelude.{◌≡◌, ◌≢◌, ◌⊎◌, ◌-◌, ◌<◌, ◌≤◌, ◌++◌, ◌∷◌, [], ℕ, suc, length, Err, None, Ok, Some, IfOk, IfErr, OnOk};
 ghost use Rattle.std.specs.Option.{is_some};
 ghost use Rattle.cilk_types.specs.declared.fault.Fault.{Fault};
 ghost use Rattle.cilk_determinacy.specs.Runs.{Name};
@@ -21,11 +21,13 @@ ghost use Rattle.cilk_lower.specs.Behaves.{IsCodeOf};
 ghost use Rattle.cilk_schedule.specs.Sound.{Runs};
 ghost use Rattle.cilk_program.specs.Syntax.{Source};
 ghost use Rattle.cilk_schedule.specs.Ends.{EndsAreSteps};
+ghost use Rattle.cilk_schedule.specs.Repeating.{RunsInto, RunsOn};
 ghost use Rattle.cilk_schedule.specs.Starting.{StartsAreSteps};
 ghost use Rattle.cilk_schedule.specs.Passing.{SkipsAreSteps, StealsAreSteps, SyncsAreSteps, WaitsAreSteps};
 
 use crate::naming::path;
 use crate::opening::open;
+use crate::repeating::run_many;
 use crate::running::choose;
 use crate::showing::{Shown, show};
 use cilk_lower::code::Code;
@@ -39,9 +41,9 @@ use std::alloc::{AllocError, Global};
 /// A stepwise machine. It borrows the code and the input, and owns the rest.
 #[derive(Drop)]
 pub struct Machine<'a> {
-    code: &'a Code,
-    input: &'a Input,
-    scheduler: Scheduler,
+    pub(crate) code: &'a Code,
+    pub(crate) input: &'a Input,
+    pub(crate) scheduler: Scheduler,
 }
 
 impl<'a> Machine<'a> {
@@ -100,7 +102,33 @@ impl<'a> Machine<'a> {
         ensures stops { IfErr result (λ stop. self.old.scheduler.stopped ≡ None → (p : Source) → IsCodeOf p self.old.code.now → (h : HasReached self.old.code.now p self.old.input.now self.old.scheduler) → StopsFrom self.old.code.now p self.old.input.now self.old.scheduler h self.new.scheduler choice stop) }
         ensures kept { IfErr result (λ stop. self.old.scheduler.stopped ≡ None → KeepsTold self.old.scheduler self.new.scheduler) }
     {
-        choose(alloc, self.code, self.input, &mut self.scheduler, choice)
+        choose::<0>(alloc, self.code, self.input, &mut self.scheduler, choice)
+    }
+
+    /// Makes up to `most` choices of one worker, as [`Machine::choose`] repeated, as long as it can
+    /// continue a frame. Returns how many.
+    pub fn choose_many(&mut self, alloc: Global, worker: u32, most: u32) -> Result<u32, Stop>
+        requires { IsUnstopped self.old }
+        ensures going { IfOk result (λ n. IsUnstopped self.new) }
+        ensures same { (self.new.code ≡ self.old.code) × (self.new.input ≡ self.old.input) }
+        ensures few { IfOk result (λ n. n ≤ most) }
+        ensures led { IfOk result (λ n. RunsOn self.old.code.now self.old.input.now worker n self.old.scheduler self.new.scheduler) }
+        ensures halted { IfErr result (λ stop. RunsInto self.old.code.now self.old.input.now worker most self.old.scheduler self.new.scheduler stop) }
+    {
+        match run_many(
+            alloc,
+            self.code,
+            self.input,
+            &mut self.scheduler,
+            worker,
+            most,
+        ) {
+            Ok(made) => Ok(made),
+            Err(stop) => {
+                self.scheduler.stopped = Some(stop);
+                Err(stop)
+            }
+        }
     }
 
     /// Returns whether a worker holds a frame. Workers count from 1.

@@ -21,8 +21,9 @@ use cilk_scheduler::scheduler::Scheduler;
 use cilk_types::event::Event;
 use std::alloc::{AllocError, Global};
 
-/// Makes the event that the worker's frame requests. It isn't in the journal yet.
-pub fn make(
+/// Makes the event that the worker's frame requests. It isn't in the journal yet. Each caller takes
+/// another `COPY`, so that the compiler makes this a part of each.
+pub fn make<const COPY: u8>(
     alloc: Global,
     code: &Code,
     scheduler: &mut Scheduler,

@@ -10,6 +10,7 @@ ghost use Rattle.cilk_schedule.specs.Played.{IsUnstopped};
 
 use crate::fault::PlayFault;
 use crate::machine::Machine;
+use crate::running;
 use cilk_lower::code::Code;
 use cilk_lower::lower::lower;
 use cilk_parser::script::Step;
@@ -92,8 +93,12 @@ fn make(alloc: Global, machine: &mut Machine<'_>, workers: u32, next: Next) -> R
     ensures fault { IfErr result (λ f. ComesToFault workers (task_of next ∷ []) machine.old f) }
 {
     match next {
-        Next::Run(worker) => choose(alloc, machine, Choice::Run(worker)),
-        Next::Steal(worker, place) => choose(alloc, machine, Choice::Steal(worker, place as usize)),
+        Next::Run(worker) => choose::<0>(alloc, machine, Choice::Run(worker)),
+        Next::Steal(worker, place) => choose::<0>(
+            alloc,
+            machine,
+            Choice::Steal(worker, place as usize),
+        ),
         Next::Rounds => rounds(alloc, machine, workers),
         Next::Past(line) => Err(PlayFault::Line(line)),
     }
@@ -106,11 +111,40 @@ fn rounds(alloc: Global, machine: &mut Machine<'_>, workers: u32) -> Result<(), 
     ensures made { OnOk result (Leads workers (Rounds MAX_ROUNDS ∷ []) machine.old [] machine.new) }
     ensures fault { IfErr result (λ f. ComesToFault workers (Rounds MAX_ROUNDS ∷ []) machine.old f) }
 {
+    if workers == 1 {
+        return rounds_of_one(alloc, machine);
+    }
     'rounds: for _made in 0..MAX_ROUNDS {
         if machine.ended() {
             return Ok(());
         }
         round(alloc, machine, workers)?;
+    }
+    Ok(())
+}
+
+// `rounds` of one worker: stretches of its choices.
+fn rounds_of_one(alloc: Global, machine: &mut Machine<'_>) -> Result<(), PlayFault>
+    requires { IsUnstopped machine.old }
+    ensures going { OnOk result (IsUnstopped machine.new) }
+    ensures made { OnOk result (Leads 1 (Rounds MAX_ROUNDS ∷ []) machine.old [] machine.new) }
+    ensures fault { IfErr result (λ f. ComesToFault 1 (Rounds MAX_ROUNDS ∷ []) machine.old f) }
+{
+    let mut left = MAX_ROUNDS;
+    'stretches: while left > 0 {
+        let made = match machine.choose_many(alloc, 1, left) {
+            Ok(made) => made,
+            Err(stop) => return Err(stopped(alloc, machine, stop)),
+        };
+        left -= made;
+        if left == 0 {
+            return Ok(());
+        }
+        if machine.ended() {
+            return Ok(());
+        }
+        round(alloc, machine, 1)?;
+        left -= 1;
     }
     Ok(())
 }
@@ -140,18 +174,24 @@ fn turn(alloc: Global, machine: &mut Machine<'_>, worker: u32) -> Result<(), Pla
     } else {
         Choice::Steal(worker, 0)
     };
-    choose(alloc, machine, choice)
+    choose::<1>(alloc, machine, choice)
 }
 
-// Makes a choice. A stop is reported with the name of its strand.
+// Makes a choice. A stop is reported with the name of its strand. A round takes its own `COPY`, so that
+// the compiler makes all of a choice a part of it.
 #[inline(always)]
-fn choose(alloc: Global, machine: &mut Machine<'_>, choice: Choice) -> Result<(), PlayFault>
+fn choose<const COPY: u8>(
+    alloc: Global,
+    machine: &mut Machine<'_>,
+    choice: Choice,
+) -> Result<(), PlayFault>
     requires { IsUnstopped machine.old }
     ensures going { OnOk result (IsUnstopped machine.new) }
     ensures made { OnOk result ((workers : ℕ) → Leads workers (Choose choice ∷ []) machine.old [] machine.new) }
     ensures fault { IfErr result (λ f. (workers : ℕ) → ComesToFault workers (Choose choice ∷ []) machine.old f) }
 {
-    match machine.choose(alloc, choice) {
+    let scheduler = &mut machine.scheduler;
+    match running::choose::<COPY>(alloc, machine.code, machine.input, scheduler, choice) {
         Ok(_told) => Ok(()),
         Err(stop) => Err(stopped(alloc, machine, stop)),
     }

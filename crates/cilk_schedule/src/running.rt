@@ -40,9 +40,10 @@ use cilk_types::input::Input;
 use std::alloc::Global;
 
 /// Makes a choice. Once the run has stopped, each further choice returns the same stop. Inlined, so
-/// that what a caller doesn't ask for isn't put together.
+/// that what a caller doesn't ask for isn't put together. Each caller takes another `COPY`, so that the
+/// compiler makes all of a choice a part of each.
 #[inline(always)]
-pub fn choose(
+pub fn choose<const COPY: u8>(
     alloc: Global,
     code: &Code,
     input: &Input,
@@ -76,7 +77,7 @@ pub fn choose(
         return Ok(Told::Skipped);
     }
     let told = match choice {
-        Choice::Run(worker) => run(alloc, code, input, scheduler, worker),
+        Choice::Run(worker) => run::<COPY>(alloc, code, input, scheduler, worker),
         Choice::Steal(worker, place) => steal(alloc, scheduler, worker, place),
     };
     if let Err(stop) = told {
@@ -86,7 +87,7 @@ pub fn choose(
 }
 
 // The worker's frame makes its next event, or waits at its sync.
-fn run(
+fn run<const COPY: u8>(
     alloc: Global,
     code: &Code,
     input: &Input,
@@ -113,7 +114,7 @@ fn run(
         return Ok(Told::Skipped);
     };
     let worker = worker as usize - 1;
-    come(code, input, scheduler, frame);
+    come::<COPY>(code, input, scheduler, frame);
     if stays_behind(scheduler, frame as usize) {
         wait_at(alloc, scheduler, worker, frame as usize)?;
         return Ok(Told::Waits);
@@ -121,18 +122,20 @@ fn run(
     if let Some(fault) = refused(code, scheduler, frame as usize) {
         return Err(stop_at(scheduler.frames.as_slice(), frame, fault));
     }
-    act(alloc, code, scheduler, worker, frame)
+    act::<COPY>(alloc, code, scheduler, worker, frame)
 }
 
-// Steps the frame to its next request.
-fn come(code: &Code, input: &Input, scheduler: &mut Scheduler, frame: u32)
+// Steps the frame to its next request. Each caller takes another `COPY`, so that the compiler makes this a
+// part of each.
+#[inline(always)]
+pub fn come<const COPY: u8>(code: &Code, input: &Input, scheduler: &mut Scheduler, frame: u32)
     requires runs { Runs code.now input.now scheduler.old }
     requires ready { (worker : ℕ) × IsReadyAt scheduler.old worker frame }
     ensures asked { IsAsked code.now input.now scheduler.new frame }
     ensures same { SameShown scheduler.old scheduler.new }
     ensures went { WentTo code.now input.now scheduler.old scheduler.new frame }
 {
-    go_on(
+    go_on::<COPY>(
         code,
         input,
         &mut scheduler.frames,
@@ -141,8 +144,10 @@ fn come(code: &Code, input: &Input, scheduler: &mut Scheduler, frame: u32)
     );
 }
 
-// Makes the requested event and adds it to the journal, in room that is reserved first.
-fn act(
+// Makes the requested event and adds it to the journal, in room that is reserved first. `COPY` is as for
+// `come`.
+#[inline(always)]
+pub fn act<const COPY: u8>(
     alloc: Global,
     code: &Code,
     scheduler: &mut Scheduler,
@@ -166,7 +171,7 @@ fn act(
     ensures kept { IfErr result (λ stop. KeepsTold scheduler.old scheduler.new) }
 {
     scheduler.journal.reserve(1)?;
-    let event = make(alloc, code, scheduler, worker, frame)?;
+    let event = make::<COPY>(alloc, code, scheduler, worker, frame)?;
     scheduler.ticks = note(
         &mut scheduler.frames,
         &mut scheduler.journal,
@@ -181,7 +186,8 @@ fn act(
 }
 
 // The place of the frame that a worker holds and can continue.
-fn ready(scheduler: &Scheduler, worker: u32) -> Option<u32>
+#[inline(always)]
+pub fn ready(scheduler: &Scheduler, worker: u32) -> Option<u32>
     ensures { MatchOption result ((k : ℕ) → IsReadyAt scheduler.now worker k → ⊥) (λ k. IsReadyAt scheduler.now worker k) }
 {
     let frame = held_by(scheduler.workers.as_slice(), worker)?;
@@ -193,7 +199,8 @@ fn ready(scheduler: &Scheduler, worker: u32) -> Option<u32>
 }
 
 // Whether the frame is at a sync at which it has to wait.
-fn stays_behind(scheduler: &Scheduler, frame: usize) -> bool
+#[inline(always)]
+pub fn stays_behind(scheduler: &Scheduler, frame: usize) -> bool
     requires { frame < length scheduler.now.frames.items }
     ensures waits { IsTrue result → (scheduler.now.asked ≡ asks.Sync)
         × ((a : Activation FrameState) → slice_get scheduler.now.frames.items frame ≡ Some a → must_wait a.cursor ≡ true) }
@@ -204,6 +211,7 @@ fn stays_behind(scheduler: &Scheduler, frame: usize) -> bool
 }
 
 // Whether a sync is requested.
+#[inline(always)]
 fn at_sync(asked: &AskSlot) -> bool
     ensures is { IsTrue result → asked.now ≡ asks.Sync }
     ensures told { asked.now ≡ asks.Sync → result ≡ true }
@@ -215,7 +223,8 @@ fn at_sync(asked: &AskSlot) -> bool
 }
 
 // The fault that comes instead of the requested event, if any.
-fn refused(code: &Code, scheduler: &Scheduler, frame: usize) -> Option<Fault>
+#[inline(always)]
+pub fn refused(code: &Code, scheduler: &Scheduler, frame: usize) -> Option<Fault>
     requires here { frame < length scheduler.now.frames.items }
     requires few { (a : Activation FrameState) → slice_get scheduler.now.frames.items frame ≡ Some a → (a.cursor.counted ≤ a.cursor.took) × (scheduler.now.ticks + a.cursor.took < 2 ^ 32) }
     requires events { length scheduler.now.journal.items < 2 ^ 63 }
@@ -235,7 +244,7 @@ fn refused(code: &Code, scheduler: &Scheduler, frame: usize) -> Option<Fault>
 }
 
 // The stop of a frame by a fault, in its latest strand.
-fn stop_at(frames: &[Activation<FrameState>], frame: u32, fault: Fault) -> Stop
+pub fn stop_at(frames: &[Activation<FrameState>], frame: u32, fault: Fault) -> Stop
     requires here { frame < length frames.now }
     requires few { length frames.now < 2 ^ 31 }
     ensures { (a : Activation FrameState) → slice_get frames.now frame ≡ Some a → result ≡ stops.At fault (record { frame = frame + 1; number = latest a.cursor.strands }) }

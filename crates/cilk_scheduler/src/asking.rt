@@ -22,8 +22,10 @@ use cilk_types::input::Input;
 use cilk_types::limits::{MAX_CELLS, MAX_EVENTS, MAX_FRAMES, MAX_TICKS};
 
 /// Runs a frame to its next event, which is left in `asked`. The frame's own limit of ticks is the
-/// whole run's; [`refusal`] checks the ticks of all frames together.
-pub fn go_on(
+/// whole run's; [`refusal`] checks the ticks of all frames together. Each caller takes another `COPY`, so
+/// that the compiler makes this a part of each.
+#[inline(always)]
+pub fn go_on<const COPY: u8>(
     code: &Code,
     input: &Input,
     frames: &mut Vec<Activation<FrameState>>,
@@ -34,23 +36,29 @@ pub fn go_on(
     requires ready { (a : Activation FrameState) → slice_get frames.old.items frame ≡ Some a → IsReady code.now input.now a.cursor }
     ensures { (a : Activation FrameState) → slice_get frames.old.items frame ≡ Some a → (x : FrameState) × WentOn code.now input.now a.cursor asked.new x × (frames.new.items ≡ changed (λ _. x) frames.old.items frame) }
 {
-    advance(code, input, &mut frames[frame].cursor, asked);
+    advance::<COPY>(code, input, &mut frames[frame].cursor, asked);
 }
 
 // `go_on` for the state of one frame.
-fn advance(code: &Code, input: &Input, frame_state: &mut FrameState, asked: &mut AskSlot)
+#[inline(always)]
+fn advance<const COPY: u8>(
+    code: &Code,
+    input: &Input,
+    frame_state: &mut FrameState,
+    asked: &mut AskSlot,
+)
     requires { IsReady code.now input.now frame_state.old }
     ensures { WentOn code.now input.now frame_state.old asked.new frame_state.new }
 {
     match frame_state.due {
         Due::Begin => asked.put(SmallAsk::Begin),
         Due::Sync => asked.put(SmallAsk::Sync),
-        Due::Answer(answer) => take_up(code, input, frame_state, answer, asked),
+        Due::Answer(answer) => take_up::<COPY>(code, input, frame_state, answer, asked),
     }
 }
 
 // `advance` where an answer is due.
-fn take_up(
+fn take_up<const COPY: u8>(
     code: &Code,
     input: &Input,
     frame_state: &mut FrameState,
@@ -83,6 +91,7 @@ pub fn cells_asked(layout: &Layout, asked: &AskSlot) -> Option<u32>
 /// uncounted ones; the other numbers are those before the request. The first that applies is
 /// returned: too many ticks (as [`Fault::TooManyEvents`]), the frame's own fault, too many events,
 /// too many frames, too many cells.
+#[inline(always)]
 pub fn refusal(
     ticks: u32,
     events: usize,
@@ -109,6 +118,7 @@ pub fn refusal(
 }
 
 // The frame's own fault.
+#[inline(always)]
 fn own_fault(asked: &AskSlot) -> Option<Fault>
     ensures some { IfSome result (λ f. asked.now ≡ asks.Fault f) }
     ensures none { result ≡ None → (other : Option Fault) → own_fault asked.now other ≡ other }

@@ -18,6 +18,7 @@ use cilk_program::syntax::Place;
 use cilk_types::event::{Cell, Event};
 
 /// Returns the number of the cell that a place means to a frame.
+#[inline(always)]
 pub fn cell_at(frames: &[Activation<FrameState>], frame: usize, place: Place) -> Cell
     requires here { frame < length frames.now }
     requires sees { (scope : Scope ℕ Instance) × SeesAt frames.now frame scope × (cell_in itself scope place < 2 ^ 32) }
@@ -27,6 +28,7 @@ pub fn cell_at(frames: &[Activation<FrameState>], frame: usize, place: Place) ->
 }
 
 /// Reads a cell for a frame, whose answer is the value.
+#[inline(always)]
 pub fn read(
     frames: &mut Vec<Activation<FrameState>>,
     cells: &[i64],
@@ -43,6 +45,7 @@ pub fn read(
 }
 
 /// Writes a cell for a frame.
+#[inline(always)]
 pub fn write(
     frames: &mut Vec<Activation<FrameState>>,
     cells: &mut Vec<i64>,

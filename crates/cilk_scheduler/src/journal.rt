@@ -13,6 +13,7 @@ use cilk_types::event::Event;
 
 /// Records an event of a frame and counts the frame's ticks. Returns the ticks of the run then. The
 /// journal must have room, so this can't fail.
+#[inline(always)]
 pub fn note(
     frames: &mut Vec<Activation<FrameState>>,
     journal: &mut Vec<JournalEntry>,

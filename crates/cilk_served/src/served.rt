@@ -1,7 +1,7 @@
 //! Calls of the tool over files, readers and writers in memory.
 
-ghost use Rattle.std.specs.Prelude.{◌≡◌, ◌<◌, ◌≤◌, List, ℕ, Some, IfErr, IfOk, OnOk, length, option_map};
-ghost use Rattle.cilk_served.specs.Folders.{held_in};
+ghost use Rattle.std.specs.Prelude.{◌≡◌, ◌+◌, ◌<◌, ◌≤◌, List, ℕ, Some, IfSome, length, option_map};
+ghost use Rattle.cilk_served.specs.Folders.{elsewhere_in, failures_in, held_in};
 ghost use Rattle.cilk_commands.specs.declared.disk.TheConstants.{MAX_FILE};
 
 use cilk_commands::disk::MAX_FILE;
@@ -11,8 +11,9 @@ use std::alloc::Global;
 use std::io;
 use std::io::{ErrorKind, Read, Write};
 
-/// A folder of a program, an input, a certificate and a script. It counts the reads. Once `parts`
-/// parts were read, each further one fails.
+/// A folder of a program, an input, a certificate and a script. It counts the reads, and those that
+/// fail: of the certificate, and of others; and it notes from which byte the last of these was to read.
+/// Once `parts` parts were read, each further one fails.
 #[derive(Drop)]
 pub struct Folder<'a> {
     program: &'a [u8],
@@ -22,6 +23,9 @@ pub struct Folder<'a> {
     pub parts: u64,
     pub reads: u64,
     pub failures: u64,
+    failed_at: u64,
+    certificate_failures: u64,
+    other_failures: u64,
 }
 
 impl<'a> Folder<'a> {
@@ -42,27 +46,42 @@ impl<'a> Folder<'a> {
             parts: u64::MAX,
             reads: 0,
             failures: 0,
+            failed_at: 0,
+            certificate_failures: 0,
+            other_failures: 0,
         }
     }
 
-    /// Returns the text of a path. An unknown path and a text of more than `MAX_FILE` bytes count as
-    /// failures.
-    fn text(&mut self, path: &str) -> Result<&'a [u8], FileFault>
+    // Counts a failed read of a path from a byte on.
+    fn fail(&mut self, path: &str, at: u64) -> FileFault
         requires { self.old.failures < 18446744073709551615 }
-        ensures held { IfOk result (λ t. held_in self.old path.now ≡ Some t.now) }
-        ensures small { IfOk result (λ t. length t.now ≤ MAX_FILE) }
-        ensures device { IfErr result (λ fault. fault ≡ FileFault.Device) }
-        ensures counted { IfErr result (λ _. self.old.failures < self.new.failures) }
-        ensures uncounted { OnOk result (self.new.failures ≡ self.old.failures) }
+        ensures device { result ≡ FileFault.Device }
+        ensures counted { self.new.failures ≡ self.old.failures + 1 }
+        ensures begun { self.new.failed_at ≡ at }
+        ensures elsewhere { elsewhere_in self.new path.now ≡ elsewhere_in self.old path.now }
+        ensures same { (p : List ℕ) → held_in self.new p ≡ held_in self.old p }
+    {
+        self.failures += 1;
+        self.failed_at = at;
+        if path == "certificate" {
+            self.certificate_failures = self.certificate_failures.saturating_add(1);
+        } else {
+            self.other_failures = self.other_failures.saturating_add(1);
+        }
+        FileFault::Device
+    }
+
+    /// Returns the text of a path. An unknown path and a text of more than `MAX_FILE` bytes have none.
+    fn text(&mut self, path: &str) -> Option<&'a [u8]>
+        ensures held { IfSome result (λ t. held_in self.old path.now ≡ Some t.now) }
+        ensures small { IfSome result (λ t. length t.now ≤ MAX_FILE) }
+        ensures uncounted { failures_in self.new ≡ failures_in self.old }
         ensures same { (p : List ℕ) → held_in self.new p ≡ held_in self.old p }
     {
         self.reads = self.reads.saturating_add(1);
         match self.find(path) {
-            Some(text) if text.len() as u64 <= MAX_FILE => Ok(text),
-            _ => {
-                self.failures += 1;
-                Err(FileFault::Device)
-            }
+            Some(text) if text.len() as u64 <= MAX_FILE => Some(text),
+            _ => None,
         }
     }
 
@@ -85,23 +104,24 @@ impl<'a> Folder<'a> {
 }
 
 impl Files for Folder<'_> {
-    ghost use Rattle.cilk_commands.specs.Files.{failures};
-    ghost use Rattle.cilk_served.specs.Folders.{held_in};
+    ghost use Rattle.cilk_served.specs.Folders.{failures_in, held_in};
 
-    ghost failed = { λ f. failures f.failures (λ _. 0) };
+    ghost failed = { failures_in };
 
     ghost holds = { held_in };
 
     fn read(&mut self, alloc: Global, path: &str) -> Result<Vec<u8>, FileFault> {
-        Ok(self.text(path)?.to_vec(alloc)?)
+        match self.text(path) {
+            Some(text) => Ok(text.to_vec(alloc)?),
+            None => Err(self.fail(path, 0)),
+        }
     }
 
     fn part(&mut self, path: &str, at: u64, into: &mut [u8]) -> Result<usize, FileFault> {
-        let whole = self.text(path)?;
-        if at > MAX_FILE || self.parts == 0 {
-            self.failures += 1;
-            return Err(FileFault::Device);
-        }
+        let whole = match self.text(path) {
+            Some(text) if at <= MAX_FILE && self.parts > 0 => text,
+            _ => return Err(self.fail(path, at)),
+        };
         self.parts -= 1;
         let rest = &whole[whole.len().min(at as usize)..];
         let count = rest.len().min(into.len());

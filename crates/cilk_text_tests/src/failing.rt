@@ -8,10 +8,10 @@ use std::process::Abort;
 
 const PRINTS: &str = "int main(){print(7);return 0;}";
 
-const EARLY_READ: &str =
+pub const EARLY_READ: &str =
     "int one() { return 1; } int main() { int x; int y; x = cilk_spawn one(); y = x; cilk_sync; return y; }";
 
-const FIB: &str =
+pub const FIB: &str =
     "#include <cilk/cilk.h>\nint fib(int n) { if (n < 2) { return n; } int x; int y; x = cilk_spawn fib(n - 1); y \
     = fib(n - 2); cilk_sync; return x + y; } int main() { int r; r = fib(10); return r; }";
 
@@ -80,8 +80,8 @@ fn fails_at_each_byte(rt: &impl Abort, alloc: Global, call: Call<'_>) {
     assert!(rt; has_room(alloc, call));
 }
 
-// The certificate of a program's run.
-fn certified(alloc: Global, program: &str) -> Vec<u8> {
+/// Returns the certificate of a program's run.
+pub fn certified(alloc: Global, program: &str) -> Vec<u8> {
     shown(
         alloc,
         &["certify", "program"],

@@ -10,6 +10,7 @@
 //! | [`numbers`] | that the list of `explain` has each number with a meaning, and no other |
 //! | [`reads`] | the number of files that a call reads |
 //! | [`failing`] | replies where a reader, writer or file fails |
+//! | [`pieces`] | certificates in pieces, from a device that may fail |
 //! | [`disk`] | paths that aren't files |
 //!
 //! The calls are made by `cilk_served`, over files and streams in memory.
@@ -28,5 +29,7 @@ mod failing;
 mod messages;
 #[cfg(test)]
 mod numbers;
+#[cfg(test)]
+mod pieces;
 #[cfg(test)]
 mod reads;

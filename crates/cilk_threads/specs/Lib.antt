@@ -1,4 +1,5 @@
 pub mod Accepted
+pub mod Answers
 pub mod Faults
 pub mod Finals
 pub mod WorkerSeeds

@@ -1,5 +1,5 @@
 -- The seed that is sent to a worker.
-use Rattle.std.specs.Prelude.{◌≡◌, ◌≤◌, List, Option, Some, None, All, true, false}
+use Rattle.std.specs.Prelude.{◌≡◌, ◌≤◌, ◌/◌, ℕ, List, Option, Some, None, All, true, false, min, max}
 use Rattle.crossbeam_deque.specs.Handles.{Pass, view, IsPassOf, worker_flavor, worker_port, worker_view, stealer_deque}
 use Rattle.crossbeam_deque.specs.declared.handles.Worker.{Worker}
 use Rattle.crossbeam_deque.specs.declared.handles.Stealer.{Stealer}
@@ -15,7 +15,12 @@ use Rattle.crossbeam_queue.specs.declared.array_queue.Slotted.{Slotted}
 use Rattle.cilk_workers.specs.declared.lock.KeyState.{KeyState}
 use Rattle.cilk_workers.specs.declared.shelf.Shelf.{Shelf}
 use Rattle.cilk_workers.specs.Keys.{AreKeys}
+use Rattle.cilk_threads.specs.declared.seeds.TheConstants.{MAX_ROOM}
 use Rattle.cilk_threads.specs.declared.seeds.WorkerSeed.{WorkerSeed}
+
+-- the room of each of n racks: for every spawn of the run, or an equal part of the most
+abbrev pub room_of : ℕ → ℕ → ℕ
+room_of spawns n = min spawns (MAX_ROOM / max n 1)
 
 module _ {A P : Type 0} where
   -- the deque of a rack, at its owner's end

@@ -1,6 +1,8 @@
 //! Laws of runs without a view-read race. Each law is a function that does nothing: its contract is
 //! the law.
 
+ghost use Rattle.std.specs.Prelude.{◌≡◌};
+ghost use Rattle.cilk_threads.specs.declared.seeds.TheConstants.{MAX_ROOM};
 ghost use Rattle.cilk_threads.specs.Finals.{WholeViewsAreLast};
 ghost use Rattle.cilk_threads.specs.Laws.{RaceFreeRunsAreSettled, EventOrdersAlongAreSettled};
 ghost use Rattle.cilk_threads.specs.Numbers.{AcceptedEventOrdersHaveNumbers, EventOrdersAlongHaveNumbers};
@@ -34,4 +36,9 @@ pub fn event_orders_along_have_numbers()
 /// The same for each event order along the plan of an accepted run, with the table of its reducers.
 pub fn accepted_event_orders_have_numbers()
     ensures { AcceptedEventOrdersHaveNumbers }
+{}
+
+/// The room of all racks together, as a number, for contracts that name the constant.
+pub fn room_is()
+    ensures { MAX_ROOM ≡ 524288 }
 {}

@@ -1,10 +1,12 @@
 //! A pool of workers, each in a thread of its own.
 
-ghost use Rattle.std.specs.Prelude.{◌≡◌, ◌≤◌, ◌+◌, All, Some, length, vec_len, IfOk, IfSome};
+ghost use Rattle.std.specs.Prelude.{◌≡◌, ◌≤◌, ◌+◌, All, Some, length, vec_len, IfOk, IfSome, MatchOption};
+ghost use Rattle.std.specs.Vec.{vec_capacity};
 ghost use Rattle.std.specs.Thread.{IsSend, IsSync};
 ghost use Rattle.cilk_workers.specs.Turns.{Works};
 ghost use Rattle.cilk_workers.specs.Activities.{IsExitReason};
 ghost use Rattle.cilk_workers.specs.Names.{IsName};
+ghost use Rattle.cilk_threads.specs.Answers.{tells};
 ghost use Rattle.cilk_threads.specs.WorkerSeeds.{IsWorkerSeed, IsTake};
 
 use crate::seeds::{Take, WorkerSeed, ends, locks, racks, seeds, shelves};
@@ -71,7 +73,7 @@ pub fn worker<N: Naming, R: Wait, G: Gate>(
     let rack = Rack::<N>::of(rack);
     let Ok(pickers) = pickers::<N>(alloc, takes) else {
         stop.store(true, Ordering::SeqCst);
-        return ExitReason::Stopped;
+        return ExitReason::OutOfMemory;
     };
     let mut tools = Tools {
         rack,
@@ -96,16 +98,42 @@ pub fn worker<N: Naming, R: Wait, G: Gate>(
     context.work(&mut tools, stop, hand)
 }
 
-// The better of two exit reasons: the first, unless it is `Stopped`.
+// How much an exit reason tells: nothing, that memory ran out, or how the run ended.
+fn told(reason: &ExitReason) -> u8
+    ensures { result ≡ tells reason.now }
+{
+    match reason {
+        ExitReason::Stopped => 0,
+        ExitReason::OutOfMemory => 1,
+        ExitReason::Departed(_) | ExitReason::Whole(_, _) => 2,
+    }
+}
+
+// The one of two exit reasons that tells more.
 fn better(shared: &Shared<'_>, one: ExitReason, other: ExitReason) -> ExitReason
     requires { IsExitReason shared.now one × IsExitReason shared.now other }
-    ensures { IsExitReason shared.now result }
+    ensures reason { IsExitReason shared.now result }
+    ensures more { (tells one ≤ tells result) × (tells other ≤ tells result) }
 {
     let _ = shared;
-    match one {
-        ExitReason::Stopped => other,
-        _ => one,
+    if told(&one) < told(&other) {
+        other
+    } else {
+        one
     }
+}
+
+// The exit reason that tells most.
+fn best(shared: &Shared<'_>, reasons: Vec<ExitReason>) -> ExitReason
+    requires { All (IsExitReason shared.now) reasons.items }
+    ensures reason { IsExitReason shared.now result }
+    ensures most { All (λ r. tells r ≤ tells result) reasons.items }
+{
+    let mut best = ExitReason::Stopped;
+    'each: for reason in reasons {
+        best = better(shared, best, reason);
+    }
+    best
 }
 
 // Pops the last handle.
@@ -116,28 +144,29 @@ fn last_handle<'a, 'b>(
     requires { All (λ h. h.promise.shared.now ≡ shared.now) handles.old.items }
     ensures rest { All (λ h. h.promise.shared.now ≡ shared.now) handles.new.items }
     ensures one { IfSome result (λ h. h.promise.shared.now ≡ shared.now) }
+    ensures fewer { MatchOption result (vec_len handles.old ≡ 0) (λ _. vec_len handles.new + 1 ≡ vec_len handles.old) }
 {
     let _ = shared;
     handles.pop()
 }
 
-// Joins the threads, and returns their best exit reason.
+// Joins all threads. Returns their exit reasons in `reasons`, which is empty and has room for them.
 fn joined<'a, 'b, R: Threads>(
     rt: &R,
     shared: &Shared<'_>,
     mut handles: Vec<PromisedHandle<ExitReason, Ends<'a, 'b>>>,
-) -> ExitReason
-    requires { All (λ h. h.promise.shared.now ≡ shared.now) handles.items }
-    ensures { IsExitReason shared.now result }
+    mut reasons: Vec<ExitReason>,
+) -> Vec<ExitReason>
+    requires handles { All (λ h. h.promise.shared.now ≡ shared.now) handles.items }
+    requires empty { vec_len reasons ≡ 0 }
+    requires room { vec_len handles ≤ vec_capacity reasons }
+    ensures reasons { All (IsExitReason shared.now) result.items }
+    ensures all { vec_len result ≡ vec_len handles.entry }
 {
-    let mut best = ExitReason::Stopped;
-    'each: for _ in 0..handles.len() {
-        let Some(handle) = last_handle(shared, &mut handles) else {
-            break;
-        };
-        best = better(shared, best, handle.join(rt));
+    'each: while let Some(handle) = last_handle(shared, &mut handles) {
+        reasons.push_reserved(handle.join(rt));
     }
-    best
+    reasons
 }
 
 // Pops the last worker seed.
@@ -180,6 +209,7 @@ fn pool<'a, 'b, N: Naming + Send + Sync, R: Threads + Wait + Sync, G: Gate + Syn
         {
             let mut seeds = seeds;
             let mut handles = Vec::with_capacity(alloc, seeds.len())?;
+            let reasons = Vec::with_capacity(alloc, seeds.len())?;
             'each: for _ in 0..seeds.len() {
                 let Some(seed) = last_seed::<N>(shared, locks, &mut seeds) else {
                     break;
@@ -209,7 +239,7 @@ fn pool<'a, 'b, N: Naming + Send + Sync, R: Threads + Wait + Sync, G: Gate + Syn
                 };
                 handles.push_reserved(handle);
             }
-            Ok(joined(rt, shared, handles))
+            Ok(best(shared, joined(rt, shared, handles, reasons)))
         },
     )
 }
@@ -228,7 +258,7 @@ pub fn run_workers<N: Naming + Send + Sync, R: Threads + Wait + Sync, G: Gate + 
     ensures { IfOk result (IsExitReason shared.now) }
 {
     let (locks, mut keys) = locks::<N, R>(rt, alloc, shared, shelves(shared.blocks()))?;
-    let mut racks = racks::<N>(alloc, count)?;
+    let mut racks = racks::<N>(alloc, shared, count)?;
     let ends = ends::<N>(alloc, &mut racks)?;
     let seeds = seeds::<N>(alloc, shared, &locks, &mut keys, racks, ends, work)?;
     let stop = AtomicBool::new(false);

@@ -3,6 +3,7 @@
 ghost use Rattle.std.specs.Prelude.{◌≡◌, IfOk, IfErr};
 ghost use Rattle.cilk_workers.specs.Turns.{HasEnded, Works};
 ghost use Rattle.cilk_workers.specs.Names.{IsName};
+ghost use Rattle.cilk_threads.specs.Answers.{answer_of};
 ghost use Rattle.cilk_threads.specs.Faults.{IsPool, IsTrueFault, number_of};
 
 use crate::pool::run_workers;
@@ -48,6 +49,17 @@ impl ThreadFault {
     }
 }
 
+// The answer of a run that ended so.
+fn answer(reason: ExitReason) -> Result<(Piece, i64), ThreadFault>
+    ensures { result ≡ answer_of reason }
+{
+    match reason {
+        ExitReason::Whole(piece, value) => Ok((piece, value)),
+        ExitReason::Departed(at) => Err(ThreadFault::Departs(at)),
+        ExitReason::Stopped | ExitReason::OutOfMemory => Err(ThreadFault::Memory),
+    }
+}
+
 // The workers of a run that `N` names.
 fn run_as<N: Naming + Send + Sync, R: Threads + Wait + Sync, G: Gate + Sync>(
     rt: &R,
@@ -63,11 +75,10 @@ fn run_as<N: Naming + Send + Sync, R: Threads + Wait + Sync, G: Gate + Sync>(
     ensures ok { IfOk result (λ r. HasEnded shared.now r.0 r.1) }
     ensures err { IfErr result (IsTrueFault shared.now.run.event_order workers) }
 {
-    match run_workers::<N, R, G>(rt, alloc, shared, gate, work, workers) {
-        Ok(ExitReason::Whole(piece, value)) => Ok((piece, value)),
-        Ok(ExitReason::Departed(at)) => Err(ThreadFault::Departs(at)),
-        Ok(ExitReason::Stopped) | Err(_) => Err(ThreadFault::Memory),
-    }
+    let Ok(reason) = run_workers::<N, R, G>(rt, alloc, shared, gate, work, workers) else {
+        return Err(ThreadFault::Memory);
+    };
+    answer(reason)
 }
 
 /// Runs the plan on `workers` workers, 1 to 64. `work` is what the first one begins with, after the

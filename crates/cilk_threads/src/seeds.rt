@@ -1,12 +1,13 @@
 //! Worker seeds: the parts with which each worker of the pool begins.
 
-ghost use Rattle.std.specs.Prelude.{◌≡◌, ◌*◌, ◌<◌, ◌≤◌, All, Some, length, IfOk, OnOk, IfSome};
+ghost use Rattle.std.specs.Prelude.{◌≡◌, ◌≢◌, ◌*◌, ◌+◌, ◌<◌, ◌≤◌, All, Some, length, IfOk, OnOk, IfSome};
 ghost use Rattle.cilk_workers.specs.Rows.{OfRun};
 ghost use Rattle.cilk_workers.specs.Turns.{Works};
 ghost use Rattle.cilk_workers.specs.Held.{IsNewRack};
 ghost use Rattle.cilk_workers.specs.Keys.{AreKeys, IsKeyAt};
 ghost use Rattle.cilk_workers.specs.Names.{IsName};
-ghost use Rattle.cilk_threads.specs.WorkerSeeds.{Begins, IsWorkerSeed, IsTake};
+ghost use Rattle.cilk_workers.specs.Shared.{event_order_in, spawn_count};
+ghost use Rattle.cilk_threads.specs.WorkerSeeds.{Begins, IsWorkerSeed, IsTake, room_of};
 
 use cilk_replay::chain::{Chain, Task};
 use cilk_shared::piece::Piece;
@@ -115,6 +116,8 @@ fn put<N: Naming>(
     requires at { at < length racks.old.items }
     requires all { All IsTake all.old.items }
     ensures all { OnOk result (All IsTake all.new.items) }
+    ensures but { OnOk result (at ≡ but → all.new.items ≡ all.old.items) }
+    ensures more { OnOk result (at ≢ but → length all.new.items ≡ length all.old.items + 1) }
     ensures racks { length racks.new.items ≡ length racks.old.items }
 {
     if at == but {
@@ -132,7 +135,9 @@ pub fn takes<N: Naming>(
     racks: &mut Vec<Rack<N>>,
     but: usize,
 ) -> Result<Vec<Take<N>>, AllocError>
+    requires but { but < length racks.old.items }
     ensures takes { IfOk result (λ v. All IsTake v.items) }
+    ensures others { IfOk result (λ v. length v.items + 1 ≡ length racks.old.items) }
     ensures racks { length racks.new.items ≡ length racks.old.items }
 {
     let mut all = Vec::new(alloc);
@@ -142,19 +147,32 @@ pub fn takes<N: Naming>(
     Ok(all)
 }
 
-/// The number of tasks that a rack has room for at first. It grows when a worker has more spawned
-/// frames at once.
-const ROOM: usize = 64;
+/// The most tasks for which racks have room at first, all together. A deque may round the room of each
+/// up to twice as much.
+pub const MAX_ROOM: usize = 524_288;
 
-/// Makes a rack for each worker.
-pub fn racks<N: Naming>(alloc: Global, count: u32) -> Result<Vec<Rack<N>>, AllocError>
-    ensures count { IfOk result (λ v. length v.items ≡ count) }
-    ensures racks { IfOk result (λ v. All (IsNewRack 64) v.items) }
+// The room of each of `count` racks: for every spawn of the run, or else its part of the most.
+fn room_for(spawns: usize, count: u32) -> usize
+    ensures { result ≡ room_of spawns count }
 {
+    spawns.min(MAX_ROOM / count.max(1) as usize)
+}
+
+/// Makes a rack for each worker, with room for every spawn of the run: up to 65,536 spawns by 8
+/// workers. Of a longer run by more workers it has room for some of them, and grows past it.
+pub fn racks<N: Naming>(
+    alloc: Global,
+    shared: &Shared<'_>,
+    count: u32,
+) -> Result<Vec<Rack<N>>, AllocError>
+    ensures count { IfOk result (λ v. length v.items ≡ count) }
+    ensures racks { IfOk result (λ v. All (IsNewRack (room_of (spawn_count (event_order_in shared.now)) count)) v.items) }
+{
+    let room = room_for(shared.spawns(), count);
     let mut all = Vec::new(alloc);
     'each: for made in 0..count {
         let _ = made;
-        all.push(Rack::<N>::new(alloc, ROOM)?)?;
+        all.push(Rack::<N>::new(alloc, room)?)?;
     }
     Ok(all)
 }
@@ -164,7 +182,9 @@ pub fn ends<N: Naming>(
     alloc: Global,
     racks: &mut Vec<Rack<N>>,
 ) -> Result<Vec<Vec<Take<N>>>, AllocError>
-    ensures { IfOk result (λ v. All (λ ts. All IsTake ts.items) v.items) }
+    ensures takes { IfOk result (λ v. All (λ ts. All IsTake ts.items) v.items) }
+    ensures others { IfOk result (λ v. All (λ ts. length ts.items + 1 ≡ length racks.old.items) v.items) }
+    ensures count { IfOk result (λ v. length v.items ≡ length racks.old.items) }
 {
     let mut all = Vec::new(alloc);
     'each: for at in 0..racks.len() {

@@ -1,33 +1,22 @@
 -- The result of the check of a certificate.
 --
--- - `unread`: its file can't be read;
+-- - `unread_apart`: it isn't accepted where its file can't be read;
 -- - `refuses`: why it is refused; `starves`: there is no memory.
 use Rattle.std.proofs.Common.{◌≡◌, List, Option, refl, sym, subst, ◌∙◌}
-use Rattle.std.specs.Prelude.{◌≢◌, ◌<◌, ℤ}
-use Rattle.cilk_checker.specs.Answers.{IsRefusedText, IsUnaccepted}
+use Rattle.std.specs.Prelude.{◌≢◌, ℤ}
+use Rattle.cilk_checker.specs.Answers.{IsRefusedText}
 use Rattle.cilk_checker.specs.Numbers.{fields_of, number_of}
 use Rattle.cilk_checker.specs.declared.refusal.Refusal.{Refusal}
 use Rattle.cilk_checker.specs.declared.refusal.Refusal.TheVariants as refusals
-use Rattle.cilk_checker.specs.declared.refusal.Unaccepted.{Unaccepted}
-use Rattle.cilk_checker.specs.declared.refusal.Unaccepted.TheVariants as unaccepted
 use Rattle.cilk_checker.specs.Judging.{Meant}
 use Rattle.cilk_commands.specs.Files.{Failures, IsUnfailed}
 use Rattle.cilk_commands.specs.Replies.{Accepted, NoMemory, Refused, Reply, Text, Unreadable, answer_view, places_of}
 use Rattle.cilk_commands.specs.Shown.{CheckShows}
 use Rattle.cilk_commands.specs.declared.reply.Answer.{Answer}
-use Rattle.cilk_commands.specs.Sources.{kept_of}
-use Rattle.cilk_commands.proofs.Kept.{fails}
 
--- a source of a certificate, over files that are given back as the source left them
-module _ {F : Type 0} (failed : F → Failures) (holds : F → Text → Option Text) (old made new last : F) (p q o n path other : Text) (same : made ≡ old)
-    (here : p ≡ path) (there : o ≡ other) (kept : kept_of (failed new) q n (holds new n) ≡ kept_of (failed made) p o (holds made o)) (given : last ≡ new) where
-  pub unread : (known source_known : Option Text) (m : Meant) (inputs : List ℤ) (u : Unaccepted) → u ≡ unaccepted.Unread
-      → IsUnaccepted m.source inputs source_known (failed made).count (failed new).count u
-      → (Unreadable path ≢ Accepted) × CheckShows path known (failed old) (failed last) m inputs (Unreadable path)
-  unread known source_known m inputs u is h =
-      let count : (failed made).count < (failed new).count =
-      subst (λ (x : Unaccepted). IsUnaccepted m.source inputs source_known (failed made).count (failed new).count x) is h in
-      (λ e. absurd (cc e), (refl, fails failed holds old made new last p q o n path other same here there kept given count))
+-- that its file can't be read doesn't accept it
+pub unread_apart : (path : Text) → Unreadable path ≢ Accepted
+unread_apart path e = absurd (cc e)
 
 -- why the certificate is refused
 pub refuses : {F : Type 0} (failed : F → Failures) (old new : F) (a : Answer) (path : Text) (known : Option Text) (m : Meant) (inputs : List ℤ) (f : Refusal)

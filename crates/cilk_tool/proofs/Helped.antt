@@ -4,12 +4,13 @@
 --   contents of its file, as far as they are known;
 -- - `refused_text`: the same, by the answer of a check;
 -- - `unread_file`: the file isn't read.
-use Rattle.std.proofs.Common.{◌≡◌, ℕ, List, Option, Some, None, subst, ◌∙◌}
+use Rattle.std.proofs.Common.{◌≡◌, ℕ, List, Option, Some, None, arith, subst, ◌∙◌}
 use Rattle.std.specs.Prelude.{ℤ}
 use Rattle.cilk_cert_text.specs.Certificates.{Contents}
 use Rattle.cilk_cert_text.specs.declared.fault.CertFault.{CertFault}
 use Rattle.cilk_program.specs.Syntax.{Source}
 use Rattle.cilk_checker.specs.Answers.{IsCertified, IsRefusedText, IsUnaccepted}
+use Rattle.cilk_checker.specs.Pulls.{IsFaultlessSoFar}
 use Rattle.cilk_checker.specs.Stops.{Gives, GivesCertificate, HasTextFault}
 use Rattle.cilk_checker.specs.declared.refusal.Refusal.{Refusal}
 use Rattle.cilk_checker.specs.declared.refusal.Refusal.TheVariants as refusals
@@ -18,11 +19,12 @@ use Rattle.cilk_checker.specs.declared.refusal.Unaccepted.TheVariants as unaccep
 use Rattle.cilk_types.specs.declared.event.Event.{Event}
 use Rattle.cilk_types.specs.declared.outcome.Outcome.{Outcome}
 use Rattle.cilk_checker.specs.Judging.{Meant}
-use Rattle.cilk_commands.specs.Files.{Failures, IsHeld}
+use Rattle.cilk_commands.specs.Files.{Failures, HoldsTo, IsHeld}
 use Rattle.cilk_commands.specs.Replies.{NoMemory, Reply, Text, Unreadable}
 use Rattle.cilk_commands.specs.Serving.{FileFails}
 use Rattle.cilk_commands.specs.Shown.{CheckShows}
 use Rattle.cilk_commands.proofs.Replying.{none_failed}
+use Rattle.cilk_commands.proofs.Unread.{none_faultless}
 
 -- what the text gives, the known contents give
 gives_held : (known : Option Text) (text given : Text) → IsHeld known text → Gives (Some text) given → Gives known given
@@ -60,8 +62,13 @@ refused_text p inputs known text rest n m u r held same is h =
     refused_held p inputs known text r held
     (subst (λ (x : Unaccepted). IsUnaccepted p inputs (Some text) n m x) is (subst (λ (t : Text). IsUnaccepted p inputs (Some t) n m u) same h))
 
+-- nothing was given of a file that can't be read from its first byte on
+from_zero : (known : Option Text) (at : ℕ) → at ≡ 0 → HoldsTo known at IsFaultlessSoFar
+from_zero None at first = tt
+from_zero (Some all) at first = (0, omega (arith, first), none_faultless)
+
 pub unread_file : (path : Text) (known : Option Text) (failed failed' : Failures) (m : Meant) (inputs : List ℤ) (r : Reply) → FileFails failed failed' path r
     → CheckShows path known failed failed' m inputs r
-unread_file path known failed failed' m inputs (Unreadable name) h = h
+unread_file path known failed failed' m inputs (Unreadable name) h = (h.0, h.1, from_zero known failed'.at h.2)
 unread_file path known failed failed' m inputs NoMemory h = none_failed failed failed' path h
 unread_file path known failed failed' m inputs _ h = absurd h

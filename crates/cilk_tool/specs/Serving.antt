@@ -70,8 +70,8 @@ pub data ServesParallel (words : List Text) (files : Text → Option Text) (inpu
       → (tool.order_in words ≡ None → is_measure words ≡ false → is_schedule words ≡ false → is_settling words ≡ true
       → Settles words files input failed failed' status out out' err err')
       → (tool.order_in words ≡ None → is_measure words ≡ false → is_schedule words ≡ false → is_settling words ≡ false → is_about words ≡ false
-      → length (unflagged words) < length words → ServesThenExplains (unflagged words) files input failed failed' status out out' err err')
+      → length (unflagged words) < length words → ServesThenExplains (unflagged words) true files input failed failed' status out out' err err')
       → (tool.order_in words ≡ None → is_measure words ≡ false → is_schedule words ≡ false → is_settling words ≡ false → is_about words ≡ true
       → AnswersAbout words status out out' err err')
-      → (explains_itself (tool.order_in words) ≡ true → ServesThenExplains words files input failed failed' status out out' err err')
+      → (explains_itself (tool.order_in words) ≡ true → ServesThenExplains words false files input failed failed' status out out' err err')
       → ServesParallel words files input failed failed' status out out' err err'

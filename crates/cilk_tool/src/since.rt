@@ -16,7 +16,7 @@ pub(crate) trait Moment {
 // The proof of a call with a brand picks its moment (`ghosts-checked`). If it picks none, the moment is
 // this one, before all reads.
 impl Moment for Brand {
-    ghost failed = { failures 0 (λ _. 0) };
+    ghost failed = { failures 0 0 (λ _. 0) };
 }
 
 /// A file in parts, after a moment. If no more reads have failed than at that moment, the failed
@@ -26,7 +26,8 @@ pub(crate) struct PartsSince<'f, 'p, F: Files, M: Moment> {
     pub parts: PartSource<'f, 'p, F>,
     pub moment: PhantomData<M>,
     ghost risen: { M.failed.count ≤ (F.failed parts.files.now).count },
-    ghost same: { (F.failed parts.files.now).count ≡ M.failed.count → (p : List ℕ) → (F.failed parts.files.now).elsewhere p ≡ M.failed.elsewhere p },
+    ghost same: { (F.failed parts.files.now).count ≡ M.failed.count → ((F.failed parts.files.now).at ≡ M.failed.at)
+        × ((p : List ℕ) → (F.failed parts.files.now).elsewhere p ≡ M.failed.elsewhere p) },
 }
 
 impl<F: Files, M: Moment> Source for PartsSince<'_, '_, F, M> {
@@ -41,8 +42,9 @@ impl<F: Files, M: Moment> Source for PartsSince<'_, '_, F, M> {
 
     ghost lender = { λ s. s.parts.files.ghost_name };
 
-    // Failed reads of other files than the certificate's, both paths, and the contents of `other`.
-    ghost kept = { λ s. kept_of (F.failed s.parts.files.now) s.parts.path.now s.parts.other.now (F.holds s.parts.files.now s.parts.other.now) };
+    // Failed reads before, those of other files than the certificate's, both paths, and the contents of
+    // both.
+    ghost kept = { λ s. kept_of s.parts.before (F.failed s.parts.files.now) (F.holds s.parts.files.now) s.parts.path.now s.parts.other.now };
 
     fn pull(&mut self, into: &mut [u8]) -> Result<usize, PullFault> {
         self.parts.pull(into)

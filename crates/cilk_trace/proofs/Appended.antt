@@ -72,6 +72,7 @@ ends (lines.Sync ∷ ls) bs ms m n h = ends ls bs (ms ++ Sync ∷ []) m n h
 ends (lines.Read c s ∷ ls) bs ms m n h = ends ls bs ms m n h
 ends (lines.Write c s ∷ ls) bs ms m n h = ends ls bs ms m n h
 ends (lines.Clear c ∷ ls) bs ms m n h = ends ls bs ms m n h
+ends (lines.Unseen c ∷ ls) bs ms m n h = ends ls bs ms m n h
 ends (lines.Create i s ∷ ls) bs ms m n h = ends ls bs ms m n h
 ends (lines.Update i s ∷ ls) bs ms m n h = ends ls bs ms m n h
 ends (lines.Value i s ∷ ls) bs ms m n h = ends ls bs ms m n h

@@ -13,7 +13,7 @@ use Rattle.cilk_trace.specs.declared.histories.Kind.{Kind}
 use Rattle.cilk_trace.specs.declared.histories.Kind.TheVariants as kinds
 use Rattle.cilk_trace.specs.Marks.{marks_of}
 use Rattle.cilk_trace.specs.Accesses.{Location, Covers, begun_in, clears, strand_of, AccessesCell, WritesCell, AccessesAt, WritesAt, IsTraceRace, IsFirstTraceRace}
-use Rattle.cilk_trace.specs.Histories.{nothing, above, rival, history_at, IsMet, IsBest}
+use Rattle.cilk_trace.specs.Histories.{nothing, above, rival, IsMet, IsBest}
 use Rattle.cilk_trace.specs.Passes.{Does, number, IsGreatest, Standing}
 use Rattle.cilk_trace.proofs.Strands.{parallel_lines, number_positive, strand_next}
 use Rattle.cilk_trace.proofs.Passing.{Keeps, keeps_met}
@@ -124,7 +124,7 @@ greater_still t ls i kind k p h m g =
     elim (at_least t ls i kind k p h m g) [ inl u ↦ omega (arith, u, a) | inr u ↦ (let v = u.0 in omega (arith, v, a)) ]
 
 -- no race with the line with index i, where no kept access races
-pub none_met : (s : Shape) (ls : List Line) → SpellsMarks s (marks_of ls) → (i strand : ℕ) (hs : List History) (l : Line) (kind : Kind) (k : Cells) (here best : Kept)
+pub none_met : (s : Shape) (ls : List Line) → SpellsMarks s (marks_of ls) → (i strand : ℕ) (hs : ℕ → History) (l : Line) (kind : Kind) (k : Cells) (here best : Kept)
     → slice_get ls i ≡ Some l → Does l kind k → here.hebrew ≡ number (tree s) ls i → Standing (tree s) ls i strand hs → IsBest kind here.hebrew k hs best → best.hebrew ≡ 0
     → (p q : ℕ) → q ≤ suc i → IsTraceRace (tree s) ls p q → ⊥
 none_met s ls sp i strand hs l kind k here best h does f st b z p q le r =
@@ -132,9 +132,9 @@ none_met s ls sp i strand hs l kind k here best h does f st b z p q le r =
       | inl m ↦ st.clean p q (omega (arith, m)) r
       | inr m ↦ (let e : q ≡ i + 1 = omega (arith, le, m) in
           let v = meets s ls sp i l kind k h does p (subst (λ (n : ℕ). IsTraceRace (tree s) ls p n) e r) in
-          let g = greater_still (tree s) ls i kind k p (history_at hs v.cell) v (st.writes v.cell, st.accesses v.cell) in
-          let n : here.hebrew < (rival kind (history_at hs v.cell)).hebrew = omega (arith, f, g) in
-          let a = ap (λ (x : Kept). x.hebrew) (is_above (rival kind (history_at hs v.cell)) here.hebrew n) in
+          let g = greater_still (tree s) ls i kind k p (hs v.cell) v (st.writes v.cell, st.accesses v.cell) in
+          let n : here.hebrew < (rival kind (hs v.cell)).hebrew = omega (arith, f, g) in
+          let a = ap (λ (x : Kept). x.hebrew) (is_above (rival kind (hs v.cell)) here.hebrew n) in
           elim (b.greatest v.cell v.covers) [ inl u ↦ omega (arith, u, z) | inr u ↦ (let w = u.0 in omega (arith, w, z, a, n)) ])
     ]
 
@@ -146,15 +146,15 @@ above_is k best n e pos = elim (cases_lt n k.hebrew) [
 ]
 
 -- the race that the kept accesses tell is the first one
-pub first_met : (s : Shape) (ls : List Line) → SpellsMarks s (marks_of ls) → (i strand : ℕ) (hs : List History) (l : Line) (kind : Kind) (k : Cells) (here best : Kept)
+pub first_met : (s : Shape) (ls : List Line) → SpellsMarks s (marks_of ls) → (i strand : ℕ) (hs : ℕ → History) (l : Line) (kind : Kind) (k : Cells) (here best : Kept)
     → slice_get ls i ≡ Some l → Does l kind k → here.hebrew ≡ number (tree s) ls i → Standing (tree s) ls i strand hs → IsBest kind here.hebrew k hs best → 0 < best.hebrew
     → IsFirstTraceRace (tree s) ls best.at (i + 1)
 first_met s ls sp i strand hs l kind k here best h does f st b pos =
     let t = tree s in
     let w = b.found pos in
     let c = w.0 in
-    let a = above_is (rival kind (history_at hs c)) best here.hebrew w.2 pos in
-    let kept = rival_keeps t ls i c kind (history_at hs c) (st.writes c, st.accesses c) in
+    let a = above_is (rival kind (hs c)) best here.hebrew w.2 pos in
+    let kept = rival_keeps t ls i c kind (hs c) (st.writes c, st.accesses c) in
     let held = subst (λ (x : Kept). (1 ≤ x.at) × (x.at ≤ i) × RivalAt kind ls c (clears ls c i) (x.at - 1) × (x.hebrew ≡ number t ls (x.at - 1))) a.0
     (kept.held (let x = a.1 in omega (arith, x))) in
     let bh = ap (λ (x : Kept). x.hebrew) a.0 in
@@ -171,7 +171,7 @@ first_met s ls sp i strand hs l kind k here best h does f st b pos =
       least = λ p q r. elim (cases_lt i q) [ inl m ↦ omega (arith, m) | inr m ↦ absurd (st.clean p q m r) ];
       greatest = λ p r.
           let v = meets s ls sp i l kind k h does p r in
-          let hv = history_at hs v.cell in
+          let hv = hs v.cell in
           let kv : Keeps t ls i v.cell hv = (st.writes v.cell, st.accesses v.cell) in
           let g = greater_still t ls i kind k p hv v kv in
           let n : here.hebrew < (rival kind hv).hebrew = omega (arith, f, g) in
@@ -195,7 +195,7 @@ begun_none (lines.Clear d) kind k does = refl
 begun_none _ kind k does = absurd does
 
 -- a line that accesses or clears cells, with no race at it
-pub standing_met : (s : Shape) (ls : List Line) → SpellsMarks s (marks_of ls) → (i strand : ℕ) (hs hs' : List History) (l : Line) (kind : Kind) (k : Cells) (here best : Kept)
+pub standing_met : (s : Shape) (ls : List Line) → SpellsMarks s (marks_of ls) → (i strand : ℕ) (hs hs' : ℕ → History) (l : Line) (kind : Kind) (k : Cells) (here best : Kept)
     → slice_get ls i ≡ Some l → Does l kind k → here.at ≡ i + 1 → here.hebrew ≡ number (tree s) ls i → Standing (tree s) ls i strand hs
     → IsMet kind here k hs hs' → IsBest kind here.hebrew k hs best → best.hebrew ≡ 0 → Standing (tree s) ls (suc i) strand hs'
 standing_met s ls sp i strand hs hs' l kind k here best h does e f st m b z =

@@ -4,9 +4,11 @@ use Rattle.std.proofs.Common.{◌≡◌, ℕ, suc, ◌+◌, ◌-◌, ◌<◌, �
 use Rattle.std.proofs.lemmas.Bool.{cases_lt}
 use Rattle.std.proofs.lemmas.Option.{slice_get_past, slice_get_within}
 use Rattle.std.proofs.Common.{inl, inr}
+use Rattle.cilk_tree.specs.declared.mark.Mark.{Mark}
 use Rattle.cilk_tree.specs.Shape.{Shape, SpellsMarks}
 use Rattle.cilk_tree.specs.Tree.{Tree, tree}
 use Rattle.cilk_trace.specs.declared.line.Line.{Line}
+use Rattle.cilk_trace.specs.declared.line.Line.TheVariants as lines
 use Rattle.cilk_trace.specs.declared.survey.Known.{Known}
 use Rattle.cilk_trace.specs.declared.judge.Judge.{Judge}
 use Rattle.cilk_trace.specs.declared.judge.Race.{Race}
@@ -17,17 +19,20 @@ use Rattle.cilk_trace.specs.Marks.{marks_of}
 use Rattle.cilk_trace.specs.Accesses.{AccessesCell, WritesCell, IsTraceRace, IsFirstTraceRace, HasNoTraceRace}
 use Rattle.cilk_trace.specs.Reducers.{Suits, is_alive, ReadsView, HasNoTraceViewRace}
 use Rattle.cilk_trace.specs.Births.{birth_of}
-use Rattle.cilk_trace.specs.Passes.{CellsFit, IsBefore}
+use Rattle.cilk_trace.specs.Histories.{history_of}
+use Rattle.cilk_trace.specs.Passes.{IsBefore}
+use Rattle.cilk_trace.specs.Unseen.{unseen_by, unseen_in}
 use Rattle.cilk_trace.specs.Views.{IsViewedBefore}
-use Rattle.cilk_trace.specs.Structures.{opening, noting}
-use Rattle.cilk_trace.specs.Surveys.{IsKnownOf}
+use Rattle.cilk_trace.specs.Structures.{marks_in, opening, noting}
+use Rattle.cilk_trace.specs.Surveys.{IsKnownOf, KeepsLimits}
 use Rattle.cilk_trace.specs.Judging.{Says, IsJudged, StandsAt, IsJudging, IsAccessed, verdict_by, found_in}
 use Rattle.cilk_trace.proofs.Appended.{get_last, same_line, noted_more, refused_more, nests_end}
+use Rattle.cilk_trace.proofs.Counting.{limits_front, past_limits}
 use Rattle.cilk_trace.proofs.Keeping.{keep_marks}
 use Rattle.cilk_trace.proofs.Shapes.{have_shapes}
 
 abbrev Before : Shape → List Line → Pass → Type 0
-Before s ls p = IsBefore s ls p.count p.labels.now p.strand p.histories.cells.items
+Before s ls p = IsBefore s ls p.count p.labels.now p.strand (history_of p.histories.pages.items)
 
 abbrev Viewed : Shape → List Line → ViewPass → Type 0
 Viewed s ls p = IsViewedBefore s ls p.count p.classes.now p.strand (birth_of p.births) p.found
@@ -67,16 +72,32 @@ stands_next s ls n l old mid new at st race pass count suits viewed a =
       ] refl);
     }
 
+unseen_more : (ls : List Line) (l : Line) → unseen_in (ls ++ l ∷ []) ≡ unseen_in ls + unseen_by l
+unseen_more [] l = omega arith
+unseen_more (k ∷ ls) l = let h = unseen_more ls l in omega (arith, h)
+
+unseen_one : (l : Line) → unseen_by l ≤ 1
+unseen_one (lines.Unseen s) = omega arith
+unseen_one _ = omega arith
+
+unseen_few : (ls : List Line) → unseen_in ls ≤ length ls
+unseen_few [] = omega arith
+unseen_few (l ∷ ls) = let h = unseen_few ls in let n = unseen_one l in omega (arith, h, n)
+
 -- one line more
 pub judging_next : (done : List Line) (l : Line) (old mid new : Judge) → IsJudging done old → noting l old.structure ≡ Some mid.structure → mid.race ≡ old.race → mid.pass ≡ old.pass
     → mid.known ≡ old.known → mid.views.count ≡ suc old.views.count
     → ((s : Shape) (ls : List Line) → slice_get ls old.views.count ≡ Some l → Viewed s ls old.views → Suits l (is_alive ls old.views.count) × Viewed s ls mid.views)
-    → IsAccessed mid new l → IsJudging (done ++ l ∷ []) new
-judging_next done l old mid new j structure race pass known count view a =
+    → (old.unseen + unseen_by l < 2 ^ 32 → mid.unseen ≡ old.unseen + unseen_by l) → IsAccessed mid new l → IsJudging (done ++ l ∷ []) new
+judging_next done l old mid new j structure race pass known count view unseen a =
     let same : new.known ≡ old.known = a.known ∙ known in
     record {
       structure = noted_more done l opening old.structure j.structure ∙ (structure ∙ ap (λ x. Some x) (sym a.structure));
-      rooms = a.rooms ∙ (ap (λ (p : Pass). length p.histories.cells.items) pass ∙ (j.rooms ∙ ap (λ k. k.now.cells) (sym same)));
+      unseen = λ few. (let n = unseen_more done l in
+          let before : old.unseen ≡ unseen_in done = j.unseen (omega (arith, n, few)) in
+          let here : mid.unseen ≡ old.unseen + unseen_by l = unseen (omega (arith, n, few, before)) in
+          let same = a.unseen in
+          omega (arith, n, before, here, same));
       stands = λ s more sp lb cl.
           let e : (done ++ l ∷ []) ++ more ≡ done ++ l ∷ more = append_assoc done (l ∷ []) more in
           let ls : List Line = done ++ l ∷ more in
@@ -90,17 +111,17 @@ judging_next done l old mid new j structure race pass known count view a =
     }
 
 -- the pass meets a race, which is noted
-pub raced : (j : Judge) (l : Line) (pass : Pass) (p q : ℕ) → j.race ≡ None → length pass.histories.cells.items ≡ length j.pass.histories.cells.items
+pub raced : (j : Judge) (l : Line) (pass : Pass) (p q : ℕ) → j.race ≡ None
     → ((s : Shape) (ls : List Line) → slice_get ls j.pass.count ≡ Some l → Before s ls j.pass → IsFirstTraceRace (tree s) ls p (j.pass.count + 1)) → q ≡ j.views.count
     → IsAccessed j (record j { pass = pass; race = Some (record { earlier = p; later = q }) }) l
-raced j l pass p q none rooms race later =
+raced j l pass p q none race later =
     let pair : Race = record { earlier = p; later = q } in
     let is_none : Some pair ≡ None → ⊥ = λ h. absurd (cc h) in
     record {
       structure = refl;
       views = refl;
       known = refl;
-      rooms = rooms;
+      unseen = refl;
       kept = λ r e. (let c : None ≡ Some r = sym none ∙ e in absurd (cc c));
       count = λ h. absurd (is_none h);
       clean = λ h. absurd (is_none h);
@@ -113,6 +134,11 @@ raced j l pass p q none rooms race later =
 pub changed_structure : (done more : List Line) (l : Line) (j : Judge) → IsJudging done j → IsKnownOf (done ++ l ∷ more) j.known.now → noting l j.structure ≡ None → ⊥
 changed_structure done more l j g k none = refused_more done more l j.structure g.structure none k.trace.nests
 
+pub changed_limits : (done more : List Line) (l : Line) (j : Judge) → IsJudging done j → IsKnownOf (done ++ l ∷ more) j.known.now → 1073741824 < length j.structure.marks + marks_in l → ⊥
+changed_limits done more l j g k past =
+    past_limits done l j.structure g.structure past
+    (limits_front (done ++ l ∷ []) more (subst KeepsLimits (sym (append_assoc done (l ∷ []) more)) k.limits))
+
 -- the shape of a known trace, and where its second reading stands
 record Stands (done more : List Line) (l : Line) (j : Judge) : Type 0 where
   shape : Shape
@@ -124,7 +150,7 @@ stands_in done more l j g k =
     record { shape = s.0; stands = g.stands s.0 (l ∷ more) s.1 (k.labels s.0 s.1) (k.classes s.0 s.1) }
 
 few : (done more : List Line) (l : Line) (k : Known) → IsKnownOf (done ++ l ∷ more) k → length done + 1 < 2 ^ 32
-few done more l k known = let n = length-append done (l ∷ more) in let f = known.few in omega (arith, n, f)
+few done more l k known = let n = length-append done (l ∷ more) in let f = known.limits.few in omega (arith, n, f)
 
 pub changed_reducers : (done more : List Line) (l : Line) (j : Judge) → IsJudging done j → IsKnownOf (done ++ l ∷ more) j.known.now
     → ((s : Shape) (ls : List Line) → slice_get ls j.views.count ≡ Some l → Viewed s ls j.views → Suits l (is_alive ls j.views.count) → ⊥) → ⊥
@@ -144,7 +170,7 @@ changed_strands done more l j g k none =
     none (omega (arith, c, f)) w.shape ls (ap (slice_get ls) c ∙ get_last done l more) w.stands.views
 
 pub changed_accesses : (done more : List Line) (l : Line) (j mid : Judge) → IsJudging done j → IsKnownOf (done ++ l ∷ more) j.known.now → mid.race ≡ j.race → mid.pass ≡ j.pass
-    → (mid.race ≡ None) × (mid.pass.count + 1 < 2 ^ 32 → CellsFit (length mid.pass.histories.cells.items) l → (s : Shape) (ls : List Line) → slice_get ls mid.pass.count ≡ Some l
+    → (mid.race ≡ None) × (mid.pass.count + 1 < 2 ^ 32 → (s : Shape) (ls : List Line) → slice_get ls mid.pass.count ≡ Some l
     → Before s ls mid.pass → ⊥) → ⊥
 changed_accesses done more l j mid g k race pass none =
     let w = stands_in done more l j g k in
@@ -153,8 +179,7 @@ changed_accesses done more l j mid g k race pass none =
     let c : mid.pass.count ≡ length done = ap (λ (p : Pass). p.count) pass ∙ w.stands.pass_count h in
     let f = few done more l j.known.now k in
     let at = get_last done l more in
-    let rooms : length mid.pass.histories.cells.items ≡ j.known.now.cells = ap (λ (p : Pass). length p.histories.cells.items) pass ∙ g.rooms in
-    none.1 (omega (arith, c, f)) (subst (λ (n : ℕ). CellsFit n l) (sym rooms) (k.cells (length done) l at)) w.shape ls (ap (slice_get ls) c ∙ at) (subst (Before w.shape ls) (sym pass) (w.stands.pass h))
+    none.1 (omega (arith, c, f)) w.shape ls (ap (slice_get ls) c ∙ at) (subst (Before w.shape ls) (sym pass) (w.stands.pass h))
 
 -- ---- the end
 
@@ -181,15 +206,15 @@ no_view_races s ls j st none p q r = elim (cases_lt (length ls) q) [
 free : (s : Shape) (ls : List Line) (j : Judge) → StandsAt s ls (length ls) j → j.race ≡ None → HasNoTraceRace (tree s) ls
 free s ls j st none = no_races (tree s) ls (λ p q m r. let c = st.pass_count none in (st.pass none).standing.clean p q (omega (arith, c, m)) r)
 
-says_by : (s : Shape) (ls : List Line) (j : Judge) → StandsAt s ls (length ls) j → (r : Option Race) (v : Option ViewRace) → j.race ≡ r → j.views.found ≡ v → Says (tree s) ls (verdict_by r v)
-says_by s ls j st (Some r) v e f = st.race r e
-says_by s ls j st None (Some v) e f = (free s ls j st e, st.views.viewing.race v f)
-says_by s ls j st None None e f = (free s ls j st e, no_view_races s ls j st f)
+says_by : (s : Shape) (ls : List Line) (j : Judge) → StandsAt s ls (length ls) j → j.unseen ≡ unseen_in ls → (r : Option Race) (v : Option ViewRace) → j.race ≡ r → j.views.found ≡ v → Says (tree s) ls (verdict_by j.unseen r v)
+says_by s ls j st n (Some r) v e f = st.race r e
+says_by s ls j st n None (Some v) e f = (free s ls j st e, st.views.viewing.race v f)
+says_by s ls j st n None None e f = (free s ls j st e, no_view_races s ls j st f, n)
 
 -- the verdict of a trace with the marks that are known
 pub judged : (first done : List Line) (j : Judge) → IsKnownOf first j.known.now → IsJudging done j → j.structure.ended ≡ true → j.structure.marks ≡ j.known.now.marks.items
-    → IsJudged done (found_in j)
-judged first done j k g ended same =
+    → j.views.count < 2 ^ 32 → IsJudged done (found_in j)
+judged first done j k g ended same few =
     let m = keep_marks done j.structure g.structure ended in
     let s = have_shapes done m.0 in
     let marks : marks_of done ≡ marks_of first = sym m.1 ∙ (same ∙ k.marks) in
@@ -201,8 +226,18 @@ judged first done j k g ended same =
       trace = record { nests = m.0; reducers = λ i l at. st.reducers i l (slice_get_within done i l at) at };
       shape = s.0;
       spells = s.1;
-      says = says_by s.0 done j st j.race j.views.found refl refl;
+      says = says_by s.0 done j st (g.unseen (let c = st.view_count in let n = unseen_few done in omega (arith, c, n, few))) j.race j.views.found refl refl;
     }
+
+-- a trace with the known marks has as many as the known one
+pub judged_limits : (first done : List Line) (j : Judge) → IsKnownOf first j.known.now → IsJudging done j → j.structure.ended ≡ true → j.structure.marks ≡ j.known.now.marks.items
+    → length (marks_of done) ≤ 2 ^ 30
+judged_limits first done j k g ended same =
+    let m = keep_marks done j.structure g.structure ended in
+    let marks : marks_of done ≡ marks_of first = sym m.1 ∙ (same ∙ k.marks) in
+    let e = ap (λ (ms : List Mark). length ms) marks in
+    let f = k.limits.marks in
+    omega (arith, e, f)
 
 -- the known trace has ended, with the known marks
 pub changed_whole : (done : List Line) (j : Judge) → IsJudging done j → IsKnownOf done j.known.now → (j.structure.ended ≡ true) × (j.structure.marks ≡ j.known.now.marks.items)

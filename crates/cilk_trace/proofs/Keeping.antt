@@ -99,6 +99,7 @@ keeps (lines.Sync ∷ ls) bs ms m inside h over =
 keeps (lines.Read c s ∷ ls) bs ms m inside h over = let r = keeps ls bs ms m inside h over in record { nests = r.nests; marks = r.marks }
 keeps (lines.Write c s ∷ ls) bs ms m inside h over = let r = keeps ls bs ms m inside h over in record { nests = r.nests; marks = r.marks }
 keeps (lines.Clear c ∷ ls) bs ms m inside h over = let r = keeps ls bs ms m inside h over in record { nests = r.nests; marks = r.marks }
+keeps (lines.Unseen c ∷ ls) bs ms m inside h over = let r = keeps ls bs ms m inside h over in record { nests = r.nests; marks = r.marks }
 keeps (lines.Create i s ∷ ls) bs ms m inside h over = let r = keeps ls bs ms m inside h over in record { nests = r.nests; marks = r.marks }
 keeps (lines.Update i s ∷ ls) bs ms m inside h over = let r = keeps ls bs ms m inside h over in record { nests = r.nests; marks = r.marks }
 keeps (lines.Value i s ∷ ls) bs ms m inside h over = let r = keeps ls bs ms m inside h over in record { nests = r.nests; marks = r.marks }
@@ -123,6 +124,7 @@ refuses (lines.Sync ∷ ls) more bs ms h n = refuses ls more bs (ms ++ Sync ∷ 
 refuses (lines.Read c s ∷ ls) more bs ms h n = refuses ls more bs ms h n
 refuses (lines.Write c s ∷ ls) more bs ms h n = refuses ls more bs ms h n
 refuses (lines.Clear c ∷ ls) more bs ms h n = refuses ls more bs ms h n
+refuses (lines.Unseen c ∷ ls) more bs ms h n = refuses ls more bs ms h n
 refuses (lines.Create i s ∷ ls) more bs ms h n = refuses ls more bs ms h n
 refuses (lines.Update i s ∷ ls) more bs ms h n = refuses ls more bs ms h n
 refuses (lines.Value i s ∷ ls) more bs ms h n = refuses ls more bs ms h n

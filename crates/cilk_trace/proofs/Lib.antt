@@ -1,4 +1,6 @@
 pub mod Appended
+pub mod Counting
+pub mod Encoded
 pub mod EventReadings
 pub mod Finding
 pub mod Forms
@@ -10,6 +12,7 @@ pub mod Lifetimes
 pub mod Limits
 pub mod LineWords
 pub mod Meeting
+pub mod Pages
 pub mod Passing
 pub mod Readings
 pub mod ReducerReads

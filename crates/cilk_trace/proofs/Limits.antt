@@ -81,7 +81,7 @@ tag_fits count n =
     (either (eqb n 4) (Some (Says lines.Sync)) _ (fit (Says lines.Sync) tt)
     (either (eqb n 5) (Some (Says lines.End)) _ (fit (Says lines.End) tt)
     (either (eqb n 6) (Some (More due.Deed)) _ (fit (More due.Deed) tt)
-    (either (eqb n 7) None _ none
+    (either (eqb n 7) (Some (More due.Unseen)) _ (fit (More due.Unseen) tt)
     (either (ltb (n - 8) count) (Some (More (due.Moved (n - 8)))) None (fit (More (due.Moved (n - 8))) tt) none))))))))
 
 step_fits : (kinds : List Kind) (last : ℕ) (d : Due) (n : ℕ) → IsDueWithin d → Fits (step_of kinds last d n)
@@ -91,6 +91,7 @@ step_fits kinds last due.Kind n h = bound (touch_of n) _ (λ t e. fit _ tt)
 step_fits kinds last (due.KindCount touch) n h = bound (small n) _ (λ c e. fit _ tt)
 step_fits kinds last (due.KindSite touch count) n h = bound (small n) _ (λ s e. fit _ (small_number n s e))
 step_fits kinds last due.Site n h = bound (small n) _ (λ s e. fit _ (small_number n s e))
+step_fits kinds last due.Unseen n h = bound (small n) _ (λ s e. fit _ (small_number n s e))
 step_fits kinds last due.Deed n h = bound (deed_of n) _ (λ d e. fit _ tt)
 step_fits kinds last (due.Reducer deed) n h = bound (small n) _ (λ r e. fit _ (small_number n r e))
 step_fits kinds last (due.ReducerSite deed reducer) n h = bound (small n) _ (λ s e. fit _ (reducer_within deed reducer s h (small_number n s e)))

@@ -137,6 +137,10 @@ rest_sound keywords.Retire ws p e =
     let r' = number_step ws r.0 r.1 in
     let s' = number_step r.0.1 s.0 s.1 in
     read_as keywords.Retire ws (lines.Retire r.0.0 s.0.0) s.0.1 p s.2 (r'.0, s'.0) (prepend _ _ _ (r'.1 ∙ prepend _ _ _ s'.1))
+rest_sound keywords.Unseen ws p e =
+    let s = bind_some (number_at ws) _ p e in
+    let s' = number_step ws s.0 s.1 in
+    read_as keywords.Unseen ws (lines.Unseen s.0.0) s.0.1 p s.2 s'.0 (prepend _ _ _ s'.1)
 rest_sound keywords.End ws p e = read_as keywords.End ws lines.End ws p e tt refl
 
 words_sound : (ws : List (List ℕ)) (x : Line) → words_line ws ≡ Some x → IsWithin x × (ws ≡ line_words x)
@@ -183,6 +187,7 @@ words_again (lines.Create r s) h = rw (number_again r (decimal s ∷ []) h.0, nu
 words_again (lines.Update r s) h = rw (number_again r (decimal s ∷ []) h.0, number_again s [] h.1) refl
 words_again (lines.Value r s) h = rw (number_again r (decimal s ∷ []) h.0, number_again s [] h.1) refl
 words_again (lines.Retire r s) h = rw (number_again r (decimal s ∷ []) h.0, number_again s [] h.1) refl
+words_again (lines.Unseen s) h = rw (number_again s [] h) refl
 words_again lines.End h = refl
 
 -- the bytes of the words after the first one
@@ -242,6 +247,7 @@ words_fine (lines.Create r s) h = record { first = codes "create"; rest = decima
 words_fine (lines.Update r s) h = record { first = codes "update"; rest = decimal r ∷ decimal s ∷ []; most = 22; words = refl; plain = refl; fine = two r s h.0 h.1; short = omega arith }
 words_fine (lines.Value r s) h = record { first = codes "value"; rest = decimal r ∷ decimal s ∷ []; most = 22; words = refl; plain = refl; fine = two r s h.0 h.1; short = omega arith }
 words_fine (lines.Retire r s) h = record { first = codes "retire"; rest = decimal r ∷ decimal s ∷ []; most = 22; words = refl; plain = refl; fine = two r s h.0 h.1; short = omega arith }
+words_fine (lines.Unseen s) h = record { first = codes "unseen"; rest = decimal s ∷ []; most = 11; words = refl; plain = refl; fine = one s h; short = omega arith }
 words_fine lines.End h = record { first = codes "end"; rest = []; most = 0; words = refl; plain = refl; fine = none; short = omega arith }
 
 -- a spelling has no LF and at most 64 bytes, and is read as its line

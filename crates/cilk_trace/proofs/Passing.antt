@@ -1,7 +1,5 @@
 -- The pass over a trace's lines finds the first race, or there is none.
 use Rattle.std.proofs.Common.{◌≡◌, ℕ, suc, ◌+◌, ◌-◌, ◌≤◌, ◌⊎◌, inl, inr, Bool, true, false, cond, List, Option, Some, slice_get, refl, sym, ◌∙◌, ap, subst, arith}
-use Rattle.std.specs.Prelude.{replicate}
-use Rattle.std.proofs.lemmas.List.{get_or-replicate, get_or_past, length-replicate}
 use Rattle.std.proofs.lemmas.Bool.{cases_lt, lt-ltb, le-ltb, le-leb, lt-leb}
 use Rattle.cilk_tree.specs.Tree.{Tree}
 use Rattle.cilk_trace.specs.declared.line.Cells.{Cells}
@@ -12,7 +10,7 @@ use Rattle.cilk_trace.specs.declared.histories.History.{History}
 use Rattle.cilk_trace.specs.declared.histories.Kind.{Kind}
 use Rattle.cilk_trace.specs.declared.histories.Kind.TheVariants as kinds
 use Rattle.cilk_trace.specs.Accesses.{Covers, covers, begun_in, cleared_in, clears, AccessesCell, WritesCell, AccessesAt, WritesAt, IsTraceRace}
-use Rattle.cilk_trace.specs.Histories.{nothing, better, after, history_at, IsMet}
+use Rattle.cilk_trace.specs.Histories.{nothing, untouched, better, after, IsMet}
 use Rattle.cilk_trace.specs.Passes.{Does, IsIdle, number, IsGreatest, Standing}
 use Rattle.cilk_trace.proofs.Strands.{clears_next, clears_grow, strand_first, strand_next}
 
@@ -124,11 +122,11 @@ keeps_other t ls i c (lines.Clear d) kinds.Clear k h at does n g =
     (unmoved WritesCell ls (number t ls) c i (lines.Clear d) h.write at z (λ x. x) g.0, unmoved AccessesCell ls (number t ls) c i (lines.Clear d) h.access at z (λ x. x) g.1)
 keeps_other t ls i c _ _ k h at does n g = absurd does
 
-pub keeps_met : (t : Tree) (ls : List Line) (i strand : ℕ) (hs hs' : List History) (l : Line) (kind : Kind) (k : Cells) (here : Kept) → slice_get ls i ≡ Some l → Does l kind k
-    → 1 ≤ number t ls i → here.at ≡ i + 1 → here.hebrew ≡ number t ls i → Standing t ls i strand hs → IsMet kind here k hs hs' → (c : ℕ) → Keeps t ls (suc i) c (history_at hs' c)
+pub keeps_met : (t : Tree) (ls : List Line) (i strand : ℕ) (hs hs' : ℕ → History) (l : Line) (kind : Kind) (k : Cells) (here : Kept) → slice_get ls i ≡ Some l → Does l kind k
+    → 1 ≤ number t ls i → here.at ≡ i + 1 → here.hebrew ≡ number t ls i → Standing t ls i strand hs → IsMet kind here k hs hs' → (c : ℕ) → Keeps t ls (suc i) c (hs' c)
 keeps_met t ls i strand hs hs' l kind k here at does pos e f s m c = elim (covered k c) [
-  | inl w ↦ subst (Keeps t ls (suc i) c) (sym (m.covered c w.0)) (keeps_covered t ls i c l kind k here (history_at hs c) at does w.0 pos e f (s.writes c, s.accesses c))
-  | inr w ↦ subst (Keeps t ls (suc i) c) (sym (m.others c w.0)) (keeps_other t ls i c l kind k (history_at hs c) at does w.0 (s.writes c, s.accesses c))
+  | inl w ↦ subst (Keeps t ls (suc i) c) (sym (m.covered c w.0)) (keeps_covered t ls i c l kind k here (hs c) at does w.0 pos e f (s.writes c, s.accesses c))
+  | inr w ↦ subst (Keeps t ls (suc i) c) (sym (m.others c w.0)) (keeps_other t ls i c l kind k (hs c) at does w.0 (s.writes c, s.accesses c))
 ]
 
 -- an idle line changes nothing but the strand
@@ -138,6 +136,8 @@ keeps_idle t ls i c (lines.Write d s) h at idle g = absurd idle
 keeps_idle t ls i c (lines.Clear d) h at idle g = absurd idle
 keeps_idle t ls i c (lines.Enter s) h at idle g =
     (unmoved WritesCell ls (number t ls) c i (lines.Enter s) h.write at refl (λ x. x) g.0, unmoved AccessesCell ls (number t ls) c i (lines.Enter s) h.access at refl (λ x. x) g.1)
+keeps_idle t ls i c (lines.Unseen s) h at idle g =
+    (unmoved WritesCell ls (number t ls) c i (lines.Unseen s) h.write at refl (λ x. x) g.0, unmoved AccessesCell ls (number t ls) c i (lines.Unseen s) h.access at refl (λ x. x) g.1)
 keeps_idle t ls i c lines.Spawned h at idle g =
     (unmoved WritesCell ls (number t ls) c i lines.Spawned h.write at refl (λ x. x) g.0, unmoved AccessesCell ls (number t ls) c i lines.Spawned h.access at refl (λ x. x) g.1)
 keeps_idle t ls i c lines.Called h at idle g =
@@ -165,7 +165,7 @@ writes_touch (Some (lines.Write k s)) c h = h
 writes_touch _ c h = absurd h
 
 -- no race ends at an idle line
-pub idle_clean : (t : Tree) (ls : List Line) (i strand : ℕ) (hs : List History) (l : Line) → slice_get ls i ≡ Some l → IsIdle l → Standing t ls i strand hs
+pub idle_clean : (t : Tree) (ls : List Line) (i strand : ℕ) (hs : ℕ → History) (l : Line) → slice_get ls i ≡ Some l → IsIdle l → Standing t ls i strand hs
     → (p q : ℕ) → q ≤ suc i → IsTraceRace t ls p q → ⊥
 idle_clean t ls i strand hs l at idle st p q le r = elim (cases_lt q (suc i)) [
   | inl m ↦ st.clean p q (omega (arith, m)) r
@@ -175,32 +175,21 @@ idle_clean t ls i strand hs l at idle st p q le r = elim (cases_lt q (suc i)) [
       idle_touches l o.cell idle (subst (λ (x : Option Line). AccessesCell x o.cell) at (subst (λ (n : ℕ). AccessesCell (slice_get ls n) o.cell) e a)))
 ]
 
-pub standing_idle : (t : Tree) (ls : List Line) (i strand strand' : ℕ) (hs : List History) (l : Line) → slice_get ls i ≡ Some l → IsIdle l → strand' ≡ strand + begun_in l
+pub standing_idle : (t : Tree) (ls : List Line) (i strand strand' : ℕ) (hs : ℕ → History) (l : Line) → slice_get ls i ≡ Some l → IsIdle l → strand' ≡ strand + begun_in l
     → Standing t ls i strand hs → Standing t ls (suc i) strand' hs
 standing_idle t ls i strand strand' hs l at idle e st = record {
   here = let x = st.here in let y = strand_next ls i l at in omega (arith, e, x, y);
-  writes = λ c. (keeps_idle t ls i c l (history_at hs c) at idle (st.writes c, st.accesses c)).0;
-  accesses = λ c. (keeps_idle t ls i c l (history_at hs c) at idle (st.writes c, st.accesses c)).1;
+  writes = λ c. (keeps_idle t ls i c l (hs c) at idle (st.writes c, st.accesses c)).0;
+  accesses = λ c. (keeps_idle t ls i c l (hs c) at idle (st.writes c, st.accesses c)).1;
   clean = idle_clean t ls i strand hs l at idle st;
 }
 
-emptied_at : (n c : ℕ) → history_at (replicate n (record { write = nothing; access = nothing })) c ≡ record { write = nothing; access = nothing }
-emptied_at n c = elim (cases_lt c n) [
-  | inl l ↦ get_or-replicate n c _ _ l
-  | inr l ↦ get_or_past (replicate n (record { write = nothing; access = nothing })) c _
-      (let k = length-replicate {A = History} n (record { write = nothing; access = nothing }) in omega (arith, k, l))
-]
-
-pub standing_first : (t : Tree) (ls : List Line) (strand n : ℕ) (hs : List History) → strand ≡ 1 → hs ≡ replicate n (record { write = nothing; access = nothing })
-    → Standing t ls 0 strand hs
-standing_first t ls strand n hs e f =
-    let empty : (c : ℕ) → history_at hs c ≡ record { write = nothing; access = nothing } =
-    λ c. ap (λ (l : List History). history_at l c) f ∙ emptied_at n c in
-    record {
-      here = let z = strand_first ls in omega (arith, e, z);
-      writes = λ c. subst (λ (h : History). IsGreatest (WritesAt ls c (clears ls c 0)) (number t ls) 0 h.write) (sym (empty c))
-          (record { held = λ w. absurd (omega (arith, w)); most = λ j m p. absurd (omega (arith, m)) });
-      accesses = λ c. subst (λ (h : History). IsGreatest (AccessesAt ls c (clears ls c 0)) (number t ls) 0 h.access) (sym (empty c))
-          (record { held = λ w. absurd (omega (arith, w)); most = λ j m p. absurd (omega (arith, m)) });
-      clean = λ p q l r. (let x = r.first in let y = r.earlier in omega (arith, l, x, y));
-    }
+pub standing_first : (t : Tree) (ls : List Line) (strand : ℕ) (hs : ℕ → History) → strand ≡ 1 → ((c : ℕ) → hs c ≡ untouched) → Standing t ls 0 strand hs
+standing_first t ls strand hs e empty = record {
+  here = let z = strand_first ls in omega (arith, e, z);
+  writes = λ c. subst (λ (h : History). IsGreatest (WritesAt ls c (clears ls c 0)) (number t ls) 0 h.write) (sym (empty c))
+      (record { held = λ w. absurd (omega (arith, w)); most = λ j m p. absurd (omega (arith, m)) });
+  accesses = λ c. subst (λ (h : History). IsGreatest (AccessesAt ls c (clears ls c 0)) (number t ls) 0 h.access) (sym (empty c))
+      (record { held = λ w. absurd (omega (arith, w)); most = λ j m p. absurd (omega (arith, m)) });
+  clean = λ p q l r. (let x = r.first in let y = r.earlier in omega (arith, l, x, y));
+}

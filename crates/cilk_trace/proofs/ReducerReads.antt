@@ -125,6 +125,7 @@ keeps_next t ls i lines.End here births at e f suits same g r = no_read t ls i r
 keeps_next t ls i (lines.Read k s) here births at e f suits same g r = no_read t ls i r (lines.Read k s) (births r) at refl (λ x. x) (g r)
 keeps_next t ls i (lines.Write k s) here births at e f suits same g r = no_read t ls i r (lines.Write k s) (births r) at refl (λ x. x) (g r)
 keeps_next t ls i (lines.Clear k) here births at e f suits same g r = no_read t ls i r (lines.Clear k) (births r) at refl (λ x. x) (g r)
+keeps_next t ls i (lines.Unseen k) here births at e f suits same g r = no_read t ls i r (lines.Unseen k) (births r) at refl (λ x. x) (g r)
 
 -- which reducers are alive after a line
 alive_next : (l : Line) (r : ℕ) (here : Birth) (o : Option Birth) → is_some (kept_of l r here o) ≡ lives l r (is_some o)

@@ -74,6 +74,7 @@ nest d (lines.Sync ∷ ls) h =
 nest d (lines.Read c s ∷ ls) h = nest d ls h
 nest d (lines.Write c s ∷ ls) h = nest d ls h
 nest d (lines.Clear c ∷ ls) h = nest d ls h
+nest d (lines.Unseen c ∷ ls) h = nest d ls h
 nest d (lines.Create r s ∷ ls) h = nest d ls h
 nest d (lines.Update r s ∷ ls) h = nest d ls h
 nest d (lines.Value r s ∷ ls) h = nest d ls h

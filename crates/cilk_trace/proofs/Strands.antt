@@ -71,6 +71,7 @@ begun_marks lines.End ls = refl
 begun_marks (lines.Read k s) ls = refl
 begun_marks (lines.Write k s) ls = refl
 begun_marks (lines.Clear k) ls = refl
+begun_marks (lines.Unseen k) ls = refl
 begun_marks (lines.Create r s) ls = refl
 begun_marks (lines.Update r s) ls = refl
 begun_marks (lines.Value r s) ls = refl

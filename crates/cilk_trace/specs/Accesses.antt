@@ -16,6 +16,7 @@ begun_in lines.End = 1
 begun_in (lines.Read k s) = 0
 begun_in (lines.Write k s) = 0
 begun_in (lines.Clear k) = 0
+begun_in (lines.Unseen k) = 0
 begun_in (lines.Create r s) = 0
 begun_in (lines.Update r s) = 0
 begun_in (lines.Value r s) = 0
@@ -32,13 +33,6 @@ Covers k c = (k.first ≤ c) × (c < k.first + k.count)
 
 abbrev pub covers : Cells → ℕ → Bool
 covers k c = nat_le k.first c && nat_lt c (k.first + k.count)
-
--- one more than the last cell of a line, or 0 without one
-abbrev pub last_of : Line → ℕ
-last_of (lines.Read k s) = k.first + k.count
-last_of (lines.Write k s) = k.first + k.count
-last_of (lines.Clear k) = k.first + k.count
-last_of _ = 0
 
 abbrev pub cleared_in : Line → ℕ → ℕ
 cleared_in (lines.Clear k) c = if covers k c then 1 else 0

@@ -36,7 +36,7 @@ tag_step count n =
     else if n == 4 then Some (Says lines.Sync)
     else if n == 5 then Some (Says lines.End)
     else if n == 6 then Some (More due.Deed)
-    else if n == 7 then None
+    else if n == 7 then Some (More due.Unseen)
     else if nat_lt (n - 8) count then Some (More (due.Moved (n - 8)))
     else None
 
@@ -80,6 +80,9 @@ step_of kinds last (due.KindSite touch count) n = do
 step_of kinds last due.Site n = do
   site ← small n
   Some (Says (lines.Enter site))
+step_of kinds last due.Unseen n = do
+  site ← small n
+  Some (Says (lines.Unseen site))
 step_of kinds last due.Deed n = do
   deed ← deed_of n
   Some (More (due.Reducer deed))

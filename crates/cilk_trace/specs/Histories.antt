@@ -1,9 +1,10 @@
 -- The histories of the cells of a trace.
-use Rattle.std.specs.Prelude.{◌≡◌, ℕ, nat_lt, nat_eq, ◌&&◌, ◌||◌, List, length, slice_index_or, ◌<◌, ◌≤◌, ◌⊎◌, if◌then◌else◌}
+use Rattle.std.specs.Prelude.{◌≡◌, ℕ, ◌-◌, ◌/◌, ◌%◌, nat_lt, nat_eq, ◌&&◌, ◌||◌, List, [], Option, Some, None, slice_get, slice_index_or, ◌<◌, ◌≤◌, ◌⊎◌, if◌then◌else◌}
 use Rattle.cilk_trace.specs.declared.line.Cells.{Cells}
 use Rattle.cilk_trace.specs.Accesses.{Covers}
 use Rattle.cilk_trace.specs.declared.histories.Kept.{Kept}
 use Rattle.cilk_trace.specs.declared.histories.History.{History}
+use Rattle.cilk_trace.specs.declared.histories.Page.{Page}
 use Rattle.cilk_trace.specs.declared.histories.Kind.{Kind}
 use Rattle.cilk_trace.specs.declared.histories.Kind.TheVariants.{Read, Write, Clear}
 
@@ -37,18 +38,34 @@ after Clear here h = record { write = nothing; access = nothing }
 abbrev pub first_of : Kept → Kept → Kept
 first_of k l = if nat_lt k.hebrew l.hebrew || (nat_eq k.hebrew l.hebrew && nat_lt l.at k.at) then l else k
 
--- the history of a cell, empty past the last
+-- the history of a cell without an access
+abbrev pub untouched : History
+untouched = record { write = nothing; access = nothing }
+
+-- the history at a place of a page, empty past the last
 abbrev pub history_at : List History → ℕ → History
 history_at hs c = slice_index_or hs c (record { write = nothing; access = nothing })
 
--- a line did this to its cells, and nothing to others
-pub record IsMet (kind : Kind) (here : Kept) (k : Cells) (old new : List History) : Type 0 where
-  pub same : length new ≡ length old
-  pub covered : (c : ℕ) → Covers k c → history_at new c ≡ after kind here (history_at old c)
-  pub others : (c : ℕ) → (Covers k c → ⊥) → history_at new c ≡ history_at old c
+-- the histories of a page, if there is one
+abbrev pub held_by : Option Page → List History
+held_by None = []
+held_by (Some page) = page.cells.items
+
+-- the history of a cell: a page has 4,096
+abbrev pub history_of : List Page → ℕ → History
+history_of pages c = history_at (held_by (slice_get pages (c / 4096))) (c % 4096)
+
+-- the cells from one on, up to another
+abbrev pub part : ℕ → ℕ → Cells
+part from to = record { first = from; count = to - from }
+
+-- A line did this to its cells, and nothing to others, by the histories before and after.
+pub record IsMet (kind : Kind) (here : Kept) (k : Cells) (old new : ℕ → History) : Type 0 where
+  pub covered : (c : ℕ) → Covers k c → new c ≡ after kind here (old c)
+  pub others : (c : ℕ) → (Covers k c → ⊥) → new c ≡ old c
 
 -- Of the kept accesses of these cells that race with one of this kind and Hebrew number, the one of greatest Hebrew number, at equal
 -- numbers the earliest; or none.
-pub record IsBest (kind : Kind) (n : ℕ) (k : Cells) (hs : List History) (best : Kept) : Type 0 where
-  pub found : 0 < best.hebrew → (c : ℕ) × Covers k c × (racing kind (history_at hs c) n ≡ best)
-  pub greatest : (c : ℕ) → Covers k c → let r = racing kind (history_at hs c) n in (r.hebrew < best.hebrew) ⊎ ((r.hebrew ≡ best.hebrew) × (best.at ≤ r.at))
+pub record IsBest (kind : Kind) (n : ℕ) (k : Cells) (hs : ℕ → History) (best : Kept) : Type 0 where
+  pub found : 0 < best.hebrew → (c : ℕ) × Covers k c × (racing kind (hs c) n ≡ best)
+  pub greatest : (c : ℕ) → Covers k c → let r = racing kind (hs c) n in (r.hebrew < best.hebrew) ⊎ ((r.hebrew ≡ best.hebrew) × (best.at ≤ r.at))

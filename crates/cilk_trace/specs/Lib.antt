@@ -1,6 +1,7 @@
 pub mod Accesses
 pub mod Binary
 pub mod Births
+pub mod Encoding
 pub mod EventReaders
 pub mod Events
 pub mod Forms
@@ -19,5 +20,6 @@ pub mod Surveys
 pub mod TextReaders
 pub mod Texts
 pub mod Touching
+pub mod Unseen
 pub mod Viewing
 pub mod Views

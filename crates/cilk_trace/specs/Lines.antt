@@ -22,6 +22,7 @@ line_words (lines.Create r site) = codes "create" ∷ decimal r ∷ decimal site
 line_words (lines.Update r site) = codes "update" ∷ decimal r ∷ decimal site ∷ []
 line_words (lines.Value r site) = codes "value" ∷ decimal r ∷ decimal site ∷ []
 line_words (lines.Retire r site) = codes "retire" ∷ decimal r ∷ decimal site ∷ []
+line_words (lines.Unseen site) = codes "unseen" ∷ decimal site ∷ []
 line_words lines.End = codes "end" ∷ []
 
 -- the spelling of a line, without its LF
@@ -50,6 +51,7 @@ IsWithin (lines.Create r site) = IsNumber r × IsNumber site
 IsWithin (lines.Update r site) = IsNumber r × IsNumber site
 IsWithin (lines.Value r site) = IsNumber r × IsNumber site
 IsWithin (lines.Retire r site) = IsNumber r × IsNumber site
+IsWithin (lines.Unseen site) = IsNumber site
 IsWithin _ = ⊤
 
 -- ---- reading a line
@@ -66,6 +68,7 @@ spelling keywords.Create = codes "create"
 spelling keywords.Update = codes "update"
 spelling keywords.Value = codes "value"
 spelling keywords.Retire = codes "retire"
+spelling keywords.Unseen = codes "unseen"
 spelling keywords.End = codes "end"
 
 abbrev pub first_spelled : List Keyword → List ℕ → Option Keyword
@@ -73,7 +76,7 @@ first_spelled [] word = None
 first_spelled (k ∷ ks) word = if bytes_eq word (spelling k) then Some k else first_spelled ks word
 
 abbrev pub all_keywords : List Keyword
-all_keywords = keywords.Read ∷ keywords.Write ∷ keywords.Enter ∷ keywords.Spawned ∷ keywords.Called ∷ keywords.Sync ∷ keywords.Clear ∷ keywords.Create ∷ keywords.Update ∷ keywords.Value ∷ keywords.Retire ∷ keywords.End ∷ []
+all_keywords = keywords.Read ∷ keywords.Write ∷ keywords.Enter ∷ keywords.Spawned ∷ keywords.Called ∷ keywords.Sync ∷ keywords.Clear ∷ keywords.Create ∷ keywords.Update ∷ keywords.Value ∷ keywords.Retire ∷ keywords.Unseen ∷ keywords.End ∷ []
 
 -- the keyword with this spelling
 unfoldable pub keyword_of : List ℕ → Option Keyword
@@ -124,6 +127,9 @@ rest_at keywords.Retire ws = do
   r ← number_at ws
   s ← number_at r.1
   Some (lines.Retire r.0 s.0, s.1)
+rest_at keywords.Unseen ws = do
+  s ← number_at ws
+  Some (lines.Unseen s.0, s.1)
 rest_at keywords.End ws = Some (lines.End, ws)
 
 unfoldable pub words_line : List (List ℕ) → Option Line

@@ -12,7 +12,6 @@ use Rattle.cilk_trace.specs.declared.histories.Kind.{Kind}
 use Rattle.cilk_trace.specs.declared.histories.Kind.TheVariants as kinds
 use Rattle.cilk_trace.specs.declared.histories.History.{History}
 use Rattle.cilk_trace.specs.Accesses.{strand_of, clears, AccessesAt, WritesAt, IsTraceRace}
-use Rattle.cilk_trace.specs.Histories.{history_at}
 
 -- the Hebrew number of the strand of the line with index i
 abbrev pub number : Tree → List Line → ℕ → ℕ
@@ -25,10 +24,10 @@ pub record IsGreatest (P : ℕ → Type 0) (H : ℕ → ℕ) (i : ℕ) (k : Kept
 
 -- The state before the line with index i: the current strand, and of each cell the greatest write and access since it was cleared
 -- last. No line before it ends a race.
-pub record Standing (t : Tree) (ls : List Line) (i strand : ℕ) (hs : List History) : Type 0 where
+pub record Standing (t : Tree) (ls : List Line) (i strand : ℕ) (hs : ℕ → History) : Type 0 where
   pub here : strand ≡ strand_of ls i
-  pub writes : (c : ℕ) → IsGreatest (WritesAt ls c (clears ls c i)) (number t ls) i (history_at hs c).write
-  pub accesses : (c : ℕ) → IsGreatest (AccessesAt ls c (clears ls c i)) (number t ls) i (history_at hs c).access
+  pub writes : (c : ℕ) → IsGreatest (WritesAt ls c (clears ls c i)) (number t ls) i (hs c).write
+  pub accesses : (c : ℕ) → IsGreatest (AccessesAt ls c (clears ls c i)) (number t ls) i (hs c).access
   pub clean : (p q : ℕ) → q ≤ i → IsTraceRace t ls p q → ⊥
 
 -- what a line does to its cells
@@ -38,10 +37,6 @@ Does (lines.Write k s) kinds.Write c = k ≡ c
 Does (lines.Clear k) kinds.Clear c = k ≡ c
 Does _ _ c = ⊥
 
--- the cells of a line are below n
-abbrev pub CellsFit : ℕ → Line → Type 0
-CellsFit n l = (kind : Kind) (k : Cells) → Does l kind k → k.first + k.count ≤ n
-
 -- whether a line neither accesses nor clears a cell
 abbrev pub IsIdle : Line → Type 0
 IsIdle (lines.Read k s) = ⊥
@@ -50,7 +45,7 @@ IsIdle (lines.Clear k) = ⊥
 IsIdle _ = ⊤
 
 -- The pass over these lines, of this shape, is before the line with index i.
-pub record IsBefore (s : Shape) (ls : List Line) (i : ℕ) (labels : List ℕ) (strand : ℕ) (hs : List History) : Type 0 where
+pub record IsBefore (s : Shape) (ls : List Line) (i : ℕ) (labels : List ℕ) (strand : ℕ) (hs : ℕ → History) : Type 0 where
   pub spells : SpellsMarks s (marks_of ls)
   pub labels_are : labels ≡ hebrews (tree s) 1
   pub standing : Standing (tree s) ls i strand hs

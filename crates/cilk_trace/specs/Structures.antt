@@ -31,6 +31,15 @@ abbrev pub over : Noted → List ℕ → Option Noted
 over n [] = Some (record { marks = n.marks ++ Sync ∷ End ∷ []; begun = []; ended = true })
 over n (k ∷ ks) = None
 
+-- how many marks a line has
+abbrev pub marks_in : Line → ℕ
+marks_in (lines.Enter s) = 2
+marks_in lines.Spawned = 3
+marks_in lines.Called = 3
+marks_in lines.Sync = 1
+marks_in lines.End = 2
+marks_in _ = 0
+
 -- one line more, if it may come here, before the root's end
 abbrev pub with_line : Line → Noted → Option Noted
 with_line (lines.Enter s) n = Some (entered n)
@@ -40,6 +49,7 @@ with_line lines.Sync n = Some (record { marks = n.marks ++ Sync ∷ []; begun = 
 with_line (lines.Read c s) n = Some n
 with_line (lines.Write c s) n = Some n
 with_line (lines.Clear c) n = Some n
+with_line (lines.Unseen c) n = Some n
 with_line (lines.Create r s) n = Some n
 with_line (lines.Update r s) n = Some n
 with_line (lines.Value r s) n = Some n

@@ -1,5 +1,5 @@
 -- The survey that the first reading makes of a trace's lines.
-use Rattle.std.specs.Prelude.{◌≡◌, ℕ, ◌<◌, ◌^◌, List, length, Some, slice_get}
+use Rattle.std.specs.Prelude.{◌≡◌, ℕ, ◌<◌, ◌≤◌, ◌^◌, List, length, Some}
 use Rattle.cilk_tree.specs.Shape.{Shape, SpellsMarks}
 use Rattle.cilk_tree.specs.Tree.{tree}
 use Rattle.cilk_tree.specs.Hebrew.{hebrews}
@@ -9,7 +9,6 @@ use Rattle.cilk_trace.specs.declared.survey.Survey.{Survey}
 use Rattle.cilk_trace.specs.declared.survey.Known.{Known}
 use Rattle.cilk_trace.specs.Frames.{Nests}
 use Rattle.cilk_trace.specs.Marks.{marks_of}
-use Rattle.cilk_trace.specs.Passes.{CellsFit}
 use Rattle.cilk_trace.specs.Structures.{opening, noted}
 use Rattle.cilk_trace.specs.Reducers.{is_alive, KeepsReducers}
 use Rattle.cilk_trace.specs.Births.{alive_in}
@@ -19,18 +18,18 @@ pub record IsTrace (ls : List Line) : Type 0 where
   pub nests : Nests 0 ls
   pub reducers : KeepsReducers ls
 
--- all cells are below n
-abbrev pub CellsWithin : ℕ → List Line → Type 0
-CellsWithin n ls = (i : ℕ) (l : Line) → slice_get ls i ≡ Some l → CellsFit n l
+-- The lines keep the limits of traces: there are fewer than 2^32, and they have at most 2^30 marks.
+pub record KeepsLimits (ls : List Line) : Type 0 where
+  pub few : length ls < 2 ^ 32
+  pub marks : length (marks_of ls) ≤ 2 ^ 30
 
 -- the survey of these first lines of a trace
 pub record IsSurvey (ls : List Line) (v : Survey) : Type 0 where
   pub structure : noted ls opening ≡ Some v.structure
   pub alive : (r : ℕ) → alive_in v.births r ≡ is_alive ls (length ls) r
   pub reducers : KeepsReducers ls
-  pub cells : CellsWithin v.cells ls
   pub count : length ls ≡ v.count
-  pub few : length ls < 2 ^ 32
+  pub limits : KeepsLimits ls
 
 -- what the second reading needs of a trace
 pub record IsKnownOf (ls : List Line) (k : Known) : Type 0 where
@@ -38,5 +37,4 @@ pub record IsKnownOf (ls : List Line) (k : Known) : Type 0 where
   pub marks : k.marks.items ≡ marks_of ls
   pub labels : (s : Shape) → SpellsMarks s (marks_of ls) → k.labels ≡ hebrews (tree s) 1
   pub classes : (s : Shape) → SpellsMarks s (marks_of ls) → k.classes ≡ class_numbers (tree s) 0 1
-  pub cells : CellsWithin k.cells ls
-  pub few : length ls < 2 ^ 32
+  pub limits : KeepsLimits ls

@@ -47,6 +47,7 @@ impl Births {
         ensures suits { IfOk result (λ o. OnSome o (Suits line.now (alive_in self.old))) }
         ensures set { IfOk result (λ o. IfSome o (λ b. b ≡ set_at line.now here (birth_of self.old))) }
         ensures kept { IfOk result (λ o. OnSome o ((r : ℕ) → birth_of self.new r ≡ kept_of line.now r here (birth_of self.old r))) }
+        ensures unchanged { IfOk result (λ o. IfNone o ((r : ℕ) → birth_of self.new r ≡ birth_of self.old r)) }
         ensures misplaced { IfOk result (λ o. IfNone o (Suits line.now (alive_in self.old) → ⊥)) }
     {
         match *line {

@@ -46,6 +46,8 @@ pub(crate) enum Due {
     KindSite { touch: Touch, count: u32 },
     /// Of `enter`.
     Site,
+    /// Of `unseen`.
+    Unseen,
     /// Of a reducer's event.
     Deed,
     Reducer { deed: Deed },
@@ -112,7 +114,7 @@ fn tag(count: usize, number: u64) -> Option<Step>
         4 => Some(Step::Says(Line::Sync)),
         5 => Some(Step::Says(Line::End)),
         6 => Some(Step::More(Due::Deed)),
-        7 => None,
+        7 => Some(Step::More(Due::Unseen)),
         _ => {
             let kind = (number - 8) as usize;
             if kind < count {
@@ -206,6 +208,10 @@ pub(crate) fn next_step(kinds: &[Kind], last: u32, due: Due, number: u64) -> Opt
         Due::Site => {
             let site = small(number)?;
             Some(Step::Says(Line::Enter { site }))
+        }
+        Due::Unseen => {
+            let site = small(number)?;
+            Some(Step::Says(Line::Unseen { site }))
         }
         Due::Deed => {
             let deed = deed_in(number)?;

@@ -17,6 +17,7 @@ pub(crate) enum Keyword {
     Update,
     Value,
     Retire,
+    Unseen,
     End,
 }
 
@@ -57,6 +58,9 @@ pub(crate) fn keyword_in(word: &[u8]) -> Option<Keyword>
     }
     if word == b"retire".as_slice() {
         return Some(Keyword::Retire);
+    }
+    if word == b"unseen".as_slice() {
+        return Some(Keyword::Unseen);
     }
     if word == b"end".as_slice() {
         return Some(Keyword::End);

@@ -10,7 +10,7 @@
 //! | [`reader::TraceReader`] | Reads a trace in pieces, cut anywhere, as lines; or the first fault. |
 //! | [`survey::Survey`] | The first reading: do frames nest, are reducers used while they are alive? |
 //! | [`survey::Known`] | What it leaves: marks, Hebrew numbers and peer classes of all strands. |
-//! | [`judge::Judge`] | The second reading: race-free, the first race, or the first view-read race. |
+//! | [`judge::Judge`] | The second reading: race-free, and how many lines are `unseen`; or the first race. |
 //!
 //! **The form.** The text form is lines of words: one space separates two words, and one LF ends
 //! each line.
@@ -22,15 +22,16 @@
 //!        | ("read" | "write") SP CELL SP COUNT SP SITE
 //!        | "clear" SP CELL SP COUNT
 //!        | ("create" | "update" | "value" | "retire") SP REDUCER SP SITE
+//!        | "unseen" SP SITE
 //! ```
 //!
 //! A number is below 2^32 and has no leading zeros. COUNT is 1 to 4,096, and CELL + COUNT at most
-//! 2^32. A line has at most 64 bytes, and there are fewer than 2^32 - 1 lines. A trace that begins
-//! with `cilktrace-bin 1` and LF is in the binary form, in which each event is some numbers in
-//! LEB128, and lines with cells name a kind that was declared before. A [`fault::TraceFault`] names
-//! the line, from 1, at which reading stops. A text is read without a fault exactly if it is a
-//! trace's ([`text_laws::reads_traces`]). Whether frames nest and reducers are alive is no matter of
-//! the form.
+//! 2^32. A line has at most 64 bytes, there are fewer than 2^32 - 1 lines, and they have at most 2^30
+//! marks. A trace that begins with `cilktrace-bin 1` and LF is in the binary form, in which each
+//! event is some numbers in LEB128, and lines with cells name a kind that was declared before. A
+//! [`fault::TraceFault`] names the line, from 1, at which reading stops. A text is read without a
+//! fault exactly if it is a trace's ([`text_laws::reads_traces`]). Whether frames nest, reducers are
+//! alive and marks are few is no matter of the form.
 //!
 //! **The readings** are made of smaller passes:
 //!
@@ -44,7 +45,8 @@
 //! - [`views::ViewPass`] looks for view-read races, by peer classes (Lee and Schardl 2015).
 //!
 //! Time is linear in the lines and in the cells that they name. Memory: 8 bytes a strand, 2 a mark,
-//! 16 a cell, and some 24 for each reducer that is alive.
+//! 16 for each cell of a page with an access, and some 24 for each reducer that is alive. A page has
+//! 4,096 cells.
 //!
 //! ```text
 //! let mut reader = TraceReader::new(alloc);

@@ -29,6 +29,8 @@ pub enum Line {
     Value { reducer: u32, site: u32 },
     /// A reducer ends.
     Retire { reducer: u32, site: u32 },
+    /// Code runs here whose accesses the trace lacks, while something is parallel.
+    Unseen { site: u32 },
     /// The root frame syncs and ends.
     End,
 }

@@ -83,6 +83,10 @@ fn rest_of<'a>(keyword: Keyword, left: Option<&'a [u8]>) -> Option<(Line, Option
             let (site, rest) = number(rest)?;
             Some((Line::Retire { reducer, site }, rest))
         }
+        Keyword::Unseen => {
+            let (site, rest) = number(left)?;
+            Some((Line::Unseen { site }, rest))
+        }
         Keyword::End => Some((Line::End, left)),
     }
 }

@@ -6,12 +6,13 @@ ghost use Rattle.cilk_tree.specs.Tree.{tree};
 ghost use Rattle.cilk_tree.specs.Shape.{SpellsMarks};
 ghost use Rattle.cilk_tree.specs.Hebrew.{hebrews};
 ghost use Rattle.cilk_trace.specs.Marks.{marks_of};
+ghost use Rattle.cilk_trace.specs.Histories.{history_of};
 ghost use Rattle.cilk_trace.specs.Touching.{IsTouched};
 ghost use Rattle.cilk_trace.specs.declared.histories.Kept.{Kept};
 ghost use Rattle.cilk_trace.specs.declared.line.Line.{Line};
 ghost use Rattle.std.specs.Prelude.{IfSome, IfNone};
 ghost use Rattle.cilk_trace.specs.Accesses.{IsFirstTraceRace, begun_in};
-ghost use Rattle.cilk_trace.specs.Passes.{CellsFit, Does, IsBefore, IsIdle};
+ghost use Rattle.cilk_trace.specs.Passes.{Does, IsBefore, IsIdle};
 
 use crate::histories::{Histories, Kept, Kind};
 use crate::line::{Cells, Line};
@@ -26,7 +27,7 @@ pub enum Met {
     Clean,
     /// The line races with this earlier position, and no line before it races with one.
     Race(Pos),
-    /// The line isn't of the trace that the strands and cells were counted of.
+    /// The line isn't of the trace that the strands were counted of.
     Foreign,
 }
 
@@ -65,35 +66,32 @@ pub(crate) fn begun(line: &Line) -> u32
 }
 
 impl<'a> Pass<'a> {
-    /// Makes a pass over no line, for a trace of these strands and of `cells` cells.
-    pub fn new(alloc: Global, labels: &'a Labels, cells: usize) -> Result<Pass<'a>, AllocError>
-        ensures before { IfOk result (λ p. (s : Shape) (ls : List Line) → SpellsMarks s (marks_of ls) → labels.now ≡ hebrews (tree s) 1 → IsBefore s ls p.count p.labels.now p.strand p.histories.cells.items) }
-        ensures rooms { IfOk result (λ p. length p.histories.cells.items ≡ cells) }
-        ensures count { IfOk result (λ p. p.count ≡ 0) }
+    /// Makes a pass over no line, for a trace of these strands.
+    pub fn new(alloc: Global, labels: &'a Labels) -> Pass<'a>
+        ensures before { (s : Shape) (ls : List Line) → SpellsMarks s (marks_of ls) → labels.now ≡ hebrews (tree s) 1 → IsBefore s ls result.count result.labels.now result.strand (history_of result.histories.pages.items) }
+        ensures count { result.count ≡ 0 }
     {
-        let histories = Histories::new(alloc, cells)?;
-        Ok(Pass {
+        Pass {
             labels,
-            histories,
+            histories: Histories::new(alloc),
             strand: 1,
             count: 0,
-        })
+        }
     }
 
     /// Takes the next line.
-    pub fn meet(&mut self, line: &Line) -> Met
-        ensures clean { result ≡ Met.Clean → (s : Shape) (ls : List Line) → slice_get ls self.old.count ≡ Some line.now → IsBefore s ls self.old.count self.old.labels.now self.old.strand self.old.histories.cells.items → IsBefore s ls self.new.count self.new.labels.now self.new.strand self.new.histories.cells.items }
-        ensures counted { result ≡ Met.Clean → self.new.count ≡ suc self.old.count }
-        ensures rooms { length self.new.histories.cells.items ≡ length self.old.histories.cells.items }
-        ensures race { (p : ℕ) → result ≡ Met.Race p → (s : Shape) (ls : List Line) → slice_get ls self.old.count ≡ Some line.now → IsBefore s ls self.old.count self.old.labels.now self.old.strand self.old.histories.cells.items → IsFirstTraceRace (tree s) ls p (self.old.count + 1) }
-        ensures foreign { result ≡ Met.Foreign → self.old.count + 1 < 2 ^ 32 → CellsFit (length self.old.histories.cells.items) line.now → (s : Shape) (ls : List Line) → slice_get ls self.old.count ≡ Some line.now → IsBefore s ls self.old.count self.old.labels.now self.old.strand self.old.histories.cells.items → ⊥ }
+    pub fn meet(&mut self, line: &Line) -> Result<Met, AllocError>
+        ensures clean { IfOk result (λ m. m ≡ Met.Clean → (s : Shape) (ls : List Line) → slice_get ls self.old.count ≡ Some line.now → IsBefore s ls self.old.count self.old.labels.now self.old.strand (history_of self.old.histories.pages.items) → IsBefore s ls self.new.count self.new.labels.now self.new.strand (history_of self.new.histories.pages.items)) }
+        ensures counted { IfOk result (λ m. m ≡ Met.Clean → self.new.count ≡ suc self.old.count) }
+        ensures race { IfOk result (λ m. (p : ℕ) → m ≡ Met.Race p → (s : Shape) (ls : List Line) → slice_get ls self.old.count ≡ Some line.now → IsBefore s ls self.old.count self.old.labels.now self.old.strand (history_of self.old.histories.pages.items) → IsFirstTraceRace (tree s) ls p (self.old.count + 1)) }
+        ensures foreign { IfOk result (λ m. m ≡ Met.Foreign → self.old.count + 1 < 2 ^ 32 → (s : Shape) (ls : List Line) → slice_get ls self.old.count ≡ Some line.now → IsBefore s ls self.old.count self.old.labels.now self.old.strand (history_of self.old.histories.pages.items) → ⊥) }
     {
         if !self.can_go_on() {
-            return Met::Foreign;
+            return Ok(Met::Foreign);
         }
         match deed(line) {
             Some((kind, cells)) => self.touch(kind, cells),
-            None => self.go_on(begun(line)),
+            None => Ok(self.go_on(begun(line))),
         }
     }
 
@@ -110,28 +108,24 @@ impl<'a> Pass<'a> {
     }
 
     // Takes a line that accesses or clears cells.
-    fn touch(&mut self, kind: Kind, cells: Cells) -> Met
+    fn touch(&mut self, kind: Kind, cells: Cells) -> Result<Met, AllocError>
         requires first { 1 ≤ self.old.strand }
         requires last { self.old.strand ≤ length self.old.labels.now }
         requires few { self.old.count + 1 < 2 ^ 32 }
-        ensures touched { result ≡ Met.Clean → IsTouched self.old self.new kind cells (record { hebrew = 0; at = 0 }) }
-        ensures raced { (p : ℕ) → result ≡ Met.Race p → (best : Kept) × (best.at ≡ p) × (0 < best.hebrew) × IsTouched self.old self.new kind cells best }
-        ensures foreign { result ≡ Met.Foreign → length self.old.histories.cells.items < cells.first + cells.count }
-        ensures rooms { length self.new.histories.cells.items ≡ length self.old.histories.cells.items }
+        ensures touched { IfOk result (λ m. m ≡ Met.Clean → IsTouched self.old self.new kind cells (record { hebrew = 0; at = 0 })) }
+        ensures raced { IfOk result (λ m. (p : ℕ) → m ≡ Met.Race p → (best : Kept) × (best.at ≡ p) × (0 < best.hebrew) × IsTouched self.old self.new kind cells best) }
+        ensures not_foreign { IfOk result (λ m. m ≡ Met.Foreign → ⊥) }
     {
-        if cells.first as usize + cells.count as usize > self.histories.count() {
-            return Met::Foreign;
-        }
         let here = Kept {
             hebrew: self.labels.hebrew(self.strand),
             at: self.count + 1,
         };
-        let best = self.histories.meet(kind, cells, here);
+        let best = self.histories.meet(kind, cells, here)?;
         self.count += 1;
         if best.hebrew == 0 {
-            Met::Clean
+            Ok(Met::Clean)
         } else {
-            Met::Race(best.at)
+            Ok(Met::Race(best.at))
         }
     }
 
@@ -143,7 +137,6 @@ impl<'a> Pass<'a> {
         ensures same { result ≡ Met.Clean → (self.new.histories ≡ self.old.histories) × (self.new.labels.now ≡ self.old.labels.now) }
         ensures no_race { (p : ℕ) → result ≡ Met.Race p → ⊥ }
         ensures foreign { result ≡ Met.Foreign → 2 ^ 32 ≤ self.old.strand + begun }
-        ensures rooms { length self.new.histories.cells.items ≡ length self.old.histories.cells.items }
     {
         let Some(strand) = self.strand.checked_add(begun) else {
             return Met::Foreign;

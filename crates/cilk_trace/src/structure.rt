@@ -1,7 +1,7 @@
 //! The structure of a trace: its marks, from its lines one by one.
 
-ghost use Rattle.std.specs.Prelude.{◌≡◌, IfOk, None, Some, false, set, ◌+◌, ◌<◌, length};
-ghost use Rattle.cilk_trace.specs.Structures.{closed, entered, noting, opening, over};
+ghost use Rattle.std.specs.Prelude.{◌≡◌, IfOk, None, Some, false, set, ◌+◌, ◌<◌, ◌≤◌, length};
+ghost use Rattle.cilk_trace.specs.Structures.{closed, entered, marks_in, noting, opening, over};
 
 use crate::line::Line;
 use cilk_tree::mark::Mark;
@@ -35,10 +35,25 @@ pub struct Structure {
 
 impl Model for Structure {
     ghost use Rattle.cilk_trace.specs.Structures.{Noted};
+    ghost use Rattle.std.specs.Prelude.{◌≤◌, length};
 
     ghost Value = { Noted };
 
     ghost view = { λ s. record { marks = s.marks.items; begun = s.begun; ended = s.ended } };
+
+    ghost invariant = { λ s. length s.marks.items ≤ 1073741824 };
+}
+
+// How many marks a line has.
+fn marks_in(line: &Line) -> usize
+    ensures { result ≡ marks_in line.now }
+{
+    match *line {
+        Line::Spawned | Line::Called => 3,
+        Line::Enter { .. } | Line::End => 2,
+        Line::Sync => 1,
+        _ => 0,
+    }
 }
 
 impl Structure {
@@ -59,12 +74,13 @@ impl Structure {
     pub fn meet(&mut self, line: &Line) -> Result<Placing, AllocError>
         ensures fits { IfOk result (λ p. p ≡ Placing.Fits → noting line.now self.old ≡ Some self.new) }
         ensures misplaced { IfOk result (λ p. p ≡ Placing.Misplaced → noting line.now self.old ≡ None) }
-        ensures too_many { IfOk result (λ p. p ≡ Placing.TooMany → 1073741824 < length self.old.marks + 3) }
+        ensures too_many { IfOk result (λ p. p ≡ Placing.TooMany → 1073741824 < length self.old.marks + marks_in line.now) }
+        ensures few { IfOk result (λ p. p ≡ Placing.Fits → length self.old.marks + marks_in line.now ≤ 1073741824) }
     {
         if self.ended {
             return Ok(Placing::Misplaced);
         }
-        if self.marks.len() + 3 > MAX_MARKS {
+        if self.marks.len() + marks_in(line) > MAX_MARKS {
             return Ok(Placing::TooMany);
         }
         match *line {
@@ -81,6 +97,7 @@ impl Structure {
     }
 
     fn enter(&mut self) -> Result<Placing, AllocError>
+        requires { length self.old.marks + 2 ≤ 1073741824 }
         ensures { IfOk result (λ p. (p ≡ Placing.Fits) × (self.new ≡ entered self.old)) }
     {
         self.begun.push(self.marks.len())?;
@@ -91,6 +108,7 @@ impl Structure {
 
     // The innermost frame ends, and `how` started it.
     fn close(&mut self, how: Mark) -> Result<Placing, AllocError>
+        requires { length self.old.marks + 3 ≤ 1073741824 }
         ensures fits { IfOk result (λ p. p ≡ Placing.Fits → closed how self.old self.old.begun ≡ Some self.new) }
         ensures misplaced { IfOk result (λ p. p ≡ Placing.Misplaced → closed how self.old self.old.begun ≡ None) }
         ensures not_many { IfOk result (λ p. p ≡ Placing.TooMany → ⊥) }
@@ -114,6 +132,7 @@ impl Structure {
     }
 
     fn end(&mut self) -> Result<Placing, AllocError>
+        requires { length self.old.marks + 2 ≤ 1073741824 }
         ensures fits { IfOk result (λ p. p ≡ Placing.Fits → over self.old self.old.begun ≡ Some self.new) }
         ensures misplaced { IfOk result (λ p. p ≡ Placing.Misplaced → over self.old self.old.begun ≡ None) }
         ensures not_many { IfOk result (λ p. p ≡ Placing.TooMany → ⊥) }
@@ -143,7 +162,8 @@ impl Structure {
 
     /// Returns the marks.
     pub fn into_marks(self) -> Vec<Mark>
-        ensures { result.items ≡ self.marks }
+        ensures marks { result.items ≡ self.marks }
+        ensures few { length result.items ≤ 1073741824 }
     {
         let Structure { marks, .. } = self;
         marks

@@ -2,7 +2,7 @@
 
 ghost use Rattle.std.specs.Prelude.{◌≡◌, ℤ};
 ghost use Rattle.cilk_types.specs.Word.{HasOneWord, DividesExactly, DividesWithin};
-ghost use Rattle.cilk_types.specs.declared.limits.TheConstants.{MAX_TEXT, MAX_INPUTS, MAX_EVENTS, MAX_TICKS, MAX_FRAMES, MAX_CELLS};
+ghost use Rattle.cilk_types.specs.declared.limits.TheConstants.{MAX_TEXT, MAX_INPUTS, MAX_EVENTS, MAX_TICKS, MAX_FRAMES, MAX_CELLS, MAX_WORKERS, MAX_HELPERS};
 
 /// Words are the integers modulo 2^64.
 pub fn words_are_modulo()
@@ -20,7 +20,7 @@ pub fn only_one_quotient_wraps()
     ensures { (a b : ℤ) → DividesWithin a b }
 {}
 
-/// The limits of texts, inputs and runs as numbers, for contracts that name the constants.
+/// The limits of texts, inputs and runs, of workers and of helpers as numbers, for contracts that name the constants.
 pub fn limits_are()
     ensures text { MAX_TEXT ≡ 262144 }
     ensures inputs { MAX_INPUTS ≡ 65536 }
@@ -28,4 +28,6 @@ pub fn limits_are()
     ensures ticks { MAX_TICKS ≡ 16000000 }
     ensures frames { MAX_FRAMES ≡ 65536 }
     ensures cells { MAX_CELLS ≡ 1048576 }
+    ensures workers { MAX_WORKERS ≡ 64 }
+    ensures helpers { MAX_HELPERS ≡ 16 }
 {}

@@ -51,7 +51,7 @@ fn made<R: Abort>(rt: &R, alloc: Global, shared: &Shared<'_>, mut work: Work) ->
         match act(alloc, shared, &mut work) {
             Turn::Goes => {}
             Turn::Offers(offered) => task = Some(offered),
-            Turn::Ended => {
+            Turn::Ended(_) => {
                 let Work { piece, chain: _ } = work;
                 return Stretch {
                     piece,

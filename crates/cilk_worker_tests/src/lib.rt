@@ -17,6 +17,7 @@
 //! | [`holds`], [`gates`] | strands that wait for others |
 //! | [`racks`] | tasks from both ends of a rack |
 //! | [`boxes`] | pieces that arrive at a join box out of order |
+//! | [`thieves`] | a worker that steals the only task, and a worker's end |
 //! | [`refused`] | a second run on the same plan after one that is out of memory |
 //! | [`works`], [`waits`] | support: workers without a pool, time limits |
 //! | [`texts`], [`shown`] | support: accepted programs, outcomes as lines |
@@ -45,6 +46,8 @@ mod runs;
 mod shown;
 #[cfg(test)]
 mod texts;
+#[cfg(test)]
+mod thieves;
 #[cfg(test)]
 mod waits;
 #[cfg(test)]

@@ -10,6 +10,7 @@ ghost use Rattle.cilk_shared.specs.Values.{OfYard};
 use crate::boxes::joined;
 use crate::racks::taken;
 use crate::texts::{accepted, input_of, planned};
+use crate::thieves::stolen;
 use cilk_determinacy::words::inputs_are_words;
 use cilk_plan::program_plan::ProgramPlan;
 use cilk_plan::replay::replay;
@@ -26,6 +27,7 @@ use cilk_workers::turn::first;
 use std::alloc::Global;
 use std::marker::Brand;
 use std::process::Abort;
+use std::sync::Wait;
 
 /// The part to test with it.
 #[derive(Clone, Copy)]
@@ -34,6 +36,8 @@ pub enum Trial {
     Rack,
     /// Pieces arrive at a join box.
     JoinBox,
+    /// A worker steals a task.
+    Thief,
 }
 
 // What a run begins with: its words, the reducers of its frames, and the segment of its first event.
@@ -44,7 +48,7 @@ struct Start<'a> {
 }
 
 // Runs the trial on a plan's run.
-fn tried_on<R: Abort>(
+fn tried_on<R: Abort + Wait>(
     rt: &R,
     alloc: Global,
     plan: &ProgramPlan<'_>,
@@ -81,11 +85,12 @@ fn tried_on<R: Abort>(
     match trial {
         Trial::Rack => taken::<Brand, R>(rt, alloc, &shared, work),
         Trial::JoinBox => joined(rt, alloc, &shared, work),
+        Trial::Thief => stolen::<Brand, R>(rt, alloc, &shared, work),
     }
 }
 
 /// Runs the trial on the run of a program without input.
-pub fn tried<R: Abort>(rt: &R, alloc: Global, text: &str, trial: Trial) {
+pub fn tried<R: Abort + Wait>(rt: &R, alloc: Global, text: &str, trial: Trial) {
     let accepted = accepted(rt, alloc, text, "");
     let plan = planned(rt, alloc, &accepted);
     let input = input_of(rt, alloc, "");

@@ -1,8 +1,9 @@
 -- A burst of turns keeps the tasks that wait.
 --
 -- - `other_kind`, `offers_other`: an event of another kind is no spawn;
--- - `goes`, `offers`, `resumes`: one turn more.
-use Rattle.std.proofs.Common.{◌≡◌, ◌∙◌, ⊎_elim, ◌⊎◌, ℕ, ◌+◌, Bool, true, false, List, [], ◌∷◌, ◌++◌, Some, ap, sym, subst, arith}
+-- - `goes`, `offers`, `resumes`: one turn more; `may_arrive`: why a piece arrives.
+use Rattle.std.proofs.Common.{◌≡◌, ◌∙◌, ℕ, ◌+◌, Bool, true, false, List, [], ◌∷◌, ◌++◌, Option, Some, None, ap, sym, subst, arith}
+use Rattle.std.specs.Prelude.{IfNone}
 use Rattle.cilk_replay.specs.declared.chain.Task.{Task}
 use Rattle.cilk_shared.specs.Pieces.{PieceValue, grown}
 use Rattle.cilk_tree.specs.Kinds.{kind_of_event}
@@ -11,10 +12,10 @@ use Rattle.cilk_tree.specs.declared.kind.Kind.TheVariants as kinds
 use Rattle.cilk_tree.specs.declared.event_order.EventOrder.{EventOrder}
 use Rattle.cilk_tree.specs.Word.{event, resume, word_step}
 use Rattle.cilk_types.specs.declared.event.Event.TheVariants.{End}
-use Rattle.cilk_workers.specs.Bursts.{KeepsTasks, Leads, passes, pushes, pops}
-use Rattle.cilk_workers.specs.Held.{IsOfferedIf, IsSameRack, waiting}
+use Rattle.cilk_workers.specs.Bursts.{KeepsTasks, Leads, MayArrive, passes, pushes, pops}
+use Rattle.cilk_workers.specs.Held.{AreTaken, IsOfferedIf, IsSameRack, waiting}
 use Rattle.cilk_workers.specs.Shared.{SharedValue, event_order_in}
-use Rattle.cilk_workers.specs.Turns.{GoesNoFurther, IsSpawnAt, OffersSpawn}
+use Rattle.cilk_workers.specs.Turns.{EndsBy, IsSpawnAt, OffersSpawn}
 use Rattle.cilk_workers.specs.declared.activity.Tools.{Tools}
 use Rattle.cilk_workers.specs.declared.rack.Rack.{Rack}
 use Rattle.cilk_workers.specs.declared.work.Work.{Work}
@@ -78,11 +79,15 @@ module _ {N : Type 0} (y : SharedValue) (a : ℕ) (r : Rack N) where
   )
 
   -- a child's `end`, or none where its continuation was taken
-  pub stops : (before p : PieceValue) (q : Rack N) → KeepsTasks (event_order_in y) a r before.upto q → GoesNoFurther y before p → KeepsTasks (event_order_in y) a r p.upto q
-  stops before p q kept ended = ⊎_elim
-      (λ (e : (p ≡ grown before) × (event (event_order_in y) before.upto ≡ Some End)). goes before p q kept e.0 (no_end (event_order_in y) before.upto e.1))
-      (λ (e : p ≡ before). subst (λ (z : PieceValue). KeepsTasks (event_order_in y) a r z.upto q) (sym e) kept)
-      ended.1
+  pub stops : (before p : PieceValue) (q : Rack N) (denied : Option ℕ) → KeepsTasks (event_order_in y) a r before.upto q → EndsBy (event_order_in y) before p denied → KeepsTasks (event_order_in y) a r p.upto q
+  stops before p q None kept ended = goes before p q kept ended.0 (no_end (event_order_in y) before.upto ended.1)
+  stops before p q (Some ticket) kept ended = subst (λ (z : PieceValue). KeepsTasks (event_order_in y) a r z.upto q) (sym ended.0) kept
+
+  -- a piece arrives without a chain
+  pub may_arrive : (taken : Task → Type 0) (before p x : PieceValue) (q : Rack N) (denied : Option ℕ) → EndsBy (event_order_in y) before p denied → IfNone denied (AreTaken taken q) → x ≡ p
+      → MayArrive taken (event_order_in y) x None denied q
+  may_arrive taken before p x q None ended none is = none
+  may_arrive taken before p x q (Some ticket) ended none is = subst (λ (z : PieceValue). word_step (event_order_in y) z.upto ≡ resume ticket) (sym is) ended.1
 
   -- the same rack
   pub as_before : (b : ℕ) (q q' : Rack N) → KeepsTasks (event_order_in y) a r b q → waiting q' ≡ waiting q → IsSameRack q q' → KeepsTasks (event_order_in y) a r b q'

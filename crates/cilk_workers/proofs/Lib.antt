@@ -19,6 +19,7 @@ pub mod RackKeys
 pub mod Rows
 pub mod ShelfHistories
 pub mod Shelves
+pub mod SpawnCounts
 pub mod Spawned
 pub mod Steps
 pub mod Stolen

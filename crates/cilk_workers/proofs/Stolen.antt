@@ -1,9 +1,10 @@
--- The tasks that pickers steal: `stolen_there`, by the picker at a place; `after_none`.
+-- The tasks that pickers steal: `stolen_there`, by the picker at a place; `after_none`; `still_taken`.
 use Rattle.std.proofs.Common.{◌≡◌, ◌<◌, ℕ, zero, suc, List, [], ◌∷◌, ◌++◌, length, slice_get, slice_index_or, slice_set, Option, Some, None, refl, sym, ap, ◌∙◌, subst, arith}
-use Rattle.std.specs.Prelude.{MatchOption}
+use Rattle.std.specs.Prelude.{MatchOption, All}
 use Rattle.cilk_replay.specs.declared.chain.Task.{Task}
-use Rattle.cilk_workers.specs.Held.{Steals, all_stolen, stolen}
+use Rattle.cilk_workers.specs.Held.{AreTaken, IsAlone, Steals, all_stolen, stolen, waiting}
 use Rattle.cilk_workers.specs.declared.rack.Picker.{Picker}
+use Rattle.cilk_workers.specs.declared.rack.Rack.{Rack}
 
 module _ {N : Type 0} where
   none_more : (ps : List (Picker N)) (i : ℕ) (p q : Picker N) → i < length ps → p ≡ slice_index_or ps i p → stolen q ≡ stolen p → all_stolen (slice_set ps i q) ≡ all_stolen ps
@@ -32,3 +33,7 @@ module _ {N : Type 0} where
 
   pub after_none : (ps ps' : List (Picker N)) (t : Task) (new : List (List Task)) → all_stolen ps' ≡ all_stolen ps → Steals (all_stolen ps') t new → Steals (all_stolen ps) t new
   after_none ps ps' t new same h = subst (λ (l : List (List Task)). Steals l t new) same h
+
+  -- a look at a rack in vain leaves its tasks taken
+  pub still_taken : (taken : Task → Type 0) (r r' : Rack N) → waiting r' ≡ waiting r → (IsAlone r' → IsAlone r) → AreTaken taken r → AreTaken taken r'
+  still_taken taken r r' same alone h = (subst (λ (ts : List Task). All taken ts) (sym same) h.0, λ q. same ∙ h.1 (alone q))

@@ -65,8 +65,8 @@ module _ {N : Type 0} where
   abbrev pub TakesNone : Rack N → List (Picker N) → Rack N → List (Picker N) → Type 0
   TakesNone r ps r' ps' = (waiting r' ≡ waiting r) × (all_stolen ps' ≡ all_stolen ps)
 
-  -- this task was taken, and no other: it was the rack's newest, or a picker stole it
-  abbrev pub TakesOne : Rack N → List (Picker N) → Task → Rack N → List (Picker N) → Type 0
-  TakesOne r ps t r' ps' =
+  -- This task was taken, and no other: it was the rack's newest; or a picker stole it, and each task of the rack was taken.
+  abbrev pub TakesOne : (Task → Type 0) → Rack N → List (Picker N) → Task → Rack N → List (Picker N) → Type 0
+  TakesOne taken r ps t r' ps' =
       ((waiting r ≡ waiting r' ++ t ∷ []) × (all_stolen ps' ≡ all_stolen ps))
-      ⊎ ((waiting r' ≡ waiting r) × Steals (all_stolen ps) t (all_stolen ps'))
+      ⊎ (AreTaken taken r × (waiting r' ≡ waiting r) × Steals (all_stolen ps) t (all_stolen ps'))

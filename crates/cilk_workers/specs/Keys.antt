@@ -40,11 +40,11 @@ MakesFor b ps step new =
 abbrev pub TellsSteal : EventOrder → ℕ → ℕ → List (Pass Shelf KeyState) → Bool → List (Pass Shelf KeyState) → Type 0
 TellsSteal s k a ps told new = (b q : ℕ) × IsNumberOf s b q × IsOfBlock s q a × MakesFor b ps (StealsAt q k a told) new
 
--- After an arrival a worker continues with what passes; or it has no work, since its piece waits; or it has ended.
+-- After an arrival a worker continues with what passes; or it has no work, since its piece waits; or it ran out of memory.
 abbrev pub GoesOnBy : Met → Activity → Type 0
 GoesOnBy (mets.Passes passed) (hands.Holds work) = work ≡ passed
 GoesOnBy mets.Waits (hands.Idle p) = Unit {0}
-GoesOnBy mets.Stopped (hands.Done finishes.Stopped) = Unit {0}
+GoesOnBy mets.Stopped (hands.Done finishes.OutOfMemory) = Unit {0}
 GoesOnBy _ _ = ⊥
 
 -- A piece arrived at the block of its next position, with a chain or without, the worker went on by the answer, and nothing

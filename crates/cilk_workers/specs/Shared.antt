@@ -1,5 +1,5 @@
 -- The view in contracts of the part of a run that its workers share.
-use Rattle.std.specs.Prelude.{◌≡◌, ◌≤◌, ◌<◌, ◌⊎◌, ℕ, List, length, Some, slice_get}
+use Rattle.std.specs.Prelude.{◌≡◌, ◌≤◌, ◌<◌, ◌⊎◌, ℕ, List, length, Some, count_by, slice_get}
 use Rattle.cilk_workers.specs.Rows.{RunValue, run_of}
 use Rattle.cilk_replay.specs.Replays.{ReplayValue}
 use Rattle.cilk_shared.specs.declared.reducers.Reducers.{Reducers}
@@ -11,7 +11,7 @@ use Rattle.cilk_tree.specs.declared.kind.Kind.TheVariants as kinds
 use Rattle.cilk_shared.specs.Values.{YardValue}
 use Rattle.cilk_tree.specs.declared.event_order.EventOrder.{EventOrder}
 use Rattle.cilk_tree.specs.Columns.{AreBlockEnds, AreBlocks, AreFirstSpawns, AreStrands, BlocksEnd}
-use Rattle.cilk_tree.specs.Word.{event}
+use Rattle.cilk_tree.specs.Word.{event, is_spawn}
 
 -- a run of the program, and its replay
 pub record SharedValue : Type 0 where
@@ -24,6 +24,10 @@ shared_with y r c = record { run = run_of y r; replay = c }
 -- its event order
 abbrev pub event_order_in : SharedValue → EventOrder
 event_order_in y = let r = y.run in r.event_order
+
+-- the number of its spawns
+abbrev pub spawn_count : EventOrder → ℕ
+spawn_count s = count_by (λ e. is_spawn (Some e)) s.events
 
 -- each cell that an event reads or writes has an opening value
 abbrev pub HasCells : EventOrder → Type 0

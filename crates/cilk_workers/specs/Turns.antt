@@ -1,5 +1,5 @@
 -- The work of a worker, and the outcomes of a turn.
-use Rattle.std.specs.Prelude.{◌≡◌, ◌+◌, ◌<◌, ◌≤◌, ◌⊎◌, ℕ, ℤ, List, length, reverse, Some}
+use Rattle.std.specs.Prelude.{◌≡◌, ◌+◌, ◌<◌, ◌≤◌, ℕ, ℤ, List, length, reverse, Option, Some, None}
 use Rattle.cilk_types.specs.declared.event.Event.{Event}
 use Rattle.cilk_types.specs.declared.event.Event.TheVariants as events
 use Rattle.cilk_program.specs.SerialRun.{Transcript}
@@ -67,12 +67,17 @@ pub record IsOwed (s : EventOrder) (p : PieceValue) : Type 0 where
 abbrev pub IsHeldUp : SharedValue → PieceValue → Type 0
 IsHeldUp y p = (event (event_order_in y) p.upto ≡ Some events.Sync) × (MayPass (segment_of p) → ⊥) × IsOwed (event_order_in y) p
 
+-- The piece has one event more, the `end` of a spawned child; or it is unchanged, and the yard refused the continuation
+-- that resumes there.
+abbrev pub EndsBy : EventOrder → PieceValue → PieceValue → Option ℕ → Type 0
+EndsBy s before p None = (p ≡ grown before) × (event s before.upto ≡ Some events.End)
+EndsBy s before p (Some ticket) = (p ≡ before) × (word_step s p.upto ≡ resume ticket)
+
 -- the worker can't continue: the piece's next event is the `resume` after a spawn, which is in the
--- piece; and the piece has one event more, the `end` of the spawned child, or is unchanged
-abbrev pub GoesNoFurther : SharedValue → PieceValue → PieceValue → Type 0
-GoesNoFurther y before p =
-    ((k : ℕ) × (word_step (event_order_in y) p.upto ≡ resume k) × (p.from ≤ k))
-    × (((p ≡ grown before) × (event (event_order_in y) before.upto ≡ Some events.End)) ⊎ (p ≡ before))
+-- piece
+abbrev pub GoesNoFurther : SharedValue → PieceValue → PieceValue → Option ℕ → Type 0
+GoesNoFurther y before p denied =
+    ((k : ℕ) × (word_step (event_order_in y) p.upto ≡ resume k) × (p.from ≤ k)) × EndsBy (event_order_in y) before p denied
 
 -- the event there is a spawn
 abbrev pub IsSpawnAt : EventOrder → ℕ → Type 0
@@ -92,7 +97,7 @@ abbrev pub Turned : SharedValue → PieceValue → Work → Turn → Type 0
 Turned y before w Goes = Works y w × (let p = w.piece in p ≡ grown before)
 Turned y before w (Offers t) = Works y w × (let p = w.piece in p ≡ grown before) × (t.of ≡ y.replay) × (t.ticket ≡ before.upto) × IsSpawnAt (event_order_in y) before.upto
 Turned y before w Arrives = Works y w × (let p = w.piece in p ≡ before) × IsHeldUp y before
-Turned y before w Ended = (let p = w.piece in IsGood y.run p × GoesNoFurther y before p)
+Turned y before w (Ended denied) = (let p = w.piece in IsGood y.run p × GoesNoFurther y before p denied)
 Turned y before w (Finished value) = (let p = w.piece in HasEnded y p value × (p ≡ grown before))
 Turned y before w (Departed at) = Departs (event_order_in y) at × (at ≡ before.upto)
 Turned y before w Stopped = Unit {0}

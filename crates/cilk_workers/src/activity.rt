@@ -14,8 +14,10 @@ pub enum ExitReason {
     Whole(Piece, i64),
     /// The run departs from its plan at this position.
     Departed(Pos),
-    /// Another worker has ended or stopped the run, or this one ran out of memory.
+    /// Another worker has ended or stopped the run.
     Stopped,
+    /// This worker ran out of memory.
+    OutOfMemory,
 }
 
 /// The state of a worker between two turns.

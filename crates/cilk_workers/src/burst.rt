@@ -1,6 +1,6 @@
 //! The turns of a worker that holds a piece.
 
-ghost use Rattle.std.specs.Prelude.{◌≡◌, ◌⊎◌, ℕ, [], ◌∷◌, ◌++◌, IfNone, IfSome, IsTrue, MatchOption};
+ghost use Rattle.std.specs.Prelude.{◌≡◌, ℕ, [], ◌∷◌, ◌++◌, IfNone, IfSome, MatchOption};
 ghost use Rattle.cilk_tree.specs.Word.{resume, word_step};
 ghost use Rattle.cilk_workers.specs.Arrivals.{EndsWhereItWaits};
 ghost use Rattle.cilk_workers.specs.Shared.{event_order_in};
@@ -26,21 +26,25 @@ use crate::turn::act;
 use crate::work::{Turn, Work};
 use cilk_replay::chain::{Chain, Task};
 use cilk_shared::piece::Piece;
+use cilk_shared::taken::Denied;
 use cilk_types::event::Pos;
 use std::sync::Wait;
 
 /// The greatest number of turns before a worker checks whether another has stopped the run.
 const TURNS: u32 = 256;
 
-// The worker's own newest task, unless a thief took the continuation that this worker was to
-// resume.
-fn behind<N: Naming>(rack: &mut Rack<N>, taken: bool) -> Option<Task>
+// The worker's own newest task, unless the yard refused it the continuation that it was to resume.
+fn behind<N: Naming>(rack: &mut Rack<N>, denied: &Option<Denied>) -> Option<Task>
     ensures task { IfSome result (λ t. Of N.replay t) }
-    ensures none { IfNone result (IsTrue taken ⊎ AreTaken N.taken rack.old) }
+    ensures none { IfNone result (IfNone denied.now (AreTaken N.taken rack.new)) }
     ensures rule { MatchOption result (waiting rack.new ≡ waiting rack.old) (λ t. waiting rack.old ≡ waiting rack.new ++ t ∷ []) }
     ensures same { IsSameRack rack.old rack.new }
 {
-    if taken { None } else { rack.newest() }
+    if denied.is_some() {
+        None
+    } else {
+        rack.newest()
+    }
 }
 
 // The key of a piece that ends at `at`: the spawn whose `resume` is there, or else `at`.
@@ -93,7 +97,7 @@ impl<'a, 'b, N: Naming, R: Wait, G: Gate> WorkerContext<'a, 'b, N, R, G> {
         match self.arrive(keys, block, Arrival { by, piece, chain }) {
             Met::Passes(work) => Activity::Holds(work),
             Met::Waits => Activity::Idle(empty),
-            Met::Stopped => Activity::Done(ExitReason::Stopped),
+            Met::Stopped => Activity::Done(ExitReason::OutOfMemory),
         }
     }
 
@@ -110,16 +114,17 @@ impl<'a, 'b, N: Naming, R: Wait, G: Gate> WorkerContext<'a, 'b, N, R, G> {
     /// Makes up to `TURNS` turns of a worker that holds a piece and a chain.
     ///
     /// When a child has ended, the worker continues with its own newest task, the child's
-    /// continuation. If it has none, or a thief took the continuation that it was to resume, its
-    /// piece arrives at the block. It arrives once at most, and tells no block anything else. It pushes
-    /// the continuation of each spawn, and pops a task only where that continues.
-    pub fn run_burst(&self, tools: &mut Tools<N>, mut work: Work) -> Activity
+    /// continuation. If it has none, or the yard refused it the continuation that it was to resume, its
+    /// piece arrives at the block, and the refusal is returned too. It arrives once at most, and tells no
+    /// block anything else. It pushes the continuation of each spawn, and pops a task only where that
+    /// continues.
+    pub fn run_burst(&self, tools: &mut Tools<N>, mut work: Work) -> (Activity, Option<Denied>)
         requires context { IsWorkerContext N.run N.replay N.taken self.now }
         requires keys { AreKeys self.now.locks.now.items tools.old.keys.items }
         requires works { Works self.now.shared.now work }
         ensures keys { AreKeys self.now.locks.now.items tools.new.keys.items }
-        ensures told { ArrivedOnce (event_order_in self.now.shared.now) work.piece.upto tools.old result tools.new }
-        ensures hand { IsActivity self.now.shared.now result }
+        ensures told { ArrivedOnce N.taken (event_order_in self.now.shared.now) work.piece.upto tools.old result tools.new }
+        ensures hand { IsActivity self.now.shared.now result.0 }
     {
         'each: for _ in 0..TURNS {
             let before = work.piece.upto();
@@ -128,28 +133,30 @@ impl<'a, 'b, N: Naming, R: Wait, G: Gate> WorkerContext<'a, 'b, N, R, G> {
                 Turn::Offers(task) => {
                     tell(self.gate, self.worker, self.shared, before, &work.piece);
                     if !self.offered(&mut tools.rack, task) {
-                        return Activity::Done(ExitReason::Stopped);
+                        return (Activity::Done(ExitReason::OutOfMemory), None);
                     }
                 }
-                Turn::Ended => {
+                Turn::Ended(denied) => {
                     tell(self.gate, self.worker, self.shared, before, &work.piece);
-                    let Some(task) = behind(&mut tools.rack, work.piece.upto() == before) else {
-                        return self.arrived(&mut tools.keys, work.into_piece(), None);
+                    let Some(task) = behind(&mut tools.rack, &denied) else {
+                        let next = self.arrived(&mut tools.keys, work.into_piece(), None);
+                        return (next, denied);
                     };
                     self.own(&mut work, task);
                 }
                 Turn::Arrives => {
                     let Work { piece, chain } = work;
-                    return self.arrived(&mut tools.keys, piece, Some(chain));
+                    return (self.arrived(&mut tools.keys, piece, Some(chain)), None);
                 }
                 Turn::Finished(value) => {
                     tell(self.gate, self.worker, self.shared, before, &work.piece);
-                    return Activity::Done(ExitReason::Whole(work.into_piece(), value));
+                    let whole = ExitReason::Whole(work.into_piece(), value);
+                    return (Activity::Done(whole), None);
                 }
-                Turn::Departed(at) => return Activity::Done(ExitReason::Departed(at)),
-                Turn::Stopped => return Activity::Done(ExitReason::Stopped),
+                Turn::Departed(at) => return (Activity::Done(ExitReason::Departed(at)), None),
+                Turn::Stopped => return (Activity::Done(ExitReason::OutOfMemory), None),
             }
         }
-        Activity::Holds(work)
+        (Activity::Holds(work), None)
     }
 }

@@ -21,7 +21,7 @@ use cilk_replay::chain::Task;
 use cilk_shared::piece::Piece;
 use cilk_shared::taken::Denied;
 use cilk_types::event::Pos;
-use crossbeam_utils::Backoff;
+pub use crossbeam_utils::Backoff;
 use std::sync::Wait;
 
 // The oldest task of the worker whose picker is at a place.
@@ -56,7 +56,7 @@ fn found<N: Naming>(rack: &mut Rack<N>, pickers: &mut Vec<Picker<N>>) -> Option<
     ensures task { IfSome result (λ t. Of N.replay t) }
     ensures none { IfNone result (AreTaken N.taken rack.old) }
     ensures takes { MatchOption result (TakesNone rack.old pickers.old.items rack.new pickers.new.items)
-        (λ t. TakesOne rack.old pickers.old.items t rack.new pickers.new.items) }
+        (λ t. TakesOne N.taken rack.old pickers.old.items t rack.new pickers.new.items) }
 {
     match rack.newest() {
         Some(task) => Some(task),
@@ -82,8 +82,9 @@ impl<'a, 'b, N: Naming, R: Wait, G: Gate> WorkerContext<'a, 'b, N, R, G> {
 
     /// Makes one turn of a worker without work: it takes its own newest task, or steals the oldest
     /// of another, and tells its block. If it finds none, it ends once it sees that the run has ended.
-    /// A worker that took a task has work, or the yard's refusal of that task's ticket, which is
-    /// returned too, or has ended: there was no memory to tell its block of the steal.
+    /// A worker that took a task has that task's work, or the yard's refusal of its ticket, which is
+    /// returned too, or has ended: there was no memory to tell its block of the steal. It steals only
+    /// where none of its own tasks is left.
     pub fn find_work(
         &self,
         tools: &mut Tools<N>,
@@ -95,7 +96,7 @@ impl<'a, 'b, N: Naming, R: Wait, G: Gate> WorkerContext<'a, 'b, N, R, G> {
         requires piece { OfRun self.now.shared.now.run piece × (piece.upto ≤ piece.from) }
         ensures keys { AreKeys self.now.locks.now.items tools.new.keys.items }
         ensures hand { IsActivity self.now.shared.now result.0 }
-        ensures sought { HasSought tools.old result tools.new }
+        ensures sought { HasSought N.taken (event_order_in self.now.shared.now) tools.old result tools.new }
         ensures told { HasTold (event_order_in self.now.shared.now) tools.old.keys.items result.0 tools.new.keys.items }
     {
         let Some(task) = found(&mut tools.rack, &mut tools.pickers) else {
@@ -115,7 +116,7 @@ impl<'a, 'b, N: Naming, R: Wait, G: Gate> WorkerContext<'a, 'b, N, R, G> {
         if self.announce_steal(&mut tools.keys, child, work.piece.from()) {
             (Activity::Holds(work), None)
         } else {
-            (Activity::Done(ExitReason::Stopped), None)
+            (Activity::Done(ExitReason::OutOfMemory), None)
         }
     }
 }

@@ -30,7 +30,10 @@ impl<'a, 'b, N: Naming, R: Wait, G: Gate> WorkerContext<'a, 'b, N, R, G> {
                     return finish;
                 }
                 Activity::Holds(_) | Activity::Idle(_) if stopped => return ExitReason::Stopped,
-                Activity::Holds(work) => self.run_burst(tools, work),
+                Activity::Holds(work) => {
+                    let (next, _denied) = self.run_burst(tools, work);
+                    next
+                }
                 Activity::Idle(piece) => {
                     let (next, _denied) = self.find_work(tools, &backoff, piece);
                     next

@@ -63,10 +63,10 @@ pub(crate) fn taken(shared: &Shared<'_>, work: &mut Work, ticket: Pos) -> Turn
             work.chain.answer(shared.replay(), Answer::Done);
             Turn::Goes
         }
-        Taken::No(_) => {
+        Taken::No(denied) => {
             work.piece.laws();
             shared.replay().holds_spawns();
-            Turn::Ended
+            Turn::Ended(Some(denied))
         }
     }
 }
@@ -85,7 +85,7 @@ pub(crate) fn ended(alloc: Global, shared: &Shared<'_>, work: &mut Work, frame: 
     } else {
         work.piece.laws();
         shared.replay().holds_spawns();
-        Turn::Ended
+        Turn::Ended(None)
     }
 }
 

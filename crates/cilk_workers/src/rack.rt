@@ -104,7 +104,7 @@ pub struct Picker<N: Naming> {
 impl<N: Naming> Rack<N> {
     ghost use Rattle.cilk_workers.specs.Held.{IsAlone, IsNewRack, IsOffered, IsPickerOf, IsSameRack, waiting, offered};
 
-    /// Makes a rack without tasks, with room for `first` tasks at first.
+    /// Makes a rack without tasks, with room for the first `first` offers: none of these can fail.
     pub fn new(alloc: Global, first: usize) -> Result<Rack<N>, AllocError>
         ensures { IfOk result (IsNewRack first) }
     {
@@ -112,8 +112,8 @@ impl<N: Naming> Rack<N> {
         Ok(Rack { worker })
     }
 
-    /// Pushes a task. The rack grows if there is no room; the task comes back if memory runs out
-    /// for that.
+    /// Pushes a task. An offer within the rack's room can't fail. Past it the rack may have to grow;
+    /// if memory runs out for that, the task comes back, and the rack is as before.
     pub fn offer(&mut self, task: Task) -> Result<(), Task>
         requires { Of N.replay task }
         ensures rule { IsOffered self.old task result self.new }
@@ -127,7 +127,8 @@ impl<N: Naming> Rack<N> {
     /// waits.
     pub fn newest(&mut self) -> Option<Task>
         ensures rule { MatchOption result ((waiting self.new ≡ waiting self.old) × All N.taken (waiting self.old) × (IsAlone self.old → waiting self.old ≡ [])) (λ t. (waiting self.old ≡ waiting self.new ++ t ∷ []) × Of N.replay t) }
-        ensures same { IsSameRack self.old self.new × (IsAlone self.old → IsAlone self.new) × (offered self.new ≤ offered self.old) }
+        ensures same { IsSameRack self.old self.new × (offered self.new ≤ offered self.old) }
+        ensures alone { (IsAlone self.old → IsAlone self.new) × (IsAlone self.new → IsAlone self.old) }
     {
         self.worker.pop_as::<GivenBack<N>>()
     }

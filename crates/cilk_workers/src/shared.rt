@@ -12,8 +12,8 @@ ghost use Rattle.cilk_tree.specs.Columns.{AreBlockEnds, IsFirstSpawn, IsOfBlock,
 ghost use Rattle.cilk_tree.specs.Orders.{IsOrderly};
 ghost use Rattle.cilk_tree.specs.Values.{HasValues};
 ghost use Rattle.cilk_tree.specs.PlanStrands.{BeginsStrand};
-ghost use Rattle.cilk_tree.specs.Word.{event, resume, word_step};
-ghost use Rattle.cilk_workers.specs.Shared.{AreColumns, HasCells, IsNext, IsNumberOf, shared_with, event_order_in};
+ghost use Rattle.cilk_tree.specs.Word.{event, is_spawn, resume, word_step};
+ghost use Rattle.cilk_workers.specs.Shared.{AreColumns, HasCells, IsNext, IsNumberOf, event_order_in, shared_with, spawn_count};
 
 use crate::columns::{Block, Columns, block_in, position_in, strand_in};
 use cilk_determinacy::words::inputs_are_words;
@@ -21,7 +21,7 @@ use cilk_replay::replay::Replay;
 use cilk_shared::piece_laws::frames_are_along;
 use cilk_shared::reducers::Reducers;
 use cilk_shared::yard::Yard;
-use cilk_tree::kind::Asked;
+use cilk_tree::kind::{Asked, Kind};
 use cilk_tree::plan::Plan;
 use cilk_types::event::{Pos, StrandNo};
 use std::marker::Model;
@@ -138,6 +138,40 @@ impl<'a> Shared<'a> {
             return Asked::Nothing;
         }
         self.plan.next(at - 1)
+    }
+
+    // Whether the event at a position is a spawn.
+    fn is_spawn(&self, at: Pos) -> bool
+        requires { (1 ≤ at) × (at ≤ length (event_order_in self.now).events) }
+        ensures { result ≡ is_spawn (event (event_order_in self.now) at) }
+    {
+        matches!(
+            self.next(at),
+            Asked::Next {
+                kind: Kind::Spawn { .. },
+                ..
+            }
+        )
+    }
+
+    // The number of events.
+    fn events(&self) -> Pos
+        ensures { result ≡ length (event_order_in self.now).events }
+    {
+        self.plan.count() as Pos
+    }
+
+    /// Returns the number of spawns of the run. Cost: linear in the events.
+    pub fn spawns(&self) -> usize
+        ensures { result ≡ spawn_count (event_order_in self.now) }
+    {
+        let mut count: usize = 0;
+        'each: for before in 0..self.events() {
+            if self.is_spawn(before + 1) {
+                count += 1;
+            }
+        }
+        count
     }
 
     /// Returns whether the position is that of the last event, the root's `end`.

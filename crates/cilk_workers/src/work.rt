@@ -4,6 +4,7 @@ ghost use Rattle.std.specs.Prelude.{◌≡◌};
 
 use cilk_replay::chain::{Chain, Task};
 use cilk_shared::piece::Piece;
+use cilk_shared::taken::Denied;
 use cilk_types::event::Pos;
 
 /// The work of a worker: the piece that it has done, and the frame that runs at its end, with its
@@ -33,9 +34,9 @@ pub enum Turn {
     Offers(Task),
     /// The piece is at a `sync`, and children of its block are elsewhere.
     Arrives,
-    /// A spawned child has ended, or another worker took the continuation. The worker can't
-    /// continue with this chain.
-    Ended,
+    /// A spawned child has ended, or the yard refused the continuation, since another worker took it.
+    /// The worker can't continue with this chain.
+    Ended(Option<Denied>),
     /// The root has ended, with this result.
     Finished(i64),
     /// The run departs from the plan at this position.

@@ -20,6 +20,7 @@ void cilkrec_spawn_end(void);
 void cilkrec_sync(void);
 int cilkrec_scope_begin(void);
 void cilkrec_scope_end(int *variable);
+void cilkrec_leave(int *variable);
 void cilkrec_reducer_local(void *variable, __SIZE_TYPE__ size);
 void cilkrec_reducer_global(void *variable, __SIZE_TYPE__ size);
 unsigned cilkrec_reducer_create(void);

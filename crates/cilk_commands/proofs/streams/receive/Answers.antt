@@ -1,4 +1,4 @@
-use Rattle.std.proofs.Common.{◌≡◌, length, take, subst, arith, length-take}
+use Rattle.std.proofs.Common.{◌≡◌, length, take, subst, arith, length-take, ◌∙◌}
 use Rattle.std.specs.Prelude.{IfSome}
 use Rattle.cilk_commands.proofs.Reading.{more_read, longer, read_last, read_enough, takes_on}
 use Rattle.cilk_commands.proofs.streams.receive.Goals as goal
@@ -10,6 +10,7 @@ loop-turn-preserved g c =
       within = omega (arith, c.in_ok-count.ensures.within, same, length-take c.min-room.result c.loop-turn.buffer);
       far = omega (arith, same);
       few = omega (arith, c.receive_some.ensures.one);
+      unfailed = c.in_ok-count.ensures.unfailed ∙ c.loop-turn.invariant.unfailed;
       read = more_read _ _ _ _ _ _ c.loop-turn.invariant.read c.in_ok-count.ensures.grows;
     }
 

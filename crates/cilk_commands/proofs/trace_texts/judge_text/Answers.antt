@@ -1,5 +1,6 @@
-use Rattle.std.proofs.Common.{ℕ, [], ◌∷◌, ◌++◌, ◌∙◌, List, Option, subst, refl, sym}
-use Rattle.std.specs.Prelude.{IfNone, IfSome}
+use Rattle.std.proofs.Common.{arith, ℕ, ◌≡◌, [], ◌∷◌, ◌++◌, ◌∙◌, List, Option, ap, subst, refl, sym}
+use Rattle.std.specs.Prelude.{Err, IfNone, IfSome}
+use Rattle.cilk_commands.specs.declared.trace_fault.Unjudged.TheVariants.{Unread}
 use Rattle.std.proofs.lemmas.Result.{err_from_is_err_and}
 use Rattle.cilk_trace.specs.declared.line.Line.{Line}
 use Rattle.cilk_trace.specs.declared.survey.Known.{Known}
@@ -48,6 +49,10 @@ returns-in-Ok-clause-verdict g c = λ first s.
       record {
         lines = i.0;
         spells = w.2;
+        limits = record {
+          few = let few = w.2.few in omega (arith, few);
+          marks = c.in-Ok.ensures.limits s.lines i.0 (subst (λ (k : Known). IsKnownOf s.lines k) (sym i.3) s.known) i.2;
+        };
         judged = c.in-Ok.ensures.judged s.lines i.0 (subst (λ (k : Known). IsKnownOf s.lines k) (sym i.3) s.known) i.2;
       },
     )
@@ -66,3 +71,11 @@ pub returns-in_err-meet-clause-fault : goal.returns-in_err-meet-clause-fault
 returns-in_err-meet-clause-fault g c = λ first s.
     let p = err_from_is_err_and c.from_residual-in_err-meet.result c.from_residual-in_err-meet.ensures.1 in
     rw (p.1, p.2) (c.in_ok-found.ensures.uncounted ∙ c.lines.invariant.4)
+
+pub returns-in_err-found-clause-part : goal.returns-in_err-found-clause-part
+returns-in_err-found-clause-part g c = λ e.
+    let i = c.lines.invariant in
+    let p = err_from_is_err_and c.from_residual-in_err-found.result c.from_residual-in_err-found.ensures.1 in
+    let is : Err p.0 ≡ Err Unread = sym p.1 ∙ e in
+    let same : p.0 ≡ Unread = cc is in
+    c.in_err-found.ensures.part (g.S.Source.remaining c.args.source.now) i.0 i.1 (ap Err (sym p.2 ∙ same))

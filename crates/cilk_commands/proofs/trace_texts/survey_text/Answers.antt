@@ -1,11 +1,14 @@
-use Rattle.std.proofs.Common.{ℕ, [], ◌∷◌, ◌++◌, ◌+◌, ◌≡◌, length, Option, refl, subst, ◌∙◌}
-use Rattle.std.specs.Prelude.{IfNone, IfSome}
+use Rattle.std.proofs.Common.{ℕ, [], ◌∷◌, ◌++◌, ◌+◌, ◌≡◌, length, Option, ap, refl, subst, sym, ◌∙◌}
+use Rattle.std.specs.Prelude.{Err, IfNone, IfSome}
 use Rattle.std.proofs.lemmas.Result.{err_from_is_err_and}
 use Rattle.cilk_trace.specs.Texts.{IsTraceText}
 use Rattle.cilk_commands.specs.declared.trace_pieces.Found.{Found}
 use Rattle.cilk_commands.specs.TraceFaults.{IsUnreadAfter}
 use Rattle.cilk_commands.specs.TracePieces.{IsReading}
 use Rattle.cilk_commands.specs.TraceTexts.{GivesText}
+use Rattle.cilk_commands.specs.declared.trace_fault.Unjudged.TheVariants.{Unread}
+use Rattle.cilk_commands.proofs.TraceBeginnings.{begins_trace}
+use Rattle.cilk_commands.proofs.TraceCuts.{begun_formed}
 use Rattle.cilk_commands.proofs.TraceSurveyed.{unsurveyed, misplaced_given, survey_given}
 use Rattle.cilk_commands.proofs.trace_texts.survey_text.Goals as goal
 
@@ -43,7 +46,7 @@ returns-in-Misplaced-clause-fault g c =
     c.in-Some.is (c.in_ok-found.ensures.line known i.0 i.1) in (
       c.in_ok-found.ensures.uncounted ∙ i.3,
       misplaced_given known left i.0 c.in-Some.found.line c.next.new.self c.lines.survey c.in-Some.found.number n.0 n.1 i.2
-          (λ more t. c.in_ok-meet.ensures.misplaced c.in-Misplaced.is i.0 more i.2 t),
+          (λ more k t. c.in_ok-meet.ensures.misplaced c.in-Misplaced.is i.0 more i.2 k t),
     )
 
 pub returns-clause-known : goal.returns-clause-known
@@ -52,3 +55,12 @@ returns-clause-known g c =
     let known = g.S.Source.remaining c.args.source.now in
     let whole = subst (λ (o : Option Found). IfNone o (GivesText known (λ text. IsTraceText text i.0))) c.in_default.is (c.in_ok-found.ensures.whole known i.0 i.1) in
     survey_given known i.0 c.lines.survey _ i.2 whole c.in_ok-known.ensures
+
+pub returns-in_err-found-clause-part : goal.returns-in_err-found-clause-part
+returns-in_err-found-clause-part g c = λ e.
+    let i = c.lines.invariant in
+    let p = err_from_is_err_and c.from_residual-in_err-found.result c.from_residual-in_err-found.ensures.1 in
+    let is : Err p.0 ≡ Err Unread = sym p.1 ∙ e in
+    let same : p.0 ≡ Unread = cc is in
+    let t = c.in_err-found.ensures.part (g.S.Source.remaining c.args.source.now) i.0 i.1 (ap Err (sym p.2 ∙ same)) in
+    (t.0, t.1, begun_formed t.0 i.0 t.2 (begins_trace i.0 c.lines.survey i.2))

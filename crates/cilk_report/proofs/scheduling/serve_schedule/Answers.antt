@@ -14,7 +14,7 @@ returns-in-Ok-clause-shown g c =
 
 pub returns-in-Err-clause-shown : goal.returns-in-Err-clause-shown
 returns-in-Err-clause-shown g c =
-    Checked (silent _ _ _ _ _ _ c.complain.result.told _ _ _ _ (starved _ _ _ _ _ _ _ refl c.complain.ensures))
+    Checked (silent _ _ _ _ _ _ _ c.complain.result.told _ _ _ _ (starved _ _ _ _ _ _ _ refl c.complain.ensures))
 
 pub returns-in-Ok-clause-untouched : goal.returns-in-Ok-clause-untouched
 returns-in-Ok-clause-untouched g c =

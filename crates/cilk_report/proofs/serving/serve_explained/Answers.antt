@@ -1,4 +1,4 @@
-use Rattle.std.proofs.Common.{ap, refl, subst, sym, ◌∙◌}
+use Rattle.std.proofs.Common.{ap, false, refl, subst, sym, true, ◌∙◌}
 use Rattle.std.proofs.lemmas.Bool.{true≢false}
 use Rattle.cilk_report.proofs.About.{unanswered}
 use Rattle.cilk_report.proofs.Batches as batches
@@ -45,13 +45,13 @@ returns-in-Ok-2-clause-explained g c = λ empty _ _ _ _ _. absurd (measuring.ask
 
 pub returns-in-Err-Usage-clause-explained : goal.returns-in-Err-Usage-clause-explained
 returns-in-Err-Usage-clause-explained g c = λ _ isnt other settles about less.
-    of_kept (λ fs f. ServesThenExplains (unflagged (texts c.args.words.now)) fs (g.R.CountedRead.remaining c.args.input.now) f (g.F.Files.failed c.serve_other.new.files)
+    of_kept (λ fs f. ServesThenExplains (unflagged (texts c.args.words.now)) true fs (g.R.CountedRead.remaining c.args.input.now) f (g.F.Files.failed c.serve_other.new.files)
     c.serve_other.result (g.O.Write.contents c.args.out.now) (g.O.Write.contents c.serve_other.new.out) (g.E.Write.contents c.args.err.now)
     (g.E.Write.contents c.serve_other.new.err)) _ _ _ _ c.keep-in-Err-Usage.ensures.failures c.keep-in-Err-Usage.ensures.same (c.serve_other.ensures.explained isnt other settles about less)
 
 pub returns-in-Err-Memory-clause-explained : goal.returns-in-Err-Memory-clause-explained
 returns-in-Err-Memory-clause-explained g c =
-    λ _ _ _ _ _ _. silent _ _ _ _ _ _ c.complain.result.told _ _ _ _ (starved _ _ _ _ _ _ _ refl c.complain.ensures)
+    λ _ _ _ _ _ _. silent _ _ _ _ _ _ _ c.complain.result.told _ _ _ _ (starved _ _ _ _ _ _ _ refl c.complain.ensures)
 
 pub returns-in-Ok-2-clause-scheduled : goal.returns-in-Ok-2-clause-scheduled
 returns-in-Ok-2-clause-scheduled g c = λ empty _ _. absurd (measuring.asked _ _ c.in-Ok.ensures.order empty)
@@ -64,7 +64,7 @@ returns-in-Err-Usage-clause-scheduled g c = λ _ isnt schedules.
 
 pub returns-in-Err-Memory-clause-scheduled : goal.returns-in-Err-Memory-clause-scheduled
 returns-in-Err-Memory-clause-scheduled g c =
-    λ _ _ _. Checked (silent _ _ _ _ _ _ c.complain.result.told _ _ _ _ (starved _ _ _ _ _ _ _ refl c.complain.ensures))
+    λ _ _ _. Checked (silent _ _ _ _ _ _ _ c.complain.result.told _ _ _ _ (starved _ _ _ _ _ _ _ refl c.complain.ensures))
 
 pub returns-in-Ok-2-clause-settled : goal.returns-in-Ok-2-clause-settled
 returns-in-Ok-2-clause-settled g c = λ yes.
@@ -76,18 +76,18 @@ returns-in-Err-Usage-clause-settled g c = λ yes.
 
 pub returns-in-Err-Memory-clause-settled : goal.returns-in-Err-Memory-clause-settled
 returns-in-Err-Memory-clause-settled g c =
-    λ _. silent _ _ _ _ _ _ c.complain.result.told _ _ _ _ (starved _ _ _ _ _ _ _ refl c.complain.ensures)
+    λ _. silent _ _ _ _ _ _ _ c.complain.result.told _ _ _ _ (starved _ _ _ _ _ _ _ refl c.complain.ensures)
 
 pub returns-in-Ok-clause-served : goal.returns-in-Ok-clause-served
 returns-in-Ok-clause-served g c =
     Settling (yes _ _ _ c.in-Ok.ensures.order c.explains_itself.ensures c.if-explains_itself.true)
-    (of_kept (λ fs f. ServesThenExplains (texts c.args.words.now) fs (g.R.CountedRead.remaining c.args.input.now) f (g.F.Files.failed c.serve_flagged.new.files)
+    (of_kept (λ fs f. ServesThenExplains (texts c.args.words.now) false fs (g.R.CountedRead.remaining c.args.input.now) f (g.F.Files.failed c.serve_flagged.new.files)
     c.serve_flagged.result (g.O.Write.contents c.args.out.now) (g.O.Write.contents c.serve_flagged.new.out) (g.E.Write.contents c.args.err.now)
     (g.E.Write.contents c.serve_flagged.new.err)) _ _ _ _ c.keep.ensures.failures c.keep.ensures.same c.serve_flagged.ensures.shown)
 
 pub returns-in-Ok-clause-settled : goal.returns-in-Ok-clause-settled
 returns-in-Ok-clause-settled g c = λ _.
-    of_kept (λ fs f. ServesThenExplains (texts c.args.words.now) fs (g.R.CountedRead.remaining c.args.input.now) f (g.F.Files.failed c.serve_flagged.new.files)
+    of_kept (λ fs f. ServesThenExplains (texts c.args.words.now) false fs (g.R.CountedRead.remaining c.args.input.now) f (g.F.Files.failed c.serve_flagged.new.files)
     c.serve_flagged.result (g.O.Write.contents c.args.out.now) (g.O.Write.contents c.serve_flagged.new.out) (g.E.Write.contents c.args.err.now)
     (g.E.Write.contents c.serve_flagged.new.err)) _ _ _ _ c.keep.ensures.failures c.keep.ensures.same c.serve_flagged.ensures.shown
 

@@ -1,8 +1,8 @@
-use Rattle.std.proofs.Common.{◌≡◌, ◌<◌, ◌≤◌, List, ap, length, refl, rules, string_bytes, subst, sym, ◌∙◌}
+use Rattle.std.proofs.Common.{◌≡◌, ◌<◌, ◌≤◌, List, ap, length, refl, rules, string_bytes, subst, sym, true, ◌∙◌}
 use Rattle.std.proofs.lemmas.Bool.{true≢false}
 use Rattle.cilk_messages.proofs.Plain.{as_many, fewer}
 use Rattle.cilk_report.proofs.About.{error_about, text_about, unanswered}
-use Rattle.cilk_report.proofs.Replies.{refused, silent, starved}
+use Rattle.cilk_report.proofs.Replies.{any_more, refused, silent, starved}
 use Rattle.cilk_report.proofs.Standard.{some_words}
 use Rattle.cilk_report.specs.Explained.{About, Explained, Served, ServesThenExplains}
 use Rattle.cilk_messages.specs.Asked.{explains_itself, unflagged}
@@ -54,17 +54,17 @@ returns-in-Ok-clause-served g c =
     ap texts c.as_slice.ensures.value ∙ c.in-Ok.ensures in
     let less : length c.as_slice.result.now < length c.args.words.now = search rules in
     Explained c.requires.other (fewer _ _ same less)
-    (subst (λ (ws : List Text). ServesThenExplains ws (g.F.Files.holds c.args.files.now) (g.R.CountedRead.remaining c.args.input.now)
+    (subst (λ (ws : List Text). ServesThenExplains ws true (g.F.Files.holds c.args.files.now) (g.R.CountedRead.remaining c.args.input.now)
     (g.F.Files.failed c.args.files.now) (g.F.Files.failed c.serve_flagged.new.files) c.serve_flagged.result (g.O.Write.contents c.args.out.now) (g.O.Write.contents c.serve_flagged.new.out)
-    (g.E.Write.contents c.args.err.now) (g.E.Write.contents c.serve_flagged.new.err)) same c.serve_flagged.ensures.shown)
+    (g.E.Write.contents c.args.err.now) (g.E.Write.contents c.serve_flagged.new.err)) same (any_more _ _ _ _ _ _ _ _ _ _ _ c.serve_flagged.ensures.shown))
 
 pub returns-in-Ok-clause-explained : goal.returns-in-Ok-clause-explained
 returns-in-Ok-clause-explained g c = λ _ _.
     let same : texts c.as_slice.result.now ≡ unflagged (texts c.args.words.now) =
     ap texts c.as_slice.ensures.value ∙ c.in-Ok.ensures in
-    subst (λ (ws : List Text). ServesThenExplains ws (g.F.Files.holds c.args.files.now) (g.R.CountedRead.remaining c.args.input.now)
+    subst (λ (ws : List Text). ServesThenExplains ws true (g.F.Files.holds c.args.files.now) (g.R.CountedRead.remaining c.args.input.now)
     (g.F.Files.failed c.args.files.now) (g.F.Files.failed c.serve_flagged.new.files) c.serve_flagged.result (g.O.Write.contents c.args.out.now) (g.O.Write.contents c.serve_flagged.new.out)
-    (g.E.Write.contents c.args.err.now) (g.E.Write.contents c.serve_flagged.new.err)) same c.serve_flagged.ensures.shown
+    (g.E.Write.contents c.args.err.now) (g.E.Write.contents c.serve_flagged.new.err)) same (any_more _ _ _ _ _ _ _ _ _ _ _ c.serve_flagged.ensures.shown)
 
 pub returns-in-Ok-2-clause-served : goal.returns-in-Ok-2-clause-served
 returns-in-Ok-2-clause-served g c =
@@ -82,14 +82,14 @@ returns-in-Err-unflagged-clause-served g c = Served c.complain-in-Err-unflagged.
 
 pub returns-in-Err-unflagged-clause-explained : goal.returns-in-Err-unflagged-clause-explained
 returns-in-Err-unflagged-clause-explained g c =
-    λ _ _. silent _ _ _ _ _ _ c.complain-in-Err-unflagged.result.told _ _ _ _ (starved _ _ _ _ _ _ _ refl c.complain-in-Err-unflagged.ensures)
+    λ _ _. silent _ _ _ _ _ _ _ c.complain-in-Err-unflagged.result.told _ _ _ _ (starved _ _ _ _ _ _ _ refl c.complain-in-Err-unflagged.ensures)
 
 pub returns-in-Err-clause-served : goal.returns-in-Err-clause-served
 returns-in-Err-clause-served g c = Served c.complain-in-Err.result.told (ap explains_itself c.requires.other) (starved _ _ _ _ _ _ _ refl c.complain-in-Err.ensures)
 
 pub returns-in-Err-clause-explained : goal.returns-in-Err-clause-explained
 returns-in-Err-clause-explained g c =
-    λ _ _. silent _ _ _ _ _ _ c.complain-in-Err.result.told _ _ _ _ (starved _ _ _ _ _ _ _ refl c.complain-in-Err.ensures)
+    λ _ _. silent _ _ _ _ _ _ _ c.complain-in-Err.result.told _ _ _ _ (starved _ _ _ _ _ _ _ refl c.complain-in-Err.ensures)
 
 pub returns-in-Ok-clause-untouched : goal.returns-in-Ok-clause-untouched
 returns-in-Ok-clause-untouched g c = λ some.

@@ -7,7 +7,7 @@ use Rattle.cilk_schedule.proofs.Accepted as accepted
 use Rattle.cilk_schedule.proofs.running.act.Goals as goal
 
 pub returns-clause-runs : goal.returns-clause-runs
-returns-clause-runs c = λ inputs t.
+returns-clause-runs g c = λ inputs t.
     let b = c.args.scheduler.now in
     let q = c.requires.accepted in
     let ticks : ℕ = b.ticks + (q.frame_state.cursor.took - q.frame_state.cursor.counted) in
@@ -24,7 +24,7 @@ returns-clause-runs c = λ inputs t.
     runs_on c.args.code.now inputs c.make.new.scheduler c.args.frame (made.0 inputs turn) here _ _ c.note-scheduler.ensures.frames refl c.note-scheduler.ensures.journal refl low
 
 pub returns-clause-wrote : goal.returns-clause-wrote
-returns-clause-wrote c = (
+returns-clause-wrote g c = (
   c.in_ok-event.event,
   refl,
   λ it.
@@ -44,7 +44,7 @@ returns-clause-wrote c = (
 )
 
 pub returns-clause-starts : goal.returns-clause-starts
-returns-clause-starts c = (
+returns-clause-starts g c = (
   c.in_ok-event.event,
   refl,
   λ it.
@@ -78,7 +78,7 @@ returns-clause-starts c = (
 )
 
 pub returns-clause-synced : goal.returns-clause-synced
-returns-clause-synced c = (
+returns-clause-synced g c = (
   c.in_ok-event.event,
   refl,
   λ it.
@@ -103,7 +103,7 @@ returns-clause-synced c = (
 )
 
 pub returns-clause-ends : goal.returns-clause-ends
-returns-clause-ends c = (
+returns-clause-ends g c = (
   c.in_ok-event.event,
   refl,
   λ it. record {
@@ -144,12 +144,12 @@ returns-clause-ends c = (
 )
 
 pub returns-in_err-reserve-clause-kept : goal.returns-in_err-reserve-clause-kept
-returns-in_err-reserve-clause-kept c =
+returns-in_err-reserve-clause-kept g c =
     let b = c.args.scheduler.now in
     let same : c.reserve.new.self.items ≡ b.journal.items = search rules in
     if_err_always _ _ (kept_by b (record b { journal = c.reserve.new.self }) (stand_same _ _ refl) same refl)
 
 pub returns-in_err-event-clause-kept : goal.returns-in_err-event-clause-kept
-returns-in_err-event-clause-kept c =
+returns-in_err-event-clause-kept g c =
     if_err_always _ _
     (kept_by c.args.scheduler.now c.make.new.scheduler c.in_err-event.ensures.stands (ap (λ z. z.items) c.make.ensures.rest.journal ∙ c.in_ok-reserve.ensures.items) c.in_err-event.ensures.outcome)

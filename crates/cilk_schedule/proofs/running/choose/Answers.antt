@@ -27,14 +27,14 @@ over {b} {b'} {r} {r'} {c} {c'} P scheduler_is told_is choice_is h =
     subst (λ q. IfOk r (λ t. P q c t)) (sym scheduler_is) (subst (λ q. IfOk q (λ t. P b' c t)) (sym told_is) (subst (λ q. IfOk r' (λ t. P b' q t)) (sym choice_is) h))
 
 pub returns-in_default-told-clause-made : goal.returns-in_default-told-clause-made
-returns-in_default-told-clause-made c = λ going unended skipped can.
+returns-in_default-told-clause-made g c = λ going unended skipped can.
     elim c.match-choice.branch [
       | in-Run w ↦ let k = subst (λ q. CanChoose c.args.scheduler.now q) w.in-Run.is can in w.run-told.ensures.made k.0 k.1 (sym w.told-is ∙ skipped)
       | in-Steal w ↦ let k = subst (λ q. CanChoose c.args.scheduler.now q) w.in-Steal.is can in w.steal-told.ensures.made k.0 k.1 (sym w.told-is ∙ skipped)
     ]
 
 pub returns-in_default-told-clause-thieves : goal.returns-in_default-told-clause-thieves
-returns-in_default-told-clause-thieves c =
+returns-in_default-told-clause-thieves g c =
     let b = c.args.scheduler.now in
     let code = c.args.code.now in
     let inputs = c.args.input.now in
@@ -45,7 +45,7 @@ returns-in_default-told-clause-thieves c =
     ]
 
 pub returns-in_default-told-clause-skips : goal.returns-in_default-told-clause-skips
-returns-in_default-told-clause-skips c =
+returns-in_default-told-clause-skips g c =
     let b = c.args.scheduler.now in
     let code = c.args.code.now in
     let inputs = c.args.input.now in
@@ -56,7 +56,7 @@ returns-in_default-told-clause-skips c =
     ]
 
 pub returns-then-is_some-clause-skips : goal.returns-then-is_some-clause-skips
-returns-then-is_some-clause-skips c =
+returns-then-is_some-clause-skips g c =
     let b = c.args.scheduler.now in
     let o = some_of b.outcome (sym c.is_some.ensures ∙ c.if-is_some.true) in
     over_skips c.args.code.now c.args.input.now b c.args.choice o.0 o.1
@@ -68,7 +68,7 @@ stopped_by code inputs b b' b2 c c2 r r2 stop is scheduler_is told_is choice_is 
     (subst (λ q. FaultsAreStops code inputs b b2 q stop) (sym choice_is) (subst (λ q. IfErr q (λ z. FaultsAreStops code inputs b b2 c2 z)) (sym told_is ∙ is) h))
 
 pub returns-in-Err-clause-faults : goal.returns-in-Err-clause-faults
-returns-in-Err-clause-faults c = λ going.
+returns-in-Err-clause-faults g c = λ going.
     let b = c.args.scheduler.now in
     let code = c.args.code.now in
     let inputs = c.args.input.now in
@@ -81,7 +81,7 @@ returns-in-Err-clause-faults c = λ going.
     ])
 
 pub returns-in-Err-clause-kept : goal.returns-in-Err-clause-kept
-returns-in-Err-clause-kept c = λ going.
+returns-in-Err-clause-kept g c = λ going.
     let b = c.args.scheduler.now in
     let now = c.match-choice.scheduler in
     elim c.match-choice.branch [

@@ -7,7 +7,7 @@ use Rattle.cilk_scheduler.proofs.Placed.{there_is}
 use Rattle.cilk_scheduler.proofs.asking.go_on.Goals as goal
 
 pub returns : goal.returns
-returns c = λ a at.
+returns g c = λ a at.
     let is = there_is c.args.frames.now.items c.args.frame c.index_mut.result.now a c.index_mut.ensures.value at in (
       c.advance.new.frame_state,
       subst (λ (b : Activation FrameState). WentOn c.args.code.now c.args.input.now b.cursor c.advance.new.asked c.advance.new.frame_state) is c.advance.ensures,

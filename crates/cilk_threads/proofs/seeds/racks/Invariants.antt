@@ -3,4 +3,4 @@ use Rattle.cilk_workers.specs.Held.{IsNewRack}
 use Rattle.cilk_threads.proofs.seeds.racks.Given as goal
 
 abbrev pub invariant-each : goal.invariant-each
-invariant-each g l = (length l.all.items ≡ l.made) × All (IsNewRack 64) l.all.items
+invariant-each g l = (length l.all.items ≡ l.made) × All (IsNewRack l.room) l.all.items

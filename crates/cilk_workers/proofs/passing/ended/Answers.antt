@@ -1,4 +1,3 @@
-use Rattle.std.proofs.Common.{inl}
 use Rattle.cilk_types.specs.declared.event.Event.TheVariants.{End}
 use Rattle.cilk_replay.specs.Starts.{RangesHoldSpawns}
 use Rattle.cilk_tree.specs.declared.kind.Kind.TheVariants as kinds
@@ -40,6 +39,6 @@ returns-else-end c =
       good,
       (
         (next.0, next.1, has_spawn y c.end.new.self next.0 good c.laws-else-end.ensures.begins c.laws-else-end.ensures.whole law next.1),
-        inl (c.end.ensures, is),
+        (c.end.ensures, is),
       ),
     )

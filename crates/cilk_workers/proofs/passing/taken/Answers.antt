@@ -34,5 +34,10 @@ returns-in-No c =
     let same = c.in-No.ensures.0 in
     let good = subst (IsGood y.run) (sym same) works.good in
     let is = subst (λ (x : PieceValue). word_step (event_order_in y) x.upto ≡ resume c.args.ticket) (sym same) c.requires.resumes in
-    let law : RangesHoldSpawns (event_order_in y) = of_replay RangesHoldSpawns y _ c.replay-in-No.ensures.replay c.replay-in-No.ensures.yard c.holds_spawns.ensures in
-    (good, ((c.args.ticket, is, has_spawn y q c.args.ticket good c.laws-in-No.ensures.begins c.laws-in-No.ensures.whole law is), inr same))
+    let law : RangesHoldSpawns (event_order_in y) = of_replay RangesHoldSpawns y _ c.replay-in-No.ensures.replay c.replay-in-No.ensures.yard c.holds_spawns.ensures in (
+      good,
+      (
+        (c.args.ticket, is, has_spawn y q c.args.ticket good c.laws-in-No.ensures.begins c.laws-in-No.ensures.whole law is),
+        (same, subst (λ n. word_step (event_order_in y) q.upto ≡ resume n) (sym c.in-No.ensures.1) is),
+      ),
+    )

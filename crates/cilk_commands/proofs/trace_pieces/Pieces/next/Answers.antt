@@ -1,5 +1,5 @@
-use Rattle.std.proofs.Common.{ℕ, List, ◌++◌, ◌+◌, ◌≡◌, length, Option, ap, subst, ◌∙◌, append-nil, arith}
-use Rattle.std.specs.Prelude.{IfSome}
+use Rattle.std.proofs.Common.{ℕ, List, ◌++◌, ◌+◌, ◌≡◌, length, Option, ap, subst, sym, ◌∙◌, append-nil, arith}
+use Rattle.std.specs.Prelude.{Err, IfSome}
 use Rattle.std.proofs.lemmas.Result.{err_from_is_err_and}
 use Rattle.cilk_trace.specs.declared.line.Line.{Line}
 use Rattle.cilk_trace.specs.Readers.{room_of}
@@ -7,6 +7,8 @@ use Rattle.cilk_trace.specs.declared.reader.TraceReader.{TraceReader}
 use Rattle.cilk_commands.specs.declared.trace_pieces.Found.{Found}
 use Rattle.cilk_commands.specs.TraceFaults.{IsUnreadAfter}
 use Rattle.cilk_commands.specs.TracePieces.{HasRead, line_in}
+use Rattle.cilk_commands.specs.declared.trace_fault.Unjudged.TheVariants.{Unread}
+use Rattle.cilk_commands.proofs.TraceCuts.{told_apart}
 use Rattle.cilk_commands.proofs.TraceReread.{whole_given, end_given, fault_given, reserved}
 use Rattle.cilk_commands.proofs.trace_pieces.Pieces.next.Goals as goal
 
@@ -15,6 +17,27 @@ returns-in_err-fill-clause-fault g c = λ known ls r.
     let p = err_from_is_err_and c.from_residual.result c.from_residual.ensures.1 in
     rw (p.1, p.2) (subst (λ (n : ℕ). IsUnreadAfter known ls n (g.S.Source.failed c.fill.new.source) c.in_err-fill.field-0.0) c.steps.invariant.2
     (c.in_err-fill.ensures.failed known ls))
+
+pub returns-in_err-fill-clause-part : goal.returns-in_err-fill-clause-part
+returns-in_err-fill-clause-part g c = λ known ls r e.
+    let p = err_from_is_err_and c.from_residual.result c.from_residual.ensures.1 in
+    let is : Err p.0 ≡ Err Unread = sym p.1 ∙ e in
+    let same : p.0 ≡ Unread = cc is in
+    c.in_err-fill.ensures.part known ls (c.steps.invariant.0 known ls r) (ap Err (sym p.2 ∙ same))
+
+pub returns-in_err-end-clause-part : goal.returns-in_err-end-clause-part
+returns-in_err-end-clause-part g c = λ known ls r e.
+    let p = err_from_is_err_and c.from_residual-in_err-end.result c.from_residual-in_err-end.ensures.1 in
+    let is : Err p.0 ≡ Err Unread = sym p.1 ∙ e in
+    let same : p.0 ≡ Unread = cc is in
+    absurd (told_apart c.in_err-end.field-0.0 (sym p.2 ∙ same))
+
+pub returns-in_err-found-clause-part : goal.returns-in_err-found-clause-part
+returns-in_err-found-clause-part g c = λ known ls r e.
+    let p = err_from_is_err_and c.from_residual-in_err-found.result c.from_residual-in_err-found.ensures.1 in
+    let is : Err p.0 ≡ Err Unread = sym p.1 ∙ e in
+    let same : p.0 ≡ Unread = cc is in
+    absurd (told_apart c.in_err-found.field-0.0 (sym p.2 ∙ same))
 
 pub returns-in_err-end-clause-fault : goal.returns-in_err-end-clause-fault
 returns-in_err-end-clause-fault g c = λ known ls r.

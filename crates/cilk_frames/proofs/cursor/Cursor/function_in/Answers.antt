@@ -15,3 +15,12 @@ returns-clause-stands g c =
     let same = ap (λ e. begins e c.as_slice.result.now c.is_some.result) c.function_entry-entry.ensures
     ∙ ap (λ ws. begins entry ws c.is_some.result) c.as_slice.ensures ∙ ap (begins entry call.words) c.is_some.ensures in
     IfOk-weaker c.first.result _ _ (λ x e p inputs h fit. stands_as p c.args.code.now inputs (Function call) x _ e same h fit) c.first.ensures
+
+pub returns-clause-first : goal.returns-clause-first
+returns-clause-first g c =
+    let call = c.args.call.now in
+    let entry = entry_of c.args.code.now (Function call) in
+    let begins = λ (e : EntryPoint) (ws : List ℤ) (t : Bool). begins_at e (record { words = ws; part = None; takes = t }) in
+    let same = ap (λ e. begins e c.as_slice.result.now c.is_some.result) c.function_entry-entry.ensures
+    ∙ ap (λ ws. begins entry ws c.is_some.result) c.as_slice.ensures ∙ ap (begins entry call.words) c.is_some.ensures in
+    IfOk-weaker c.first.result _ _ (λ x e. e ∙ same) c.first.ensures

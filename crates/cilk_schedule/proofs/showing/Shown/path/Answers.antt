@@ -1,4 +1,4 @@
-use Rattle.std.proofs.Common.{◌≡◌, ◌+◌, ◌<◌, ◌≤◌, length, slice_get, sym, ap, ◌∙◌, subst, arith, reverse, rules}
+use Rattle.std.proofs.Common.{◌≡◌, ◌+◌, ◌≤◌, length, slice_get, sym, ap, ◌∙◌, subst, arith, reverse, rules}
 use Rattle.std.proofs.lemmas.Bool.{ltb-false}
 use Rattle.cilk_scheduler.proofs.Placed.{there_at}
 use Rattle.cilk_schedule.proofs.Paths.{IsOnWay, ended, onward}

@@ -1,21 +1,18 @@
-use Rattle.std.proofs.Common.{inl, inr, ◌≡◌, ◌<◌, ap, ◌∙◌, arith, length, slice_set}
-use Rattle.std.proofs.lemmas.List.{get_or_read}
-use Rattle.cilk_trace.specs.declared.histories.History.{History}
-use Rattle.cilk_trace.specs.Histories.{after, racing, history_at}
-use Rattle.cilk_trace.proofs.Meeting.{at_next, best_by}
+use Rattle.std.proofs.Common.{refl, arith}
+use Rattle.cilk_trace.proofs.Meeting.{at_end, at_first, at_join}
 use Rattle.cilk_trace.proofs.histories.Histories.meet.Goals as goal
-use Rattle.cilk_trace.proofs.histories.Histories.meet.Goals.{then-raced-gt0, else-raced-gt0}
 
-pub each-preserved : goal.each-preserved
-each-preserved c =
-    let items = c.each.self.cells.items in
-    let lt : c.each.place < length items = let s = c.each.invariant.met.same in let r = c.requires in let t = c.each-test.true in omega (arith, s, r, t) in
-    let read : c.index_mut.result.now ≡ history_at items c.each.place = get_or_read items c.each.place c.index_mut.result.now lt c.index_mut.ensures.value _ in
-    at_next _ _ _ _ _ _ _ _ _ c.each.invariant lt
-    (ap (λ (h : History). slice_set items c.each.place h) (c.meet-raced.ensures.after ∙ ap (after c.args.kind c.args.here) read))
-    (best_by c.args.kind c.args.here (history_at items c.each.place) c.each.best c.if-raced-gt0.best c.meet-raced.result
-    (c.meet-raced.ensures.racing ∙ ap (λ (h : History). racing c.args.kind h c.args.here.hebrew) read) c.each.invariant.kept
-    (elim c.if-raced-gt0.branch [
-      | then-raced-gt0 w ↦ inl (w.best-is ∙ w.first_of-best.ensures)
-      | else-raced-gt0 w ↦ inr (w.best-is, (let u = w.if-raced-gt0.false in omega (arith, u)))
-    ]))
+pub pages-init : goal.pages-init
+pages-init c = record { at = at_first c.args.kind c.args.here _ _ _ _ _ (λ x. refl) refl refl; within = omega arith }
+
+pub pages-preserved : goal.pages-preserved
+pages-preserved c = record {
+  at = at_join _ _ _ _ _ _ _ _ _ _ _ c.pages.invariant.at (omega arith) c.in_ok-raced.ensures.met c.in_ok-raced.ensures.best c.first_of-best.ensures;
+  within = omega arith;
+}
+
+pub returns-clause-met : goal.returns-clause-met
+returns-clause-met c = (at_end c.args.kind c.args.here c.args.cells _ _ c.pages.at c.pages.best c.pages.invariant.at (omega arith)).0
+
+pub returns-clause-best : goal.returns-clause-best
+returns-clause-best c = (at_end c.args.kind c.args.here c.args.cells _ _ c.pages.at c.pages.best c.pages.invariant.at (omega arith)).1

@@ -80,6 +80,6 @@ returns-in-Stopped-clause-told g c =
       of,
       c.apart-piece.ensures.first,
       refl,
-      subst (λ (m : Met). GoesOnBy m (hands.Done finishes.Stopped)) (sym c.in-Stopped.is) tt,
+      subst (λ (m : Met). GoesOnBy m (hands.Done finishes.OutOfMemory)) (sym c.in-Stopped.is) tt,
       c.arrive.ensures.made,
     )

@@ -7,7 +7,7 @@ use Rattle.cilk_workers.specs.Bursts.{KeepsTasks, stays}
 use Rattle.cilk_workers.specs.Keys.{Arrived}
 use Rattle.cilk_workers.specs.Shared.{SharedValue, event_order_in}
 use Rattle.cilk_workers.specs.Turns.{IsHeldUp}
-use Rattle.cilk_workers.proofs.Bursts.{as_before, goes, joined, offers, resumes, stops, was_pushed, was_refused}
+use Rattle.cilk_workers.proofs.Bursts.{as_before, goes, joined, may_arrive, offers, resumes, stops, was_pushed, was_refused}
 use Rattle.cilk_workers.proofs.Keys.{Key}
 use Rattle.cilk_workers.proofs.context.WorkerContext.run_burst.Goals as goal
 use Rattle.cilk_workers.proofs.context.WorkerContext.run_burst.Goals.{in-Goes, in-Offers+else-not-offered, in-Ended+in-Some}
@@ -17,8 +17,8 @@ held_up : (y : SharedValue) (before p : PieceValue) → p ≡ before → IsHeldU
 held_up y before p same held =
     let owed = held.2 in subst (λ (q : PieceValue). (event (event_order_in y) q.upto ≡ Some Sync) × BeginsInBlock (event_order_in y) q.from q.upto) (sym same) (held.0, owed.begins)
 
-pub arrived-requires-in-Arrives-clause-ends : goal.arrived-requires-in-Arrives-clause-ends
-arrived-requires-in-Arrives-clause-ends g c = let turned = c.in-Arrives.ensures.turned in held_up c.args.self.now.shared.now c.each.work.piece c.act.new.work.piece turned.1 turned.2
+pub arrived-requires-clause-ends : goal.arrived-requires-clause-ends
+arrived-requires-clause-ends g c = let turned = c.in-Arrives.ensures.turned in held_up c.args.self.now.shared.now c.each.work.piece c.act.new.work.piece turned.1 turned.2
 
 pub each-init : goal.each-init
 each-init g c = record { works = c.requires.works; keys = c.requires.keys; untold = refl; idle = refl; kept = ((refl, omega arith), stays) }
@@ -57,7 +57,7 @@ each-preserved g c =
         untold = search rules;
         idle = search rules;
         kept =
-            let there = stops y start.upto c.args.tools.now.rack before after rack i.kept w.in-Ended.ensures.turned.1 in
+            let there = stops y start.upto c.args.tools.now.rack before after rack w.in-Ended.denied i.kept w.in-Ended.ensures.turned.1.1 in
             let popped = resumes y start.upto c.args.tools.now.rack after.upto rack w.behind.new.rack w.in-Some.task there w.in-Some.ensures.rule w.behind.ensures.same w.own.ensures.resumes in
             joined y start.upto c.args.tools.now.rack _ _ _ _ w.work-is w.tools-is (subst (λ (p : PieceValue). KeepsTasks s start.upto c.args.tools.now.rack p.upto w.behind.new.rack) (sym w.own.ensures.same) popped);
       }
@@ -81,15 +81,16 @@ returns-in_default-clause-told g c =
     let before = c.each.work.piece in
     let after = c.act.new.work.piece in
     let rack = c.each.tools.rack in
-    let its = λ (ks : List Key). Arrived s c.into_piece.result None ks c.arrived.result c.arrived.new.keys.items in
-    let there = stops y start.upto c.args.tools.now.rack before after rack i.kept c.in-Ended.ensures.turned.1 in
+    let its = λ (ks : List Key). Arrived s c.into_piece.result None ks c.arrived-next.result c.arrived-next.new.keys.items in
+    let there = stops y start.upto c.args.tools.now.rack before after rack c.in-Ended.denied i.kept c.in-Ended.ensures.turned.1.1 in
     let kept = as_before y start.upto c.args.tools.now.rack after.upto rack c.behind.new.rack there c.in_default.ensures.rule c.behind.ensures.same in (
       i.idle,
       inr (
         c.into_piece.result,
         None,
-        subst its i.untold c.arrived.ensures.told,
+        subst its i.untold c.arrived-next.ensures.told,
         subst (λ (p : PieceValue). KeepsTasks s start.upto c.args.tools.now.rack p.upto c.behind.new.rack) (sym c.into_piece.ensures) kept,
+        may_arrive y start.upto c.args.tools.now.rack g.N.Naming.taken before after c.into_piece.result c.behind.new.rack c.in-Ended.denied c.in-Ended.ensures.turned.1.1 c.in_default.ensures.none c.into_piece.ensures,
       ),
     )
 
@@ -100,14 +101,15 @@ returns-in-Arrives-clause-told g c =
     let s = event_order_in c.args.self.now.shared.now in
     let after = c.act.new.work.piece in
     let chain = Some c.act.new.work.chain in
-    let its = λ (ks : List Key). Arrived s after chain ks c.arrived-in-Arrives.result c.arrived-in-Arrives.new.keys.items in
+    let its = λ (ks : List Key). Arrived s after chain ks c.arrived.result c.arrived.new.keys.items in
     let turned = c.in-Arrives.ensures.turned in (
       i.idle,
       inr (
         after,
         chain,
-        subst its i.untold c.arrived-in-Arrives.ensures.told,
+        subst its i.untold c.arrived.ensures.told,
         subst (λ (p : PieceValue). KeepsTasks s start.upto c.args.tools.now.rack p.upto c.each.tools.rack) (sym turned.1) i.kept,
+        tt,
       ),
     )
 

@@ -35,6 +35,7 @@ each-preserved g c =
       (let fewer = c.in-Some.ensures.fewer in
           let room = c.each.invariant.2 in
           omega (arith, fewer, room, pushed.len, pushed.capacity)),
+      (let fewer = c.in-Some.ensures.fewer in let room = c.each.invariant.3 in omega (arith, fewer, room, pushed.len)),
     )
 
 pub push_reserved-requires : goal.push_reserved-requires

@@ -1,0 +1,168 @@
+//! Statements that do by arithmetic what a branch does, so that a number need not decide.
+
+use cilk_messages::around::{byte_at, is_word, word_after, word_at};
+use cilk_messages::place::between;
+
+/// A branch whose only statement is an assignment or a count.
+#[derive(Clone, Copy)]
+pub struct Branch<'a> {
+    pub condition: &'a [u8],
+    pub target: &'a [u8],
+    pub change: Change<'a>,
+}
+
+/// What the statement does to its target.
+#[derive(Clone, Copy)]
+pub enum Change<'a> {
+    /// `target = value`
+    Becomes(&'a [u8]),
+    /// `target += value`
+    Grows(&'a [u8]),
+    /// `target++`
+    Counts,
+}
+
+/// Returns the branch at this byte of the text, if it is such an `if`, without an `else`, and its
+/// condition is one comparison.
+pub fn branch_at(text: &[u8], at: usize) -> Option<Branch<'_>> {
+    if word_at(text, at) != b"if".as_slice() {
+        return None;
+    }
+    let open = word_after(text, at.saturating_add(2));
+    let close = closing(text, open)?;
+    let condition = between(text, open.saturating_add(1), close).trim_ascii();
+    if !is_comparison(condition) {
+        return None;
+    }
+    let ahead = word_after(text, close.saturating_add(1));
+    let is_block = byte_at(text, ahead) == b'{';
+    let first = if is_block {
+        word_after(text, ahead.saturating_add(1))
+    } else {
+        ahead
+    };
+    let end = place_of(text, first, b";")?;
+    let mut behind = word_after(text, end.saturating_add(1));
+    if is_block {
+        if byte_at(text, behind) != b'}' {
+            return None;
+        }
+        behind = word_after(text, behind.saturating_add(1));
+    }
+    if word_at(text, behind) == b"else".as_slice() {
+        return None;
+    }
+    let (target, change) = change_of(between(text, first, end))?;
+    Some(Branch {
+        condition,
+        target,
+        change,
+    })
+}
+
+// The parenthesis that closes the one at a byte.
+fn closing(text: &[u8], open: usize) -> Option<usize> {
+    if byte_at(text, open) != b'(' {
+        return None;
+    }
+    let mut depth: usize = 0;
+    for place in open..text.len() {
+        match text[place] {
+            b'(' => depth = depth.saturating_add(1),
+            b')' => {
+                depth = depth.saturating_sub(1);
+                if depth == 0 {
+                    return Some(place);
+                }
+            }
+            _ => {}
+        }
+    }
+    None
+}
+
+// The first of these marks from a byte on.
+fn place_of(text: &[u8], from: usize, marks: &[u8]) -> Option<usize> {
+    for place in from..text.len() {
+        if marks.contains(&text[place]) {
+            return Some(place);
+        }
+    }
+    None
+}
+
+// Whether a condition is one comparison, without parentheses, `&&` and `||`.
+fn is_comparison(condition: &[u8]) -> bool {
+    if place_of(condition, 0, b"()&|!").is_some() && !differs(condition) {
+        return false;
+    }
+    let Some(first) = place_of(condition, 0, b"<>=!") else {
+        return false;
+    };
+    let behind = if byte_at(condition, first.saturating_add(1)) == b'=' {
+        first.saturating_add(2)
+    } else {
+        first.saturating_add(1)
+    };
+    place_of(condition, behind, b"<>=!").is_none()
+}
+
+// Whether the only mark of a condition among these is a `!=`.
+fn differs(condition: &[u8]) -> bool {
+    match place_of(condition, 0, b"()&|!") {
+        Some(mark) => {
+            between(condition, mark, mark.saturating_add(2)) == b"!=".as_slice()
+                && place_of(condition, mark.saturating_add(1), b"()&|!").is_none()
+        }
+        None => true,
+    }
+}
+
+// The target of a statement and what it does to it.
+fn change_of(statement: &[u8]) -> Option<(&[u8], Change<'_>)> {
+    if let Some(target) = statement.strip_suffix(b"++".as_slice()) {
+        return is_target(target).then_some((target, Change::Counts));
+    }
+    let mark = place_of(statement, 0, b"=")?;
+    let value = between(statement, mark.saturating_add(1), statement.len()).trim_ascii();
+    if place_of(value, 0, b"()=<>!&|").is_some() {
+        return None;
+    }
+    let ahead = between(statement, 0, mark);
+    let (target, change) = match ahead.strip_suffix(b"+".as_slice()) {
+        Some(target) => (target.trim_ascii(), Change::Grows(value)),
+        None => (ahead.trim_ascii(), Change::Becomes(value)),
+    };
+    is_target(target).then_some((target, change))
+}
+
+// Whether a text is a variable or an element.
+fn is_target(text: &[u8]) -> bool {
+    let first = byte_at(text, 0);
+    if !is_word(first) || first.is_ascii_digit() {
+        return false;
+    }
+    match place_of(text, 0, b" \t\r\n()-*/%<>=") {
+        Some(_) => false,
+        None => true,
+    }
+}
+
+/// Returns whether the branch keeps the greater or the smaller of two values: its condition compares
+/// what it assigns with the target.
+pub fn keeps_one(branch: &Branch<'_>) -> bool {
+    let Change::Becomes(value) = branch.change else {
+        return false;
+    };
+    let Some(mark) = place_of(branch.condition, 0, b"<>") else {
+        return false;
+    };
+    let left = between(branch.condition, 0, mark).trim_ascii();
+    let behind = if byte_at(branch.condition, mark.saturating_add(1)) == b'=' {
+        mark.saturating_add(2)
+    } else {
+        mark.saturating_add(1)
+    };
+    let right = between(branch.condition, behind, branch.condition.len()).trim_ascii();
+    (left == value && right == branch.target) || (left == branch.target && right == value)
+}

@@ -1,0 +1,12 @@
+pub mod Computed
+pub mod Cursors
+pub mod Every
+pub mod Gathered
+pub mod Marked
+pub mod Meeting
+pub mod Oblivious
+pub mod Running
+pub mod SameKinds
+pub mod Steps
+pub mod Twins
+pub mod Watching

@@ -1,1 +1,0 @@
-void f(int a, int x0, int x1, int x2, int x3, int x4, int x5, int x6, int x7, int x8, int x9, int x10, int x11, int x12, int x13, int x14){} int main(){return 0;}

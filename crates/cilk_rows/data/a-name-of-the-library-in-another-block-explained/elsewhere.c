@@ -1,8 +1,0 @@
-int main() {
-  int n = 3;
-  if (n) {
-    int abs = n;
-    n = abs;
-  }
-  return abs;
-}

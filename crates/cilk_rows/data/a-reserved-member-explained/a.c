@@ -1,8 +1,0 @@
-struct item {
-    int value;
-    int weight;
-};
-struct item items[10];
-int main() {
-    return items[3].value;
-}

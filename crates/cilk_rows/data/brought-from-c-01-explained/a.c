@@ -1,1 +1,0 @@
-int main() { scanf("%d", n); }

@@ -1,1 +1,0 @@
-int f(int n) { return n & 1; }

@@ -1,1 +1,0 @@
-int main() { swap(&a[0], 1); }

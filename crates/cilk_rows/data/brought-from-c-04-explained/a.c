@@ -1,1 +1,0 @@
-int main() { print(REDUCER_VIEW(best).index); }

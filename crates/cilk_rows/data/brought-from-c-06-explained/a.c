@@ -1,1 +1,0 @@
-int small = 1e9;

@@ -1,1 +1,0 @@
-int many = 1000UL;

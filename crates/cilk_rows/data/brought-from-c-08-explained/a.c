@@ -1,1 +1,0 @@
-int mask = 0xff;

@@ -1,1 +1,0 @@
-typedef struct { int x; } point;

@@ -1,1 +1,0 @@
-void zero(void *view) { }

@@ -1,1 +1,0 @@
-int main() { int *a = calloc(8, 8); }

@@ -1,1 +1,0 @@
-void swap(int *x, int *y) { }

@@ -1,1 +1,0 @@
-int main() { int root = (int)r; }

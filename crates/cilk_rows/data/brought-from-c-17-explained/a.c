@@ -1,1 +1,0 @@
-int f() { return a[0] = 2; }

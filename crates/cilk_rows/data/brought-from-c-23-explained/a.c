@@ -1,1 +1,0 @@
-int main() { a[0] = cilk_spawn f(1); }

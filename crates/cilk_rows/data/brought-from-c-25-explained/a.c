@@ -1,1 +1,0 @@
-int main() { CILK_C_REGISTER_REDUCER(r); }

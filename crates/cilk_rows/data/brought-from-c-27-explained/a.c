@@ -1,1 +1,0 @@
-int main() { assert(1); }

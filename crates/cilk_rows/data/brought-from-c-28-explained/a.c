@@ -1,1 +1,0 @@
-int main() { int r = sqrt(9); }

@@ -1,1 +1,0 @@
-int main() { memset(a, 0, 8); }

@@ -1,1 +1,0 @@
-int main() { return EXIT_SUCCESS; }

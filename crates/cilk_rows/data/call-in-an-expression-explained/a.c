@@ -1,3 +1,0 @@
-int f(int n) {
-	return f(n - 1);
-}

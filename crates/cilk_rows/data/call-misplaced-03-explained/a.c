@@ -1,1 +1,0 @@
-int main() { int x = cilk_spawn f() + 1; }

@@ -1,1 +1,0 @@
-int main() { int x = 2; x = (long) x; }

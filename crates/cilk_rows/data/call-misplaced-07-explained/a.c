@@ -1,1 +1,0 @@
-int n[4]; int main() { int k = 4 * sizeof(int); }

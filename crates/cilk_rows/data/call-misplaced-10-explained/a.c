@@ -1,1 +1,0 @@
-int s; int main() { REDUCER_VIEW(s) += 1; }

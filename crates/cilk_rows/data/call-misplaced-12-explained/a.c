@@ -1,1 +1,0 @@
-int main() { int f(int x) { return x; } }

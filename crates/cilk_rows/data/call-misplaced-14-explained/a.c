@@ -1,1 +1,0 @@
-int main() { cilk_sync(); }

@@ -1,1 +1,0 @@
-int main() { if 1 print(1); }

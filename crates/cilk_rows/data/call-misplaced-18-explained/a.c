@@ -1,1 +1,0 @@
-int main() { print(1, 2); }

@@ -1,1 +1,0 @@
-int r[2]; int main() { update(r[0], 1); }

@@ -1,1 +1,0 @@
-int main() { int a; return value[a]; }

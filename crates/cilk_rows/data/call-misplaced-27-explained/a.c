@@ -1,1 +1,0 @@
-int main() { if (x = 1) print(1); }

@@ -1,1 +1,0 @@
-int main() { int x; x >>= 1; }

@@ -1,1 +1,0 @@
-int a[9]; int main() { return a[1, 2]; }

@@ -1,1 +1,0 @@
-void g() { } void f() { g(); } int main() { cilk_spawn f(); f(); cilk_sync; return 0; }

@@ -1,1 +1,0 @@
-int main() { x = a ? b : c; }

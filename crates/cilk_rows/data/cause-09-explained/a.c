@@ -1,1 +1,0 @@
-int cilk_reducer(zero, plus) s = 0;

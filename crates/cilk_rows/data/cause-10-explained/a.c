@@ -1,1 +1,0 @@
-int cilk_reducer(add) s = 0;

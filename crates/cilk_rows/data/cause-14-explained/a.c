@@ -1,2 +1,0 @@
-int main() { int x = 1
-x = 2; }

@@ -1,1 +1,0 @@
-int main() { while (1) { break; } }

@@ -1,1 +1,0 @@
-int main() { return cuont; int count; }

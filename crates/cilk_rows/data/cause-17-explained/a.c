@@ -1,1 +1,0 @@
-int count; int main() { return coutn; }

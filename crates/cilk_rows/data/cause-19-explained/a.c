@@ -1,2 +1,0 @@
-int g;
-int h, g;

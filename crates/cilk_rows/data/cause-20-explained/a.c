@@ -1,1 +1,0 @@
-void f(int a, int b) {} int main() { f(1); }

@@ -1,1 +1,0 @@
-int a[3]; int main() { return a; }

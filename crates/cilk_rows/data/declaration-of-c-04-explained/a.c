@@ -1,1 +1,0 @@
-int best = INT_MIN;

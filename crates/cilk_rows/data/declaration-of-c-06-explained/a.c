@@ -1,1 +1,0 @@
-int ok = true;

@@ -1,1 +1,0 @@
-longest cilk_reducer(add) best;

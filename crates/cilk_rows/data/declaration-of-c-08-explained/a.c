@@ -1,1 +1,0 @@
-typedef struct { int start; int steps; } longest; longest cilk_reducer(add) best;

@@ -1,1 +1,0 @@
-struct item { int worth; };

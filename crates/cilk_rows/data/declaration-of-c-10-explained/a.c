@@ -1,1 +1,0 @@
-f(int n) { return n; }

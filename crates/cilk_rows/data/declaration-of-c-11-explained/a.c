@@ -1,1 +1,0 @@
-int f(a, b) { return a; }

@@ -1,1 +1,0 @@
-int f(item a) { return 1; }

@@ -1,1 +1,0 @@
-using namespace std;

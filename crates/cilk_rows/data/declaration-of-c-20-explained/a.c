@@ -1,1 +1,0 @@
-int main() { cilk_for (int i = 3; i > 0; i--) print(i); }

@@ -1,1 +1,0 @@
-int main() { int i; cilk_for (i = 0; i < 3; i++) print(i); }

@@ -1,1 +1,0 @@
-int main() { int j; cilk_for (int i = 0; j < 3; i++) print(i); }

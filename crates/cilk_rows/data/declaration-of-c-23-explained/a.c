@@ -1,2 +1,0 @@
-int j;
-int main() { cilk_for (int i = 0; i < 3; j++) ; }

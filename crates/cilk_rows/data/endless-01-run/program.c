@@ -1,1 +1,0 @@
-int a[1000000]; void f(int x) { int y; f(x); } int main() { f(1); return 0; }

@@ -1,1 +1,0 @@
-void f(){ x = f(); x = cilk_spawn f(4); x = y[1] + 2; }

@@ -1,1 +1,0 @@
-int f(){ if (a[1]) return 1; else while (0) print(2); }

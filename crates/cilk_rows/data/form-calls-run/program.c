@@ -1,1 +1,0 @@
-void f(){ f(); f(1, x[2]); cilk_spawn f(3); cilk_sync; }

@@ -1,2 +1,0 @@
- 	# include <x>
-int main(){return 0;}

@@ -1,1 +1,0 @@
-void f(){ int x, y = 1, z = f(), w = cilk_spawn f(1, 2); }

@@ -1,1 +1,0 @@
-void f(){ for (;;) ; for (int i = 0; i < 9; i++) {} for (x[1] = 0; ; ++x) ; for (--y; y;) ; }

@@ -1,1 +1,0 @@
-int g = -5, h; int main(void) { g = input(h + 1) % input_count(); }

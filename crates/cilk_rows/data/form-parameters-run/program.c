@@ -1,1 +1,0 @@
-void f(void) {} int g(int a, int cilk_reducer(min) m) {}

@@ -1,1 +1,0 @@
-void f(){ update(r, 1); set(r, value(r)); return; }

@@ -1,1 +1,0 @@
-int main(){if (1) if (0) ; else ; else ;}

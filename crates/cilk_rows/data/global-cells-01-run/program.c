@@ -1,1 +1,0 @@
-int a[1]; int main(){return 0;}

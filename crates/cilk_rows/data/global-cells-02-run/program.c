@@ -1,1 +1,0 @@
-int a[1000000]; int main(){return 0;}

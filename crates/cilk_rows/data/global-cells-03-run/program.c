@@ -1,1 +1,0 @@
-int a[999999]; int g; int main(){return 0;}

@@ -1,2 +1,0 @@
-int x = {1};
-int main() { return x; }

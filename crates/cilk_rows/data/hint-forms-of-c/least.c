@@ -1,4 +1,0 @@
-int least = -9223372036854775807 - 1;
-int main() {
-  return least;
-}

@@ -1,4 +1,0 @@
-int main() {
-  int b[3];
-  return 0;
-}

@@ -1,3 +1,0 @@
-int main(int argc, char *argv[]) {
-  return argc;
-}

@@ -1,4 +1,0 @@
-int main() {
-  int print = 1;
-  return print;
-}

@@ -1,5 +1,0 @@
-int main() {
-  int x = 8;
-  x = x < < 1;
-  return x;
-}

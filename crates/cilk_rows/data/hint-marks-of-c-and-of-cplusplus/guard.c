@@ -1,2 +1,0 @@
-#define GUARD
-int main() { return 0; }

@@ -1,4 +1,0 @@
-int main() {
-  int x = std::max(1, 2);
-  return x;
-}

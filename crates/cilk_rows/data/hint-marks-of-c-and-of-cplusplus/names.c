@@ -1,5 +1,0 @@
-int value = 1;
-int main() {
-  int print;
-  return value;
-}

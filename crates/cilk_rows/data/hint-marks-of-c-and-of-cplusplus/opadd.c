@@ -1,2 +1,0 @@
-cilk::reducer_opadd<int> total;
-int main() { return 0; }

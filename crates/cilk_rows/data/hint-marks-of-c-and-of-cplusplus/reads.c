@@ -1,5 +1,0 @@
-int main() {
-  int x = 0;
-  std::cin >> x;
-  return x;
-}

@@ -1,5 +1,0 @@
-int a[4];
-int main() {
-  int x = a;
-  return x;
-}

@@ -1,4 +1,0 @@
-int main(int n) {
-  print(n);
-  return 0;
-}

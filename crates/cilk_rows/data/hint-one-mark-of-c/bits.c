@@ -1,5 +1,0 @@
-int main() {
-  int x = input(0);
-  int y = ~x;
-  return y;
-}

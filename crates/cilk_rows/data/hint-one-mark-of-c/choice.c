@@ -1,5 +1,0 @@
-int main() {
-  int x = input(0);
-  int y = x > 0 ? x : -x;
-  return y;
-}

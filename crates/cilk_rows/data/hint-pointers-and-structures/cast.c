@@ -1,5 +1,0 @@
-int main() {
-  int x = 1;
-  x = (node *)x;
-  return x;
-}

@@ -1,5 +1,0 @@
-int node;
-int main() {
-  int x = node->left;
-  return x;
-}

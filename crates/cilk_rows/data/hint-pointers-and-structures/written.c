@@ -1,5 +1,0 @@
-int node;
-int main() {
-  node->left = 1;
-  return node;
-}

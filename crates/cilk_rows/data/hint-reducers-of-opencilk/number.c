@@ -1,4 +1,0 @@
-int main() {
-  update(1, 2);
-  return 0;
-}

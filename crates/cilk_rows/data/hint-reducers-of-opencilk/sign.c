@@ -1,2 +1,0 @@
-int cilk_reducer(+) total;
-int main() { return value(total); }

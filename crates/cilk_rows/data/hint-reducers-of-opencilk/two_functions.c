@@ -1,2 +1,0 @@
-int cilk_reducer(zero, plus) total;
-int main() { return value(total); }

@@ -1,2 +1,0 @@
-cilk_reducer(add) int total;
-int main() { return value(total); }

@@ -1,1 +1,0 @@
-int a[4]; int main() { cilk_for (int i = 0; i < input_count(); i++) { a[i] = input(i) * input(i); } return a[0] + a[1] + a[2] + a[3]; }

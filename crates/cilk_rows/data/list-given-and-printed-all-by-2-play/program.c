@@ -1,1 +1,0 @@
-void put(int cilk_reducer(append) l, int x) { update(l, x); } int main() { int cilk_reducer(append) a; cilk_spawn put(a, 1); cilk_spawn put(a, 2); cilk_sync; print(value(a)); return value(a); }

@@ -1,2 +1,0 @@
-int n = 3
-int main() { return n; }

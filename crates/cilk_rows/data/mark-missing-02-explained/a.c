@@ -1,4 +1,0 @@
-void f() {} int main() {
-  int x = 1
-  cilk_spawn f();
-}

@@ -1,4 +1,0 @@
-int main() {
-  int x = 1;
-  x = x +
-  return x; }

@@ -1,4 +1,0 @@
-int main() {
-  if (1)
-  else print(1);
-}

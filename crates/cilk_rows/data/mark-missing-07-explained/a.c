@@ -1,3 +1,0 @@
-int main() { while (1
-  print(1);
-}

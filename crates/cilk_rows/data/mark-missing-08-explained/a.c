@@ -1,1 +1,0 @@
-int a[2]; int main() { print(a[1); }

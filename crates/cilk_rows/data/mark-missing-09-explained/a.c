@@ -1,2 +1,0 @@
-int f(int n)
-  return n;

@@ -1,1 +1,0 @@
-int main() { printf("\n"); }

@@ -1,1 +1,0 @@
-int main() { switch (1) { case 1: print(1); } }

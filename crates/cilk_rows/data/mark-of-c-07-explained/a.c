@@ -1,1 +1,0 @@
-int main() { out: return 0; }

@@ -1,1 +1,0 @@
-int main() { for (int x : a) print(x); }

@@ -1,2 +1,0 @@
-int cilk_reducer(add) best;
-int main() { return best.steps; }

@@ -1,1 +1,0 @@
-#define LEAST(a, b) a

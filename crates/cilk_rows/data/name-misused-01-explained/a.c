@@ -1,1 +1,0 @@
-int cilk_reducer(add) s; int main() { s += 1; }

@@ -1,3 +1,0 @@
-void f(int n) {}
-int cilk_reducer(add) s;
-int main() { f(s); }

@@ -1,1 +1,0 @@
-int main() { int n; n(); }

@@ -1,1 +1,0 @@
-void f(int n) {} int a[2]; int main() { f(a); }

@@ -1,1 +1,0 @@
-void f() {} int main() { int x = f(); }

@@ -1,1 +1,0 @@
-void f() { return 1; }

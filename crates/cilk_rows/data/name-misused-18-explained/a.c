@@ -1,1 +1,0 @@
-int a[2000000]; int main() { return 0; }

@@ -1,1 +1,0 @@
-void f(int a) {} int main() { f(); return 0; }

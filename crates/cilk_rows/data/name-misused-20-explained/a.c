@@ -1,1 +1,0 @@
-int main() { { int y = 1; } return y; }

@@ -1,1 +1,0 @@
-int g, a[1000000]; int main(){return 0;}

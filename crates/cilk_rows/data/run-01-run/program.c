@@ -1,1 +1,0 @@
-int cilk_reducer(append) none; int main() { return 0; }

@@ -1,1 +1,0 @@
-int main() { int i = 0; print(7); return 1 / i; }

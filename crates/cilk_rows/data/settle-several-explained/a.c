@@ -1,1 +1,0 @@
-int main() { print(7); return 1; }

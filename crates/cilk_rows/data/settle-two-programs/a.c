@@ -1,1 +1,0 @@
-int main() { print(input(0)); return input(1); }

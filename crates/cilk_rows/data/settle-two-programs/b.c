@@ -1,1 +1,0 @@
-int main() { return input(0) + input(1); }

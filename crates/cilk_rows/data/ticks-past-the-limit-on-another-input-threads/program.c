@@ -1,1 +1,0 @@
-int main(){if(input(0)){while(1);}return 0;}

@@ -1,1 +1,0 @@
-int main(){if (1) ; else ; else ;}

@@ -1,1 +1,0 @@
-input input_count

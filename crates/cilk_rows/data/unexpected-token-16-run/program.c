@@ -1,1 +1,0 @@
-void f(){ print(f(1)); }

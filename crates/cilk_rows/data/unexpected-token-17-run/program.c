@@ -1,1 +1,0 @@
-void f(){ x = cilk_spawn y; }

@@ -1,1 +1,0 @@
-void f(){ cilk_spawn; }

@@ -1,1 +1,0 @@
-void f(){ cilk_for (int i = 0; i < 9; i += 2) ; }

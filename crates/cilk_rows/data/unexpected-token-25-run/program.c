@@ -1,1 +1,0 @@
-void f(){ cilk_for (i = 0; i < 9; i++) ; }

@@ -1,1 +1,0 @@
-void f(){ for (int i; i < 9; i++) ; }

@@ -1,1 +1,0 @@
-void f(){ int cilk_reducer(add) r = 1; }

@@ -1,1 +1,0 @@
-void f(){ update(r); }

@@ -1,1 +1,0 @@
-void f(){ x = value(1); }

@@ -1,1 +1,0 @@
-int main() { _Cilk_for (int i = 0; i < 9; i++) print(i); }

@@ -1,1 +1,0 @@
-int main() { int x = _Cilk_spawn f(); }

@@ -1,1 +1,0 @@
-int main() { _Cilk_sync; }

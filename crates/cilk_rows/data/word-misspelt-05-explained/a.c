@@ -1,1 +1,0 @@
-int main() { parallel_for (int i = 0; i < 5; i++) print(i); }

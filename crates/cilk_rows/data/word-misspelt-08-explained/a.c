@@ -1,1 +1,0 @@
-int main() { cilkf_or (int i = 0; i < 9; i++) print(i); }

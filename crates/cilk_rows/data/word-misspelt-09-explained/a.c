@@ -1,1 +1,0 @@
-int main() { fro (int i = 0; i < 9; i++) print(i); }

@@ -1,1 +1,0 @@
-int main() { int i; fro (i = 0; i < 9; i++) print(i); }

@@ -1,1 +1,0 @@
-int main() { int i; whlie (i < 9) i++; }

@@ -1,1 +1,0 @@
-int main() { if (1) ; elseif (2) { } }

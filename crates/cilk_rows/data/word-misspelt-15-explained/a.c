@@ -1,1 +1,0 @@
-int main() { return 1 + vlaue(r); }

@@ -1,1 +1,0 @@
-int main() { retrun 1; }

@@ -1,1 +1,0 @@
-int main() { int y = cilk_spwan f(); }

@@ -1,1 +1,0 @@
-int Count; int main() { return count; }

@@ -1,1 +1,0 @@
-int cilk_reducr(add) sum;

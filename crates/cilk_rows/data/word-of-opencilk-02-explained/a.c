@@ -1,1 +1,0 @@
-int main() { int cilk_reducer_(max) m; }

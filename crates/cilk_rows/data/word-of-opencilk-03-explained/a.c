@@ -1,1 +1,0 @@
-cilk_reducer_opadd<int> sum;

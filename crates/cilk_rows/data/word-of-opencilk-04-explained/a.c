@@ -1,1 +1,0 @@
-int main() { reducer_opmax<int> m; }

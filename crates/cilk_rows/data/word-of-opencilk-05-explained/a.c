@@ -1,1 +1,0 @@
-unsigned seed = 1;

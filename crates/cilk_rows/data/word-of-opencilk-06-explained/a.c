@@ -1,5 +1,0 @@
-int x;
-void main() {
-  print(x);
-}
-
