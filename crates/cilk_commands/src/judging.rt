@@ -93,8 +93,8 @@ fn judged<'a, F: Files>(
     }
 }
 
-/// Judges the trace in a file. Memory: 12 bytes a strand of the trace, and 16 for each cell of the
-/// pages of 4,096 that it accesses.
+/// Judges the trace in a file. Memory: 33 to 59 bytes a strand of the trace (measured), and 16 for each
+/// cell of the pages of 4,096 that it accesses.
 pub fn judge<'a, F: Files>(
     alloc: Global,
     trace: &'a str,

@@ -44,9 +44,9 @@
 //!   Gilbert and Leiserson 2004).
 //! - [`views::ViewPass`] looks for view-read races, by peer classes (Lee and Schardl 2015).
 //!
-//! Time is linear in the lines and in the cells that they name. Memory: 8 bytes a strand, 2 a mark,
-//! 16 for each cell of a page with an access, and some 24 for each reducer that is alive. A page has
-//! 4,096 cells.
+//! Time is linear in the lines and in the cells that they name. Memory: 33 to 59 bytes a strand with its
+//! marks (measured), 16 for each cell of a page with an access, and some 24 for each reducer that is
+//! alive. A page has 4,096 cells.
 //!
 //! ```text
 //! let mut reader = TraceReader::new(alloc);
