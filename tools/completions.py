@@ -18,7 +18,7 @@ _cilk() {{
         1:*) words="{commands} help --help --version" files= ;;
         2:help:*) words="{commands}" files= ;;
         *:--input | *:--on | *:--sites) ;;
-        *:--workers | *:--helpers | *:--why | *:explain:*) files= ;;
+        *:--workers | *:--helpers | *:--why | *:--fix | *:explain:*) files= ;;
 {cases}
     esac
     [ -n "$files" ] && [ "${{word#-}}" = "$word" ] && words=
@@ -34,7 +34,7 @@ _cilk() {{
         2:*) compadd -- {commands} help --help --version; return ;;
         3:help:*) compadd -- {commands}; return ;;
         *:--input | *:--on | *:--sites) _files; return ;;
-        *:--workers | *:--helpers | *:--why | *:explain:*) return ;;
+        *:--workers | *:--helpers | *:--why | *:--fix | *:explain:*) return ;;
 {cases}
     esac
     [[ $PREFIX == -* ]] && compadd -- ${{=words_of}} || _files

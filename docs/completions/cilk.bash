@@ -5,8 +5,8 @@ _cilk() {
         1:*) words="explain settle run certify check threads play schedule measure judge help --help --version" files= ;;
         2:help:*) words="explain settle run certify check threads play schedule measure judge" files= ;;
         *:--input | *:--on | *:--sites) ;;
-        *:--workers | *:--helpers | *:--why | *:explain:*) files= ;;
-        *:settle:*) words="--input --short --json --why --explain --color --help" ;;
+        *:--workers | *:--helpers | *:--why | *:--fix | *:explain:*) files= ;;
+        *:settle:*) words="--input --every --fix --short --json --why --explain --color --help" ;;
         *:run:*) words="--input --explain --color --help" ;;
         *:certify:*) words="--input --explain --color --help" ;;
         *:check:*) words="--input --helpers --explain --color --help" ;;

@@ -6,8 +6,8 @@ _cilk() {
         2:*) compadd -- explain settle run certify check threads play schedule measure judge help --help --version; return ;;
         3:help:*) compadd -- explain settle run certify check threads play schedule measure judge; return ;;
         *:--input | *:--on | *:--sites) _files; return ;;
-        *:--workers | *:--helpers | *:--why | *:explain:*) return ;;
-        *:settle:*) words_of="--input --short --json --why --explain --color --help" ;;
+        *:--workers | *:--helpers | *:--why | *:--fix | *:explain:*) return ;;
+        *:settle:*) words_of="--input --every --fix --short --json --why --explain --color --help" ;;
         *:run:*) words_of="--input --explain --color --help" ;;
         *:certify:*) words_of="--input --explain --color --help" ;;
         *:check:*) words_of="--input --helpers --explain --color --help" ;;

@@ -39,13 +39,15 @@ def memory(name, command):
         program, cert, more = rows.lay(room, name)
         words = {
             "check": ["check", program, cert],
+            "check by helpers": ["check", program, cert, "--helpers", "2"],
             "play": ["play", program, "all", "--workers", "2"],
             "threads": ["threads", program, cert, "--workers", "2"],
             "schedule": ["schedule", program, cert],
             "settle": ["settle", program],
         }[command] + more
         wanted = {
-            "check": rows.verdict(name), "schedule": rows.SCRIPTS.get(name), "settle": rows.settled(name)
+            "check": rows.verdict(name), "check by helpers": rows.verdict(name), "schedule": rows.SCRIPTS.get(name),
+            "settle": rows.settled(name),
         }.get(command, rows.OUTCOMES[name])  # fmt: skip
         again = command in ("play", "threads")
         found.expect(room.run(*words), wanted, " ".join(words))
@@ -283,6 +285,7 @@ def closed(room, found):
 
 
 CASES = {f"memory: check {name}": memory(name, "check") for name in ("fib", "race")}
+CASES.update({f"memory: check {name} by helpers": memory(name, "check by helpers") for name in ("turns", "race")})
 CASES.update({f"memory: play {name}": memory(name, "play") for name in ("list", "local")})
 CASES.update({f"memory: threads {name}": memory(name, "threads") for name in ("gets", "list", "prints")})
 CASES.update({f"memory: schedule {name}": memory(name, "schedule") for name in ("one", "race")})

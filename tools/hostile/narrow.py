@@ -10,7 +10,7 @@ sys.dont_write_bytecode = True
 import random_traces
 import second_certificate
 from hostile import chance as damage
-from hostile import rows
+from hostile import forms, rows
 from hostile.room import LONG, NO_MEMORY, Shown
 
 ROOM = 2**30  # bytes of address space
@@ -22,18 +22,34 @@ EDGES = (
     + [999_999, 1_000_000, 1_000_001, 1_048_575, 1_048_576, 1_048_577, 2**24, 2**31 - 1, 2**31, 2**32 - 4097]
     + [2**32 - 4096, 2**32 - 2, 2**32 - 1, 2**32, 2**63 - 1, 2**63, 2**64 - 1, 2**64, 10**40]
 )
-LIMITS = (b"fault 204 ", b"fault 205 ", b"fault 206 ")
-SHORT = 50_000  # events of a run that isn't long
+MOST_EVENTS, MOST_FRAMES = 1_000_000, 65_536  # of a run
+OF_AN_EVENT, OF_A_FRAME = 180, 7_000  # bytes that a run may take where these are more than PEAK
+MICROSECONDS = 12.0  # of a processor for an event, where these are more than SECONDS
 FREE, MALFORMED = rows.said("race-free"), Shown(4, b"refused 301 1\n", b"")
 
 
-def bounded(room, found, told, fair, *words, peak=PEAK, seconds=SECONDS):
-    """Runs the program in a gigabyte: its answer has to be fair, with so much memory and so many seconds at most."""
-    seen, used, spent = room.within(ROOM, *words, patience=LONG if seconds is None else 5 * seconds)
+def judge(found, told, fair, ran, peak=PEAK, seconds=SECONDS):
+    """Notes of a run in a gigabyte: its answer has to be fair, with so much memory and so many seconds at most."""
+    seen, used, spent = ran
     found.must(fair(seen), told, seen)
     found.must(peak is None or used <= peak, f"{told}: {used} KB")
     found.must(seconds is None or spent <= seconds, f"{told}: {spent:.1f} s")
     return seen
+
+
+def bounded(room, found, told, fair, *words, stdin=b"", **bounds):
+    """Runs the program in a gigabyte, and judges that run."""
+    seconds = bounds.get("seconds", SECONDS)
+    ran = room.within(ROOM, *words, stdin=stdin, patience=LONG if seconds is None else 5 * seconds)
+    return judge(found, told, fair, ran, **bounds)
+
+
+def formed(room, found, told, form, fair, names, more=(), **bounds):
+    """Tries a form of words, with the names of files for its letters."""
+    words, stdin = [*forms.words_of(form, names), *more], b""
+    if form == "< P":
+        words, stdin = [], room.get(names["P"])
+    return bounded(room, found, f"{told}: {form}", fair, *words, stdin=stdin, **bounds)
 
 
 def is_answer(seen):
@@ -172,12 +188,23 @@ def trace_by_chance(chance):
     return text[:SMALL]
 
 
+def sites_by_chance(chance):
+    """A table of sites with great numbers, or long names."""
+    places = ("?:0 ?", "a.c:1 f", f"a.c:{number(chance)} f", "/long" * 90 + ":1 f")
+    count = chance.choice((0, 3, 12))
+    sites = [f"{chance.choice((chance.randrange(9), number(chance)))} {chance.choice(places)}" for _ in range(count)]
+    return "\n".join(("cilksites 1", *sites, chance.choice(("end\n", "end", "")))).encode()[:SMALL]
+
+
 def traces(room, found, seed, numbers):
     """Traces with far cells: the answer is the one by the definitions."""
-    for k in numbers:
-        trace = trace_by_chance(random.Random(f"far {seed} {k}"))
+    for k, form in zip(numbers, forms.deal("traces", f"{seed} {numbers}")):
+        chance = random.Random(f"far {seed} {k}")
+        trace = trace_by_chance(chance)
         told, wanted = f"trace {k} of seed {seed}", oracle(trace)
-        seen = bounded(room, found, told, one_of(wanted, NO_MEMORY), "judge", room.put("far", trace))
+        names = {"T": room.put("far", trace), "L": room.put("sites", sites_by_chance(chance))}
+        seen = formed(room, found, told, form, forms.fair(form, wanted), names)
+        found.count(form)
         found.count(f"traces: {' '.join((seen.out or seen.err).decode().split()[:2])}")
 
 
@@ -185,7 +212,9 @@ run_of = functools.lru_cache(maxsize=None)(rows.run_of)
 
 
 def certificate_by_chance(chance, right):
-    """A certificate of at most 1,000 bytes, with great numbers, lines again and again, or cut."""
+    """A certificate of at most 1,000 bytes: the right one, or with great numbers, lines again and again, or cut."""
+    if chance.random() < 0.2:
+        return right[:SMALL]
     lines = right.splitlines(keepends=True)
     if chance.random() < 0.3:
         at = chance.randrange(len(lines))
@@ -194,48 +223,67 @@ def certificate_by_chance(chance, right):
     return text[:SMALL] if chance.random() < 0.8 else text[: chance.randrange(len(text) + 1)]
 
 
+def fair_of_certificate(form, name, answer):
+    """What a form may show of a certificate, by the answer of `check`."""
+    if form.endswith("--on O"):
+        return is_answer
+    if form.startswith("threads") and answer == rows.ACCEPTED:
+        return forms.fair(form, rows.OUTCOMES[name])
+    is_race = form.startswith("schedule") and answer == rows.REFUSED.get(name)
+    return forms.fair(form, rows.SCRIPTS[name] if is_race else answer)
+
+
 def certificates(room, found, seed, numbers):
-    """Certificates with great numbers: `check` answers what the second reading does, by helpers and `threads` too."""
+    """Certificates with great numbers: `check` answers what the second reading does, and so do the other forms."""
+    dealt = forms.deal("certificates", f"{seed} {numbers}")
     for k in numbers:
-        chance = random.Random(f"great {seed} {k}")
+        chance, told = random.Random(f"great {seed} {k}"), f"certificate {k} of seed {seed}"
         name = chance.choice(("first", "one", "list", "put", "local", "turns"))
         program, _, more = rows.lay(room, name)
         text = certificate_by_chance(chance, rows.certificate(name, chance.choice((1, 2))))
         verdict = second_certificate.judged(run_of(name), text)
         answer = Shown(0 if verdict == "accepted" else 4, f"{verdict}\n".encode(), b"")
         found.count(f"certificates: {' '.join(verdict.split()[:2])}")
-        room.put("cert", text)
-        for words in ([], ["--helpers", chance.choice(("2", "16"))]):
-            told = f"certificate {k} of seed {seed} {words}"
-            bounded(room, found, told, one_of(answer, NO_MEMORY), "check", program, "cert", *more, *words)
-        wanted = rows.OUTCOMES[name] if verdict == "accepted" else answer
-        told = f"certificate {k} of seed {seed}: threads"
-        bounded(room, found, told, one_of(wanted, NO_MEMORY), "threads", program, "cert", *more)
+        names = {"P": program, "C": room.put("cert", text), "O": room.put("on", inputs_by_chance(chance))}
+        for form in ("check P C", next(dealt), next(dealt)):
+            found.count(form)
+            formed(room, found, told, form, fair_of_certificate(form, name, answer), names, more)
+
+
+def script_by_chance(chance):
+    """A script with great numbers."""
+    lines = (chance.choice((
+        f"run {number(chance)}", f"run {chance.randrange(1, 9)} {number(chance)}", "all",
+        f"steal {chance.randrange(9)} {number(chance)}", f"steal {number(chance)} 0",
+    )) for _ in range(chance.choice((1, 3, 40))))  # fmt: skip
+    return "\n".join(lines).encode()[:SMALL]
+
+
+def fair_of_script(form, name, script, workers):
+    """What a form may show of a script. (How many choices a script may make is a limit too: only its line is known.)"""
+    bad = damage.first_bad_line(script)
+    if not 1 <= int(workers) <= 64:
+        return lambda seen: seen.status == 2 and is_answer(seen)
+    if bad:
+        return forms.fair(form, Shown(2, b"", b"script at %d\n" % bad))
+    fair = forms.fair(form, rows.OUTCOMES[name], Shown(0, b"not ended\n", b""))
+    return lambda seen: fair(seen) or seen.status == 2 and seen.err.startswith(b"script at ")
 
 
 def scripts(room, found, seed, numbers):
     """Scripts with great numbers, by any number of workers."""
-    for k in numbers:
+    for k, form in zip(numbers, forms.deal("scripts", f"{seed} {numbers}")):
         chance, told = random.Random(f"great script {seed} {k}"), f"script {k} of seed {seed}"
         name = chance.choice(("list", "local", "prints", "put", "gets"))
-        lines = [chance.choice((f"run {number(chance)}", f"run {chance.randrange(1, 9)} {number(chance)}", "all",
-            f"steal {chance.randrange(9)} {number(chance)}", f"steal {number(chance)} 0")) for _ in range(chance.choice((1, 3, 40)))]
-        script, workers = "\n".join(lines).encode()[:SMALL], chance.choice(("1", "2", "64", str(number(chance))))
-        words = ["play", room.put("p.c", rows.TEXTS[name]), room.put("script", script), "--workers", workers]
-        fair = one_of(rows.OUTCOMES[name], Shown(0, b"not ended\n", b""), NO_MEMORY)
-        bad = damage.first_bad_line(script)
-        if not 1 <= int(workers) <= 64:
-            fair = lambda seen: seen.status == 2 and is_answer(seen)
-        elif bad:
-            fair = one_of(Shown(2, b"", b"script at %d\n" % bad))
-        # (how many choices a script may make is a limit too: only its line is known)
-        is_over = lambda seen: not bad and seen.status == 2 and seen.err.startswith(b"script at ")
-        bounded(room, found, told, lambda seen: fair(seen) or is_over(seen), *words)
+        script, workers = script_by_chance(chance), chance.choice(("1", "2", "64", str(number(chance))))
+        names = {"P": room.put("p.c", rows.TEXTS[name]), "S": room.put("script", script), "N": workers}
+        found.count(form)
+        formed(room, found, told, form, fair_of_script(form, name, script, workers), names)
 
 
 def program_by_chance(chance):
-    """A program with great numbers: lengths, places, bounds, depths, operands."""
-    a, b, c = (number(chance) for _ in range(3))
+    """A program with great numbers, beside which some are small: lengths, places, bounds, depths, operands."""
+    a, b, c = (chance.choice((number(chance), chance.randrange(1, 9))) for _ in range(3))
     deep, spawn = chance.choice((1, 16, 64, 65, 66, 300)), chance.choice(("", "cilk_spawn "))
     kind = chance.choice(("add", "min", "max", "append", "affine"))
     return chance.choice((
@@ -256,39 +304,57 @@ def program_by_chance(chance):
     ))[:SMALL]  # fmt: skip
 
 
-def is_long(ran, made):
-    """Whether a run goes to a limit, or has many events, by its certificate."""
-    size = re.match(rb"cilkcert 2\nsize (\d+) ", made.out)
-    return ran.err.startswith(LIMITS) or bool(size) and int(size[1]) > SHORT
+def inputs_by_chance(chance):
+    """An input with great numbers."""
+    return " ".join(str(chance.choice((1, -1)) * number(chance)) for _ in range(chance.choice((0, 1, 2, 60))))[:SMALL]
+
+
+def bounds_of(made):
+    """What a command may take of a run, by its sizes or its fault: any time where it goes to the limit of events or ticks."""
+    told = re.match(rb"cilkcert 2\nsize (\d+) (\d+)|fault \d+ at (\d+)", made.out or made.err)
+    events, frames = (int(told[1] or told[3]), int(told[2] or told[3])) if told else (0, 0)
+    is_cut = made.err.startswith(b"fault 204 ")
+    if is_cut:
+        events = frames = MOST_EVENTS
+    taken = events * OF_AN_EVENT + min(frames, MOST_FRAMES) * OF_A_FRAME
+    return {"peak": max(PEAK, taken // 1000), "seconds": None if is_cut else max(SECONDS, events * MICROSECONDS / 1e6)}
+
+
+def fair_of_program(form, ran, made):
+    """What a form may show of a program, by the answers of `run` and `certify`."""
+    if form.startswith(("run", "certify")):
+        return forms.fair(form, ran if form.startswith("run") else made)
+    return forms.is_list if form in forms.LISTS else is_answer
 
 
 def programs(room, found, seed, numbers):
-    """Programs and inputs with great numbers, by each command. Long runs may take the memory and time that they take."""
+    """Programs and inputs with great numbers: by seven forms each that runs to its end, by one each other."""
+    for_right, for_wrong = (forms.deal("programs", f"{seed} {numbers} {it}") for it in ("right", "wrong"))
     for k in numbers:
         chance, told = random.Random(f"great program {seed} {k}"), f"program {k} of seed {seed}"
-        room.put("p.c", program_by_chance(chance))
-        given = " ".join(str(chance.choice((1, -1)) * number(chance)) for _ in range(chance.choice((0, 1, 2, 60))))
-        more = ["--input", room.put("p.in", given[:SMALL])]
-        ran, made = (room.within(ROOM, it, "p.c", *more, patience=LONG)[0] for it in ("run", "certify"))
-        bounds = {"peak": None, "seconds": None} if is_long(ran, made) else {}
-        found.count(f"programs: {'long' if bounds else ' '.join((ran.err or ran.out).decode().split()[:1])}")
-        for command, wanted in (("run", ran), ("certify", made)):
-            bounded(room, found, f"{told}: {command}", lambda seen: is_answer(seen) and seen == wanted, command, "p.c", *more, **bounds)
-        room.put("p.cert", made.out or b"x\n")
-        room.put("all", b"all\n")
-        workers = chance.choice(("1", "2", "64"))
-        for words in chance.sample((
-            ["settle", "p.c"], ["measure", "p.c"], ["measure", "p.c", "--svg"], ["play", "p.c", "all", "--workers", workers],
-            ["check", "p.c", "p.cert"], ["check", "p.c", "p.cert", "--helpers", "2"], ["check", "p.c", "p.cert", "--helpers", "16"],
-            ["threads", "p.c", "p.cert", "--workers", workers], ["schedule", "p.c", "p.cert"],
-        ), 3):  # fmt: skip
-            bounded(room, found, f"{told}: {' '.join(words)}", is_answer, *words, *more, **bounds)
+        names = {"P": room.put("p.c", program_by_chance(chance)), "A": room.put("all", b"all\n"), "N": str(number(chance))}
+        more = ["--input", room.put("p.in", inputs_by_chance(chance))]
+        names["O"] = room.put("p.on", inputs_by_chance(chance))
+        first = [(it, room.within(ROOM, it, "p.c", *more, patience=LONG)) for it in ("run", "certify")]
+        ran, made = (seen for _, (seen, _, _) in first)
+        bounds = bounds_of(made)
+        kind = ["long"] if bounds["peak"] > PEAK else (ran.err or ran.out).decode().split()[:1]
+        found.count(f"programs: {' '.join(kind)}")
+        for command, it in first:
+            judge(found, f"{told}: {command}", is_answer, it, **bounds)
+        names["C"] = room.put("p.cert", made.out or b"x\n")
+        tried = [next(for_right) for _ in range(7)] if made.status == 0 else [next(for_wrong)]
+        found.kinds.update(tried if made.status == 0 else [])
+        for form in tried:
+            formed(room, found, told, form, fair_of_program(form, ran, made), names, more, **bounds)
 
 
 def some_by_chance(room, found):
-    """Twenty texts of each kind, however little time there is for those by chance."""
+    """Twenty texts of each kind, however little time there is for those by chance: each form of words is among them,
+    with programs that run."""
     for case in BY_CHANCE.values():
         case(room, found, 0, range(20))
+    forms.all_tried(room, found)
 
 
 CASES = {

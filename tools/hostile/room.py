@@ -86,6 +86,11 @@ class Room:
             it.write(content if isinstance(content, bytes) else content.encode())
         return name
 
+    def get(self, name):
+        """The content of a file."""
+        with open(f"{self.folder}/{name}", "rb") as it:
+            return it.read()
+
     def left(self):
         """How many seconds are left; there is an end to them."""
         left = FOREVER if self.end is None else self.end - time.monotonic()
@@ -135,7 +140,7 @@ class Room:
                 shown = self.once(words, stdin, out, err, env, patience, close)
         if settings:
             self.read_counts()
-        elif helpers and words[:1] == ("check",) and shown != HANGS:
+        elif helpers and words[:1] == ("check",) and "--helpers" not in words and shown != HANGS:
             patience = min(3 * patience, self.left() + 1)
             again = self.once([*words, "--helpers", "2"], stdin, out, err, env, patience, close)
             if again == HANGS:

@@ -61,6 +61,16 @@ WRONG = [
         "memory: play list",
         'out = b"reducer l" if status == 5 else out',
     ),
+    (
+        "helpers accept what there was no memory for",
+        "memory: check turns by helpers",
+        f'if status == 5: {ACCEPTS}; err = b""',
+    ),
+    (
+        "helpers lose a race for want of memory",
+        "memory: check race by helpers",
+        f'if status == 5: {ACCEPTS}; err = b""',
+    ),
     ("a refused allocation makes another answer", "memory: play local", f'if status == 5: {RUNS}'),
     (
         "a refused allocation ends in an abort",
@@ -333,6 +343,10 @@ WRONG += [
     ("a depth ends in a crash", "little memory: depth of a trace", "if status == 2: crash(signal.SIGSEGV)"),
     ("hints of helpers take memory", "little memory: line feeds", f'if "--helpers" in words: {TAKES}'),
     ("a small text takes memory", "little memory: small texts", f'if out == b"race-free\\n": {TAKES}'),
+    ("a picture takes memory", "little memory: small texts", f'if "--svg" in words and not status: {TAKES}'),
+    ("an object tells another status", "little memory: small texts", 'if "--json" in words: status = 1'),
+    ("an explanation ends in a crash", "little memory: small texts", 'if "--sites" in words and status: crash(signal.SIGSEGV)'),
+    ("a new option is in the help", "little memory: small texts", 'err = err.replace(b"--csv |", b"--csv | --xml |")'),
     ("a trace takes memory", "chance: far cells", f'if out == b"race-free\\n": {TAKES}'),
     ("a far cell is malformed", "chance: far cells", 'if out == b"race-free\\n": status, out, err = 2, b"", b"trace 301 at 2\\n"'),
     ("a size takes memory", "chance: great numbers of certificates", f'if b"refused 301 2" in out: {TAKES}'),

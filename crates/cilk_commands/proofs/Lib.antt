@@ -1,3 +1,4 @@
+pub mod Claims
 pub mod Kept
 pub mod Lines
 pub mod OnePlayed

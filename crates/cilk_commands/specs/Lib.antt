@@ -1,3 +1,4 @@
+pub mod Every
 pub mod Files
 pub mod OneReply
 pub mod Replies

@@ -36,6 +36,7 @@
 
 pub mod counted;
 pub mod disk;
+pub mod every;
 pub mod files;
 mod judging;
 pub mod laws;

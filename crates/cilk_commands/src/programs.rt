@@ -101,7 +101,7 @@ pub fn run<'a>(alloc: Global, program: &Program, input: &Input) -> Result<Answer
 }
 
 // The refusal of a run that races.
-fn refusal(first: FirstRace) -> Refusal
+pub(crate) fn refusal(first: FirstRace) -> Refusal
     ensures { result ≡ refusal_of first }
 {
     match first {

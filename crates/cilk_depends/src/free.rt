@@ -22,8 +22,9 @@ pub enum Change<'a> {
     Counts,
 }
 
-/// Returns the branch at this byte of the text, if it is such an `if`, without an `else`, and its
-/// condition is one comparison.
+/// Returns the branch at this byte of the text, if it is such an `if`, without an `else`, its condition is
+/// one comparison, and its statement can't fault where the condition doesn't hold: it has no divisor, and no
+/// index by a name that the condition compares.
 pub fn branch_at(text: &[u8], at: usize) -> Option<Branch<'_>> {
     if word_at(text, at) != b"if".as_slice() {
         return None;
@@ -52,12 +53,59 @@ pub fn branch_at(text: &[u8], at: usize) -> Option<Branch<'_>> {
     if word_at(text, behind) == b"else".as_slice() {
         return None;
     }
-    let (target, change) = change_of(between(text, first, end))?;
+    let statement = between(text, first, end);
+    let (target, change) = change_of(statement)?;
+    if guards(condition, statement) {
+        return None;
+    }
     Some(Branch {
         condition,
         target,
         change,
     })
+}
+
+// Whether a condition compares a name that an index of the statement has.
+fn guards(condition: &[u8], statement: &[u8]) -> bool {
+    let mut depth: usize = 0;
+    for place in 0..statement.len() {
+        depth = depth_after(depth, statement[place]);
+        if depth > 0
+            && begins_name(statement, place)
+            && compares(condition, word_at(statement, place))
+        {
+            return true;
+        }
+    }
+    false
+}
+
+// Whether a condition has a name outside of its indices.
+fn compares(condition: &[u8], name: &[u8]) -> bool {
+    let mut depth: usize = 0;
+    for place in 0..condition.len() {
+        depth = depth_after(depth, condition[place]);
+        if depth == 0 && begins_name(condition, place) && word_at(condition, place) == name {
+            return true;
+        }
+    }
+    false
+}
+
+// In how many brackets the byte after this one is.
+fn depth_after(depth: usize, byte: u8) -> usize {
+    match byte {
+        b'[' => depth.saturating_add(1),
+        b']' => depth.saturating_sub(1),
+        _ => depth,
+    }
+}
+
+// Whether a name begins at a byte.
+fn begins_name(text: &[u8], place: usize) -> bool {
+    let is_inside = place > 0 && is_word(byte_at(text, place.saturating_sub(1)));
+    let first = byte_at(text, place);
+    is_word(first) && !first.is_ascii_digit() && !is_inside
 }
 
 // The parenthesis that closes the one at a byte.
@@ -125,7 +173,7 @@ fn change_of(statement: &[u8]) -> Option<(&[u8], Change<'_>)> {
     }
     let mark = place_of(statement, 0, b"=")?;
     let value = between(statement, mark.saturating_add(1), statement.len()).trim_ascii();
-    if place_of(value, 0, b"()=<>!&|").is_some() {
+    if place_of(value, 0, b"()=<>!&|/%").is_some() {
         return None;
     }
     let ahead = between(statement, 0, mark);

@@ -224,7 +224,7 @@ pub struct Team<'a, R, W> {
 /// A round has all frames of one depth of invocation. Frame K belongs to helper 1 + (K - 1) %
 /// helpers, which replays its frames in ascending order. A frame that no replay invokes has an
 /// empty replay. No frame begins once the replayed ones cost more ticks than a run may. So whatever
-/// the hints say, a helper makes at most the ticks of three runs: `dealt` and `round` bound a round's,
+/// the hints say, a helper makes at most the ticks of three runs: `replay_share` bounds a round's share,
 /// and no clause says it of all rounds.
 pub fn replays<R: Threads + Sync, W: Watch + Sync>(
     team: Team<'_, R, W>,

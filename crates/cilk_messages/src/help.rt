@@ -59,6 +59,7 @@ Options of settle:
                   on standard error; or a JSON object with its name, the status, the whole answer, its explanation, and
                   the line and column where that begins
   --why LINE      after `settled`, say on standard error what orders the accesses of this line with those of others
+  --every         speak of every input that agrees where numbers decide; --fix LIST names the positions where it does
 
 Options of judge:
   --sites FILE    after a refusal, say on standard error at which files, lines and functions the accesses are, by the
@@ -104,7 +105,7 @@ Arguments:
 == settle
 Run programs serially, and tell of each whether it races: if not, no schedule changes what it leaves
 
-Usage: cilk settle PROGRAM.. [--input FILE] [--short | --json | --why LINE] [--explain]
+Usage: cilk settle PROGRAM.. [--input FILE] [--every [--fix LIST]] [--short | --json | --why LINE] [--explain]
 
 The answer is one of
   settled         and the lines that `run` shows: every parallel run on this input that ends leaves the same
@@ -122,10 +123,16 @@ Options:
 INPUT
   --short         a line for each program: its name and the first line of the answer
   --json          a line for each program: a JSON object of `program`, `status`, `reply` (the whole answer) and
-                  `explanation` (empty if there is none), and `line` and `column` where that begins in the program
+                  `explanation` (empty if there is none), with `--every` a claim as `every`, and `line` and `column`
+                  where the explanation begins in the program
   --why LINE      for one program: after `settled`, say on standard error what orders the accesses of this line with
                   those of other strands
   --explain       with `--short`, explanations on standard error too; the other forms have them in any case
+  --every         speak of all inputs: `settled on every input of N numbers with these: P is V, ..` means that each
+                  input of N numbers with these at these positions, from 0, is settled as well (what it leaves is its
+                  own); a race or a fault is said to be on every such input. Standard error says which numbers decide
+                  and where: these are fixed
+  --fix LIST      with `--every`, fix the numbers at these positions, such as 0,3..5, and no others
 HELP
 == run
 Run a program serially; show the numbers that it prints, its global reducers and its result

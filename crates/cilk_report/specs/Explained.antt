@@ -129,12 +129,12 @@ pub data Measures (words : List Text) (files : Text → Option Text) (input : Op
   -- out of memory, and no read of a file failed
   OutOfMemory : failed' ≡ failed → Complains NoMemory status out out' err err' → Measures words files input failed failed' status out out' err err'
 
--- The replies of `settle` for several programs, or in a short form.
+-- The replies of `settle` for several programs, for every input, or in a short form.
 pub data Settles (words : List Text) (files : Text → Option Text) (input : Option Text) (failed failed' : Failures)
     (status : ℕ) (out out' err err' : Option Text) : Type 0 where
   -- the words name programs, which are settled in order
   SettledEach : (b : Batch) → batch_in words ≡ Some b
-      → SettlesEach b.form files input b.input b.programs (state 0 failed out err) (state status failed' out' err')
+      → SettlesEach b.every b.form files input b.input b.programs (state 0 failed out err) (state status failed' out' err')
       → Settles words files input failed failed' status out out' err err'
   -- the words don't name programs, and no read of a file failed
   NoPrograms : (r : Reply) → batch_in words ≡ None → failed' ≡ failed → WordsFail r → Complains r status out out' err err'
@@ -197,7 +197,7 @@ pub data ServesExplained (words : List Text) (files : Text → Option Text) (inp
   -- the words aren't a command line of `serve` and request a schedule
   Scheduling : order_in words ≡ None → is_schedule words ≡ true → Schedules (words_of_check words) files input failed failed' status out out' err err'
       → ServesExplained words files input failed failed' status out out' err err'
-  -- the words aren't a command line of `serve` and settle several programs, or use a short form
+  -- the words aren't a command line of `serve` and settle several programs or all inputs, or use a short form
   SettlingEach : order_in words ≡ None → is_settling words ≡ true → Settles words files input failed failed' status out out' err err'
       → ServesExplained words files input failed failed' status out out' err err'
   -- the words are about the tool itself, and are answered; no read of a file failed

@@ -1,14 +1,15 @@
-//! The command `settle` for several programs, or in a short form.
+//! The command `settle` for several programs, for every input, or in a short form.
 
-ghost use Rattle.std.specs.Prelude.{◌≡◌, ◌++◌, ◌⊎◌, Bool, IfOk, IsFalse, IsTrue, Option, codes, string_bytes};
+ghost use Rattle.std.specs.Prelude.{◌≡◌, ◌++◌, ◌<◌, ◌⊎◌, Bool, IfOk, IsFalse, IsTrue, Option, codes, option_map, string_bytes};
 ghost use Rattle.std.specs.Io.KnownBytes.{Appends};
-ghost use Rattle.cilk_commands.specs.Replies.{IsErrorText, NoMemory, Text, line, out_text, status_of};
+ghost use Rattle.cilk_commands.specs.Every.{claimed_text, line_behind, reply_view};
+ghost use Rattle.cilk_commands.specs.Replies.{IsErrorText, NoMemory, Text, line, status_of};
 ghost use Rattle.cilk_commands.specs.Serving.{SettleReply, ShowsError, Surroundings, world};
 ghost use Rattle.cilk_commands.specs.Streams.{AppendsFront, AppendsPart};
 ghost use Rattle.cilk_commands.specs.declared.reply.TheConstants.{NO_MEMORY};
 ghost use Rattle.cilk_messages.specs.Words.{texts};
 ghost use Rattle.cilk_report.specs.Explained.{Settles, explanation_text};
-ghost use Rattle.cilk_report.specs.Settling.{Fails, IsShown, SettlesEach, Shows, reply_view, state};
+ghost use Rattle.cilk_report.specs.Settling.{Fails, IsClaimed, IsShown, IsTold, SettlesEach, Shows, state};
 ghost use Rattle.cilk_report.specs.Silence.{Explains};
 ghost use Rattle.cilk_messages.specs.Batches.{batch_view, heading};
 
@@ -17,22 +18,26 @@ use crate::colors::colored;
 use crate::explaining::{answer_text, failure_text};
 use crate::serving::missing;
 use crate::totals::wrong_words;
+use cilk_commands::every::{EveryReply, behind, settle_on_every, text_of};
 use cilk_commands::reply::{Answer, Failure, NO_MEMORY, WRONG};
 use cilk_commands::streams::send;
 use cilk_commands::{CountedRead, complain, settle, tell};
+use cilk_depends::told::push_places;
 use cilk_findings::fault::CaseFault;
 use cilk_messages::batch::{Batch, Form, batch_of, object, place_in, short};
+use cilk_messages::claim::Claim;
 use cilk_messages::words::Order;
 use cilk_profile::Kept;
 use std::alloc::{AllocError, Global};
 use std::io::Write;
 
 // The error of `settle` for words that name no programs.
-const USAGE: &str = "error: these words name no programs to settle: \
-    `cilk settle PROGRAM.. [--input FILE] [--short | --json] [--explain]`\n\
+const USAGE: &str =
+    "error: these words name no programs to settle, or no list of positions such as 0,3..5: \
+    `cilk settle PROGRAM.. [--input FILE] [--every [--fix LIST]] [--short | --json] [--explain]`\n\
     hint: `cilk help settle` describes `settle` and its options\n";
 
-/// Serves `settle` for several programs, or in a short form.
+/// Serves `settle` for several programs, for every input, or in a short form.
 pub fn serve_settling<F: Keeps, R: CountedRead, O: Write, E: Write>(
     alloc: Global,
     words: &[&str],
@@ -61,7 +66,7 @@ fn settle_each<F: Keeps, R: CountedRead, O: Write, E: Write>(
     out: &mut O,
     err: &mut E,
 ) -> u8
-    ensures shown { let b = batch_view batch.now in SettlesEach b.form (F.holds files.old) (R.remaining input.old) b.input b.programs
+    ensures shown { let b = batch_view batch.now in SettlesEach b.every b.form (F.holds files.old) (R.remaining input.old) b.input b.programs
         (state 0 (F.failed files.old) (O.contents out.old) (E.contents err.old)) (state result (F.failed files.new) (O.contents out.new) (E.contents err.new)) }
     ensures untouched { input.new ≡ input.old }
 {
@@ -95,9 +100,9 @@ fn settle_one<F: Keeps, R: CountedRead, O: Write, E: Write>(
     out: &mut O,
     err: &mut E,
 ) -> Step
-    ensures goes_on { IsTrue result.goes_on → let b = batch_view batch.now in Shows b.form (world (F.holds files.old) (R.remaining input.old) (F.failed files.old) (F.failed files.new))
+    ensures goes_on { IsTrue result.goes_on → let b = batch_view batch.now in Shows b.every b.form (world (F.holds files.old) (R.remaining input.old) (F.failed files.old) (F.failed files.new))
         program.now b.input result.status (O.contents out.old) (O.contents out.new) (E.contents err.old) (E.contents err.new) }
-    ensures ends { IsFalse result.goes_on → let b = batch_view batch.now in Fails b.form (world (F.holds files.old) (R.remaining input.old) (F.failed files.old) (F.failed files.new))
+    ensures ends { IsFalse result.goes_on → let b = batch_view batch.now in Fails b.every b.form (world (F.holds files.old) (R.remaining input.old) (F.failed files.old) (F.failed files.new))
         program.now b.input result.status (O.contents out.old) (O.contents out.new) (E.contents err.old) (E.contents err.new) }
     ensures same { F.holds files.new ≡ F.holds files.old }
     ensures untouched { input.new ≡ input.old }
@@ -106,8 +111,31 @@ fn settle_one<F: Keeps, R: CountedRead, O: Write, E: Write>(
         return starved(alloc, err);
     }
     files.keep();
-    let reply = settle(alloc, program, batch.input, files, input);
+    let reply = reply_to(alloc, program, batch, files, input);
     show_reply(alloc, program, batch, &reply, files.kept(), out, err)
+}
+
+// The reply to a program, and what is claimed of other inputs where all are asked for.
+fn reply_to<'a, F: Keeps, R: CountedRead>(
+    alloc: Global,
+    program: &'a str,
+    batch: &Batch<'a>,
+    files: &mut F,
+    input: &mut R,
+) -> EveryReply<'a>
+    requires { (F.failed files.old).count < 18446744073709551615 }
+    ensures reply { SettleReply (world (F.holds files.old) (R.remaining input.old) (F.failed files.old) (F.failed files.new))
+        program.entry.now (let b = batch_view batch.now in b.input) (reply_view result.reply) }
+    ensures claim { IsClaimed batch.now.every (world (F.holds files.old) (R.remaining input.old) (F.failed files.old) (F.failed files.new))
+        program.entry.now (let b = batch_view batch.now in b.input) (reply_view result.reply) result.claim }
+    ensures same { (p : Text) → F.holds files.new p ≡ F.holds files.old p }
+    ensures untouched { input.new ≡ input.old }
+{
+    if batch.every {
+        settle_on_every(alloc, program, batch.input, batch.fix, files, input)
+    } else {
+        EveryReply::of(alloc, settle(alloc, program, batch.input, files, input))
+    }
 }
 
 // Shows a reply, unless it is out of memory.
@@ -115,17 +143,19 @@ fn show_reply<O: Write, E: Write>(
     alloc: Global,
     program: &str,
     batch: &Batch<'_>,
-    reply: &Result<Answer, Failure<'_>>,
+    reply: &EveryReply<'_>,
     kept: &Kept,
     out: &mut O,
     err: &mut E,
 ) -> Step
-    ensures goes_on { IsTrue result.goes_on → (w : Surroundings) (i : Option Text) → SettleReply w program.now i (reply_view reply.now)
-        → Shows batch.now.form w program.now i result.status (O.contents out.old) (O.contents out.new) (E.contents err.old) (E.contents err.new) }
-    ensures ends { IsFalse result.goes_on → (w : Surroundings) (i : Option Text) → SettleReply w program.now i (reply_view reply.now)
-        → Fails batch.now.form w program.now i result.status (O.contents out.old) (O.contents out.new) (E.contents err.old) (E.contents err.new) }
+    ensures goes_on { IsTrue result.goes_on → (w : Surroundings) (i : Option Text) → SettleReply w program.now i (reply_view reply.now.reply)
+        → IsClaimed batch.now.every w program.now i (reply_view reply.now.reply) reply.now.claim
+        → Shows batch.now.every batch.now.form w program.now i result.status (O.contents out.old) (O.contents out.new) (E.contents err.old) (E.contents err.new) }
+    ensures ends { IsFalse result.goes_on → (w : Surroundings) (i : Option Text) → SettleReply w program.now i (reply_view reply.now.reply)
+        → IsClaimed batch.now.every w program.now i (reply_view reply.now.reply) reply.now.claim
+        → Fails batch.now.every batch.now.form w program.now i result.status (O.contents out.old) (O.contents out.new) (E.contents err.old) (E.contents err.new) }
 {
-    let status = status_of(reply);
+    let status = status_of(&reply.reply);
     if status == NO_MEMORY {
         return starved(alloc, err);
     }
@@ -174,6 +204,17 @@ impl Drop for Texts {
 }
 
 impl Texts {
+    // The same with an explanation on standard error.
+    fn with(self, explanation: &str) -> Result<Texts, AllocError>
+        ensures out { IfOk result (λ all. all.out.items ≡ self.out.items) }
+        ensures err { IfOk result (λ all. all.err.items ≡ self.err.items ++ explanation.now) }
+    {
+        let Texts { out, err } = self;
+        let mut full = Texts { out, err };
+        full.err.extend_from_slice(explanation.as_bytes())?;
+        Ok(full)
+    }
+
     // The text for standard output under a heading, and that for standard error with an explanation.
     fn full(self, alloc: Global, program: &str, explanation: &str) -> Result<Texts, AllocError>
         ensures out { IfOk result (λ all. all.out.items ≡ heading program.now ++ self.out.items) }
@@ -229,13 +270,17 @@ fn shown(
     alloc: Global,
     program: &str,
     batch: &Batch<'_>,
-    reply: &Result<Answer, Failure<'_>>,
+    reply: &EveryReply<'_>,
     kept: &Kept,
 ) -> Result<Texts, AllocError>
-    ensures { IfOk result (λ texts. IsShown batch.now.form program.now (reply_view reply.now) texts.out.items texts.err.items) }
+    ensures { IfOk result (λ texts. IsShown batch.now.every reply.now.claim batch.now.form program.now (reply_view reply.now.reply) texts.out.items texts.err.items) }
 {
-    let texts = texts_of(alloc, reply)?;
+    let texts = texts_of(alloc, &reply.reply, reply.claim.as_ref())?;
     match batch.form {
+        Form::Alone => {
+            let explanation = explanation(alloc, program, batch, reply, kept)?;
+            texts.with(explanation.as_str())
+        }
         Form::Full => {
             let explanation = explanation(alloc, program, batch, reply, kept)?;
             texts.full(alloc, program, explanation.as_str())
@@ -263,9 +308,10 @@ fn shown(
             let line = object(
                 alloc,
                 program,
-                status_of(reply),
+                status_of(&reply.reply),
                 whole.as_slice(),
                 told,
+                reply.claim.as_ref(),
                 place,
             )?;
             Ok(Texts {
@@ -276,16 +322,17 @@ fn shown(
     }
 }
 
-// The texts of a reply.
-fn texts_of(alloc: Global, reply: &Result<Answer, Failure<'_>>) -> Result<Texts, AllocError>
-    ensures { IfOk result (λ texts. (texts.out.items ≡ out_text (reply_view reply.now)) × IsErrorText (reply_view reply.now) texts.err.items) }
+// The texts of a reply, given what is claimed of other inputs.
+fn texts_of(
+    alloc: Global,
+    reply: &Result<Answer, Failure<'_>>,
+    claim: Option<&Claim>,
+) -> Result<Texts, AllocError>
+    ensures { IfOk result (λ texts. (texts.out.items ≡ claimed_text (option_map (λ c. c.now) claim.entry) (reply_view reply.now)) × IsErrorText (reply_view reply.now) texts.err.items) }
 {
     match reply {
         Ok(answer) => {
-            let mut out = Vec::new(alloc);
-            if !answer.send(alloc, &mut out)? {
-                return Err(AllocError);
-            }
+            let out = text_of(alloc, answer, claim)?;
             Ok(Texts {
                 out,
                 err: Vec::new(alloc),
@@ -301,8 +348,92 @@ fn texts_of(alloc: Global, reply: &Result<Answer, Failure<'_>>) -> Result<Texts,
     }
 }
 
-// The explanation of a reply, or a line why there is none. In JSON it has no colours.
+// The explanation of a reply, and which inputs have the same race or fault.
 fn explanation(
+    alloc: Global,
+    program: &str,
+    batch: &Batch<'_>,
+    reply: &EveryReply<'_>,
+    kept: &Kept,
+) -> Result<String, AllocError>
+    ensures { IfOk result (λ text. IsTold batch.now.every reply.now.claim (reply_view reply.now.reply) (string_bytes text)) }
+{
+    let told = told(alloc, program, batch, reply, kept)?;
+    match &reply.claim {
+        Some(claim) => with_claim(alloc, told, &reply.reply, claim),
+        None => Ok(told),
+    }
+}
+
+// An explanation, and which inputs have the same race or fault. A claim is text, so nothing else fails
+// than memory.
+fn with_claim(
+    alloc: Global,
+    explanation: String,
+    reply: &Result<Answer, Failure<'_>>,
+    claim: &Claim,
+) -> Result<String, AllocError>
+    ensures { IfOk result (λ text. string_bytes text ≡ string_bytes explanation ++ line_behind claim.now (reply_view reply.now)) }
+{
+    let line = behind(alloc, reply, claim)?;
+    let Ok(line) = str::from_utf8(line.as_slice()) else {
+        return Err(AllocError);
+    };
+    let mut text = explanation;
+    text.push_str(line)?;
+    Ok(text)
+}
+
+// The explanation of a reply, or a line why there is none. In JSON it has no colours.
+fn told(
+    alloc: Global,
+    program: &str,
+    batch: &Batch<'_>,
+    reply: &EveryReply<'_>,
+    kept: &Kept,
+) -> Result<String, AllocError>
+    ensures { IfOk result (λ text. IsFalse batch.now.every → Explains (reply_view reply.now.reply) (string_bytes text)) }
+{
+    if batch.every {
+        return told_on_every(alloc, program, batch, reply, kept);
+    }
+    own(alloc, program, batch, &reply.reply, kept)
+}
+
+// The explanation of a reply, and where numbers decide.
+fn told_on_every(
+    alloc: Global,
+    program: &str,
+    batch: &Batch<'_>,
+    reply: &EveryReply<'_>,
+    kept: &Kept,
+) -> Result<String, AllocError> {
+    let order = Order::Settle {
+        program,
+        input: batch.input,
+    };
+    let mut text = match found(alloc, &order, &reply.reply, kept) {
+        Ok(text) => text,
+        Err(fault) => return String::from_str(alloc, missing(fault)),
+    };
+    if let Ok(source) = kept.text(0) {
+        push_places(
+            alloc,
+            &mut text,
+            program,
+            source,
+            reply.places.as_slice(),
+            reply.numbers,
+        )?;
+    }
+    if batch.form == Form::Json {
+        return Ok(text);
+    }
+    colored(alloc, text, kept)
+}
+
+// The explanation of a reply alone.
+fn own(
     alloc: Global,
     program: &str,
     batch: &Batch<'_>,

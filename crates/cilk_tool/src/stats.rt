@@ -2,6 +2,8 @@
 
 use crate::explaining::{of_ending, of_fault};
 use crate::running::Ending;
+use cilk_checker::every::settle_every;
+use cilk_commands::input as input_of;
 use cilk_commands::reply::{Answer, Failure};
 use cilk_findings::fault::CaseFault;
 use cilk_findings::runs::Run;
@@ -10,6 +12,7 @@ use cilk_messages::words::Origin;
 use cilk_report::{CaseTexts, Kept, push_cells};
 use cilk_shared::yard::Segment;
 use cilk_types::event::{Event, StrandNo};
+use cilk_types::input::Input;
 use cilk_workers::gate::{Gate, Open};
 use itoa::Buffer;
 use std::alloc::{AllocError, Global};
@@ -142,6 +145,7 @@ impl<H: Clock + Sync> Watch for Tally<'_, H> {
             if let Some(ended) = ended {
                 self.push_seconds(&mut text, ended)?;
             }
+            push_alike(alloc, &mut text, order, kept)?;
         }
         Ok(text)
     }
@@ -255,6 +259,58 @@ impl<H: Clock> Tally<'_, H> {
             .unwrap_or("");
         write!(text, "seconds {seconds}.{rest}\n")
     }
+}
+
+// Of a run on other numbers: whether those that differ decide nothing, so that no run departs from the plan.
+fn push_alike(
+    alloc: Global,
+    text: &mut String,
+    order: &Order<'_>,
+    kept: &Kept,
+) -> Result<(), CaseFault> {
+    if order.on.is_none() {
+        return Ok(());
+    }
+    let Some(texts) = CaseTexts::of(Origin::File(order.program), order.input, kept)? else {
+        return Err(CaseFault::Unfit);
+    };
+    let case = texts.case(alloc)?;
+    let place = if order.input.is_some() { 2 } else { 1 };
+    let Ok(others) = input_of(alloc, kept.text(place)?) else {
+        return Err(CaseFault::Unfit);
+    };
+    let is_alike = match differing(alloc, &case.input, &others)? {
+        Some(hidden) => settle_every(
+            alloc,
+            &case.program,
+            &case.input,
+            hidden.as_slice(),
+        )?.is_on_every,
+        None => false,
+    };
+    text.push_str(if is_alike { ALIKE } else { UNALIKE })?;
+    Ok(())
+}
+
+const ALIKE: &str =
+    "inputs alike: the numbers that differ decide nothing, so no run on them departs\n";
+
+const UNALIKE: &str = "inputs not known to be alike: a run on them may depart\n";
+
+// Which numbers of two inputs differ, if there are as many of them.
+fn differing(
+    alloc: Global,
+    input: &Input,
+    others: &Input,
+) -> Result<Option<Vec<bool>>, AllocError> {
+    if input.as_slice().len() != others.as_slice().len() {
+        return Ok(None);
+    }
+    let mut flags = Vec::new(alloc);
+    for (own, other) in input.as_slice().iter().zip(others.as_slice().iter()) {
+        flags.push(*own != *other)?;
+    }
+    Ok(Some(flags))
 }
 
 fn raise(counts: &mut Vec<Count>, worker: usize, is_stolen: bool) {

@@ -10,9 +10,9 @@ invariant-each g l = record {
   untouched : l.input ≡ l.initial.input;
   onward :
       let b = batch_view l.batch in (end : State)
-      → SettlesEach b.form (g.F.Files.holds l.initial.files) (g.R.CountedRead.remaining l.initial.input) b.input (texts l.rest)
+      → SettlesEach b.every b.form (g.F.Files.holds l.initial.files) (g.R.CountedRead.remaining l.initial.input) b.input (texts l.rest)
       (state l.status (g.F.Files.failed l.files) (g.O.Write.contents l.out) (g.E.Write.contents l.err)) end
-      → SettlesEach b.form (g.F.Files.holds l.initial.files) (g.R.CountedRead.remaining l.initial.input) b.input (texts l.initial.rest)
+      → SettlesEach b.every b.form (g.F.Files.holds l.initial.files) (g.R.CountedRead.remaining l.initial.input) b.input (texts l.initial.rest)
       (state l.initial.status (g.F.Files.failed l.initial.files) (g.O.Write.contents l.initial.out) (g.E.Write.contents l.initial.err)) end;
 }
 

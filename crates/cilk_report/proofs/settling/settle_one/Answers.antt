@@ -1,7 +1,7 @@
 use Rattle.std.proofs.Common.{refl}
 use Rattle.cilk_commands.specs.Replies.{NoMemory}
 use Rattle.cilk_commands.specs.Serving.{ProgramUnread, Unjudged}
-use Rattle.cilk_report.proofs.Batches.{settled}
+use Rattle.cilk_report.proofs.Batches.{claimed, settled}
 use Rattle.cilk_report.specs.Settling.{OutOfMemory}
 use Rattle.cilk_report.proofs.settling.settle_one.Goals as goal
 
@@ -12,9 +12,11 @@ returns-then-failures-eq18446744073709551615-clause-ends g c = λ _.
 pub returns-clause-goes_on : goal.returns-clause-goes_on
 returns-clause-goes_on g c = λ on.
     c.show_reply.ensures.goes_on on _ _
-    (settled _ _ _ _ _ _ _ _ c.settle-reply.result c.keep.ensures.failures c.keep.ensures.same c.settle-reply.ensures.answer c.settle-reply.ensures.failure)
+    (settled _ _ _ _ _ _ _ _ c.keep.ensures.failures c.keep.ensures.same _ c.reply_to-reply.ensures.reply)
+    (claimed _ _ _ _ _ _ _ _ c.keep.ensures.failures c.keep.ensures.same _ _ _ c.reply_to-reply.ensures.claim)
 
 pub returns-clause-ends : goal.returns-clause-ends
 returns-clause-ends g c = λ off.
     c.show_reply.ensures.ends off _ _
-    (settled _ _ _ _ _ _ _ _ c.settle-reply.result c.keep.ensures.failures c.keep.ensures.same c.settle-reply.ensures.answer c.settle-reply.ensures.failure)
+    (settled _ _ _ _ _ _ _ _ c.keep.ensures.failures c.keep.ensures.same _ c.reply_to-reply.ensures.reply)
+    (claimed _ _ _ _ _ _ _ _ c.keep.ensures.failures c.keep.ensures.same _ _ _ c.reply_to-reply.ensures.claim)
